@@ -1,0 +1,12 @@
+pub mod Checked
+pub mod Codes
+pub mod Looks
+pub mod Names
+pub mod RawTrees
+pub mod Run
+pub mod Texts
+pub mod Trees
+pub mod Typing
+pub mod Value
+pub mod Verdict
+pub mod Views

@@ -1,0 +1,30 @@
+//! The language of atomic blocks: types, values, trees and verdicts, the value of an expression, and printed texts.
+//!
+//! The meaning of a block, which everything above is proved against, stands in `specs/`: `Trees` (the trees that the
+//! definitions speak of), `Value` (the value of an expression), `Views` and `Run` (what an action does), `Looks` (what it
+//! reads), `Verdict`, `Typing` and `Texts`.
+#![tactic(auto)]
+
+pub mod action;
+pub mod eval;
+pub mod expr;
+pub mod kinds;
+pub mod lists;
+pub mod naming;
+pub mod raw;
+pub mod same;
+pub mod text;
+pub mod values;
+pub mod verdicts;
+
+pub use action::Action;
+pub use eval::eval_expr;
+pub use expr::{Expr, Op};
+pub use kinds::{Base, Ty};
+pub use lists::{News, Writes};
+pub use naming::is_name;
+pub use raw::{RawAction, RawExpr};
+pub use std::alloc::AllocError as NoMemory;
+pub use text::{write_number, write_type, write_value, write_verdict};
+pub use values::{Fault, Ref, Value};
+pub use verdicts::Verdict;
