@@ -1,0 +1,123 @@
+//! Blocks that are well typed.
+
+ghost use Rattle.std.specs.Prelude.{◌≡◌, ◌≤◌, ◌^◌, ◌↔◌, [], Some, IfOk, IsTrue};
+ghost use Rattle.stm_terms.specs.Trees.{act_of};
+ghost use Rattle.stm_terms.specs.Typing.{action_type, result_type, kinds_in, makes};
+
+use std::alloc::Global;
+use std::marker::Model;
+use std::sync::Arc;
+use stm_terms::NoMemory;
+use stm_terms::action::Action;
+use stm_terms::kinds::Ty;
+
+/// A well typed block, with its text, the type of its result, none for any, and the variables that it names with their
+/// types, in order of first appearance.
+#[derive(Drop)]
+pub struct Typed {
+    action: Action,
+    text: String,
+    result_type: Option<Ty>,
+    uses: Vec<(u32, Ty)>,
+}
+
+impl Model for Typed {
+    ghost use Rattle.std.specs.Prelude.{◌≡◌, ◌≤◌, ◌^◌, [], Some, string_bytes};
+    ghost use Rattle.std.specs.Coded.{codes};
+    ghost use Rattle.stm_terms.specs.Codes.{act_code};
+    ghost use Rattle.stm_terms.specs.Trees.{act_of};
+    ghost use Rattle.stm_terms.specs.Typing.{action_type, kinds_in, makes, result_type as type_of_result};
+    ghost use Rattle.stm_check.specs.Blocks.{Block};
+
+    ghost Value = { Block };
+
+    ghost coded = { Prim.hlevel (codes, act_code) };
+
+    ghost view = { λ b. record { tree = act_of b.action; text = string_bytes b.text; gives = b.result_type; uses = b.uses.items } };
+
+    ghost invariant = { λ b. (action_type (kinds_in b.uses.items) [] (act_of b.action) ≡ Some (type_of_result b.result_type)) × (makes (act_of b.action) ≤ 2 ^ 32) };
+}
+
+impl Typed {
+    /// What the block does.
+    pub fn action(&self) -> &Action
+        ensures action { act_of result.now ≡ self.now.tree }
+        ensures typed { action_type (kinds_in self.now.uses) [] self.now.tree ≡ Some (result_type self.now.gives) }
+        ensures small { makes self.now.tree ≤ 2 ^ 32 }
+    {
+        &self.action
+    }
+
+    /// The text that it was written in.
+    pub fn text(&self) -> &str
+        ensures { result.now ≡ self.now.text }
+    {
+        self.text.as_str()
+    }
+
+    /// The type of its result; none where it never returns.
+    pub fn result(&self) -> Option<Ty>
+        ensures { result ≡ self.now.gives }
+    {
+        self.result_type
+    }
+
+    /// The variables that it names, with their types, in order of first appearance.
+    pub fn uses(&self) -> &[(u32, Ty)]
+        ensures { result.now ≡ self.now.uses }
+    {
+        self.uses.as_slice()
+    }
+
+    /// Whether two blocks have one tree.
+    pub fn same_tree(&self, other: &Typed) -> bool
+        ensures { IsTrue result ↔ (self.now.tree ≡ other.now.tree) }
+    {
+        self.action.same(&other.action)
+    }
+}
+
+/// A block that many may hold. Contracts see the block.
+#[derive(Drop)]
+pub struct Script {
+    block: Arc<Typed, Global>,
+}
+
+impl Model for Script {
+    ghost use Rattle.std.specs.Coded.{codes};
+    ghost use Rattle.stm_terms.specs.Codes.{act_code};
+    ghost use Rattle.stm_check.specs.Blocks.{Block};
+
+    ghost Value = { Block };
+
+    ghost coded = { Prim.hlevel (codes, act_code) };
+
+    ghost view = { λ s. s.block.value };
+}
+
+impl Script {
+    /// Puts a block where many may hold it.
+    pub fn new(alloc: Global, block: Typed) -> Result<Script, NoMemory>
+        ensures { IfOk result (λ s. s ≡ block) }
+    {
+        Ok(Script {
+            block: Arc::new(alloc, block)?,
+        })
+    }
+
+    /// One more hold on the same block.
+    pub fn share(&self) -> Result<Script, NoMemory>
+        ensures { IfOk result (λ s. s ≡ self.now) }
+    {
+        Ok(Script {
+            block: Arc::try_clone(&self.block)?,
+        })
+    }
+
+    /// The block.
+    pub fn block(&self) -> &Typed
+        ensures { result.now ≡ self.now }
+    {
+        &*self.block
+    }
+}

@@ -1,0 +1,100 @@
+-- The cells of a store: what a block may rest on, when a verdict fits them, and what applying it does to them.
+use Rattle.std.specs.Prelude.{◌≡◌, ℕ, ◌+◌, ◌-◌, ◌^◌, ◌≤◌, min, List, [], ◌∷◌, ◌++◌, Option, Some, None, map, length, slice_set, slice_get, option_map}
+use Rattle.stm_terms.specs.declared.kinds.Ty.{Ty}
+use Rattle.stm_terms.specs.declared.values.Ref.{Ref}
+use Rattle.stm_terms.specs.declared.values.Ref.TheVariants.{Old, New}
+use Rattle.stm_terms.specs.declared.values.Value.{Value}
+use Rattle.stm_terms.specs.declared.values.Value.TheVariants.{Int, Bool as Truth, Unit as Nil, Var}
+use Rattle.stm_terms.specs.declared.verdicts.Verdict.{Verdict}
+use Rattle.stm_terms.specs.declared.verdicts.Verdict.TheVariants.{Commits, Throws, Blocks}
+use Rattle.stm_terms.specs.Views.{Changes, no_changes, find}
+use Rattle.stm_terms.specs.Typing.{Kinds, type_of, Rising}
+use Rattle.stm_store.specs.declared.cell.Cell.{Cell}
+
+-- a cell without its count, as blocks see it
+abbrev pub plain : Cell → Ty × Value
+plain c = (c.kind, c.value)
+
+abbrev pub plains : List Cell → List (Ty × Value)
+plains cells = map plain cells
+
+-- the types of a store's variables
+abbrev pub kinds_of : List (Ty × Value) → Kinds
+kinds_of cells i = option_map (λ c. c.0) (slice_get cells i)
+
+-- each cell holds a value of its type
+abbrev pub StoreIsTyped : List (Ty × Value) → Type 0
+StoreIsTyped cells = (i : ℕ) (c : Ty × Value) → slice_get cells i ≡ Some c → type_of (kinds_of cells) no_changes c.1 ≡ Some c.0
+
+-- each cell's type has at most 8 `TVar`
+abbrev pub StoreIsLow : List (Ty × Value) → Type 0
+StoreIsLow cells = (i : ℕ) (c : Ty × Value) → slice_get cells i ≡ Some c → c.0.refs ≤ 8
+
+-- these variables exist with these types
+abbrev pub Covers : List (Ty × Value) → List (ℕ × Ty) → Type 0
+Covers cells [] = Unit {0}
+Covers cells (u ∷ us) = (kinds_of cells u.0 ≡ Some u.1) × Covers cells us
+
+-- A commit fits the cells: its writes rise, name existing cells and hold values of their types; its new cells have types
+-- of at most 8 `TVar` and hold values of these; and its result is a value there.
+pub record CommitFits (cells : List (Ty × Value)) (ws : List (ℕ × Value)) (ns : List (Ty × Value)) (given : Value) : Type 0 where
+  pub rising : Rising ws
+  pub writes : (i : ℕ) (v : Value) → find i ws ≡ Some v →
+      (t : Ty) × (kinds_of cells i ≡ Some t) × (type_of (kinds_of cells) (record { writes = ws; news = ns }) v ≡ Some t)
+  pub news : (k : ℕ) (c : Ty × Value) → slice_get ns k ≡ Some c →
+      (type_of (kinds_of cells) (record { writes = ws; news = ns }) c.1 ≡ Some c.0) × (c.0.refs ≤ 8)
+  pub result : (t : Ty) × (type_of (kinds_of cells) (record { writes = ws; news = ns }) given ≡ Some t)
+
+-- a throw and a retry fit every store
+unfoldable pub Fits : List (Ty × Value) → Verdict → Type 0
+Fits cells (Commits writes news result) = CommitFits cells writes news result
+Fits cells (Throws f) = Unit {0}
+Fits cells Blocks = Unit {0}
+
+-- in a store that had n cells, the k-th new cell becomes variable n + k
+abbrev pub settled_ref : ℕ → Ref → Ref
+settled_ref n (Old i) = Old i
+settled_ref n (New k) = Old (n + k)
+
+abbrev pub settled : ℕ → Value → Value
+settled n (Int z) = Int z
+settled n (Truth b) = Truth b
+settled n Nil = Nil
+settled n (Var r) = Var (settled_ref n r)
+
+-- one more, unless it is the greatest
+abbrev pub counted : ℕ → ℕ
+counted n = min (n + 1) (2 ^ 64 - 1)
+
+-- a cell that is written once more
+abbrev pub rewritten : ℕ → Value → Cell → Cell
+rewritten n v c = record { kind = c.kind; value = settled n v; count = counted c.count }
+
+abbrev pub with_write : ℕ → List Cell → ℕ → Value → Option Cell → List Cell
+with_write n cells i v (Some c) = slice_set cells i (rewritten n v c)
+with_write n cells i v None = cells
+
+abbrev pub with_writes : ℕ → List (ℕ × Value) → List Cell → List Cell
+with_writes n [] cells = cells
+with_writes n (w ∷ ws) cells = with_writes n ws (with_write n cells w.0 w.1 (slice_get cells w.0))
+
+abbrev pub new_cell : ℕ → Ty × Value → Cell
+new_cell n c = record { kind = c.0; value = settled n c.1; count = 0 }
+
+-- the cells after a verdict: its writes made and counted, its new cells at the end
+abbrev pub applied : List Cell → Verdict → List Cell
+applied cells (Commits writes news result) = with_writes (length cells) writes cells ++ map (new_cell (length cells)) news
+applied cells (Throws f) = cells
+applied cells Blocks = cells
+
+-- the result that the verdict gives there
+abbrev pub result_there : List Cell → Verdict → Option Value
+result_there cells (Commits writes news result) = Some (settled (length cells) result)
+result_there cells (Throws f) = None
+result_there cells Blocks = None
+
+-- the new cells of a verdict
+abbrev pub made_by : Verdict → List (Ty × Value)
+made_by (Commits writes news result) = news
+made_by (Throws f) = []
+made_by Blocks = []

@@ -1,0 +1,56 @@
+//! An unchanging copy of a store.
+
+ghost use Rattle.std.specs.Prelude.{◌≡◌, ◌<◌, Some, length};
+ghost use Rattle.stm_terms.specs.Views.{cell_value};
+ghost use Rattle.stm_store.specs.Cells.{StoreIsTyped, StoreIsLow, kinds_of, plains};
+
+use crate::cell::Cell;
+use std::marker::Model;
+use stm_terms::kinds::Ty;
+use stm_terms::values::Value;
+
+/// The cells of a store as they were: types and values.
+#[derive(Drop)]
+pub struct Frozen {
+    cells: Vec<Cell>,
+}
+
+impl Model for Frozen {
+    ghost use Rattle.std.specs.Prelude.{List, length, ◌≤◌};
+    ghost use Rattle.stm_terms.specs.declared.kinds.Ty.{Ty};
+    ghost use Rattle.stm_terms.specs.declared.values.Value.{Value as AnyValue};
+    ghost use Rattle.stm_store.specs.Cells.{StoreIsTyped, StoreIsLow, plains};
+
+    ghost Value = { List (Ty × AnyValue) };
+
+    ghost view = { λ f. plains f.cells.items };
+
+    ghost invariant = { λ f. StoreIsTyped (plains f.cells.items) × StoreIsLow (plains f.cells.items) };
+}
+
+impl Frozen {
+    /// How many variables there are.
+    pub fn len(&self) -> usize
+        ensures len { result ≡ length self.now }
+        ensures typed { StoreIsTyped self.now }
+        ensures low { StoreIsLow self.now }
+    {
+        self.cells.len()
+    }
+
+    /// The value of a variable.
+    pub fn value(&self, id: u32) -> Value
+        requires { id < length self.now }
+        ensures { cell_value self.now id ≡ Some result }
+    {
+        self.cells[id as usize].value
+    }
+
+    /// The type of a variable.
+    pub fn kind(&self, id: u32) -> Ty
+        requires { id < length self.now }
+        ensures { kinds_of self.now id ≡ Some result }
+    {
+        self.cells[id as usize].kind
+    }
+}
