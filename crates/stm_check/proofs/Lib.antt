@@ -1,0 +1,4 @@
+pub mod ActionsSound
+pub mod Covering
+pub mod ExpressionsSound
+pub mod Soundness

@@ -2,5 +2,6 @@
 #![tactic(auto)]
 
 pub mod block;
+pub mod laws;
 
 pub use block::{Script, Typed};
