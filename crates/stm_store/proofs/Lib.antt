@@ -1,5 +1,9 @@
 pub mod Declaring
+pub mod Fitting
+pub mod Numbers
 pub mod Opening
 pub mod Places
+pub mod Soundness
 pub mod Tests
 pub mod Typed
+pub mod Written

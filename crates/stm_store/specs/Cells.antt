@@ -10,6 +10,7 @@ use Rattle.stm_terms.specs.declared.verdicts.Verdict.TheVariants.{Commits, Throw
 use Rattle.stm_terms.specs.Views.{no_changes, find}
 use Rattle.stm_terms.specs.Typing.{Kinds, type_of, Rising}
 use Rattle.stm_store.specs.declared.cell.Cell.{Cell}
+use Rattle.stm_store.specs.declared.ready.Applied.{Applied}
 
 -- a cell without its count, as blocks see it
 abbrev pub plain : Cell → Ty × Value
@@ -104,3 +105,7 @@ abbrev pub made_by : Verdict → List (Ty × Value)
 made_by (Commits writes news result) = news
 made_by (Throws f) = []
 made_by Blocks = []
+
+-- what is told of a verdict that was applied
+abbrev pub told : List Cell → Verdict → Applied
+told cells verdict = record { first_new = length cells; result = result_there cells verdict }

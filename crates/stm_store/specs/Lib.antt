@@ -1,3 +1,5 @@
 pub mod Cells
+pub mod Changes
 pub mod Entries
+pub mod Suits
 pub mod Tables
