@@ -2,6 +2,7 @@ pub mod Declaring
 pub mod Fitting
 pub mod Numbers
 pub mod Opening
+pub mod Paged
 pub mod Places
 pub mod Soundness
 pub mod Tests

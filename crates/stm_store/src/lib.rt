@@ -7,6 +7,8 @@ mod covers;
 mod fits;
 pub mod frozen;
 mod list;
+mod page;
+mod part;
 pub mod ready;
 pub mod store;
 pub mod table;
