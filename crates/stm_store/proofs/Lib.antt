@@ -1,5 +1,6 @@
 pub mod Declaring
 pub mod Fitting
+pub mod Lookups
 pub mod Numbers
 pub mod Opening
 pub mod Paged

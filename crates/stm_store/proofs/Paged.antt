@@ -12,12 +12,12 @@ on_err (Ok x) q = tt
 on_err (Err e) q = q
 
 module _ {A : Type 0} where
-  get_left : (xs ys : List A) (i : ℕ) → i < length xs → slice_get (xs ++ ys) i ≡ slice_get xs i
+  pub get_left : (xs ys : List A) (i : ℕ) → i < length xs → slice_get (xs ++ ys) i ≡ slice_get xs i
   get_left [] ys i h = absurd (omega arith)
   get_left (x ∷ xs) ys zero h = refl
   get_left (x ∷ xs) ys (suc i) h = get_left xs ys i (omega arith)
 
-  get_right : (xs ys : List A) (i j : ℕ) → i ≡ length xs + j → slice_get (xs ++ ys) i ≡ slice_get ys j
+  pub get_right : (xs ys : List A) (i j : ℕ) → i ≡ length xs + j → slice_get (xs ++ ys) i ≡ slice_get ys j
   get_right [] ys i j e = let same : i ≡ j = omega arith in ap (slice_get ys) same
   get_right (x ∷ xs) ys zero j e = absurd (omega arith)
   get_right (x ∷ xs) ys (suc i) j e = get_right xs ys i j (omega arith)

@@ -2,7 +2,7 @@
 
 ghost use Rattle.std.specs.Prelude.{◌≡◌, ◌+◌, ◌<◌, ◌≤◌, ◌↔◌, Some, length, slice_get, option_map, IsTrue, IfOk, OnOk, OnErr, IsErrOf};
 ghost use Rattle.stm_terms.specs.Views.{cell_value};
-ghost use Rattle.stm_store.specs.Cells.{StoreIsTyped, StoreIsLow, Covers, Fits, kinds_of, plains, applied, result_there, made_by, told};
+ghost use Rattle.stm_store.specs.Cells.{StoreIsTyped, StoreIsLow, Covers, Fits, IsApplied, kinds_of, plains, applied, result_there, made_by, told};
 ghost use Rattle.stm_store.specs.Tables.{opened};
 
 use crate::cell::Cell;
@@ -117,9 +117,11 @@ impl Store {
     /// Makes the writes and the new variables of a verdict that fits.
     ///
     /// The k-th new variable gets the number `first_new + k`, wherever the verdict refers to it.
+    #[tactic(auto, using(crate::proofs::Lookups::is_applied))]
     pub fn apply(&mut self, verdict: &Verdict) -> Result<Applied, ApplyError>
         requires { Fits (plains self.old) verdict.now }
         ensures applied { OnOk result (self.new ≡ applied self.old verdict.now) }
+        ensures each { OnOk result (IsApplied self.old verdict.now self.new) }
         ensures told { IfOk result (λ a. (a.first_new ≡ length self.old) × (a.result ≡ result_there self.old verdict.now)) }
         ensures room { OnOk result (length self.old + length (made_by verdict.now) ≤ 1000000) }
         ensures full { IsErrOf result ApplyError.CellsFull → 1000000 < length self.old + length (made_by verdict.now) }
