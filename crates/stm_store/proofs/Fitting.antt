@@ -12,7 +12,7 @@ use Rattle.stm_terms.specs.Views.{Changes, find}
 use Rattle.stm_terms.specs.Typing.{Kinds, type_of, AllAbove, Rising}
 use Rattle.stm_store.specs.Cells.{kinds_of, Covers, Fits}
 use Rattle.stm_store.specs.Suits.{covers_all, value_suits, making, rise_from, writes_suit, news_suit, suits}
-use Rattle.stm_store.proofs.Tests.{and_left, and_right, both, le_true, true_le, kind_from, kind_to}
+use Rattle.stm_store.proofs.Decided.{and_left, and_right, both, le_true, true_le, kind_from, kind_to}
 use Rattle.stm_store.proofs.Written.{EachWrite, each_found}
 
 pub covers_from : (cells : List (Ty × Value)) (us : List (ℕ × Ty)) → covers_all cells us ≡ true → Covers cells us

@@ -1,3 +1,4 @@
+pub mod Decided
 pub mod Declaring
 pub mod Fitting
 pub mod Lookups
@@ -6,6 +7,5 @@ pub mod Opening
 pub mod Paged
 pub mod Places
 pub mod Soundness
-pub mod Tests
 pub mod Typed
 pub mod Written

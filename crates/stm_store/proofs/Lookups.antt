@@ -13,7 +13,7 @@ use Rattle.stm_store.specs.declared.cell.Cell.{Cell}
 use Rattle.stm_store.specs.Cells.{plains, Fits, rewritten, with_write, with_writes, new_cell, applied, made_by, written_by, after_write, IsApplied}
 use Rattle.stm_store.proofs.Paged.{get_left, get_right}
 use Rattle.stm_store.proofs.Soundness.{length-writes}
-use Rattle.stm_store.proofs.Tests.{same_number}
+use Rattle.stm_store.proofs.Decided.{same_number}
 
 get-set_same : (cs : List Cell) (i : ℕ) (c d : Cell) → slice_get cs i ≡ Some c → slice_get (set cs i d) i ≡ Some d
 get-set_same [] i c d e = absurd (cc)
@@ -57,7 +57,7 @@ get-writes n (w ∷ ws) cs i r =
       | true ↦ λ e.
           let p : w.0 ≡ i = eqb-true w.0 i e in
           let here : slice_get cells i ≡ option_map (rewritten n w.1) (slice_get cs i) =
-              subst (λ (j : ℕ). slice_get cells j ≡ option_map (rewritten n w.1) (slice_get cs j)) p (write-here n cs w.0 w.1 (slice_get cs w.0) refl) in
+          subst (λ (j : ℕ). slice_get cells j ≡ option_map (rewritten n w.1) (slice_get cs j)) p (write-here n cs w.0 w.1 (slice_get cs w.0) refl) in
           rest ∙ ap (λ (o : Option Value). option_map (after_write n o) (slice_get cells i)) (find-above w.0 i ws r.0 e) ∙ same n (slice_get cells i) ∙ here
       | false ↦ λ e. rest ∙ ap (option_map (after_write n (find i ws))) (write-other n cs w.0 i w.1 (slice_get cs w.0) e)
     ] refl

@@ -5,7 +5,7 @@ use Rattle.std.proofs.lemmas.Bool.Decides.{nat_tests}
 use Rattle.stm_terms.specs.declared.values.Value.{Value}
 use Rattle.stm_terms.specs.Views.{find}
 use Rattle.stm_terms.specs.Typing.{AllAbove, Rising}
-use Rattle.stm_store.proofs.Tests.{same_number}
+use Rattle.stm_store.proofs.Decided.{same_number}
 
 above_eq : (n m i : ℕ) → n < m → nat_eq m i ≡ true → nat_eq n i ≡ false
 above_eq n m i h e = grind (arith, nat_tests)

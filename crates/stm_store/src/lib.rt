@@ -12,6 +12,8 @@ mod part;
 pub mod ready;
 pub mod store;
 pub mod table;
+#[cfg(test)]
+mod tests;
 mod types;
 
 pub use cell::Cell;
