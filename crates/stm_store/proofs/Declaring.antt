@@ -12,7 +12,7 @@ use Rattle.stm_terms.specs.Typing.{type_of}
 use Rattle.stm_terms.specs.Views.{no_changes}
 use Rattle.stm_store.specs.Cells.{kinds_of, StoreIsTyped, StoreIsLow}
 use Rattle.stm_store.specs.Tables.{Declared, declared_cell, declared_cells, number_from, number_of, may_hold, NamesAreNames, NamesAreDistinct, IsTable}
-use Rattle.stm_store.proofs.Tests.{and_left, and_right, le_true, kind_from}
+use Rattle.stm_store.proofs.Decided.{and_left, and_right, le_true, kind_from}
 use Rattle.stm_store.proofs.Typed.{added_cases, kinds-left, old_type}
 
 typed-added : (cells : List (Ty × Value)) (c : Ty × Value) → StoreIsTyped cells → type_of (kinds_of cells) no_changes c.1 ≡ Some c.0 → StoreIsTyped (cells ++ c ∷ [])
