@@ -9,3 +9,6 @@ mod pairs;
 pub mod watch;
 
 pub use watch::Watch;
+
+#[cfg(test)]
+mod tests;
