@@ -1,0 +1,21 @@
+use Rattle.std.proofs.Common.{refl, sym, ap, ◌∙◌}
+use Rattle.std.specs.Prelude.{nat_eq}
+use Rattle.std.specs.List.{list_any}
+use Rattle.std.proofs.lemmas.List.Filters.{dedup_is}
+use Rattle.std.proofs.lemmas.List.Sorted.{list_any-IsPermutation}
+use Rattle.std.proofs.lemmas.Map.Keys.{IsStrictlyIncreasing-dedup}
+use Rattle.stm_watch.proofs.Sets.{any_dedup, watches_lists}
+use Rattle.stm_watch.proofs.watch.Watch.watchers.Goals as goal
+
+pub returns-clause-rising : goal.returns-clause-rising
+returns-clause-rising c =
+    let is = dedup_is _ _ _ c.dedup.ensures.filtered in
+    rw is (IsStrictlyIncreasing-dedup _ c.sort_unstable.ensures.sorted)
+
+pub returns-clause-watchers : goal.returns-clause-watchers
+returns-clause-watchers c = λ t.
+    let is = dedup_is _ _ _ c.dedup.ensures.filtered in
+    ap (list_any (nat_eq t)) is ∙ any_dedup c.sort_unstable.new.self.items t
+    ∙ sym (list_any-IsPermutation (nat_eq t) _ _ c.sort_unstable.ensures.permutation)
+    ∙ c.in_ok-push_watchers.ensures t
+    ∙ rw (c.new-tickets.ensures.items, ← c.self.view_is) (sym (watches_lists c.self.inside.pairs.keys c.args.variables.now t))
