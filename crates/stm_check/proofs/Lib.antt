@@ -1,6 +1,10 @@
 pub mod ActionsSound
+pub mod CheckedTyped
 pub mod Covering
 pub mod Depth
+pub mod EnoughKinds
 pub mod ExpressionsSound
+pub mod Kept
 pub mod Noted
+pub mod SameTypes
 pub mod Soundness

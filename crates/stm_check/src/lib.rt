@@ -3,6 +3,7 @@
 
 mod actions;
 pub mod block;
+pub mod check;
 mod expressions;
 pub mod fault;
 pub mod laws;
@@ -11,4 +12,5 @@ mod types;
 mod uses;
 
 pub use block::{Script, Typed};
+pub use check::check_raw;
 pub use fault::TypeFault;
