@@ -1,13 +1,12 @@
 //! The check of actions.
 
-ghost use Rattle.std.specs.Prelude.{◌≡◌, ◌+◌, ◌*◌, ◌<◌, ◌≤◌, ◌^◌, length, IfOk, IfSome};
-ghost use Rattle.std.specs.Str.{IsAscii};
+ghost use Rattle.std.specs.Prelude.{◌≡◌, IfOk};
 ghost use Rattle.stm_terms.specs.Trees.{act_of};
 ghost use Rattle.stm_terms.specs.RawTrees as raw;
-ghost use Rattle.stm_terms.specs.RawTrees.{raw_term_of, raw_act_of, NamesWithin, SpansWithin, actions};
-ghost use Rattle.stm_terms.specs.Typing.{named, note_all, result_type};
-ghost use Rattle.stm_check.specs.Scopes.{scope, ScopeIsLow};
-ghost use Rattle.stm_check.specs.Checking.{Says, checked, table_kinds};
+ghost use Rattle.stm_terms.specs.RawTrees.{raw_term_of, raw_act_of};
+ghost use Rattle.stm_terms.specs.Typing.{result_type};
+ghost use Rattle.stm_check.specs.Checking.{Says};
+ghost use Rattle.stm_check.specs.Walk.{CanCheck, act_found, noted_act, IsLow};
 
 use crate::expressions::{check_expr, name_at, place};
 use crate::fault::TypeFault;
@@ -27,13 +26,10 @@ fn check_return(
     uses: &mut Vec<(u32, Ty)>,
     value: &RawExpr,
 ) -> Checked
-    requires ascii { IsAscii names.now.text.now }
-    requires spans { NamesWithin (length names.now.text.now) (raw_term_of value.now) }
-    requires room { length (scope names.now.locals.now) ≤ 2 ^ 32 }
-    requires shallow { ScopeIsLow (scope names.now.locals.now) }
-    ensures says { Says (λ r. (act_of r.0, result_type r.1)) result (checked names.now.table.now names.now.text.now (scope names.now.locals.now) (raw.return (raw_term_of value.now))) }
-    ensures uses { IfOk result (λ r. uses.new.items ≡ note_all (table_kinds names.now.table.now) (named (act_of r.0)) uses.old.items) }
-    ensures low { IfOk result (λ r. IfSome r.1 (λ t. t.refs ≤ 9)) }
+    requires { CanCheck names.now (raw.return (raw_term_of value.now)) }
+    ensures says { Says (λ r. (act_of r.0, result_type r.1)) result (act_found names.now (raw.return (raw_term_of value.now))) }
+    ensures uses { IfOk result (λ r. uses.new.items ≡ noted_act names.now (act_of r.0) uses.old.items) }
+    ensures low { IfOk result (λ r. IsLow r.1) }
 {
     let (value, kind) = check_expr(alloc, names, uses, value)?;
     Ok((Action::Return(value), Some(kind)))
@@ -45,13 +41,10 @@ fn check_read(
     uses: &mut Vec<(u32, Ty)>,
     variable: &RawExpr,
 ) -> Checked
-    requires ascii { IsAscii names.now.text.now }
-    requires spans { NamesWithin (length names.now.text.now) (raw_term_of variable.now) }
-    requires room { length (scope names.now.locals.now) ≤ 2 ^ 32 }
-    requires shallow { ScopeIsLow (scope names.now.locals.now) }
-    ensures says { Says (λ r. (act_of r.0, result_type r.1)) result (checked names.now.table.now names.now.text.now (scope names.now.locals.now) (raw.read (raw_term_of variable.now))) }
-    ensures uses { IfOk result (λ r. uses.new.items ≡ note_all (table_kinds names.now.table.now) (named (act_of r.0)) uses.old.items) }
-    ensures low { IfOk result (λ r. IfSome r.1 (λ t. t.refs ≤ 9)) }
+    requires { CanCheck names.now (raw.read (raw_term_of variable.now)) }
+    ensures says { Says (λ r. (act_of r.0, result_type r.1)) result (act_found names.now (raw.read (raw_term_of variable.now))) }
+    ensures uses { IfOk result (λ r. uses.new.items ≡ noted_act names.now (act_of r.0) uses.old.items) }
+    ensures low { IfOk result (λ r. IsLow r.1) }
 {
     let (reference, kind) = check_expr(alloc, names, uses, variable)?;
     match inside(kind) {
@@ -68,13 +61,10 @@ fn check_write(
     variable: &RawExpr,
     value: &RawExpr,
 ) -> Checked
-    requires ascii { IsAscii names.now.text.now }
-    requires spans { SpansWithin (length names.now.text.now) (raw.write (raw_term_of variable.now) (raw_term_of value.now)) }
-    requires room { length (scope names.now.locals.now) ≤ 2 ^ 32 }
-    requires shallow { ScopeIsLow (scope names.now.locals.now) }
-    ensures says { Says (λ r. (act_of r.0, result_type r.1)) result (checked names.now.table.now names.now.text.now (scope names.now.locals.now) (raw.write (raw_term_of variable.now) (raw_term_of value.now))) }
-    ensures uses { IfOk result (λ r. uses.new.items ≡ note_all (table_kinds names.now.table.now) (named (act_of r.0)) uses.old.items) }
-    ensures low { IfOk result (λ r. IfSome r.1 (λ t. t.refs ≤ 9)) }
+    requires { CanCheck names.now (raw.write (raw_term_of variable.now) (raw_term_of value.now)) }
+    ensures says { Says (λ r. (act_of r.0, result_type r.1)) result (act_found names.now (raw.write (raw_term_of variable.now) (raw_term_of value.now))) }
+    ensures uses { IfOk result (λ r. uses.new.items ≡ noted_act names.now (act_of r.0) uses.old.items) }
+    ensures low { IfOk result (λ r. IsLow r.1) }
 {
     let (reference, kind) = check_expr(alloc, names, uses, variable)?;
     let Some(cell) = inside(kind) else {
@@ -93,13 +83,10 @@ fn check_make(
     uses: &mut Vec<(u32, Ty)>,
     value: &RawExpr,
 ) -> Checked
-    requires ascii { IsAscii names.now.text.now }
-    requires spans { NamesWithin (length names.now.text.now) (raw_term_of value.now) }
-    requires room { length (scope names.now.locals.now) ≤ 2 ^ 32 }
-    requires shallow { ScopeIsLow (scope names.now.locals.now) }
-    ensures says { Says (λ r. (act_of r.0, result_type r.1)) result (checked names.now.table.now names.now.text.now (scope names.now.locals.now) (raw.make (raw_term_of value.now))) }
-    ensures uses { IfOk result (λ r. uses.new.items ≡ note_all (table_kinds names.now.table.now) (named (act_of r.0)) uses.old.items) }
-    ensures low { IfOk result (λ r. IfSome r.1 (λ t. t.refs ≤ 9)) }
+    requires { CanCheck names.now (raw.make (raw_term_of value.now)) }
+    ensures says { Says (λ r. (act_of r.0, result_type r.1)) result (act_found names.now (raw.make (raw_term_of value.now))) }
+    ensures uses { IfOk result (λ r. uses.new.items ≡ noted_act names.now (act_of r.0) uses.old.items) }
+    ensures low { IfOk result (λ r. IsLow r.1) }
 {
     let (first, kind) = check_expr(alloc, names, uses, value)?;
     if kind.refs > 8 {
@@ -114,13 +101,10 @@ fn check_throw(
     uses: &mut Vec<(u32, Ty)>,
     number: &RawExpr,
 ) -> Checked
-    requires ascii { IsAscii names.now.text.now }
-    requires spans { NamesWithin (length names.now.text.now) (raw_term_of number.now) }
-    requires room { length (scope names.now.locals.now) ≤ 2 ^ 32 }
-    requires shallow { ScopeIsLow (scope names.now.locals.now) }
-    ensures says { Says (λ r. (act_of r.0, result_type r.1)) result (checked names.now.table.now names.now.text.now (scope names.now.locals.now) (raw.throw (raw_term_of number.now))) }
-    ensures uses { IfOk result (λ r. uses.new.items ≡ note_all (table_kinds names.now.table.now) (named (act_of r.0)) uses.old.items) }
-    ensures low { IfOk result (λ r. IfSome r.1 (λ t. t.refs ≤ 9)) }
+    requires { CanCheck names.now (raw.throw (raw_term_of number.now)) }
+    ensures says { Says (λ r. (act_of r.0, result_type r.1)) result (act_found names.now (raw.throw (raw_term_of number.now))) }
+    ensures uses { IfOk result (λ r. uses.new.items ≡ noted_act names.now (act_of r.0) uses.old.items) }
+    ensures low { IfOk result (λ r. IsLow r.1) }
 {
     let (thrown, kind) = check_expr(alloc, names, uses, number)?;
     if !same(kind, INT) {
@@ -140,13 +124,10 @@ fn check_if(
     at: usize,
     second: &RawAction,
 ) -> Checked
-    requires ascii { IsAscii names.now.text.now }
-    requires spans { SpansWithin (length names.now.text.now) (raw.choose (raw_term_of condition.now) (raw_act_of first.now) at (raw_act_of second.now)) }
-    requires room { length (scope names.now.locals.now) + actions (raw_act_of first.now) + actions (raw_act_of second.now) < 2 ^ 32 }
-    requires shallow { ScopeIsLow (scope names.now.locals.now) }
-    ensures says { Says (λ r. (act_of r.0, result_type r.1)) result (checked names.now.table.now names.now.text.now (scope names.now.locals.now) (raw.choose (raw_term_of condition.now) (raw_act_of first.now) at (raw_act_of second.now))) }
-    ensures uses { IfOk result (λ r. uses.new.items ≡ note_all (table_kinds names.now.table.now) (named (act_of r.0)) uses.old.items) }
-    ensures low { IfOk result (λ r. IfSome r.1 (λ t. t.refs ≤ 9)) }
+    requires { CanCheck names.now (raw.choose (raw_term_of condition.now) (raw_act_of first.now) at (raw_act_of second.now)) }
+    ensures says { Says (λ r. (act_of r.0, result_type r.1)) result (act_found names.now (raw.choose (raw_term_of condition.now) (raw_act_of first.now) at (raw_act_of second.now))) }
+    ensures uses { IfOk result (λ r. uses.new.items ≡ noted_act names.now (act_of r.0) uses.old.items) }
+    ensures low { IfOk result (λ r. IsLow r.1) }
 {
     let (test, kind) = check_expr(alloc, names, uses, condition)?;
     if !same(kind, BOOL) {
@@ -171,13 +152,10 @@ fn check_or_else(
     at: usize,
     second: &RawAction,
 ) -> Checked
-    requires ascii { IsAscii names.now.text.now }
-    requires spans { SpansWithin (length names.now.text.now) (raw.or_else (raw_act_of first.now) at (raw_act_of second.now)) }
-    requires room { length (scope names.now.locals.now) + actions (raw_act_of first.now) + actions (raw_act_of second.now) < 2 ^ 32 }
-    requires shallow { ScopeIsLow (scope names.now.locals.now) }
-    ensures says { Says (λ r. (act_of r.0, result_type r.1)) result (checked names.now.table.now names.now.text.now (scope names.now.locals.now) (raw.or_else (raw_act_of first.now) at (raw_act_of second.now))) }
-    ensures uses { IfOk result (λ r. uses.new.items ≡ note_all (table_kinds names.now.table.now) (named (act_of r.0)) uses.old.items) }
-    ensures low { IfOk result (λ r. IfSome r.1 (λ t. t.refs ≤ 9)) }
+    requires { CanCheck names.now (raw.or_else (raw_act_of first.now) at (raw_act_of second.now)) }
+    ensures says { Says (λ r. (act_of r.0, result_type r.1)) result (act_found names.now (raw.or_else (raw_act_of first.now) at (raw_act_of second.now))) }
+    ensures uses { IfOk result (λ r. uses.new.items ≡ noted_act names.now (act_of r.0) uses.old.items) }
+    ensures low { IfOk result (λ r. IsLow r.1) }
 {
     let (a, one) = check_action(alloc, names, uses, first)?;
     let (b, other) = check_action(alloc, names, uses, second)?;
@@ -199,13 +177,10 @@ fn check_bind(
     bound: &RawAction,
     rest: &RawAction,
 ) -> Checked
-    requires ascii { IsAscii names.now.text.now }
-    requires spans { SpansWithin (length names.now.text.now) (raw.bind local.0 local.1 at (raw_act_of bound.now) (raw_act_of rest.now)) }
-    requires room { length (scope names.now.locals.now) + actions (raw_act_of bound.now) + actions (raw_act_of rest.now) < 2 ^ 32 }
-    requires shallow { ScopeIsLow (scope names.now.locals.now) }
-    ensures says { Says (λ r. (act_of r.0, result_type r.1)) result (checked names.now.table.now names.now.text.now (scope names.now.locals.now) (raw.bind local.0 local.1 at (raw_act_of bound.now) (raw_act_of rest.now))) }
-    ensures uses { IfOk result (λ r. uses.new.items ≡ note_all (table_kinds names.now.table.now) (named (act_of r.0)) uses.old.items) }
-    ensures low { IfOk result (λ r. IfSome r.1 (λ t. t.refs ≤ 9)) }
+    requires { CanCheck names.now (raw.bind local.0 local.1 at (raw_act_of bound.now) (raw_act_of rest.now)) }
+    ensures says { Says (λ r. (act_of r.0, result_type r.1)) result (act_found names.now (raw.bind local.0 local.1 at (raw_act_of bound.now) (raw_act_of rest.now))) }
+    ensures uses { IfOk result (λ r. uses.new.items ≡ noted_act names.now (act_of r.0) uses.old.items) }
+    ensures low { IfOk result (λ r. IsLow r.1) }
 {
     let (a, kind) = check_action(alloc, names, uses, bound)?;
     let Some(kind) = kind else {
@@ -232,13 +207,10 @@ fn check_let(
     value: &RawExpr,
     rest: &RawAction,
 ) -> Checked
-    requires ascii { IsAscii names.now.text.now }
-    requires spans { SpansWithin (length names.now.text.now) (raw.let_in local.0 local.1 (raw_term_of value.now) (raw_act_of rest.now)) }
-    requires room { length (scope names.now.locals.now) + actions (raw_act_of rest.now) < 2 ^ 32 }
-    requires shallow { ScopeIsLow (scope names.now.locals.now) }
-    ensures says { Says (λ r. (act_of r.0, result_type r.1)) result (checked names.now.table.now names.now.text.now (scope names.now.locals.now) (raw.let_in local.0 local.1 (raw_term_of value.now) (raw_act_of rest.now))) }
-    ensures uses { IfOk result (λ r. uses.new.items ≡ note_all (table_kinds names.now.table.now) (named (act_of r.0)) uses.old.items) }
-    ensures low { IfOk result (λ r. IfSome r.1 (λ t. t.refs ≤ 9)) }
+    requires { CanCheck names.now (raw.let_in local.0 local.1 (raw_term_of value.now) (raw_act_of rest.now)) }
+    ensures says { Says (λ r. (act_of r.0, result_type r.1)) result (act_found names.now (raw.let_in local.0 local.1 (raw_term_of value.now) (raw_act_of rest.now))) }
+    ensures uses { IfOk result (λ r. uses.new.items ≡ noted_act names.now (act_of r.0) uses.old.items) }
+    ensures low { IfOk result (λ r. IsLow r.1) }
 {
     let (a, kind) = check_expr(alloc, names, uses, value)?;
     let name = name_at(names.text, local.0, local.1);
@@ -260,13 +232,10 @@ fn check_seq(
     statement: &RawAction,
     rest: &RawAction,
 ) -> Checked
-    requires ascii { IsAscii names.now.text.now }
-    requires spans { SpansWithin (length names.now.text.now) (raw.seq (raw_act_of statement.now) (raw_act_of rest.now)) }
-    requires room { length (scope names.now.locals.now) + actions (raw_act_of statement.now) + actions (raw_act_of rest.now) < 2 ^ 32 }
-    requires shallow { ScopeIsLow (scope names.now.locals.now) }
-    ensures says { Says (λ r. (act_of r.0, result_type r.1)) result (checked names.now.table.now names.now.text.now (scope names.now.locals.now) (raw.seq (raw_act_of statement.now) (raw_act_of rest.now))) }
-    ensures uses { IfOk result (λ r. uses.new.items ≡ note_all (table_kinds names.now.table.now) (named (act_of r.0)) uses.old.items) }
-    ensures low { IfOk result (λ r. IfSome r.1 (λ t. t.refs ≤ 9)) }
+    requires { CanCheck names.now (raw.seq (raw_act_of statement.now) (raw_act_of rest.now)) }
+    ensures says { Says (λ r. (act_of r.0, result_type r.1)) result (act_found names.now (raw.seq (raw_act_of statement.now) (raw_act_of rest.now))) }
+    ensures uses { IfOk result (λ r. uses.new.items ≡ noted_act names.now (act_of r.0) uses.old.items) }
+    ensures low { IfOk result (λ r. IsLow r.1) }
 {
     let (a, _) = check_action(alloc, names, uses, statement)?;
     let (b, kind) = check_action(alloc, names, uses, rest)?;
@@ -282,13 +251,10 @@ pub(crate) fn check_action(
     uses: &mut Vec<(u32, Ty)>,
     raw: &RawAction,
 ) -> Checked
-    requires ascii { IsAscii names.now.text.now }
-    requires spans { SpansWithin (length names.now.text.now) (raw_act_of raw.now) }
-    requires room { length (scope names.now.locals.now) + actions (raw_act_of raw.now) ≤ 2 ^ 32 }
-    requires shallow { ScopeIsLow (scope names.now.locals.now) }
-    ensures says { Says (λ r. (act_of r.0, result_type r.1)) result (checked names.now.table.now names.now.text.now (scope names.now.locals.now) (raw_act_of raw.now)) }
-    ensures uses { IfOk result (λ r. uses.new.items ≡ note_all (table_kinds names.now.table.now) (named (act_of r.0)) uses.old.items) }
-    ensures low { IfOk result (λ r. IfSome r.1 (λ t. t.refs ≤ 9)) }
+    requires { CanCheck names.now (raw_act_of raw.now) }
+    ensures says { Says (λ r. (act_of r.0, result_type r.1)) result (act_found names.now (raw_act_of raw.now)) }
+    ensures uses { IfOk result (λ r. uses.new.items ≡ noted_act names.now (act_of r.0) uses.old.items) }
+    ensures low { IfOk result (λ r. IsLow r.1) }
 {
     match raw {
         RawAction::Return(value) => check_return(alloc, names, uses, value),

@@ -1,12 +1,11 @@
 //! The check of expressions.
 
-ghost use Rattle.std.specs.Prelude.{◌≡◌, ◌≤◌, ◌^◌, length, IfOk, slice_range};
+ghost use Rattle.std.specs.Prelude.{◌≡◌, ◌≤◌, IfOk, length, slice_range};
 ghost use Rattle.std.specs.Str.{IsAscii};
 ghost use Rattle.stm_terms.specs.Trees.{term_of};
-ghost use Rattle.stm_terms.specs.RawTrees.{raw_term_of, place, NamesWithin};
-ghost use Rattle.stm_terms.specs.Typing.{named_in, note_all};
-ghost use Rattle.stm_check.specs.Scopes.{scope, ScopeIsLow};
-ghost use Rattle.stm_check.specs.Checking.{Says, checked_expr, table_kinds};
+ghost use Rattle.stm_terms.specs.RawTrees.{raw_term_of, place};
+ghost use Rattle.stm_check.specs.Checking.{Says};
+ghost use Rattle.stm_check.specs.Walk.{CanLookUp, expr_found, noted_expr};
 
 use crate::fault::TypeFault;
 use crate::scope::{Names, find_local, find_variable};
@@ -49,12 +48,9 @@ pub(crate) fn check_expr(
     uses: &mut Vec<(u32, Ty)>,
     raw: &RawExpr,
 ) -> Result<(Expr, Ty), TypeFault>
-    requires ascii { IsAscii names.now.text.now }
-    requires spans { NamesWithin (length names.now.text.now) (raw_term_of raw.now) }
-    requires room { length (scope names.now.locals.now) ≤ 2 ^ 32 }
-    requires shallow { ScopeIsLow (scope names.now.locals.now) }
-    ensures says { Says (λ r. (term_of r.0, r.1)) result (checked_expr names.now.table.now names.now.text.now (scope names.now.locals.now) (raw_term_of raw.now)) }
-    ensures uses { IfOk result (λ r. uses.new.items ≡ note_all (table_kinds names.now.table.now) (named_in (term_of r.0)) uses.old.items) }
+    requires { CanLookUp names.now (raw_term_of raw.now) }
+    ensures says { Says (λ r. (term_of r.0, r.1)) result (expr_found names.now (raw_term_of raw.now)) }
+    ensures uses { IfOk result (λ r. uses.new.items ≡ noted_expr names.now (term_of r.0) uses.old.items) }
     ensures low { IfOk result (λ r. r.1.refs ≤ 9) }
 {
     match raw {
