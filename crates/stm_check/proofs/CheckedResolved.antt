@@ -1,16 +1,15 @@
 -- What the check accepts is the parsed tree with its names resolved.
-use Rattle.std.proofs.Common.{◌≡◌, ℕ, Bool, true, false, List, [], ◌∷◌, length, Option, Some, None, Result, Ok, Err, IfOk, refl, ap, ◌∙◌, sym, subst}
+use Rattle.std.proofs.Common.{◌≡◌, ℕ, Bool, true, false, List, [], ◌∷◌, length, Option, Some, None, IfOk, refl, ap, ◌∙◌}
 use Rattle.std.specs.Prelude.{slice_range, option_map, nat_le, if◌then◌else◌}
 use Rattle.std.specs.Str.{bytes_eq}
 use Rattle.stm_terms.specs.declared.kinds.Ty.{Ty}
-use Rattle.stm_terms.specs.Trees.{Term, lit, local, global, bin, Act, return, read, write, make, retry, throw, choose, or_else, bind, let_in, seq}
+use Rattle.stm_terms.specs.Trees.{Term, bin, Act, write, choose, or_else, bind, let_in, seq}
 use Rattle.stm_terms.specs.RawTrees as raw
-use Rattle.stm_terms.specs.Typing.{Kinds, int_ty, bool_ty, unit_ty, var_ty, inside, same_ty, ActionType, Gives, Any, joined}
+use Rattle.stm_terms.specs.Typing.{Kinds, int_ty, bool_ty, unit_ty, inside, same_ty, ActionType, Gives, joined}
 use Rattle.stm_store.specs.Tables.{Declared, number_of}
 use Rattle.stm_check.specs.Scopes.{Locals, innermost, names_of}
-use Rattle.stm_check.specs.Checking.{table_kinds, with_kind, variable, wanted, given, as_wanted, wanted_right, on_ok, unless, on_some, on_type, declared_as, resolved, checked_expr, checked}
+use Rattle.stm_check.specs.Checking.{table_kinds, with_kind, variable, wanted, given, as_wanted, wanted_right, declared_as, resolved, checked_expr, checked}
 use Rattle.stm_check.specs.Resolving.{number_in, IsNamed, IsTerm, IsAct}
-use Rattle.stm_check.specs.declared.fault.TypeFault.{TypeFault}
 use Rattle.stm_check.proofs.CheckedTyped.{ok_then, unless_then, some_then, type_then}
 
 names_length : (ls : Locals) → length (names_of ls) ≡ length ls

@@ -1,5 +1,5 @@
 -- What the check accepts is well typed.
-use Rattle.std.proofs.Common.{◌≡◌, ℕ, ◌+◌, ◌≤◌, suc, zero, Bool, true, false, ◌&&◌, List, [], ◌∷◌, ◌++◌, length, Option, Some, None, Result, Ok, Err, IfOk, refl, ap, ◌∙◌, sym, subst, arith}
+use Rattle.std.proofs.Common.{◌≡◌, ℕ, suc, zero, Bool, true, false, ◌&&◌, List, [], ◌∷◌, ◌++◌, length, Option, Some, None, Result, Ok, Err, IfOk, refl, ap, ◌∙◌, sym, subst}
 use Rattle.std.specs.Prelude.{slice_get, slice_range, option_map, nat_le, if◌then◌else◌}
 use Rattle.std.specs.Str.{bytes_eq}
 use Rattle.stm_terms.specs.declared.kinds.Ty.{Ty}
@@ -7,7 +7,7 @@ use Rattle.stm_terms.specs.declared.expr.Op.{Op}
 use Rattle.stm_terms.specs.declared.expr.Op.TheVariants.{Mul, Add, Sub, Eq, Lt, Le, And, Or}
 use Rattle.stm_terms.specs.Trees.{Term, bin, Act, return, read, write, make, throw, choose, or_else, bind, let_in, seq}
 use Rattle.stm_terms.specs.RawTrees as raw
-use Rattle.stm_terms.specs.Typing.{Kinds, int_ty, bool_ty, unit_ty, var_ty, inside, inside_at, same_ty, op_type, operands, with_type, expr_type, ActionType, Gives, Any, joined, with_result, with_bound, when, action_type}
+use Rattle.stm_terms.specs.Typing.{Kinds, int_ty, bool_ty, unit_ty, var_ty, inside, inside_at, same_ty, op_type, expr_type, ActionType, Gives, Any, joined, when, action_type}
 use Rattle.stm_check.proofs.SameTypes.{ty_same, ty_refl}
 use Rattle.stm_store.specs.Tables.{Declared, number_of}
 use Rattle.stm_check.specs.Scopes.{Locals, innermost, types_of}

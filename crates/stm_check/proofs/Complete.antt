@@ -1,6 +1,6 @@
 -- A parsed tree that resolves to a well typed tree is accepted.
-use Rattle.std.proofs.Common.{◌≡◌, ℕ, ◌+◌, suc, zero, Bool, true, false, ◌&&◌, List, [], ◌∷◌, ◌++◌, length, Option, Some, None, Result, Ok, Err, refl, ap, ap₂, ◌∙◌, sym, subst, arith}
-use Rattle.std.specs.Prelude.{slice_get, slice_range, option_map, nat_le, if◌then◌else◌}
+use Rattle.std.proofs.Common.{◌≡◌, ℕ, Bool, true, false, ◌&&◌, List, ◌∷◌, Option, Some, None, Result, Ok, refl, ap, ap₂, ◌∙◌, sym, subst}
+use Rattle.std.specs.Prelude.{slice_get, slice_range, option_map, nat_le}
 use Rattle.stm_terms.specs.declared.kinds.Ty.{Ty}
 use Rattle.stm_terms.specs.declared.values.Value.{Value}
 use Rattle.stm_terms.specs.declared.values.Value.TheVariants as value
@@ -8,7 +8,7 @@ use Rattle.stm_terms.specs.declared.expr.Op.{Op}
 use Rattle.stm_terms.specs.declared.expr.Op.TheVariants.{Mul, Add, Sub, Eq, Lt, Le, And, Or}
 use Rattle.stm_terms.specs.Trees.{Term, lit, local, global, bin, Act, return, read, write, make, retry, throw, choose, or_else, bind, let_in, seq}
 use Rattle.stm_terms.specs.RawTrees as raw
-use Rattle.stm_terms.specs.Typing.{Kinds, int_ty, bool_ty, unit_ty, var_ty, inside, inside_at, same_ty, literal_type, op_type, operands, with_type, expr_type, ActionType, Gives, Any, joined, with_result, with_bound, when, action_type}
+use Rattle.stm_terms.specs.Typing.{int_ty, bool_ty, unit_ty, var_ty, inside, same_ty, literal_type, op_type, operands, expr_type, ActionType, Gives, Any, joined, action_type}
 use Rattle.stm_store.specs.Tables.{Declared, number_of}
 use Rattle.stm_check.specs.Scopes.{Locals, innermost, types_of, names_of}
 use Rattle.stm_check.specs.Checking.{table_kinds, with_kind, variable, wanted, given, as_wanted, wanted_right, on_ok, unless, on_some, on_type, declared_as, resolved, checked_expr, checked}

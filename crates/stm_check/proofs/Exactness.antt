@@ -1,5 +1,5 @@
 -- The check accepts exactly what resolves to a well typed tree.
-use Rattle.std.proofs.Common.{◌≡◌, ◌↔◌, ℕ, List, Option, Some, None, Result, Ok, Err, IfOk, refl, subst, sym, ◌∙◌, ap}
+use Rattle.std.proofs.Common.{◌≡◌, ℕ, List, Option, Some, None, Result, Ok, Err, IfOk, refl, subst}
 use Rattle.stm_terms.specs.Trees.{Act}
 use Rattle.stm_terms.specs.RawTrees as raw
 use Rattle.stm_terms.specs.Typing.{ActionType, action_type}

@@ -1,14 +1,14 @@
 -- What a checked block keeps.
-use Rattle.std.proofs.Common.{◌≡◌, ℕ, ◌+◌, ◌≤◌, List, [], ◌∷◌, Option, Some, None, Result, Ok, Err, IfOk, refl, ap, ◌∙◌, sym, subst, arith}
+use Rattle.std.proofs.Common.{◌≡◌, ℕ, ◌≤◌, List, [], ◌∷◌, Some, Result, Ok, Err, IfOk, sym, subst, arith}
 use Rattle.std.specs.Prelude.{slice_range, nat_le}
 use Rattle.stm_terms.specs.declared.kinds.Ty.{Ty}
 use Rattle.stm_terms.specs.Trees.{Term, Act, return, read, write, make, retry, throw, choose, or_else, bind, let_in, seq}
 use Rattle.stm_terms.specs.RawTrees as raw
-use Rattle.stm_terms.specs.Typing.{Kinds, int_ty, bool_ty, unit_ty, var_ty, inside, same_ty, joined, ActionType, Gives, Any, action_type, kinds_in, uses_of, makes}
+use Rattle.stm_terms.specs.Typing.{int_ty, bool_ty, unit_ty, var_ty, inside, same_ty, joined, ActionType, Gives, Any, action_type, kinds_in, uses_of, makes}
 use Rattle.stm_check.proofs.EnoughKinds.{typed_by_uses}
 use Rattle.stm_store.specs.Tables.{Declared}
 use Rattle.stm_check.specs.Scopes.{Locals}
-use Rattle.stm_check.specs.Checking.{table_kinds, on_ok, unless, on_some, on_type, checked_expr, checked}
+use Rattle.stm_check.specs.Checking.{table_kinds, checked_expr, checked}
 use Rattle.stm_check.specs.declared.fault.TypeFault.{TypeFault}
 use Rattle.stm_check.proofs.CheckedTyped.{typed, ok_then, unless_then, some_then, type_then}
 

@@ -8,7 +8,9 @@ pub mod EnoughKinds
 pub mod Exactness
 pub mod ExpressionsSound
 pub mod Kept
+pub mod Memory
 pub mod Noted
+pub mod OneBlock
 pub mod SameTypes
 pub mod Soundness
 pub mod UsesApart

@@ -3,8 +3,7 @@ use Rattle.std.proofs.Common.{◌≡◌, ℕ, Bool, true, false, List, [], ◌�
 use Rattle.std.specs.Prelude.{nat_eq, if◌then◌else◌}
 use Rattle.std.proofs.lemmas.Bool.Decides.{nat_tests}
 use Rattle.stm_terms.specs.declared.kinds.Ty.{Ty}
-use Rattle.stm_terms.specs.Trees.{Act}
-use Rattle.stm_terms.specs.Typing.{Kinds, kinds_in, named, noted_as, noted, note_all, uses_of}
+use Rattle.stm_terms.specs.Typing.{Kinds, kinds_in, named, noted_as, noted, note_all}
 use Rattle.stm_check.specs.Laws.{AreApart, UsesAreApart}
 
 turned : (i j : ℕ) → nat_eq i j ≡ false → nat_eq j i ≡ false

@@ -1,5 +1,5 @@
 -- The check as the code walks it: with the names in one place, and noting variables as it goes.
-use Rattle.std.specs.Prelude.{◌≡◌, ℕ, ◌+◌, ◌≤◌, ◌^◌, List, Option, Result, length, IfSome}
+use Rattle.std.specs.Prelude.{ℕ, ◌+◌, ◌≤◌, ◌^◌, List, Option, Result, length, IfSome}
 use Rattle.std.specs.Str.{IsAscii}
 use Rattle.stm_terms.specs.declared.kinds.Ty.{Ty}
 use Rattle.stm_terms.specs.Trees.{Term, Act}

@@ -1,4 +1,4 @@
-use Rattle.std.proofs.Common.{◌≤◌, ◌^◌, string_bytes, arith}
+use Rattle.std.proofs.Common.{◌≤◌, string_bytes, arith}
 use Rattle.stm_terms.specs.Trees.{act_of}
 use Rattle.stm_terms.specs.RawTrees.{raw_act_of, actions}
 use Rattle.stm_terms.specs.Typing.{makes, result_type}
