@@ -142,9 +142,9 @@ fn check_or_else(
     ensures uses { IfOk result (λ r. uses.new.items ≡ noted_act names.now (act_of r.0) uses.old.items) }
     ensures low { IfOk result (λ r. IsLow r.1) }
 {
-    let (a, one) = check_action(alloc, names, uses, first)?;
-    let (b, other) = check_action(alloc, names, uses, second)?;
-    let Some(kind) = join(one, other) else {
+    let (a, left) = check_action(alloc, names, uses, first)?;
+    let (b, right) = check_action(alloc, names, uses, second)?;
+    let Some(kind) = join(left, right) else {
         return Err(TypeFault::Mismatch(at));
     };
     let whole = Action::OrElse(Box::new(alloc, a)?, Box::new(alloc, b)?);
