@@ -65,6 +65,12 @@ FaultsTheIllTyped =
     → ((f : TypeFault) × (checked table text locals parsed ≡ Err f))
     ↔ ((a : Act) → IsAct table text (names_of locals) parsed a → action_type (table_kinds table) (types_of locals) a ≡ None)
 
+-- the types of the variables that a block names are enough to type it
+abbrev pub OwnVariablesAreEnough : Type 0
+OwnVariablesAreEnough =
+    (kinds : Kinds) (block : Act) (r : ActionType)
+    → action_type kinds [] block ≡ Some r → action_type (kinds_in (uses_of kinds block)) [] block ≡ Some r
+
 -- no variable stands twice
 abbrev pub AreApart : List (ℕ × Ty) → Type 0
 AreApart [] = Unit {0}

@@ -1,6 +1,6 @@
 //! What typing promises, as laws of the definitions: each function's contract is one, and its body is empty.
 
-ghost use Rattle.stm_check.specs.Laws.{NeverStuck, KeepsTypes, KnowingMoreKeepsTypes, VerdictFits, AcceptsTheWellTyped, FaultsTheIllTyped, FaultsAreTheText, UsesAreApart};
+ghost use Rattle.stm_check.specs.Laws.{NeverStuck, KeepsTypes, KnowingMoreKeepsTypes, VerdictFits, AcceptsTheWellTyped, FaultsTheIllTyped, FaultsAreTheText, OwnVariablesAreEnough, UsesAreApart};
 
 /// A well typed action has an outcome in every well typed view that has its variables.
 pub fn never_stuck()
@@ -30,6 +30,11 @@ pub fn accepts_the_well_typed()
 /// The check tells a fault exactly where no tree that the parsed one resolves to has a type.
 pub fn faults_the_ill_typed()
     ensures { FaultsTheIllTyped }
+{}
+
+/// A block keeps its type where only the variables that it names are known.
+pub fn own_variables_are_enough()
+    ensures { OwnVariablesAreEnough }
 {}
 
 /// The variables that a block names, as `Typed::uses` lists them, are apart.

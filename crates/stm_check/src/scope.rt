@@ -9,7 +9,7 @@ use stm_terms::kinds::Ty;
 
 /// The locals, innermost first.
 #[derive(Drop)]
-pub enum Scope<'a> {
+pub(crate) enum Scope<'a> {
     Empty,
     Local(&'a str, Ty, &'a Scope<'a>),
 }
