@@ -1,15 +1,12 @@
 -- The laws of typing.
-use Rattle.std.proofs.Common.{◌≡◌, ◌≢◌, ℕ, List, [], Option, Some, None, refl, subst, sym}
-use Rattle.stm_terms.specs.declared.kinds.Ty.{Ty}
+use Rattle.std.proofs.Common.{◌≡◌, ◌≢◌, [], Some, refl, subst}
 use Rattle.stm_terms.specs.declared.values.Value.{Value}
 use Rattle.stm_terms.specs.declared.verdicts.Verdict.{Verdict}
 use Rattle.stm_terms.specs.declared.verdicts.Verdict.TheVariants.{Commits, Throws, Blocks}
-use Rattle.stm_terms.specs.Trees.{Act}
 use Rattle.stm_terms.specs.Views.{Variables, Changes, no_changes, cell_value}
 use Rattle.stm_terms.specs.Run.{Outcome, Returned, Threw, Retried, Stuck, run}
-use Rattle.stm_terms.specs.Typing.{Kinds, ActionType, Gives, Any, kinds_in, action_type, WellTyped}
-use Rattle.stm_terms.specs.Verdict.{verdict_from, verdict}
-use Rattle.stm_store.specs.Cells.{StoreIsTyped, Covers, Fits}
+use Rattle.stm_terms.specs.Typing.{Kinds, ActionType, Gives, Any}
+use Rattle.stm_terms.specs.Verdict.{verdict_from}
 use Rattle.stm_check.specs.Laws.{NeverStuck, OfType, KeepsTypes, KnowingMoreKeepsTypes, VerdictFits}
 use Rattle.stm_check.proofs.ActionsSound.{typed_not_stuck, run_fine, Fine, HasResult}
 use Rattle.stm_check.proofs.Covering.{action_more, block_defined, verdict_fits}

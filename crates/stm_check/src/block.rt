@@ -1,8 +1,8 @@
 //! Blocks that are well typed.
 
-ghost use Rattle.std.specs.Prelude.{◌≡◌, ◌≤◌, ◌^◌, ◌↔◌, [], Some, IfOk, IsTrue};
+ghost use Rattle.std.specs.Prelude.{◌≡◌, ◌≤◌, ◌^◌, ◌↔◌, ◌&&◌, [], Some, IfOk, IsTrue, string_bytes};
 ghost use Rattle.stm_terms.specs.Trees.{act_of};
-ghost use Rattle.stm_terms.specs.Typing.{action_type, result_type, kinds_in, makes};
+ghost use Rattle.stm_terms.specs.Typing.{action_type, result_type as type_of_result, kinds_in, makes};
 
 use std::alloc::Global;
 use std::marker::Model;
@@ -10,6 +10,36 @@ use std::sync::Arc;
 use stm_terms::NoMemory;
 use stm_terms::action::Action;
 use stm_terms::kinds::Ty;
+
+fn same_text(one: &str, other: &str) -> bool
+    ensures { IsTrue result ↔ (one.now ≡ other.now) }
+{
+    one == other
+}
+
+fn same_result(one: Option<Ty>, other: Option<Ty>) -> bool
+    ensures { IsTrue result ↔ (one ≡ other) }
+{
+    one == other
+}
+
+fn same_uses(one: &[(u32, Ty)], other: &[(u32, Ty)]) -> bool
+    ensures { IsTrue result ↔ (one.now ≡ other.now) }
+{
+    match (one, other) {
+        ([], []) => true,
+        ([(i, kind), rest @ ..], [(j, other_kind), others @ ..]) => {
+            *i == *j && *kind == *other_kind && same_uses(rest, others)
+        }
+        _ => false,
+    }
+}
+
+fn all(first: bool, second: bool, third: bool, fourth: bool) -> bool
+    ensures { result ≡ (first && second) && (third && fourth) }
+{
+    (first && second) && (third && fourth)
+}
 
 /// A well typed block, with its text, the type of its result, none for any, and the variables that it names with their
 /// types, in order of first appearance.
@@ -39,10 +69,29 @@ impl Model for Typed {
 }
 
 impl Typed {
+    /// A block that has been checked.
+    pub(crate) fn of_checked(
+        action: Action,
+        text: String,
+        result_type: Option<Ty>,
+        uses: Vec<(u32, Ty)>,
+    ) -> Typed
+        requires typed { action_type (kinds_in uses.items) [] (act_of action) ≡ Some (type_of_result result_type) }
+        requires small { makes (act_of action) ≤ 2 ^ 32 }
+        ensures { result ≡ record { tree = act_of action; text = string_bytes text; gives = result_type; uses = uses.items } }
+    {
+        Typed {
+            action,
+            text,
+            result_type,
+            uses,
+        }
+    }
+
     /// What the block does.
     pub fn action(&self) -> &Action
         ensures action { act_of result.now ≡ self.now.tree }
-        ensures typed { action_type (kinds_in self.now.uses) [] self.now.tree ≡ Some (result_type self.now.gives) }
+        ensures typed { action_type (kinds_in self.now.uses) [] self.now.tree ≡ Some (type_of_result self.now.gives) }
         ensures small { makes self.now.tree ≤ 2 ^ 32 }
     {
         &self.action
@@ -67,6 +116,17 @@ impl Typed {
         ensures { result.now ≡ self.now.uses }
     {
         self.uses.as_slice()
+    }
+
+    /// Whether two blocks are one: in tree, text, type of the result, and variables.
+    pub fn same(&self, other: &Typed) -> bool
+        ensures { IsTrue result ↔ (self.now ≡ other.now) }
+    {
+        let trees = self.action.same(&other.action);
+        let texts = same_text(&self.text, &other.text);
+        let results = same_result(self.result_type, other.result_type);
+        let uses = same_uses(&self.uses, &other.uses);
+        all(trees, texts, results, uses)
     }
 
     /// Whether two blocks have one tree.
