@@ -1,13 +1,9 @@
-// A library with one function.
+//! Evaluation of a block on an unchanging copy of a store.
 #![tactic(auto)]
 
-ghost use Rattle.std.specs.Prelude.{◌≡◌};
-ghost use Rattle.stm_eval.specs.Echo.{echo_of};
+mod endings;
+mod evaluator;
+pub mod running;
 
-// The `ensures` clause is the contract: what `echo` returns is `echo_of` of its argument, a definition
-// in `specs/Echo.antt`, which a caller's clause can cite too.
-pub fn echo(x: usize) -> usize
-    ensures { result ≡ echo_of x }
-{
-    x
-}
+pub use running::try_action;
+pub use stm_log::Reads;
