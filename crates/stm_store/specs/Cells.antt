@@ -7,7 +7,7 @@ use Rattle.stm_terms.specs.declared.values.Value.{Value}
 use Rattle.stm_terms.specs.declared.values.Value.TheVariants.{Int, Bool as Truth, Unit as Nil, Var}
 use Rattle.stm_terms.specs.declared.verdicts.Verdict.{Verdict}
 use Rattle.stm_terms.specs.declared.verdicts.Verdict.TheVariants.{Commits, Throws, Blocks}
-use Rattle.stm_terms.specs.Views.{Changes, no_changes, find}
+use Rattle.stm_terms.specs.Views.{no_changes, find}
 use Rattle.stm_terms.specs.Typing.{Kinds, type_of, Rising}
 use Rattle.stm_store.specs.declared.cell.Cell.{Cell}
 
@@ -29,6 +29,12 @@ StoreIsTyped cells = (i : ℕ) (c : Ty × Value) → slice_get cells i ≡ Some 
 -- each cell's type has at most 8 `TVar`
 abbrev pub StoreIsLow : List (Ty × Value) → Type 0
 StoreIsLow cells = (i : ℕ) (c : Ty × Value) → slice_get cells i ≡ Some c → c.0.refs ≤ 8
+
+-- what holds of every store, and of its copies
+pub record IsStore (cells : List (Ty × Value)) : Type 0 where
+  pub small : length cells ≤ 1000000
+  pub typed : StoreIsTyped cells
+  pub low : StoreIsLow cells
 
 -- these variables exist with these types
 abbrev pub Covers : List (Ty × Value) → List (ℕ × Ty) → Type 0

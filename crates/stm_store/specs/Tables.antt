@@ -1,9 +1,15 @@
 -- The declared variables, in the order of their declaration.
-use Rattle.std.specs.Prelude.{◌≡◌, ℕ, ◌+◌, Bool, List, [], ◌∷◌, Option, Some, None, map, if◌then◌else◌}
+use Rattle.std.specs.Prelude.{◌≡◌, ℕ, ◌+◌, ◌≤◌, Bool, false, not, ◌&&◌, nat_le, nat_lt, List, [], ◌∷◌, Option, Some, None, Result, Ok, Err, map, length, is_some, slice_get, IsTrue, if◌then◌else◌}
 use Rattle.std.specs.Str.{bytes_eq}
 use Rattle.stm_terms.specs.declared.kinds.Ty.{Ty}
 use Rattle.stm_terms.specs.declared.values.Value.{Value}
+use Rattle.stm_terms.specs.Names.{is_name_text}
+use Rattle.stm_terms.specs.Typing.{type_of, same_ty}
+use Rattle.stm_terms.specs.Views.{no_changes}
 use Rattle.stm_store.specs.declared.cell.Cell.{Cell}
+use Rattle.stm_store.specs.declared.table.DeclareError.{DeclareError}
+use Rattle.stm_store.specs.declared.table.DeclareError.TheVariants.{Twice, TypeOfValue, TableFull, NoMemory}
+use Rattle.stm_store.specs.Cells.{kinds_of, StoreIsTyped, StoreIsLow}
 
 -- a variable's name, the type of its cell, and its first value
 pub record Declared : Type 0 where
@@ -32,3 +38,47 @@ opened_cell d = record { kind = d.kind; value = d.value; count = 0 }
 
 abbrev pub opened : List Declared → List Cell
 opened table = map opened_cell table
+
+-- this type is there, and no other
+abbrev pub is_kind : Option Ty → Ty → Bool
+is_kind (Some u) t = same_ty u t
+is_kind None t = false
+
+-- whether a value is of a type, where these variables are declared
+abbrev pub is_of : List (Ty × Value) → Value → Ty → Bool
+is_of cells value kind = is_kind (type_of (kinds_of cells) no_changes value) kind
+
+-- a variable may be declared with a type of at most 8 `TVar` and a value of it
+abbrev pub may_hold : List (Ty × Value) → Ty → Value → Bool
+may_hold cells kind value = nat_le kind.refs 8 && is_of cells value kind
+
+-- why a variable can't be declared: the first reason that holds
+abbrev pub declare_refusal : List Declared → List ℕ → Ty → Value → Option DeclareError
+declare_refusal table name kind value =
+    if is_some (number_of name table) then Some Twice
+    else if not (may_hold (declared_cells table) kind value) then Some TypeOfValue
+    else if nat_lt (length table) 1000000 then None else Some TableFull
+
+-- the refusal that an answer tells; want of memory is none
+abbrev pub refusal_told : Result ℕ DeclareError → Option DeclareError
+refusal_told (Ok id) = None
+refusal_told (Err Twice) = Some Twice
+refusal_told (Err TypeOfValue) = Some TypeOfValue
+refusal_told (Err TableFull) = Some TableFull
+refusal_told (Err NoMemory) = None
+
+-- each name is one
+abbrev pub NamesAreNames : List Declared → Type 0
+NamesAreNames table = (i : ℕ) (d : Declared) → slice_get table i ≡ Some d → IsTrue (is_name_text d.name)
+
+-- no name stands twice: each has the number of its own variable
+abbrev pub NamesAreDistinct : List Declared → Type 0
+NamesAreDistinct table = (i : ℕ) (d : Declared) → slice_get table i ≡ Some d → number_of d.name table ≡ Some i
+
+-- what holds of every table
+pub record IsTable (table : List Declared) : Type 0 where
+  pub small : length table ≤ 1000000
+  pub typed : StoreIsTyped (declared_cells table)
+  pub low : StoreIsLow (declared_cells table)
+  pub named : NamesAreNames table
+  pub distinct : NamesAreDistinct table

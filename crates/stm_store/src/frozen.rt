@@ -1,10 +1,10 @@
 //! An unchanging copy of a store.
 
-ghost use Rattle.std.specs.Prelude.{◌≡◌, ◌<◌, Some, length};
+ghost use Rattle.std.specs.Prelude.{◌≡◌, ◌<◌, ◌≤◌, Some, length};
 ghost use Rattle.stm_terms.specs.Views.{cell_value};
-ghost use Rattle.stm_store.specs.Cells.{StoreIsTyped, StoreIsLow, kinds_of, plains};
+ghost use Rattle.stm_store.specs.Cells.{StoreIsTyped, StoreIsLow, IsStore, kinds_of, plains};
 
-use crate::cell::Cell;
+use crate::list::CellList;
 use std::marker::Model;
 use stm_terms::kinds::Ty;
 use stm_terms::values::Value;
@@ -12,26 +12,34 @@ use stm_terms::values::Value;
 /// The cells of a store as they were: types and values.
 #[derive(Drop)]
 pub struct Frozen {
-    cells: Vec<Cell>,
+    cells: CellList,
 }
 
 impl Model for Frozen {
     ghost use Rattle.std.specs.Prelude.{List, length, ◌≤◌};
     ghost use Rattle.stm_terms.specs.declared.kinds.Ty.{Ty};
     ghost use Rattle.stm_terms.specs.declared.values.Value.{Value as AnyValue};
-    ghost use Rattle.stm_store.specs.Cells.{StoreIsTyped, StoreIsLow, plains};
+    ghost use Rattle.stm_store.specs.Cells.{plains, IsStore};
 
     ghost Value = { List (Ty × AnyValue) };
 
-    ghost view = { λ f. plains f.cells.items };
+    ghost view = { λ f. plains f.cells };
 
-    ghost invariant = { λ f. StoreIsTyped (plains f.cells.items) × StoreIsLow (plains f.cells.items) };
+    ghost invariant = { λ f. IsStore (plains f.cells) };
 }
 
 impl Frozen {
-    /// How many variables there are.
+    pub(crate) fn of(cells: CellList) -> Frozen
+        requires { IsStore (plains cells) }
+        ensures { result ≡ plains cells }
+    {
+        Frozen { cells }
+    }
+
+    /// How many variables there are. What holds of every copy stands here.
     pub fn len(&self) -> usize
         ensures len { result ≡ length self.now }
+        ensures small { length self.now ≤ 1000000 }
         ensures typed { StoreIsTyped self.now }
         ensures low { StoreIsLow self.now }
     {
@@ -43,7 +51,7 @@ impl Frozen {
         requires { id < length self.now }
         ensures { cell_value self.now id ≡ Some result }
     {
-        self.cells[id as usize].value
+        self.cells.get(id as usize).value
     }
 
     /// The type of a variable.
@@ -51,6 +59,6 @@ impl Frozen {
         requires { id < length self.now }
         ensures { kinds_of self.now id ≡ Some result }
     {
-        self.cells[id as usize].kind
+        self.cells.get(id as usize).kind
     }
 }
