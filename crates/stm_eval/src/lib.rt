@@ -5,5 +5,5 @@ mod endings;
 mod evaluator;
 pub mod running;
 
-pub use running::try_action;
+pub use running::{try_action, try_block};
 pub use stm_log::Reads;
