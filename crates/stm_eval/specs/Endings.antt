@@ -1,7 +1,7 @@
 -- The evaluator's answers by the definitions.
 use Rattle.std.specs.Prelude.{ℕ, ◌+◌, suc, List, []}
 use Rattle.stm_terms.specs.declared.values.Value.{Value}
-use Rattle.stm_terms.specs.Trees.{Act, return, read, write, make, retry, throw, choose, or_else, bind, let_in, seq, act_of}
+use Rattle.stm_terms.specs.Trees.{Act, choose, or_else, bind, let_in, seq, act_of}
 use Rattle.stm_terms.specs.Typing.{makes}
 use Rattle.stm_terms.specs.Views.{Variables, Changes}
 use Rattle.stm_terms.specs.Run as meaning

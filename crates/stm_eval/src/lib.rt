@@ -12,6 +12,7 @@ pub mod job;
 pub mod laws;
 pub mod message;
 pub mod running;
+mod simple;
 
 pub use evaluating::evaluate;
 pub use job::Job;

@@ -23,7 +23,10 @@ decreases-evaluate-loop-next l = size (act_of l.rest)
 
 -- a step of an action stands between the action and its parts
 abbrev pub decreases-evaluate : goal.decreases-evaluate
-decreases-evaluate l = 2 * size (act_of l.action.now) + 1
+decreases-evaluate l = 3 * size (act_of l.action.now) + 1
 
 abbrev pub decreases-step : goal.decreases-step
-decreases-step l = 2 * size (act_of l.action.now)
+decreases-step l = 3 * size (act_of l.action.now)
+
+abbrev pub decreases-run_left : goal.decreases-run_left
+decreases-run_left l = 3 * size (act_of l.left.now) + 3 * size (act_of l.right.now) + 2
