@@ -1,0 +1,6 @@
+pub mod ActionsSound
+pub mod Covering
+pub mod Depth
+pub mod ExpressionsSound
+pub mod Noted
+pub mod Soundness

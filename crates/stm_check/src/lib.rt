@@ -1,6 +1,14 @@
 //! Blocks that are well typed.
 #![tactic(auto)]
 
+mod actions;
 pub mod block;
+mod expressions;
+pub mod fault;
+pub mod laws;
+mod scope;
+mod types;
+mod uses;
 
 pub use block::{Script, Typed};
+pub use fault::TypeFault;

@@ -1,0 +1,5 @@
+use Rattle.stm_check.proofs.Soundness.{every_verdict_fits}
+use Rattle.stm_check.proofs.laws.verdict_fits.Goals as goal
+
+pub returns : goal.returns
+returns c = every_verdict_fits
