@@ -4,6 +4,7 @@ use Rattle.std.specs.List.{take_while}
 use Rattle.std.specs.Str.{IsAscii, IsUtf8}
 use Rattle.std.proofs.Math.Seq.{drop-cons}
 use Rattle.std.proofs.lemmas.List.{drop-drop, map-append}
+use Rattle.std.proofs.lemmas.List.Sums.{take_while-cons}
 use Rattle.std.proofs.lemmas.Str.{IsUtf8-from_ascii}
 use Rattle.std.proofs.lemmas.Str.Ascii.{IsAscii-nil, IsAscii-cons}
 use Rattle.std.proofs.lemmas.Bool.Decides.{nat_tests}
@@ -51,21 +52,24 @@ word_low b e = grind (arith, nat_tests)
 
 word_ascii : (text : List ℕ) → IsAscii (take_while is_word_byte text)
 word_ascii [] = IsAscii-nil
-word_ascii (b ∷ text) = by (is_word_byte b) refl
+word_ascii (b ∷ text) = subst (λ (l : List ℕ). IsAscii l) (sym (take_while-cons is_word_byte b text)) (by (is_word_byte b) refl (word_ascii text))
   where
-    by : (t : Bool) → is_word_byte b ≡ t → IsAscii (cond t (b ∷ take_while is_word_byte text) [])
-    by true e = IsAscii-cons b (take_while is_word_byte text) (word_low b e) (word_ascii text)
-    by false e = IsAscii-nil
+    by : (t : Bool) → is_word_byte b ≡ t → IsAscii (take_while is_word_byte text) → IsAscii (cond t (b ∷ take_while is_word_byte text) [])
+    by true e h = IsAscii-cons b (take_while is_word_byte text) (word_low b e) h
+    by false e h = IsAscii-nil
 
 pub word_utf8 : (text : List ℕ) → IsUtf8 (take_while is_word_byte text)
 word_utf8 text = IsUtf8-from_ascii (take_while is_word_byte text) (word_ascii text)
 
 pub take_leading : (p : ℕ → Bool) (text : List ℕ) → take (length (take_while p text)) text ≡ take_while p text
 take_leading p [] = refl
-take_leading p (b ∷ text) = elim (p b) as (λ t. take (length (cond t (b ∷ take_while p text) [])) (b ∷ text) ≡ cond t (b ∷ take_while p text) []) [
-  | true ↦ ap (λ l. b ∷ l) (take_leading p text)
-  | false ↦ refl
-]
+take_leading p (b ∷ text) =
+    ap (λ l. take (length l) (b ∷ text)) (take_while-cons p b text)
+    ∙ elim (p b) as (λ t. take (length (cond t (b ∷ take_while p text) [])) (b ∷ text) ≡ cond t (b ∷ take_while p text) []) [
+      | true ↦ ap (λ l. b ∷ l) (take_leading p text)
+      | false ↦ refl
+    ]
+    ∙ sym (take_while-cons p b text)
 
 -- behind a number that is greater than a tenth of the greatest one no digit may follow
 too_great : (n d : ℕ) (ds : List ℕ) → 922337203685477580 < n → number_from n (d ∷ ds) ≡ None

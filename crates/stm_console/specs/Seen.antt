@@ -1,5 +1,6 @@
 -- What the code's judgements and tokens are to the definitions.
-use Rattle.std.specs.Prelude.{◌≡◌, ◌<◌, ◌≤◌, ℕ, List, [], ◌∷◌, Result, Ok, Err, Option, Some, None}
+use Rattle.std.specs.Prelude.{◌≡◌, ◌<◌, ◌≤◌, ℕ, List, [], ◌∷◌, map, Result, Ok, Err, Option, Some, None}
+use Rattle.std.specs.Borrow.{Bor}
 use Rattle.stm_console.specs.Judged.{Judged, TooLong, Silent, NotAscii, Words}
 use Rattle.stm_console.specs.Tokens.{Token as SeenToken, word, number, mark, Front as SeenFront, Blank, Found, Bad}
 use Rattle.stm_console.specs.declared.judging.Judgement.{Judgement}
@@ -41,3 +42,15 @@ abbrev pub IsWithin : Front → ℕ → Type 0
 IsWithin front.Blank size = 0 < size
 IsWithin (front.Found t len) size = (0 < len) × (len ≤ size)
 IsWithin front.Bad size = Unit {0}
+
+abbrev pub tokens_seen : List Token → List SeenToken
+tokens_seen tokens = map token_of tokens
+
+-- names that stand from the outermost to the innermost, behind which these stand
+abbrev pub names_onto : List (List ℕ) → List (Bor (List ℕ)) → List (List ℕ)
+names_onto inner [] = inner
+names_onto inner (name ∷ names) = names_onto (name.now ∷ inner) names
+
+-- the same, the innermost first
+unfoldable pub name_list : List (Bor (List ℕ)) → List (List ℕ)
+name_list names = names_onto [] names

@@ -1,6 +1,6 @@
 //! Cuts a text into tokens.
 
-ghost use Rattle.std.specs.Prelude.{◌≡◌, ℕ, ◌<◌, ◌≤◌, ◌+◌, ◌^◌, length, map, take, drop, IfSome};
+ghost use Rattle.std.specs.Prelude.{◌≡◌, ℕ, ◌<◌, ◌≤◌, ◌+◌, ◌^◌, length, map, take, drop, IfOk, IfSome};
 ghost use Rattle.std.specs.List.{take_while};
 ghost use Rattle.stm_terms.specs.Names.{is_small, is_great, is_digit as digit_byte, is_word_byte as word_byte};
 ghost use Rattle.stm_console.specs.Judged.{is_blank as blank_byte};
@@ -199,7 +199,8 @@ fn cut(alloc: Global, text: &[u8]) -> Result<Vec<Token<'_>>, Stop>
 /// The tokens of a text that has no more than it may have.
 #[tactic(auto, unfolding(crate::specs::Tokens::tokens_of))]
 pub fn tokens_of(alloc: Global, text: &[u8]) -> Result<Vec<Token<'_>>, Stop>
-    ensures { Gives (λ v. map token_of v.items) result (all_tokens text.now) }
+    ensures gives { Gives (λ v. map token_of v.items) result (all_tokens text.now) }
+    ensures few { IfOk result (λ v. length v.items ≤ 4096) }
 {
     let tokens = cut(alloc, text)?;
     if tokens.len() > MOST_TOKENS {
