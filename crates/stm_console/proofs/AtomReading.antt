@@ -1,10 +1,10 @@
 -- The readers of atoms: one turn of the repetition, and what they read.
 use Rattle.std.proofs.Common.{◌≡◌, ℕ, zero, suc, ◌+◌, ◌-◌, ◌<◌, ◌≤◌, List, [], ◌∷◌, length, refl, sym, ap, ◌∙◌, subst, arith, Option, Some, None, Bool, true, false, cond, nat_eq}
 use Rattle.std.specs.Str.{bytes_eq}
-use Rattle.stm_terms.specs.declared.values.Value.{Value}
-use Rattle.stm_terms.specs.declared.values.Value.TheVariants.{Int, Bool as Truth, Unit as Nil, Var}
+use Rattle.stm_terms.specs.declared.values.Value.TheVariants.{Int}
 use Rattle.stm_terms.specs.declared.expr.Op.TheVariants.{Add}
 use Rattle.stm_terms.specs.Trees.{Term, lit, local, global, bin}
+use Rattle.stm_console.specs.Kept.{IsInt}
 use Rattle.stm_console.specs.Tokens.{Token, word, number, mark}
 use Rattle.stm_console.specs.SmallLanguage.{Reading, Reader, Locals, ◌>>=◌, behind, local_of, named, bracketed, atom_with, turn, sums, sums_from, sum_with, inside, atom_at}
 use Rattle.stm_console.proofs.Good.{Good, good_then, good_more, good_size, good_behind, behind_shorter}
@@ -18,12 +18,6 @@ pub inside_some : (locals : Locals) (n : ℕ) → 0 < n → inside locals n ≡ 
 unfolding inside
 inside_some locals zero h = absurd (omega arith)
 inside_some locals (suc n) h = let e : n ≡ suc n - 1 = omega arith in ap (λ m. Some (sum_with (atom_at locals m))) e
-
-abbrev pub IsInt : Value → Type 0
-IsInt (Int z) = Unit {0}
-IsInt (Truth b) = ⊥
-IsInt Nil = ⊥
-IsInt (Var r) = ⊥
 
 -- a sum of numbers and of locals, of which there are n
 abbrev pub IsSum : ℕ → Term → Type 0

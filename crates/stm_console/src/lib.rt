@@ -3,6 +3,11 @@
 
 mod atoms;
 mod blocks;
+mod commands;
 mod cutting;
 mod judging;
+mod output;
+pub mod run;
+mod session;
+pub mod start;
 mod stop;
