@@ -45,7 +45,7 @@ same-length [] = refl
 same-length (e ∷ es) = ap suc (same-length es)
 
 -- a key that the map lacks goes last
-pub absent : (es : List Entry) (key : String Global) (cell : Ty × Value) → length es ≤ position_or_len (named (string_bytes key)) (keys_of es)
+absent : (es : List Entry) (key : String Global) (cell : Ty × Value) → length es ≤ position_or_len (named (string_bytes key)) (keys_of es)
     → map declared_of (insert_entry (λ a b. bytes_eq (string_bytes a) (string_bytes b)) es key cell) ≡ map declared_of es ++ declared_of (key, cell) ∷ []
 absent [] key cell h = refl
 absent (x ∷ es) key cell h = elim (bytes_eq (string_bytes key) (string_bytes x.0)) as (λ t. suc (length es) ≤ cond (not t) (1 + position_or_len (named (string_bytes key)) (keys_of es)) 0
@@ -58,7 +58,15 @@ not_below : (n m k : ℕ) → is_some (cond (nat_lt n m) (Some k) None) ≡ fals
 not_below n m k h = grind (arith, nat_tests)
 
 -- a name that has no number is no key
-pub unplaced : (name : List ℕ) (es : List Entry) → is_some (number_of name (map declared_of es)) ≡ false → length es ≤ position_or_len (named name) (keys_of es)
+unplaced : (name : List ℕ) (es : List Entry) → is_some (number_of name (map declared_of es)) ≡ false → length es ≤ position_or_len (named name) (keys_of es)
 unplaced name es h =
     let f = rw (number-from_keys name 0 es) at h in
     omega (arith, not_below _ _ _ f, same-length es)
+
+-- a variable of a name that has no number is declared last
+pub inserted : (name : List ℕ) (es : List Entry) (key : String Global) (kind : Ty) (value : Value) → string_bytes key ≡ name → is_some (number_of name (map declared_of es)) ≡ false
+    → map declared_of (insert_entry (λ a b. bytes_eq (string_bytes a) (string_bytes b)) es key (kind, value)) ≡ map declared_of es ++ record { name = name; kind = kind; value = value } ∷ []
+inserted name es key kind value same none =
+    let none_there : is_some (number_of (string_bytes key) (map declared_of es)) ≡ false = rw same none in
+    absent es key (kind, value) (unplaced (string_bytes key) es none_there)
+        ∙ ap (λ (n : List ℕ). map declared_of es ++ record { name = n; kind = kind; value = value } ∷ []) same

@@ -16,6 +16,7 @@ use Rattle.stm_store.specs.declared.ready.Applied.{Applied}
 abbrev pub plain : Cell → Ty × Value
 plain c = (c.kind, c.value)
 
+-- the cells as blocks see them
 abbrev pub plains : List Cell → List (Ty × Value)
 plains cells = map plain cells
 
@@ -63,6 +64,7 @@ abbrev pub settled_ref : ℕ → Ref → Ref
 settled_ref n (Old i) = Old i
 settled_ref n (New k) = Old (n + k)
 
+-- a value whose reference, if it is one, names its variable
 abbrev pub settled : ℕ → Value → Value
 settled n (Int z) = Int z
 settled n (Truth b) = Truth b
@@ -77,14 +79,17 @@ counted n = min (n + 1) (2 ^ 64 - 1)
 abbrev pub rewritten : ℕ → Value → Cell → Cell
 rewritten n v c = record { kind = c.kind; value = settled n v; count = counted c.count }
 
+-- the cells with the i-th written, if it is there
 abbrev pub with_write : ℕ → List Cell → ℕ → Value → Option Cell → List Cell
 with_write n cells i v (Some c) = slice_set cells i (rewritten n v c)
 with_write n cells i v None = cells
 
+-- the cells with each of these written, in order
 abbrev pub with_writes : ℕ → List (ℕ × Value) → List Cell → List Cell
 with_writes n [] cells = cells
 with_writes n (w ∷ ws) cells = with_writes n ws (with_write n cells w.0 w.1 (slice_get cells w.0))
 
+-- a new cell, which no block has written yet
 abbrev pub new_cell : ℕ → Ty × Value → Cell
 new_cell n c = record { kind = c.0; value = settled n c.1; count = 0 }
 
@@ -116,6 +121,7 @@ written_by (Commits writes news result) i = find i writes
 written_by (Throws f) i = None
 written_by Blocks i = None
 
+-- a cell after a commit that writes this value to it, or none
 abbrev pub after_write : ℕ → Option Value → Cell → Cell
 after_write n (Some v) c = rewritten n v c
 after_write n None c = c

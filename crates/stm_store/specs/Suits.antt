@@ -32,14 +32,17 @@ abbrev pub value_suits : Kinds → Changes → Value → Option Ty → Bool
 value_suits k h v (Some t) = has_type k h v t
 value_suits k h v None = false
 
+-- each variable written is there, and its new value has its type
 abbrev pub writes_suit : Kinds → Changes → List (ℕ × Value) → Bool
 writes_suit k h [] = true
 writes_suit k h (w ∷ ws) = value_suits k h w.1 (k w.0) && writes_suit k h ws
 
+-- each new cell has a type of at most 8 `TVar` and a value of it
 abbrev pub news_suit : Kinds → Changes → List (Ty × Value) → Bool
 news_suit k h [] = true
 news_suit k h (c ∷ cs) = (nat_le c.0.refs 8 && has_type k h c.1 c.0) && news_suit k h cs
 
+-- the verdict can be applied
 abbrev pub suits : List (Ty × Value) → Verdict → Bool
 suits cells (Commits writes news v) =
     (rise_from 0 writes && writes_suit (kinds_of cells) (making news) writes) && (news_suit (kinds_of cells) (making news) news && is_some (type_of (kinds_of cells) (making news) v))

@@ -22,20 +22,23 @@ abbrev pub number_from : List ℕ → ℕ → List Declared → Option ℕ
 number_from name i [] = None
 number_from name i (d ∷ ds) = if bytes_eq d.name name then Some i else number_from name (i + 1) ds
 
+-- the number of the variable of a name
 abbrev pub number_of : List ℕ → List Declared → Option ℕ
 number_of name table = number_from name 0 table
 
--- the variables as blocks see them
+-- a variable as blocks see it
 abbrev pub declared_cell : Declared → Ty × Value
 declared_cell d = (d.kind, d.value)
 
+-- the variables of a table as blocks see them
 abbrev pub declared_cells : List Declared → List (Ty × Value)
 declared_cells table = map declared_cell table
 
--- the cells of a store that opens on the table: its types and values, counts 0
+-- the cell of a variable that no block has written
 abbrev pub opened_cell : Declared → Cell
 opened_cell d = record { kind = d.kind; value = d.value; count = 0 }
 
+-- the cells of a store that opens on the table: its types and values, counts 0
 abbrev pub opened : List Declared → List Cell
 opened table = map opened_cell table
 

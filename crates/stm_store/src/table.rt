@@ -182,9 +182,7 @@ impl Table {
         if number >= Table::LIMIT {
             return Err(DeclareError::TableFull);
         }
-        let Ok(key) = String::from_str(alloc, name) else {
-            return Err(DeclareError::NoMemory);
-        };
+        let key = String::from_str(alloc, name)?;
         let Ok(_before) = self.entries.insert(key, (kind, value)) else {
             return Err(DeclareError::NoMemory);
         };
