@@ -1,2 +1,5 @@
+pub mod Keeping
 pub mod Merging
+pub mod Moves
 pub mod Placing
+pub mod Truths

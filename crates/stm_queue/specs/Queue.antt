@@ -48,3 +48,7 @@ first_queued (e ∷ es) = if e.1 then first_queued es else Some e.0
 abbrev pub sent_out : Option ℕ → List Entry → List Entry
 sent_out None es = es
 sent_out (Some t) es = marked t true es
+
+-- each ticket is queued
+abbrev pub recalled : List Entry → List Entry
+recalled es = map (λ e. (e.0, false)) es

@@ -42,6 +42,8 @@ fn hands_back(rt: HostRuntime) -> Result<(), Fail> {
     assert_eq!(rt; pending.take_first(), Some(3));
     assert_eq!(rt; pending.take_first(), Some(5));
     assert_eq!(rt; pending.take_first(), None);
+    pending.recall();
+    assert_eq!(rt; pending.take_first(), Some(3));
     Ok(())
 }
 

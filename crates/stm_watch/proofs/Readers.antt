@@ -6,8 +6,8 @@ use Rattle.std.specs.List.{list_any}
 use Rattle.std.proofs.lemmas.Bool.Decides.{nat_tests}
 use Rattle.std.proofs.lemmas.List.Folds.{list_any-append}
 use Rattle.stm_terms.specs.declared.values.Value.{Value}
-use Rattle.stm_watch.specs.Pairs.{pair_cmp, Pairs, has, is_read, is_pair_of, WithReads, WithoutReads, watches}
-use Rattle.stm_watch.specs.Readers.{meets, is_watched, HasExactly, is_met}
+use Rattle.stm_watch.specs.Pairs.{pair_cmp, Pairs, is_read, is_pair_of, WithReads, WithoutReads, watches}
+use Rattle.stm_watch.specs.Readers.{is_watched, HasExactly, is_met}
 
 abbrev Reader : Type 0
 Reader = ℕ × List (ℕ × Value)

@@ -16,12 +16,7 @@ fn found(watch: &Watch, variables: &[u32]) -> Result<Vec<u32>, NoMemory> {
     }
 }
 
-fn expect(
-    rt: &impl Abort,
-    watch: &Watch,
-    variables: &[u32],
-    expected: &[u32],
-) -> Result<(), Fail> {
+fn expect(rt: &impl Abort, watch: &Watch, variables: &[u32], expected: &[u32]) -> Result<(), Fail> {
     let tickets = found(watch, variables)?;
     assert_eq!(rt; tickets.as_slice(), expected);
     Ok(())

@@ -1,6 +1,6 @@
-use Rattle.std.proofs.Common.{◌≡◌, ◌≤◌, ◌+◌, ◌∙◌, ap, arith}
+use Rattle.std.proofs.Common.{◌≤◌, ◌+◌, ◌∙◌, ap, arith}
 use Rattle.stm_queue.specs.Queue.{Queue, has_ticket}
-use Rattle.stm_queue.proofs.Merging.{higher_absent}
+use Rattle.stm_queue.proofs.Keeping.{higher_absent}
 use Rattle.stm_queue.proofs.tests.add_all.Goals as goal
 
 pub loop-ticket-preserved : goal.loop-ticket-preserved

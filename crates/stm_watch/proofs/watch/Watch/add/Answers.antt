@@ -1,8 +1,7 @@
 use Rattle.std.proofs.Common.{ap, ◌∙◌, sym}
-use Rattle.std.specs.Prelude.{◌||◌, ◌&&◌, not, nat_eq, Bool, ℕ}
+use Rattle.std.specs.Prelude.{◌||◌, nat_eq}
 use Rattle.std.specs.List.{list_any}
 use Rattle.stm_watch.specs.Pairs.{is_pair_of, is_read}
-use Rattle.stm_watch.specs.Keys.{lists}
 use Rattle.stm_watch.proofs.Sets.{has_lists, same_lists, fresh_added, fresh_removed}
 use Rattle.stm_watch.proofs.watch.Watch.add.Goals as goal
 
