@@ -11,6 +11,7 @@ pub record Queue : Type 0 where
   pub entries : List (ℕ × Bool)
   pub room : ℕ
 
+-- the tickets alone
 abbrev pub tickets : List Entry → List ℕ
 tickets es = map (λ e. e.0) es
 
