@@ -9,7 +9,7 @@ use Rattle.stm_terms.specs.Run.{Outcome, Returned, Threw, Retried, Stuck, run}
 use Rattle.stm_terms.specs.Looks.{noted, looks_of, reads_of}
 use Rattle.stm_terms.specs.Verdict.{verdict, verdict_from}
 use Rattle.stm_eval.specs.Messages.{Agrees, IsTrueMessage, Holds}
-use Rattle.stm_eval.specs.Laws.{In, AgreeOn, RunsAlike, ReadsAreOfTheStore, ReadsAreLooks}
+use Rattle.stm_eval.specs.Laws.{In, AgreeOn, RunsAlike, HoldsAgain, ReadsAreOfTheStore, ReadsAreLooks}
 use Rattle.stm_eval.proofs.Independent.{independent}
 use Rattle.stm_eval.proofs.Present.{IsDefined, present}
 use Rattle.stm_eval.proofs.Noted.{noted_at, noted_only, part_all, noted_same, noted_rises}
@@ -72,3 +72,12 @@ to_store block reads told S message agrees =
 -- the same, for reads that are those of the store
 pub told_at : (block : Act) (S : Variables) (reads : List (ℕ × Value)) (told : Verdict) → verdict S block ≡ Some told → reads ≡ reads_of S block → IsTrueMessage block reads told
 told_at block S reads told e r = subst (λ x. IsTrueMessage block x told) (sym r) (from_store block S told e)
+
+-- on a store where it holds, the values that were read are the store's
+pub holds_agrees : (block : Act) (S : Variables) (reads : List (ℕ × Value)) (told : Verdict) → Holds block S reads told → Agrees reads S
+holds_agrees block S reads told holds = subst (λ x. Agrees x S) holds.reads_are (reads_agree block S)
+
+-- from a store to another one that has the values which were read
+pub holds_again : HoldsAgain
+holds_again block reads told S T holds agrees =
+    to_store block reads told T (told_at block S reads told holds.verdict_is (sym holds.reads_are)) agrees

@@ -46,6 +46,12 @@ FragmentToStore =
     (block : Act) (reads : List (ℕ × Value)) (told : Verdict) (S : Variables) →
     IsTrueMessage block reads told → Agrees reads S → Holds block S reads told
 
+-- what holds of a block on one store holds on each other one that has the values which it read
+abbrev pub HoldsAgain : Type 0
+HoldsAgain =
+    (block : Act) (reads : List (ℕ × Value)) (told : Verdict) (S T : Variables) →
+    Holds block S reads told → Agrees reads T → Holds block T reads told
+
 -- the reads of a block rise, and have the values of the store
 abbrev pub ReadsAreOfTheStore : Type 0
 ReadsAreOfTheStore = (block : Act) (S : Variables) → Rising (reads_of S block) × Agrees (reads_of S block) S

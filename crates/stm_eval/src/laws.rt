@@ -1,6 +1,6 @@
 //! Laws of what blocks do and read: each function's contract is one, and its body is empty.
 
-ghost use Rattle.stm_eval.specs.Laws.{ReadSetIndependence, StoreToFragment, FragmentToStore, ReadsAreOfTheStore, ReadsAreLooks, OrElseIsAssociative, RetryIsLeftUnit, RetryIsRightUnit};
+ghost use Rattle.stm_eval.specs.Laws.{ReadSetIndependence, StoreToFragment, FragmentToStore, HoldsAgain, ReadsAreOfTheStore, ReadsAreLooks, OrElseIsAssociative, RetryIsLeftUnit, RetryIsRightUnit};
 
 /// What an action does depends on the variables that it reads, and on no others. What a discarded left branch read is
 /// among them.
@@ -16,6 +16,12 @@ pub fn store_to_fragment()
 /// A block's verdict on the fragment of what it read is its verdict on each store with these values.
 pub fn fragment_to_store()
     ensures { FragmentToStore }
+{}
+
+/// A block's verdict and reads on a store are those on each other store that has the values which it read. So a verdict
+/// stays right through every change of other variables.
+pub fn holds_again()
+    ensures { HoldsAgain }
 {}
 
 /// The reads of a block are of exactly the variables that it looks at, with the values of the store.
