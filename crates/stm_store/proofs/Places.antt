@@ -69,4 +69,4 @@ pub inserted : (name : List ℕ) (es : List Entry) (key : String Global) (kind :
 inserted name es key kind value same none =
     let none_there : is_some (number_of (string_bytes key) (map declared_of es)) ≡ false = rw same none in
     absent es key (kind, value) (unplaced (string_bytes key) es none_there)
-        ∙ ap (λ (n : List ℕ). map declared_of es ++ record { name = n; kind = kind; value = value } ∷ []) same
+    ∙ ap (λ (n : List ℕ). map declared_of es ++ record { name = n; kind = kind; value = value } ∷ []) same

@@ -1,4 +1,4 @@
-use Rattle.std.proofs.Common.{◌≡◌, ◌<◌, ◌++◌, ◌∷◌, [], ap, ◌∙◌, map, length, string_bytes, is_some, true, false, rules, arith}
+use Rattle.std.proofs.Common.{◌≡◌, ◌<◌, ap, ◌∙◌, map, length, string_bytes, is_some, true, false, rules, arith}
 use Rattle.stm_store.specs.Tables.{declared_cells, number_of, may_hold}
 use Rattle.stm_store.specs.Entries.{declared_of}
 use Rattle.stm_store.proofs.Places.{inserted}
