@@ -1,4 +1,5 @@
-//! Tests that cross crates: worked cases by text, and runs over readers and writers that fail.
+//! Tests that cross crates: worked cases by text, runs over readers and writers that fail, and the language's own
+//! functions where they answer.
 #![tactic(auto)]
 
 #[cfg(test)]
@@ -7,3 +8,7 @@ mod cases;
 mod devices;
 #[cfg(test)]
 mod failing;
+#[cfg(test)]
+mod language;
+#[cfg(test)]
+mod limits;
