@@ -1,7 +1,6 @@
 -- The readers of atoms: one turn of the repetition, and what they read.
-use Rattle.std.proofs.Common.{◌≡◌, ℕ, zero, suc, ◌+◌, ◌-◌, ◌<◌, ◌≤◌, List, [], ◌∷◌, length, refl, sym, ap, ◌∙◌, subst, arith, Option, Some, None, Bool, true, false, cond, nat_eq}
+use Rattle.std.proofs.Common.{◌≡◌, ℕ, zero, suc, ◌-◌, ◌<◌, ◌≤◌, List, [], ◌∷◌, length, refl, ap, arith, Option, Some, None, Bool, true, false, cond, nat_eq}
 use Rattle.std.specs.Str.{bytes_eq}
-use Rattle.stm_terms.specs.declared.values.Value.TheVariants.{Int}
 use Rattle.stm_terms.specs.declared.expr.Op.TheVariants.{Add}
 use Rattle.stm_terms.specs.Trees.{Term, lit, local, global, bin}
 use Rattle.stm_console.specs.Kept.{IsInt}

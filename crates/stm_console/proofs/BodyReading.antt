@@ -1,5 +1,5 @@
 -- The readers of blocks: one turn of the statements, and what they read.
-use Rattle.std.proofs.Common.{◌≡◌, ℕ, zero, suc, ◌+◌, ◌-◌, ◌<◌, ◌≤◌, ◌^◌, List, [], ◌∷◌, length, refl, sym, ap, ◌∙◌, subst, arith, Option, Some, None, Bool, true, false, cond, codes}
+use Rattle.std.proofs.Common.{◌≡◌, ℕ, zero, suc, ◌+◌, ◌<◌, ◌≤◌, List, [], ◌∷◌, length, refl, ap, ◌∙◌, subst, arith, Option, Some, None, Bool, true, false, cond, codes}
 use Rattle.std.specs.Str.{bytes_eq}
 use Rattle.stm_terms.specs.Names.{is_name_text}
 use Rattle.stm_terms.specs.Trees.{Term, lit, local, global, bin, Act, return, read, write, make, retry, throw, choose, or_else, bind, let_in, seq}
@@ -7,7 +7,7 @@ use Rattle.stm_terms.specs.Typing.{makes}
 use Rattle.stm_store.specs.Tables.{Declared, number_from, number_of}
 use Rattle.stm_console.specs.Tokens.{Token, word, number, mark, tokens_of}
 use Rattle.stm_console.specs.SmallLanguage.{Reading, Reader, Locals, ◌>>=◌, behind, any_word, behind_word, local_of, ended, visible, variable, atom_at, return_of, read_of, write_of, last_by, last_of, closed, after_write, writing, binding, body_by, body_turn, body, body_from, block_by, block_read, block_of}
-use Rattle.stm_console.proofs.Good.{Good, good_then, good_more, good_size, good_kind, good_behind, good_word, good_if, behind_shorter, same_then, same_behind, same_word, same_behind_word}
+use Rattle.stm_console.proofs.Good.{Good, good_then, good_more, good_behind, good_word, good_if, behind_shorter, same_then, same_behind, same_word, same_behind_word}
 use Rattle.stm_console.proofs.AtomReading.{IsSum, good_atom}
 
 -- a variable of the first m
@@ -95,7 +95,7 @@ module _ (table : List Declared) where
   good_write locals room tokens =
       good_then IsHere (IsSmall (length table) (length locals)) (length tokens) (length tokens) (variable table locals tokens) (λ v. atom_at locals room v.1 >>= λ e. Some (write (global v.0) e.0, e.1)) (good_variable locals tokens)
       (λ x lt p. good_then (IsSum (length locals)) (IsSmall (length table) (length locals)) (length x.1) (length tokens) (atom_at locals room x.1) (λ e. Some (write (global x.0) e.0, e.1)) (good_atom locals room x.1)
-          (λ y lt2 q. (omega arith, (p, q))))
+      (λ y lt2 q. (omega arith, (p, q))))
 
   read_small : (n k : ℕ) (r : Reading Act) → Good (IsRead (length table)) k r → Good (IsSmall (length table) n) k r
   read_small n k None h = tt
@@ -151,7 +151,7 @@ module _ (table : List Declared) where
     good_writing locals next tokens h =
         good_then (IsSmall (length table) (length locals)) (IsSmall (length table) (length locals)) (length tokens) (length tokens) (write_of table locals room tokens) (λ a. after_write (next locals) a.0 a.1 (behind 59 a.1)) (good_write locals room tokens)
         (λ x lt p. good_more (IsSmall (length table) (length locals)) (length x.1) (length tokens) (after_write (next locals) x.0 x.1 (behind 59 x.1)) (omega arith)
-            (good_after locals (next locals) x.0 x.1 (behind 59 x.1) p (λ rest e. let less = behind_shorter 59 x.1 rest e in (less, h locals rest (omega arith)))))
+        (good_after locals (next locals) x.0 x.1 (behind 59 x.1) p (λ rest e. let less = behind_shorter 59 x.1 rest e in (less, h locals rest (omega arith)))))
 
     good_binding : (locals : Locals) (w : List ℕ) (next : Locals → Reader Act) (tokens : List Token) → GoodNext next (length tokens) → Good (IsSmall (length table) (length locals)) (length tokens) (binding table locals (next (w ∷ locals)) tokens)
     good_binding locals w next tokens h =
@@ -209,7 +209,7 @@ module _ (table : List Declared) where
       where
         by : (w : List ℕ) (rest : List Token) → length rest < length tokens → (s t : Bool)
             → cond s (writing table locals room (f locals) rest) (cond t (binding table locals (f (w ∷ locals)) rest) (closed (last_of table locals room) tokens))
-              ≡ cond s (writing table locals room (g locals) rest) (cond t (binding table locals (g (w ∷ locals)) rest) (closed (last_of table locals room) tokens))
+            ≡ cond s (writing table locals room (g locals) rest) (cond t (binding table locals (g (w ∷ locals)) rest) (closed (last_of table locals room) tokens))
         by w rest lt true t = same_writing locals f g rest (λ ls ts less. h ls ts (omega arith))
         by w rest lt false true = same_binding locals w f g rest (λ ls ts less. h ls ts (omega arith))
         by w rest lt false false = refl

@@ -1,8 +1,8 @@
 -- What was read is of a kind, and fewer tokens are left.
-use Rattle.std.proofs.Common.{◌≡◌, ℕ, zero, suc, ◌+◌, ◌<◌, ◌≤◌, List, [], ◌∷◌, length, refl, sym, subst, arith, Option, Some, None, Bool, true, false, cond, nat_eq}
+use Rattle.std.proofs.Common.{◌≡◌, ℕ, suc, ◌<◌, ◌≤◌, List, [], ◌∷◌, length, refl, subst, arith, Option, Some, None, Bool, true, false, cond, nat_eq}
 use Rattle.std.specs.Str.{bytes_eq}
 use Rattle.stm_console.specs.Tokens.{Token, word, number, mark}
-use Rattle.stm_console.specs.SmallLanguage.{Reading, Reader, ◌>>=◌, behind, behind_word, any_word}
+use Rattle.stm_console.specs.SmallLanguage.{Reading, ◌>>=◌, behind, behind_word, any_word}
 
 abbrev pub Good : {A : Type 0} → (A → Type 0) → ℕ → Reading A → Type 0
 Good P size None = Unit {0}

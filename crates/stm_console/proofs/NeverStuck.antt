@@ -1,12 +1,12 @@
 -- A block that was read never gets stuck where the variables hold numbers.
-use Rattle.std.proofs.Common.{◌≡◌, ◌≢◌, ℕ, zero, suc, ◌+◌, ◌<◌, ◌≤◌, ◌^◌, List, [], ◌∷◌, ◌++◌, length, refl, sym, ap, ◌∙◌, subst, arith, length-append, Option, Some, None, Result, Ok, Err, Bool, true, false, cond, nat_eq, nat_lt, ℤ, pos, negsuc, map}
+use Rattle.std.proofs.Common.{◌≡◌, ◌≢◌, ℕ, zero, suc, ◌<◌, ◌≤◌, ◌^◌, List, [], ◌∷◌, ◌++◌, length, sym, ap, ◌∙◌, subst, arith, length-append, Option, Some, None, Result, Ok, Err, Bool, true, false, cond, nat_eq, nat_lt}
 use Rattle.std.specs.Prelude.{slice_get, option_map, ◌+ℤ◌, IfOk, OnErr, is_some}
 use Rattle.stm_terms.specs.declared.values.Value.{Value}
 use Rattle.stm_terms.specs.declared.values.Value.TheVariants.{Int, Bool as Truth, Unit as Nil, Var}
 use Rattle.stm_terms.specs.declared.values.Fault.TheVariants.{Overflow}
 use Rattle.stm_terms.specs.declared.expr.Op.TheVariants.{Add}
 use Rattle.stm_terms.specs.Trees.{Term, lit, local, global, bin, Act, return, read, write, make, retry, throw, choose, or_else, bind, let_in, seq}
-use Rattle.stm_terms.specs.Value.{Answer, value, with_value, applied, decides, int_result, fits_i64}
+use Rattle.stm_terms.specs.Value.{Answer, value, with_value, applied, decides, fits_i64}
 use Rattle.stm_terms.specs.Views.{Variables, Changes, no_changes, find, put, first_of, cell_value}
 use Rattle.stm_terms.specs.Run.{Outcome, Returned, Threw, Retried, Stuck, on_answer, then_run, returned_value, run}
 use Rattle.stm_terms.specs.Typing.{makes}
@@ -18,7 +18,7 @@ use Rattle.stm_console.specs.declared.commands.Desk.{Desk}
 use Rattle.stm_console.specs.Kept.{IsInt, AllInts, DeskFits}
 use Rattle.stm_console.specs.SmallLanguage.{block_of}
 use Rattle.stm_console.proofs.AtomReading.{IsSum}
-use Rattle.stm_console.proofs.BodyReading.{IsSmall, IsRead, makes_none, block_small}
+use Rattle.stm_console.proofs.BodyReading.{IsSmall, makes_none, block_small}
 
 -- all are numbers
 abbrev AllNumbers : List Value → Type 0
@@ -128,7 +128,7 @@ module _ (under : Variables) (m : ℕ) (numbers : (i : ℕ) → i < m → HasNum
   run_fine (bind (read (global i)) b) locals h s l w =
       bound_fine (first_of (find i h.writes) (under i)) h (λ v k. run under b (locals ++ v ∷ []) k) (seen_number i h.writes (under i) w (numbers i s.0))
       (λ v k. let n : length (locals ++ v ∷ []) ≡ suc (length locals) = omega (arith, length-append locals (v ∷ [])) in
-          run_fine b (locals ++ v ∷ []) h (subst (λ n. IsSmall m n b) (sym n) s.1) (more_numbers locals v l k) w)
+      run_fine b (locals ++ v ∷ []) h (subst (λ n. IsSmall m n b) (sym n) s.1) (more_numbers locals v l k) w)
   run_fine (bind (read (lit v)) b) locals h s l w = absurd s.0
   run_fine (bind (read (local i)) b) locals h s l w = absurd s.0
   run_fine (bind (read (bin op c d)) b) locals h s l w = absurd s.0

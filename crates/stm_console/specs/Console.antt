@@ -1,5 +1,5 @@
 -- What the console writes for an input.
-use Rattle.std.specs.Prelude.{ℕ, ℤ, Bool, List, [], ◌∷◌, ◌++◌, ◌+◌, ◌==◌, if◌then◌else◌, codes, length, decimal, Option, Some, None, is_some}
+use Rattle.std.specs.Prelude.{ℕ, ℤ, List, [], ◌∷◌, ◌++◌, ◌+◌, ◌==◌, if◌then◌else◌, codes, length, decimal, Option, Some, None, is_some}
 use Rattle.std.specs.Str.{bytes_eq}
 use Rattle.stm_terms.specs.declared.values.Value.TheVariants.{Int}
 use Rattle.stm_terms.specs.declared.verdicts.Verdict.{Verdict}

@@ -1,5 +1,5 @@
 -- The relation that a run keeps while it takes its input in parts.
-use Rattle.std.specs.Prelude.{◌≡◌, ℕ, List, [], ◌∷◌, ◌++◌}
+use Rattle.std.specs.Prelude.{◌≡◌, ℕ, List, ◌++◌}
 use Rattle.stm_console.specs.Lines.{lines_from, whole_lines_from}
 use Rattle.stm_console.specs.Console.{ConsoleState, answers_to}
 

@@ -5,7 +5,7 @@
 --   stmt  = NAME "<-" "readTVar" NAME | "writeTVar" NAME atom
 --   last  = "return" atom | "readTVar" NAME | "writeTVar" NAME atom | "retry"
 --   atom  = NUMBER | NAME | "(" atom { "+" atom } ")"
-use Rattle.std.specs.Prelude.{ℕ, zero, suc, ℤ, List, [], ◌∷◌, length, Bool, nat_eq, Option, Some, None, codes, if◌then◌else◌}
+use Rattle.std.specs.Prelude.{ℕ, zero, suc, ℤ, List, [], ◌∷◌, length, nat_eq, Option, Some, None, codes, if◌then◌else◌}
 use Rattle.std.specs.Str.{bytes_eq}
 use Rattle.stm_terms.specs.declared.values.Value.TheVariants.{Int}
 use Rattle.stm_terms.specs.declared.expr.Op.TheVariants.{Add}

@@ -6,7 +6,9 @@ ghost use Rattle.stm_terms.specs.Names.{is_name_text};
 ghost use Rattle.stm_console.specs.SmallLanguage.{read_of, write_of, last_of, closed, body_from, writing as written_part, binding as bound_part, block_read, block_of as tree_of, a_name as next_name, declaration_read, declaration_of as declared_by};
 ghost use Rattle.stm_console.specs.Seen.{tokens_seen, name_list, Gives};
 
-use crate::atoms::{any_number, any_word, atom, behind, behind_word, expect, expect_word, variable};
+use crate::atoms::{
+    any_number, any_word, atom, behind, behind_word, expect, expect_word, variable,
+};
 use crate::cutting::{Token, tokens_of};
 use crate::stop::{NOT_YET, Stop};
 use std::alloc::Global;
@@ -213,9 +215,7 @@ fn any_name<'t, 'a>(tokens: &'t [Token<'a>]) -> Result<(&'a str, &'t [Token<'a>]
 
 /// A declaration: its name, its first value and the tokens behind.
 #[tactic(auto, unfolding(crate::specs::SmallLanguage::declaration_read))]
-fn declaration<'t, 'a>(
-    tokens: &'t [Token<'a>],
-) -> Result<((&'a str, i64), &'t [Token<'a>]), Stop>
+fn declaration<'t, 'a>(tokens: &'t [Token<'a>]) -> Result<((&'a str, i64), &'t [Token<'a>]), Stop>
     ensures gives { Gives (λ r. ((r.0.0.now, r.0.1), tokens_seen r.1.now)) result (declaration_read (tokens_seen tokens.now)) }
     ensures name { IfOk result (λ r. IsTrue (is_name_text r.0.0.now)) }
 {

@@ -1,5 +1,5 @@
 -- Each call takes a token, or is of a lower rank.
-use Rattle.std.proofs.Common.{◌+◌, ◌*◌, length}
+use Rattle.std.proofs.Common.{length}
 use Rattle.stm_console.proofs.blocks.+bodies.Given as goal
 
 abbrev pub decreases-body : goal.decreases-body

@@ -1,4 +1,4 @@
-use Rattle.std.proofs.Common.{rules, sym, ◌∙◌, ap, ◌<◌, length, map}
+use Rattle.std.proofs.Common.{rules, sym, ◌∙◌, ◌<◌, length, map}
 use Rattle.stm_console.specs.Seen.{token_of}
 use Rattle.stm_console.proofs.Cuts.{turn_blank, turn_found, turn_bad, cut_end, found_more}
 use Rattle.stm_console.proofs.cutting.cut.Goals as goal

@@ -1,4 +1,3 @@
-use Rattle.std.proofs.Common.{rules}
 use Rattle.stm_terms.specs.Trees.{act_of}
 use Rattle.stm_console.proofs.NeverStuck.{block_runs, block_makes, desk_cells}
 use Rattle.stm_console.proofs.commands.Console.answer_try.Goals as goal

@@ -1,4 +1,4 @@
-use Rattle.std.proofs.Common.{rules, sym, ◌∙◌, false, is_some, ◌≡◌}
+use Rattle.std.proofs.Common.{rules, false, is_some, ◌≡◌}
 use Rattle.stm_console.proofs.NeverStuck.{ints_kept, closed_fits}
 use Rattle.stm_console.proofs.commands.Console.answer_tvar.Goals as goal
 
