@@ -1,0 +1,10 @@
+pub mod ActLevels
+pub mod Actions
+pub mod Bodies
+pub mod Expressions
+pub mod Good
+pub mod Levels
+pub mod Operands
+pub mod Says
+pub mod Tiers
+pub mod TypeLevels

@@ -1,0 +1,5 @@
+pub mod Declaring
+pub mod Faults
+pub mod Grammar
+pub mod Marks
+pub mod Reading
