@@ -1,6 +1,6 @@
 -- Each call takes a token, or is of a lower rank.
 use Rattle.std.proofs.Common.{◌+◌, ◌*◌, length}
-use Rattle.stm_parse.proofs.declaration.+types.Given as goal
+use Rattle.stm_parse.proofs.type_descent.+types.Given as goal
 
 abbrev pub decreases-type_within : goal.decreases-type_within
 decreases-type_within l = 4 * length l.toks.now + 1

@@ -111,6 +111,7 @@ pub struct RawDeclaration {
 /// A declaration.
 pub fn declaration(toks: &[Lexeme]) -> Result<(RawDeclaration, &[Lexeme]), Stop>
     ensures gives { Gives (λ r. (declared_of r.0, r.1.now)) result (declaration_reader toks.now) }
+    ensures few { IfOk result (λ r. r.0.ty.refs ≤ most_refs) }
 {
     let (name, rest) = expect_name(toks)?;
     let (_, rest) = expect(Mark::Colon, rest)?;

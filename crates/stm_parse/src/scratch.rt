@@ -1,8 +1,0 @@
-//! scratch
-ghost use Rattle.std.specs.Prelude.{◌≡◌};
-
-pub fn scratch() -> u8
-    ensures { result ≡ 0 }
-{
-    0
-}
