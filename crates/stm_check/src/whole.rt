@@ -1,4 +1,4 @@
-//! The check of a parsed block.
+//! The check of a whole block.
 
 ghost use Rattle.std.specs.Prelude.{◌≡◌, ◌≤◌, ◌^◌, [], IfOk, string_bytes, length};
 ghost use Rattle.std.specs.Str.{IsAscii};
@@ -11,15 +11,12 @@ use crate::block::Typed;
 use crate::fault::TypeFault;
 use crate::scope::{Names, Scope};
 use std::alloc::Global;
+use stm_parse::Raw;
 use stm_store::Table;
 use stm_terms::raw::RawAction;
 
-/// The block of a parsed text, well typed, or the first fault from left to right.
-///
-/// Names are resolved: a local has its number, counted from 0 and from the outermost, and a declared variable its number
-/// in the table. Where locals have one name, the innermost is meant; a local hides a declared variable (docs/LANGUAGE.md,
-/// "Types").
-pub fn check_raw(
+/// The check of a text and its tree.
+pub(crate) fn check_raw(
     alloc: Global,
     table: &Table,
     text: String,
@@ -40,4 +37,18 @@ pub fn check_raw(
     };
     let (action, result_type) = check_action(alloc, &names, &mut uses, &raw)?;
     Ok(Typed::of_checked(action, text, result_type, uses))
+}
+
+/// The block of a parsed text, well typed, or the first fault from left to right.
+///
+/// Names are resolved: a local has its number, counted from 0 and from the outermost, and a declared variable its number
+/// in the table. Where locals have one name, the innermost is meant; a local hides a declared variable (docs/LANGUAGE.md,
+/// "Types"). The fault is the one of docs/LANGUAGE.md, "Type faults"; `NoMemory` stands where memory ran out.
+pub fn check(alloc: Global, table: &Table, raw: Raw) -> Result<Typed, TypeFault>
+    ensures says { Says (λ t. (t.tree, result_type t.gives)) result (checked table.now raw.text [] raw.tree) }
+    ensures uses { IfOk result (λ t. t.uses ≡ uses_of (table_kinds table.now) t.tree) }
+    ensures text { IfOk result (λ t. t.text ≡ raw.text) }
+{
+    let (text, action) = raw.into_parts();
+    check_raw(alloc, table, text, action)
 }

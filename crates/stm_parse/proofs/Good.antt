@@ -1,0 +1,206 @@
+-- A reader that reads each text of its language and tells the first fault of all else, and how such readers are put together.
+use Rattle.std.proofs.Common.{◌≡◌, ◌≢◌, ℕ, zero, suc, ◌+◌, ◌<◌, ◌≤◌, List, [], ◌∷◌, ◌++◌, length, refl, sym, ap, ◌∙◌, subst, arith, length-append, Ok, Err, Bool, true, false, cond, ◌⊎◌, inl, inr, get_or}
+use Rattle.std.proofs.lemmas.Bool.{eqb-true, eq-eqb}
+use Rattle.stm_parse.specs.declared.lexeme.Mark.{Mark}
+use Rattle.stm_parse.specs.declared.lexeme.Mark.TheVariants as mark
+use Rattle.stm_parse.specs.declared.lexeme.Sym.{Sym}
+use Rattle.stm_parse.specs.declared.lexeme.Sym.TheVariants as tok
+use Rattle.stm_parse.specs.declared.lexeme.Lexeme.{Lexeme}
+use Rattle.stm_parse.specs.declared.lexeme.Fault.{Fault}
+use Rattle.stm_parse.specs.declared.lexeme.Cause.{Cause}
+use Rattle.stm_parse.specs.declared.lexeme.Cause.TheVariants as cause
+use Rattle.stm_parse.specs.Marks.{code, is_mark, IsMark}
+use Rattle.stm_parse.specs.Reading.{Reading, Reader, ◌>>=◌, unexpected, expect, expect_name, is_name_sym}
+use Rattle.stm_parse.specs.Grammar.{At, at, plain, deepest, greatest, IsAllowed, WithinLimits}
+use Rattle.stm_parse.specs.Faults.{Language, IsBeyond}
+use Rattle.stm_parse.proofs.Says.{plain-split, plain-length, within-front, within-back, Says, SaysOf, Some_text, Then, then_, Mapped, mapped, took_length, says_more, says_map, says_chain, says_end, says_refused, says_one, IsOfLimit, fault}
+
+-- this tree, or the fault of a limit
+abbrev pub Outcome : {A : Type 0} → Reading A → List At → A → List Lexeme → Type 0
+Outcome x us a rest = (x ≡ Ok (a, rest)) ⊎ (f : Fault) × (f.cause ≢ cause.Unexpected) × (x ≡ Err f) × (WithinLimits us → ⊥)
+
+abbrev pub Reads : {A : Type 0} → Reader A → List At → A → List Lexeme → Type 0
+Reads r us a rest = Outcome (r (plain us ++ rest)) us a rest
+
+pub reads_same : {A : Type 0} (r r' : Reader A) (us : List At) (a : A) (rest : List Lexeme) → r (plain us ++ rest) ≡ r' (plain us ++ rest) → Reads r' us a rest → Reads r us a rest
+reads_same r r' us a rest e h = subst (λ x. Outcome x us a rest) (sym e) h
+
+pub reads_step : {A : Type 0} (r k : Reader A) (u : At) (us : List At) (a : A) (rest : List Lexeme) → ((s : List Lexeme) → r (u.lexeme ∷ s) ≡ k s) → Reads k us a rest → Reads r (u ∷ us) a rest
+reads_step r k u us a rest e (inl h) = inl (e _ ∙ h)
+reads_step r k u us a rest e (inr h) = inr (h.0, h.1, e _ ∙ h.2, λ w. h.3 w.1)
+
+pub reads_chain : {A B : Type 0} (r : Reader A) (k : A → Reader B) (us vs : List At) (a : A) (b : B) (rest : List Lexeme) → Reads r us a (plain vs ++ rest) → Reads (k a) vs b rest → Reads (λ s. r s >>= λ x. k x.0 x.1) (us ++ vs) b rest
+reads_chain r k us vs a b rest (inl e) (inl g) = inl (ap (λ s. r s >>= λ x. k x.0 x.1) (plain-split us vs rest) ∙ ap (λ y. y >>= λ x. k x.0 x.1) e ∙ g)
+reads_chain r k us vs a b rest (inl e) (inr g) = inr (g.0, g.1, ap (λ s. r s >>= λ x. k x.0 x.1) (plain-split us vs rest) ∙ ap (λ y. y >>= λ x. k x.0 x.1) e ∙ g.2, λ w. g.3 (within-back us vs w))
+reads_chain r k us vs a b rest (inr e) g = inr (e.0, e.1, ap (λ s. r s >>= λ x. k x.0 x.1) (plain-split us vs rest) ∙ ap (λ y. y >>= λ x. k x.0 x.1) e.2, λ w. e.3 (within-front us vs w))
+
+pub reads_map : {A B : Type 0} (r : Reader A) (f : A → B) (us : List At) (a : A) (rest : List Lexeme) → Reads r us a rest → Reads (λ s. r s >>= λ x. Ok (f x.0, x.1)) us (f a) rest
+reads_map r f us a rest (inl e) = inl (ap (λ y. y >>= λ x. Ok (f x.0, x.1)) e)
+reads_map r f us a rest (inr h) = inr (h.0, h.1, ap (λ y. y >>= λ x. Ok (f x.0, x.1)) h.2, h.3)
+
+pub reads_stop : {A : Type 0} (r : Reader A) (a : A) (rest : List Lexeme) → r rest ≡ Ok (a, rest) → Reads r [] a rest
+reads_stop r a rest e = inl e
+
+of_limit : (c : Cause) → IsOfLimit c → c ≢ cause.Unexpected
+of_limit cause.Unexpected l e = l
+of_limit cause.TooDeep l e = absurd cc
+of_limit cause.BadNumber l e = absurd cc
+
+-- the first token is past a limit
+pub reads_beyond : {A : Type 0} (r : Reader A) (c : Cause) (u : At) (us : List At) (a : A) (rest : List Lexeme) → IsOfLimit c → (IsAllowed u → ⊥) → ((s : List Lexeme) → r (u.lexeme ∷ s) ≡ Err (fault c (u.lexeme ∷ s))) → Reads r (u ∷ us) a rest
+reads_beyond r c u us a rest l b e = inr (fault c (u.lexeme ∷ (plain us ++ rest)), of_limit c l, e _, λ w. b w.0)
+
+-- for lists of at most n tokens, where what follows a text is of F
+pub record Good {A : Type 0} (n : ℕ) (r : Reader A) (L : Language A) (F : List Lexeme → Type 0) : Type 0 where
+  pub says : (toks : List Lexeme) → length toks ≤ n → Says r L toks
+  pub reads : (us : List At) (a : A) (rest : List Lexeme) → length us + length rest ≤ n → L us a → F rest → Reads r us a rest
+  pub some : Some_text L
+
+abbrev pub Any : List Lexeme → Type 0
+Any rest = Unit {0}
+
+pub good_less : {A : Type 0} (m n : ℕ) (r : Reader A) (L : Language A) (F : List Lexeme → Type 0) → m ≤ n → Good n r L F → Good m r L F
+good_less m n r L F le g = record { says = λ toks l. g.says toks (omega arith); reads = λ us a rest l h f. g.reads us a rest (omega arith) h f; some = g.some }
+
+-- the same language in other words
+pub good_same : {A : Type 0} (n : ℕ) (r : Reader A) (L M : Language A) (F : List Lexeme → Type 0) → ((us : List At) (a : A) → L us a → M us a) → ((us : List At) (a : A) → M us a → L us a) → Good n r L F → Good n r M F
+good_same n r L M F to back g = record { says = λ toks l. says_more r L M toks to (g.says toks l); reads = λ us a rest l h f. g.reads us a rest l (back us a h) f; some = (g.some.0, g.some.1, to _ _ g.some.2) }
+
+-- another tree
+module _ {A B : Type 0} (n : ℕ) (r : Reader A) (f : A → B) (L : Language A) (F : List Lexeme → Type 0) (g : Good n r L F) where
+  map_reads : (us : List At) (b : B) → Mapped f L us b → (rest : List Lexeme) → length us + length rest ≤ n → F rest → Reads (λ s. r s >>= λ x. Ok (f x.0, x.1)) us b rest
+  map_reads us b (mapped vs a h) rest l k = reads_map r f vs a rest (g.reads vs a rest l h k)
+
+  pub good_map : Good n (λ s. r s >>= λ x. Ok (f x.0, x.1)) (Mapped f L) F
+  good_map = record { says = λ toks l. says_map r f L toks (g.says toks l); reads = λ us b rest l h k. map_reads us b h rest l k; some = (g.some.0, f g.some.1, mapped _ _ g.some.2) }
+
+-- one after the other
+module _ {A B : Type 0} (n : ℕ) (r : Reader A) (k : A → Reader B) (L : Language A) (M : A → Language B) (F G : List Lexeme → Type 0) (g : Good n r L F) (h : (a : A) → Good n (k a) (M a) G) (follows : (a : A) (us : List At) (b : B) (rest : List Lexeme) → M a us b → G rest → F (plain us ++ rest)) where
+  chain_reads : (us : List At) (b : B) → Then L M us b → (rest : List Lexeme) → length us + length rest ≤ n → G rest → Reads (λ s. r s >>= λ x. k x.0 x.1) us b rest
+  chain_reads us b (then_ vs ws a t u) rest l f =
+      let s = length-append vs ws in
+      let p = length-append (plain ws) rest in
+      let q = plain-length ws in
+      reads_chain r k vs ws a b rest (g.reads vs a (plain ws ++ rest) (omega arith) t (follows a ws b rest u f)) ((h a).reads ws b rest (omega arith) u f)
+
+  pub good_chain : Good n (λ s. r s >>= λ x. k x.0 x.1) (Then L M) G
+  good_chain = record { says = λ toks l. says_chain r k L M toks (g.says toks l) (λ a rest le. (h a).says rest (omega arith)) (λ a. (h a).some); reads = λ us b rest l t f. chain_reads us b t rest l f; some = (g.some.0 ++ (h g.some.1).some.0, (h g.some.1).some.1, then_ _ _ _ g.some.2 (h g.some.1).some.2) }
+
+-- on all lists
+pub each_says : {A : Type 0} (r : Reader A) (L : Language A) (F : List Lexeme → Type 0) → ((n : ℕ) → Good n r L F) → (toks : List Lexeme) → Says r L toks
+each_says r L F g toks = (g (length toks)).says toks (omega arith)
+
+pub each_reads : {A : Type 0} (r : Reader A) (L : Language A) (F : List Lexeme → Type 0) → ((n : ℕ) → Good n r L F) → (us : List At) (a : A) (rest : List Lexeme) → L us a → F rest → Reads r us a rest
+each_reads r L F g us a rest h f = (g (length us + length rest)).reads us a rest (omega arith) h f
+
+pub shorter : {A : Type 0} (r : Reader A) (L : Language A) (F : List Lexeme → Type 0) → ((n : ℕ) → Good n r L F) → (toks : List Lexeme) (x : A × List Lexeme) → r toks ≡ Ok x → length x.1 ≤ length toks
+shorter r L F g toks x e = took_length r L toks x.1 x.0 (subst (SaysOf r L toks) e (each_says r L F g toks))
+
+below : (P : ℕ → Type 0) → ((n : ℕ) → ((m : ℕ) → m < n → P m) → P n) → (n m : ℕ) → m < n → P m
+below P h zero m l = absurd (omega arith)
+below P h (suc n) m l = h m (λ j k. below P h n j (omega arith))
+
+-- what holds of n where it holds of all below, holds of all
+pub from_below : (P : ℕ → Type 0) → ((n : ℕ) → ((m : ℕ) → m < n → P m) → P n) → (n : ℕ) → P n
+from_below P h n = below P h (suc n) n (omega arith)
+
+pub allowed : (d : ℕ) (x : Lexeme) → d ≤ deepest → IsAllowed (at d x)
+allowed d x l = (l, omega arith, omega arith)
+
+marks : List Mark
+marks = mark.Do ∷ mark.Let ∷ mark.If ∷ mark.Then ∷ mark.Else ∷ mark.Return ∷ mark.Read ∷ mark.Write ∷ mark.Make ∷ mark.Retry ∷ mark.OrElse ∷ mark.Throw ∷ mark.Catch ∷ mark.True ∷ mark.False ∷ mark.Int ∷ mark.Bool ∷ mark.Var ∷ mark.BraceOpen ∷ mark.BraceClose ∷ mark.Open ∷ mark.Close ∷ mark.Semicolon ∷ mark.Colon ∷ mark.Arrow ∷ mark.AtMost ∷ mark.Below ∷ mark.Same ∷ mark.Equals ∷ mark.Plus ∷ mark.Minus ∷ mark.Star ∷ mark.Both ∷ mark.Either ∷ []
+
+decoded : (m : Mark) → get_or marks (code m) mark.Do ≡ m
+unfolding marks
+decoded mark.Do = refl
+decoded mark.Let = refl
+decoded mark.If = refl
+decoded mark.Then = refl
+decoded mark.Else = refl
+decoded mark.Return = refl
+decoded mark.Read = refl
+decoded mark.Write = refl
+decoded mark.Make = refl
+decoded mark.Retry = refl
+decoded mark.OrElse = refl
+decoded mark.Throw = refl
+decoded mark.Catch = refl
+decoded mark.True = refl
+decoded mark.False = refl
+decoded mark.Int = refl
+decoded mark.Bool = refl
+decoded mark.Var = refl
+decoded mark.BraceOpen = refl
+decoded mark.BraceClose = refl
+decoded mark.Open = refl
+decoded mark.Close = refl
+decoded mark.Semicolon = refl
+decoded mark.Colon = refl
+decoded mark.Arrow = refl
+decoded mark.AtMost = refl
+decoded mark.Below = refl
+decoded mark.Same = refl
+decoded mark.Equals = refl
+decoded mark.Plus = refl
+decoded mark.Minus = refl
+decoded mark.Star = refl
+decoded mark.Both = refl
+decoded mark.Either = refl
+
+pub is_mark-true : (m : Mark) (s : Sym) → is_mark m s ≡ true → s ≡ tok.Mark m
+is_mark-true m (tok.Mark k) e = ap tok.Mark (sym (decoded k) ∙ ap (λ n. get_or marks n mark.Do) (eqb-true (code k) (code m) e) ∙ decoded m)
+is_mark-true m (tok.Number n) e = absurd cc
+is_mark-true m tok.Name e = absurd cc
+is_mark-true m tok.Other e = absurd cc
+
+pub is_mark-same : (m : Mark) (s : Sym) → s ≡ tok.Mark m → is_mark m s ≡ true
+is_mark-same m s e = ap (is_mark m) e ∙ eq-eqb (code m) (code m) refl
+
+pub is_name-true : (s : Sym) → is_name_sym s ≡ true → s ≡ tok.Name
+is_name-true tok.Name e = refl
+is_name-true (tok.Mark m) e = absurd cc
+is_name-true (tok.Number n) e = absurd cc
+is_name-true tok.Other e = absurd cc
+
+-- some token of this mark
+abbrev pub some_mark : Mark → Lexeme
+some_mark m = record { sym = tok.Mark m; start = 0; end = 0 }
+
+abbrev pub some_name : Lexeme
+some_name = record { sym = tok.Name; start = 0; end = 0 }
+
+abbrev pub IsName : Lexeme → Type 0
+IsName x = x.sym ≡ tok.Name
+
+-- one token
+pub data Token (d : ℕ) (P : Lexeme → Type 0) : List At → Lexeme → Type 0 where
+  token : (x : Lexeme) → P x → Token d P (at d x ∷ []) x
+
+module _ (d : ℕ) (low : d ≤ deepest) where
+  says_expect : (m : Mark) (toks : List Lexeme) → Says (expect m) (Token d (IsMark m)) toks
+  says_expect m [] = says_end (expect m) (Token d (IsMark m)) refl (_, _, token (some_mark m) refl)
+  says_expect m (x ∷ s) = by (is_mark m x.sym) refl
+    where
+      by : (b : Bool) → is_mark m x.sym ≡ b → Says (expect m) (Token d (IsMark m)) (x ∷ s)
+      by true e = says_one (expect m) (Token d (IsMark m)) x (at d x) s (allowed d x low) (λ s'. ap (λ b. cond b (Ok (x, s')) (Err (unexpected (x ∷ s')))) e) (token x (is_mark-true m x.sym e))
+      by false e = says_refused (expect m) (Token d (IsMark m)) x s (λ s'. ap (λ b. cond b (Ok (x, s')) (Err (unexpected (x ∷ s')))) e) (_, _, token (some_mark m) refl)
+
+  reads_expect : (m : Mark) (us : List At) (a : Lexeme) → Token d (IsMark m) us a → (rest : List Lexeme) → Reads (expect m) us a rest
+  reads_expect m us a (token x p) rest = inl (ap (λ b. cond b (Ok (x, rest)) (Err (unexpected (x ∷ rest)))) (is_mark-same m x.sym p))
+
+  pub good_expect : (m : Mark) (n : ℕ) → Good n (expect m) (Token d (IsMark m)) Any
+  good_expect m n = record { says = λ toks l. says_expect m toks; reads = λ us a rest l h f. reads_expect m us a h rest; some = (_, _, token (some_mark m) refl) }
+
+  says_name : (toks : List Lexeme) → Says expect_name (Token d IsName) toks
+  says_name [] = says_end expect_name (Token d IsName) refl (_, _, token some_name refl)
+  says_name (x ∷ s) = by (is_name_sym x.sym) refl
+    where
+      by : (b : Bool) → is_name_sym x.sym ≡ b → Says expect_name (Token d IsName) (x ∷ s)
+      by true e = says_one expect_name (Token d IsName) x (at d x) s (allowed d x low) (λ s'. ap (λ b. cond b (Ok (x, s')) (Err (unexpected (x ∷ s')))) e) (token x (is_name-true x.sym e))
+      by false e = says_refused expect_name (Token d IsName) x s (λ s'. ap (λ b. cond b (Ok (x, s')) (Err (unexpected (x ∷ s')))) e) (_, _, token some_name refl)
+
+  reads_name : (us : List At) (a : Lexeme) → Token d IsName us a → (rest : List Lexeme) → Reads expect_name us a rest
+  reads_name us a (token x p) rest = inl (ap (λ b. cond b (Ok (x, rest)) (Err (unexpected (x ∷ rest)))) (ap is_name_sym p))
+
+  pub good_name : (n : ℕ) → Good n expect_name (Token d IsName) Any
+  good_name n = record { says = λ toks l. says_name toks; reads = λ us a rest l h f. reads_name us a h rest; some = (_, _, token some_name refl) }

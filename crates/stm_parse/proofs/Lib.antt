@@ -1,0 +1,17 @@
+pub mod ActLevels
+pub mod Actions
+pub mod Ascii
+pub mod Bodies
+pub mod Cuts
+pub mod Expressions
+pub mod Good
+pub mod Kept
+pub mod Lawful
+pub mod Levels
+pub mod Operands
+pub mod Says
+pub mod Telling
+pub mod Tiers
+pub mod TypeLevels
+pub mod Types
+pub mod Whole

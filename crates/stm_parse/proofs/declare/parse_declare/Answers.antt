@@ -1,0 +1,46 @@
+use Rattle.std.proofs.Common.{◌≡◌, ◌≤◌, List, ℕ, length, true, sym, ap, ◌∙◌, subst, Ok}
+use Rattle.stm_terms.specs.Names.{is_name_text}
+use Rattle.stm_parse.specs.Declaring.{declared_of, said, seen}
+use Rattle.stm_parse.specs.Grammar.{Declared, IsDeclaration}
+use Rattle.stm_parse.specs.Parsing.{IsTextOf, IsTold, OrNoMemory}
+use Rattle.stm_parse.specs.Reading.{declaration_reader, whole}
+use Rattle.stm_parse.proofs.Kept.{kept_declaration}
+use Rattle.stm_parse.proofs.Telling.{text_of, ok_text, only_this, stop_told, stop_none}
+use Rattle.stm_parse.proofs.Types.{good_declaration}
+use Rattle.stm_parse.proofs.declare.parse_declare.Goals as goal
+
+pub owned-requires-clause-name : goal.owned-requires-clause-name
+owned-requires-clause-name c =
+    let e = rw c.deref.ensures.value at c.in-Ok.ensures.gives in
+    (kept_declaration c.args.text.now c.in_ok-toks.toks.items (declared_of c.in-Ok.raw) (text_of declaration_reader IsDeclaration good_declaration c.args.text.now c.in_ok-toks.toks.items c.in_ok-toks.ensures.right (declared_of c.in-Ok.raw) e) c.in_ok-toks.ensures.names).0
+
+pub owned-requires-clause-spans : goal.owned-requires-clause-spans
+owned-requires-clause-spans c =
+    let e = rw c.deref.ensures.value at c.in-Ok.ensures.gives in
+    (kept_declaration c.args.text.now c.in_ok-toks.toks.items (declared_of c.in-Ok.raw) (text_of declaration_reader IsDeclaration good_declaration c.args.text.now c.in_ok-toks.toks.items c.in_ok-toks.ensures.right (declared_of c.in-Ok.raw) e) c.in_ok-toks.ensures.names).2
+
+pub returns-in-Ok-clause-right : goal.returns-in-Ok-clause-right
+returns-in-Ok-clause-right c =
+    let e = rw c.deref.ensures.value at c.in-Ok.ensures.gives in
+    (declared_of c.in-Ok.raw, ok_text declaration_reader IsDeclaration good_declaration c.args.text.now c.in_ok-toks.toks.items c.in_ok-toks.ensures.right (declared_of c.in-Ok.raw) e, c.in_ok-owned-in-Ok.ensures)
+
+pub returns-in-Ok-clause-only : goal.returns-in-Ok-clause-only
+returns-in-Ok-clause-only c =
+    let e = rw c.deref.ensures.value at c.in-Ok.ensures.gives in
+    λ t h. c.in_ok-owned-in-Ok.ensures ∙ ap (said c.args.text.now) (only_this declaration_reader IsDeclaration good_declaration c.args.text.now c.in_ok-toks.toks.items c.in_ok-toks.ensures.right t (declared_of c.in-Ok.raw) h e)
+
+pub returns-in-Ok-clause-name : goal.returns-in-Ok-clause-name
+returns-in-Ok-clause-name c =
+    let e = rw c.deref.ensures.value at c.in-Ok.ensures.gives in
+    let k = kept_declaration c.args.text.now c.in_ok-toks.toks.items (declared_of c.in-Ok.raw) (text_of declaration_reader IsDeclaration good_declaration c.args.text.now c.in_ok-toks.toks.items c.in_ok-toks.ensures.right (declared_of c.in-Ok.raw) e) c.in_ok-toks.ensures.names in
+    ap (λ s. is_name_text s.name) c.in_ok-owned-in-Ok.ensures ∙ k.1
+
+pub returns-clause-right : goal.returns-clause-right
+returns-clause-right c =
+    let e = rw c.deref.ensures.value at c.in-Err.ensures.gives in
+    subst (IsTold IsDeclaration c.args.text.now) (sym (rw c.deref-in-Err.ensures.value at c.told.ensures)) (stop_told declaration_reader IsDeclaration good_declaration c.args.text.now c.in_ok-toks.toks.items c.in_ok-toks.ensures.right c.in-Err.stop e)
+
+pub returns-clause-only : goal.returns-clause-only
+returns-clause-only c =
+    let e = rw c.deref.ensures.value at c.in-Err.ensures.gives in
+    λ t h. rw (rw c.deref-in-Err.ensures.value at c.told.ensures) (stop_none declaration_reader IsDeclaration good_declaration c.args.text.now c.in_ok-toks.toks.items c.in_ok-toks.ensures.right (λ d. seen d ≡ said c.args.text.now t) t h c.in-Err.stop e)

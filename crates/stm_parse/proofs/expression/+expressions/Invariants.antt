@@ -1,0 +1,15 @@
+-- Each call takes a token, or is of a lower rank.
+use Rattle.std.proofs.Common.{◌+◌, ◌*◌, length}
+use Rattle.stm_parse.proofs.expression.+expressions.Given as goal
+
+abbrev pub decreases-atom : goal.decreases-atom
+decreases-atom l = 8 * length l.toks.now
+
+abbrev pub decreases-bracketed : goal.decreases-bracketed
+decreases-bracketed l = 8 * length l.toks.now + 7
+
+abbrev pub decreases-tier : goal.decreases-tier
+decreases-tier l = 8 * length l.toks.now + l.width + 1
+
+abbrev pub decreases-tail : goal.decreases-tail
+decreases-tail l = 8 * length l.toks.now

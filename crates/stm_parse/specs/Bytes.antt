@@ -1,0 +1,64 @@
+-- The bytes of tokens.
+use Rattle.std.specs.Prelude.{ℕ, ◌+◌, ◌-◌, ◌*◌, List, [], ◌∷◌, Bool, ◌&&◌, ◌||◌, nat_eq, nat_lt, if◌then◌else◌, length, Option, Some, None}
+use Rattle.std.specs.List.{take_while}
+use Rattle.stm_terms.specs.Names.{is_small, is_great, is_digit, is_word_byte}
+use Rattle.stm_parse.specs.declared.lexeme.Mark.{Mark}
+use Rattle.stm_parse.specs.declared.lexeme.Mark.TheVariants as mark
+
+abbrev pub is_letter : ℕ → Bool
+is_letter b = is_small b || is_great b
+
+-- tab, line feed, carriage return, space
+abbrev pub is_blank : ℕ → Bool
+is_blank b = nat_eq b 9 || nat_eq b 10 || nat_eq b 13 || nat_eq b 32
+
+-- <- <= == && ||
+unfoldable pub pair_mark : ℕ → ℕ → Option Mark
+pair_mark a b =
+    if nat_eq a 60 && nat_eq b 45 then Some mark.Arrow
+    else (if nat_eq a 60 && nat_eq b 61 then Some mark.AtMost
+    else (if nat_eq a 61 && nat_eq b 61 then Some mark.Same
+    else (if nat_eq a 38 && nat_eq b 38 then Some mark.Both
+    else (if nat_eq a 124 && nat_eq b 124 then Some mark.Either
+    else None))))
+
+-- { } ( ) ; : < = + - *
+unfoldable pub single_mark : ℕ → Option Mark
+single_mark a =
+    if nat_eq a 123 then Some mark.BraceOpen
+    else (if nat_eq a 125 then Some mark.BraceClose
+    else (if nat_eq a 40 then Some mark.Open
+    else (if nat_eq a 41 then Some mark.Close
+    else (if nat_eq a 59 then Some mark.Semicolon
+    else (if nat_eq a 58 then Some mark.Colon
+    else (if nat_eq a 60 then Some mark.Below
+    else (if nat_eq a 61 then Some mark.Equals
+    else (if nat_eq a 43 then Some mark.Plus
+    else (if nat_eq a 45 then Some mark.Minus
+    else (if nat_eq a 42 then Some mark.Star
+    else None))))))))))
+
+-- the mark that these bytes write
+abbrev pub symbol_mark : List ℕ → Option Mark
+symbol_mark [] = None
+symbol_mark (a ∷ []) = single_mark a
+symbol_mark (a ∷ b ∷ []) = pair_mark a b
+symbol_mark (a ∷ b ∷ c ∷ rest) = None
+
+abbrev pub word_len : List ℕ → ℕ
+word_len bytes = length (take_while is_word_byte bytes)
+
+abbrev pub number_len : List ℕ → ℕ
+number_len bytes = length (take_while is_digit bytes)
+
+abbrev pub digit_value : ℕ → ℕ
+digit_value b = if is_digit b then b - 48 else 0
+
+-- the number that goes on with these digits
+abbrev pub decimal : ℕ → List ℕ → ℕ
+decimal n [] = n
+decimal n (b ∷ bytes) = decimal (n * 10 + digit_value b) bytes
+
+-- the number of these digits, if there are at most 19 and it is at most 2 ^ 63
+unfoldable pub number_of : List ℕ → Option ℕ
+number_of bytes = if nat_lt 19 (length bytes) then None else (if nat_lt 9223372036854775808 (decimal 0 bytes) then None else Some (decimal 0 bytes))

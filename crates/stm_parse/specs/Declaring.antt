@@ -1,0 +1,44 @@
+-- Declarations without where they lie in memory.
+use Rattle.std.specs.Prelude.{ℕ, List, slice_range, string_bytes}
+use Rattle.stm_terms.specs.declared.kinds.Ty.{Ty}
+use Rattle.stm_terms.specs.declared.values.Value.{Value}
+use Rattle.stm_terms.specs.declared.values.Value.TheVariants as V
+use Rattle.stm_terms.specs.RawTrees.{Term, int, truth, unit, name, bin, raw_term_of}
+use Rattle.stm_parse.specs.declared.declare.Init.{Init}
+use Rattle.stm_parse.specs.declared.declare.Init.TheVariants as I
+use Rattle.stm_parse.specs.declared.declare.Declaration.{Declaration}
+use Rattle.stm_parse.specs.declared.type_descent.RawDeclaration.{RawDeclaration}
+use Rattle.stm_parse.specs.Grammar.{Declared}
+
+abbrev pub declared_of : RawDeclaration → Declared
+declared_of d = record { from = d.from; to = d.to; ty = d.ty; init = raw_term_of d.init }
+
+-- what a variable holds at first: a value, or the variable of a name that stands at a place
+pub data Initial : Type 0 where
+  literal : Value → Initial
+  reference : List ℕ → ℕ → Initial
+
+-- a declaration as callers see it
+pub record Seen : Type 0 where
+  pub name : List ℕ
+  pub ty : Ty
+  pub init : Initial
+
+abbrev pub seen_init : Init → Initial
+seen_init (I.Literal v) = literal v
+seen_init (I.Name n at) = reference (string_bytes n) at
+
+abbrev pub seen : Declaration → Seen
+seen d = record { name = string_bytes d.name; ty = d.ty; init = seen_init d.init }
+
+-- what an operand says of a variable; no declaration has an operator
+abbrev pub init_of : List ℕ → Term → Initial
+init_of text (int n at) = literal (V.Int n)
+init_of text (truth b at) = literal (V.Bool b)
+init_of text (unit at) = literal V.Unit
+init_of text (name from to) = reference (slice_range text from to) from
+init_of text (bin o a b) = literal V.Unit
+
+-- the declaration that a tree stands for in a text
+abbrev pub said : List ℕ → Declared → Seen
+said text t = record { name = slice_range text t.from t.to; ty = t.ty; init = init_of text t.init }

@@ -1,0 +1,81 @@
+-- Tokens of a text as the grammar sees them: reserved words and symbols, numbers by their value, and names.
+use Rattle.std.specs.Prelude.{◌≡◌, ℕ, ◌≤◌, List, [], ◌∷◌, map, slice_range, codes, true, if◌then◌else◌, Option, Some, None}
+use Rattle.std.specs.Str.{bytes_eq}
+use Rattle.stm_terms.specs.Names.{is_name_text}
+use Rattle.stm_terms.specs.RawTrees.{IsSpan}
+use Rattle.stm_parse.specs.declared.lexeme.Mark.{Mark}
+use Rattle.stm_parse.specs.declared.lexeme.Mark.TheVariants as mark
+use Rattle.stm_parse.specs.declared.lexeme.Sym.{Sym}
+use Rattle.stm_parse.specs.declared.lexeme.Sym.TheVariants as tok
+use Rattle.stm_parse.specs.declared.lexeme.Lexeme.{Lexeme}
+use Rattle.stm_parse.specs.declared.cutting.Kind.{Kind}
+use Rattle.stm_parse.specs.declared.cutting.Kind.TheVariants as kind
+use Rattle.stm_parse.specs.declared.cutting.Token.{Token}
+use Rattle.stm_parse.specs.Bytes.{symbol_mark, number_of}
+
+-- the words of control
+unfoldable pub control_mark : List ℕ → Option Mark
+control_mark word =
+    if bytes_eq word (codes "do") then Some mark.Do
+    else (if bytes_eq word (codes "let") then Some mark.Let
+    else (if bytes_eq word (codes "if") then Some mark.If
+    else (if bytes_eq word (codes "then") then Some mark.Then
+    else (if bytes_eq word (codes "else") then Some mark.Else
+    else None))))
+
+-- the words that begin an action
+unfoldable pub action_mark : List ℕ → Option Mark
+action_mark word =
+    if bytes_eq word (codes "return") then Some mark.Return
+    else (if bytes_eq word (codes "readTVar") then Some mark.Read
+    else (if bytes_eq word (codes "writeTVar") then Some mark.Write
+    else (if bytes_eq word (codes "newTVar") then Some mark.Make
+    else (if bytes_eq word (codes "retry") then Some mark.Retry
+    else (if bytes_eq word (codes "orElse") then Some mark.OrElse
+    else (if bytes_eq word (codes "throw") then Some mark.Throw
+    else (if bytes_eq word (codes "catch") then Some mark.Catch
+    else None)))))))
+
+-- the words for values and types
+unfoldable pub value_mark : List ℕ → Option Mark
+value_mark word =
+    if bytes_eq word (codes "True") then Some mark.True
+    else (if bytes_eq word (codes "False") then Some mark.False
+    else (if bytes_eq word (codes "Int") then Some mark.Int
+    else (if bytes_eq word (codes "Bool") then Some mark.Bool
+    else (if bytes_eq word (codes "TVar") then Some mark.Var
+    else None))))
+
+abbrev pub or_mark : Option Mark → Option Mark → Option Mark
+or_mark None m = m
+or_mark (Some k) m = Some k
+
+-- a reserved word
+abbrev pub word_mark : List ℕ → Option Mark
+word_mark word = or_mark (control_mark word) (or_mark (action_mark word) (value_mark word))
+
+abbrev pub mark_or : Option Mark → Sym → Sym
+mark_or None s = s
+mark_or (Some m) s = tok.Mark m
+
+abbrev pub number_or : Option ℕ → Sym
+number_or None = tok.Other
+number_or (Some n) = tok.Number n
+
+abbrev pub sym_of : Kind → List ℕ → Sym
+sym_of kind.Word bytes = mark_or (word_mark bytes) (if is_name_text bytes then tok.Name else tok.Other)
+sym_of kind.Number bytes = number_or (number_of bytes)
+sym_of kind.Symbol bytes = mark_or (symbol_mark bytes) tok.Other
+
+-- a token of the text
+abbrev pub lexeme_of : List ℕ → Token → Lexeme
+lexeme_of text t = record { sym = sym_of t.kind (slice_range text t.start t.end); start = t.start; end = t.end }
+
+abbrev pub lexemes_of : List ℕ → List Token → List Lexeme
+lexemes_of text [] = []
+lexemes_of text (t ∷ ts) = lexeme_of text t ∷ lexemes_of text ts
+
+-- each is a span of n bytes
+abbrev pub SpansInside : ℕ → List Token → Type 0
+SpansInside n [] = Unit {0}
+SpansInside n (t ∷ ts) = IsSpan n t.start t.end × SpansInside n ts

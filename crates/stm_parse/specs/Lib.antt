@@ -1,0 +1,11 @@
+pub mod Bytes
+pub mod Declaring
+pub mod Faults
+pub mod Grammar
+pub mod Laws
+pub mod Lexing
+pub mod Marks
+pub mod Parsing
+pub mod RawBlocks
+pub mod Reading
+pub mod Tokens

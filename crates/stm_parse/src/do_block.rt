@@ -1,0 +1,286 @@
+//! The descent through actions. An action comes with the place of its first word.
+
+ghost use Rattle.std.specs.Prelude.{◌≡◌, ◌+◌, ◌-◌, ◌<◌, ◌≤◌, length, IfOk};
+ghost use Rattle.stm_terms.specs.RawTrees.{raw_act_of, return, read, make, throw};
+ghost use Rattle.stm_parse.specs.Grammar.{deepest, widest};
+ghost use Rattle.stm_parse.specs.Reading.{Gives, atom_at, tier_at, action_at, paren_at, body_at, closed, block, if_of, or_else_of, bound, let_bound, sequence, two_operands};
+
+use crate::descent::{behind, expect, expect_name, is_name_sym, too_deep, unexpected};
+use crate::expression::{atom, expression};
+use crate::lexeme::{Lexeme, Mark, Stop, Sym};
+use std::alloc::Global;
+use stm_terms::RawAction;
+
+/// An action.
+#[cycle(actions)]
+#[tactic(auto, using(crate::proofs::ActLevels::inside_act_none, crate::proofs::ActLevels::inside_act_some), unfolding(crate::specs::Reading::action_at))]
+pub fn action<'t>(
+    alloc: Global,
+    levels: u8,
+    toks: &'t [Lexeme],
+) -> Result<((RawAction, usize), &'t [Lexeme]), Stop>
+    requires { levels ≤ deepest }
+    ensures gives { Gives (λ r. ((raw_act_of r.0.0, r.0.1), r.1.now)) result (action_at levels toks.now) }
+    ensures shorter { IfOk result (λ r. length r.1.now ≤ length toks.now) }
+{
+    let Some((first, rest)) = toks.split_first() else {
+        return Err(unexpected(toks));
+    };
+    let Sym::Mark(word) = first.sym else {
+        return Err(unexpected(toks));
+    };
+    match word {
+        Mark::Do => {
+            if levels == 0 {
+                return Err(too_deep(toks));
+            }
+            block(alloc, levels - 1, first.start, rest)
+        }
+        Mark::If => {
+            if levels == 0 {
+                return Err(too_deep(toks));
+            }
+            if_then_else(alloc, levels - 1, first.start, rest)
+        }
+        Mark::OrElse => {
+            if levels == 0 {
+                return Err(too_deep(toks));
+            }
+            or_else(alloc, levels - 1, first.start, rest)
+        }
+        Mark::Open => {
+            if levels == 0 {
+                return Err(too_deep(toks));
+            }
+            closed(alloc, levels - 1, rest)
+        }
+        Mark::Return => {
+            let (value, rest) = atom(alloc, levels, rest)?;
+            Ok(((RawAction::Return(value), first.start), rest))
+        }
+        Mark::Read => {
+            let (variable, rest) = atom(alloc, levels, rest)?;
+            Ok(((RawAction::Read(variable), first.start), rest))
+        }
+        Mark::Make => {
+            let (value, rest) = atom(alloc, levels, rest)?;
+            Ok(((RawAction::Make(value), first.start), rest))
+        }
+        Mark::Throw => {
+            let (number, rest) = atom(alloc, levels, rest)?;
+            Ok(((RawAction::Throw(number), first.start), rest))
+        }
+        Mark::Write => write(alloc, levels, first.start, rest),
+        Mark::Retry => Ok(((RawAction::Retry, first.start), rest)),
+        _ => Err(unexpected(toks)),
+    }
+}
+
+// Behind writeTVar.
+fn write<'t>(
+    alloc: Global,
+    levels: u8,
+    place: usize,
+    toks: &'t [Lexeme],
+) -> Result<((RawAction, usize), &'t [Lexeme]), Stop>
+    requires { levels ≤ deepest }
+    ensures gives { Gives (λ r. ((raw_act_of r.0.0, r.0.1), r.1.now)) result (two_operands (atom_at levels) place toks.now) }
+    ensures shorter { IfOk result (λ r. length r.1.now ≤ length toks.now) }
+{
+    let (variable, rest) = atom(alloc, levels, toks)?;
+    let (value, rest) = atom(alloc, levels, rest)?;
+    Ok(((RawAction::Write(variable, value), place), rest))
+}
+
+// Behind "(".
+#[cycle(actions)]
+fn closed<'t>(
+    alloc: Global,
+    levels: u8,
+    toks: &'t [Lexeme],
+) -> Result<((RawAction, usize), &'t [Lexeme]), Stop>
+    requires { levels ≤ deepest }
+    ensures gives { Gives (λ r. ((raw_act_of r.0.0, r.0.1), r.1.now)) result (closed (action_at levels) toks.now) }
+    ensures shorter { IfOk result (λ r. length r.1.now ≤ length toks.now) }
+{
+    let (inner, rest) = action(alloc, levels, toks)?;
+    let (_, rest) = expect(Mark::Close, rest)?;
+    Ok((inner, rest))
+}
+
+// "(" action ")"
+#[cycle(actions)]
+#[tactic(auto, using(crate::proofs::ActLevels::inside_act_none, crate::proofs::ActLevels::inside_act_some), unfolding(crate::specs::Reading::paren_at))]
+fn paren<'t>(
+    alloc: Global,
+    levels: u8,
+    toks: &'t [Lexeme],
+) -> Result<((RawAction, usize), &'t [Lexeme]), Stop>
+    requires { levels ≤ deepest }
+    ensures gives { Gives (λ r. ((raw_act_of r.0.0, r.0.1), r.1.now)) result (paren_at levels toks.now) }
+    ensures shorter { IfOk result (λ r. length r.1.now ≤ length toks.now) }
+{
+    let Some((first, rest)) = toks.split_first() else {
+        return Err(unexpected(toks));
+    };
+    if !first.sym.is(Mark::Open) {
+        return Err(unexpected(toks));
+    }
+    if levels == 0 {
+        return Err(too_deep(toks));
+    }
+    closed(alloc, levels - 1, rest)
+}
+
+// Behind orElse.
+#[cycle(actions)]
+fn or_else<'t>(
+    alloc: Global,
+    levels: u8,
+    place: usize,
+    toks: &'t [Lexeme],
+) -> Result<((RawAction, usize), &'t [Lexeme]), Stop>
+    requires { levels ≤ deepest }
+    ensures gives { Gives (λ r. ((raw_act_of r.0.0, r.0.1), r.1.now)) result (or_else_of (paren_at levels) place toks.now) }
+    ensures shorter { IfOk result (λ r. length r.1.now ≤ length toks.now) }
+{
+    let ((first, _), rest) = paren(alloc, levels, toks)?;
+    let ((second, at), rest) = paren(alloc, levels, rest)?;
+    let both = RawAction::OrElse(Box::new(alloc, first)?, at, Box::new(alloc, second)?);
+    Ok(((both, place), rest))
+}
+
+// Behind if.
+#[cycle(actions)]
+fn if_then_else<'t>(
+    alloc: Global,
+    levels: u8,
+    place: usize,
+    toks: &'t [Lexeme],
+) -> Result<((RawAction, usize), &'t [Lexeme]), Stop>
+    requires { levels ≤ deepest }
+    ensures gives { Gives (λ r. ((raw_act_of r.0.0, r.0.1), r.1.now)) result (if_of (tier_at widest levels) (action_at levels) place toks.now) }
+    ensures shorter { IfOk result (λ r. length r.1.now ≤ length toks.now) }
+{
+    let (condition, rest) = expression(alloc, levels, toks)?;
+    let (_, rest) = expect(Mark::Then, rest)?;
+    let ((first, _), rest) = action(alloc, levels, rest)?;
+    let (_, rest) = expect(Mark::Else, rest)?;
+    let ((second, at), rest) = action(alloc, levels, rest)?;
+    let choice = RawAction::If(
+        condition,
+        Box::new(alloc, first)?,
+        at,
+        Box::new(alloc, second)?,
+    );
+    Ok(((choice, place), rest))
+}
+
+// Behind "do".
+#[cycle(actions)]
+fn block<'t>(
+    alloc: Global,
+    levels: u8,
+    place: usize,
+    toks: &'t [Lexeme],
+) -> Result<((RawAction, usize), &'t [Lexeme]), Stop>
+    requires { levels ≤ deepest }
+    ensures gives { Gives (λ r. ((raw_act_of r.0.0, r.0.1), r.1.now)) result (block (body_at levels) place toks.now) }
+    ensures shorter { IfOk result (λ r. length r.1.now ≤ length toks.now) }
+{
+    let (_, rest) = expect(Mark::BraceOpen, toks)?;
+    let (inner, rest) = body(alloc, levels, rest)?;
+    let (_, rest) = expect(Mark::BraceClose, rest)?;
+    Ok(((inner, place), rest))
+}
+
+// Statements and the last action.
+#[cycle(actions)]
+#[tactic(auto, using(crate::proofs::ActLevels::body_more))]
+fn body<'t>(
+    alloc: Global,
+    levels: u8,
+    toks: &'t [Lexeme],
+) -> Result<(RawAction, &'t [Lexeme]), Stop>
+    requires { levels ≤ deepest }
+    ensures gives { Gives (λ r. (raw_act_of r.0, r.1.now)) result (body_at levels toks.now) }
+    ensures shorter { IfOk result (λ r. length r.1.now ≤ length toks.now) }
+{
+    let Some((first, rest)) = toks.split_first() else {
+        return Err(unexpected(toks));
+    };
+    if is_name_sym(first.sym) {
+        return bound(alloc, levels, first.start, first.end, rest);
+    }
+    if first.sym.is(Mark::Let) {
+        return let_bound(alloc, levels, rest);
+    }
+    sequence(alloc, levels, toks)
+}
+
+// Behind a name that a statement binds.
+#[cycle(actions)]
+fn bound<'t>(
+    alloc: Global,
+    levels: u8,
+    start: usize,
+    end: usize,
+    toks: &'t [Lexeme],
+) -> Result<(RawAction, &'t [Lexeme]), Stop>
+    requires { levels ≤ deepest }
+    ensures gives { Gives (λ r. (raw_act_of r.0, r.1.now)) result (bound (action_at levels) (body_at levels) start end toks.now) }
+    ensures shorter { IfOk result (λ r. length r.1.now ≤ length toks.now) }
+{
+    let (_, rest) = expect(Mark::Arrow, toks)?;
+    let ((first, at), rest) = action(alloc, levels, rest)?;
+    let (_, rest) = expect(Mark::Semicolon, rest)?;
+    let (then, rest) = body(alloc, levels, rest)?;
+    let all = RawAction::Bind(
+        start,
+        end,
+        at,
+        Box::new(alloc, first)?,
+        Box::new(alloc, then)?,
+    );
+    Ok((all, rest))
+}
+
+// Behind let.
+#[cycle(actions)]
+fn let_bound<'t>(
+    alloc: Global,
+    levels: u8,
+    toks: &'t [Lexeme],
+) -> Result<(RawAction, &'t [Lexeme]), Stop>
+    requires { levels ≤ deepest }
+    ensures gives { Gives (λ r. (raw_act_of r.0, r.1.now)) result (let_bound (tier_at widest levels) (body_at levels) toks.now) }
+    ensures shorter { IfOk result (λ r. length r.1.now ≤ length toks.now) }
+{
+    let (name, rest) = expect_name(toks)?;
+    let (_, rest) = expect(Mark::Equals, rest)?;
+    let (value, rest) = expression(alloc, levels, rest)?;
+    let (_, rest) = expect(Mark::Semicolon, rest)?;
+    let (then, rest) = body(alloc, levels, rest)?;
+    let all = RawAction::Let(name.start, name.end, value, Box::new(alloc, then)?);
+    Ok((all, rest))
+}
+
+// An action, and the rest of the body behind a semicolon.
+#[cycle(actions)]
+fn sequence<'t>(
+    alloc: Global,
+    levels: u8,
+    toks: &'t [Lexeme],
+) -> Result<(RawAction, &'t [Lexeme]), Stop>
+    requires { levels ≤ deepest }
+    ensures gives { Gives (λ r. (raw_act_of r.0, r.1.now)) result (sequence (action_at levels) (body_at levels) toks.now) }
+    ensures shorter { IfOk result (λ r. length r.1.now ≤ length toks.now) }
+{
+    let ((first, _), rest) = action(alloc, levels, toks)?;
+    let Some(rest) = behind(Mark::Semicolon, rest) else {
+        return Ok((first, rest));
+    };
+    let (then, rest) = body(alloc, levels, rest)?;
+    let all = RawAction::Seq(Box::new(alloc, first)?, Box::new(alloc, then)?);
+    Ok((all, rest))
+}

@@ -1,0 +1,225 @@
+//! The descent through expressions. Each function reads a tree from the front of the tokens.
+
+ghost use Rattle.std.specs.Prelude.{◌≡◌, ◌+◌, ◌-◌, ◌<◌, ◌≤◌, ◌∷◌, length, IfOk, pos, neg_ℤ};
+ghost use Rattle.stm_terms.specs.RawTrees.{raw_term_of};
+ghost use Rattle.stm_parse.specs.Grammar.{deepest, widest, greatest};
+ghost use Rattle.stm_parse.specs.Reading.{Gives, in_reach, literal, bracketed, short_of, refuse, init, atom_at, tier_at, tail_at};
+
+use crate::descent::{
+    Grouping, bad_number, behind, expect, groups, operator, too_deep, unexpected,
+};
+use crate::lexeme::{Lexeme, Mark, Stop, Sym};
+use std::alloc::Global;
+use stm_terms::RawExpr;
+
+// The tier of whole expressions.
+const WIDEST: u8 = 5;
+
+#[tactic(auto, unfolding(crate::specs::Grammar::greatest))]
+fn in_reach(n: u64) -> bool
+    ensures { result ≡ in_reach n }
+{
+    n <= 9223372036854775807
+}
+
+#[tactic(auto, unfolding(crate::specs::Grammar::greatest))]
+fn whole_number(n: u64) -> i64
+    requires { n ≤ greatest }
+    ensures { result ≡ pos n }
+{
+    n as i64
+}
+
+#[tactic(auto, unfolding(crate::specs::Grammar::greatest))]
+fn negated(n: u64) -> i64
+    requires { n - 1 ≤ greatest }
+    ensures { result ≡ neg_ℤ (pos n) }
+{
+    if n == 0 { 0 } else { -1 - ((n - 1) as i64) }
+}
+
+// Behind the minus of a negative number.
+fn literal(at: usize, toks: &[Lexeme]) -> Result<(RawExpr, &[Lexeme]), Stop>
+    ensures gives { Gives (λ r. (raw_term_of r.0, r.1.now)) result (literal at toks.now) }
+    ensures shorter { IfOk result (λ r. length r.1.now ≤ length toks.now) }
+{
+    let Some((first, rest)) = toks.split_first() else {
+        return Err(unexpected(toks));
+    };
+    let Sym::Number(n) = first.sym else {
+        return Err(unexpected(toks));
+    };
+    if !in_reach(n.saturating_sub(1)) {
+        return Err(bad_number(toks));
+    }
+    let (_, after) = expect(Mark::Close, rest)?;
+    Ok((RawExpr::Int(negated(n), at), after))
+}
+
+// An operand of one token.
+fn short<'t>(first: &Lexeme, rest: &'t [Lexeme], toks: &'t [Lexeme]) -> Result<(RawExpr, &'t [Lexeme]), Stop>
+    requires { toks.now ≡ first.now ∷ rest.now }
+    ensures gives { Gives (λ r. (raw_term_of r.0, r.1.now)) result (short_of first.now.sym first.now rest.now) }
+    ensures shorter { IfOk result (λ r. length r.1.now ≤ length toks.now) }
+{
+    match first.sym {
+        Sym::Number(n) => {
+            if in_reach(n) {
+                Ok((RawExpr::Int(whole_number(n), first.start), rest))
+            } else {
+                Err(bad_number(toks))
+            }
+        }
+        Sym::Name => Ok((RawExpr::Name(first.start, first.end), rest)),
+        Sym::Other => Err(unexpected(toks)),
+        Sym::Mark(mark) => match mark {
+            Mark::True => Ok((RawExpr::Bool(true, first.start), rest)),
+            Mark::False => Ok((RawExpr::Bool(false, first.start), rest)),
+            _ => Err(unexpected(toks)),
+        },
+    }
+}
+
+// Behind "(".
+#[cycle(expressions)]
+fn bracketed<'t>(
+    alloc: Global,
+    levels: u8,
+    at: usize,
+    toks: &'t [Lexeme],
+) -> Result<(RawExpr, &'t [Lexeme]), Stop>
+    requires { levels ≤ deepest }
+    ensures gives { Gives (λ r. (raw_term_of r.0, r.1.now)) result (bracketed (tier_at widest levels) at toks.now) }
+    ensures shorter { IfOk result (λ r. length r.1.now ≤ length toks.now) }
+{
+    if let Some(rest) = behind(Mark::Close, toks) {
+        return Ok((RawExpr::Unit(at), rest));
+    }
+    if let Some(rest) = behind(Mark::Minus, toks) {
+        return literal(at, rest);
+    }
+    let (inner, rest) = tier(alloc, levels, WIDEST, toks)?;
+    let (_, after) = expect(Mark::Close, rest)?;
+    Ok((inner, after))
+}
+
+/// A literal, a name, or an expression in brackets.
+#[cycle(expressions)]
+#[tactic(auto, using(crate::proofs::Levels::inside_none, crate::proofs::Levels::inside_some), unfolding(crate::specs::Reading::atom_at))]
+pub fn atom<'t>(
+    alloc: Global,
+    levels: u8,
+    toks: &'t [Lexeme],
+) -> Result<(RawExpr, &'t [Lexeme]), Stop>
+    requires { levels ≤ deepest }
+    ensures gives { Gives (λ r. (raw_term_of r.0, r.1.now)) result (atom_at levels toks.now) }
+    ensures shorter { IfOk result (λ r. length r.1.now ≤ length toks.now) }
+{
+    let Some((first, rest)) = toks.split_first() else {
+        return Err(unexpected(toks));
+    };
+    if !first.sym.is(Mark::Open) {
+        return short(first, rest, toks);
+    }
+    if levels == 0 {
+        return Err(too_deep(toks));
+    }
+    bracketed(alloc, levels - 1, first.start, rest)
+}
+
+// An expression whose operators outside of brackets are of tiers below this one.
+#[cycle(expressions)]
+#[tactic(auto, using(crate::proofs::Levels::tier_zero, crate::proofs::Levels::tier_more))]
+fn tier<'t>(
+    alloc: Global,
+    levels: u8,
+    width: u8,
+    toks: &'t [Lexeme],
+) -> Result<(RawExpr, &'t [Lexeme]), Stop>
+    requires low { levels ≤ deepest }
+    requires width { width ≤ widest }
+    ensures gives { Gives (λ r. (raw_term_of r.0, r.1.now)) result (tier_at width levels toks.now) }
+    ensures shorter { IfOk result (λ r. length r.1.now ≤ length toks.now) }
+{
+    if width == 0 {
+        return atom(alloc, levels, toks);
+    }
+    let (first, rest) = tier(alloc, levels, width - 1, toks)?;
+    tail(alloc, levels, width - 1, first, rest)
+}
+
+// What may follow the first operand of the operators of a tier.
+#[cycle(expressions)]
+#[tactic(auto, using(crate::proofs::Levels::tail_more))]
+fn tail<'t>(
+    alloc: Global,
+    levels: u8,
+    width: u8,
+    left: RawExpr,
+    toks: &'t [Lexeme],
+) -> Result<(RawExpr, &'t [Lexeme]), Stop>
+    requires low { levels ≤ deepest }
+    requires width { width < widest }
+    ensures gives { Gives (λ r. (raw_term_of r.0, r.1.now)) result (tail_at width levels (raw_term_of left) toks.now) }
+    ensures shorter { IfOk result (λ r. length r.1.now ≤ length toks.now) }
+{
+    let Some((op, rest)) = operator(width, toks) else {
+        return Ok((left, toks));
+    };
+    match groups(width) {
+        Grouping::ToLeft => {
+            let (right, rest) = tier(alloc, levels, width, rest)?;
+            let both = RawExpr::Bin(op, Box::new(alloc, left)?, Box::new(alloc, right)?);
+            tail(alloc, levels, width, both, rest)
+        }
+        Grouping::NotChained => {
+            let (right, rest) = tier(alloc, levels, width, rest)?;
+            let both = RawExpr::Bin(op, Box::new(alloc, left)?, Box::new(alloc, right)?);
+            Ok((both, rest))
+        }
+        Grouping::ToRight => {
+            let (right, rest) = tier(alloc, levels, width + 1, rest)?;
+            let both = RawExpr::Bin(op, Box::new(alloc, left)?, Box::new(alloc, right)?);
+            Ok((both, rest))
+        }
+    }
+}
+
+/// A whole expression.
+pub fn expression<'t>(
+    alloc: Global,
+    levels: u8,
+    toks: &'t [Lexeme],
+) -> Result<(RawExpr, &'t [Lexeme]), Stop>
+    requires { levels ≤ deepest }
+    ensures gives { Gives (λ r. (raw_term_of r.0, r.1.now)) result (tier_at widest levels toks.now) }
+    ensures shorter { IfOk result (λ r. length r.1.now ≤ length toks.now) }
+{
+    tier(alloc, levels, WIDEST, toks)
+}
+
+// Behind "(" of what a declared variable holds at first.
+fn bracketed_init(at: usize, toks: &[Lexeme]) -> Result<(RawExpr, &[Lexeme]), Stop>
+    ensures gives { Gives (λ r. (raw_term_of r.0, r.1.now)) result (bracketed refuse at toks.now) }
+{
+    if let Some(rest) = behind(Mark::Close, toks) {
+        return Ok((RawExpr::Unit(at), rest));
+    }
+    if let Some(rest) = behind(Mark::Minus, toks) {
+        return literal(at, rest);
+    }
+    Err(unexpected(toks))
+}
+
+/// What a declared variable holds at first: a literal or a name.
+pub fn init(toks: &[Lexeme]) -> Result<(RawExpr, &[Lexeme]), Stop>
+    ensures gives { Gives (λ r. (raw_term_of r.0, r.1.now)) result (init toks.now) }
+{
+    let Some((first, rest)) = toks.split_first() else {
+        return Err(unexpected(toks));
+    };
+    if !first.sym.is(Mark::Open) {
+        return short(first, rest, toks);
+    }
+    bracketed_init(first.start, rest)
+}
