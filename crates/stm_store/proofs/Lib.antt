@@ -1,5 +1,11 @@
 pub mod Declaring
+pub mod Fitting
+pub mod Lookups
+pub mod Numbers
 pub mod Opening
+pub mod Paged
 pub mod Places
+pub mod Soundness
 pub mod Tests
 pub mod Typed
+pub mod Written

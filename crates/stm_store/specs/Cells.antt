@@ -1,5 +1,5 @@
 -- The cells of a store: what a block may rest on, when a verdict fits them, and what applying it does to them.
-use Rattle.std.specs.Prelude.{◌≡◌, ℕ, ◌+◌, ◌-◌, ◌^◌, ◌≤◌, min, List, [], ◌∷◌, ◌++◌, Option, Some, None, map, length, slice_set, slice_get, option_map}
+use Rattle.std.specs.Prelude.{◌≡◌, ℕ, ◌+◌, ◌-◌, ◌^◌, ◌<◌, ◌≤◌, min, List, [], ◌∷◌, ◌++◌, Option, Some, None, map, length, slice_set, slice_get, option_map}
 use Rattle.stm_terms.specs.declared.kinds.Ty.{Ty}
 use Rattle.stm_terms.specs.declared.values.Ref.{Ref}
 use Rattle.stm_terms.specs.declared.values.Ref.TheVariants.{Old, New}
@@ -10,6 +10,7 @@ use Rattle.stm_terms.specs.declared.verdicts.Verdict.TheVariants.{Commits, Throw
 use Rattle.stm_terms.specs.Views.{no_changes, find}
 use Rattle.stm_terms.specs.Typing.{Kinds, type_of, Rising}
 use Rattle.stm_store.specs.declared.cell.Cell.{Cell}
+use Rattle.stm_store.specs.declared.ready.Applied.{Applied}
 
 -- a cell without its count, as blocks see it
 abbrev pub plain : Cell → Ty × Value
@@ -104,3 +105,23 @@ abbrev pub made_by : Verdict → List (Ty × Value)
 made_by (Commits writes news result) = news
 made_by (Throws f) = []
 made_by Blocks = []
+
+-- what is told of a verdict that was applied
+abbrev pub told : List Cell → Verdict → Applied
+told cells verdict = record { first_new = length cells; result = result_there cells verdict }
+
+-- the value that a verdict writes to a variable
+abbrev pub written_by : Verdict → ℕ → Option Value
+written_by (Commits writes news result) i = find i writes
+written_by (Throws f) i = None
+written_by Blocks i = None
+
+abbrev pub after_write : ℕ → Option Value → Cell → Cell
+after_write n (Some v) c = rewritten n v c
+after_write n None c = c
+
+-- What applying a verdict means, variable by variable: one that the verdict writes has the value written and is counted
+-- once more, any other is as it was; and the new cells come behind them, in order.
+pub record IsApplied (old : List Cell) (verdict : Verdict) (new : List Cell) : Type 0 where
+  pub olds : (i : ℕ) → i < length old → slice_get new i ≡ option_map (after_write (length old) (written_by verdict i)) (slice_get old i)
+  pub news : (k : ℕ) → slice_get new (length old + k) ≡ option_map (new_cell (length old)) (slice_get (made_by verdict) k)

@@ -1,3 +1,6 @@
 pub mod Cells
+pub mod Changes
 pub mod Entries
+pub mod Pages
+pub mod Suits
 pub mod Tables

@@ -1,11 +1,13 @@
 //! An unchanging copy of a store.
 
-ghost use Rattle.std.specs.Prelude.{◌≡◌, ◌<◌, ◌≤◌, Some, length};
+ghost use Rattle.std.specs.Prelude.{◌≡◌, ◌<◌, ◌≤◌, ◌↔◌, Some, length, IsTrue, IfOk};
 ghost use Rattle.stm_terms.specs.Views.{cell_value};
-ghost use Rattle.stm_store.specs.Cells.{StoreIsTyped, StoreIsLow, IsStore, kinds_of, plains};
+ghost use Rattle.stm_store.specs.Cells.{StoreIsTyped, StoreIsLow, IsStore, Covers, kinds_of, plains};
 
+use crate::covers::covers;
 use crate::list::CellList;
 use std::marker::Model;
+use stm_terms::NoMemory;
 use stm_terms::kinds::Ty;
 use stm_terms::values::Value;
 
@@ -60,5 +62,22 @@ impl Frozen {
         ensures { kinds_of self.now id ≡ Some result }
     {
         self.cells.get(id as usize).kind
+    }
+
+    /// Whether these variables are there with these types.
+    #[tactic(auto, using(crate::proofs::Fitting::covers_from, crate::proofs::Fitting::covers_to))]
+    pub fn covers(&self, uses: &[(u32, Ty)]) -> bool
+        ensures { IsTrue result ↔ Covers self.now uses.now }
+    {
+        covers(&self.cells, uses)
+    }
+
+    /// A second copy of the same content.
+    pub fn share(&self) -> Result<Frozen, NoMemory>
+        ensures { IfOk result (λ f. f ≡ self.now) }
+    {
+        Ok(Frozen {
+            cells: self.cells.share()?,
+        })
     }
 }

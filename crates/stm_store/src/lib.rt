@@ -2,13 +2,20 @@
 #![tactic(auto)]
 
 pub mod cell;
+mod change;
+mod covers;
+mod fits;
 pub mod frozen;
 mod list;
+mod page;
+mod part;
+pub mod ready;
 pub mod store;
-mod suits;
 pub mod table;
+mod types;
 
 pub use cell::Cell;
 pub use frozen::Frozen;
+pub use ready::{Applied, ApplyError, Ready};
 pub use store::Store;
 pub use table::{DeclareError, Table};

@@ -1,19 +1,24 @@
 //! The store.
 
-ghost use Rattle.std.specs.Prelude.{◌≡◌, ◌<◌, ◌≤◌, Some, length, slice_get, option_map, IfOk};
+ghost use Rattle.std.specs.Prelude.{◌≡◌, ◌+◌, ◌<◌, ◌≤◌, ◌↔◌, Some, length, slice_get, option_map, IsTrue, IfOk, OnOk, OnErr, IsErrOf};
 ghost use Rattle.stm_terms.specs.Views.{cell_value};
-ghost use Rattle.stm_store.specs.Cells.{StoreIsTyped, StoreIsLow, kinds_of, plains};
+ghost use Rattle.stm_store.specs.Cells.{StoreIsTyped, StoreIsLow, Covers, Fits, IsApplied, kinds_of, plains, applied, result_there, made_by, told};
 ghost use Rattle.stm_store.specs.Tables.{opened};
 
 use crate::cell::Cell;
+use crate::change::{changed, settle};
+use crate::covers::covers;
+use crate::fits::fits;
 use crate::frozen::Frozen;
 use crate::list::CellList;
+use crate::ready::{Applied, ApplyError, Ready};
 use crate::table::Table;
 use std::alloc::Global;
 use std::marker::Model;
 use stm_terms::NoMemory;
 use stm_terms::kinds::Ty;
 use stm_terms::values::Value;
+use stm_terms::verdicts::Verdict;
 
 /// The variables with their types, their values, and how many finished blocks wrote each.
 #[derive(Drop)]
@@ -34,6 +39,9 @@ impl Model for Store {
 }
 
 impl Store {
+    /// How many variables a store may have.
+    pub const LIMIT: usize = Table::LIMIT;
+
     /// A store with the variables of a table, which no block has written.
     pub fn open(alloc: Global, table: &Table) -> Result<Store, NoMemory>
         ensures { IfOk result (λ s. s ≡ opened table.now) }
@@ -89,5 +97,85 @@ impl Store {
         ensures { IfOk result (λ f. f ≡ plains self.now) }
     {
         Ok(Frozen::of(self.cells.share()?))
+    }
+
+    /// Whether these variables are there with these types.
+    #[tactic(auto, using(crate::proofs::Fitting::covers_from, crate::proofs::Fitting::covers_to))]
+    pub fn covers(&self, uses: &[(u32, Ty)]) -> bool
+        ensures { IsTrue result ↔ Covers (plains self.now) uses.now }
+    {
+        covers(&self.cells, uses)
+    }
+
+    /// Whether a verdict can be applied.
+    pub fn fits(&self, verdict: &Verdict) -> bool
+        ensures { IsTrue result ↔ Fits (plains self.now) verdict.now }
+    {
+        fits(&self.cells, verdict)
+    }
+
+    /// Makes the writes and the new variables of a verdict that fits.
+    ///
+    /// The k-th new variable gets the number `first_new + k`, wherever the verdict refers to it.
+    #[tactic(auto, using(crate::proofs::Lookups::is_applied))]
+    pub fn apply(&mut self, verdict: &Verdict) -> Result<Applied, ApplyError>
+        requires { Fits (plains self.old) verdict.now }
+        ensures applied { OnOk result (self.new ≡ applied self.old verdict.now) }
+        ensures each { OnOk result (IsApplied self.old verdict.now self.new) }
+        ensures told { IfOk result (λ a. (a.first_new ≡ length self.old) × (a.result ≡ result_there self.old verdict.now)) }
+        ensures room { OnOk result (length self.old + length (made_by verdict.now) ≤ 1000000) }
+        ensures full { IsErrOf result ApplyError.CellsFull → 1000000 < length self.old + length (made_by verdict.now) }
+        ensures no_memory { IsErrOf result ApplyError.NoMemory → length self.old + length (made_by verdict.now) ≤ 1000000 }
+        ensures err { OnErr result (self.new ≡ self.old) }
+    {
+        let ready = self.prepare(verdict)?;
+        Ok(self.install(ready))
+    }
+
+    /// The first step of `apply`: takes the memory for it and changes nothing. `install` is the second.
+    pub fn prepare(&self, verdict: &Verdict) -> Result<Ready, ApplyError>
+        requires { Fits (plains self.now) verdict.now }
+        ensures ready { IfOk result (λ r. r ≡ (applied self.now verdict.now, told self.now verdict.now)) }
+        ensures room { OnOk result (length self.now + length (made_by verdict.now) ≤ 1000000) }
+        ensures full { IsErrOf result ApplyError.CellsFull → 1000000 < length self.now + length (made_by verdict.now) }
+        ensures no_memory { IsErrOf result ApplyError.NoMemory → length self.now + length (made_by verdict.now) ≤ 1000000 }
+    {
+        let first_new = self.cells.len();
+        match verdict {
+            Verdict::Commits {
+                writes,
+                news,
+                result,
+            } => {
+                let writes = writes.as_slice();
+                let news = news.as_slice();
+                if news.len() > Store::LIMIT - first_new {
+                    return Err(ApplyError::CellsFull);
+                }
+                let cells = changed(&self.cells, writes, news)?;
+                let applied = Applied {
+                    first_new: first_new as u32,
+                    result: Some(settle(first_new as u32, *result)),
+                };
+                Ok(Ready { cells, applied })
+            }
+            _ => {
+                let cells = self.cells.share()?;
+                let applied = Applied {
+                    first_new: first_new as u32,
+                    result: None,
+                };
+                Ok(Ready { cells, applied })
+            }
+        }
+    }
+
+    /// The second step of `apply`: installs the cells. It takes no memory.
+    pub fn install(&mut self, ready: Ready) -> Applied
+        ensures cells { self.new ≡ ready.0 }
+        ensures told { result ≡ ready.1 }
+    {
+        self.cells = ready.cells;
+        ready.applied
     }
 }

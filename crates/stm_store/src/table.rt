@@ -5,7 +5,7 @@ ghost use Rattle.stm_terms.specs.Names.{is_name_text};
 ghost use Rattle.stm_store.specs.Cells.{StoreIsTyped, StoreIsLow, kinds_of};
 ghost use Rattle.stm_store.specs.Tables.{Declared, declared_cells, number_of, is_of, may_hold, declare_refusal, refusal_told, NamesAreNames, NamesAreDistinct};
 
-use crate::suits::{plain_type, refers_to};
+use crate::types::{plain_type, refers_to};
 use indexmap::IndexMap;
 use std::alloc::{AllocError, Global};
 use std::marker::Model;

@@ -1,0 +1,152 @@
+-- An item's page and its place in the page.
+use Rattle.std.proofs.Common.{◌≡◌, ℕ, zero, suc, ◌+◌, ◌-◌, ◌*◌, ◌<◌, ◌≤◌, List, [], ◌∷◌, ◌++◌, length, get_or, set, refl, sym, ap, ◌∙◌, arith, length-append, append_assoc, append-nil, length-set}
+use Rattle.std.specs.Prelude.{min, slice_get, Result, Ok, Err, OnErr}
+use Rattle.std.proofs.lemmas.List.{set-append_left, length-map, map-set, map-append}
+use Rattle.std.specs.declared.alloc.Global.{Global}
+use Rattle.std.specs.declared.sync.Arc.{Arc}
+use Rattle.std.specs.Arc.{arc_value}
+use Rattle.stm_store.specs.Pages.{contents, flatten, ArePages}
+
+pub on_err : {T E Q : Type 0} (r : Result T E) → Q → OnErr r Q
+on_err (Ok x) q = tt
+on_err (Err e) q = q
+
+module _ {A : Type 0} where
+  pub get_left : (xs ys : List A) (i : ℕ) → i < length xs → slice_get (xs ++ ys) i ≡ slice_get xs i
+  get_left [] ys i h = absurd (omega arith)
+  get_left (x ∷ xs) ys zero h = refl
+  get_left (x ∷ xs) ys (suc i) h = get_left xs ys i (omega arith)
+
+  pub get_right : (xs ys : List A) (i j : ℕ) → i ≡ length xs + j → slice_get (xs ++ ys) i ≡ slice_get ys j
+  get_right [] ys i j e = let same : i ≡ j = omega arith in ap (slice_get ys) same
+  get_right (x ∷ xs) ys zero j e = absurd (omega arith)
+  get_right (x ∷ xs) ys (suc i) j e = get_right xs ys i j (omega arith)
+
+  set_right : (xs ys : List A) (i j : ℕ) (v : A) → i ≡ length xs + j → set (xs ++ ys) i v ≡ xs ++ set ys j v
+  set_right [] ys i j v e = let same : i ≡ j = omega arith in ap (λ (n : ℕ). set ys n v) same
+  set_right (x ∷ xs) ys zero j v e = absurd (omega arith)
+  set_right (x ∷ xs) ys (suc i) j v e = ap (λ (zs : List A). x ∷ zs) (set_right xs ys i j v (omega arith))
+
+  -- the page behind the i-th pointer
+  pub get_content : (ptrs : List (Arc (List A) Global)) (i : ℕ) (a : Arc (List A) Global) → i < length ptrs → a ≡ get_or ptrs i a → arc_value a ≡ get_or (contents ptrs) i []
+  get_content [] i a h e = absurd (omega arith)
+  get_content (b ∷ ptrs) zero a h e = ap arc_value e
+  get_content (b ∷ ptrs) (suc i) a h e = get_content ptrs i a (omega arith) e
+
+module _ {A : Type 0} (s : ℕ) (full : 0 < s) where
+  pub length-flatten : (n : ℕ) (ps : List (List A)) → ArePages s n ps → length (flatten ps) ≡ n
+  length-flatten n [] f = sym f
+  length-flatten n (p ∷ ps) f = omega (arith, length-append p (flatten ps), length-flatten (n - s) ps f.2, f.0, f.1)
+
+  pub page_within : (n : ℕ) (ps : List (List A)) (i p : ℕ) → ArePages s n ps → s * p ≤ i → i < n → p < length ps
+  page_within n [] i p f l h = absurd (omega (arith, f))
+  page_within n (q ∷ ps) i zero f l h = omega arith
+  page_within n (q ∷ ps) i (suc p) f l h = omega (arith, page_within (n - s) ps (i - s) p f.2 (omega arith) (omega arith))
+
+  pub page_length : (n : ℕ) (ps : List (List A)) (p : ℕ) → ArePages s n ps → p < length ps → length (get_or ps p []) ≡ min s (n - s * p)
+  page_length n [] p f h = absurd (omega arith)
+  page_length n (q ∷ ps) zero f h = omega (arith, f.1)
+  page_length n (q ∷ ps) (suc p) f h = omega (arith, page_length (n - s) ps p f.2 (omega arith))
+
+  pub get_flatten : (n : ℕ) (ps : List (List A)) (p k i : ℕ) → ArePages s n ps → i < n → k < s → i ≡ s * p + k → slice_get (flatten ps) i ≡ slice_get (get_or ps p []) k
+  get_flatten n [] p k i f h less e = absurd (omega (arith, f))
+  get_flatten n (q ∷ ps) zero k i f h less e =
+      let same : i ≡ k = omega arith in
+      ap (slice_get (q ++ flatten ps)) same ∙ get_left q (flatten ps) k (omega (arith, f.1))
+  get_flatten n (q ∷ ps) (suc p) k i f h less e =
+      get_right q (flatten ps) i (s * p + k) (omega (arith, f.1)) ∙ get_flatten (n - s) ps p k (s * p + k) f.2 (omega arith) less refl
+
+  pub set_flatten : (n : ℕ) (ps : List (List A)) (p k i : ℕ) (v : A) → ArePages s n ps → i < n → k < s → i ≡ s * p + k → set (flatten ps) i v ≡ flatten (set ps p (set (get_or ps p []) k v))
+  set_flatten n [] p k i v f h less e = absurd (omega (arith, f))
+  set_flatten n (q ∷ ps) zero k i v f h less e =
+      let same : i ≡ k = omega arith in
+      rw same (set-append_left q (flatten ps) k v (omega (arith, f.1)))
+  set_flatten n (q ∷ ps) (suc p) k i v f h less e =
+      set_right q (flatten ps) i (s * p + k) v (omega (arith, f.1)) ∙ ap (λ (zs : List A). q ++ zs) (set_flatten (n - s) ps p k (s * p + k) v f.2 (omega arith) less refl)
+
+  -- a page in the place of one of its length
+  pub pages-set : (n : ℕ) (ps : List (List A)) (p : ℕ) (q : List A) → ArePages s n ps → length q ≡ length (get_or ps p []) → ArePages s n (set ps p q)
+  pages-set n [] p q f e = f
+  pages-set n (r ∷ ps) zero q f e = (f.0, e ∙ f.1, f.2)
+  pages-set n (r ∷ ps) (suc p) q f e = (f.0, f.1, pages-set (n - s) ps p q f.2 e)
+
+  pub flatten-set_same : (ps : List (List A)) (p : ℕ) → flatten (set ps p (get_or ps p [])) ≡ flatten ps
+  flatten-set_same [] p = refl
+  flatten-set_same (q ∷ ps) zero = refl
+  flatten-set_same (q ∷ ps) (suc p) = ap (λ (zs : List A). q ++ zs) (flatten-set_same ps p)
+
+  -- a cell more, on a page of its own
+  pub flatten-push : (ps : List (List A)) (q : List A) → flatten (ps ++ q ∷ []) ≡ flatten ps ++ q
+  flatten-push [] q = append-nil q
+  flatten-push (p ∷ ps) q = ap (λ (zs : List A). p ++ zs) (flatten-push ps q) ∙ sym (append_assoc p (flatten ps) q)
+
+  pub pages-push : (n : ℕ) (ps : List (List A)) (p : ℕ) (c : A) → ArePages s n ps → n ≡ s * p → ArePages s (n + 1) (ps ++ (c ∷ []) ∷ [])
+  pages-push n [] p c f e = (omega (arith, f), omega (arith, f), omega (arith, f))
+  pages-push n (q ∷ ps) zero c f e = absurd (omega (arith, f.0))
+  pages-push n (q ∷ ps) (suc p) c f e =
+      let same : n + 1 - s ≡ n - s + 1 = omega arith in
+      (omega arith, omega (arith, f.1), rw same (pages-push (n - s) ps p c f.2 (omega arith)))
+
+  -- a cell more, on the last page
+  pub flatten-extend : (n : ℕ) (ps : List (List A)) (p k : ℕ) (c : A) → ArePages s n ps → n ≡ s * p + k → 0 < k → k < s → flatten (set ps p (get_or ps p [] ++ c ∷ [])) ≡ flatten ps ++ c ∷ []
+  flatten-extend n [] p k c f e h less = absurd (omega (arith, f))
+  flatten-extend n (q ∷ []) zero k c f e h less = append-nil (q ++ c ∷ []) ∙ ap (λ (zs : List A). zs ++ c ∷ []) (sym (append-nil q))
+  flatten-extend n (q ∷ r ∷ ps) zero k c f e h less = absurd (omega (arith, f.2.0))
+  flatten-extend n (q ∷ ps) (suc p) k c f e h less =
+      ap (λ (zs : List A). q ++ zs) (flatten-extend (n - s) ps p k c f.2 (omega arith) h less) ∙ sym (append_assoc q (flatten ps) (c ∷ []))
+
+  pub pages-extend : (n : ℕ) (ps : List (List A)) (p k : ℕ) (c : A) → ArePages s n ps → n ≡ s * p + k → 0 < k → k < s → ArePages s (n + 1) (set ps p (get_or ps p [] ++ c ∷ []))
+  pages-extend n [] p k c f e h less = absurd (omega (arith, f))
+  pages-extend n (q ∷ ps) zero k c f e h less =
+      let same : n + 1 - s ≡ n - s = omega arith in
+      (omega arith, omega (arith, f.1, length-append q (c ∷ [])), rw same f.2)
+  pages-extend n (q ∷ ps) (suc p) k c f e h less =
+      let same : n + 1 - s ≡ n - s + 1 = omega arith in
+      (omega arith, omega (arith, f.1), rw same (pages-extend (n - s) ps p k c f.2 (omega arith) h less))
+
+  -- a list of pointers to pages: facts that a change of one pointer keeps
+  pub record Kept (n : ℕ) (ptrs : List (Arc (List A) Global)) (cells : List A) : Type 0 where
+    pub pages : ArePages s n (contents ptrs)
+    pub cells_are : flatten (contents ptrs) ≡ cells
+
+  pub within : (n : ℕ) (ptrs : List (Arc (List A) Global)) (i p : ℕ) → ArePages s n (contents ptrs) → s * p ≤ i → i < n → p < length ptrs
+  within n ptrs i p f l h = omega (arith, page_within n (contents ptrs) i p f l h, length-map ptrs arc_value)
+
+  pub page_at : (n : ℕ) (ptrs : List (Arc (List A) Global)) (p : ℕ) (a : Arc (List A) Global) → ArePages s n (contents ptrs) → p < length ptrs → a ≡ get_or ptrs p a → length (arc_value a) ≡ min s (n - s * p)
+  page_at n ptrs p a f h e = ap length (get_content ptrs p a h e) ∙ page_length n (contents ptrs) p f (omega (arith, length-map ptrs arc_value))
+
+  pub kept-set : (n : ℕ) (ptrs : List (Arc (List A) Global)) (p k i : ℕ) (a b : Arc (List A) Global) (v : A) → ArePages s n (contents ptrs) → i < n → k < s → i ≡ s * p + k → a ≡ get_or ptrs p a → arc_value b ≡ set (arc_value a) k v → Kept n (set ptrs p b) (set (flatten (contents ptrs)) i v)
+  kept-set n ptrs p k i a b v f h less e at is =
+      let w = within n ptrs i p f (omega arith) h in
+      let q = get_content ptrs p a w at in
+      let b_is : arc_value b ≡ set (get_or (contents ptrs) p []) k v = is ∙ ap (λ (xs : List A). set xs k v) q in
+      record {
+        pages = rw map-set (pages-set n (contents ptrs) p (arc_value b) f (ap length b_is ∙ length-set (get_or (contents ptrs) p []) k v));
+        cells_are = rw (map-set, b_is) (sym (set_flatten n (contents ptrs) p k i v f h less e));
+      }
+
+  pub kept-same : (n : ℕ) (ptrs : List (Arc (List A) Global)) (p : ℕ) (a b : Arc (List A) Global) → ArePages s n (contents ptrs) → p < length ptrs → a ≡ get_or ptrs p a → arc_value b ≡ arc_value a → Kept n (set ptrs p b) (flatten (contents ptrs))
+  kept-same n ptrs p a b f w at is =
+      let b_is : arc_value b ≡ get_or (contents ptrs) p [] = is ∙ get_content ptrs p a w at in
+      record {
+        pages = rw map-set (pages-set n (contents ptrs) p (arc_value b) f (ap length b_is));
+        cells_are = rw (map-set, b_is) (flatten-set_same (contents ptrs) p);
+      }
+
+  -- the last page, where it has room
+  pub last_within : (n : ℕ) (ptrs : List (Arc (List A) Global)) (p k : ℕ) → ArePages s n (contents ptrs) → n ≡ s * p + k → 0 < k → p < length ptrs
+  last_within n ptrs p k f e h = within n ptrs (n - 1) p f (omega arith) (omega arith)
+
+  pub kept-extend : (n : ℕ) (ptrs : List (Arc (List A) Global)) (p k : ℕ) (a b : Arc (List A) Global) (v : A) → ArePages s n (contents ptrs) → n ≡ s * p + k → 0 < k → k < s → p < length ptrs → a ≡ get_or ptrs p a → arc_value b ≡ arc_value a ++ v ∷ [] → Kept (n + 1) (set ptrs p b) (flatten (contents ptrs) ++ v ∷ [])
+  kept-extend n ptrs p k a b v f e h less w at is =
+      let b_is : arc_value b ≡ get_or (contents ptrs) p [] ++ v ∷ [] = is ∙ ap (λ (xs : List A). xs ++ v ∷ []) (get_content ptrs p a w at) in
+      record {
+        pages = rw (map-set, b_is) (pages-extend n (contents ptrs) p k v f e h less);
+        cells_are = rw (map-set, b_is) (flatten-extend n (contents ptrs) p k v f e h less);
+      }
+
+  pub kept-push : (n : ℕ) (ptrs : List (Arc (List A) Global)) (p : ℕ) (b : Arc (List A) Global) (v : A) → ArePages s n (contents ptrs) → n ≡ s * p → arc_value b ≡ v ∷ [] → Kept (n + 1) (ptrs ++ b ∷ []) (flatten (contents ptrs) ++ v ∷ [])
+  kept-push n ptrs p b v f e is = record {
+    pages = rw (map-append, is) (pages-push n (contents ptrs) p v f e);
+    cells_are = rw (map-append, is) (flatten-push (contents ptrs) (v ∷ []));
+  }

@@ -1,0 +1,20 @@
+-- A list in pages.
+use Rattle.std.specs.Prelude.{◌≡◌, ℕ, ◌<◌, ◌-◌, min, List, [], ◌∷◌, ◌++◌, map, length}
+use Rattle.std.specs.declared.alloc.Global.{Global}
+use Rattle.std.specs.declared.sync.Arc.{Arc}
+use Rattle.std.specs.Arc.{arc_value}
+
+module _ {A : Type 0} where
+  -- the pages behind their pointers
+  abbrev pub contents : List (Arc (List A) Global) → List (List A)
+  contents pages = map arc_value pages
+
+  -- the items, page after page
+  abbrev pub flatten : List (List A) → List A
+  flatten [] = []
+  flatten (p ∷ ps) = p ++ flatten ps
+
+  -- n items in pages of s, the last of which may have fewer
+  abbrev pub ArePages : ℕ → ℕ → List (List A) → Type 0
+  ArePages s n [] = n ≡ 0
+  ArePages s n (p ∷ ps) = (0 < n) × (length p ≡ min s n) × ArePages s (n - s) ps
