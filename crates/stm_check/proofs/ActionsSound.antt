@@ -20,22 +20,22 @@ some_or_none : {A : Type 0} (o : Option A) → (o ≡ None) ⊎ ((x : A) × (o �
 some_or_none None = inl refl
 some_or_none (Some x) = inr (x, refl)
 
-same_some : {A : Type 0} (x y : A) → Some x ≡ Some y → x ≡ y
+pub same_some : {A : Type 0} (x y : A) → Some x ≡ Some y → x ≡ y
 same_some x y e = cc
 
-mapped : {A B : Type 0} (f : A → B) (o : Option A) (t : B) → option_map f o ≡ Some t → (u : A) × (o ≡ Some u) × (f u ≡ t)
+pub mapped : {A B : Type 0} (f : A → B) (o : Option A) (t : B) → option_map f o ≡ Some t → (u : A) × (o ≡ Some u) × (f u ≡ t)
 mapped f (Some u) t e = (u, refl, same_some _ _ e)
 mapped f None t e = absurd (cc)
 
-if_some : {A : Type 0} (b : Bool) (o : Option A) (r : A) → (if b then o else None) ≡ Some r → (b ≡ true) × (o ≡ Some r)
+pub if_some : {A : Type 0} (b : Bool) (o : Option A) (r : A) → (if b then o else None) ≡ Some r → (b ≡ true) × (o ≡ Some r)
 if_some true o r e = (refl, e)
 if_some false o r e = absurd (cc)
 
-with_result_some : (o : Option ActionType) (go : ActionType → Option ActionType) (r : ActionType) → with_result o go ≡ Some r → (s : ActionType) × (o ≡ Some s) × (go s ≡ Some r)
+pub with_result_some : (o : Option ActionType) (go : ActionType → Option ActionType) (r : ActionType) → with_result o go ≡ Some r → (s : ActionType) × (o ≡ Some s) × (go s ≡ Some r)
 with_result_some (Some s) go r e = (s, refl, e)
 with_result_some None go r e = absurd (cc)
 
-with_bound_some : (s : ActionType) (go : Ty → Option ActionType) (r : ActionType) → with_bound s go ≡ Some r → (t : Ty) × (s ≡ Gives t) × (go t ≡ Some r)
+pub with_bound_some : (s : ActionType) (go : Ty → Option ActionType) (r : ActionType) → with_bound s go ≡ Some r → (t : Ty) × (s ≡ Gives t) × (go t ≡ Some r)
 with_bound_some (Gives t) go r e = (t, refl, e)
 with_bound_some Any go r e = absurd (cc)
 

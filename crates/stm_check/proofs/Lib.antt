@@ -1,4 +1,14 @@
 pub mod ActionsSound
+pub mod CheckedResolved
+pub mod CheckedTyped
+pub mod Complete
 pub mod Covering
+pub mod Depth
+pub mod EnoughKinds
+pub mod Exactness
 pub mod ExpressionsSound
+pub mod Kept
+pub mod Noted
+pub mod SameTypes
 pub mod Soundness
+pub mod UsesApart

@@ -1,14 +1,20 @@
--- Soundness of typing, as statements.
-use Rattle.std.specs.Prelude.{◌≡◌, ◌≢◌, ℕ, List, [], Option, Some}
+-- What typing promises, and how the check is tied to it.
+use Rattle.std.specs.Prelude.{◌≡◌, ◌≢◌, ◌↔◌, ℕ, List, [], ◌∷◌, Option, Some, None, Ok, Err}
 use Rattle.stm_terms.specs.declared.kinds.Ty.{Ty}
 use Rattle.stm_terms.specs.declared.values.Value.{Value}
 use Rattle.stm_terms.specs.declared.verdicts.Verdict.{Verdict}
 use Rattle.stm_terms.specs.Trees.{Act}
+use Rattle.stm_terms.specs.RawTrees as raw
 use Rattle.stm_terms.specs.Views.{Variables, Changes, no_changes, cell_value}
 use Rattle.stm_terms.specs.Run.{Returned, Stuck, run}
-use Rattle.stm_terms.specs.Typing.{Kinds, type_of, ActionType, Gives, Any, kinds_in, action_type, WellTyped, HaveTypes}
+use Rattle.stm_terms.specs.Typing.{Kinds, type_of, ActionType, Gives, Any, kinds_in, action_type, uses_of, WellTyped, HaveTypes}
 use Rattle.stm_terms.specs.Verdict.{verdict}
 use Rattle.stm_store.specs.Cells.{kinds_of, StoreIsTyped, Covers, Fits}
+use Rattle.stm_store.specs.Tables.{Declared}
+use Rattle.stm_check.specs.Checking.{table_kinds, checked}
+use Rattle.stm_check.specs.Resolving.{IsAct}
+use Rattle.stm_check.specs.Scopes.{Locals, types_of, names_of}
+use Rattle.stm_check.specs.declared.fault.TypeFault.{TypeFault}
 
 -- a well typed action that runs in a well typed view, under locals of their types, is never stuck
 abbrev pub NeverStuck : Type 0
@@ -42,3 +48,27 @@ VerdictFits =
     (cells : List (Ty × Value)) (uses : List (ℕ × Ty)) (block : Act) (r : ActionType)
     → StoreIsTyped cells → Covers cells uses → action_type (kinds_in uses) [] block ≡ Some r
     → (v : Verdict) × (verdict (cell_value cells) block ≡ Some v) × Fits cells v
+
+-- the check accepts a parsed tree exactly where its names resolve and the tree that they give has a type: that tree, with
+-- that type
+abbrev pub AcceptsTheWellTyped : Type 0
+AcceptsTheWellTyped =
+    (table : List Declared) (text : List ℕ) (parsed : raw.Act) (locals : Locals) (a : Act) (r : ActionType)
+    → (checked table text locals parsed ≡ Ok (a, r))
+    ↔ (IsAct table text (names_of locals) parsed a × (action_type (table_kinds table) (types_of locals) a ≡ Some r))
+
+-- and it tells a fault exactly where no tree that the names give has a type
+abbrev pub FaultsTheIllTyped : Type 0
+FaultsTheIllTyped =
+    (table : List Declared) (text : List ℕ) (parsed : raw.Act) (locals : Locals)
+    → ((f : TypeFault) × (checked table text locals parsed ≡ Err f))
+    ↔ ((a : Act) → IsAct table text (names_of locals) parsed a → action_type (table_kinds table) (types_of locals) a ≡ None)
+
+-- no variable stands twice
+abbrev pub AreApart : List (ℕ × Ty) → Type 0
+AreApart [] = Unit {0}
+AreApart (u ∷ us) = (kinds_in us u.0 ≡ None) × AreApart us
+
+-- a block names each variable once
+abbrev pub UsesAreApart : Type 0
+UsesAreApart = (kinds : Kinds) (a : Act) → AreApart (uses_of kinds a)

@@ -1,8 +1,8 @@
 //! Blocks that are well typed.
 
-ghost use Rattle.std.specs.Prelude.{◌≡◌, ◌≤◌, ◌^◌, ◌↔◌, [], Some, IfOk, IsTrue};
+ghost use Rattle.std.specs.Prelude.{◌≡◌, ◌≤◌, ◌^◌, ◌↔◌, [], Some, IfOk, IsTrue, string_bytes};
 ghost use Rattle.stm_terms.specs.Trees.{act_of};
-ghost use Rattle.stm_terms.specs.Typing.{action_type, result_type, kinds_in, makes};
+ghost use Rattle.stm_terms.specs.Typing.{action_type, result_type as type_of_result, kinds_in, makes};
 
 use std::alloc::Global;
 use std::marker::Model;
@@ -39,10 +39,29 @@ impl Model for Typed {
 }
 
 impl Typed {
+    /// A block that has been checked.
+    pub(crate) fn of_checked(
+        action: Action,
+        text: String,
+        result_type: Option<Ty>,
+        uses: Vec<(u32, Ty)>,
+    ) -> Typed
+        requires typed { action_type (kinds_in uses.items) [] (act_of action) ≡ Some (type_of_result result_type) }
+        requires small { makes (act_of action) ≤ 2 ^ 32 }
+        ensures { result ≡ record { tree = act_of action; text = string_bytes text; gives = result_type; uses = uses.items } }
+    {
+        Typed {
+            action,
+            text,
+            result_type,
+            uses,
+        }
+    }
+
     /// What the block does.
     pub fn action(&self) -> &Action
         ensures action { act_of result.now ≡ self.now.tree }
-        ensures typed { action_type (kinds_in self.now.uses) [] self.now.tree ≡ Some (result_type self.now.gives) }
+        ensures typed { action_type (kinds_in self.now.uses) [] self.now.tree ≡ Some (type_of_result self.now.gives) }
         ensures small { makes self.now.tree ≤ 2 ^ 32 }
     {
         &self.action

@@ -1,0 +1,21 @@
+use Rattle.std.proofs.Common.{◌+◌, ◌*◌}
+use Rattle.stm_terms.specs.RawTrees.{raw_act_of, actions}
+use Rattle.stm_check.proofs.actions.+actions.Given as goal
+
+abbrev pub decreases-check_action : goal.decreases-check_action
+decreases-check_action l = 2 * actions (raw_act_of l.raw.now)
+
+abbrev pub decreases-check_if : goal.decreases-check_if
+decreases-check_if l = 2 * (actions (raw_act_of l.first.now) + actions (raw_act_of l.second.now)) + 1
+
+abbrev pub decreases-check_or_else : goal.decreases-check_or_else
+decreases-check_or_else l = 2 * (actions (raw_act_of l.first.now) + actions (raw_act_of l.second.now)) + 1
+
+abbrev pub decreases-check_bind : goal.decreases-check_bind
+decreases-check_bind l = 2 * (actions (raw_act_of l.bound.now) + actions (raw_act_of l.rest.now)) + 1
+
+abbrev pub decreases-check_let : goal.decreases-check_let
+decreases-check_let l = 2 * actions (raw_act_of l.rest.now) + 1
+
+abbrev pub decreases-check_seq : goal.decreases-check_seq
+decreases-check_seq l = 2 * (actions (raw_act_of l.statement.now) + actions (raw_act_of l.rest.now)) + 1

@@ -1,0 +1,19 @@
+use Rattle.std.proofs.Common.{◌≤◌, ◌^◌, string_bytes, arith}
+use Rattle.stm_terms.specs.Trees.{act_of}
+use Rattle.stm_terms.specs.RawTrees.{raw_act_of, actions}
+use Rattle.stm_terms.specs.Typing.{makes, result_type}
+use Rattle.stm_check.proofs.Kept.{kept_type, kept_small}
+use Rattle.stm_check.proofs.check.check_raw.Goals as goal
+
+pub of_checked-requires-clause-typed : goal.of_checked-requires-clause-typed
+of_checked-requires-clause-typed c =
+    let says = rw c.as_str.ensures.value at c.in_ok-action.ensures.says in
+    let uses = rw c.new-uses.ensures.items at c.in_ok-action.ensures.uses in
+    kept_type c.args.table.now (string_bytes c.args.text) (raw_act_of c.args.raw) (act_of c.in_ok-action.action) (result_type c.in_ok-action.result_type) c.check_action.new.uses.items says uses
+
+pub of_checked-requires-clause-small : goal.of_checked-requires-clause-small
+of_checked-requires-clause-small c =
+    let says = rw c.as_str.ensures.value at c.in_ok-action.ensures.says in
+    let few : makes (act_of c.in_ok-action.action) ≤ actions (raw_act_of c.args.raw) =
+    kept_small c.args.table.now (string_bytes c.args.text) (raw_act_of c.args.raw) (act_of c.in_ok-action.action) (result_type c.in_ok-action.result_type) says in
+    omega arith

@@ -1,0 +1,34 @@
+-- The locals in scope.
+use Rattle.std.specs.Prelude.{ℕ, ◌≤◌, List, [], ◌∷◌, ◌++◌, length, Option, Some, None, if◌then◌else◌}
+use Rattle.std.specs.Str.{bytes_eq}
+use Rattle.stm_terms.specs.declared.kinds.Ty.{Ty}
+use Rattle.stm_check.specs.declared.scope.Scope.{Scope}
+use Rattle.stm_check.specs.declared.scope.Scope.TheVariants as S
+
+-- names with types, innermost first
+abbrev pub Locals : Type 0
+Locals = List (List ℕ × Ty)
+
+abbrev pub scope : Scope → Locals
+scope S.Empty = []
+scope (S.Local' name kind p outer) = (name.now, kind) ∷ scope outer
+
+-- the innermost local of a name: its number, counted from the outermost, and its type
+abbrev pub innermost : List ℕ → Locals → Option (ℕ × Ty)
+innermost name [] = None
+innermost name (l ∷ outer) = if bytes_eq l.0 name then Some (length outer, l.1) else innermost name outer
+
+-- the types, outermost first
+abbrev pub types_of : Locals → List Ty
+types_of [] = []
+types_of (l ∷ outer) = types_of outer ++ l.1 ∷ []
+
+-- the names, innermost first
+abbrev pub names_of : Locals → List (List ℕ)
+names_of [] = []
+names_of (l ∷ outer) = l.0 ∷ names_of outer
+
+-- each type has at most 9 `TVar`
+abbrev pub ScopeIsLow : Locals → Type 0
+ScopeIsLow [] = Unit {0}
+ScopeIsLow (l ∷ outer) = (l.1.refs ≤ 9) × ScopeIsLow outer

@@ -1,0 +1,280 @@
+//! The check of actions.
+
+ghost use Rattle.std.specs.Prelude.{◌≡◌, IfOk};
+ghost use Rattle.stm_terms.specs.Trees.{act_of};
+ghost use Rattle.stm_terms.specs.RawTrees as raw;
+ghost use Rattle.stm_terms.specs.RawTrees.{raw_term_of, raw_act_of};
+ghost use Rattle.stm_terms.specs.Typing.{result_type};
+ghost use Rattle.stm_check.specs.Checking.{Says};
+ghost use Rattle.stm_check.specs.Walk.{CanCheck, act_found, noted_act, IsLow};
+
+use crate::expressions::{check_expr, name_at, place};
+use crate::fault::TypeFault;
+use crate::scope::{Names, Scope};
+use crate::types::{BOOL, INT, UNIT, inside, join, reference_to, same};
+use std::alloc::Global;
+use stm_terms::action::Action;
+use stm_terms::kinds::Ty;
+use stm_terms::raw::{RawAction, RawExpr};
+
+/// An action with its names resolved, and the type of its result, with none for any.
+type Checked = Result<(Action, Option<Ty>), TypeFault>;
+
+fn check_return(
+    alloc: Global,
+    names: &Names,
+    uses: &mut Vec<(u32, Ty)>,
+    value: &RawExpr,
+) -> Checked
+    requires { CanCheck names.now (raw.return (raw_term_of value.now)) }
+    ensures says { Says (λ r. (act_of r.0, result_type r.1)) result (act_found names.now (raw.return (raw_term_of value.now))) }
+    ensures uses { IfOk result (λ r. uses.new.items ≡ noted_act names.now (act_of r.0) uses.old.items) }
+    ensures low { IfOk result (λ r. IsLow r.1) }
+{
+    let (value, kind) = check_expr(alloc, names, uses, value)?;
+    Ok((Action::Return(value), Some(kind)))
+}
+
+fn check_read(
+    alloc: Global,
+    names: &Names,
+    uses: &mut Vec<(u32, Ty)>,
+    variable: &RawExpr,
+) -> Checked
+    requires { CanCheck names.now (raw.read (raw_term_of variable.now)) }
+    ensures says { Says (λ r. (act_of r.0, result_type r.1)) result (act_found names.now (raw.read (raw_term_of variable.now))) }
+    ensures uses { IfOk result (λ r. uses.new.items ≡ noted_act names.now (act_of r.0) uses.old.items) }
+    ensures low { IfOk result (λ r. IsLow r.1) }
+{
+    let (reference, kind) = check_expr(alloc, names, uses, variable)?;
+    match inside(kind) {
+        Some(cell) => Ok((Action::Read(reference), Some(cell))),
+        None => Err(TypeFault::NotAVariable(place(variable))),
+    }
+}
+
+#[tactic(auto, using(crate::proofs::Noted::note_all_append))]
+fn check_write(
+    alloc: Global,
+    names: &Names,
+    uses: &mut Vec<(u32, Ty)>,
+    variable: &RawExpr,
+    value: &RawExpr,
+) -> Checked
+    requires { CanCheck names.now (raw.write (raw_term_of variable.now) (raw_term_of value.now)) }
+    ensures says { Says (λ r. (act_of r.0, result_type r.1)) result (act_found names.now (raw.write (raw_term_of variable.now) (raw_term_of value.now))) }
+    ensures uses { IfOk result (λ r. uses.new.items ≡ noted_act names.now (act_of r.0) uses.old.items) }
+    ensures low { IfOk result (λ r. IsLow r.1) }
+{
+    let (reference, kind) = check_expr(alloc, names, uses, variable)?;
+    let Some(cell) = inside(kind) else {
+        return Err(TypeFault::NotAVariable(place(variable)));
+    };
+    let (written, given) = check_expr(alloc, names, uses, value)?;
+    if !same(given, cell) {
+        return Err(TypeFault::Mismatch(place(value)));
+    }
+    Ok((Action::Write(reference, written), Some(UNIT)))
+}
+
+fn check_make(
+    alloc: Global,
+    names: &Names,
+    uses: &mut Vec<(u32, Ty)>,
+    value: &RawExpr,
+) -> Checked
+    requires { CanCheck names.now (raw.make (raw_term_of value.now)) }
+    ensures says { Says (λ r. (act_of r.0, result_type r.1)) result (act_found names.now (raw.make (raw_term_of value.now))) }
+    ensures uses { IfOk result (λ r. uses.new.items ≡ noted_act names.now (act_of r.0) uses.old.items) }
+    ensures low { IfOk result (λ r. IsLow r.1) }
+{
+    let (first, kind) = check_expr(alloc, names, uses, value)?;
+    if kind.refs > 8 {
+        return Err(TypeFault::TypeTooDeep(place(value)));
+    }
+    Ok((Action::Make(kind, first), Some(reference_to(kind))))
+}
+
+fn check_throw(
+    alloc: Global,
+    names: &Names,
+    uses: &mut Vec<(u32, Ty)>,
+    number: &RawExpr,
+) -> Checked
+    requires { CanCheck names.now (raw.throw (raw_term_of number.now)) }
+    ensures says { Says (λ r. (act_of r.0, result_type r.1)) result (act_found names.now (raw.throw (raw_term_of number.now))) }
+    ensures uses { IfOk result (λ r. uses.new.items ≡ noted_act names.now (act_of r.0) uses.old.items) }
+    ensures low { IfOk result (λ r. IsLow r.1) }
+{
+    let (thrown, kind) = check_expr(alloc, names, uses, number)?;
+    if !same(kind, INT) {
+        return Err(TypeFault::Mismatch(place(number)));
+    }
+    Ok((Action::Throw(thrown), None))
+}
+
+#[cycle(actions)]
+#[tactic(auto, using(crate::proofs::Noted::note_all_append))]
+fn check_if(
+    alloc: Global,
+    names: &Names,
+    uses: &mut Vec<(u32, Ty)>,
+    condition: &RawExpr,
+    first: &RawAction,
+    at: usize,
+    second: &RawAction,
+) -> Checked
+    requires { CanCheck names.now (raw.choose (raw_term_of condition.now) (raw_act_of first.now) at (raw_act_of second.now)) }
+    ensures says { Says (λ r. (act_of r.0, result_type r.1)) result (act_found names.now (raw.choose (raw_term_of condition.now) (raw_act_of first.now) at (raw_act_of second.now))) }
+    ensures uses { IfOk result (λ r. uses.new.items ≡ noted_act names.now (act_of r.0) uses.old.items) }
+    ensures low { IfOk result (λ r. IsLow r.1) }
+{
+    let (test, kind) = check_expr(alloc, names, uses, condition)?;
+    if !same(kind, BOOL) {
+        return Err(TypeFault::Mismatch(place(condition)));
+    }
+    let (a, one) = check_action(alloc, names, uses, first)?;
+    let (b, other) = check_action(alloc, names, uses, second)?;
+    let Some(kind) = join(one, other) else {
+        return Err(TypeFault::Mismatch(at));
+    };
+    let whole = Action::If(test, Box::new(alloc, a)?, Box::new(alloc, b)?);
+    Ok((whole, kind))
+}
+
+#[cycle(actions)]
+#[tactic(auto, using(crate::proofs::Noted::note_all_append))]
+fn check_or_else(
+    alloc: Global,
+    names: &Names,
+    uses: &mut Vec<(u32, Ty)>,
+    first: &RawAction,
+    at: usize,
+    second: &RawAction,
+) -> Checked
+    requires { CanCheck names.now (raw.or_else (raw_act_of first.now) at (raw_act_of second.now)) }
+    ensures says { Says (λ r. (act_of r.0, result_type r.1)) result (act_found names.now (raw.or_else (raw_act_of first.now) at (raw_act_of second.now))) }
+    ensures uses { IfOk result (λ r. uses.new.items ≡ noted_act names.now (act_of r.0) uses.old.items) }
+    ensures low { IfOk result (λ r. IsLow r.1) }
+{
+    let (a, one) = check_action(alloc, names, uses, first)?;
+    let (b, other) = check_action(alloc, names, uses, second)?;
+    let Some(kind) = join(one, other) else {
+        return Err(TypeFault::Mismatch(at));
+    };
+    let whole = Action::OrElse(Box::new(alloc, a)?, Box::new(alloc, b)?);
+    Ok((whole, kind))
+}
+
+#[cycle(actions)]
+#[tactic(auto, using(crate::proofs::Noted::note_all_append))]
+fn check_bind(
+    alloc: Global,
+    names: &Names,
+    uses: &mut Vec<(u32, Ty)>,
+    local: (usize, usize),
+    at: usize,
+    bound: &RawAction,
+    rest: &RawAction,
+) -> Checked
+    requires { CanCheck names.now (raw.bind local.0 local.1 at (raw_act_of bound.now) (raw_act_of rest.now)) }
+    ensures says { Says (λ r. (act_of r.0, result_type r.1)) result (act_found names.now (raw.bind local.0 local.1 at (raw_act_of bound.now) (raw_act_of rest.now))) }
+    ensures uses { IfOk result (λ r. uses.new.items ≡ noted_act names.now (act_of r.0) uses.old.items) }
+    ensures low { IfOk result (λ r. IsLow r.1) }
+{
+    let (a, kind) = check_action(alloc, names, uses, bound)?;
+    let Some(kind) = kind else {
+        return Err(TypeFault::Untyped(at));
+    };
+    let name = name_at(names.text, local.0, local.1);
+    let inner = Names {
+        table: names.table,
+        text: names.text,
+        locals: &Scope::Local(name, kind, names.locals),
+    };
+    let (b, kind) = check_action(alloc, &inner, uses, rest)?;
+    let whole = Action::Bind(Box::new(alloc, a)?, Box::new(alloc, b)?);
+    Ok((whole, kind))
+}
+
+#[cycle(actions)]
+#[tactic(auto, using(crate::proofs::Noted::note_all_append))]
+fn check_let(
+    alloc: Global,
+    names: &Names,
+    uses: &mut Vec<(u32, Ty)>,
+    local: (usize, usize),
+    value: &RawExpr,
+    rest: &RawAction,
+) -> Checked
+    requires { CanCheck names.now (raw.let_in local.0 local.1 (raw_term_of value.now) (raw_act_of rest.now)) }
+    ensures says { Says (λ r. (act_of r.0, result_type r.1)) result (act_found names.now (raw.let_in local.0 local.1 (raw_term_of value.now) (raw_act_of rest.now))) }
+    ensures uses { IfOk result (λ r. uses.new.items ≡ noted_act names.now (act_of r.0) uses.old.items) }
+    ensures low { IfOk result (λ r. IsLow r.1) }
+{
+    let (a, kind) = check_expr(alloc, names, uses, value)?;
+    let name = name_at(names.text, local.0, local.1);
+    let inner = Names {
+        table: names.table,
+        text: names.text,
+        locals: &Scope::Local(name, kind, names.locals),
+    };
+    let (b, kind) = check_action(alloc, &inner, uses, rest)?;
+    Ok((Action::Let(a, Box::new(alloc, b)?), kind))
+}
+
+#[cycle(actions)]
+#[tactic(auto, using(crate::proofs::Noted::note_all_append))]
+fn check_seq(
+    alloc: Global,
+    names: &Names,
+    uses: &mut Vec<(u32, Ty)>,
+    statement: &RawAction,
+    rest: &RawAction,
+) -> Checked
+    requires { CanCheck names.now (raw.seq (raw_act_of statement.now) (raw_act_of rest.now)) }
+    ensures says { Says (λ r. (act_of r.0, result_type r.1)) result (act_found names.now (raw.seq (raw_act_of statement.now) (raw_act_of rest.now))) }
+    ensures uses { IfOk result (λ r. uses.new.items ≡ noted_act names.now (act_of r.0) uses.old.items) }
+    ensures low { IfOk result (λ r. IsLow r.1) }
+{
+    let (a, _) = check_action(alloc, names, uses, statement)?;
+    let (b, kind) = check_action(alloc, names, uses, rest)?;
+    let whole = Action::Seq(Box::new(alloc, a)?, Box::new(alloc, b)?);
+    Ok((whole, kind))
+}
+
+/// The action with its names resolved, and the type of its result, with none for any; or the first fault.
+#[cycle(actions)]
+pub(crate) fn check_action(
+    alloc: Global,
+    names: &Names,
+    uses: &mut Vec<(u32, Ty)>,
+    raw: &RawAction,
+) -> Checked
+    requires { CanCheck names.now (raw_act_of raw.now) }
+    ensures says { Says (λ r. (act_of r.0, result_type r.1)) result (act_found names.now (raw_act_of raw.now)) }
+    ensures uses { IfOk result (λ r. uses.new.items ≡ noted_act names.now (act_of r.0) uses.old.items) }
+    ensures low { IfOk result (λ r. IsLow r.1) }
+{
+    match raw {
+        RawAction::Return(value) => check_return(alloc, names, uses, value),
+        RawAction::Read(variable) => check_read(alloc, names, uses, variable),
+        RawAction::Write(variable, value) => check_write(alloc, names, uses, variable, value),
+        RawAction::Make(value) => check_make(alloc, names, uses, value),
+        RawAction::Retry => Ok((Action::Retry, None)),
+        RawAction::Throw(number) => check_throw(alloc, names, uses, number),
+        RawAction::If(condition, first, at, second) => {
+            check_if(alloc, names, uses, condition, first, *at, second)
+        }
+        RawAction::OrElse(first, at, second) => {
+            check_or_else(alloc, names, uses, first, *at, second)
+        }
+        RawAction::Bind(from, to, at, bound, rest) => {
+            check_bind(alloc, names, uses, (*from, *to), *at, bound, rest)
+        }
+        RawAction::Let(from, to, value, rest) => {
+            check_let(alloc, names, uses, (*from, *to), value, rest)
+        }
+        RawAction::Seq(statement, rest) => check_seq(alloc, names, uses, statement, rest),
+    }
+}

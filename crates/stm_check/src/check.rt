@@ -1,0 +1,43 @@
+//! The check of a parsed block.
+
+ghost use Rattle.std.specs.Prelude.{◌≡◌, ◌≤◌, ◌^◌, [], IfOk, string_bytes, length};
+ghost use Rattle.std.specs.Str.{IsAscii};
+ghost use Rattle.stm_terms.specs.RawTrees.{raw_act_of, SpansWithin, actions};
+ghost use Rattle.stm_terms.specs.Typing.{result_type, uses_of};
+ghost use Rattle.stm_check.specs.Checking.{Says, checked, table_kinds};
+
+use crate::actions::check_action;
+use crate::block::Typed;
+use crate::fault::TypeFault;
+use crate::scope::{Names, Scope};
+use std::alloc::Global;
+use stm_store::Table;
+use stm_terms::raw::RawAction;
+
+/// The block of a parsed text, well typed, or the first fault from left to right.
+///
+/// Names are resolved: a local has its number, counted from 0 and from the outermost, and a declared variable its number
+/// in the table. Where locals have one name, the innermost is meant; a local hides a declared variable (docs/LANGUAGE.md,
+/// "Types").
+pub fn check_raw(
+    alloc: Global,
+    table: &Table,
+    text: String,
+    raw: RawAction,
+) -> Result<Typed, TypeFault>
+    requires ascii { IsAscii (string_bytes text) }
+    requires spans { SpansWithin (length (string_bytes text)) (raw_act_of raw) }
+    requires small { actions (raw_act_of raw) ≤ 2 ^ 32 }
+    ensures says { Says (λ t. (t.tree, result_type t.gives)) result (checked table.now (string_bytes text) [] (raw_act_of raw)) }
+    ensures uses { IfOk result (λ t. t.uses ≡ uses_of (table_kinds table.now) t.tree) }
+    ensures text { IfOk result (λ t. t.text ≡ string_bytes text) }
+{
+    let mut uses = Vec::new(alloc);
+    let names = Names {
+        table,
+        text: text.as_str(),
+        locals: &Scope::Empty,
+    };
+    let (action, result_type) = check_action(alloc, &names, &mut uses, &raw)?;
+    Ok(Typed::of_checked(action, text, result_type, uses))
+}

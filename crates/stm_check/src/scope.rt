@@ -1,0 +1,65 @@
+//! Where names are looked up.
+
+ghost use Rattle.std.specs.Prelude.{◌≡◌, ◌<◌, ◌≤◌, ◌^◌, length, IfSome, Some};
+ghost use Rattle.stm_check.specs.Scopes.{innermost, scope, ScopeIsLow};
+ghost use Rattle.stm_check.specs.Checking.{variable, table_kinds};
+
+use stm_store::Table;
+use stm_terms::kinds::Ty;
+
+/// The locals, innermost first.
+#[derive(Drop)]
+pub enum Scope<'a> {
+    Empty,
+    Local(&'a str, Ty, &'a Scope<'a>),
+}
+
+/// Where a check looks names up: the declared variables, the text that names are spans of, and the locals in scope.
+#[derive(Drop)]
+pub(crate) struct Names<'a> {
+    pub table: &'a Table,
+    pub text: &'a str,
+    pub locals: &'a Scope<'a>,
+}
+
+fn depth(locals: &Scope) -> u32
+    requires { length (scope locals.now) < 2 ^ 32 }
+    ensures { result ≡ length (scope locals.now) }
+{
+    match locals {
+        Scope::Empty => 0,
+        Scope::Local(_, _, outer) => 1 + depth(outer),
+    }
+}
+
+/// The innermost local of a name: its number, counted from the outermost, and its type.
+pub(crate) fn find_local(locals: &Scope, name: &str) -> Option<(u32, Ty)>
+    requires room { length (scope locals.now) ≤ 2 ^ 32 }
+    requires shallow { ScopeIsLow (scope locals.now) }
+    ensures found { result ≡ innermost name.now (scope locals.now) }
+    ensures low { IfSome result (λ l. l.1.refs ≤ 9) }
+{
+    match locals {
+        Scope::Empty => None,
+        Scope::Local(own, kind, outer) => {
+            if *own == name {
+                Some((depth(outer), *kind))
+            } else {
+                find_local(outer, name)
+            }
+        }
+    }
+}
+
+/// The declared variable of a name: its number, and the type of its cell.
+pub(crate) fn find_variable(table: &Table, name: &str) -> Option<(u32, Ty)>
+    ensures found { result ≡ variable table.now name.now }
+    ensures kind { IfSome result (λ v. table_kinds table.now v.0 ≡ Some v.1) }
+    ensures low { IfSome result (λ v. v.1.refs ≤ 8) }
+{
+    let _count = table.len();
+    match table.find(name) {
+        Some(id) => Some((id, table.kind(id))),
+        None => None,
+    }
+}
