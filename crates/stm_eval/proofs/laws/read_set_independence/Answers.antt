@@ -1,0 +1,5 @@
+use Rattle.stm_eval.proofs.Independent.{independent}
+use Rattle.stm_eval.proofs.laws.read_set_independence.Goals as goal
+
+pub returns : goal.returns
+returns c = independent

@@ -1,0 +1,36 @@
+//! Laws of what blocks do and read: each function's contract is one, and its body is empty.
+
+ghost use Rattle.stm_eval.specs.Laws.{ReadSetIndependence, StoreToFragment, FragmentToStore, ReadsAreOfTheStore, ReadsAreLooks, OrElseIsAssociative, RetryIsLeftUnit, RetryIsRightUnit};
+
+/// What an action does depends on the variables that it reads, and on no others. What a discarded left branch read is
+/// among them.
+pub fn read_set_independence()
+    ensures { ReadSetIndependence }
+{}
+
+/// A block's verdict on a store is its verdict on the fragment of what it read there.
+pub fn store_to_fragment()
+    ensures { StoreToFragment }
+{}
+
+/// A block's verdict on the fragment of what it read is its verdict on each store with these values.
+pub fn fragment_to_store()
+    ensures { FragmentToStore }
+{}
+
+/// The reads of a block are of exactly the variables that it looks at, with the values of the store.
+pub fn reads_are_looks()
+    ensures values { ReadsAreOfTheStore }
+    ensures variables { ReadsAreLooks }
+{}
+
+/// `orElse` is associative, in outcome, returned view and reads.
+pub fn or_else_is_associative()
+    ensures { OrElseIsAssociative }
+{}
+
+/// `retry` is the unit of `orElse` on both sides, in outcome, returned view and reads.
+pub fn retry_is_unit_of_or_else()
+    ensures left { RetryIsLeftUnit }
+    ensures right { RetryIsRightUnit }
+{}

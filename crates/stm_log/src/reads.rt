@@ -1,0 +1,58 @@
+//! What a block read.
+
+ghost use Rattle.std.specs.Prelude.{◌≡◌, IfOk};
+ghost use Rattle.stm_terms.specs.Typing.{Rising};
+ghost use Rattle.stm_terms.specs.Views.{find};
+
+use crate::pairs::Pairs;
+use std::marker::Model;
+use stm_terms::NoMemory;
+use stm_terms::values::Value;
+
+/// The variables of the store that a block read, each once and rising, with the values that it found.
+#[derive(Drop)]
+pub struct Reads {
+    pairs: Pairs,
+}
+
+impl Model for Reads {
+    ghost use Rattle.std.specs.Prelude.{List, ℕ};
+    ghost use Rattle.stm_terms.specs.declared.values.Value.{Value as Held};
+
+    ghost Value = { List (ℕ × Held) };
+
+    ghost view = { λ r. r.pairs };
+}
+
+impl Reads {
+    /// The reads of a log.
+    pub(crate) fn of(pairs: Pairs) -> Reads
+        ensures { result ≡ pairs }
+    {
+        Reads { pairs }
+    }
+
+    /// The pairs, in their order.
+    pub fn as_slice(&self) -> &[(u32, Value)]
+        ensures value { result.now ≡ self.now }
+        ensures rising { Rising self.now }
+    {
+        self.pairs.as_slice()
+    }
+
+    /// The value that was read of a variable, none where it wasn't read. Found by halves.
+    pub fn find(&self, variable: u32) -> Option<Value>
+        ensures { result ≡ find variable self.now }
+    {
+        self.pairs.find(variable)
+    }
+
+    /// A second list of the same reads.
+    pub fn copy(&self) -> Result<Reads, NoMemory>
+        ensures { IfOk result (λ r. r ≡ self.now) }
+    {
+        Ok(Reads {
+            pairs: self.pairs.copy()?,
+        })
+    }
+}
