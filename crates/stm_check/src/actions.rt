@@ -20,12 +20,7 @@ use stm_terms::raw::{RawAction, RawExpr};
 /// An action with its names resolved, and the type of its result, with none for any.
 type Checked = Result<(Action, Option<Ty>), TypeFault>;
 
-fn check_return(
-    alloc: Global,
-    names: &Names,
-    uses: &mut Vec<(u32, Ty)>,
-    value: &RawExpr,
-) -> Checked
+fn check_return(alloc: Global, names: &Names, uses: &mut Vec<(u32, Ty)>, value: &RawExpr) -> Checked
     requires { CanCheck names.now (raw.return (raw_term_of value.now)) }
     ensures says { Says (λ r. (act_of r.0, result_type r.1)) result (act_found names.now (raw.return (raw_term_of value.now))) }
     ensures uses { IfOk result (λ r. uses.new.items ≡ noted_act names.now (act_of r.0) uses.old.items) }
@@ -77,12 +72,7 @@ fn check_write(
     Ok((Action::Write(reference, written), Some(UNIT)))
 }
 
-fn check_make(
-    alloc: Global,
-    names: &Names,
-    uses: &mut Vec<(u32, Ty)>,
-    value: &RawExpr,
-) -> Checked
+fn check_make(alloc: Global, names: &Names, uses: &mut Vec<(u32, Ty)>, value: &RawExpr) -> Checked
     requires { CanCheck names.now (raw.make (raw_term_of value.now)) }
     ensures says { Says (λ r. (act_of r.0, result_type r.1)) result (act_found names.now (raw.make (raw_term_of value.now))) }
     ensures uses { IfOk result (λ r. uses.new.items ≡ noted_act names.now (act_of r.0) uses.old.items) }
@@ -95,12 +85,7 @@ fn check_make(
     Ok((Action::Make(kind, first), Some(reference_to(kind))))
 }
 
-fn check_throw(
-    alloc: Global,
-    names: &Names,
-    uses: &mut Vec<(u32, Ty)>,
-    number: &RawExpr,
-) -> Checked
+fn check_throw(alloc: Global, names: &Names, uses: &mut Vec<(u32, Ty)>, number: &RawExpr) -> Checked
     requires { CanCheck names.now (raw.throw (raw_term_of number.now)) }
     ensures says { Says (λ r. (act_of r.0, result_type r.1)) result (act_found names.now (raw.throw (raw_term_of number.now))) }
     ensures uses { IfOk result (λ r. uses.new.items ≡ noted_act names.now (act_of r.0) uses.old.items) }

@@ -25,17 +25,14 @@ pub fn verdict_fits()
 /// The check accepts a parsed tree exactly where it resolves to a tree that has a type, and gives that tree and type.
 pub fn accepts_the_well_typed()
     ensures { AcceptsTheWellTyped }
-{
-}
+{}
 
 /// The check tells a fault exactly where no tree that the parsed one resolves to has a type.
 pub fn faults_the_ill_typed()
     ensures { FaultsTheIllTyped }
-{
-}
+{}
 
 /// The variables that a block names, as `Typed::uses` lists them, are apart.
 pub fn uses_are_apart()
     ensures { UsesAreApart }
-{
-}
+{}

@@ -3,14 +3,14 @@
 
 mod actions;
 pub mod block;
-pub mod check;
 mod expressions;
 pub mod fault;
 pub mod laws;
 mod scope;
 mod types;
 mod uses;
+pub mod whole;
 
 pub use block::{Script, Typed};
-pub use check::check_raw;
 pub use fault::TypeFault;
+pub use whole::{check, check_raw};

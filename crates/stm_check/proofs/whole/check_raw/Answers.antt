@@ -3,7 +3,7 @@ use Rattle.stm_terms.specs.Trees.{act_of}
 use Rattle.stm_terms.specs.RawTrees.{raw_act_of, actions}
 use Rattle.stm_terms.specs.Typing.{makes, result_type}
 use Rattle.stm_check.proofs.Kept.{kept_type, kept_small}
-use Rattle.stm_check.proofs.check.check_raw.Goals as goal
+use Rattle.stm_check.proofs.whole.check_raw.Goals as goal
 
 pub of_checked-requires-clause-typed : goal.of_checked-requires-clause-typed
 of_checked-requires-clause-typed c =

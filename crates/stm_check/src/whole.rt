@@ -1,4 +1,4 @@
-//! The check of a parsed block.
+//! The check of a whole block.
 
 ghost use Rattle.std.specs.Prelude.{◌≡◌, ◌≤◌, ◌^◌, [], IfOk, string_bytes, length};
 ghost use Rattle.std.specs.Str.{IsAscii};
@@ -11,6 +11,7 @@ use crate::block::Typed;
 use crate::fault::TypeFault;
 use crate::scope::{Names, Scope};
 use std::alloc::Global;
+use stm_parse::Raw;
 use stm_store::Table;
 use stm_terms::raw::RawAction;
 
@@ -40,4 +41,14 @@ pub fn check_raw(
     };
     let (action, result_type) = check_action(alloc, &names, &mut uses, &raw)?;
     Ok(Typed::of_checked(action, text, result_type, uses))
+}
+
+/// The block of a parsed text, well typed, or the first fault from left to right. `check_raw` says what names mean.
+pub fn check(alloc: Global, table: &Table, raw: Raw) -> Result<Typed, TypeFault>
+    ensures says { Says (λ t. (t.tree, result_type t.gives)) result (checked table.now raw.text [] raw.tree) }
+    ensures uses { IfOk result (λ t. t.uses ≡ uses_of (table_kinds table.now) t.tree) }
+    ensures text { IfOk result (λ t. t.text ≡ raw.text) }
+{
+    let (text, action) = raw.into_parts();
+    check_raw(alloc, table, text, action)
 }

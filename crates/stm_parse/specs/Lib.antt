@@ -1,0 +1,4 @@
+pub mod Inits
+pub mod Parsed
+pub mod RawCodes
+pub mod Told
