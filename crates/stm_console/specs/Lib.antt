@@ -1,0 +1,9 @@
+pub mod Console
+pub mod Continuing
+pub mod Judged
+pub mod Kept
+pub mod Lines
+pub mod Seen
+pub mod SmallLanguage
+pub mod Statuses
+pub mod Tokens

@@ -1,0 +1,100 @@
+//! The judgement of a line before a command sees it.
+
+ghost use Rattle.std.specs.Prelude.{◌≡◌, ◌≤◌, drop, length};
+ghost use Rattle.stm_console.specs.Judged.{is_blank as blank, blanks_len as blank_count, word_len as word_count, skip_blanks as skipped, judged_words as words_judged, has_high_byte as high_byte, judged};
+ghost use Rattle.stm_console.specs.Seen.{judgement_of};
+
+/// The most bytes that a line may have.
+const LONGEST_LINE: usize = 65_536;
+
+/// How a line is judged (docs/CONSOLE.md, "Lines").
+pub enum Judgement<'a> {
+    TooLong,
+    Silent,
+    NotAscii,
+    /// The command word and its argument.
+    Words(&'a [u8], &'a [u8]),
+}
+
+pub fn is_blank(byte: u8) -> bool
+    ensures { result ≡ blank byte }
+{
+    byte == 32 || byte == 9 || byte == 10 || byte == 13
+}
+
+/// How many blanks a text begins with.
+fn blanks_len(text: &[u8]) -> usize
+    ensures count { result ≡ blank_count text.now }
+    ensures within { result ≤ length text.now }
+{
+    for (at, byte) in text.iter().enumerate() {
+        if !is_blank(*byte) {
+            return at;
+        }
+    }
+    text.len()
+}
+
+/// How many bytes stand before the first blank.
+fn word_len(text: &[u8]) -> usize
+    ensures count { result ≡ word_count text.now }
+    ensures within { result ≤ length text.now }
+{
+    for (at, byte) in text.iter().enumerate() {
+        if is_blank(*byte) {
+            return at;
+        }
+    }
+    text.len()
+}
+
+/// The rest of a text behind so many bytes.
+pub fn after(text: &[u8], count: usize) -> &[u8]
+    requires { count ≤ length text.now }
+    ensures { result.now ≡ drop count text.now }
+{
+    &text[count..]
+}
+
+#[tactic(auto, unfolding(crate::specs::Judged::skip_blanks))]
+fn skip_blanks(text: &[u8]) -> &[u8]
+    ensures { result.now ≡ skipped text.now }
+{
+    after(text, blanks_len(text))
+}
+
+fn has_high_byte(line: &[u8]) -> bool
+    ensures { result ≡ high_byte line.now }
+{
+    line.iter().any(|byte| *byte > 127)
+}
+
+/// The command word of a text and its argument.
+#[tactic(auto, unfolding(crate::specs::Judged::judged_words))]
+fn words_of(text: &[u8]) -> Judgement<'_>
+    ensures { judgement_of result ≡ words_judged text.now }
+{
+    let len = word_len(text);
+    Judgement::Words(&text[..len], skip_blanks(after(text, len)))
+}
+
+/// The first judgement that holds.
+#[tactic(auto, unfolding(crate::specs::Judged::judged, crate::specs::Judged::starts_comment))]
+pub fn judge(line: &[u8]) -> Judgement<'_>
+    ensures { judgement_of result ≡ judged line.now }
+{
+    if line.len() > LONGEST_LINE {
+        return Judgement::TooLong;
+    }
+    if line.starts_with(b"--") {
+        return Judgement::Silent;
+    }
+    let text = skip_blanks(line);
+    if text.is_empty() {
+        return Judgement::Silent;
+    }
+    if has_high_byte(line) {
+        return Judgement::NotAscii;
+    }
+    words_of(text)
+}

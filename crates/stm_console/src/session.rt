@@ -1,0 +1,137 @@
+//! A run under way: bytes in, answers out.
+
+ghost use Rattle.std.specs.Prelude.{◌≡◌, ◌≢◌, ◌++◌, ◌∷◌, [], ℕ, List, OnOk, OnErr, IfErr};
+ghost use Rattle.std.specs.Io.KnownBytes.{Appends};
+ghost use Rattle.stm_terms.specs.Texts.{IsPrefixOf};
+ghost use Rattle.stm_console.specs.Lines.{drop_return as returnless};
+ghost use Rattle.stm_console.specs.Console.{start, answer_to, state_after};
+ghost use Rattle.stm_console.specs.Continuing.{Continues, rest_text};
+
+use crate::commands::Console;
+use crate::output::write_text;
+use crate::run::RunFault;
+use std::alloc::Global;
+use std::io::Write;
+
+/// Two bytes more than the longest line: no carriage return can make so many bytes a line.
+const FULL: usize = 65_538;
+
+/// Drops one carriage return at the end.
+fn drop_return(line: &mut Vec<u8>)
+    ensures { line.new.items ≡ returnless line.old.items }
+{
+    let len = line.len();
+    if len > 0 && line[len - 1] == b'\r' {
+        line.truncate(len - 1);
+    }
+}
+
+/// The console, the bytes of a line that has begun, and room for an answer.
+#[derive(Drop)]
+pub struct Session {
+    console: Console,
+    line: Vec<u8>,
+    answer: String,
+}
+
+impl Session {
+    pub fn new(alloc: Global) -> Session
+        ensures console { result.console ≡ start }
+        ensures line { result.line.items ≡ [] }
+    {
+        Session {
+            console: Console::new(alloc),
+            line: Vec::new(alloc),
+            answer: String::new(alloc),
+        }
+    }
+
+    /// Answers the line that has begun, which becomes empty.
+    fn answer_line<W: Write>(&mut self, alloc: Global, writer: &mut W) -> Result<(), RunFault>
+        ensures done { OnOk result (Appends (W.contents writer.old) (W.contents writer.new)
+            (answer_to self.old.console self.old.line.items)) }
+        ensures state { OnOk result (self.new.console ≡ state_after self.old.console self.old.line.items) }
+        ensures line { OnOk result (self.new.line.items ≡ []) }
+        ensures part { OnErr result ((front : List ℕ)
+            × IsPrefixOf front (answer_to self.old.console self.old.line.items)
+            × Appends (W.contents writer.old) (W.contents writer.new) front) }
+        ensures fault { IfErr result (λ e. e ≢ RunFault.Read) }
+    {
+        self.answer.clear();
+        if self
+            .console
+            .answer(alloc, &self.line, &mut self.answer)
+            .is_err()
+        {
+            return Err(RunFault::NoMemory);
+        }
+        write_text(writer, self.answer.as_bytes())?;
+        self.line.clear();
+        Ok(())
+    }
+
+    /// Takes one more byte of the input.
+    fn take_byte<W: Write>(
+        &mut self,
+        alloc: Global,
+        byte: u8,
+        writer: &mut W,
+    ) -> Result<(), RunFault>
+        ensures done { OnOk result ((written : List ℕ)
+            × Continues self.old.console self.old.line.items self.new.console self.new.line.items (byte ∷ []) written
+            × Appends (W.contents writer.old) (W.contents writer.new) written) }
+        ensures part { OnErr result ((front : List ℕ)
+            × ((more : List ℕ) → IsPrefixOf front (rest_text self.old.console self.old.line.items (byte ∷ more)))
+            × Appends (W.contents writer.old) (W.contents writer.new) front) }
+        ensures fault { IfErr result (λ e. e ≢ RunFault.Read) }
+    {
+        if byte == b'\n' {
+            drop_return(&mut self.line);
+            self.answer_line(alloc, writer)?;
+            return Ok(());
+        }
+        if self.line.len() >= FULL {
+            return Ok(());
+        }
+        match self.line.push(byte) {
+            Ok(()) => Ok(()),
+            Err(_) => Err(RunFault::NoMemory),
+        }
+    }
+
+    /// Takes the next bytes of the input.
+    pub fn take_bytes<W: Write>(
+        &mut self,
+        alloc: Global,
+        bytes: &[u8],
+        writer: &mut W,
+    ) -> Result<(), RunFault>
+        ensures done { OnOk result ((written : List ℕ)
+            × Continues self.old.console self.old.line.items self.new.console self.new.line.items bytes.now written
+            × Appends (W.contents writer.old) (W.contents writer.new) written) }
+        ensures part { OnErr result ((front : List ℕ)
+            × ((more : List ℕ) → IsPrefixOf front (rest_text self.old.console self.old.line.items (bytes.now ++ more)))
+            × Appends (W.contents writer.old) (W.contents writer.new) front) }
+        ensures fault { IfErr result (λ e. e ≢ RunFault.Read) }
+    {
+        for byte in bytes {
+            self.take_byte(alloc, *byte, writer)?;
+        }
+        Ok(())
+    }
+
+    /// Answers the last line, which no line feed ends, unless it is empty.
+    pub fn end<W: Write>(&mut self, alloc: Global, writer: &mut W) -> Result<(), RunFault>
+        ensures done { OnOk result (Appends (W.contents writer.old) (W.contents writer.new)
+            (rest_text self.old.console self.old.line.items [])) }
+        ensures part { OnErr result ((front : List ℕ)
+            × IsPrefixOf front (rest_text self.old.console self.old.line.items [])
+            × Appends (W.contents writer.old) (W.contents writer.new) front) }
+        ensures fault { IfErr result (λ e. e ≢ RunFault.Read) }
+    {
+        if !self.line.is_empty() {
+            self.answer_line(alloc, writer)?;
+        }
+        Ok(())
+    }
+}
