@@ -1,18 +1,19 @@
 -- Bytes are taken one by one, and the text is that of the whole.
-use Rattle.std.proofs.Common.{◌≡◌, ℕ, ◌+◌, ◌≤◌, ◌<◌, Bool, true, false, List, [], ◌∷◌, ◌++◌, length, refl, sym, ap, ◌∙◌, subst, append_assoc, append-nil, arith, eqb, cond, length-append, drop, get_or, add-one}
+use Rattle.std.proofs.Common.{◌≡◌, ℕ, ◌+◌, ◌≤◌, ◌<◌, true, false, List, [], ◌∷◌, ◌++◌, length, refl, sym, ap, ◌∙◌, subst, append_assoc, append-nil, arith, cond, length-append, drop, get_or, add-one}
 use Rattle.std.proofs.Math.Seq.{take-suc, drop-cons}
 use Rattle.std.proofs.lemmas.List.{take-append-drop}
-use Rattle.std.specs.Prelude.{nat_lt, nat_eq}
+use Rattle.std.specs.Prelude.{nat_eq}
 use Rattle.std.proofs.lemmas.Bool.Decides.{nat_tests}
 use Rattle.std.proofs.lemmas.Bool.{lt-ltb}
 use Rattle.std.proofs.lemmas.List.{length-take-le}
 use Rattle.std.specs.Io.BufRead.{ends_with_byte}
-use Rattle.std.proofs.Common.{◌-◌, take, rules}
+use Rattle.std.proofs.Common.{◌-◌, take}
 use Rattle.stm_console.specs.Judged.{TooLong, judged}
 use Rattle.stm_terms.specs.Texts.{IsPrefixOf}
 use Rattle.stm_console.specs.Continuing.{Continues, rest_text, whole_rest_text}
 use Rattle.stm_console.specs.Lines.{drop_return, lines_from, whole_lines_from, last_lines}
-use Rattle.stm_console.specs.Console.{ConsoleState, answer_to, state_after, answers_to, answer_to_judged, state_after_judged}
+use Rattle.stm_console.specs.Commands.{ConsoleState}
+use Rattle.stm_console.specs.Console.{answer_to, state_after, answers_to, answer_to_judged, state_after_judged}
 
 same_test : (b : ℕ) → (b ≡ 10 → ⊥) → nat_eq b 10 ≡ false
 same_test b h = grind (arith, nat_tests)

@@ -1,5 +1,5 @@
 -- How a line is judged before a command sees it.
-use Rattle.std.specs.Prelude.{ℕ, Bool, true, false, List, [], ◌∷◌, ◌==◌, ◌||◌, nat_lt, nat_eq, if◌then◌else◌, codes, length, take, drop, ◌+◌}
+use Rattle.std.specs.Prelude.{ℕ, Bool, List, [], ◌∷◌, ◌==◌, ◌||◌, nat_lt, nat_eq, if◌then◌else◌, codes, length, take, drop, ◌+◌}
 use Rattle.std.specs.List.{list_any, starts_with}
 
 -- tab, line feed, carriage return and space

@@ -27,11 +27,7 @@ pub enum RunFault {
 /// What each command answers is said in docs/CONSOLE.md. An interrupted read is tried again. After 4,294,967,295 calls of
 /// the reader a run ends as it does after a read that fails. The writer is flushed before each read and at the end, so it
 /// may keep a buffer. Of a line that is too long no more than its first 65,538 bytes are kept.
-pub fn run<R: Read, W: Write>(
-    alloc: Global,
-    reader: &mut R,
-    writer: &mut W,
-) -> Result<(), RunFault>
+pub fn run<R: Read, W: Write>(alloc: Global, reader: &mut R, writer: &mut W) -> Result<(), RunFault>
     // The whole text of the input was written.
     ensures answered { OnOk result (IfSome (R.remaining reader.old) (λ input.
         Appends (W.contents writer.old) (W.contents writer.new) (console_text input))) }

@@ -1,7 +1,6 @@
-use Rattle.std.proofs.Common.{rules, sym, subst, ap, ◌∙◌, List, [], ◌∷◌, ◌++◌, ◌+◌, ℕ, ◌≡◌, ◌<◌, length, arith, append-nil}
-use Rattle.std.proofs.KnownBytes.{Appends-nil, Appends-trans, Appends-kept, Consumes-nil, Consumes-trans, Consumes-kept}
+use Rattle.std.proofs.Common.{rules, sym, [], ◌++◌, append-nil}
+use Rattle.std.proofs.KnownBytes.{Appends-trans, Appends-kept, Consumes-trans, Consumes-kept}
 use Rattle.std.proofs.lemmas.Result.{err_from_is_err_and}
-use Rattle.stm_console.proofs.Feeding.{Continues-trans, Continues-nil}
 use Rattle.stm_console.proofs.Running as Running
 use Rattle.stm_console.proofs.run.run.Goals as goal
 use Rattle.stm_console.proofs.run.run.Goals.{in-Ok+else-count-eq0+in_ok-take_bytes-in-Ok+in_ok-flush-in-Ok-2, in-Err}

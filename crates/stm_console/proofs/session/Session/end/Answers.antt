@@ -1,4 +1,4 @@
-use Rattle.std.proofs.Common.{rules, sym, subst, List, ℕ, ◌≡◌, [], ◌<◌, ◌≤◌, length, arith}
+use Rattle.std.proofs.Common.{rules, sym, subst, ◌≡◌, [], ◌<◌, length}
 use Rattle.std.proofs.KnownBytes.{Appends-nil}
 use Rattle.std.proofs.lemmas.Result.{err_from_is_err_and}
 use Rattle.std.specs.Io.KnownBytes.{Appends}

@@ -1,8 +1,6 @@
-use Rattle.std.proofs.Common.{rules, sym, subst, List, [], ◌∷◌, ◌++◌, ℕ, ◌≡◌, ◌<◌, length, arith}
+use Rattle.std.proofs.Common.{rules, []}
 use Rattle.std.proofs.KnownBytes.{Appends-nil}
 use Rattle.std.proofs.lemmas.Result.{err_from_is_err_and}
-use Rattle.stm_terms.specs.Texts.{IsPrefixOf}
-use Rattle.stm_console.specs.Continuing.{Continues}
 use Rattle.stm_console.specs.Console.{answer_to}
 use Rattle.stm_console.proofs.Feeding.{Continues-answered, Continues-byte, Continues-full, IsPrefixOf-answer}
 use Rattle.stm_console.proofs.session.Session.take_byte.Goals as goal

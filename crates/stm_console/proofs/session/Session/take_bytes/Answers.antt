@@ -1,9 +1,7 @@
-use Rattle.std.proofs.Common.{rules, sym, subst, ap, ◌∙◌, List, [], ◌∷◌, ◌++◌, ◌+◌, ℕ, ◌≡◌, ◌<◌, length, arith, take, drop, get_or, append_assoc}
-use Rattle.std.proofs.KnownBytes.{Appends-nil, Appends-trans}
+use Rattle.std.proofs.Common.{rules, ◌++◌}
+use Rattle.std.proofs.KnownBytes.{Appends-trans}
 use Rattle.std.proofs.lemmas.Result.{err_from_is_err_and}
-use Rattle.stm_terms.specs.Texts.{IsPrefixOf}
-use Rattle.stm_console.specs.Continuing.{Continues, rest_text}
-use Rattle.stm_console.proofs.Feeding.{Continues-trans, Continues-nil, take-next, prefix-next}
+use Rattle.stm_console.proofs.Feeding.{take-next, prefix-next}
 use Rattle.stm_console.proofs.session.Session.take_bytes.Goals as goal
 
 pub returns-in_err-take_byte-clause-part : goal.returns-in_err-take_byte-clause-part
