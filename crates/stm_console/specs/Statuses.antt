@@ -1,7 +1,7 @@
 -- The exit statuses of the program.
 use Rattle.std.specs.Prelude.{◌≡◌, ◌⊎◌, ℕ}
-use Rattle.stm_console.specs.declared.run.RunFault.{RunFault}
-use Rattle.stm_console.specs.declared.run.RunFault.TheVariants.{Read, Write, NoMemory}
+use Rattle.stm_console.specs.declared.streams.RunFault.{RunFault}
+use Rattle.stm_console.specs.declared.streams.RunFault.TheVariants.{Read, Write, NoMemory}
 
 -- a fault of the reader or the writer, and want of memory
 abbrev pub status_of : RunFault → ℕ

@@ -1,8 +1,8 @@
 //! The console: commands by line from a reader, answers to a writer.
 //!
-//! `start` is the whole program and `run` its work, which writes exactly the text that the definitions give for what it
-//! reads. `session` keeps a run under way, `console` what the commands know. Each command has a module: `declaring` has
-//! `tvar`, `trying` has `try` and `looks`, `showing` has `store`.
+//! `run` writes exactly the text that `specs/Console` gives for what it reads; `start` is the program over its streams.
+//! Below them stand a run under way (`session`), the judgement of a line (`judging`), what the console knows (`console`) and
+//! the commands: `declaring` has `tvar`, `trying` has `try` and `looks`, `showing` has `store`.
 #![tactic(auto)]
 
 mod command;
@@ -11,10 +11,13 @@ mod declaring;
 mod desk;
 mod judging;
 mod output;
+mod program;
 mod reading;
 mod refusal;
-pub mod run;
 mod session;
 mod showing;
-pub mod start;
+mod streams;
 mod trying;
+
+pub use program::start;
+pub use streams::{RunFault, run};

@@ -4,7 +4,7 @@ ghost use Rattle.std.specs.Prelude.{◌≡◌, ◌≢◌, ℕ, List, OnOk, OnErr
 ghost use Rattle.std.specs.Io.KnownBytes.{Appends, Keeps};
 ghost use Rattle.stm_terms.specs.Texts.{IsPrefixOf};
 
-use crate::run::RunFault;
+use crate::streams::RunFault;
 use std::io::Write;
 
 /// Writes all of a text, or a part from its front.

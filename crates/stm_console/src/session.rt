@@ -9,7 +9,7 @@ ghost use Rattle.stm_console.specs.Continuing.{Continues, rest_text};
 
 use crate::console::Console;
 use crate::output::write_text;
-use crate::run::RunFault;
+use crate::streams::RunFault;
 use std::alloc::Global;
 use std::io::Write;
 

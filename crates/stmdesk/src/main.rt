@@ -3,7 +3,7 @@
 
 use std::io::BufWriter;
 use std::process::ExitCode;
-use stm_console::start::start;
+use stm_console::start;
 
 /// The exit status where there is no memory for the buffer of the output.
 const NO_MEMORY: u8 = 4;

@@ -3,7 +3,7 @@
 ghost use Rattle.std.specs.Prelude.{◌≡◌};
 ghost use Rattle.stm_console.specs.Statuses.{status_of, IsStatus};
 
-use crate::run::{RunFault, run};
+use crate::streams::{RunFault, run};
 use std::alloc::Global;
 use std::io::{Read, Write};
 
