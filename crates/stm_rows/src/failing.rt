@@ -45,7 +45,10 @@ fn fails_with_its_reader(rt: HostRuntime) -> Result<(), Fail> {
         let mut output = Short::new(256);
         let mut errors = Short::new(256);
         let status = start(rt.alloc(), &mut input, &mut output, &mut errors);
-        assert!(rt; status == 1 && errors.holds(b"stmdesk: read fault\n"), "after {taken}");
+        assert!(rt;
+            status == 1 && errors.holds(b"stmdesk: read fault\n"),
+            "after {taken}"
+        );
         assert!(rt; output.holds(whole_answers(taken)), "after {taken}");
     }
     Ok(())
@@ -58,8 +61,14 @@ fn fails_with_its_writer(rt: HostRuntime) -> Result<(), Fail> {
         let mut output = Short::new(room);
         let mut errors = Short::new(256);
         let status = start(rt.alloc(), &mut input, &mut output, &mut errors);
-        assert!(rt; status == 1 && errors.holds(b"stmdesk: write fault\n"), "at {room}");
-        assert!(rt; output.len == room && output.holds_front_of(ANSWERS), "at {room}");
+        assert!(rt;
+            status == 1 && errors.holds(b"stmdesk: write fault\n"),
+            "at {room}"
+        );
+        assert!(rt;
+            output.len == room && output.holds_front_of(ANSWERS),
+            "at {room}"
+        );
     }
     Ok(())
 }
