@@ -12,7 +12,8 @@ use Rattle.stm_console.specs.Judged.{TooLong, judged}
 use Rattle.stm_terms.specs.Texts.{IsPrefixOf}
 use Rattle.stm_console.specs.Continuing.{Continues, rest_text, whole_rest_text}
 use Rattle.stm_console.specs.Lines.{drop_return, lines_from, whole_lines_from, last_lines}
-use Rattle.stm_console.specs.Console.{ConsoleState, answer_to, state_after, answers_to, answer_to_judged, state_after_judged}
+use Rattle.stm_console.specs.Commands.{ConsoleState}
+use Rattle.stm_console.specs.Console.{answer_to, state_after, answers_to, answer_to_judged, state_after_judged}
 
 same_test : (b : ℕ) → (b ≡ 10 → ⊥) → nat_eq b 10 ≡ false
 same_test b h = grind (arith, nat_tests)

@@ -5,7 +5,8 @@ use Rattle.std.proofs.KnownBytes.{Appends-trans, Appends-kept, Consumes-trans, C
 use Rattle.stm_console.proofs.Feeding.{Continues-trans}
 use Rattle.stm_terms.specs.Texts.{IsPrefixOf}
 use Rattle.stm_console.specs.Continuing.{Continues, rest_text, whole_rest_text}
-use Rattle.stm_console.specs.Console.{ConsoleState, start, console_text, whole_lines_text}
+use Rattle.stm_console.specs.Commands.{ConsoleState}
+use Rattle.stm_console.specs.Console.{start, console_text, whole_lines_text}
 
 pub console_text-continues : (s : ConsoleState) (line taken written more : List ℕ) → Continues start [] s line taken written → console_text (taken ++ more) ≡ written ++ rest_text s line more
 unfolding console_text rest_text

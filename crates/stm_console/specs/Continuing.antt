@@ -1,7 +1,8 @@
 -- The relation that a run keeps while it takes its input in parts.
 use Rattle.std.specs.Prelude.{◌≡◌, ℕ, List, ◌++◌}
 use Rattle.stm_console.specs.Lines.{lines_from, whole_lines_from}
-use Rattle.stm_console.specs.Console.{ConsoleState, answers_to}
+use Rattle.stm_console.specs.Commands.{ConsoleState}
+use Rattle.stm_console.specs.Console.{answers_to}
 
 -- what is written for the bytes that follow, where a line has begun
 unfoldable pub rest_text : ConsoleState → List ℕ → List ℕ → List ℕ

@@ -1,9 +1,8 @@
+pub mod Commands
 pub mod Console
 pub mod Continuing
 pub mod Judged
-pub mod Kept
 pub mod Lines
+pub mod Refusals
 pub mod Seen
-pub mod SmallLanguage
 pub mod Statuses
-pub mod Tokens

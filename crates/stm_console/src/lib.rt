@@ -1,20 +1,23 @@
 //! The console: commands by line from a reader, answers to a writer.
 //!
-//! `run` writes exactly the text that `specs/Console` gives for what it reads, one definition for each command; `start` is
-//! the program over its streams. Below them stand the judgement of a line (`judging`), the commands (`commands`) and the
-//! reader of the language that blocks and declarations are written in (`cutting`, `atoms`, `blocks`).
+//! `run` writes exactly the text that `specs/Console` gives for what it reads; `start` is the program over its streams.
+//! Below them stand a run under way (`session`), the judgement of a line (`judging`), what the console knows (`console`) and
+//! the commands: `declaring` has `tvar`, `trying` has `try` and `looks`, `showing` has `store`.
 #![tactic(auto)]
 
-mod atoms;
-mod blocks;
-mod commands;
-mod cutting;
+mod command;
+mod console;
+mod declaring;
+mod desk;
 mod judging;
 mod output;
 mod program;
+mod reading;
+mod refusal;
 mod session;
-mod stop;
+mod showing;
 mod streams;
+mod trying;
 
 pub use program::start;
 pub use streams::{RunFault, run};

@@ -7,7 +7,7 @@ ghost use Rattle.stm_console.specs.Lines.{drop_return as returnless};
 ghost use Rattle.stm_console.specs.Console.{start, answer_to, state_after};
 ghost use Rattle.stm_console.specs.Continuing.{Continues, rest_text};
 
-use crate::commands::Console;
+use crate::console::Console;
 use crate::output::write_text;
 use crate::streams::RunFault;
 use std::alloc::Global;

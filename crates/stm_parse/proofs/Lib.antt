@@ -1,13 +1,16 @@
 pub mod ActLevels
 pub mod Actions
+pub mod Answering
 pub mod Ascii
 pub mod Bodies
 pub mod Cuts
+pub mod Exactly
 pub mod Expressions
 pub mod Good
 pub mod Kept
 pub mod Lawful
 pub mod Levels
+pub mod Maximal
 pub mod Operands
 pub mod Says
 pub mod Telling

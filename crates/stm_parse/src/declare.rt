@@ -6,14 +6,16 @@ ghost use Rattle.stm_terms.specs.Names.{is_name_text};
 ghost use Rattle.stm_terms.specs.RawTrees.{IsSpan, NamesWithin, raw_term_of};
 ghost use Rattle.stm_parse.specs.Declaring.{declared_of, init_of, said, seen, seen_init};
 ghost use Rattle.stm_parse.specs.Grammar.{Declared, IsDeclaration, most_refs};
+ghost use Rattle.stm_parse.specs.Parsed.{parsed_declaration};
+ghost use Rattle.stm_parse.specs.Told.{Tells};
 ghost use Rattle.stm_parse.specs.Parsing.{IsTextOf, IsTold, OrNoMemory};
 ghost use Rattle.stm_parse.specs.Reading.{Gives, declaration_reader, whole};
 
-use crate::type_descent::{RawDeclaration, declaration};
 use crate::descent::unexpected;
 use crate::fault::ParseFault;
 use crate::lexeme::{Lexeme, Stop};
 use crate::parse::{lexed, told};
+use crate::type_descent::{RawDeclaration, declaration};
 use std::alloc::Global;
 use stm_terms::{NoMemory, RawExpr, Ty, Value};
 
@@ -82,6 +84,8 @@ pub fn parse_declare(alloc: Global, text: &str) -> Result<Declaration, ParseFaul
     ensures right { MatchResult result (λ d. (t : Declared) × IsTextOf IsDeclaration text.now t × (seen d ≡ said text.now t)) (λ e. IsTold IsDeclaration text.now e) }
     // Each text is read, with its one tree, unless memory runs out.
     ensures only { (t : Declared) → IsTextOf IsDeclaration text.now t → OrNoMemory result (λ d. seen d ≡ said text.now t) }
+    // The answer is a function of the text.
+    ensures answer { Tells seen result (parsed_declaration text.now) }
     ensures name { IfOk result (λ d. is_name_text (string_bytes d.name) ≡ true) }
     ensures few { IfOk result (λ d. d.ty.refs ≤ most_refs) }
 {

@@ -1,20 +1,22 @@
 //! A text as a block.
 
-ghost use Rattle.std.specs.Prelude.{◌≡◌, MatchResult, IfOk};
+ghost use Rattle.std.specs.Prelude.{◌≡◌, MatchResult, IfOk, IfErr};
 ghost use Rattle.std.specs.Str.{IsAscii};
 ghost use Rattle.stm_terms.specs.RawTrees.{Act, raw_act_of};
 ghost use Rattle.stm_parse.specs.Grammar.{IsBlock};
+ghost use Rattle.stm_parse.specs.Parsed.{parsed_block, parsed_declaration};
+ghost use Rattle.stm_parse.specs.Told.{Tells, TellsFault};
 ghost use Rattle.stm_parse.specs.Parsing.{Fits, IsTextOf, IsEarly, IsTold, OrNoMemory, told_at};
 ghost use Rattle.stm_parse.specs.RawBlocks.{NamesOf};
 ghost use Rattle.stm_parse.specs.Reading.{Gives, block_reader, whole};
 
+use crate::cutting::tokens;
 use crate::descent::unexpected;
 use crate::do_block::action;
 use crate::fault::ParseFault;
 use crate::lexeme::{Cause, Lexeme, Stop};
 use crate::lexing::lexemes;
 use crate::parsed::Raw;
-use crate::cutting::tokens;
 use std::alloc::Global;
 use stm_terms::RawAction;
 
@@ -24,6 +26,8 @@ pub(crate) fn lexed(alloc: Global, text: &str) -> Result<Vec<Lexeme>, ParseFault
     ensures right { MatchResult result (λ v. Fits text.now v.items) (λ e. IsEarly text.now e) }
     ensures ascii { IfOk result (λ v. IsAscii text.now) }
     ensures names { IfOk result (λ v. NamesOf text.now v.items) }
+    ensures block { IfErr result (λ e. TellsFault e (parsed_block text.now)) }
+    ensures declaration { IfErr result (λ e. TellsFault e (parsed_declaration text.now)) }
 {
     if text.len() > 65536 {
         return Err(ParseFault::TooLarge);
@@ -76,6 +80,8 @@ pub fn parse_block(alloc: Global, text: &str) -> Result<Raw, ParseFault>
     // Each text is read, with its one tree, unless memory runs out.
     ensures only { (t : Act) → IsTextOf IsBlock text.now t → OrNoMemory result (λ r. r.tree ≡ t) }
     ensures text { IfOk result (λ r. r.text ≡ text.now) }
+    // The answer is a function of the text.
+    ensures answer { Tells (λ r. r.tree) result (parsed_block text.now) }
 {
     let toks = lexed(alloc, text)?;
     match whole_block(alloc, &toks) {

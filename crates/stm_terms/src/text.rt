@@ -110,8 +110,8 @@ fn write_spaced(writes: &[(u32, Value)], out: &mut String) -> Result<(), NoMemor
     Ok(())
 }
 
-/// Appends the writes of a verdict.
-fn write_writes(writes: &[(u32, Value)], out: &mut String) -> Result<(), NoMemory>
+/// Appends variables with their values, as `#0=2 #3=True`: the writes of a verdict, or what a block read.
+pub fn write_writes(writes: &[(u32, Value)], out: &mut String) -> Result<(), NoMemory>
     ensures { AppendsText result (string_bytes out.old) (string_bytes out.new) (list_text write_text writes.now) }
 {
     match writes {

@@ -1,9 +1,12 @@
-use Rattle.std.proofs.Common.{◌≡◌, ◌≤◌, List, ℕ, length, true, sym, ap, ◌∙◌, subst, Ok}
+use Rattle.std.proofs.Common.{◌≡◌, sym, ap, ◌∙◌, subst, Ok}
 use Rattle.stm_terms.specs.Names.{is_name_text}
 use Rattle.stm_parse.specs.Declaring.{declared_of, said, seen}
-use Rattle.stm_parse.specs.Grammar.{Declared, IsDeclaration}
-use Rattle.stm_parse.specs.Parsing.{IsTextOf, IsTold, OrNoMemory}
-use Rattle.stm_parse.specs.Reading.{declaration_reader, whole}
+use Rattle.stm_parse.specs.Grammar.{IsDeclaration}
+use Rattle.stm_parse.specs.Parsing.{IsTold}
+use Rattle.stm_parse.specs.Reading.{declaration_reader}
+use Rattle.stm_parse.specs.Parsed.{parsed_declaration}
+use Rattle.stm_parse.specs.Told.{TellsFault}
+use Rattle.stm_parse.proofs.Exactly.{ok_declaration, stop_declaration}
 use Rattle.stm_parse.proofs.Kept.{kept_declaration}
 use Rattle.stm_parse.proofs.Telling.{text_of, ok_text, only_this, stop_told, stop_none}
 use Rattle.stm_parse.proofs.Types.{good_declaration}
@@ -44,3 +47,13 @@ pub returns-clause-only : goal.returns-clause-only
 returns-clause-only c =
     let e = rw c.deref.ensures.value at c.in-Err.ensures.gives in
     λ t h. rw (rw c.deref-in-Err.ensures.value at c.told.ensures) (stop_none declaration_reader IsDeclaration good_declaration c.args.text.now c.in_ok-toks.toks.items c.in_ok-toks.ensures.right (λ d. seen d ≡ said c.args.text.now t) t h c.in-Err.stop e)
+
+pub returns-in-Ok-clause-answer : goal.returns-in-Ok-clause-answer
+returns-in-Ok-clause-answer c =
+    let e = rw c.deref.ensures.value at c.in-Ok.ensures.gives in
+    ok_declaration c.args.text.now c.in_ok-toks.toks.items c.in_ok-toks.ensures.right (declared_of c.in-Ok.raw) e ∙ ap Ok (sym c.in_ok-owned-in-Ok.ensures)
+
+pub returns-clause-answer : goal.returns-clause-answer
+returns-clause-answer c =
+    let e = rw c.deref.ensures.value at c.in-Err.ensures.gives in
+    subst (λ x. TellsFault x (parsed_declaration c.args.text.now)) (sym (rw c.deref-in-Err.ensures.value at c.told.ensures)) (stop_declaration c.args.text.now c.in_ok-toks.toks.items c.in_ok-toks.ensures.right c.in-Err.stop e)

@@ -1,9 +1,12 @@
-use Rattle.std.proofs.Common.{◌≡◌, ◌≤◌, ◌^◌, List, ℕ, length, sym, ap, ◌∙◌, subst, Ok}
-use Rattle.stm_terms.specs.RawTrees.{raw_act_of, SpansWithin, actions}
+use Rattle.std.proofs.Common.{◌≡◌, length, sym, ap, ◌∙◌, subst, Ok}
+use Rattle.stm_terms.specs.RawTrees.{raw_act_of, SpansWithin}
 use Rattle.stm_parse.specs.Grammar.{IsBlock}
-use Rattle.stm_parse.specs.Parsing.{IsTextOf, IsTold, OrNoMemory}
+use Rattle.stm_parse.specs.Parsing.{IsTextOf, IsTold}
 use Rattle.stm_parse.specs.RawBlocks.{NamesAre}
-use Rattle.stm_parse.specs.Reading.{block_reader, whole}
+use Rattle.stm_parse.specs.Reading.{block_reader}
+use Rattle.stm_parse.specs.Parsed.{parsed_block}
+use Rattle.stm_parse.specs.Told.{TellsFault}
+use Rattle.stm_parse.proofs.Exactly.{ok_block, stop_block}
 use Rattle.stm_parse.proofs.Kept.{kept_block}
 use Rattle.stm_parse.proofs.Telling.{text_of, ok_text, only_this, stop_told, stop_none}
 use Rattle.stm_parse.proofs.Whole.{good_block}
@@ -49,3 +52,13 @@ pub returns-clause-only : goal.returns-clause-only
 returns-clause-only c =
     let e = rw c.deref.ensures.value at c.in-Err.ensures in
     λ t h. rw (rw c.deref-in-Err.ensures.value at c.told.ensures) (stop_none block_reader IsBlock good_block c.args.text.now c.in_ok-toks.toks.items c.in_ok-toks.ensures.right (λ r. r.tree ≡ t) t h c.in-Err.stop e)
+
+pub returns-in-Ok-clause-answer : goal.returns-in-Ok-clause-answer
+returns-in-Ok-clause-answer c =
+    let e = rw c.deref.ensures.value at c.in-Ok.ensures in
+    ok_block c.args.text.now c.in_ok-toks.toks.items c.in_ok-toks.ensures.right (raw_act_of c.in-Ok.action) e ∙ ap Ok (sym c.of_parts.ensures.tree)
+
+pub returns-clause-answer : goal.returns-clause-answer
+returns-clause-answer c =
+    let e = rw c.deref.ensures.value at c.in-Err.ensures in
+    subst (λ x. TellsFault x (parsed_block c.args.text.now)) (sym (rw c.deref-in-Err.ensures.value at c.told.ensures)) (stop_block c.args.text.now c.in_ok-toks.toks.items c.in_ok-toks.ensures.right c.in-Err.stop e)

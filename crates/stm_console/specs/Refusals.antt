@@ -1,0 +1,61 @@
+-- What is printed where a line is refused.
+use Rattle.std.specs.Prelude.{◌≡◌, ℕ, Bool, true, false, List, [], ◌∷◌, ◌++◌, codes, decimal, Result, Ok, Err, IsTrue}
+use Rattle.stm_parse.specs.declared.fault.ParseFault.{ParseFault}
+use Rattle.stm_parse.specs.declared.fault.ParseFault.TheVariants as parse
+use Rattle.stm_check.specs.declared.fault.TypeFault.{TypeFault}
+use Rattle.stm_check.specs.declared.fault.TypeFault.TheVariants as typed
+use Rattle.stm_store.specs.declared.table.DeclareError.{DeclareError}
+use Rattle.stm_store.specs.declared.table.DeclareError.TheVariants as declare
+use Rattle.stm_console.specs.declared.refusal.Refusal.{Refusal}
+use Rattle.stm_console.specs.declared.refusal.Refusal.TheVariants.{Parsing, Typing, Unknown, Declaring}
+
+-- a refusal by its name
+unfoldable pub refused : List ℕ → List ℕ
+refused name = codes "refused " ++ name ++ 10 ∷ []
+
+-- a refusal by its name, with the place of its cause, in bytes from 0 in the argument
+unfoldable pub refused_at : List ℕ → ℕ → List ℕ
+refused_at name place = codes "refused " ++ name ++ 32 ∷ decimal place ++ 10 ∷ []
+
+abbrev pub parse_text : ParseFault → List ℕ
+parse_text (parse.BadByte n) = refused_at (codes "BadByte") n
+parse_text (parse.BadNumber n) = refused_at (codes "BadNumber") n
+parse_text (parse.NameTooLong n) = refused_at (codes "NameTooLong") n
+parse_text (parse.Unexpected n) = refused_at (codes "Unexpected") n
+parse_text parse.EndOfText = refused (codes "EndOfText")
+parse_text parse.TooDeep = refused (codes "TooDeep")
+parse_text parse.TooLarge = refused (codes "TooLarge")
+parse_text parse.NoMemory = []
+
+abbrev pub type_text : TypeFault → List ℕ
+type_text (typed.Unknown n) = refused_at (codes "Unknown") n
+type_text (typed.Mismatch n) = refused_at (codes "Mismatch") n
+type_text (typed.NotAVariable n) = refused_at (codes "NotAVariable") n
+type_text (typed.Untyped n) = refused_at (codes "Untyped") n
+type_text (typed.TypeTooDeep n) = refused_at (codes "TypeTooDeep") n
+type_text typed.NoMemory = []
+
+abbrev pub declare_text : DeclareError → List ℕ
+declare_text declare.Twice = refused (codes "Twice")
+declare_text declare.TypeOfValue = refused (codes "TypeOfValue")
+declare_text declare.TableFull = refused (codes "TableFull")
+declare_text declare.NoMemory = []
+
+-- why a block or a declaration is refused
+abbrev pub refusal_text : Refusal → List ℕ
+refusal_text (Parsing fault) = parse_text fault
+refusal_text (Typing fault) = type_text fault
+refusal_text (Unknown n) = refused_at (codes "Unknown") n
+refusal_text (Declaring error) = declare_text error
+
+-- want of memory is told by no line
+abbrev pub is_told : Refusal → Bool
+is_told (Parsing parse.NoMemory) = false
+is_told (Typing typed.NoMemory) = false
+is_told (Declaring declare.NoMemory) = false
+is_told refusal = true
+
+-- a call gives what the definition does, unless memory ran out
+abbrev pub Gives : {X Y : Type 0} → (X → Y) → Result X Refusal → Result Y Refusal → Type 0
+Gives view (Ok x) answer = answer ≡ Ok (view x)
+Gives view (Err e) answer = IsTrue (is_told e) → answer ≡ Err e

@@ -1,0 +1,46 @@
+//! `tvar`: declarations.
+
+ghost use Rattle.std.specs.Prelude.{◌≡◌, ◌++◌, string_bytes, OnOk};
+ghost use Rattle.stm_parse.specs.Declaring.{seen_init};
+ghost use Rattle.stm_console.specs.Commands.{initial as initial_of, variable_of, tvar_line};
+ghost use Rattle.stm_console.specs.Refusals.{Gives};
+ghost use Rattle.stm_console.specs.Seen.{Declares};
+
+use crate::refusal::Refusal;
+use std::alloc::Global;
+use stm_parse::{Init, parse_declare};
+use stm_store::Table;
+use stm_terms::NoMemory;
+use stm_terms::values::{Ref, Value};
+
+/// A first value: a literal, or a reference to the variable of a name.
+fn initial(table: &Table, init: &Init) -> Result<Value, Refusal>
+    ensures { Gives (λ v. v) result (initial_of table.now (seen_init init.now)) }
+{
+    match init {
+        Init::Literal(value) => Ok(*value),
+        Init::Name(name, place) => match table.find(name.as_str()) {
+            Some(number) => Ok(Value::Var(Ref::Old(number))),
+            None => Err(Refusal::Unknown(*place)),
+        },
+    }
+}
+
+/// Declares the variable of a text behind the others, and answers its number.
+#[tactic(auto, unfolding(crate::specs::Commands::variable_of))]
+pub fn declare(alloc: Global, table: &mut Table, text: &str) -> Result<u32, Refusal>
+    ensures { Declares table.old result table.new (variable_of table.old text.now) }
+{
+    let declaration = parse_declare(alloc, text)?;
+    let value = initial(table, &declaration.init)?;
+    let number = table.declare(alloc, declaration.name.as_str(), declaration.ty, value)?;
+    Ok(number)
+}
+
+/// Appends the answer to a declaration.
+#[tactic(auto, unfolding(crate::specs::Commands::tvar_line))]
+pub fn write_declared(number: u32, name: &str, out: &mut String) -> Result<(), NoMemory>
+    ensures { OnOk result (string_bytes out.new ≡ string_bytes out.old ++ tvar_line number name.now) }
+{
+    write!(out, "tvar #{number} {name}\n")
+}

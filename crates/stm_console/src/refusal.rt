@@ -1,0 +1,126 @@
+//! What the commands refuse, and how it is printed.
+
+ghost use Rattle.std.specs.Prelude.{◌≡◌, ◌++◌, string_bytes, OnOk, IsTrue};
+ghost use Rattle.stm_console.specs.Refusals.{refused, refused_at, parse_text, type_text, declare_text, refusal_text, is_told};
+
+use std::alloc::AllocError;
+use stm_check::TypeFault;
+use stm_parse::ParseFault;
+use stm_store::DeclareError;
+use stm_terms::NoMemory;
+
+/// Why a block or a declaration is refused. Places are in bytes from 0 in the argument.
+#[derive(Clone, Copy, PartialEq, Eq, Debug)]
+pub enum Refusal {
+    Parsing(ParseFault),
+    Typing(TypeFault),
+    /// The first value of a declaration is a name that isn't declared; its place.
+    Unknown(usize),
+    Declaring(DeclareError),
+}
+
+impl From<ParseFault> for Refusal {
+    ghost use Rattle.std.specs.Prelude.{◌≡◌};
+    ghost use Rattle.stm_console.specs.declared.refusal.Refusal.TheVariants.{Parsing};
+
+    ghost from_gives = { λ f e. e ≡ Parsing f };
+
+    fn from(fault: ParseFault) -> Refusal {
+        Refusal::Parsing(fault)
+    }
+}
+
+impl From<TypeFault> for Refusal {
+    ghost use Rattle.std.specs.Prelude.{◌≡◌};
+    ghost use Rattle.stm_console.specs.declared.refusal.Refusal.TheVariants.{Typing};
+
+    ghost from_gives = { λ f e. e ≡ Typing f };
+
+    fn from(fault: TypeFault) -> Refusal {
+        Refusal::Typing(fault)
+    }
+}
+
+impl From<DeclareError> for Refusal {
+    ghost use Rattle.std.specs.Prelude.{◌≡◌};
+    ghost use Rattle.stm_console.specs.declared.refusal.Refusal.TheVariants.{Declaring};
+
+    ghost from_gives = { λ f e. e ≡ Declaring f };
+
+    fn from(error: DeclareError) -> Refusal {
+        Refusal::Declaring(error)
+    }
+}
+
+/// Appends a refusal by its name.
+#[tactic(auto, unfolding(crate::specs::Refusals::refused))]
+pub fn refuse(name: &str, out: &mut String) -> Result<(), NoMemory>
+    ensures { OnOk result (string_bytes out.new ≡ string_bytes out.old ++ refused name.now) }
+{
+    out.push_str("refused ")?;
+    out.push_str(name)?;
+    out.push_str("\n")
+}
+
+/// Appends a refusal by its name, with the place of its cause.
+#[tactic(auto, unfolding(crate::specs::Refusals::refused_at))]
+fn refuse_at(name: &str, place: usize, out: &mut String) -> Result<(), NoMemory>
+    ensures { OnOk result (string_bytes out.new ≡ string_bytes out.old ++ refused_at name.now place) }
+{
+    write!(out, "refused {name} {place}\n")
+}
+
+fn refuse_parse(fault: ParseFault, out: &mut String) -> Result<(), NoMemory>
+    ensures text { OnOk result (string_bytes out.new ≡ string_bytes out.old ++ parse_text fault) }
+    ensures told { OnOk result (IsTrue (is_told (Refusal.Parsing fault))) }
+{
+    match fault {
+        ParseFault::BadByte(place) => refuse_at("BadByte", place, out),
+        ParseFault::BadNumber(place) => refuse_at("BadNumber", place, out),
+        ParseFault::NameTooLong(place) => refuse_at("NameTooLong", place, out),
+        ParseFault::Unexpected(place) => refuse_at("Unexpected", place, out),
+        ParseFault::EndOfText => refuse("EndOfText", out),
+        ParseFault::TooDeep => refuse("TooDeep", out),
+        ParseFault::TooLarge => refuse("TooLarge", out),
+        ParseFault::NoMemory => Err(AllocError),
+    }
+}
+
+fn refuse_type(fault: TypeFault, out: &mut String) -> Result<(), NoMemory>
+    ensures text { OnOk result (string_bytes out.new ≡ string_bytes out.old ++ type_text fault) }
+    ensures told { OnOk result (IsTrue (is_told (Refusal.Typing fault))) }
+{
+    match fault {
+        TypeFault::Unknown(place) => refuse_at("Unknown", place, out),
+        TypeFault::Mismatch(place) => refuse_at("Mismatch", place, out),
+        TypeFault::NotAVariable(place) => refuse_at("NotAVariable", place, out),
+        TypeFault::Untyped(place) => refuse_at("Untyped", place, out),
+        TypeFault::TypeTooDeep(place) => refuse_at("TypeTooDeep", place, out),
+        TypeFault::NoMemory => Err(AllocError),
+    }
+}
+
+fn refuse_declaration(error: DeclareError, out: &mut String) -> Result<(), NoMemory>
+    ensures text { OnOk result (string_bytes out.new ≡ string_bytes out.old ++ declare_text error) }
+    ensures told { OnOk result (IsTrue (is_told (Refusal.Declaring error))) }
+{
+    match error {
+        DeclareError::Twice => refuse("Twice", out),
+        DeclareError::TypeOfValue => refuse("TypeOfValue", out),
+        DeclareError::TableFull => refuse("TableFull", out),
+        DeclareError::NoMemory => Err(AllocError),
+    }
+}
+
+/// Appends why a block or a declaration is refused. Want of memory is no line of text: it is handed on.
+pub fn write_refusal(refusal: Refusal, out: &mut String) -> Result<(), NoMemory>
+    ensures text { OnOk result (string_bytes out.new ≡ string_bytes out.old ++ refusal_text refusal) }
+    ensures told { OnOk result (IsTrue (is_told refusal)) }
+{
+    match refusal {
+        Refusal::Parsing(fault) => refuse_parse(fault, out),
+        Refusal::Typing(fault) => refuse_type(fault, out),
+        Refusal::Unknown(place) => refuse_at("Unknown", place, out),
+        Refusal::Declaring(error) => refuse_declaration(error, out),
+    }
+}

@@ -1,0 +1,8 @@
+use Rattle.stm_parse.proofs.Exactly.{blocks_are_right, declarations_are_right}
+use Rattle.stm_parse.proofs.laws.answers_are_right.Goals as goal
+
+pub returns-clause-blocks : goal.returns-clause-blocks
+returns-clause-blocks c = blocks_are_right
+
+pub returns-clause-declarations : goal.returns-clause-declarations
+returns-clause-declarations c = declarations_are_right
