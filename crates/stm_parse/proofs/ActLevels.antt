@@ -1,5 +1,5 @@
 -- The levels of actions that are left.
-use Rattle.std.proofs.Common.{◌≡◌, ℕ, zero, suc, ◌-◌, ◌<◌, ◌≤◌, List, refl, ap, arith, Option, Some, None}
+use Rattle.std.proofs.Common.{◌≡◌, ℕ, zero, suc, ◌-◌, ◌<◌, ◌≤◌, List, refl, ap, arith, Some, None}
 use Rattle.stm_parse.specs.declared.lexeme.Lexeme.{Lexeme}
 use Rattle.stm_parse.specs.Grammar.{deepest, widest}
 use Rattle.stm_parse.proofs.Actions as actions

@@ -1,5 +1,5 @@
 -- The readers of actions are good at each level.
-use Rattle.std.proofs.Common.{◌≡◌, ℕ, zero, suc, ◌+◌, ◌-◌, ◌<◌, ◌≤◌, List, [], ◌∷◌, ◌++◌, length, length-append, refl, sym, ap, ◌∙◌, subst, arith, Option, Some, None, Ok, Err, Bool, true, false, cond, inl}
+use Rattle.std.proofs.Common.{◌≡◌, ℕ, zero, suc, ◌+◌, ◌-◌, ◌≤◌, List, [], ◌∷◌, ◌++◌, refl, ap, arith, Option, Some, None, Ok, Err, Bool, true, false, cond, inl}
 use Rattle.stm_terms.specs.RawTrees.{Term, truth, Act, return, read, write, make, retry, throw, choose, or_else}
 use Rattle.stm_parse.specs.declared.lexeme.Mark.{Mark}
 use Rattle.stm_parse.specs.declared.lexeme.Mark.TheVariants as mark
@@ -8,9 +8,9 @@ use Rattle.stm_parse.specs.declared.lexeme.Sym.TheVariants as tok
 use Rattle.stm_parse.specs.declared.lexeme.Lexeme.{Lexeme}
 use Rattle.stm_parse.specs.declared.lexeme.Cause.TheVariants as cause
 use Rattle.stm_parse.specs.Marks.{is_mark, IsMark}
-use Rattle.stm_parse.specs.Grammar.{At, at, plain, deepest, widest, Placed, IsAtom, is_true, IsExpression, is_atom, is_tier, no_more, IsAction, IsParen, IsBody, is_do, is_if, is_or_else, is_return, is_read, is_write, is_make, is_throw, is_retry, is_brackets, is_paren, is_last}
+use Rattle.stm_parse.specs.Grammar.{At, at, deepest, widest, Placed, IsAtom, is_true, IsExpression, is_atom, is_tier, no_more, IsAction, IsParen, IsBody, is_do, is_if, is_or_else, is_return, is_read, is_write, is_make, is_throw, is_retry, is_brackets, is_paren, is_last}
 use Rattle.stm_parse.specs.Faults.{Language}
-use Rattle.stm_parse.specs.Reading.{Reading, Reader, ◌>>=◌, unexpected, expect, closed, deeper, Level, paren_with, or_else_of, if_of, block, one_operand, two_operands, action_of, action_with, tier_at, atom_at, inside_act, action_at, paren_at, body_at, body_from, body_turn}
+use Rattle.stm_parse.specs.Reading.{Reader, ◌>>=◌, unexpected, expect, closed, deeper, Level, paren_with, or_else_of, if_of, block, one_operand, two_operands, action_of, action_with, tier_at, atom_at, inside_act, action_at, body_at, body_turn}
 use Rattle.stm_parse.proofs.Says.{Says, Some_text, Then, then_, Mapped, mapped, says_end, says_refused, says_beyond, says_token, says_one}
 use Rattle.stm_parse.proofs.Good.{Reads, reads_step, reads_beyond, Good, good_chain, good_map, good_expect, each_says, each_reads, is_mark-true, is_mark-same, Any, some_mark, Token, token, allowed}
 use Rattle.stm_parse.proofs.Tiers.{Follows}

@@ -13,7 +13,7 @@ use Rattle.stm_parse.specs.declared.cutting.Front.TheVariants as front
 use Rattle.stm_parse.specs.declared.fault.ParseFault.{ParseFault}
 use Rattle.stm_terms.specs.Names.{is_digit, is_word_byte}
 use Rattle.stm_parse.specs.declared.lexeme.Mark.{Mark}
-use Rattle.stm_parse.specs.Bytes.{is_letter, is_blank, pair_mark, single_mark, symbol_mark, word_len, number_len, number_of}
+use Rattle.stm_parse.specs.Bytes.{is_letter, is_blank, pair_mark, single_mark, word_len, number_len, number_of}
 use Rattle.stm_parse.specs.Tokens.{front_of, front_by, one_symbol, two_symbol, word_front, number_front, symbol_front, with_front, next, cut}
 
 blank_low : (b : ℕ) → is_blank b ≡ true → b < 128

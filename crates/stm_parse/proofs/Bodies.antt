@@ -1,17 +1,15 @@
 -- The reader of the statements of a do is good, over good readers of actions and expressions.
-use Rattle.std.proofs.Common.{◌≡◌, ℕ, zero, suc, ◌+◌, ◌<◌, ◌≤◌, List, [], ◌∷◌, ◌++◌, length, length-append, append-nil, refl, sym, ap, ◌∙◌, subst, arith, Option, Some, None, Ok, Bool, true, false, cond}
+use Rattle.std.proofs.Common.{◌≡◌, ℕ, zero, suc, ◌+◌, ◌<◌, ◌≤◌, List, [], ◌∷◌, ◌++◌, length, append-nil, refl, sym, ap, ◌∙◌, subst, arith, Option, Some, None, Ok, Bool, true, false, cond}
 use Rattle.stm_terms.specs.RawTrees.{Term, Act, bind, let_in, seq}
 use Rattle.stm_parse.specs.declared.lexeme.Mark.{Mark}
 use Rattle.stm_parse.specs.declared.lexeme.Mark.TheVariants as mark
-use Rattle.stm_parse.specs.declared.lexeme.Sym.{Sym}
-use Rattle.stm_parse.specs.declared.lexeme.Sym.TheVariants as tok
 use Rattle.stm_parse.specs.declared.lexeme.Lexeme.{Lexeme}
 use Rattle.stm_parse.specs.Marks.{is_mark, IsMark}
-use Rattle.stm_parse.specs.Grammar.{At, at, plain, deepest, widest, Placed, IsExpression, IsAction, IsParen, IsBody, is_do, is_if, is_or_else, is_return, is_read, is_write, is_make, is_throw, is_retry, is_brackets, is_paren, is_bind, is_let, is_seq, is_last}
+use Rattle.stm_parse.specs.Grammar.{At, at, plain, deepest, widest, Placed, IsExpression, IsAction, IsBody, is_do, is_if, is_or_else, is_return, is_read, is_write, is_make, is_throw, is_retry, is_brackets, is_paren, is_bind, is_let, is_seq, is_last}
 use Rattle.stm_parse.specs.Faults.{Language}
 use Rattle.stm_parse.specs.Reading.{Reader, ◌>>=◌, behind, expect, expect_name, is_name_sym, bound, let_bound, after_action, sequence, body_turn, bodies, body_from}
-use Rattle.stm_parse.proofs.Says.{plain-split, Says, Some_text, Then, then_, Mapped, mapped, says_more, says_map, says_end, says_stop, says_token, says_same_first}
-use Rattle.stm_parse.proofs.Good.{Reads, reads_same, reads_step, reads_map, reads_stop, Good, good_less, good_chain, good_map, good_expect, good_name, is_mark-true, is_name-true, is_mark-same, IsName, Any, Token, token, shorter, from_below, allowed}
+use Rattle.stm_parse.proofs.Says.{Says, Some_text, Then, then_, Mapped, mapped, says_more, says_map, says_end, says_stop, says_token, says_same_first}
+use Rattle.stm_parse.proofs.Good.{Reads, reads_same, reads_step, reads_map, reads_stop, Good, good_chain, good_map, good_expect, good_name, is_mark-true, is_name-true, is_mark-same, IsName, Any, Token, token, shorter, from_below, allowed}
 use Rattle.stm_parse.proofs.Tiers.{Follows, under}
 use Rattle.stm_parse.proofs.Expressions.{mark_follows}
 

@@ -1,18 +1,17 @@
 -- The readers of operands and expressions are good at each level.
-use Rattle.std.proofs.Common.{◌≡◌, ℕ, zero, suc, ◌+◌, ◌-◌, ◌≤◌, List, [], ◌∷◌, ◌++◌, length, refl, sym, ap, ◌∙◌, subst, arith, Option, Some, None, Ok, Bool, true, false, cond}
+use Rattle.std.proofs.Common.{◌≡◌, ℕ, zero, suc, ◌+◌, ◌-◌, ◌≤◌, List, [], ◌∷◌, ◌++◌, refl, ap, ◌∙◌, arith, Some, None, Ok, false, cond}
 use Rattle.stm_terms.specs.RawTrees.{Term}
 use Rattle.stm_parse.specs.declared.lexeme.Mark.{Mark}
 use Rattle.stm_parse.specs.declared.lexeme.Mark.TheVariants as mark
-use Rattle.stm_parse.specs.declared.lexeme.Sym.{Sym}
 use Rattle.stm_parse.specs.declared.lexeme.Lexeme.{Lexeme}
 use Rattle.stm_parse.specs.Marks.{is_mark, IsMark}
 use Rattle.stm_parse.specs.Grammar.{At, at, plain, deepest, widest, grouping_of, operator_mark, operator_of, IsAtom, is_number, is_negative, is_true, is_false, is_unit, is_name, is_bracketed, IsExpression, is_atom, is_tier}
 use Rattle.stm_parse.specs.Faults.{Language}
-use Rattle.stm_parse.specs.Reading.{Reader, ◌>>=◌, behind, expect, closed, atom_with, inside, atom_at, tier_with, tier_at, tail_at, tail_turn, op_next, step_from}
-use Rattle.stm_parse.proofs.Says.{Then, then_, Mapped, mapped, says_more, Says}
-use Rattle.stm_parse.proofs.Good.{Reads, Good, good_same, good_chain, good_map, good_expect, each_says, each_reads, Any, Token, token}
+use Rattle.stm_parse.specs.Reading.{Reader, ◌>>=◌, behind, expect, closed, atom_with, inside, atom_at, tier_with, tier_at, tail_at, tail_turn, op_next}
+use Rattle.stm_parse.proofs.Says.{Then, then_, Mapped, mapped, says_more}
+use Rattle.stm_parse.proofs.Good.{Good, good_same, good_chain, good_map, good_expect, each_says, each_reads, Any, Token, token}
 use Rattle.stm_parse.proofs.Tiers.{Follows, tier_of, good_step, tail_more as tail_more_over}
-use Rattle.stm_parse.proofs.Operands.{Operand, of_number, of_negative, of_true, of_false, of_unit, of_name, of_bracketed, Behind, Inner, InnerOf, good_operand}
+use Rattle.stm_parse.proofs.Operands.{Operand, of_number, of_negative, of_true, of_false, of_unit, of_name, of_bracketed, Behind, Inner, good_operand}
 
 -- and then ")"
 abbrev pub Closing : {A : Type 0} → ℕ → Language A → Language A

@@ -11,8 +11,8 @@ use Rattle.stm_parse.specs.declared.lexeme.Cause.{Cause}
 use Rattle.stm_parse.specs.declared.lexeme.Cause.TheVariants as cause
 use Rattle.stm_parse.specs.Marks.{code, is_mark, IsMark}
 use Rattle.stm_parse.specs.Reading.{Reading, Reader, ◌>>=◌, unexpected, expect, expect_name, is_name_sym}
-use Rattle.stm_parse.specs.Grammar.{At, at, plain, deepest, greatest, IsAllowed, WithinLimits}
-use Rattle.stm_parse.specs.Faults.{Language, IsBeyond}
+use Rattle.stm_parse.specs.Grammar.{At, at, plain, deepest, IsAllowed, WithinLimits}
+use Rattle.stm_parse.specs.Faults.{Language}
 use Rattle.stm_parse.proofs.Says.{plain-split, plain-length, within-front, within-back, Says, SaysOf, Some_text, Then, then_, Mapped, mapped, took_length, says_more, says_map, says_chain, says_end, says_refused, says_one, IsOfLimit, fault}
 
 -- this tree, or the fault of a limit

@@ -1,9 +1,8 @@
 -- In the tree of a text each name is a name of the text, and there are no more actions than tokens.
-use Rattle.std.proofs.Common.{◌≡◌, ℕ, suc, ◌+◌, ◌≤◌, ◌^◌, List, [], ◌∷◌, ◌++◌, length, length-append, refl, sym, ap, ◌∙◌, subst, arith, slice_range, Option, Some, None, Bool, true, false, cond}
+use Rattle.std.proofs.Common.{◌≡◌, ℕ, suc, ◌≤◌, ◌^◌, List, [], ◌∷◌, ◌++◌, length, length-append, refl, ap, subst, arith, slice_range, Option, Some, None, Bool, true, false, cond}
 use Rattle.stm_terms.specs.Names.{is_name_text}
 use Rattle.stm_terms.specs.RawTrees.{Term, Act, IsSpan, NamesWithin, SpansWithin, actions}
 use Rattle.stm_parse.specs.declared.lexeme.Mark.{Mark}
-use Rattle.stm_parse.specs.declared.lexeme.Sym.{Sym}
 use Rattle.stm_parse.specs.declared.lexeme.Sym.TheVariants as tok
 use Rattle.stm_parse.specs.declared.lexeme.Lexeme.{Lexeme}
 use Rattle.stm_parse.specs.declared.cutting.Kind.{Kind}
@@ -11,7 +10,7 @@ use Rattle.stm_parse.specs.declared.cutting.Kind.TheVariants as kind
 use Rattle.stm_parse.specs.declared.cutting.Token.{Token}
 use Rattle.stm_parse.specs.Bytes.{symbol_mark, number_of}
 use Rattle.stm_parse.specs.Tokens.{SpansRise}
-use Rattle.stm_parse.specs.Lexing.{word_mark, mark_or, number_or, sym_of, lexeme_of, lexemes_of, SpansInside}
+use Rattle.stm_parse.specs.Lexing.{word_mark, mark_or, number_or, sym_of, lexemes_of, SpansInside}
 use Rattle.stm_parse.specs.Faults.{IsText}
 use Rattle.stm_parse.specs.Parsing.{most_tokens}
 use Rattle.stm_parse.proofs.Says.{plain-length}

@@ -1,16 +1,13 @@
 -- The laws of the grammar.
-use Rattle.std.proofs.Common.{◌≡◌, ℕ, zero, suc, List, [], ◌∷◌, ◌++◌, refl, arith, Some, Ok, Err}
-use Rattle.stm_terms.specs.declared.expr.Op.{Op}
-use Rattle.stm_terms.specs.declared.expr.Op.TheVariants as op
-use Rattle.stm_terms.specs.RawTrees.{Term, name, bin, Act, return}
+use Rattle.std.proofs.Common.{◌≡◌, ℕ, zero, suc, [], ◌∷◌, refl, arith, Ok}
+use Rattle.stm_terms.specs.RawTrees.{Term, name, Act, return}
 use Rattle.stm_parse.specs.declared.lexeme.Mark.{Mark}
 use Rattle.stm_parse.specs.declared.lexeme.Mark.TheVariants as mark
 use Rattle.stm_parse.specs.declared.lexeme.Sym.TheVariants as tok
-use Rattle.stm_parse.specs.declared.lexeme.Lexeme.{Lexeme}
-use Rattle.stm_parse.specs.Grammar.{At, at, widest, IsAtom, is_name, is_bracketed, IsExpression, is_atom, is_tier, IsTail, no_more, to_left, not_chained, to_right, IsAction, is_return, IsBlock, WithinLimits}
+use Rattle.stm_parse.specs.Grammar.{at, widest, is_name, is_bracketed, IsExpression, is_atom, is_tier, no_more, to_left, to_right, is_return, IsBlock}
 use Rattle.stm_parse.specs.Faults.{IsText}
 use Rattle.stm_parse.specs.Reading.{block_reader, whole, action_at, inside_act, atom_at, inside, tier_with, step_from, tail_from, tails}
-use Rattle.stm_parse.specs.Laws.{lexeme, two_operators, ToLeft, ToRight, ProductsGroupToTheLeft, DifferencesGroupToTheLeft, ProductsBindTighter, EqualitiesAreNotChained, BothGroupsToTheRight, EitherGroupsToTheRight}
+use Rattle.stm_parse.specs.Laws.{lexeme, two_operators, ProductsGroupToTheLeft, DifferencesGroupToTheLeft, ProductsBindTighter, EqualitiesAreNotChained, BothGroupsToTheRight, EitherGroupsToTheRight}
 use Rattle.stm_parse.proofs.Whole.{good_block, only}
 
 -- an operand, as an expression of tier k

@@ -1,10 +1,10 @@
 -- The levels and tiers that are left.
-use Rattle.std.proofs.Common.{◌≡◌, ℕ, zero, suc, ◌+◌, ◌-◌, ◌<◌, ◌≤◌, List, ◌∷◌, ◌∙◌, refl, ap, arith, Option, Some, None}
+use Rattle.std.proofs.Common.{◌≡◌, ℕ, zero, suc, ◌+◌, ◌-◌, ◌<◌, ◌≤◌, List, ◌∙◌, refl, ap, arith, Some, None}
 use Rattle.stm_parse.specs.declared.lexeme.Lexeme.{Lexeme}
 use Rattle.stm_terms.specs.RawTrees.{Term}
 use Rattle.stm_parse.specs.Grammar.{deepest, widest, grouping_of}
 use Rattle.stm_parse.proofs.Expressions as expressions
-use Rattle.stm_parse.specs.Reading.{Reader, ◌>>=◌, inside, atom_at, tier_with, tier_at, tail_at, tail_turn, op_next, step_from}
+use Rattle.stm_parse.specs.Reading.{◌>>=◌, inside, atom_at, tier_with, tier_at, tail_at, tail_turn, op_next, step_from}
 
 pub inside_none : (n : ℕ) → n ≡ 0 → inside n ≡ None
 unfolding inside

@@ -8,6 +8,7 @@ pub mod Good
 pub mod Kept
 pub mod Lawful
 pub mod Levels
+pub mod Maximal
 pub mod Operands
 pub mod Says
 pub mod Telling

@@ -1,5 +1,5 @@
 -- The reader of operands is good, over what reads inside brackets.
-use Rattle.std.proofs.Common.{◌≡◌, ℕ, zero, suc, ◌+◌, ◌-◌, ◌<◌, ◌≤◌, List, [], ◌∷◌, ◌++◌, length, refl, sym, ap, ◌∙◌, subst, arith, Option, Some, None, Ok, Err, Bool, true, false, cond, inl, ℤ, pos, neg_ℤ}
+use Rattle.std.proofs.Common.{◌≡◌, ℕ, suc, ◌+◌, ◌-◌, ◌<◌, ◌≤◌, List, [], ◌∷◌, ◌++◌, length, refl, ap, ◌∙◌, arith, Option, Some, None, Ok, Err, Bool, true, false, cond, inl, pos, neg_ℤ}
 use Rattle.std.proofs.lemmas.Bool.Decides.{nat_tests}
 use Rattle.stm_terms.specs.RawTrees.{Term, int, truth, unit, name}
 use Rattle.stm_parse.specs.declared.lexeme.Mark.{Mark}
@@ -9,11 +9,11 @@ use Rattle.stm_parse.specs.declared.lexeme.Sym.TheVariants as tok
 use Rattle.stm_parse.specs.declared.lexeme.Lexeme.{Lexeme}
 use Rattle.stm_parse.specs.declared.lexeme.Cause.TheVariants as cause
 use Rattle.stm_parse.specs.Marks.{is_mark, IsMark}
-use Rattle.stm_parse.specs.Grammar.{At, at, at_number, plain, deepest, greatest, IsAllowed}
+use Rattle.stm_parse.specs.Grammar.{At, at, at_number, plain, deepest, greatest}
 use Rattle.stm_parse.specs.Faults.{Language}
-use Rattle.stm_parse.specs.Reading.{Reading, Reader, ◌>>=◌, unexpected, too_deep, bad_number, begins, behind, or_behind, expect, in_reach, close_literal, literal_of, literal, closed, bracketed, short_marked, short_of, deeper, atom_with}
+use Rattle.stm_parse.specs.Reading.{Reading, Reader, bad_number, behind, or_behind, expect, in_reach, close_literal, literal_of, literal, closed, bracketed, short_of, deeper, atom_with}
 use Rattle.stm_parse.proofs.Says.{plain-split, Says, Some_text, Mapped, mapped, says_map, says_end, says_refused, says_beyond, says_token, says_one, says_same_first, says_same_end}
-use Rattle.stm_parse.proofs.Good.{Reads, reads_same, reads_step, reads_map, reads_stop, reads_beyond, Good, Any, is_mark-true, is_mark-same, some_mark, Token, token, good_expect, allowed}
+use Rattle.stm_parse.proofs.Good.{Reads, reads_same, reads_step, reads_map, reads_beyond, Good, Any, is_mark-true, is_mark-same, some_mark, Token, token, good_expect, allowed}
 
 pub within_reach : (n : ℕ) → in_reach n ≡ true → n ≤ greatest
 within_reach n e = grind (arith, nat_tests)

@@ -1,18 +1,18 @@
 -- From the tokens to the text: which fault is told.
-use Rattle.std.proofs.Common.{◌≡◌, ℕ, suc, ◌+◌, ◌-◌, ◌<◌, ◌≤◌, List, [], ◌∷◌, ◌++◌, length, length-append, append-nil, slice_get, refl, sym, ap, ◌∙◌, subst, arith, Option, Some, None, Result, Ok, Err, inl, inr}
+use Rattle.std.proofs.Common.{◌≡◌, ℕ, suc, ◌-◌, ◌<◌, ◌≤◌, List, [], ◌∷◌, ◌++◌, length, length-append, append-nil, slice_get, refl, sym, ap, ◌∙◌, subst, arith, Some, None, Result, Ok, Err, inl, inr}
 use Rattle.stm_parse.specs.declared.lexeme.Lexeme.{Lexeme}
 use Rattle.stm_parse.specs.declared.lexeme.Cause.{Cause}
 use Rattle.stm_parse.specs.declared.lexeme.Cause.TheVariants as cause
-use Rattle.stm_parse.specs.declared.lexeme.Fault.{Fault}
 use Rattle.stm_parse.specs.declared.lexeme.Stop.{Stop}
 use Rattle.stm_parse.specs.declared.lexeme.Stop.TheVariants as stop
 use Rattle.stm_parse.specs.declared.cutting.Token.{Token}
 use Rattle.stm_parse.specs.declared.fault.ParseFault.{ParseFault}
 use Rattle.stm_parse.specs.declared.fault.ParseFault.TheVariants as fault
-use Rattle.stm_parse.specs.Tokens.{tokens_of, Tells, IsOfTokens}
+use Rattle.stm_parse.specs.Tokens.{tokens_of, IsOfTokens}
+use Rattle.stm_parse.specs.Told.{TellsFault}
 use Rattle.stm_parse.specs.Lexing.{lexemes_of}
-use Rattle.stm_parse.specs.Faults.{Language, IsText, Begins, AtFault, IsFault}
-use Rattle.stm_parse.specs.Parsing.{most_bytes, most_tokens, Lexes, Fits, IsTextOf, FirstAtFault, EndsTooSoon, IsEarly, IsTold, told_by, told_at, OrNoMemory}
+use Rattle.stm_parse.specs.Faults.{Language, IsText, Begins, AtFault}
+use Rattle.stm_parse.specs.Parsing.{most_bytes, most_tokens, Lexes, Fits, IsTextOf, IsEarly, IsTold, told_by, told_at, OrNoMemory}
 use Rattle.stm_parse.specs.Reading.{Reader, Fails, whole}
 use Rattle.stm_parse.proofs.Good.{Good, Any}
 use Rattle.stm_parse.proofs.Whole.{Right, right, only}
@@ -33,11 +33,11 @@ place_is ls q s n e l =
 same_ok : (a b : List Token) → (let r : Result (List Token) ParseFault = Ok a in r ≡ Ok b) → a ≡ b
 same_ok a b e = cc
 
-lexemes_length : (text : List ℕ) (ts : List Token) → length (lexemes_of text ts) ≡ length ts
-lexemes_length text [] = refl
-lexemes_length text (t ∷ ts) = ap suc (lexemes_length text ts)
+pub lexemes_count : (text : List ℕ) (ts : List Token) → length (lexemes_of text ts) ≡ length ts
+lexemes_count text [] = refl
+lexemes_count text (t ∷ ts) = ap suc (lexemes_count text ts)
 
-pub tells_early : (text : List ℕ) (e : ParseFault) → length text ≤ most_bytes → Tells e (tokens_of text) → IsOfTokens e → IsEarly text e
+pub tells_early : (text : List ℕ) (e : ParseFault) → length text ≤ most_bytes → TellsFault e (tokens_of text) → IsOfTokens e → IsEarly text e
 tells_early text (fault.BadByte n) l h k = (l, h)
 tells_early text (fault.BadNumber n) l h k = (l, h)
 tells_early text (fault.NameTooLong n) l h k = (l, h)
@@ -48,10 +48,10 @@ tells_early text fault.TooLarge l h k = absurd k
 tells_early text fault.NoMemory l h k = tt
 
 pub too_many : (text : List ℕ) (ts : List Token) → length text ≤ most_bytes → tokens_of text ≡ Ok ts → most_tokens < length ts → IsEarly text fault.TooLarge
-too_many text ts l e m = let n = lexemes_length text ts in inr (lexemes_of text ts, l, (ts, e, refl), omega arith)
+too_many text ts l e m = let n = lexemes_count text ts in inr (lexemes_of text ts, l, (ts, e, refl), omega arith)
 
 pub they_fit : (text : List ℕ) (ts : List Token) (ls : List Lexeme) → length text ≤ most_bytes → tokens_of text ≡ Ok ts → length ts ≤ most_tokens → ls ≡ lexemes_of text ts → Fits text ls
-they_fit text ts ls l e m q = let n = lexemes_length text ts in let k = ap length q in (l, (ts, e, q), omega arith)
+they_fit text ts ls l e m q = let n = lexemes_count text ts in let k = ap length q in (l, (ts, e, q), omega arith)
 
 pub lexes_same : (text : List ℕ) (ls ms : List Lexeme) → Lexes text ls → Lexes text ms → ls ≡ ms
 lexes_same text ls ms h k = let e : h.0 ≡ k.0 = same_ok h.0 k.0 (sym h.1 ∙ k.1) in h.2 ∙ ap (lexemes_of text) e ∙ sym k.2

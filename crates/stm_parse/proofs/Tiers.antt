@@ -1,5 +1,5 @@
 -- The three forms of operators: grouped to the left, not chained, grouped to the right. Over a good reader of operands, each is good.
-use Rattle.std.proofs.Common.{◌≡◌, ℕ, zero, suc, ◌+◌, ◌<◌, ◌≤◌, List, [], ◌∷◌, ◌++◌, length, length-append, refl, sym, ap, ◌∙◌, subst, arith, Option, Some, None, Result, Ok, Err, Bool, true, false, cond, nat_eq}
+use Rattle.std.proofs.Common.{◌≡◌, ℕ, zero, suc, ◌+◌, ◌<◌, ◌≤◌, List, [], ◌∷◌, ◌++◌, length, length-append, refl, sym, ap, ◌∙◌, arith, Option, Some, None, Result, Ok, Err, Bool, true, false, cond, nat_eq}
 use Rattle.std.proofs.lemmas.Bool.{eqb-true, eq-eqb}
 use Rattle.stm_terms.specs.declared.expr.Op.{Op}
 use Rattle.stm_terms.specs.RawTrees.{Term, bin}
@@ -9,7 +9,7 @@ use Rattle.stm_parse.specs.declared.descent.Grouping.{Grouping}
 use Rattle.stm_parse.specs.declared.descent.Grouping.TheVariants as grouping
 use Rattle.stm_parse.specs.Grammar.{At, at, plain, deepest, operator_of, grouping_of, IsExpression, is_tier, IsTail, no_more, to_left, not_chained, to_right}
 use Rattle.stm_parse.specs.Reading.{Reading, Reader, ◌>>=◌, op_pick, op_next, tail_by, tail_turn, tails, tail_from, step_from}
-use Rattle.stm_parse.proofs.Says.{plain-length, plain-split, Says, Some_text, Then, then_, Mapped, mapped, says_stop, says_token, says_chain, says_map}
+use Rattle.stm_parse.proofs.Says.{Says, Then, then_, Mapped, mapped, says_stop, says_token, says_chain, says_map}
 use Rattle.stm_parse.proofs.Good.{Reads, reads_stop, reads_step, reads_chain, reads_map, Good, good_same, good_chain, each_says, each_reads, shorter, from_below, allowed}
 
 -- the tier of the operator that is next

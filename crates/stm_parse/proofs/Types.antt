@@ -1,9 +1,9 @@
 -- The readers of types, of what a variable holds at first, and of declarations are good.
-use Rattle.std.proofs.Common.{◌≡◌, ℕ, zero, suc, ◌+◌, ◌-◌, ◌<◌, ◌≤◌, List, [], ◌∷◌, ◌++◌, length, refl, sym, ap, ◌∙◌, subst, arith, Option, Some, None, Ok, Err, Bool, true, false, cond, nat_lt, inl, inr}
+use Rattle.std.proofs.Common.{◌≡◌, ℕ, zero, suc, ◌+◌, ◌≤◌, List, [], ◌∷◌, ◌++◌, refl, ap, ◌∙◌, arith, Option, Some, None, Ok, Bool, true, false, nat_lt, inl, inr}
 use Rattle.std.proofs.lemmas.Bool.Decides.{nat_tests}
 use Rattle.stm_terms.specs.declared.kinds.Ty.{Ty}
 use Rattle.stm_terms.specs.declared.kinds.Base.TheVariants as base
-use Rattle.stm_terms.specs.RawTrees.{Term, truth}
+use Rattle.stm_terms.specs.RawTrees.{Term}
 use Rattle.stm_parse.specs.declared.lexeme.Mark.{Mark}
 use Rattle.stm_parse.specs.declared.lexeme.Mark.TheVariants as mark
 use Rattle.stm_parse.specs.declared.lexeme.Sym.{Sym}
@@ -11,10 +11,10 @@ use Rattle.stm_parse.specs.declared.lexeme.Sym.TheVariants as tok
 use Rattle.stm_parse.specs.declared.lexeme.Lexeme.{Lexeme}
 use Rattle.stm_parse.specs.declared.lexeme.Cause.TheVariants as cause
 use Rattle.stm_parse.specs.Marks.{is_mark, IsMark}
-use Rattle.stm_parse.specs.Grammar.{At, at, at_ref, plain, deepest, most_refs, IsAllowed, IsType, is_var, is_bare, IsBareType, is_int, is_bool, is_unit_type, is_bracketed_type, IsInit, is_number_init, is_negative_init, is_true_init, is_false_init, is_unit_init, is_name_init, Declared, IsDeclaration, is_declaration}
+use Rattle.stm_parse.specs.Grammar.{At, at, at_ref, plain, deepest, most_refs, IsType, is_var, is_bare, IsBareType, is_int, is_bool, is_unit_type, is_bracketed_type, IsInit, is_number_init, is_negative_init, is_true_init, is_false_init, is_unit_init, is_name_init, Declared, IsDeclaration, is_declaration}
 use Rattle.stm_parse.specs.Faults.{Language}
-use Rattle.stm_parse.specs.Reading.{Reading, Reader, ◌>>=◌, unexpected, too_deep, behind, or_behind, expect, expect_name, closed, deeper, atom_with, refuse, init, var_ty, bracketed_type, bare_marked, bare_of, bare_with, var_of, type_with, inside_type, bare_at, type_at, declaration_reader}
-use Rattle.stm_parse.proofs.Says.{plain-split, Says, Some_text, Then, then_, Mapped, mapped, says_more, says_map, says_end, says_refused, says_beyond, says_token, says_one, says_same_first, says_same_end}
+use Rattle.stm_parse.specs.Reading.{Reading, Reader, ◌>>=◌, behind, or_behind, expect, expect_name, closed, deeper, refuse, init, var_ty, bracketed_type, bare_of, bare_with, var_of, type_with, inside_type, bare_at, type_at, declaration_reader}
+use Rattle.stm_parse.proofs.Says.{plain-split, Says, Then, then_, Mapped, mapped, says_more, says_map, says_end, says_refused, says_beyond, says_token, says_one, says_same_first, says_same_end}
 use Rattle.stm_parse.proofs.Good.{Reads, reads_same, reads_step, reads_map, reads_beyond, Good, good_same, good_chain, good_map, good_expect, good_name, each_says, each_reads, is_mark-true, is_mark-same, IsName, Any, some_mark, Token, token, allowed}
 use Rattle.stm_parse.proofs.Expressions.{Closing, good_closed}
 use Rattle.stm_parse.proofs.Operands.{Operand, of_number, of_negative, of_true, of_false, of_unit, of_name, of_bracketed, Behind, Inner, good_operand}

@@ -1,14 +1,14 @@
 -- A reader that is good reads all of the tokens right: what it reads is a text, each text is read, and a fault is the first.
-use Rattle.std.proofs.Common.{◌≡◌, ℕ, suc, ◌<◌, List, [], ◌∷◌, ◌++◌, length, refl, sym, ap, ◌∙◌, subst, append_assoc, append-nil, Result, Ok, Err, inl, inr}
+use Rattle.std.proofs.Common.{◌≡◌, ℕ, suc, List, [], ◌∷◌, ◌++◌, length, refl, sym, ap, ◌∙◌, subst, append_assoc, append-nil, Result, Ok, Err, inl, inr}
 use Rattle.stm_terms.specs.RawTrees.{Act}
 use Rattle.stm_parse.specs.declared.lexeme.Lexeme.{Lexeme}
 use Rattle.stm_parse.specs.declared.lexeme.Fault.{Fault}
 use Rattle.stm_parse.specs.declared.lexeme.Cause.{Cause}
 use Rattle.stm_parse.specs.declared.lexeme.Cause.TheVariants as cause
 use Rattle.stm_parse.specs.Reading.{Reading, Reader, ◌>>=◌, action_at, block_reader, ended, whole}
-use Rattle.stm_parse.specs.Grammar.{At, at, plain, Placed, IsAction, IsBlock, WithinLimits}
-use Rattle.stm_parse.specs.Faults.{Language, IsText, Begins, BeginsNone, IsBeyond, IsPast, AtFault, IsFault}
-use Rattle.stm_parse.proofs.Says.{Took, Failed, Points, PointsAt, Says, SaysOf, plain-split, Mapped, mapped}
+use Rattle.stm_parse.specs.Grammar.{At, plain, Placed, IsAction, IsBlock, WithinLimits}
+use Rattle.stm_parse.specs.Faults.{Language, IsText, BeginsNone, IsPast, AtFault, IsFault}
+use Rattle.stm_parse.proofs.Says.{Took, Failed, Points, PointsAt, SaysOf, plain-split, Mapped, mapped}
 use Rattle.stm_parse.proofs.Good.{Outcome, Good, Any, good_same, good_map, each_says, each_reads}
 use Rattle.stm_parse.proofs.Actions.{good_action}
 

@@ -14,31 +14,31 @@ abbrev pub declared_of : RawDeclaration → Declared
 declared_of d = record { from = d.from; to = d.to; ty = d.ty; init = raw_term_of d.init }
 
 -- what a variable holds at first: a value, or the variable of a name that stands at a place
-pub data Initial : Type 0 where
-  literal : Value → Initial
-  reference : List ℕ → ℕ → Initial
+pub data ParsedInit : Type 0 where
+  literal : Value → ParsedInit
+  named : List ℕ → ℕ → ParsedInit
 
 -- a declaration as callers see it
-pub record Seen : Type 0 where
+pub record ParsedDeclaration : Type 0 where
   pub name : List ℕ
-  pub ty : Ty
-  pub init : Initial
+  pub kind : Ty
+  pub init : ParsedInit
 
-abbrev pub seen_init : Init → Initial
+abbrev pub seen_init : Init → ParsedInit
 seen_init (I.Literal v) = literal v
-seen_init (I.Name n at) = reference (string_bytes n) at
+seen_init (I.Name n at) = named (string_bytes n) at
 
-abbrev pub seen : Declaration → Seen
-seen d = record { name = string_bytes d.name; ty = d.ty; init = seen_init d.init }
+abbrev pub seen : Declaration → ParsedDeclaration
+seen d = record { name = string_bytes d.name; kind = d.ty; init = seen_init d.init }
 
 -- what an operand says of a variable; no declaration has an operator
-abbrev pub init_of : List ℕ → Term → Initial
+abbrev pub init_of : List ℕ → Term → ParsedInit
 init_of text (int n at) = literal (V.Int n)
 init_of text (truth b at) = literal (V.Bool b)
 init_of text (unit at) = literal V.Unit
-init_of text (name from to) = reference (slice_range text from to) from
+init_of text (name from to) = named (slice_range text from to) from
 init_of text (bin o a b) = literal V.Unit
 
 -- the declaration that a tree stands for in a text
-abbrev pub said : List ℕ → Declared → Seen
-said text t = record { name = slice_range text t.from t.to; ty = t.ty; init = init_of text t.init }
+abbrev pub said : List ℕ → Declared → ParsedDeclaration
+said text t = record { name = slice_range text t.from t.to; kind = t.ty; init = init_of text t.init }

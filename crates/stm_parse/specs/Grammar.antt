@@ -1,9 +1,8 @@
 -- The grammar, by cases on its productions.
-use Rattle.std.specs.Prelude.{◌≡◌, ℕ, zero, suc, ◌+◌, ◌-◌, ◌≤◌, ◌^◌, List, [], ◌∷◌, ◌++◌, Bool, true, false, Option, Some, None, ℤ, pos, neg_ℤ}
+use Rattle.std.specs.Prelude.{◌≡◌, ℕ, zero, suc, ◌+◌, ◌-◌, ◌≤◌, List, [], ◌∷◌, ◌++◌, true, false, Option, Some, None, pos, neg_ℤ}
 use Rattle.stm_terms.specs.declared.expr.Op.{Op}
 use Rattle.stm_terms.specs.declared.expr.Op.TheVariants as op
 use Rattle.stm_terms.specs.declared.kinds.Ty.{Ty}
-use Rattle.stm_terms.specs.declared.kinds.Base.{Base}
 use Rattle.stm_terms.specs.declared.kinds.Base.TheVariants as base
 use Rattle.stm_terms.specs.RawTrees.{Term, int, truth, unit, name, bin, Act, return, read, write, make, retry, throw, choose, or_else, bind, let_in, seq}
 use Rattle.stm_parse.specs.declared.lexeme.Mark.{Mark}

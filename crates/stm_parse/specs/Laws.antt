@@ -2,7 +2,7 @@
 use Rattle.std.specs.Prelude.{◌≡◌, ℕ, List, [], ◌∷◌}
 use Rattle.stm_terms.specs.declared.expr.Op.{Op}
 use Rattle.stm_terms.specs.declared.expr.Op.TheVariants as op
-use Rattle.stm_terms.specs.RawTrees.{Term, name, bin, Act, return}
+use Rattle.stm_terms.specs.RawTrees.{name, bin, Act, return}
 use Rattle.stm_parse.specs.declared.lexeme.Mark.{Mark}
 use Rattle.stm_parse.specs.declared.lexeme.Mark.TheVariants as mark
 use Rattle.stm_parse.specs.declared.lexeme.Sym.{Sym}

@@ -4,8 +4,10 @@ pub mod Faults
 pub mod Grammar
 pub mod Laws
 pub mod Lexing
+pub mod Longest
 pub mod Marks
 pub mod Parsing
 pub mod RawBlocks
 pub mod Reading
+pub mod Told
 pub mod Tokens

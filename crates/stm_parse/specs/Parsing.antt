@@ -1,5 +1,5 @@
 -- A text of the grammar, and which fault is told of any other text.
-use Rattle.std.specs.Prelude.{◌≡◌, ℕ, ◌+◌, ◌-◌, ◌<◌, ◌≤◌, ◌⊎◌, List, [], ◌∷◌, ◌++◌, length, slice_get, Option, Some, None, Result, Ok, Err}
+use Rattle.std.specs.Prelude.{◌≡◌, ℕ, ◌-◌, ◌<◌, ◌≤◌, ◌⊎◌, List, ◌∷◌, ◌++◌, length, slice_get, Option, Some, None, Result, Ok, Err}
 use Rattle.stm_parse.specs.declared.lexeme.Lexeme.{Lexeme}
 use Rattle.stm_parse.specs.declared.lexeme.Cause.{Cause}
 use Rattle.stm_parse.specs.declared.lexeme.Cause.TheVariants as cause

@@ -1,5 +1,5 @@
 -- A parsed block as callers see it.
-use Rattle.std.specs.Prelude.{◌≡◌, ℕ, List, [], ◌∷◌, length, Bool, true, refl, slice_range}
+use Rattle.std.specs.Prelude.{◌≡◌, ℕ, List, [], ◌∷◌, length, true, refl, slice_range}
 use Rattle.std.specs.Global.{Box}
 use denote.RawPtr.{null_ptr}
 use Rattle.std.specs.Coded.{Coded, code_by}

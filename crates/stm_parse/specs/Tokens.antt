@@ -1,5 +1,5 @@
 -- How a text is cut: at each place that is no blank the longest token.
-use Rattle.std.specs.Prelude.{◌≡◌, ℕ, zero, suc, ◌+◌, ◌-◌, ◌<◌, ◌≤◌, List, [], ◌∷◌, ◌++◌, take, Result, Ok, Err, nat_lt, if◌then◌else◌, Option, Some, None}
+use Rattle.std.specs.Prelude.{ℕ, zero, suc, ◌+◌, ◌-◌, ◌<◌, ◌≤◌, List, [], ◌∷◌, ◌++◌, take, Result, Ok, Err, nat_lt, if◌then◌else◌, Option, Some, None}
 use Rattle.stm_terms.specs.Names.{is_digit}
 use Rattle.stm_parse.specs.Bytes.{is_letter, is_blank, symbol_mark, word_len, number_len, number_of}
 use Rattle.stm_parse.specs.declared.lexeme.Mark.{Mark}
@@ -63,21 +63,6 @@ tokens_of text = cut 0 0 text
 abbrev pub SpansRise : ℕ → ℕ → List Token → Type 0
 SpansRise p n [] = p ≤ n
 SpansRise p n (t ∷ ts) = (p ≤ t.start) × (t.start < t.end) × (t.end ≤ n) × SpansRise t.end n ts
-
--- a fault that is told, unless memory ran out
-abbrev pub Tells : {Y : Type 0} → ParseFault → Result Y ParseFault → Type 0
-Tells fault.NoMemory reading = Unit {0}
-Tells (fault.BadByte n) reading = reading ≡ Err (fault.BadByte n)
-Tells (fault.BadNumber n) reading = reading ≡ Err (fault.BadNumber n)
-Tells (fault.NameTooLong n) reading = reading ≡ Err (fault.NameTooLong n)
-Tells (fault.Unexpected n) reading = reading ≡ Err (fault.Unexpected n)
-Tells fault.EndOfText reading = reading ≡ Err fault.EndOfText
-Tells fault.TooDeep reading = reading ≡ Err fault.TooDeep
-Tells fault.TooLarge reading = reading ≡ Err fault.TooLarge
-
-abbrev pub Told : {X Y : Type 0} → (X → Y) → Result X ParseFault → Result Y ParseFault → Type 0
-Told view (Ok x) reading = reading ≡ Ok (view x)
-Told view (Err e) reading = Tells e reading
 
 -- a token has at least one byte, and no more than there are
 abbrev pub IsWithin : Front → ℕ → Type 0

@@ -4,7 +4,8 @@ ghost use Rattle.std.specs.Prelude.{◌≡◌, ℕ, ◌+◌, ◌-◌, ◌<◌, �
 ghost use Rattle.std.specs.Str.{IsAscii};
 ghost use Rattle.stm_terms.specs.Names.{is_digit, is_word_byte};
 ghost use Rattle.stm_parse.specs.Bytes.{is_letter, is_blank, pair_mark, single_mark, symbol_mark, word_len, number_len, digit_value, decimal, number_of};
-ghost use Rattle.stm_parse.specs.Tokens.{symbol_front, front_of, tokens_of, SpansRise, Told, IsOfTokens, IsWithin};
+ghost use Rattle.stm_parse.specs.Tokens.{symbol_front, front_of, tokens_of, SpansRise, IsOfTokens, IsWithin};
+ghost use Rattle.stm_parse.specs.Told.{Tells};
 
 use crate::fault::ParseFault;
 use crate::lexeme::Mark;
@@ -233,7 +234,7 @@ fn front_at(bytes: &[u8], place: usize) -> Front
 ///
 /// The faults are `BadByte`, `BadNumber` and `NameTooLong`.
 pub fn tokens(alloc: Global, text: &str) -> Result<Vec<Token>, ParseFault>
-    ensures cuts { Told (λ v. v.items) result (tokens_of text.now) }
+    ensures cuts { Tells (λ v. v.items) result (tokens_of text.now) }
     // So each place of the text is between characters.
     ensures ascii { IfOk result (λ v. IsAscii text.now) }
     ensures rise { IfOk result (λ v. SpansRise 0 (length text.now) v.items) }
@@ -243,7 +244,7 @@ pub fn tokens(alloc: Global, text: &str) -> Result<Vec<Token>, ParseFault>
 }
 
 fn cut(alloc: Global, bytes: &[u8]) -> Result<Vec<Token>, ParseFault>
-    ensures cuts { Told (λ v. v.items) result (tokens_of bytes.now) }
+    ensures cuts { Tells (λ v. v.items) result (tokens_of bytes.now) }
     ensures rise { IfOk result (λ v. SpansRise 0 (length bytes.now) v.items) }
     ensures faults { IfErr result IsOfTokens }
 {

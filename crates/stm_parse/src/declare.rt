@@ -9,11 +9,11 @@ ghost use Rattle.stm_parse.specs.Grammar.{Declared, IsDeclaration, most_refs};
 ghost use Rattle.stm_parse.specs.Parsing.{IsTextOf, IsTold, OrNoMemory};
 ghost use Rattle.stm_parse.specs.Reading.{Gives, declaration_reader, whole};
 
-use crate::type_descent::{RawDeclaration, declaration};
 use crate::descent::unexpected;
 use crate::fault::ParseFault;
 use crate::lexeme::{Lexeme, Stop};
 use crate::parse::{lexed, told};
+use crate::type_descent::{RawDeclaration, declaration};
 use std::alloc::Global;
 use stm_terms::{NoMemory, RawExpr, Ty, Value};
 

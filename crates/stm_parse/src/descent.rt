@@ -143,11 +143,7 @@ pub fn operator(tier: u8, toks: &[Lexeme]) -> Option<(Op, &[Lexeme])>
     let Some((own, op)) = operator_of(first.sym) else {
         return None;
     };
-    if own == tier {
-        Some((op, rest))
-    } else {
-        None
-    }
+    if own == tier { Some((op, rest)) } else { None }
 }
 
 /// How the operators of a tier group.

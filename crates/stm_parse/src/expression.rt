@@ -57,7 +57,11 @@ fn literal(at: usize, toks: &[Lexeme]) -> Result<(RawExpr, &[Lexeme]), Stop>
 }
 
 // An operand of one token.
-fn short<'t>(first: &Lexeme, rest: &'t [Lexeme], toks: &'t [Lexeme]) -> Result<(RawExpr, &'t [Lexeme]), Stop>
+fn short<'t>(
+    first: &Lexeme,
+    rest: &'t [Lexeme],
+    toks: &'t [Lexeme],
+) -> Result<(RawExpr, &'t [Lexeme]), Stop>
     requires { toks.now ≡ first.now ∷ rest.now }
     ensures gives { Gives (λ r. (raw_term_of r.0, r.1.now)) result (short_of first.now.sym first.now rest.now) }
     ensures shorter { IfOk result (λ r. length r.1.now ≤ length toks.now) }

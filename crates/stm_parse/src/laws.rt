@@ -1,31 +1,33 @@
 //! What holds of the grammar. Each function is a law: its contract says it, and its body does nothing.
 
 ghost use Rattle.stm_parse.specs.Laws.{EachBlockIsOne, EachDeclarationIsOne, ProductsGroupToTheLeft, DifferencesGroupToTheLeft, ProductsBindTighter, EqualitiesAreNotChained, BothGroupsToTheRight, EitherGroupsToTheRight};
+ghost use Rattle.stm_parse.specs.Longest.{EachCutIsLongest};
 
 /// Each text has one tree.
 pub fn each_text_is_one_tree()
     ensures block { EachBlockIsOne }
     ensures declaration { EachDeclarationIsOne }
-{
-}
+{}
 
 /// `a * b * c` is `(a * b) * c`, `a - b - c` is `(a - b) - c`, and `a - b * c` is `a - (b * c)`.
 pub fn sums_and_products_group_to_the_left()
     ensures products { ProductsGroupToTheLeft }
     ensures differences { DifferencesGroupToTheLeft }
     ensures tighter { ProductsBindTighter }
-{
-}
+{}
 
 /// `a == b == c` is no text.
 pub fn comparisons_are_not_chained()
     ensures { EqualitiesAreNotChained }
-{
-}
+{}
 
 /// `a && b && c` is `a && (b && c)`, and `a || b || c` is `a || (b || c)`.
 pub fn conditions_group_to_the_right()
     ensures both { BothGroupsToTheRight }
     ensures either { EitherGroupsToTheRight }
-{
-}
+{}
+
+/// What is cut is a token, and no longer token stands there.
+pub fn each_cut_is_the_longest()
+    ensures { EachCutIsLongest }
+{}

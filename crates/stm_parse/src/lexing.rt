@@ -5,8 +5,8 @@ ghost use Rattle.std.specs.Str.{IsAscii};
 ghost use Rattle.stm_terms.specs.RawTrees.{IsSpan};
 ghost use Rattle.stm_parse.specs.Lexing.{control_mark, action_mark, value_mark, word_mark, sym_of, lexeme_of, lexemes_of, SpansInside};
 
-use crate::lexeme::{Lexeme, Mark, Sym};
 use crate::cutting::{Kind, Token, number_of, symbol_mark};
+use crate::lexeme::{Lexeme, Mark, Sym};
 use std::alloc::Global;
 use stm_terms::{NoMemory, is_name};
 
@@ -92,13 +92,7 @@ fn sym_of(kind: Kind, text: &str) -> Sym
     match kind {
         Kind::Word => match word_mark(text) {
             Some(mark) => Sym::Mark(mark),
-            None => {
-                if is_name(text) {
-                    Sym::Name
-                } else {
-                    Sym::Other
-                }
-            }
+            None => { if is_name(text) { Sym::Name } else { Sym::Other } }
         },
         Kind::Number => match number_of(text.as_bytes()) {
             Some(n) => Sym::Number(n),

@@ -8,13 +8,13 @@ ghost use Rattle.stm_parse.specs.Parsing.{Fits, IsTextOf, IsEarly, IsTold, OrNoM
 ghost use Rattle.stm_parse.specs.RawBlocks.{NamesOf};
 ghost use Rattle.stm_parse.specs.Reading.{Gives, block_reader, whole};
 
+use crate::cutting::tokens;
 use crate::descent::unexpected;
 use crate::do_block::action;
 use crate::fault::ParseFault;
 use crate::lexeme::{Cause, Lexeme, Stop};
 use crate::lexing::lexemes;
 use crate::parsed::Raw;
-use crate::cutting::tokens;
 use std::alloc::Global;
 use stm_terms::RawAction;
 

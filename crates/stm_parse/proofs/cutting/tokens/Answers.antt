@@ -2,11 +2,12 @@ use Rattle.std.proofs.Common.{List, ℕ, Result, Ok, Err, IfOk, Vec, Global, len
 use Rattle.std.specs.Str.{IsAscii}
 use Rattle.stm_parse.specs.declared.cutting.Token.{Token}
 use Rattle.stm_parse.specs.declared.fault.ParseFault.{ParseFault}
-use Rattle.stm_parse.specs.Tokens.{tokens_of, Told, SpansRise}
+use Rattle.stm_parse.specs.Tokens.{tokens_of, SpansRise}
+use Rattle.stm_parse.specs.Told.{Tells}
 use Rattle.stm_parse.proofs.Ascii.{cut_ascii}
 use Rattle.stm_parse.proofs.cutting.tokens.Goals as goal
 
-gives_ascii : (bytes : List ℕ) (r : Result (Vec Token Global) ParseFault) → Told (λ v. v.items) r (tokens_of bytes) → IfOk r (λ v. IsAscii bytes)
+gives_ascii : (bytes : List ℕ) (r : Result (Vec Token Global) ParseFault) → Tells (λ v. v.items) r (tokens_of bytes) → IfOk r (λ v. IsAscii bytes)
 gives_ascii bytes (Ok v) h = cut_ascii bytes v.items h
 gives_ascii bytes (Err e) h = tt
 

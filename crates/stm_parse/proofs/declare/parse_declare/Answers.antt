@@ -1,9 +1,9 @@
-use Rattle.std.proofs.Common.{◌≡◌, ◌≤◌, List, ℕ, length, true, sym, ap, ◌∙◌, subst, Ok}
+use Rattle.std.proofs.Common.{◌≡◌, sym, ap, ◌∙◌, subst}
 use Rattle.stm_terms.specs.Names.{is_name_text}
 use Rattle.stm_parse.specs.Declaring.{declared_of, said, seen}
-use Rattle.stm_parse.specs.Grammar.{Declared, IsDeclaration}
-use Rattle.stm_parse.specs.Parsing.{IsTextOf, IsTold, OrNoMemory}
-use Rattle.stm_parse.specs.Reading.{declaration_reader, whole}
+use Rattle.stm_parse.specs.Grammar.{IsDeclaration}
+use Rattle.stm_parse.specs.Parsing.{IsTold}
+use Rattle.stm_parse.specs.Reading.{declaration_reader}
 use Rattle.stm_parse.proofs.Kept.{kept_declaration}
 use Rattle.stm_parse.proofs.Telling.{text_of, ok_text, only_this, stop_told, stop_none}
 use Rattle.stm_parse.proofs.Types.{good_declaration}

@@ -31,4 +31,3 @@ decreases-let_bound l = 4 * length l.toks.now + 3
 
 abbrev pub decreases-sequence : goal.decreases-sequence
 decreases-sequence l = 4 * length l.toks.now + 1
-

@@ -1,4 +1,4 @@
-use Rattle.std.proofs.Common.{◌≡◌, ◌<◌, ◌≤◌, length, sym, ap, ◌∙◌, subst, arith}
+use Rattle.std.proofs.Common.{length, sym, ap, ◌∙◌, subst, arith}
 use Rattle.stm_parse.specs.Lexing.{lexemes_of}
 use Rattle.stm_parse.specs.Parsing.{most_bytes, most_tokens}
 use Rattle.stm_parse.specs.RawBlocks.{NamesOf}

@@ -1,9 +1,9 @@
-use Rattle.std.proofs.Common.{◌≡◌, ◌≤◌, ◌^◌, List, ℕ, length, sym, ap, ◌∙◌, subst, Ok}
-use Rattle.stm_terms.specs.RawTrees.{raw_act_of, SpansWithin, actions}
+use Rattle.std.proofs.Common.{◌≡◌, length, sym, ◌∙◌, subst}
+use Rattle.stm_terms.specs.RawTrees.{raw_act_of, SpansWithin}
 use Rattle.stm_parse.specs.Grammar.{IsBlock}
-use Rattle.stm_parse.specs.Parsing.{IsTextOf, IsTold, OrNoMemory}
+use Rattle.stm_parse.specs.Parsing.{IsTextOf, IsTold}
 use Rattle.stm_parse.specs.RawBlocks.{NamesAre}
-use Rattle.stm_parse.specs.Reading.{block_reader, whole}
+use Rattle.stm_parse.specs.Reading.{block_reader}
 use Rattle.stm_parse.proofs.Kept.{kept_block}
 use Rattle.stm_parse.proofs.Telling.{text_of, ok_text, only_this, stop_told, stop_none}
 use Rattle.stm_parse.proofs.Whole.{good_block}

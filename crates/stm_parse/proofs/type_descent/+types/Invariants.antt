@@ -10,4 +10,3 @@ decreases-bare_type l = 4 * length l.toks.now + 0
 
 abbrev pub decreases-bracketed_type : goal.decreases-bracketed_type
 decreases-bracketed_type l = 4 * length l.toks.now + 2
-
