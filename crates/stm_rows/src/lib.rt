@@ -1,5 +1,5 @@
-//! Tests that cross crates: worked cases by text, runs over readers and writers that fail, and the language's own
-//! functions where they answer.
+//! Tests that cross crates: worked cases by text, runs over readers and writers that fail, and the calls of the parser, the
+//! check and the evaluator where they answer.
 #![tactic(auto)]
 
 #[cfg(test)]
@@ -7,8 +7,14 @@ mod cases;
 #[cfg(test)]
 mod devices;
 #[cfg(test)]
+mod evaluating;
+#[cfg(test)]
 mod failing;
 #[cfg(test)]
 mod language;
 #[cfg(test)]
 mod limits;
+#[cfg(test)]
+mod parse;
+#[cfg(test)]
+mod typing;
