@@ -5,7 +5,7 @@ use stm_check::{Script, Typed, check};
 use stm_eval::{Evaluated, Job, evaluate, try_block};
 use stm_parse::parse_block;
 use stm_store::{Frozen, Store, Table};
-use stm_terms::{Base, Ty, Value, Verdict, is_name, write_verdict};
+use stm_terms::{Base, Fault, Ty, Value, Verdict, is_name, write_verdict};
 
 const INT: Ty = Ty {
     base: Base::Int,
@@ -114,4 +114,78 @@ fn a_message_tells_its_ticket_its_reads_and_its_verdict(rt: HostRuntime) {
     assert!(rt; message.reads().as_slice() == [(0, Value::Int(1))].as_slice());
     let told = text_of(alloc, message.verdict());
     assert!(rt; told.is_some_and(|text| text.as_str() == "commits writes #0=2 news none result 1"));
+}
+
+/// A job of the increment under ticket 7, and the store to evaluate it on; none where memory ran out.
+fn job(alloc: Global) -> Option<(Job, Frozen)> {
+    let (table, frozen) = opened(alloc)?;
+    let block = block(
+        alloc,
+        &table,
+        "do { a <- readTVar x; writeTVar x (a + 1); return a }",
+    )?;
+    let script = Script::new(alloc, block).ok()?;
+    let job = Job {
+        ticket: 7,
+        block: script,
+    };
+    Some((job, frozen))
+}
+
+/// The job evaluated, and once more where memory ran out and it came back.
+fn evaluated(alloc: Global, job: Job, frozen: &Frozen) -> Option<Evaluated> {
+    if !frozen.covers(job.block.block().uses()) {
+        return None;
+    }
+    match evaluate(alloc, job, frozen) {
+        Ok(message) => Some(message),
+        Err((job, _)) => {
+            if !frozen.covers(job.block.block().uses()) {
+                return None;
+            }
+            evaluate(alloc, job, frozen).ok()
+        }
+    }
+}
+
+#[test]
+fn a_job_that_comes_back_is_evaluated_as_at_first(rt: HostRuntime) {
+    let alloc = rt.alloc();
+    let Some((job, frozen)) = job(alloc) else {
+        return;
+    };
+    let Some(message) = evaluated(alloc, job, &frozen) else {
+        assert!(rt; false, "the job was lost");
+        return;
+    };
+    assert_eq!(rt; message.ticket(), 7);
+    assert!(rt; message.reads().as_slice() == [(0, Value::Int(1))].as_slice());
+}
+
+/// What a block does, and once more where memory ran out.
+fn tried(alloc: Global, frozen: &Frozen, block: &Typed) -> Option<Verdict> {
+    if !frozen.covers(block.uses()) {
+        return None;
+    }
+    match try_block(alloc, frozen, block) {
+        Ok((verdict, _)) => Some(verdict),
+        Err(_) => match try_block(alloc, frozen, block) {
+            Ok((verdict, _)) => Some(verdict),
+            Err(_) => None,
+        },
+    }
+}
+
+#[test]
+fn a_block_is_tried_again_as_at_first(rt: HostRuntime) {
+    let alloc = rt.alloc();
+    let Some((table, frozen)) = opened(alloc) else {
+        return;
+    };
+    let text = "orElse (do { a <- readTVar x; writeTVar x 9; retry }) (throw 4)";
+    let Some(block) = block(alloc, &table, text) else {
+        return;
+    };
+    let verdict = tried(alloc, &frozen, &block);
+    assert!(rt; matches!(verdict, Some(Verdict::Throws(Fault::Thrown(4)))));
 }
