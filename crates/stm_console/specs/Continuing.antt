@@ -1,5 +1,6 @@
 -- The relation that a run keeps while it takes its input in parts.
-use Rattle.std.specs.Prelude.{◌≡◌, ℕ, List, ◌++◌}
+use Rattle.std.specs.Prelude.{◌≡◌, ◌≢◌, ℕ, List, ◌++◌}
+use Rattle.std.specs.List.{All}
 use Rattle.stm_console.specs.Lines.{lines_from, whole_lines_from}
 use Rattle.stm_console.specs.Commands.{ConsoleState}
 use Rattle.stm_console.specs.Console.{answers_to}
@@ -16,3 +17,7 @@ whole_rest_text s begun rest = answers_to s (whole_lines_from begun rest)
 pub record Continues (s : ConsoleState) (begun : List ℕ) (t : ConsoleState) (begun' : List ℕ) (taken written : List ℕ) : Type 0 where
   pub all : (more : List ℕ) → rest_text s begun (taken ++ more) ≡ written ++ rest_text t begun' more
   pub whole : (more : List ℕ) → whole_rest_text s begun (taken ++ more) ≡ written ++ whole_rest_text t begun' more
+
+-- none of the bytes is a line feed
+abbrev pub NoLineFeed : List ℕ → Type 0
+NoLineFeed bytes = All (λ b. b ≢ 10) bytes

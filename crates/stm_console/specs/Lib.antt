@@ -6,3 +6,4 @@ pub mod Lines
 pub mod Refusals
 pub mod Seen
 pub mod Statuses
+pub mod Words

@@ -9,6 +9,6 @@ status_of Read = 1
 status_of Write = 1
 status_of NoMemory = 4
 
--- done, or a fault's
+-- done, the words are refused, or a fault's
 abbrev pub IsStatus : ℕ → Type 0
-IsStatus n = (n ≡ 0) ⊎ ((n ≡ 1) ⊎ (n ≡ 4))
+IsStatus n = (n ≡ 0) ⊎ ((n ≡ 1) ⊎ ((n ≡ 2) ⊎ (n ≡ 4)))

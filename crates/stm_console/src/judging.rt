@@ -66,7 +66,7 @@ fn skip_blanks(text: &[u8]) -> &[u8]
 fn has_high_byte(line: &[u8]) -> bool
     ensures { result ≡ high_byte line.now }
 {
-    line.iter().any(|byte| *byte > 127)
+    !line.is_ascii()
 }
 
 /// The command word of a text and its argument.

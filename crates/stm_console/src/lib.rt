@@ -1,11 +1,13 @@
 //! The console: commands by line from a reader, answers to a writer.
 //!
-//! `run` writes exactly the text that `specs/Console` gives for what it reads; `start` is the program over its streams.
+//! `run` writes exactly the text that `specs/Console` gives for what it reads; `start` is the program over its words and
+//! streams, and `command_line` judges the words.
 //! Below them stand a run under way (`session`), the judgement of a line (`judging`), what the console knows (`console`) and
 //! the commands: `declaring` has `tvar`, `trying` has `try` and `looks`, `showing` has `store`.
 #![tactic(auto)]
 
 mod command;
+mod command_line;
 mod console;
 mod declaring;
 mod desk;

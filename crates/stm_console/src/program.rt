@@ -1,14 +1,23 @@
-//! The program over its streams, and its exit status.
+//! The program over its words and streams, and its exit status.
 
-ghost use Rattle.std.specs.Prelude.{◌≡◌, ◌≢◌, ℕ, List, IfSome};
-ghost use Rattle.std.specs.Io.KnownBytes.{Appends};
+ghost use Rattle.std.specs.Prelude.{◌≡◌, ◌≢◌, ◌⊎◌, ℕ, List, IfSome, IsTrue, map};
+ghost use Rattle.std.specs.Io.KnownBytes.{Appends, Keeps};
+ghost use Rattle.clap.specs.Values.{kind_of};
 ghost use Rattle.stm_terms.specs.Texts.{IsPrefixOf};
 ghost use Rattle.stm_console.specs.Console.{console_text};
 ghost use Rattle.stm_console.specs.Statuses.{status_of, IsStatus};
+ghost use Rattle.stm_console.specs.Words.{asks_for_help, asks_for_run, has_mistake, is_mistake};
 
+use crate::command_line::read_words;
 use crate::streams::{RunFault, run};
+use clap::Error;
+use clap::error::ErrorKind;
 use std::alloc::Global;
+use std::convert::AsStr;
 use std::io::{Read, Write};
+
+/// The exit status where the words are refused.
+const REFUSED: u8 = 2;
 
 impl RunFault {
     /// The exit status of a run that ends so.
@@ -24,29 +33,75 @@ impl RunFault {
     }
 }
 
-/// The whole program: runs from the reader to the writer, tells a fault on `errors`, and answers the exit status.
+/// Tells a fault on `errors`, and answers its status.
+fn tell_fault<E: Write>(fault: RunFault, errors: &mut E) -> u8
+    ensures { result ≡ status_of fault }
+{
+    let _ = writeln!(errors, "{fault}");
+    fault.status()
+}
+
+/// Tells help on the writer, or what is wrong with the words on `errors`, and answers the status.
+fn tell_words<W: Write, E: Write>(error: &Error, writer: &mut W, errors: &mut E) -> u8
+    ensures status { IsStatus result }
+    ensures refused { result ≡ 2 → Keeps (W.contents writer.old) (W.contents writer.new) }
+    ensures mistake { IsTrue (is_mistake (kind_of error.now)) → ((result ≡ 2) ⊎ (result ≡ 4))
+        × Keeps (W.contents writer.old) (W.contents writer.new) }
+    ensures help { (kind_of error.now ≡ ErrorKind.OutOfMemory) ⊎ (kind_of error.now ≡ ErrorKind.DisplayHelp) → result ≢ 2 }
+{
+    if error.kind() == ErrorKind::OutOfMemory {
+        return tell_fault(RunFault::NoMemory, errors);
+    }
+    if error.use_stderr() {
+        let _ = write!(errors, "{error}");
+        return REFUSED;
+    }
+    if write!(writer, "{error}").is_err() || writer.flush().is_err() {
+        return tell_fault(RunFault::Write, errors);
+    }
+    0
+}
+
+/// The whole program: reads its words, the program's name first; where they ask for a run, runs from the reader to the
+/// writer; tells a fault on `errors`, and answers the exit status.
 ///
-/// 0: the input was read to its end. 1: a read or a write failed. 4: memory ran out. That `errors` fails changes nothing.
-pub fn start<R: Read, W: Write, E: Write>(
+/// 0: the input was read to its end, or help was written. 1: a read or a write failed. 2: the words were refused. 4: memory
+/// ran out. That `errors` fails changes nothing.
+pub fn start<'a, S: AsStr, R: Read, W: Write, E: Write>(
     alloc: Global,
+    words: &'a [S],
     reader: &mut R,
     writer: &mut W,
     errors: &mut E,
 ) -> u8
     ensures status { IsStatus result }
+    // The words of a run aren't refused.
+    ensures runs { IsTrue (asks_for_run (map S.text words.now)) → result ≢ 2 }
     // With status 0 the whole text of the input was written.
-    ensures answered { result ≡ 0 → IfSome (R.remaining reader.old) (λ input.
+    ensures answered { IsTrue (asks_for_run (map S.text words.now)) → result ≡ 0 →
+        IfSome (R.remaining reader.old) (λ input.
         Appends (W.contents writer.old) (W.contents writer.new) (console_text input)) }
     // With any other it is a prefix of the text.
-    ensures part { result ≢ 0 → IfSome (R.remaining reader.old) (λ input.
+    ensures part { IsTrue (asks_for_run (map S.text words.now)) → result ≢ 0 →
+        IfSome (R.remaining reader.old) (λ input.
         (front : List ℕ) × IsPrefixOf front (console_text input)
         × Appends (W.contents writer.old) (W.contents writer.new) front) }
+    // Where words are refused, nothing is read and nothing written.
+    ensures refused { result ≡ 2 → Keeps (R.remaining reader.old) (R.remaining reader.new)
+        × Keeps (W.contents writer.old) (W.contents writer.new) }
+    // Wrong words are refused, or memory runs out, and nothing is read and nothing written.
+    ensures mistake { IsTrue (has_mistake (map S.text words.now)) → ((result ≡ 2) ⊎ (result ≡ 4))
+        × Keeps (R.remaining reader.old) (R.remaining reader.new)
+        × Keeps (W.contents writer.old) (W.contents writer.new) }
+    // A request for help isn't refused, and nothing is read.
+    ensures help { IsTrue (asks_for_help (map S.text words.now)) → (result ≢ 2)
+        × Keeps (R.remaining reader.old) (R.remaining reader.new) }
 {
+    if let Err(error) = read_words(alloc, words) {
+        return tell_words(&error, writer, errors);
+    }
     match run(alloc, reader, writer) {
         Ok(()) => 0,
-        Err(fault) => {
-            let _ = writeln!(errors, "{fault}");
-            fault.status()
-        }
+        Err(fault) => tell_fault(fault, errors),
     }
 }

@@ -5,11 +5,12 @@ ghost use Rattle.std.specs.Io.KnownBytes.{Appends};
 ghost use Rattle.stm_terms.specs.Texts.{IsPrefixOf};
 ghost use Rattle.stm_console.specs.Lines.{drop_return as returnless};
 ghost use Rattle.stm_console.specs.Console.{start, answer_to, state_after};
-ghost use Rattle.stm_console.specs.Continuing.{Continues, rest_text};
+ghost use Rattle.stm_console.specs.Continuing.{Continues, NoLineFeed, rest_text};
 
 use crate::console::Console;
 use crate::output::write_text;
 use crate::streams::RunFault;
+use memchr::memchr;
 use std::alloc::Global;
 use std::io::Write;
 
@@ -70,33 +71,33 @@ impl Session {
         Ok(())
     }
 
-    /// Takes one more byte of the input.
-    fn take_byte<W: Write>(
-        &mut self,
-        alloc: Global,
-        byte: u8,
-        writer: &mut W,
-    ) -> Result<(), RunFault>
-        ensures done { OnOk result ((written : List ℕ)
-            × Continues self.old.console self.old.line.items self.new.console self.new.line.items (byte ∷ []) written
-            × Appends (W.contents writer.old) (W.contents writer.new) written) }
-        ensures part { OnErr result ((front : List ℕ)
-            × ((more : List ℕ) → IsPrefixOf front (rest_text self.old.console self.old.line.items (byte ∷ more)))
-            × Appends (W.contents writer.old) (W.contents writer.new) front) }
-        ensures fault { IfErr result (λ e. e ≢ RunFault.Read) }
+    /// Takes bytes of the line that has begun, of which no more than `FULL` are kept.
+    fn take_part(&mut self, bytes: &[u8]) -> Result<(), RunFault>
+        requires { NoLineFeed bytes.now }
+        ensures done { OnOk result (Continues self.old.console self.old.line.items self.new.console self.new.line.items bytes.now []) }
+        ensures fault { IfErr result (λ e. e ≡ RunFault.NoMemory) }
     {
-        if byte == b'\n' {
-            drop_return(&mut self.line);
-            self.answer_line(alloc, writer)?;
-            return Ok(());
-        }
-        if self.line.len() >= FULL {
-            return Ok(());
-        }
-        match self.line.push(byte) {
+        let room = FULL.saturating_sub(self.line.len());
+        let kept = bytes.len().min(room);
+        match self.line.extend_from_slice(&bytes[..kept]) {
             Ok(()) => Ok(()),
             Err(_) => Err(RunFault::NoMemory),
         }
+    }
+
+    /// Takes a line feed, which ends the line that has begun.
+    fn take_line_feed<W: Write>(&mut self, alloc: Global, writer: &mut W) -> Result<(), RunFault>
+        ensures done { OnOk result ((written : List ℕ)
+            × Continues self.old.console self.old.line.items self.new.console self.new.line.items (10 ∷ []) written
+            × Appends (W.contents writer.old) (W.contents writer.new) written) }
+        ensures part { OnErr result ((front : List ℕ)
+            × ((more : List ℕ) → IsPrefixOf front (rest_text self.old.console self.old.line.items (10 ∷ more)))
+            × Appends (W.contents writer.old) (W.contents writer.new) front) }
+        ensures fault { IfErr result (λ e. e ≢ RunFault.Read) }
+    {
+        drop_return(&mut self.line);
+        self.answer_line(alloc, writer)?;
+        Ok(())
     }
 
     /// Takes the next bytes of the input.
@@ -114,9 +115,13 @@ impl Session {
             × Appends (W.contents writer.old) (W.contents writer.new) front) }
         ensures fault { IfErr result (λ e. e ≢ RunFault.Read) }
     {
-        for byte in bytes {
-            self.take_byte(alloc, *byte, writer)?;
+        let mut rest = bytes;
+        while let Some(at) = memchr(b'\n', rest) {
+            self.take_part(&rest[..at])?;
+            self.take_line_feed(alloc, writer)?;
+            rest = &rest[at + 1..];
         }
+        self.take_part(rest)?;
         Ok(())
     }
 

@@ -10,7 +10,7 @@ use Rattle.stm_parse.specs.declared.cutting.Kind.TheVariants as kind
 use Rattle.stm_parse.specs.declared.cutting.Token.{Token}
 use Rattle.stm_parse.specs.Bytes.{symbol_mark, number_of}
 use Rattle.stm_parse.specs.Tokens.{SpansRise}
-use Rattle.stm_parse.specs.Lexing.{word_mark, mark_or, number_or, sym_of, lexemes_of, SpansInside}
+use Rattle.stm_parse.specs.Lexing.{word_mark, mark_or, number_or, sym_of, lexemes_of}
 use Rattle.stm_parse.specs.Faults.{IsText}
 use Rattle.stm_parse.specs.Parsing.{most_tokens}
 use Rattle.stm_parse.proofs.Says.{plain-length}
@@ -29,10 +29,6 @@ named_front text (u ∷ us) vs h = (h.0, named_front text us vs h.1)
 named_back : (text : List ℕ) (us vs : List At) → Named text (us ++ vs) → Named text vs
 named_back text [] vs h = h
 named_back text (u ∷ us) vs h = named_back text us vs h.1
-
-pub rise_inside : (p n : ℕ) (ts : List Token) → SpansRise p n ts → SpansInside n ts
-rise_inside p n [] h = tt
-rise_inside p n (t ∷ ts) h = let l = h.1 in ((omega arith, h.2), rise_inside t.end n ts h.3)
 
 sym_named : (k : Kind) (w : List ℕ) → sym_of k w ≡ tok.Name → is_name_text w ≡ true
 sym_named kind.Word w e = by (word_mark w) e
@@ -55,9 +51,9 @@ sym_named kind.Symbol w e = by (symbol_mark w) e
     by None e = absurd cc
     by (Some m) e = absurd cc
 
-pub names_of : (text : List ℕ) (ts : List Token) → SpansInside (length text) ts → NamesOf text (lexemes_of text ts)
-names_of text [] h = tt
-names_of text (t ∷ ts) h = (λ s. (h.0, sym_named t.kind (slice_range text t.start t.end) s), names_of text ts h.1)
+pub names_of : (text : List ℕ) (p : ℕ) (ts : List Token) → SpansRise p (length text) ts → NamesOf text (lexemes_of text ts)
+names_of text p [] h = tt
+names_of text p (t ∷ ts) h = let l = h.1 in (λ s. ((omega arith, h.2), sym_named t.kind (slice_range text t.start t.end) s), names_of text t.end ts h.3)
 
 named : (text : List ℕ) (us : List At) → NamesOf text (plain us) → Named text us
 named text [] h = tt

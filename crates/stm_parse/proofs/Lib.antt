@@ -10,11 +10,15 @@ pub mod Good
 pub mod Kept
 pub mod Lawful
 pub mod Levels
-pub mod Maximal
+pub mod LongestCuts
+pub mod LongestFronts
+pub mod SymbolTexts
 pub mod Operands
+pub mod Pieces
 pub mod Says
 pub mod Telling
 pub mod Tiers
 pub mod TypeLevels
 pub mod Types
 pub mod Whole
+pub mod Words

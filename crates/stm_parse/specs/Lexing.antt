@@ -2,7 +2,6 @@
 use Rattle.std.specs.Prelude.{ℕ, List, [], ◌∷◌, slice_range, codes, if◌then◌else◌, Option, Some, None}
 use Rattle.std.specs.Str.{bytes_eq}
 use Rattle.stm_terms.specs.Names.{is_name_text}
-use Rattle.stm_terms.specs.RawTrees.{IsSpan}
 use Rattle.stm_parse.specs.declared.lexeme.Mark.{Mark}
 use Rattle.stm_parse.specs.declared.lexeme.Mark.TheVariants as mark
 use Rattle.stm_parse.specs.declared.lexeme.Sym.{Sym}
@@ -74,8 +73,3 @@ lexeme_of text t = record { sym = sym_of t.kind (slice_range text t.start t.end)
 abbrev pub lexemes_of : List ℕ → List Token → List Lexeme
 lexemes_of text [] = []
 lexemes_of text (t ∷ ts) = lexeme_of text t ∷ lexemes_of text ts
-
--- each is a span of n bytes
-abbrev pub SpansInside : ℕ → List Token → Type 0
-SpansInside n [] = Unit {0}
-SpansInside n (t ∷ ts) = IsSpan n t.start t.end × SpansInside n ts

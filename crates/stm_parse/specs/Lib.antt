@@ -4,10 +4,11 @@ pub mod Faults
 pub mod Grammar
 pub mod Laws
 pub mod Lexing
-pub mod Longest
+pub mod LongestTokens
 pub mod Marks
 pub mod Parsed
 pub mod Parsing
+pub mod Pieces
 pub mod RawBlocks
 pub mod Reading
 pub mod Told

@@ -3,12 +3,13 @@
 ghost use Rattle.std.specs.Prelude.{◌≡◌, ℕ, ◌+◌, ◌-◌, ◌<◌, ◌≤◌, length, IfOk, IfErr, drop};
 ghost use Rattle.std.specs.Str.{IsAscii};
 ghost use Rattle.stm_terms.specs.Names.{is_digit, is_word_byte};
-ghost use Rattle.stm_parse.specs.Bytes.{is_letter, is_blank, pair_mark, single_mark, symbol_mark, word_len, number_len, digit_value, decimal, number_of};
-ghost use Rattle.stm_parse.specs.Tokens.{symbol_front, front_of, tokens_of, SpansRise, IsOfTokens, IsWithin};
+ghost use Rattle.stm_parse.specs.Bytes.{is_letter, is_blank, pair_mark, single_mark, word_len, number_len, digit_value, decimal, number_of};
+ghost use Rattle.stm_parse.specs.Tokens.{front_of, tokens_of, SpansRise, IsOfTokens, IsWithin};
 ghost use Rattle.stm_parse.specs.Told.{Tells};
 
 use crate::fault::ParseFault;
 use crate::lexeme::Mark;
+use crate::lexing::{Piece, first_piece};
 use std::alloc::Global;
 
 /// What a token is written with: letters first, digits, or a symbol.
@@ -37,13 +38,13 @@ pub enum Front {
     BadNumber,
 }
 
-fn is_letter(byte: u8) -> bool
+pub(crate) fn is_letter(byte: u8) -> bool
     ensures { result ≡ is_letter byte }
 {
     (97 <= byte && byte <= 122) || (65 <= byte && byte <= 90)
 }
 
-fn is_digit(byte: u8) -> bool
+pub(crate) fn is_digit(byte: u8) -> bool
     ensures { result ≡ is_digit byte }
 {
     48 <= byte && byte <= 57
@@ -52,14 +53,10 @@ fn is_digit(byte: u8) -> bool
 fn is_word_byte(byte: u8) -> bool
     ensures { result ≡ is_word_byte byte }
 {
-    (97 <= byte && byte <= 122)
-        || (65 <= byte && byte <= 90)
-        || is_digit(byte)
-        || byte == 95
-        || byte == 39
+    is_letter(byte) || is_digit(byte) || byte == 95 || byte == 39
 }
 
-fn is_blank(byte: u8) -> bool
+pub(crate) fn is_blank(byte: u8) -> bool
     ensures { result ≡ is_blank byte }
 {
     byte == 9 || byte == 10 || byte == 13 || byte == 32
@@ -67,95 +64,48 @@ fn is_blank(byte: u8) -> bool
 
 // <- <= == && ||
 #[tactic(auto, unfolding(crate::specs::Bytes::pair_mark))]
-fn pair_mark(a: u8, b: u8) -> Option<Mark>
+pub(crate) fn pair_mark(a: u8, b: u8) -> Option<Mark>
     ensures { result ≡ pair_mark a b }
 {
-    if a == 60 && b == 45 {
-        Some(Mark::Arrow)
-    } else if a == 60 && b == 61 {
-        Some(Mark::AtMost)
-    } else if a == 61 && b == 61 {
-        Some(Mark::Same)
-    } else if a == 38 && b == 38 {
-        Some(Mark::Both)
-    } else if a == 124 && b == 124 {
-        Some(Mark::Either)
-    } else {
-        None
+    match (a, b) {
+        (b'<', b'-') => Some(Mark::Arrow),
+        (b'<', b'=') => Some(Mark::AtMost),
+        (b'=', b'=') => Some(Mark::Same),
+        (b'&', b'&') => Some(Mark::Both),
+        (b'|', b'|') => Some(Mark::Either),
+        _ => None,
     }
 }
 
 // { } ( ) ; : < = + - *
+#[inline(always)]
 #[tactic(auto, unfolding(crate::specs::Bytes::single_mark))]
-fn single_mark(a: u8) -> Option<Mark>
+pub(crate) fn single_mark(a: u8) -> Option<Mark>
     ensures { result ≡ single_mark a }
 {
-    if a == 123 {
-        Some(Mark::BraceOpen)
-    } else if a == 125 {
-        Some(Mark::BraceClose)
-    } else if a == 40 {
-        Some(Mark::Open)
-    } else if a == 41 {
-        Some(Mark::Close)
-    } else if a == 59 {
-        Some(Mark::Semicolon)
-    } else if a == 58 {
-        Some(Mark::Colon)
-    } else if a == 60 {
-        Some(Mark::Below)
-    } else if a == 61 {
-        Some(Mark::Equals)
-    } else if a == 43 {
-        Some(Mark::Plus)
-    } else if a == 45 {
-        Some(Mark::Minus)
-    } else if a == 42 {
-        Some(Mark::Star)
-    } else {
-        None
+    match a {
+        b'{' => Some(Mark::BraceOpen),
+        b'}' => Some(Mark::BraceClose),
+        b'(' => Some(Mark::Open),
+        b')' => Some(Mark::Close),
+        b';' => Some(Mark::Semicolon),
+        b':' => Some(Mark::Colon),
+        b'<' => Some(Mark::Below),
+        b'=' => Some(Mark::Equals),
+        b'+' => Some(Mark::Plus),
+        b'-' => Some(Mark::Minus),
+        b'*' => Some(Mark::Star),
+        _ => None,
     }
 }
 
-/// The mark that these bytes write.
-pub fn symbol_mark(bytes: &[u8]) -> Option<Mark>
-    ensures { result ≡ symbol_mark bytes.now }
-{
-    match bytes {
-        [] => None,
-        [a] => single_mark(*a),
-        [a, b] => pair_mark(*a, *b),
-        [_, _, _, ..] => None,
-    }
-}
-
-fn symbol_front(bytes: &[u8]) -> Front
-    ensures value { result ≡ symbol_front bytes.now }
-    ensures within { IsWithin result (length bytes.now) }
-{
-    match bytes {
-        [] => Front::BadByte,
-        [a] => match single_mark(*a) {
-            Some(_) => Front::Found(Kind::Symbol, 1),
-            None => Front::BadByte,
-        },
-        [a, b, ..] => match pair_mark(*a, *b) {
-            Some(_) => Front::Found(Kind::Symbol, 2),
-            None => match single_mark(*a) {
-                Some(_) => Front::Found(Kind::Symbol, 1),
-                None => Front::BadByte,
-            },
-        },
-    }
-}
-
-fn word_len(bytes: &[u8]) -> usize
+pub(crate) fn word_len(bytes: &[u8]) -> usize
     ensures { result ≡ word_len bytes.now }
 {
     bytes.iter().take_while(|byte| is_word_byte(**byte)).count()
 }
 
-fn number_len(bytes: &[u8]) -> usize
+pub(crate) fn number_len(bytes: &[u8]) -> usize
     ensures { result ≡ number_len bytes.now }
 {
     bytes.iter().take_while(|byte| is_digit(**byte)).count()
@@ -195,30 +145,17 @@ fn decimal(digits: &[u8]) -> u64
     value
 }
 
-#[tactic(auto, unfolding(crate::specs::Tokens::front_of))]
 fn front_of(bytes: &[u8]) -> Front
     requires { 0 < length bytes.now }
     ensures value { result ≡ front_of bytes.now }
     ensures within { IsWithin result (length bytes.now) }
 {
-    let first = bytes[0];
-    if is_blank(first) {
-        Front::Blank
-    } else if is_letter(first) {
-        let n = word_len(bytes);
-        if n > 32 {
-            Front::LongName
-        } else {
-            Front::Found(Kind::Word, n)
-        }
-    } else if is_digit(first) {
-        let n = number_len(bytes);
-        match number_of(&bytes[..n]) {
-            Some(_) => Front::Found(Kind::Number, n),
-            None => Front::BadNumber,
-        }
-    } else {
-        symbol_front(bytes)
+    match first_piece(bytes) {
+        Piece::Blank => Front::Blank,
+        Piece::Found(kind, _, n) => Front::Found(kind, n),
+        Piece::BadByte => Front::BadByte,
+        Piece::LongName => Front::LongName,
+        Piece::BadNumber => Front::BadNumber,
     }
 }
 

@@ -2,7 +2,6 @@
 
 ghost use Rattle.stm_parse.specs.Laws.{EachBlockIsOne, EachDeclarationIsOne, ProductsGroupToTheLeft, DifferencesGroupToTheLeft, ProductsBindTighter, EqualitiesAreNotChained, BothGroupsToTheRight, EitherGroupsToTheRight};
 ghost use Rattle.stm_parse.specs.Parsed.{BlockAnswersAreRight, DeclarationAnswersAreRight};
-ghost use Rattle.stm_parse.specs.Longest.{EachCutIsLongest};
 
 /// Each text has one tree.
 pub fn each_text_is_one_tree()
@@ -26,11 +25,6 @@ pub fn comparisons_are_not_chained()
 pub fn conditions_group_to_the_right()
     ensures both { BothGroupsToTheRight }
     ensures either { EitherGroupsToTheRight }
-{}
-
-/// What is cut is a token, and no longer token stands there.
-pub fn each_cut_is_the_longest()
-    ensures { EachCutIsLongest }
 {}
 
 /// What is answered for a text is right by the grammar.

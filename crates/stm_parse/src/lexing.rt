@@ -1,133 +1,186 @@
-//! The tokens of a text as the grammar sees them.
+//! The tokens of a text as the grammar sees them, in one pass over its bytes.
 
-ghost use Rattle.std.specs.Prelude.{◌≡◌, ◌≤◌, length, IfOk};
+ghost use Rattle.std.specs.Prelude.{◌≡◌, ◌-◌, ◌<◌, ◌≤◌, length, drop, true, MatchResult, IfOk, IfErr};
+ghost use Rattle.std.specs.List.{list_all};
 ghost use Rattle.std.specs.Str.{IsAscii};
-ghost use Rattle.stm_terms.specs.RawTrees.{IsSpan};
-ghost use Rattle.stm_parse.specs.Lexing.{control_mark, action_mark, value_mark, word_mark, sym_of, lexeme_of, lexemes_of, SpansInside};
+ghost use Rattle.stm_terms.specs.Names.{is_word_byte, starts_small};
+ghost use Rattle.stm_parse.specs.declared.cutting.Kind.TheVariants as kind;
+ghost use Rattle.stm_parse.specs.Lexing.{word_mark, sym_of};
+ghost use Rattle.stm_parse.specs.Parsing.{Lexes};
+ghost use Rattle.stm_parse.specs.Pieces.{front_seen, IsSeen};
+ghost use Rattle.stm_parse.specs.RawBlocks.{NamesOf};
+ghost use Rattle.stm_parse.specs.Told.{TellsFault};
+ghost use Rattle.stm_parse.specs.Tokens.{symbol_front, front_of, tokens_of, IsOfTokens, IsWithin};
 
-use crate::cutting::{Kind, Token, number_of, symbol_mark};
+use crate::cutting::{
+    Kind, is_blank, is_digit, is_letter, number_len, number_of, pair_mark, single_mark, word_len,
+};
+use crate::fault::ParseFault;
 use crate::lexeme::{Lexeme, Mark, Sym};
 use std::alloc::Global;
-use stm_terms::{NoMemory, is_name};
 
-#[tactic(auto, unfolding(crate::specs::Lexing::control_mark))]
-fn control_mark(word: &str) -> Option<Mark>
-    ensures { result ≡ control_mark word.now }
-{
-    if word == "do" {
-        Some(Mark::Do)
-    } else if word == "let" {
-        Some(Mark::Let)
-    } else if word == "if" {
-        Some(Mark::If)
-    } else if word == "then" {
-        Some(Mark::Then)
-    } else if word == "else" {
-        Some(Mark::Else)
-    } else {
-        None
-    }
-}
-
-#[tactic(auto, unfolding(crate::specs::Lexing::action_mark))]
-fn action_mark(word: &str) -> Option<Mark>
-    ensures { result ≡ action_mark word.now }
-{
-    if word == "return" {
-        Some(Mark::Return)
-    } else if word == "readTVar" {
-        Some(Mark::Read)
-    } else if word == "writeTVar" {
-        Some(Mark::Write)
-    } else if word == "newTVar" {
-        Some(Mark::Make)
-    } else if word == "retry" {
-        Some(Mark::Retry)
-    } else if word == "orElse" {
-        Some(Mark::OrElse)
-    } else if word == "throw" {
-        Some(Mark::Throw)
-    } else if word == "catch" {
-        Some(Mark::Catch)
-    } else {
-        None
-    }
-}
-
-#[tactic(auto, unfolding(crate::specs::Lexing::value_mark))]
-fn value_mark(word: &str) -> Option<Mark>
-    ensures { result ≡ value_mark word.now }
-{
-    if word == "True" {
-        Some(Mark::True)
-    } else if word == "False" {
-        Some(Mark::False)
-    } else if word == "Int" {
-        Some(Mark::Int)
-    } else if word == "Bool" {
-        Some(Mark::Bool)
-    } else if word == "TVar" {
-        Some(Mark::Var)
-    } else {
-        None
-    }
+/// What stands at the front of some bytes, a token with what the grammar sees in it and its length.
+#[derive(Clone, Copy)]
+pub enum Piece {
+    Blank,
+    Found(Kind, Sym, usize),
+    BadByte,
+    LongName,
+    BadNumber,
 }
 
 // A reserved word.
-fn word_mark(word: &str) -> Option<Mark>
+#[tactic(auto, unfolding(crate::specs::Lexing::control_mark, crate::specs::Lexing::action_mark, crate::specs::Lexing::value_mark))]
+fn word_mark(word: &[u8]) -> Option<Mark>
     ensures { result ≡ word_mark word.now }
 {
-    match control_mark(word) {
-        Some(mark) => Some(mark),
-        None => match action_mark(word) {
-            Some(mark) => Some(mark),
-            None => value_mark(word),
+    match word {
+        b"do" => Some(Mark::Do),
+        b"if" => Some(Mark::If),
+        b"let" => Some(Mark::Let),
+        b"Int" => Some(Mark::Int),
+        b"then" => Some(Mark::Then),
+        b"else" => Some(Mark::Else),
+        b"True" => Some(Mark::True),
+        b"Bool" => Some(Mark::Bool),
+        b"TVar" => Some(Mark::Var),
+        b"retry" => Some(Mark::Retry),
+        b"throw" => Some(Mark::Throw),
+        b"catch" => Some(Mark::Catch),
+        b"False" => Some(Mark::False),
+        b"return" => Some(Mark::Return),
+        b"orElse" => Some(Mark::OrElse),
+        b"newTVar" => Some(Mark::Make),
+        b"readTVar" => Some(Mark::Read),
+        b"writeTVar" => Some(Mark::Write),
+        _ => None,
+    }
+}
+
+fn starts_small(word: &[u8]) -> bool
+    ensures { result ≡ starts_small word.now }
+{
+    match word {
+        [] => false,
+        [first, ..] => 97 <= *first && *first <= 122,
+    }
+}
+
+// A word that isn't reserved is a name by its first letter alone.
+#[tactic(auto, using(crate::proofs::Words::is_name_by_first))]
+fn word_sym(word: &[u8]) -> Sym
+    requires bytes { list_all is_word_byte word.now ≡ true }
+    requires short { length word.now ≤ 32 }
+    ensures { result ≡ sym_of kind.Word word.now }
+{
+    match word_mark(word) {
+        Some(mark) => Sym::Mark(mark),
+        None => {
+            if starts_small(word) {
+                Sym::Name
+            } else {
+                Sym::Other
+            }
+        }
+    }
+}
+
+fn symbol_piece(bytes: &[u8]) -> Piece
+    ensures front { front_seen result ≡ symbol_front bytes.now }
+    ensures sym { IsSeen bytes.now result }
+    ensures within { IsWithin (front_seen result) (length bytes.now) }
+{
+    match bytes {
+        [] => Piece::BadByte,
+        [a] => match single_mark(*a) {
+            Some(mark) => Piece::Found(Kind::Symbol, Sym::Mark(mark), 1),
+            None => Piece::BadByte,
+        },
+        [a, b, ..] => match pair_mark(*a, *b) {
+            Some(mark) => Piece::Found(Kind::Symbol, Sym::Mark(mark), 2),
+            None => match single_mark(*a) {
+                Some(mark) => Piece::Found(Kind::Symbol, Sym::Mark(mark), 1),
+                None => Piece::BadByte,
+            },
         },
     }
 }
 
-fn sym_of(kind: Kind, text: &str) -> Sym
-    ensures { result ≡ sym_of kind text.now }
+/// What stands at the front of some bytes.
+#[tactic(auto, unfolding(crate::specs::Tokens::front_of), using(crate::proofs::Words::letter_not_blank, crate::proofs::Words::word_bytes, crate::proofs::Words::word_len_more))]
+pub(crate) fn first_piece(bytes: &[u8]) -> Piece
+    ensures front { front_seen result ≡ front_of bytes.now }
+    ensures sym { IsSeen bytes.now result }
+    ensures within { IsWithin (front_seen result) (length bytes.now) }
 {
-    match kind {
-        Kind::Word => match word_mark(text) {
-            Some(mark) => Sym::Mark(mark),
-            None => { if is_name(text) { Sym::Name } else { Sym::Other } }
-        },
-        Kind::Number => match number_of(text.as_bytes()) {
-            Some(n) => Sym::Number(n),
-            None => Sym::Other,
-        },
-        Kind::Symbol => match symbol_mark(text.as_bytes()) {
-            Some(mark) => Sym::Mark(mark),
-            None => Sym::Other,
-        },
+    let Some((first, rest)) = bytes.split_first() else {
+        return Piece::BadByte;
+    };
+    if is_letter(*first) {
+        let n = 1 + word_len(rest);
+        if n > 32 {
+            Piece::LongName
+        } else {
+            Piece::Found(Kind::Word, word_sym(&bytes[..n]), n)
+        }
+    } else if is_blank(*first) {
+        Piece::Blank
+    } else if is_digit(*first) {
+        let n = number_len(bytes);
+        match number_of(&bytes[..n]) {
+            Some(value) => Piece::Found(Kind::Number, Sym::Number(value), n),
+            None => Piece::BadNumber,
+        }
+    } else {
+        symbol_piece(bytes)
     }
 }
 
-fn lexeme_of(text: &str, token: &Token) -> Lexeme
-    requires ascii { IsAscii text.now }
-    requires span { IsSpan (length text.now) token.now.start token.now.end }
-    ensures { result ≡ lexeme_of text.now token.now }
+fn piece_at(bytes: &[u8], place: usize) -> Piece
+    requires { place < length bytes.now }
+    ensures front { front_seen result ≡ front_of (drop place bytes.now) }
+    ensures sym { IsSeen (drop place bytes.now) result }
+    ensures within { IsWithin (front_seen result) (length bytes.now - place) }
 {
-    Lexeme {
-        sym: sym_of(token.kind, &text[token.start..token.end]),
-        start: token.start,
-        end: token.end,
-    }
+    first_piece(&bytes[place..])
 }
 
-/// Each token with what it is.
-pub fn lexemes(alloc: Global, text: &str, toks: &[Token]) -> Result<Vec<Lexeme>, NoMemory>
-    requires ascii { IsAscii text.now }
-    requires spans { SpansInside (length text.now) toks.now }
-    ensures { IfOk result (λ v. v.items ≡ lexemes_of text.now toks.now) }
+/// The tokens of a text, each with what it is, or the first fault by place.
+///
+/// The faults are `BadByte`, `BadNumber` and `NameTooLong`.
+pub fn lexemes(alloc: Global, text: &str) -> Result<Vec<Lexeme>, ParseFault>
+    ensures cuts { MatchResult result (λ v. Lexes text.now v.items) (λ e. TellsFault e (tokens_of text.now)) }
+    // So each place of the text is between characters.
+    ensures ascii { IfOk result (λ v. IsAscii text.now) }
+    ensures names { IfOk result (λ v. NamesOf text.now v.items) }
+    ensures faults { IfErr result IsOfTokens }
 {
-    let mut out = Vec::with_capacity(alloc, toks.len())?;
-    let mut rest = toks;
-    while let Some((first, behind)) = rest.split_first() {
-        out.push(lexeme_of(text, first))?;
-        rest = behind;
+    cut_lexemes(alloc, text.as_bytes())
+}
+
+fn cut_lexemes(alloc: Global, bytes: &[u8]) -> Result<Vec<Lexeme>, ParseFault>
+    ensures cuts { MatchResult result (λ v. Lexes bytes.now v.items) (λ e. TellsFault e (tokens_of bytes.now)) }
+    ensures names { IfOk result (λ v. NamesOf bytes.now v.items) }
+    ensures faults { IfErr result IsOfTokens }
+{
+    // Few texts have more tokens than half their bytes, and long ones grow as they need.
+    let mut out = Vec::with_capacity(alloc, (bytes.len() / 2).min(64))?;
+    let mut place = 0;
+    while place < bytes.len() {
+        match piece_at(bytes, place) {
+            Piece::Blank => place += 1,
+            Piece::Found(_, sym, n) => {
+                out.push(Lexeme {
+                    sym,
+                    start: place,
+                    end: place + n,
+                })?;
+                place += n;
+            }
+            Piece::BadByte => return Err(ParseFault::BadByte(place)),
+            Piece::LongName => return Err(ParseFault::NameTooLong(place)),
+            Piece::BadNumber => return Err(ParseFault::BadNumber(place)),
+        }
     }
     Ok(out)
 }

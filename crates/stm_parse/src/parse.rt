@@ -10,7 +10,6 @@ ghost use Rattle.stm_parse.specs.Parsing.{Fits, IsTextOf, IsEarly, IsTold, OrNoM
 ghost use Rattle.stm_parse.specs.RawBlocks.{NamesOf};
 ghost use Rattle.stm_parse.specs.Reading.{Gives, block_reader, whole};
 
-use crate::cutting::tokens;
 use crate::descent::unexpected;
 use crate::do_block::action;
 use crate::fault::ParseFault;
@@ -32,14 +31,14 @@ pub(crate) fn lexed(alloc: Global, text: &str) -> Result<Vec<Lexeme>, ParseFault
     if text.len() > 65536 {
         return Err(ParseFault::TooLarge);
     }
-    let toks = match tokens(alloc, text) {
+    let toks = match lexemes(alloc, text) {
         Ok(toks) => toks,
         Err(fault) => return Err(fault),
     };
     if toks.len() > 4096 {
         return Err(ParseFault::TooLarge);
     }
-    Ok(lexemes(alloc, text, &toks)?)
+    Ok(toks)
 }
 
 // What is told of the place where the descent stopped.

@@ -1,6 +1,6 @@
 //! Inputs and what they print.
 
-use crate::devices::Short;
+use crate::devices::{PLAIN, Short};
 use std::test::Fail;
 use stm_console::start;
 
@@ -9,7 +9,7 @@ fn prints(alloc: std::alloc::Global, input: &[u8], text: &[u8]) -> bool {
     let mut reader = input;
     let mut output = Short::new(256);
     let mut errors = Short::new(0);
-    start(alloc, &mut reader, &mut output, &mut errors) == 0 && output.holds(text)
+    start(alloc, &PLAIN, &mut reader, &mut output, &mut errors) == 0 && output.holds(text)
 }
 
 /// Whether the program prints this text for an input behind the declaration of `x`, whose value is 1.

@@ -10,6 +10,9 @@ pub const LINES: &[u8] =
 pub const ANSWERS: &[u8] =
     b"tvar #0 x\ncommits writes #0=2 news none result 1\n#0 x : Int = 1 count 0\ncells 1\n";
 
+/// The words of a run: the program's name alone.
+pub const PLAIN: [&str; 1] = ["stmdesk"];
+
 /// A reader of one byte a call that fails at one call; each second call is interrupted if it says so.
 #[derive(Drop)]
 pub struct Slow<'a> {

@@ -1,6 +1,6 @@
 //! Runs over readers and writers that fail at each call in turn.
 
-use crate::devices::{ANSWERS, LINES, Short, Slow};
+use crate::devices::{ANSWERS, LINES, PLAIN, Short, Slow};
 use std::test::Fail;
 use stm_console::{RunFault, run, start};
 
@@ -44,7 +44,7 @@ fn fails_with_its_reader(rt: HostRuntime) -> Result<(), Fail> {
         };
         let mut output = Short::new(256);
         let mut errors = Short::new(256);
-        let status = start(rt.alloc(), &mut input, &mut output, &mut errors);
+        let status = start(rt.alloc(), &PLAIN, &mut input, &mut output, &mut errors);
         assert!(rt;
             status == 1 && errors.holds(b"stmdesk: read fault\n"),
             "after {taken}"
@@ -60,7 +60,7 @@ fn fails_with_its_writer(rt: HostRuntime) -> Result<(), Fail> {
         let mut input = LINES;
         let mut output = Short::new(room);
         let mut errors = Short::new(256);
-        let status = start(rt.alloc(), &mut input, &mut output, &mut errors);
+        let status = start(rt.alloc(), &PLAIN, &mut input, &mut output, &mut errors);
         assert!(rt;
             status == 1 && errors.holds(b"stmdesk: write fault\n"),
             "at {room}"
@@ -78,7 +78,7 @@ fn errors_that_fail_change_nothing(rt: HostRuntime) -> Result<(), Fail> {
     let mut input = LINES;
     let mut output = Short::new(3);
     let mut errors = Short::new(0);
-    assert!(rt; start(rt.alloc(), &mut input, &mut output, &mut errors) == 1);
+    assert!(rt; start(rt.alloc(), &PLAIN, &mut input, &mut output, &mut errors) == 1);
     assert!(rt; output.holds(b"tva"));
     Ok(())
 }

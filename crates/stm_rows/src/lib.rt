@@ -1,5 +1,5 @@
-//! Tests that cross crates: worked cases by text, runs over readers and writers that fail, and the calls of the parser, the
-//! check and the evaluator where they answer.
+//! Tests that cross crates: worked cases by text, the words of the command line, runs over readers and writers that fail, and
+//! the calls of the parser, the check and the evaluator where they answer.
 #![tactic(auto)]
 
 #[cfg(test)]
@@ -18,3 +18,5 @@ mod limits;
 mod parse;
 #[cfg(test)]
 mod typing;
+#[cfg(test)]
+mod words;

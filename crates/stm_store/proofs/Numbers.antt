@@ -8,7 +8,7 @@ use Rattle.stm_terms.specs.declared.values.Value.{Value}
 use Rattle.stm_terms.specs.declared.values.Value.TheVariants.{Int, Bool as Truth, Unit as Nil, Var}
 use Rattle.stm_terms.specs.declared.verdicts.Verdict.TheVariants.{Commits}
 use Rattle.stm_terms.specs.Views.{Changes}
-use Rattle.stm_terms.specs.Typing.{Kinds, var_ty, type_of}
+use Rattle.stm_terms.specs.Typing.{Kinds, var_ty, type_of, Rising}
 use Rattle.stm_store.specs.declared.cell.Cell.{Cell}
 use Rattle.stm_store.specs.Cells.{plains, kinds_of, Fits}
 use Rattle.stm_store.specs.Changes.{HasNumber, AreWritable, AreAddable}
@@ -41,6 +41,10 @@ pub writable : (cells : List Cell) (writes : List (ℕ × Value)) (news : List (
 unfolding Fits
 writable cells writes news v f room =
     writable_each (length cells) writes (each_found (λ i u. (i < length cells) × HasNumber (length cells) u) writes f.rising (λ i u e. let p = f.writes i u e in (kinds_within cells i p.0 p.1, number (kinds_of (plains cells)) (record { writes = writes; news = news }) (length cells) u p.0 room p.2)))
+
+pub rising : (cells : List Cell) (writes : List (ℕ × Value)) (news : List (Ty × Value)) (v : Value) → Fits (plains cells) (Commits writes news v) → Rising writes
+unfolding Fits
+rising cells writes news v f = f.rising
 
 pub addable : (cells : List Cell) (writes : List (ℕ × Value)) (news : List (Ty × Value)) (v : Value) → Fits (plains cells) (Commits writes news v) → length cells + length news ≤ 1000000 → AreAddable (length cells) news
 unfolding Fits

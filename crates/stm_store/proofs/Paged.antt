@@ -1,11 +1,21 @@
 -- An item's page and its place in the page.
-use Rattle.std.proofs.Common.{◌≡◌, ℕ, zero, suc, ◌+◌, ◌-◌, ◌*◌, ◌<◌, ◌≤◌, List, [], ◌∷◌, ◌++◌, length, get_or, set, refl, sym, ap, ◌∙◌, arith, length-append, append_assoc, append-nil, length-set}
-use Rattle.std.specs.Prelude.{min, slice_get, Result, Ok, Err, OnErr}
-use Rattle.std.proofs.lemmas.List.{set-append_left, length-map, map-set, map-append}
+use Rattle.std.proofs.Common.{◌≡◌, ℕ, zero, suc, ◌+◌, ◌-◌, ◌*◌, ◌<◌, ◌≤◌, List, [], ◌∷◌, ◌++◌, length, get_or, set, map, refl, sym, ap, ◌∙◌, arith, length-append, append_assoc, append-nil, length-set}
+use Rattle.std.specs.Prelude.{min, slice_get, Result, Ok, Err, OnOk, OnErr}
+use Rattle.std.proofs.lemmas.List.{set-append_left, length-map, map-set, map-append, with_items_is}
 use Rattle.std.specs.declared.alloc.Global.{Global}
 use Rattle.std.specs.declared.sync.Arc.{Arc}
+use Rattle.std.specs.declared.vec.Vec.{Vec}
 use Rattle.std.specs.Arc.{arc_value}
-use Rattle.stm_store.specs.Pages.{contents, flatten, ArePages}
+use Rattle.std.specs.Vec.{with_items}
+use Rattle.stm_store.specs.Pages.{contents, sizes, flatten, ArePages}
+
+pub on_ok : {T E P Q : Type 0} (r : Result T E) → OnOk r P → (P → Q) → OnOk r Q
+on_ok (Ok x) p f = f p
+on_ok (Err e) p f = tt
+
+pub on_err_of : {T E P Q : Type 0} (r : Result T E) → OnErr r P → (P → Q) → OnErr r Q
+on_err_of (Ok x) p f = tt
+on_err_of (Err e) p f = f p
 
 pub on_err : {T E Q : Type 0} (r : Result T E) → Q → OnErr r Q
 on_err (Ok x) q = tt
@@ -22,7 +32,7 @@ module _ {A : Type 0} where
   get_right (x ∷ xs) ys zero j e = absurd (omega arith)
   get_right (x ∷ xs) ys (suc i) j e = get_right xs ys i j (omega arith)
 
-  set_right : (xs ys : List A) (i j : ℕ) (v : A) → i ≡ length xs + j → set (xs ++ ys) i v ≡ xs ++ set ys j v
+  pub set_right : (xs ys : List A) (i j : ℕ) (v : A) → i ≡ length xs + j → set (xs ++ ys) i v ≡ xs ++ set ys j v
   set_right [] ys i j v e = let same : i ≡ j = omega arith in ap (λ (n : ℕ). set ys n v) same
   set_right (x ∷ xs) ys zero j v e = absurd (omega arith)
   set_right (x ∷ xs) ys (suc i) j v e = ap (λ (zs : List A). x ∷ zs) (set_right xs ys i j v (omega arith))
@@ -32,6 +42,11 @@ module _ {A : Type 0} where
   get_content [] i a h e = absurd (omega arith)
   get_content (b ∷ ptrs) zero a h e = ap arc_value e
   get_content (b ∷ ptrs) (suc i) a h e = get_content ptrs i a (omega arith) e
+
+  -- pages of the same lengths are as many
+  pub count-sizes : (ptrs qtrs : List (Arc (List A) Global)) → sizes qtrs ≡ sizes ptrs → length qtrs ≡ length ptrs
+  count-sizes ptrs qtrs e =
+      omega (arith, ap length e, length-map (contents ptrs) length, length-map (contents qtrs) length, length-map ptrs arc_value, length-map qtrs arc_value)
 
 module _ {A : Type 0} (s : ℕ) (full : 0 < s) where
   pub length-flatten : (n : ℕ) (ps : List (List A)) → ArePages s n ps → length (flatten ps) ≡ n
@@ -103,6 +118,20 @@ module _ {A : Type 0} (s : ℕ) (full : 0 < s) where
   pages-extend n (q ∷ ps) (suc p) k c f e h less =
       let same : n + 1 - s ≡ n - s + 1 = omega arith in
       (omega arith, omega (arith, f.1), rw same (pages-extend (n - s) ps p k c f.2 (omega arith) h less))
+
+  -- other pages of the same lengths
+  pub pages-sizes : (n : ℕ) (ps qs : List (List A)) → ArePages s n ps → map length qs ≡ map length ps → ArePages s n qs
+  pages-sizes n [] [] f e = f
+  pages-sizes n [] (q ∷ qs) f e = absurd (cc)
+  pages-sizes n (p ∷ ps) [] f e = absurd (cc)
+  pages-sizes n (p ∷ ps) (q ∷ qs) f e =
+      let first : length q ≡ length p = cc in
+      let others : map length qs ≡ map length ps = cc in
+      (f.0, first ∙ f.1, pages-sizes (n - s) ps qs f.2 others)
+
+  pub vec-sizes : (n : ℕ) (v : Vec (Arc (List A) Global) Global) (ws : List (Arc (List A) Global)) → ArePages s n (contents v.items) → sizes ws ≡ sizes v.items → ArePages s n (contents (with_items v ws).items)
+  vec-sizes n v ws f e =
+      rw (with_items_is v ws (omega (arith, count-sizes v.items ws e, v.ok.0))) (pages-sizes n (contents v.items) (contents ws) f e)
 
   -- a list of pointers to pages: facts that a change of one pointer keeps
   pub record Kept (n : ℕ) (ptrs : List (Arc (List A) Global)) (cells : List A) : Type 0 where

@@ -52,7 +52,7 @@ kinds-write : (n : ℕ) (cs : List Cell) (i : ℕ) (v : Value) (o : Option Cell)
 kinds-write n cs i v (Some c) e j = kinds-set cs i c (rewritten n v c) e refl j
 kinds-write n cs i v None e j = refl
 
-length-write : (n : ℕ) (cs : List Cell) (i : ℕ) (v : Value) (o : Option Cell) → length (with_write n cs i v o) ≡ length cs
+pub length-write : (n : ℕ) (cs : List Cell) (i : ℕ) (v : Value) (o : Option Cell) → length (with_write n cs i v o) ≡ length cs
 length-write n cs i v (Some c) = length-set cs i (rewritten n v c)
 length-write n cs i v None = refl
 

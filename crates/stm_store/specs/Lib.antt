@@ -1,6 +1,9 @@
 pub mod Cells
+pub mod Chains
 pub mod Changes
-pub mod Entries
+pub mod Cuts
 pub mod Pages
+pub mod Rows
+pub mod Stretches
 pub mod Suits
 pub mod Tables

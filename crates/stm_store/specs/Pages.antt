@@ -9,6 +9,10 @@ module _ {A : Type 0} where
   abbrev pub contents : List (Arc (List A) Global) → List (List A)
   contents pages = map arc_value pages
 
+  -- how many items each page has
+  abbrev pub sizes : List (Arc (List A) Global) → List ℕ
+  sizes pages = map length (contents pages)
+
   -- the items, page after page
   abbrev pub flatten : List (List A) → List A
   flatten [] = []

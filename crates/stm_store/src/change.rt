@@ -1,71 +1,99 @@
-//! The cells that a verdict leaves, beside the old ones.
+//! What applying a verdict does to a list of cells: all of it, or where memory is refused nothing.
 
-ghost use Rattle.std.specs.Prelude.{◌≡◌, ◌+◌, ◌≤◌, ◌++◌, length, map, IfOk, OnOk};
-ghost use Rattle.stm_store.specs.Cells.{settled, new_cell, with_writes};
-ghost use Rattle.stm_store.specs.Changes.{HasNumber, AreWritable, AreAddable};
+ghost use Rattle.std.specs.Prelude.{◌≡◌, ◌+◌, ◌≤◌, ◌++◌, length, map, take, IfOk, OnOk, OnErr};
+ghost use Rattle.stm_terms.specs.Typing.{Rising};
+ghost use Rattle.stm_store.specs.Cells.{Fits, plains, new_cell, with_writes, applied, made_by, told};
+ghost use Rattle.stm_store.specs.Changes.{AreWritable, AreAddable};
 
-use crate::cell::Cell;
 use crate::list::CellList;
+use crate::ready::Applied;
+use crate::settle::{make, settle};
 use stm_terms::NoMemory;
 use stm_terms::kinds::Ty;
-use stm_terms::values::{Ref, Value};
+use stm_terms::values::Value;
+use stm_terms::verdicts::Verdict;
 
-/// A value with its new references as variables of a store that had this many cells.
-pub(crate) fn settle(len: u32, value: Value) -> Value
-    requires { HasNumber len value }
-    ensures { result ≡ settled len value }
+/// Makes the writes and the new variables of a verdict that fits.
+pub(crate) fn perform(cells: &mut CellList, verdict: &Verdict) -> Result<Applied, NoMemory>
+    requires fits { Fits (plains cells.old) verdict.now }
+    requires room { length cells.old + length (made_by verdict.now) ≤ 1000000 }
+    ensures applied { OnOk result (cells.new ≡ applied cells.old verdict.now) }
+    ensures told { IfOk result (λ a. a ≡ told cells.old verdict.now) }
+    ensures err { OnErr result (cells.new ≡ cells.old) }
 {
-    match value {
-        Value::Var(Ref::New(k)) => Value::Var(Ref::Old(len + k)),
-        value => value,
+    let first_new = cells.len() as u32;
+    match verdict {
+        Verdict::Commits {
+            writes,
+            news,
+            result,
+        } => {
+            change(cells, writes.as_slice(), news.as_slice())?;
+            Ok(Applied {
+                first_new,
+                result: Some(settle(first_new, *result)),
+            })
+        }
+        _ => Ok(Applied {
+            first_new,
+            result: None,
+        }),
     }
 }
 
-/// The cells after these writes and with these new cells. The old ones stay as they are.
-pub(crate) fn changed(
-    cells: &CellList,
+/// Adds these new cells and makes these writes.
+fn change(
+    cells: &mut CellList,
     writes: &[(u32, Value)],
     news: &[(Ty, Value)],
-) -> Result<CellList, NoMemory>
-    requires small { length cells.now + length news.now ≤ 1000000 }
-    requires writable { AreWritable (length cells.now) writes.now }
-    requires addable { AreAddable (length cells.now) news.now }
-    ensures { IfOk result (λ c. c ≡ with_writes (length cells.now) writes.now cells.now ++ map (new_cell (length cells.now)) news.now) }
+) -> Result<(), NoMemory>
+    requires small { length cells.old + length news.now ≤ 1000000 }
+    requires writable { AreWritable (length cells.old) writes.now }
+    requires rising { Rising writes.now }
+    requires addable { AreAddable (length cells.old) news.now }
+    ensures ok { OnOk result (cells.new ≡ with_writes (length cells.old) writes.now cells.old ++ map (new_cell (length cells.old)) news.now) }
+    ensures err { OnErr result (cells.new ≡ cells.old) }
 {
-    let len = cells.len() as u32;
-    let mut changed = cells.share()?;
-    write_all(&mut changed, len, writes)?;
-    add_all(&mut changed, len, news)?;
-    Ok(changed)
+    let len = cells.len();
+    match add_and_write(cells, len as u32, writes, news) {
+        Ok(()) => Ok(()),
+        Err(refusal) => {
+            cells.truncate(len);
+            Err(refusal)
+        }
+    }
 }
 
-fn write_all(cells: &mut CellList, len: u32, writes: &[(u32, Value)]) -> Result<(), NoMemory>
+/// Adds these new cells and makes these writes. After a refusal there may be some of the new cells.
+fn add_and_write(
+    cells: &mut CellList,
+    len: u32,
+    writes: &[(u32, Value)],
+    news: &[(Ty, Value)],
+) -> Result<(), NoMemory>
     requires len { length cells.old ≡ len }
+    requires small { length cells.old + length news.now ≤ 1000000 }
     requires writable { AreWritable len writes.now }
-    ensures ok { OnOk result (cells.new ≡ with_writes len writes.now cells.old) }
-    ensures length { OnOk result (length cells.new ≡ len) }
+    requires rising { Rising writes.now }
+    requires addable { AreAddable len news.now }
+    ensures ok { OnOk result (cells.new ≡ with_writes len writes.now cells.old ++ map (new_cell len) news.now) }
+    ensures long { length cells.old ≤ length cells.new }
+    ensures err { OnErr result (take (length cells.old) cells.new ≡ cells.old) }
 {
-    for (id, value) in writes {
-        let mut cell = cells.get(*id as usize);
-        cell.value = settle(len, *value);
-        cell.count = cell.count.saturating_add(1);
-        cells.set(*id as usize, cell)?;
-    }
+    add_all(cells, len, news)?;
+    cells.write(len, writes)?;
     Ok(())
 }
 
 fn add_all(cells: &mut CellList, len: u32, news: &[(Ty, Value)]) -> Result<(), NoMemory>
     requires small { length cells.old + length news.now ≤ 1000000 }
     requires addable { AreAddable len news.now }
-    ensures { OnOk result (cells.new ≡ cells.old ++ map (new_cell len) news.now) }
+    ensures ok { OnOk result (cells.new ≡ cells.old ++ map (new_cell len) news.now) }
+    ensures long { length cells.old ≤ length cells.new }
+    ensures err { OnErr result (take (length cells.old) cells.new ≡ cells.old) }
 {
     for (kind, value) in news {
-        let cell = Cell {
-            kind: *kind,
-            value: settle(len, *value),
-            count: 0,
-        };
-        cells.push(cell)?;
+        cells.push(make(len, *kind, *value))?;
     }
     Ok(())
 }

@@ -6,10 +6,14 @@ mod change;
 mod covers;
 mod fits;
 pub mod frozen;
+mod in_place;
 mod list;
+mod names;
 mod page;
 mod part;
+mod parts;
 pub mod ready;
+mod settle;
 pub mod store;
 pub mod table;
 #[cfg(test)]

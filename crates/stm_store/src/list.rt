@@ -1,34 +1,33 @@
-//! A list of cells in parts, which its copies share.
+//! A list of cells, which its copies share.
 
-ghost use Rattle.std.specs.Prelude.{◌≡◌, ◌<◌, ◌^◌, [], ◌∷◌, ◌++◌, Some, length, slice_get, slice_set, IfOk, OnOk, OnErr};
-ghost use Rattle.std.specs.Arc.{arc_value};
+ghost use Rattle.std.specs.Prelude.{◌≡◌, ◌<◌, ◌≤◌, ◌^◌, [], ◌∷◌, ◌++◌, Some, length, take, slice_get, IfOk, OnOk, OnErr};
+ghost use Rattle.stm_terms.specs.Typing.{Rising};
+ghost use Rattle.stm_store.specs.Cells.{with_writes};
+ghost use Rattle.stm_store.specs.Changes.{AreWritable};
 
 use crate::cell::Cell;
-use crate::part::Part;
+use crate::parts::Parts;
 use std::alloc::{AllocError, Global};
 use std::marker::Model;
-use std::sync::Arc;
+use stm_terms::values::Value;
 
-/// A list of cells in parts of 4096, each of which is a list of pages.
-///
-/// A copy shares the parts, so that it moves a pointer for each 4096 cells and no cell. A change copies the pointers of the
-/// one part and the cells of the one page that it falls into, where a copy has them too, and else nothing.
+/// A list of cells in parts, whose last cells may be cut off again without taking memory: they stay behind the end, and are
+/// overwritten where the list grows.
 #[derive(Drop)]
 pub(crate) struct CellList {
-    parts: Vec<Arc<Part>>,
+    parts: Parts,
     len: usize,
 }
 
 impl Model for CellList {
-    ghost use Rattle.std.specs.Prelude.{List};
+    ghost use Rattle.std.specs.Prelude.{◌≤◌, List, length, take};
     ghost use Rattle.stm_store.specs.declared.cell.Cell.{Cell as AnyCell};
-    ghost use Rattle.stm_store.specs.Pages.{contents, flatten, ArePages};
 
     ghost Value = { List AnyCell };
 
-    ghost view = { λ l. flatten (contents l.parts.items) };
+    ghost view = { λ l. take l.len l.parts };
 
-    ghost invariant = { λ l. ArePages 4096 l.len (contents l.parts.items) };
+    ghost invariant = { λ l. l.len ≤ length l.parts };
 }
 
 impl CellList {
@@ -36,7 +35,7 @@ impl CellList {
         ensures { result ≡ [] }
     {
         CellList {
-            parts: Vec::new(alloc),
+            parts: Parts::empty(alloc),
             len: 0,
         }
     }
@@ -51,32 +50,28 @@ impl CellList {
         requires { id < length self.now }
         ensures { slice_get self.now id ≡ Some result }
     {
-        let part: &Part = &self.parts[id / Part::SIZE];
-        part.get(id % Part::SIZE)
+        self.parts.get(id)
     }
 
-    /// A second list of the same cells, which shares the parts.
+    /// A second list of the same cells, which shares them.
     pub(crate) fn share(&self) -> Result<CellList, AllocError>
         ensures { IfOk result (λ l. l ≡ self.now) }
     {
-        let mut parts = Vec::with_capacity(*self.parts.allocator(), self.parts.len())?;
-        for part in &self.parts {
-            parts.push(Arc::try_clone(part)?)?;
-        }
         Ok(CellList {
-            parts,
+            parts: self.parts.share()?,
             len: self.len,
         })
     }
 
-    /// Changes a cell. A part that another list shares is copied first.
-    pub(crate) fn set(&mut self, id: usize, cell: Cell) -> Result<(), AllocError>
-        requires { id < length self.old }
-        ensures ok { OnOk result (self.new ≡ slice_set self.old id cell) }
+    /// Makes the writes of a verdict, in a store that had this many cells, or where memory is refused none.
+    pub(crate) fn write(&mut self, len: u32, writes: &[(u32, Value)]) -> Result<(), AllocError>
+        requires len { len ≤ length self.old }
+        requires writable { AreWritable len writes.now }
+        requires rising { Rising writes.now }
+        ensures ok { OnOk result (self.new ≡ with_writes len writes.now self.old) }
         ensures err { OnErr result (self.new ≡ self.old) }
     {
-        set_cell(&mut self.parts[id / Part::SIZE], id % Part::SIZE, cell)?;
-        Ok(())
+        self.parts.write(len, writes)
     }
 
     /// Adds a cell at the end.
@@ -85,37 +80,22 @@ impl CellList {
         ensures ok { OnOk result (self.new ≡ self.old ++ cell ∷ []) }
         ensures err { OnErr result (self.new ≡ self.old) }
     {
-        let last = self.len / Part::SIZE;
-        if self.len % Part::SIZE == 0 {
-            let alloc = *self.parts.allocator();
-            let part = Arc::new(alloc, Part::of(alloc, cell)?)?;
-            self.parts.push(part)?;
+        if self.len < self.parts.len() {
+            self.parts.set(self.len, cell)?;
             self.len += 1;
             Ok(())
         } else {
-            push_cell(&mut self.parts[last], cell)?;
+            self.parts.push(cell)?;
             self.len += 1;
             Ok(())
         }
     }
-}
 
-fn set_cell(part: &mut Arc<Part>, at: usize, cell: Cell) -> Result<(), AllocError>
-    requires { at < length (arc_value part.old) }
-    ensures ok { OnOk result (arc_value part.new ≡ slice_set (arc_value part.old) at cell) }
-    ensures err { OnErr result (arc_value part.new ≡ arc_value part.old) }
-{
-    let part = Arc::make_mut(part)?;
-    part.set(at, cell)?;
-    Ok(())
-}
-
-fn push_cell(part: &mut Arc<Part>, cell: Cell) -> Result<(), AllocError>
-    requires { length (arc_value part.old) < 2 ^ 32 }
-    ensures ok { OnOk result (arc_value part.new ≡ arc_value part.old ++ cell ∷ []) }
-    ensures err { OnErr result (arc_value part.new ≡ arc_value part.old) }
-{
-    let part = Arc::make_mut(part)?;
-    part.push(cell)?;
-    Ok(())
+    /// Keeps this many cells, from the first on. It takes no memory.
+    pub(crate) fn truncate(&mut self, len: usize)
+        requires { len ≤ length self.old }
+        ensures { self.new ≡ take len self.old }
+    {
+        self.len = len;
+    }
 }

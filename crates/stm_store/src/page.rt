@@ -1,10 +1,13 @@
 //! A page of cells.
 
-ghost use Rattle.std.specs.Prelude.{◌≡◌, ◌<◌, [], ◌∷◌, ◌++◌, Some, length, slice_get, slice_set, IfOk, OnOk, OnErr};
+ghost use Rattle.std.specs.Prelude.{◌≡◌, ◌+◌, ◌<◌, [], ◌∷◌, ◌++◌, Some, length, slice_get, slice_set, IfOk, OnOk, OnErr};
+ghost use Rattle.stm_store.specs.Stretches.{AreWithin, with_writes_from};
 
 use crate::cell::Cell;
+use crate::settle::rewrite;
 use std::alloc::{AllocError, Global};
 use std::marker::Model;
+use stm_terms::values::Value;
 
 /// A few cells. Contracts see a list; whoever holds pages gives each at most `Page::SIZE` cells.
 #[derive(Drop)]
@@ -34,6 +37,12 @@ impl Page {
         Ok(Page { cells })
     }
 
+    pub(crate) fn len(&self) -> usize
+        ensures { result ≡ length self.now }
+    {
+        self.cells.len()
+    }
+
     pub(crate) fn get(&self, at: usize) -> Cell
         requires { at < length self.now }
         ensures { slice_get self.now at ≡ Some result }
@@ -48,6 +57,17 @@ impl Page {
         self.cells[at] = cell;
     }
 
+    /// Makes these writes to the cells of a page whose first has this number.
+    pub(crate) fn write(&mut self, first: usize, len: u32, writes: &[(u32, Value)])
+        requires { AreWithin len first (first + length self.old) writes.now }
+        ensures { self.new ≡ with_writes_from len first writes.now self.old }
+    {
+        for (id, value) in writes {
+            let at = *id as usize - first;
+            self.cells[at] = rewrite(len, *value, self.cells[at]);
+        }
+    }
+
     pub(crate) fn push(&mut self, cell: Cell) -> Result<(), AllocError>
         ensures ok { OnOk result (self.new ≡ self.old ++ cell ∷ []) }
         ensures err { OnErr result (self.new ≡ self.old) }
@@ -60,9 +80,10 @@ impl Page {
 impl Clone for Page {
     ghost is_clone = { λ p q. q ≡ p };
 
+    /// A page of the same cells, with room for the others.
     fn clone(&self) -> Result<Page, AllocError> {
-        Ok(Page {
-            cells: self.cells.clone()?,
-        })
+        let mut cells = Vec::with_capacity(*self.cells.allocator(), Page::SIZE)?;
+        cells.extend_from_slice(&self.cells)?;
+        Ok(Page { cells })
     }
 }

@@ -12,8 +12,8 @@ use std::sync::Arc;
 /// A list of cells in pages of 64.
 #[derive(Drop)]
 pub(crate) struct Part {
-    pages: Vec<Arc<Page>>,
-    len: usize,
+    pub(crate) pages: Vec<Arc<Page>>,
+    pub(crate) len: usize,
 }
 
 impl Model for Part {

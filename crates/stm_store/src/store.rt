@@ -1,12 +1,12 @@
 //! The store.
 
-ghost use Rattle.std.specs.Prelude.{◌≡◌, ◌+◌, ◌<◌, ◌≤◌, ◌↔◌, Some, length, slice_get, option_map, IsTrue, IfOk, OnOk, OnErr, IsErrOf};
+ghost use Rattle.std.specs.Prelude.{◌≡◌, ◌+◌, ◌<◌, ◌≤◌, ◌↔◌, Some, length, slice_get, option_map, IsTrue, IfOk, IfErr, OnOk, OnErr, IsErrOf};
 ghost use Rattle.stm_terms.specs.Views.{cell_value};
 ghost use Rattle.stm_store.specs.Cells.{StoreIsTyped, StoreIsLow, Covers, Fits, IsApplied, kinds_of, plains, applied, result_there, made_by, told};
 ghost use Rattle.stm_store.specs.Tables.{opened};
 
 use crate::cell::Cell;
-use crate::change::{changed, settle};
+use crate::change::perform;
 use crate::covers::covers;
 use crate::fits::fits;
 use crate::frozen::Frozen;
@@ -116,7 +116,8 @@ impl Store {
 
     /// Makes the writes and the new variables of a verdict that fits.
     ///
-    /// The k-th new variable gets the number `first_new + k`, wherever the verdict refers to it.
+    /// The k-th new variable gets the number `first_new + k`, wherever the verdict refers to it. What no copy holds is
+    /// changed in place.
     #[tactic(auto, using(crate::proofs::Lookups::is_applied))]
     pub fn apply(&mut self, verdict: &Verdict) -> Result<Applied, ApplyError>
         requires { Fits (plains self.old) verdict.now }
@@ -128,11 +129,12 @@ impl Store {
         ensures no_memory { IsErrOf result ApplyError.NoMemory → length self.old + length (made_by verdict.now) ≤ 1000000 }
         ensures err { OnErr result (self.new ≡ self.old) }
     {
-        let ready = self.prepare(verdict)?;
-        Ok(self.install(ready))
+        self.has_room(verdict)?;
+        Ok(perform(&mut self.cells, verdict)?)
     }
 
-    /// The first step of `apply`: takes the memory for it and changes nothing. `install` is the second.
+    /// What `apply` would leave, beside the store, which stays as it is. `install` puts it in place: for a caller that takes
+    /// all its memory before its first change.
     pub fn prepare(&self, verdict: &Verdict) -> Result<Ready, ApplyError>
         requires { Fits (plains self.now) verdict.now }
         ensures ready { IfOk result (λ r. r ≡ (applied self.now verdict.now, told self.now verdict.now)) }
@@ -140,42 +142,34 @@ impl Store {
         ensures full { IsErrOf result ApplyError.CellsFull → 1000000 < length self.now + length (made_by verdict.now) }
         ensures no_memory { IsErrOf result ApplyError.NoMemory → length self.now + length (made_by verdict.now) ≤ 1000000 }
     {
-        let first_new = self.cells.len();
-        match verdict {
-            Verdict::Commits {
-                writes,
-                news,
-                result,
-            } => {
-                let writes = writes.as_slice();
-                let news = news.as_slice();
-                if news.len() > Store::LIMIT - first_new {
-                    return Err(ApplyError::CellsFull);
-                }
-                let cells = changed(&self.cells, writes, news)?;
-                let applied = Applied {
-                    first_new: first_new as u32,
-                    result: Some(settle(first_new as u32, *result)),
-                };
-                Ok(Ready { cells, applied })
-            }
-            _ => {
-                let cells = self.cells.share()?;
-                let applied = Applied {
-                    first_new: first_new as u32,
-                    result: None,
-                };
-                Ok(Ready { cells, applied })
-            }
-        }
+        self.has_room(verdict)?;
+        let mut cells = self.cells.share()?;
+        let applied = perform(&mut cells, verdict)?;
+        Ok(Ready { cells, applied })
     }
 
-    /// The second step of `apply`: installs the cells. It takes no memory.
+    /// Puts in place what `prepare` made. It takes no memory.
     pub fn install(&mut self, ready: Ready) -> Applied
         ensures cells { self.new ≡ ready.0 }
         ensures told { result ≡ ready.1 }
     {
         self.cells = ready.cells;
         ready.applied
+    }
+
+    /// Whether there may be as many variables more as the verdict makes.
+    fn has_room(&self, verdict: &Verdict) -> Result<(), ApplyError>
+        ensures ok { OnOk result (length self.now + length (made_by verdict.now) ≤ 1000000) }
+        ensures err { OnErr result (1000000 < length self.now + length (made_by verdict.now)) }
+        ensures full { IfErr result (λ e. e ≡ ApplyError.CellsFull) }
+    {
+        let more = match verdict {
+            Verdict::Commits { news, .. } => news.as_slice().len(),
+            _ => 0,
+        };
+        if more > Store::LIMIT - self.cells.len() {
+            return Err(ApplyError::CellsFull);
+        }
+        Ok(())
     }
 }

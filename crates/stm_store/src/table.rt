@@ -5,10 +5,11 @@ ghost use Rattle.stm_terms.specs.Names.{is_name_text};
 ghost use Rattle.stm_store.specs.Cells.{StoreIsTyped, StoreIsLow, kinds_of};
 ghost use Rattle.stm_store.specs.Tables.{Declared, declared_cells, number_of, is_of, may_hold, declare_refusal, refusal_told, NamesAreNames, NamesAreDistinct};
 
+use crate::names::Names;
 use crate::types::{plain_type, refers_to};
-use indexmap::IndexMap;
 use std::alloc::{AllocError, Global};
 use std::marker::Model;
+use std::str;
 use stm_terms::kinds::{Base, Ty};
 use stm_terms::values::{Ref, Value};
 use thiserror::Error;
@@ -43,19 +44,21 @@ impl From<AllocError> for DeclareError {
 /// The declared variables in the order of their declaration, each with its name, its type and its first value.
 #[derive(Drop)]
 pub struct Table {
-    entries: IndexMap<String, (Ty, Value)>,
+    names: Names,
+    kinds: Vec<Ty>,
+    values: Vec<Value>,
 }
 
 impl Model for Table {
-    ghost use Rattle.std.specs.Prelude.{List, map};
-    ghost use Rattle.stm_store.specs.Tables.{Declared, IsTable};
-    ghost use Rattle.stm_store.specs.Entries.{declared_of};
+    ghost use Rattle.std.specs.Prelude.{List};
+    ghost use Rattle.stm_store.specs.Tables.{Declared};
+    ghost use Rattle.stm_store.specs.Rows.{rows, AreColumns};
 
     ghost Value = { List Declared };
 
-    ghost view = { λ t. map declared_of t.entries.entries };
+    ghost view = { λ t. rows t.names t.kinds.items t.values.items };
 
-    ghost invariant = { λ t. IsTable (map declared_of t.entries.entries) };
+    ghost invariant = { λ t. AreColumns t.names t.kinds.items t.values.items };
 }
 
 impl Table {
@@ -67,7 +70,9 @@ impl Table {
         ensures { result ≡ [] }
     {
         Table {
-            entries: IndexMap::new(alloc),
+            names: Names::empty(alloc),
+            kinds: Vec::new(alloc),
+            values: Vec::new(alloc),
         }
     }
 
@@ -80,7 +85,7 @@ impl Table {
         ensures named { NamesAreNames self.now }
         ensures distinct { NamesAreDistinct self.now }
     {
-        self.entries.len()
+        self.names.len()
     }
 
     /// The number of the variable of a name: how many were declared before it.
@@ -88,8 +93,7 @@ impl Table {
         ensures number { result ≡ number_of name.now self.now }
         ensures within { IfSome result (λ i. i < length self.now) }
     {
-        let number = self.entries.get_index_of(name)?;
-        Some(number as u32)
+        self.names.find(name.as_bytes())
     }
 
     /// The name of a variable.
@@ -97,9 +101,9 @@ impl Table {
         requires { id < length self.now }
         ensures { option_map (λ d. d.name) (slice_get self.now id) ≡ Some result.now }
     {
-        match self.entries.get_index(id as usize) {
-            Some((name, _)) => name.as_str(),
-            None => unreachable!(),
+        match str::from_utf8(self.names.get(id)) {
+            Ok(name) => name,
+            Err(_) => unreachable!(),
         }
     }
 
@@ -108,10 +112,7 @@ impl Table {
         requires { id < length self.now }
         ensures { option_map (λ d. d.kind) (slice_get self.now id) ≡ Some result }
     {
-        match self.entries.get_index(id as usize) {
-            Some((_, cell)) => cell.0,
-            None => unreachable!(),
-        }
+        self.kinds[id as usize]
     }
 
     /// The first value of a variable.
@@ -119,10 +120,7 @@ impl Table {
         requires { id < length self.now }
         ensures { option_map (λ d. d.value) (slice_get self.now id) ≡ Some result }
     {
-        match self.entries.get_index(id as usize) {
-            Some((_, cell)) => cell.1,
-            None => unreachable!(),
-        }
+        self.values[id as usize]
     }
 
     /// The type of a variable, if it is there.
@@ -182,10 +180,11 @@ impl Table {
         if number >= Table::LIMIT {
             return Err(DeclareError::TableFull);
         }
-        let key = String::from_str(alloc, name)?;
-        let Ok(_before) = self.entries.insert(key, (kind, value)) else {
-            return Err(DeclareError::NoMemory);
-        };
+        self.kinds.reserve(1)?;
+        self.values.reserve(1)?;
+        self.names.push(alloc, name.as_bytes())?;
+        self.kinds.push_reserved(kind);
+        self.values.push_reserved(value);
         Ok(number as u32)
     }
 }

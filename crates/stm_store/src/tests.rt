@@ -1,6 +1,7 @@
 //! Stores over several pages, the limits, and each allocation refused.
 
 mod memory;
+mod names;
 mod rows;
 
 use crate::frozen::Frozen;

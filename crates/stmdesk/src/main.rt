@@ -1,20 +1,42 @@
 //! The program `stmdesk`: commands from standard input, answers to standard output.
 #![tactic(auto)]
 
-use std::io::{BufWriter, Write};
+use std::env;
+use std::io::{BufWriter, ErrorKind, Write};
 use std::process::ExitCode;
 use stm_console::{RunFault, start};
 
-/// The exit status where there is no memory for the buffer of the output.
+/// The exit status where the words are refused.
+const REFUSED: u8 = 2;
+
+/// The exit status where memory is refused.
 const NO_MEMORY: u8 = 4;
+
+fn no_memory<E: Write>(errors: &mut E) -> ExitCode {
+    let _ = writeln!(errors, "{}", RunFault::NoMemory);
+    ExitCode::from(NO_MEMORY)
+}
 
 fn main(rt: HostRuntime) -> ExitCode {
     let alloc = rt.alloc();
     let mut errors = rt.stderr();
+    let arguments = match env::args(&rt) {
+        Ok(arguments) => arguments,
+        Err(fault) if fault.kind() == ErrorKind::OutOfMemory => return no_memory(&mut errors),
+        Err(_) => {
+            let _ = writeln!(
+                errors,
+                "error: a word isn't UTF-8\n\nFor more information, try '--help'."
+            );
+            return ExitCode::from(REFUSED);
+        }
+    };
+    let Ok(words) = arguments.collect::<Vec<String>>(alloc) else {
+        return no_memory(&mut errors);
+    };
     let Ok(mut writer) = BufWriter::new(alloc, rt.stdout()) else {
-        let _ = writeln!(errors, "{}", RunFault::NoMemory);
-        return ExitCode::from(NO_MEMORY);
+        return no_memory(&mut errors);
     };
     let mut reader = rt.stdin();
-    ExitCode::from(start(alloc, &mut reader, &mut writer, &mut errors))
+    ExitCode::from(start(alloc, &words, &mut reader, &mut writer, &mut errors))
 }

@@ -91,6 +91,28 @@ fn grow_and_write(rt: &impl Abort, alloc: Global, last: u32) -> Result<(), Fail>
     Ok(())
 }
 
+/// Writes and new variables in one verdict, in place and then beside a copy.
+#[test]
+fn writes_and_new_variables(rt: HostRuntime) -> Result<(), Fail> {
+    let alloc = rt.alloc();
+    let mut store = small_store(&rt, alloc)?;
+    apply(&rt, &mut store, &commit_again(alloc, &[], 129)?, 0)?;
+    let writes = [(0, Value::Int(7)), (129, Value::Int(8))];
+    let verdict = commit_again(alloc, &writes, 70)?;
+    apply(&rt, &mut store, &verdict, 129)?;
+    assert_eq!(rt; store.len(), 200);
+    let frozen = freeze(&store)?;
+    apply(&rt, &mut store, &verdict, 129)?;
+    assert_eq!(rt; store.len(), 270);
+    for (id, value) in writes {
+        assert_eq!(rt; cell_at(&store, id), Some((value, 2)));
+        assert_eq!(rt; value_at(&frozen, id), Some(value));
+    }
+    assert_eq!(rt; cell_at(&store, 269), Some((Value::Int(5), 0)));
+    assert_eq!(rt; value_at(&frozen, 200), None);
+    Ok(())
+}
+
 #[test]
 fn three_pages(rt: HostRuntime) -> Result<(), Fail> {
     grow_and_write(&rt, rt.alloc(), 129)
@@ -109,6 +131,8 @@ fn ten_names(rt: HostRuntime) -> Result<(), Fail> {
     for (number, name) in names.iter().enumerate() {
         assert_eq!(rt; declare(&rt, alloc, &mut table, name)?, number as u32);
     }
-    assert_eq!(rt; table.find("j"), Some(9));
+    for (number, name) in names.iter().enumerate() {
+        assert_eq!(rt; table.find(name), Some(number as u32));
+    }
     Ok(())
 }

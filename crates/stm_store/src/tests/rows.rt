@@ -1,7 +1,9 @@
 //! Worked examples, each public call on its happy path.
 
 use super::{INT, INT_VAR, cell_at, commit, table_of, value_at};
+use crate::cell::Cell;
 use crate::ready::{Applied, ApplyError};
+use crate::settle::rewrite;
 use crate::store::Store;
 use crate::table::{DeclareError, Table};
 use std::test::Fail;
@@ -34,6 +36,21 @@ fn declares_and_finds(rt: HostRuntime) -> Result<(), Fail> {
 }
 
 #[test]
+fn counts_stay_at_the_greatest(rt: HostRuntime) -> Result<(), Fail> {
+    let mut cell = Cell {
+        kind: INT,
+        value: Value::Int(1),
+        count: u64::MAX - 1,
+    };
+    for value in [2, 3, 4] {
+        cell = rewrite(1, Value::Int(value), cell);
+        assert_eq!(rt; cell.count, u64::MAX);
+        assert_eq!(rt; cell.value, Value::Int(value));
+    }
+    Ok(())
+}
+
+#[test]
 fn writes_three_pages(rt: HostRuntime) -> Result<(), Fail> {
     let alloc = rt.alloc();
     let table = table_of(&rt, alloc, 130)?;
@@ -52,6 +69,28 @@ fn writes_three_pages(rt: HostRuntime) -> Result<(), Fail> {
         assert_eq!(rt; value_at(&frozen, id), Some(Value::Int(0)), "at {id}");
     }
     assert_eq!(rt; cell_at(&store, 1), Some((Value::Int(0), 0)));
+    Ok(())
+}
+
+#[test]
+fn writes_a_thousand_pages(rt: HostRuntime) -> Result<(), Fail> {
+    let alloc = rt.alloc();
+    let table = table_of(&rt, alloc, 1)?;
+    let mut store = Store::open(alloc, &table)?;
+    let growth = commit(alloc, &[], 64_000)?;
+    assert!(rt; store.fits(&growth));
+    store.apply(&growth)?;
+    let mut writes = Vec::new(alloc);
+    for page in 0..1_000 {
+        writes.push((64 * page + 1, Value::Int(7)))?;
+    }
+    let verdict = commit(alloc, writes.as_slice(), 0)?;
+    assert!(rt; store.fits(&verdict));
+    let frozen = store.freeze()?;
+    store.apply(&verdict)?;
+    assert_eq!(rt; cell_at(&store, 63_937), Some((Value::Int(7), 1)));
+    assert_eq!(rt; cell_at(&store, 1), Some((Value::Int(7), 1)));
+    assert_eq!(rt; value_at(&frozen, 1), Some(Value::Int(5)));
     Ok(())
 }
 

@@ -1,4 +1,4 @@
-use Rattle.std.proofs.Common.{◌≡◌, ◌+◌, ◌≤◌, ◌++◌, map, drop, length}
+use Rattle.std.proofs.Common.{◌≡◌, ◌+◌, ◌≤◌, ◌++◌, map, take, drop, length}
 use Rattle.stm_store.specs.Cells.{new_cell}
 use Rattle.stm_store.specs.Changes.{AreAddable}
 use Rattle.stm_store.proofs.change.add_all.Given as goal
@@ -8,4 +8,6 @@ invariant-loop-kind l = record {
   cells : l.cells ++ map (new_cell l.len) (drop l.kind-index l.news) ≡ l.fn.cells ++ map (new_cell l.len) l.news;
   small : length l.cells + length (drop l.kind-index l.news) ≤ 1000000;
   addable : AreAddable l.len (drop l.kind-index l.news);
+  long : length l.fn.cells ≤ length l.cells;
+  old : take (length l.fn.cells) l.cells ≡ l.fn.cells;
 }

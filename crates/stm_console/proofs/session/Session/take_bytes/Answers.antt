@@ -1,21 +1,32 @@
-use Rattle.std.proofs.Common.{rules, ◌++◌}
-use Rattle.std.proofs.KnownBytes.{Appends-trans}
+use Rattle.std.proofs.Common.{[], refl}
+use Rattle.std.proofs.KnownBytes.{Appends-nil}
 use Rattle.std.proofs.lemmas.Result.{err_from_is_err_and}
-use Rattle.stm_console.proofs.Feeding.{take-next, prefix-next}
+use Rattle.stm_console.proofs.Chunks.{NoLineFeed-all, split-at, Fed-more, Fed-front, IsPrefixOf-none}
+use Rattle.stm_console.proofs.Writing.{drop-all}
 use Rattle.stm_console.proofs.session.Session.take_bytes.Goals as goal
 
-pub returns-in_err-take_byte-clause-part : goal.returns-in_err-take_byte-clause-part
-returns-in_err-take_byte-clause-part g c =
+pub returns-in_err-take_part-clause-part : goal.returns-in_err-take_part-clause-part
+returns-in_err-take_part-clause-part g c =
     let p = err_from_is_err_and c.from_residual.result c.from_residual.ensures.1 in
-    let so_far = c.loop-byte.invariant in
-    let part = c.in_err-take_byte.ensures.part in
-    rw p.1 (so_far.0 ++ part.0, λ more. prefix-next _ _ _ _ c.args.bytes.now c.loop-byte.byte-index so_far.0 part.0 more (search rules) so_far.1 part.1, Appends-trans _ _ _ _ _ so_far.2 part.2)
+    rw p.1 (Fed-front _ _ _ _ _ _ _ _ _ [] c.loop-at.invariant (λ more. IsPrefixOf-none _) (Appends-nil _))
 
-pub loop-byte-preserved : goal.loop-byte-preserved
-loop-byte-preserved g c =
-    let so_far = c.loop-byte.invariant in
-    let next = c.in_ok-take_byte.ensures.done in (
-      so_far.0 ++ next.0,
-      take-next _ _ _ _ _ _ c.args.bytes.now c.loop-byte.byte-index so_far.0 next.0 (search rules) so_far.1 next.1,
-      Appends-trans _ _ _ _ _ so_far.2 next.2,
-    )
+pub returns-in_err-take_line_feed-clause-part : goal.returns-in_err-take_line_feed-clause-part
+returns-in_err-take_line_feed-clause-part g c =
+    let p = err_from_is_err_and c.from_residual-in_err-take_line_feed.result c.from_residual-in_err-take_line_feed.ensures.1 in
+    let part = c.in_err-take_line_feed.ensures.part in
+    let so_far = Fed-more _ _ _ _ _ _ _ _ _ _ _ _ _ _ c.loop-at.invariant (split-at _ _ c.in-Some.ensures) c.in_ok-take_part.ensures.done (Appends-nil _) in
+    rw p.1 (Fed-front _ _ _ _ _ _ _ _ _ part.0 so_far (λ more. part.1 _) part.2)
+
+pub loop-at-preserved : goal.loop-at-preserved
+loop-at-preserved g c =
+    let so_far = Fed-more _ _ _ _ _ _ _ _ _ _ _ _ _ _ c.loop-at.invariant (split-at _ _ c.in-Some.ensures) c.in_ok-take_part.ensures.done (Appends-nil _) in
+    let feed = c.in_ok-take_line_feed.ensures.done in
+    rw drop-all (Fed-more _ _ _ _ _ _ _ _ _ _ _ _ _ _ so_far refl feed.1 feed.2)
+
+pub take_part-requires-2 : goal.take_part-requires-2
+take_part-requires-2 g c = NoLineFeed-all c.loop-at.rest.now c.in_default.ensures
+
+pub returns-in_err-take_part-2-clause-part : goal.returns-in_err-take_part-2-clause-part
+returns-in_err-take_part-2-clause-part g c =
+    let p = err_from_is_err_and c.from_residual-in_err-take_part-2.result c.from_residual-in_err-take_part-2.ensures.1 in
+    rw p.1 (Fed-front _ _ _ _ _ _ _ _ _ [] c.loop-at.invariant (λ more. IsPrefixOf-none _) (Appends-nil _))

@@ -1,10 +1,11 @@
-use Rattle.std.proofs.Common.{ℕ, List, take}
-use Rattle.std.specs.Io.KnownBytes.{Appends}
-use Rattle.stm_console.specs.Continuing.{Continues}
+use Rattle.std.proofs.Common.{length}
+use Rattle.stm_console.proofs.Chunks.{Fed}
 use Rattle.stm_console.proofs.session.Session.take_bytes.Given as goal
 
-abbrev pub invariant-loop-byte : goal.invariant-loop-byte
-invariant-loop-byte g l =
-    (written : List ℕ)
-    × Continues l.initial.self.console l.initial.self.line.items l.self.console l.self.line.items (take l.byte-index l.bytes) written
-    × Appends (g.W.Write.contents l.initial.writer) (g.W.Write.contents l.writer) written
+abbrev pub invariant-loop-at : goal.invariant-loop-at
+invariant-loop-at g l =
+    Fed (g.W.Write.contents l.initial.writer) (g.W.Write.contents l.writer) l.initial.self.console l.self.console
+    l.initial.self.line.items l.self.line.items l.bytes l.rest
+
+abbrev pub decreases-loop-at : goal.decreases-loop-at
+decreases-loop-at g l = length l.rest

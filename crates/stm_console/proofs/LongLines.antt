@@ -1,0 +1,54 @@
+-- A line that is too long has one answer, whatever its bytes.
+use Rattle.std.proofs.Common.{◌≡◌, ℕ, ◌+◌, ◌-◌, ◌≤◌, ◌<◌, true, false, List, [], ◌∷◌, ◌++◌, length, take, refl, sym, ap, ◌∙◌, arith, cond, length-append}
+use Rattle.std.proofs.lemmas.Bool.{lt-ltb}
+use Rattle.std.proofs.lemmas.List.{length-take-le}
+use Rattle.std.specs.Io.BufRead.{ends_with_byte}
+use Rattle.std.specs.Prelude.{nat_eq}
+use Rattle.stm_console.specs.Judged.{TooLong, judged}
+use Rattle.stm_console.specs.Lines.{drop_return, lines_from, whole_lines_from, last_lines}
+use Rattle.stm_console.specs.Commands.{ConsoleState}
+use Rattle.stm_console.specs.Console.{answer_to, state_after, answers_to, answer_to_judged, state_after_judged}
+
+-- a line that is too long is judged so, whatever its bytes
+judged-too_long : (line : List ℕ) → 65536 < length line → judged line ≡ TooLong
+unfolding judged
+judged-too_long line h = rw (lt-ltb 65536 (length line) h) refl
+
+answers_to-too_long : (s : ConsoleState) (a b : List ℕ) (rest : List (List ℕ)) → 65536 < length a → 65536 < length b → answers_to s (a ∷ rest) ≡ answers_to s (b ∷ rest)
+unfolding answer_to state_after
+answers_to-too_long s a b rest h k = ap (λ j. answer_to_judged s j ++ answers_to (state_after_judged s j) rest) (judged-too_long a h ∙ sym (judged-too_long b k))
+
+length-drop_return : (line : List ℕ) → length line ≤ length (drop_return line) + 1
+length-drop_return line = elim (ends_with_byte 13 line) as (λ t. length line ≤ length (cond t (take (length line - 1) line) line) + 1) [
+  | true ↦ (let h : length line - 1 ≤ length line = omega arith in omega (arith, length-take-le (length line - 1) line h))
+  | false ↦ omega arith
+]
+
+-- so many bytes that no carriage return can make them a line
+abbrev pub Long : List ℕ → Type 0
+Long line = 65538 ≤ length line
+
+drop_return-long : (line : List ℕ) → Long line → 65536 < length (drop_return line)
+drop_return-long line h = omega (arith, length-drop_return line)
+
+last_lines-long : (s : ConsoleState) (a b : List ℕ) → Long a → Long b → answers_to s (last_lines a) ≡ answers_to s (last_lines b)
+last_lines-long s [] b h k = absurd (omega arith)
+last_lines-long s (x ∷ a) [] h k = absurd (omega arith)
+last_lines-long s (x ∷ a) (y ∷ b) h k = answers_to-too_long s (x ∷ a) (y ∷ b) [] (omega arith) (omega arith)
+
+more-long : (a : List ℕ) (x : ℕ) → Long a → Long (a ++ x ∷ [])
+more-long a x h = omega (arith, length-append a (x ∷ []))
+
+pub rest-long : (s : ConsoleState) (more a b : List ℕ) → Long a → Long b → answers_to s (lines_from a more) ≡ answers_to s (lines_from b more)
+rest-long s [] a b h k = last_lines-long s a b h k
+rest-long s (x ∷ more) a b h k = elim (nat_eq x 10) as (λ t. answers_to s (cond t (drop_return a ∷ lines_from [] more) (lines_from (a ++ x ∷ []) more)) ≡ answers_to s (cond t (drop_return b ∷ lines_from [] more) (lines_from (b ++ x ∷ []) more))) [
+  | true ↦ answers_to-too_long s (drop_return a) (drop_return b) (lines_from [] more) (drop_return-long a h) (drop_return-long b k)
+  | false ↦ rest-long s more (a ++ x ∷ []) (b ++ x ∷ []) (more-long a x h) (more-long b x k)
+]
+
+pub whole-long : (s : ConsoleState) (more a b : List ℕ) → Long a → Long b → answers_to s (whole_lines_from a more) ≡ answers_to s (whole_lines_from b more)
+whole-long s [] a b h k = refl
+whole-long s (x ∷ more) a b h k = elim (nat_eq x 10) as (λ t. answers_to s (cond t (drop_return a ∷ whole_lines_from [] more) (whole_lines_from (a ++ x ∷ []) more)) ≡ answers_to s (cond t (drop_return b ∷ whole_lines_from [] more) (whole_lines_from (b ++ x ∷ []) more))) [
+  | true ↦ answers_to-too_long s (drop_return a) (drop_return b) (whole_lines_from [] more) (drop_return-long a h) (drop_return-long b k)
+  | false ↦ whole-long s more (a ++ x ∷ []) (b ++ x ∷ []) (more-long a x h) (more-long b x k)
+]

@@ -1,0 +1,251 @@
+use Rattle.std.proofs.Common.{lit<, ◌≡◌, ◌==◌, false, ℕ, ◌+◌, ◌-◌, ◌*◌, ◌/◌, ◌<◌, ◌⊎◌, inl, inr, List, [], ◌∷◌, ◌++◌, length, take, drop, get_or, refl, sym, ap, ◌∙◌, pos, arith, length-append}
+use Rattle.std.specs.Arc.{arc_value}
+use Rattle.std.specs.Result.{is_ok}
+use Rattle.stm_terms.specs.declared.values.Value.{Value}
+use Rattle.stm_terms.specs.declared.values.Value.TheVariants.{Int}
+use Rattle.stm_store.specs.declared.cell.Cell.{Cell}
+use Rattle.stm_store.specs.Pages.{contents, flatten}
+use Rattle.stm_store.specs.Stretches.{with_writes_from}
+use Rattle.stm_store.proofs.Paged.{on_ok, on_err_of, length-flatten, within, vec-sizes}
+use Rattle.stm_store.proofs.Parted.{cut, parted-set, grouped}
+use Rattle.stm_store.proofs.Stretched.{before, from_first_write, first_write, starts_below, before_few, some_before, first_within, others_within, length-writes_from, writes_both, written_behind}
+use Rattle.stm_store.proofs.in_place.+write.Goals as goal
+
+either : {P : Type 0} → P ⊎ P → P
+either (inl p) = p
+either (inr p) = p
+
+some_writes : (ws : List (ℕ × Value)) → false ≡ (length ws == 0) → 0 < length ws
+some_writes [] e = absurd (cc)
+some_writes (w ∷ ws) e = omega arith
+
+abbrev d : ℕ × Value
+d = (0, Int (pos 0))
+
+-- ---- a page
+pub write_page-split_at-requires : goal.write_page-split_at-requires
+write_page-split_at-requires t c = rw c.writes_below.ensures (before_few (c.args.first + c.len.result) c.args.writes.now)
+
+pub write_page-write_pages-requires : goal.write_page-write_pages-requires
+write_page-write_pages-requires t c =
+    let ws = c.args.writes.now in
+    let size : c.len.result ≡ length (arc_value c.args.page.now) = c.len.ensures ∙ ap length (either c.in_ok-page.ensures.value) in
+    let b = c.args.first + length (arc_value c.args.page.now) in
+    let count : c.writes_below.result ≡ before b ws = rw size at c.writes_below.ensures in
+    let some = some_before b ws c.requires.here in
+    let paged = c.requires.pages in
+    let same : c.args.end - b ≡ c.args.end - c.args.first - 64 = omega (arith, paged.1) in
+    rw size (
+      omega (arith, c.split_at.ensures.back_len, c.decreases),
+      (omega (arith, paged.1), (rw same paged.2, (c.requires.parts, rw (c.split_at.ensures.back, count) (others_within c.args.len c.args.first b _ ws c.requires.writes)))),
+    )
+
+pub write_page-write-requires : goal.write_page-write-requires
+write_page-write-requires t c =
+    let ws = c.args.writes.now in
+    let page = either c.in_ok-page.ensures.value in
+    let size : c.len.result ≡ length (arc_value c.args.page.now) = c.len.ensures ∙ ap length page in
+    let b = c.args.first + length (arc_value c.args.page.now) in
+    let count : c.writes_below.result ≡ before b ws = rw size at c.writes_below.ensures in
+    rw (page, c.split_at.ensures.front, count) (first_within c.args.len c.args.first b _ ws c.requires.writes)
+
+pub write_page-returns-clause-ok : goal.write_page-returns-clause-ok
+write_page-returns-clause-ok t c =
+    let n = c.args.len in
+    let ws = c.args.writes.now in
+    let p = arc_value c.args.page.now in
+    let page = either c.in_ok-page.ensures.value in
+    let size : c.len.result ≡ length p = c.len.ensures ∙ ap length page in
+    let b = c.args.first + length p in
+    let count : c.writes_below.result ≡ before b ws = rw size at c.writes_below.ensures in
+    let rest = flatten (contents c.args.pages.now) ++ flatten (contents c.args.parts.now) in
+    let here : c.write.new.self ≡ with_writes_from n c.args.first (take (before b ws) ws) p = c.write.ensures ∙ rw (page, c.split_at.ensures.front, count) refl in
+    let behind : flatten (contents c.write_pages.new.pages) ++ flatten (contents c.write_pages.new.parts) ≡ with_writes_from n b (drop (before b ws) ws) rest = c.in_ok-write_pages.ensures.ok ∙ rw (size, c.split_at.ensures.back, count) refl in
+    let left = c.make_mut.follows.holds c.write.new.self (ap is_ok c.in_ok-page.was) ∙ here in
+    rw (left, behind) (sym (writes_both n c.args.first b _ ws p rest c.requires.writes refl))
+
+pub write_page-returns-clause-size : goal.write_page-returns-clause-size
+write_page-returns-clause-size t c =
+    let page = either c.in_ok-page.ensures.value in
+    ap length (c.make_mut.follows.holds c.write.new.self (ap is_ok c.in_ok-page.was) ∙ c.write.ensures ∙ ap (with_writes_from c.args.len c.args.first c.split_at.result.0.now) page)
+    ∙ length-writes_from c.args.len c.args.first c.split_at.result.0.now (arc_value c.args.page.now)
+
+-- ---- pages
+pub write_pages-returns-then-id-end-clause-ok : goal.write_pages-returns-then-id-end-clause-ok
+write_pages-returns-then-id-end-clause-ok t c =
+    let n = c.args.len in
+    let ws = c.args.writes.now in
+    let front = flatten (contents c.args.pages.now) in
+    let behind = flatten (contents c.args.parts.now) in
+    let long = length-flatten 64 (lit< tt) (c.args.end - c.args.first) (contents c.args.pages.now) c.requires.pages in
+    on_ok c.write_parts.result c.write_parts.ensures.ok (λ p. written_behind n c.args.first c.args.end _ ws front behind _ _ _
+    (from_first_write n c.args.first c.args.end _ ws d c.requires.writes c.if-id-end.true) (omega (arith, long, c.requires.order)) refl refl p)
+
+pub write_pages-split_at_mut-others-requires : goal.write_pages-split_at_mut-others-requires
+write_pages-split_at_mut-others-requires t c =
+    let ws = c.args.writes.now in
+    let some = some_writes ws c.if-is_empty.ensures in
+    let head = first_write c.args.len c.args.first _ ws d c.requires.writes some in
+    let i = (get_or ws 0 d).0 - c.args.first in
+    let w = within 64 (lit< tt) (c.args.end - c.args.first) c.args.pages.now i (i / 64) c.requires.pages (omega arith) (omega (arith, head.0, c.if-id-end.false)) in
+    omega (arith, w)
+
+pub write_pages-split_at_mut-here-requires : goal.write_pages-split_at_mut-here-requires
+write_pages-split_at_mut-here-requires t c =
+    let ws = c.args.writes.now in
+    let some = some_writes ws c.if-is_empty.ensures in
+    let head = first_write c.args.len c.args.first _ ws d c.requires.writes some in
+    let i = (get_or ws 0 d).0 - c.args.first in
+    let w = within 64 (lit< tt) (c.args.end - c.args.first) c.args.pages.now i (i / 64) c.requires.pages (omega arith) (omega (arith, head.0, c.if-id-end.false)) in
+    omega (arith, w, c.split_at_mut-others.ensures.back_len)
+
+pub write_pages-write_page-requires : goal.write_pages-write_page-requires
+write_pages-write_page-requires t c =
+    let n = c.args.len in
+    let ws = c.args.writes.now in
+    let some = some_writes ws c.if-is_empty.ensures in
+    let head = first_write n c.args.first _ ws d c.requires.writes some in
+    let i = (get_or ws 0 d).0 - c.args.first in
+    let x = c.args.first + i / 64 * 64 in
+    let others = c.split_at_mut-others in
+    let here = c.split_at_mut-here in
+    let u = cut 64 (lit< tt) (c.args.end - c.args.first) (i / 64) c.args.pages.now others.result.0.now others.result.1.now here.result.0.now here.result.1.now c.index-here-0.result c.requires.pages others.ensures.value others.ensures.front_len here.ensures.value here.ensures.front_len in
+    let same : c.args.end - x ≡ c.args.end - c.args.first - 64 * (i / 64) = omega arith in (
+      omega (arith, c.decreases),
+      (omega (arith, head.0, c.if-id-end.false), (rw same u.pages, (c.requires.parts, (from_first_write n c.args.first x _ ws d c.requires.writes (omega (arith, head.0)), starts_below _ ws d some (omega (arith, head.0, u.pages.1, c.if-id-end.false)))))),
+    )
+
+pub write_pages-returns-clause-ok : goal.write_pages-returns-clause-ok
+write_pages-returns-clause-ok t c =
+    let n = c.args.len in
+    let ws = c.args.writes.now in
+    let some = some_writes ws c.if-is_empty.ensures in
+    let head = first_write n c.args.first _ ws d c.requires.writes some in
+    let i = (get_or ws 0 d).0 - c.args.first in
+    let x = c.args.first + i / 64 * 64 in
+    let others = c.split_at_mut-others in
+    let here = c.split_at_mut-here in
+    let u = cut 64 (lit< tt) (c.args.end - c.args.first) (i / 64) c.args.pages.now others.result.0.now others.result.1.now here.result.0.now here.result.1.now c.index-here-0.result c.requires.pages others.ensures.value others.ensures.front_len here.ensures.value here.ensures.front_len in
+    let front = flatten (contents others.result.0.now) in
+    let p = arc_value (get_or here.result.0.now 0 c.index-here-0.result) in
+    let behind = flatten (contents here.result.1.now) in
+    let more = flatten (contents c.args.parts.now) in
+    let old : flatten (contents c.args.pages.now) ++ more ≡ front ++ (p ++ (behind ++ more)) = rw u.whole (grouped front p behind more) in
+    let q = arc_value c.write_page.new.page in
+    let after = flatten (contents c.write_page.new.pages) in
+    let beyond = flatten (contents c.write_page.new.parts) in
+    let new = ap (λ (l : List Cell). l ++ beyond) (parted-set others.result.0.now here.result.0.now c.write_page.new.page c.write_page.new.pages here.ensures.front_len) ∙ grouped front q after beyond in
+    on_ok c.write_page.result c.write_page.ensures.ok (λ e. written_behind n c.args.first x _ ws front (p ++ (behind ++ more)) (q ++ (after ++ beyond)) _ _
+    (from_first_write n c.args.first x _ ws d c.requires.writes (omega (arith, head.0))) (omega (arith, u.long)) old new e)
+
+pub write_pages-returns-clause-err : goal.write_pages-returns-clause-err
+write_pages-returns-clause-err t c =
+    let i = (get_or c.args.writes.now 0 d).0 - c.args.first in
+    let others = c.split_at_mut-others in
+    let here = c.split_at_mut-here in
+    let u = cut 64 (lit< tt) (c.args.end - c.args.first) (i / 64) c.args.pages.now others.result.0.now others.result.1.now here.result.0.now here.result.1.now c.index-here-0.result c.requires.pages others.ensures.value others.ensures.front_len here.ensures.value here.ensures.front_len in
+    let front = flatten (contents others.result.0.now) in
+    let p = arc_value (get_or here.result.0.now 0 c.index-here-0.result) in
+    let behind = flatten (contents here.result.1.now) in
+    let more = flatten (contents c.args.parts.now) in
+    let old : flatten (contents c.args.pages.now) ++ more ≡ front ++ (p ++ (behind ++ more)) = rw u.whole (grouped front p behind more) in
+    let q = arc_value c.write_page.new.page in
+    let after = flatten (contents c.write_page.new.pages) in
+    let beyond = flatten (contents c.write_page.new.parts) in
+    let new = ap (λ (l : List Cell). l ++ beyond) (parted-set others.result.0.now here.result.0.now c.write_page.new.page c.write_page.new.pages here.ensures.front_len) ∙ grouped front q after beyond in
+    on_err_of c.write_page.result c.write_page.ensures.err (λ e. new ∙ ap (λ (l : List Cell). front ++ l) e ∙ sym old)
+
+-- ---- a part
+pub write_part-overflow_add-end : goal.write_part-overflow_add-end
+write_part-overflow_add-end t c =
+    let long = length-flatten 64 (lit< tt) c.part.inside.len (contents c.part.inside.pages.items) c.part.invariant in
+    let is = c.part.view_is ∙ either c.in_ok-part.ensures.value in
+    omega (arith, long, ap length is, c.requires.room)
+
+pub write_part-write_pages-requires : goal.write_part-write_pages-requires
+write_part-write_pages-requires t c =
+    let long = length-flatten 64 (lit< tt) c.part.inside.len (contents c.part.inside.pages.items) c.part.invariant in
+    let is = c.part.view_is ∙ either c.in_ok-part.ensures.value in
+    let p = arc_value c.args.part.now in
+    let behind = flatten (contents c.args.parts.now) in
+    let paged = c.requires.parts in
+    let count = length-flatten 4096 (lit< tt) (length (p ++ behind) - 4096) (contents c.args.parts.now) paged.2 in
+    let same : c.args.first + c.part.inside.len - c.args.first ≡ c.part.inside.len = omega arith in
+    let top : c.args.first + c.part.inside.len + length behind ≡ c.args.first + length (p ++ behind) = omega (arith, long, ap length is, length-append p behind) in (
+      omega (arith, c.decreases),
+      (omega arith, (rw (same, c.as_mut_slice.ensures.value) c.part.invariant, (rw count paged.2, rw top c.requires.writes))),
+    )
+
+pub write_part-invariant_of-part : goal.write_part-invariant_of-part
+write_part-invariant_of-part t c =
+    vec-sizes 64 (lit< tt) c.part.inside.len c.part.inside.pages c.write_pages.new.pages c.part.invariant (rw (← c.as_mut_slice.ensures.value) c.write_pages.ensures.sizes)
+
+pub write_part-returns-clause-size : goal.write_part-returns-clause-size
+write_part-returns-clause-size t c =
+    let kept = vec-sizes 64 (lit< tt) c.part.inside.len c.part.inside.pages c.write_pages.new.pages c.part.invariant (rw (← c.as_mut_slice.ensures.value) c.write_pages.ensures.sizes) in
+    let long = length-flatten 64 (lit< tt) c.part.inside.len (contents c.part.inside.pages.items) c.part.invariant in
+    let is = c.part.view_is ∙ either c.in_ok-part.ensures.value in
+    ap length (c.make_mut.follows.holds _ (ap is_ok c.in_ok-part.was)) ∙ length-flatten 64 (lit< tt) c.part.inside.len _ kept ∙ sym long ∙ ap length is
+
+-- ---- parts
+pub write_parts-split_at_mut-others-requires : goal.write_parts-split_at_mut-others-requires
+write_parts-split_at_mut-others-requires t c =
+    let ws = c.args.writes.now in
+    let some = some_writes ws c.if-is_empty.ensures in
+    let head = first_write c.args.len c.args.first _ ws d c.requires.writes some in
+    let i = (get_or ws 0 d).0 - c.args.first in
+    let w = within 4096 (lit< tt) (length (flatten (contents c.args.parts.now))) c.args.parts.now i (i / 4096) c.requires.parts (omega arith) (omega (arith, head.0, head.1)) in
+    omega (arith, w)
+
+pub write_parts-split_at_mut-here-requires : goal.write_parts-split_at_mut-here-requires
+write_parts-split_at_mut-here-requires t c =
+    let ws = c.args.writes.now in
+    let some = some_writes ws c.if-is_empty.ensures in
+    let head = first_write c.args.len c.args.first _ ws d c.requires.writes some in
+    let i = (get_or ws 0 d).0 - c.args.first in
+    let w = within 4096 (lit< tt) (length (flatten (contents c.args.parts.now))) c.args.parts.now i (i / 4096) c.requires.parts (omega arith) (omega (arith, head.0, head.1)) in
+    omega (arith, w, c.split_at_mut-others.ensures.back_len)
+
+pub write_parts-write_part-requires : goal.write_parts-write_part-requires
+write_parts-write_part-requires t c =
+    let n = c.args.len in
+    let ws = c.args.writes.now in
+    let some = some_writes ws c.if-is_empty.ensures in
+    let head = first_write n c.args.first _ ws d c.requires.writes some in
+    let i = (get_or ws 0 d).0 - c.args.first in
+    let x = c.args.first + i / 4096 * 4096 in
+    let m = length (flatten (contents c.args.parts.now)) in
+    let others = c.split_at_mut-others in
+    let here = c.split_at_mut-here in
+    let u = cut 4096 (lit< tt) m (i / 4096) c.args.parts.now others.result.0.now others.result.1.now here.result.0.now here.result.1.now c.index-here-0.result c.requires.parts others.ensures.value others.ensures.front_len here.ensures.value here.ensures.front_len in
+    let p = arc_value (get_or here.result.0.now 0 c.index-here-0.result) in
+    let count : length (p ++ flatten (contents here.result.1.now)) ≡ m - 4096 * (i / 4096) = length-flatten 4096 (lit< tt) (m - 4096 * (i / 4096)) (p ∷ contents here.result.1.now) u.pages in
+    let top : x + length (p ++ flatten (contents here.result.1.now)) ≡ c.args.first + m = omega (arith, count, u.less) in (
+      omega (arith, c.decreases, others.ensures.back_len, here.ensures.back_len),
+      (rw count u.pages, (rw top (from_first_write n c.args.first x _ ws d c.requires.writes (omega (arith, head.0))), (starts_below _ ws d some (omega (arith, head.0, head.1, u.pages.1)), omega (arith, head.0, u.pages.1)))),
+    )
+
+pub write_parts-returns-clause-ok : goal.write_parts-returns-clause-ok
+write_parts-returns-clause-ok t c =
+    let n = c.args.len in
+    let ws = c.args.writes.now in
+    let some = some_writes ws c.if-is_empty.ensures in
+    let head = first_write n c.args.first _ ws d c.requires.writes some in
+    let i = (get_or ws 0 d).0 - c.args.first in
+    let x = c.args.first + i / 4096 * 4096 in
+    let others = c.split_at_mut-others in
+    let here = c.split_at_mut-here in
+    let u = cut 4096 (lit< tt) (length (flatten (contents c.args.parts.now))) (i / 4096) c.args.parts.now others.result.0.now others.result.1.now here.result.0.now here.result.1.now c.index-here-0.result c.requires.parts others.ensures.value others.ensures.front_len here.ensures.value here.ensures.front_len in
+    let new = parted-set others.result.0.now here.result.0.now c.write_part.new.part c.write_part.new.parts here.ensures.front_len in
+    on_ok c.write_part.result c.write_part.ensures.ok (λ e. written_behind n c.args.first x _ ws (flatten (contents others.result.0.now)) _ _ _ _
+    (from_first_write n c.args.first x _ ws d c.requires.writes (omega (arith, head.0))) (omega (arith, u.long)) u.whole new e)
+
+pub write_parts-returns-clause-err : goal.write_parts-returns-clause-err
+write_parts-returns-clause-err t c =
+    let i = (get_or c.args.writes.now 0 d).0 - c.args.first in
+    let others = c.split_at_mut-others in
+    let here = c.split_at_mut-here in
+    let u = cut 4096 (lit< tt) (length (flatten (contents c.args.parts.now))) (i / 4096) c.args.parts.now others.result.0.now others.result.1.now here.result.0.now here.result.1.now c.index-here-0.result c.requires.parts others.ensures.value others.ensures.front_len here.ensures.value here.ensures.front_len in
+    let front = flatten (contents others.result.0.now) in
+    let new = parted-set others.result.0.now here.result.0.now c.write_part.new.part c.write_part.new.parts here.ensures.front_len in
+    on_err_of c.write_part.result c.write_part.ensures.err (λ e. new ∙ ap (λ (l : List Cell). front ++ l) e ∙ sym u.whole)

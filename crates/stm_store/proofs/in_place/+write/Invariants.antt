@@ -1,0 +1,15 @@
+use Rattle.std.proofs.Common.{◌+◌, ◌*◌, length}
+use Rattle.stm_store.proofs.in_place.+write.Given as goal
+
+-- each call of write_parts has fewer parts behind it, and each of write_page fewer writes
+abbrev pub decreases-write_parts : goal.decreases-write_parts
+decreases-write_parts l = 4 * (length l.parts.now + length l.writes.now) + 1
+
+abbrev pub decreases-write_part : goal.decreases-write_part
+decreases-write_part l = 4 * (length l.parts.now + length l.writes.now) + 3
+
+abbrev pub decreases-write_pages : goal.decreases-write_pages
+decreases-write_pages l = 4 * (length l.parts.now + length l.writes.now) + 2
+
+abbrev pub decreases-write_page : goal.decreases-write_page
+decreases-write_page l = 4 * (length l.parts.now + length l.writes.now) + 1

@@ -1,0 +1,52 @@
+//! Many names, two names of one hash, and names of one byte and of 32.
+
+use super::{INT, table_of};
+use crate::table::Table;
+use std::test::Fail;
+use stm_terms::naming::is_name;
+use stm_terms::values::Value;
+
+#[test]
+fn finds_each_of_many(rt: HostRuntime) -> Result<(), Fail> {
+    let alloc = rt.alloc();
+    let table = table_of(&rt, alloc, 300)?;
+    assert_eq!(rt; table.len(), 300);
+    for i in 0..300u32 {
+        let there = format!(in alloc; "v{i}")?;
+        assert_eq!(rt; table.find(there.as_str()), Some(i));
+        let absent = format!(in alloc; "w{i}")?;
+        assert_eq!(rt; table.find(absent.as_str()), None);
+    }
+    assert_eq!(rt; table.find("v300"), None);
+    assert_eq!(rt; table.find("v"), None);
+    Ok(())
+}
+
+#[test]
+fn tells_names_of_one_hash_apart(rt: HostRuntime) -> Result<(), Fail> {
+    let alloc = rt.alloc();
+    let mut table = Table::empty(alloc);
+    assert!(rt; is_name("glbvs") && is_name("yacxa"));
+    assert_eq!(rt; table.declare(alloc, "glbvs", INT, Value::Int(1)), Ok(0));
+    assert_eq!(rt; table.find("yacxa"), None);
+    assert_eq!(rt; table.declare(alloc, "yacxa", INT, Value::Int(2)), Ok(1));
+    assert_eq!(rt; table.find("glbvs"), Some(0));
+    assert_eq!(rt; table.find("yacxa"), Some(1));
+    Ok(())
+}
+
+#[test]
+fn takes_the_shortest_and_the_longest(rt: HostRuntime) -> Result<(), Fail> {
+    let alloc = rt.alloc();
+    let mut table = Table::empty(alloc);
+    let longest = "abcdefghijklmnopqrstuvwxyz_12345";
+    assert!(rt; is_name("a") && is_name(longest));
+    assert_eq!(rt; table.declare(alloc, "a", INT, Value::Int(1)), Ok(0));
+    assert_eq!(rt; table.declare(alloc, longest, INT, Value::Int(2)), Ok(1));
+    assert!(rt; table.len() == 2);
+    assert_eq!(rt; table.name(0), "a");
+    assert_eq!(rt; table.name(1), longest);
+    assert_eq!(rt; table.find("a"), Some(0));
+    assert_eq!(rt; table.find(longest), Some(1));
+    Ok(())
+}
