@@ -9,3 +9,6 @@ pub mod pending;
 mod sorted;
 
 pub use pending::Pending;
+
+#[cfg(test)]
+mod tests;

@@ -1,5 +1,5 @@
 //! The tests: worked cases by text, the words of the command line, runs over readers and writers that fail, and the calls
-//! of each crate where they answer. They stand in a crate of their own, since a crate with tests is proved twice.
+//! of the crates where they answer. They stand in a crate of their own, since a crate with tests is proved twice.
 #![tactic(auto)]
 
 #[cfg(test)]
@@ -18,8 +18,6 @@ mod limits;
 mod log;
 #[cfg(test)]
 mod parse;
-#[cfg(test)]
-mod queue;
 #[cfg(test)]
 mod store;
 #[cfg(test)]

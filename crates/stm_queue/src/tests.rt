@@ -1,9 +1,9 @@
 //! Worked examples, many tickets, and room that is refused.
 ghost use Rattle.std.specs.Prelude.{◌≡◌, ◌≤◌, [], OnOk};
 
+use crate::pending::Pending;
 use std::process::Abort;
 use std::test::Fail;
-use stm_queue::Pending;
 
 const MANY: u32 = 65_536;
 
