@@ -9,8 +9,6 @@ mod frame;
 pub mod log;
 mod pairs;
 pub mod reads;
-#[cfg(test)]
-mod tests;
 
 pub use log::{Ends, Log};
 pub use reads::Reads;

@@ -1,5 +1,5 @@
-//! Tests that cross crates: worked cases by text, the words of the command line, runs over readers and writers that fail, and
-//! the calls of the parser, the check and the evaluator where they answer.
+//! The tests: worked cases by text, the words of the command line, runs over readers and writers that fail, and the calls
+//! of the crates where they answer. They stand in a crate of their own, since a crate with tests is proved twice.
 #![tactic(auto)]
 
 #[cfg(test)]
@@ -15,8 +15,14 @@ mod language;
 #[cfg(test)]
 mod limits;
 #[cfg(test)]
+mod log;
+#[cfg(test)]
 mod parse;
 #[cfg(test)]
+mod store;
+#[cfg(test)]
 mod typing;
+#[cfg(test)]
+mod watch;
 #[cfg(test)]
 mod words;

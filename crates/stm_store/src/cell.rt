@@ -1,5 +1,8 @@
 //! A cell of a store.
 
+ghost use Rattle.std.specs.Prelude.{◌≡◌};
+ghost use Rattle.stm_store.specs.Cells.{counted};
+
 use stm_terms::kinds::Ty;
 use stm_terms::values::Value;
 
@@ -9,4 +12,19 @@ pub struct Cell {
     pub kind: Ty,
     pub value: Value,
     pub count: u64,
+}
+
+impl Cell {
+    /// The cell after one more block has written this value.
+    pub fn written(self, value: Value) -> Cell
+        ensures kind { result.kind ≡ self.kind }
+        ensures value { result.value ≡ value }
+        ensures count { result.count ≡ counted self.count }
+    {
+        Cell {
+            kind: self.kind,
+            value,
+            count: self.count.saturating_add(1),
+        }
+    }
 }

@@ -16,8 +16,6 @@ pub mod ready;
 mod settle;
 pub mod store;
 pub mod table;
-#[cfg(test)]
-mod tests;
 mod types;
 
 pub use cell::Cell;

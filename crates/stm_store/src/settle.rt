@@ -24,11 +24,7 @@ pub(crate) fn rewrite(len: u32, value: Value, cell: Cell) -> Cell
     requires { HasNumber len value }
     ensures { result ≡ rewritten len value cell }
 {
-    Cell {
-        kind: cell.kind,
-        value: settle(len, value),
-        count: cell.count.saturating_add(1),
-    }
+    cell.written(settle(len, value))
 }
 
 /// A new cell, which no block has written.

@@ -9,6 +9,3 @@ mod pairs;
 pub mod watch;
 
 pub use watch::Watch;
-
-#[cfg(test)]
-mod tests;

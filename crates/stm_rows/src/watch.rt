@@ -1,8 +1,8 @@
 //! Worked examples, many tickets, and memory that is refused in the midst of a change.
-use crate::watch::Watch;
 use std::process::Abort;
 use std::test::Fail;
 use stm_terms::{NoMemory, Value};
+use stm_watch::Watch;
 
 const ONE: Value = Value::Int(1);
 

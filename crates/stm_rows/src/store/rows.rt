@@ -1,16 +1,9 @@
 //! Worked examples, each public call on its happy path.
 
 use super::{INT, INT_VAR, cell_at, commit, table_of, value_at};
-use crate::cell::Cell;
-use crate::ready::{Applied, ApplyError};
-use crate::settle::rewrite;
-use crate::store::Store;
-use crate::table::{DeclareError, Table};
 use std::test::Fail;
-use stm_terms::lists::{News, Writes};
-use stm_terms::naming::is_name;
-use stm_terms::values::{Fault, Ref, Value};
-use stm_terms::verdicts::Verdict;
+use stm_store::{Applied, ApplyError, Cell, DeclareError, Store, Table};
+use stm_terms::{Fault, News, Ref, Value, Verdict, Writes, is_name};
 
 #[test]
 fn declares_and_finds(rt: HostRuntime) -> Result<(), Fail> {
@@ -43,7 +36,7 @@ fn counts_stay_at_the_greatest(rt: HostRuntime) -> Result<(), Fail> {
         count: u64::MAX - 1,
     };
     for value in [2, 3, 4] {
-        cell = rewrite(1, Value::Int(value), cell);
+        cell = cell.written(Value::Int(value));
         assert_eq!(rt; cell.count, u64::MAX);
         assert_eq!(rt; cell.value, Value::Int(value));
     }

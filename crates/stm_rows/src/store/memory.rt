@@ -1,16 +1,11 @@
 //! Calls that go on where an allocation is refused, so that these tests pass whichever is.
 
 use super::{INT, cell_at, commit, value_at};
-use crate::frozen::Frozen;
-use crate::ready::ApplyError;
-use crate::store::Store;
-use crate::table::{DeclareError, Table};
 use std::alloc::Global;
 use std::process::Abort;
 use std::test::Fail;
-use stm_terms::naming::is_name;
-use stm_terms::values::Value;
-use stm_terms::verdicts::Verdict;
+use stm_store::{ApplyError, DeclareError, Frozen, Store, Table};
+use stm_terms::{Value, Verdict, is_name};
 
 /// Declares a variable, a second time where memory is refused, which leaves the table as it was.
 fn declare(rt: &impl Abort, alloc: Global, table: &mut Table, name: &str) -> Result<u32, Fail> {

@@ -4,17 +4,11 @@ mod memory;
 mod names;
 mod rows;
 
-use crate::frozen::Frozen;
-use crate::store::Store;
-use crate::table::Table;
 use std::alloc::{AllocError, Global};
 use std::process::Abort;
 use std::test::Fail;
-use stm_terms::kinds::{Base, Ty};
-use stm_terms::lists::{News, Writes};
-use stm_terms::naming::is_name;
-use stm_terms::values::Value;
-use stm_terms::verdicts::Verdict;
+use stm_store::{Frozen, Store, Table};
+use stm_terms::{Base, News, Ty, Value, Verdict, Writes, is_name};
 
 const INT: Ty = Ty {
     base: Base::Int,

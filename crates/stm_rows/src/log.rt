@@ -4,14 +4,12 @@
 ghost use Rattle.std.specs.Prelude.{◌≡◌, ◌+◌, ◌<◌, ◌^◌, [], ◌∷◌, length, IfOk, OnOk};
 ghost use Rattle.stm_terms.specs.Views.{no_changes};
 
-use crate::log::{Ends, Log};
 use std::alloc::Global;
 use std::process::Abort;
 use std::test::Fail;
+use stm_log::{Ends, Log};
 use stm_store::{Frozen, Store, Table};
-use stm_terms::kinds::{Base, Ty};
-use stm_terms::naming::is_name;
-use stm_terms::values::{Ref, Value};
+use stm_terms::{Base, Ref, Ty, Value, is_name};
 
 const INT: Ty = Ty {
     base: Base::Int,

@@ -1,10 +1,9 @@
 //! Many names, two names of one hash, and names of one byte and of 32.
 
 use super::{INT, table_of};
-use crate::table::Table;
 use std::test::Fail;
-use stm_terms::naming::is_name;
-use stm_terms::values::Value;
+use stm_store::Table;
+use stm_terms::{Value, is_name};
 
 #[test]
 fn finds_each_of_many(rt: HostRuntime) -> Result<(), Fail> {
