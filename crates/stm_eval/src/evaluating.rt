@@ -72,6 +72,14 @@ impl Evaluated {
         &self.verdict
     }
 
+    /// What the block read, and its verdict.
+    pub fn into_parts(self) -> (Reads, Verdict)
+        ensures reads { result.0 ≡ told_reads self }
+        ensures verdict { result.1 ≡ told_verdict self }
+    {
+        (self.reads, self.verdict)
+    }
+
     /// The verdict alone.
     pub fn into_verdict(self) -> Verdict
         ensures { result ≡ told_verdict self }

@@ -3,3 +3,4 @@ pub mod Merging
 pub mod Moves
 pub mod Placing
 pub mod Truths
+pub mod QueuedOnes

@@ -53,3 +53,7 @@ sent_out (Some t) es = marked t true es
 -- each ticket is queued
 abbrev pub recalled : List Entry → List Entry
 recalled es = map (λ e. (e.0, false)) es
+
+-- the queued tickets, rising
+abbrev pub queued : List Entry → List ℕ
+queued es = map (λ e. e.0) (filter (λ e. not e.1) es)

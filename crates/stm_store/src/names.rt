@@ -1,6 +1,6 @@
 //! The names of a table, in one text.
 
-ghost use Rattle.std.specs.Prelude.{◌≡◌, ℕ, ◌<◌, ◌≤◌, ◌^◌, [], ◌∷◌, ◌++◌, Some, length, slice_get, slice_index, IfSome, IfNone, OnOk, OnErr};
+ghost use Rattle.std.specs.Prelude.{◌≡◌, ℕ, ◌<◌, ◌≤◌, ◌^◌, [], ◌∷◌, ◌++◌, Some, length, slice_get, slice_index, IfOk, IfSome, IfNone, OnOk, OnErr};
 ghost use Rattle.stm_store.specs.Chains.{hash_of};
 
 mod hashes;
@@ -37,6 +37,16 @@ impl Names {
             ends: Vec::new(alloc),
             hashes: Hashes::empty(alloc),
         }
+    }
+
+    /// A second list of the same names.
+    pub(crate) fn copy(&self, alloc: Global) -> Result<Names, AllocError>
+        ensures { IfOk result (λ n. n ≡ self.now) }
+    {
+        let text = self.text.as_slice().to_vec(alloc)?;
+        let ends = self.ends.as_slice().to_vec(alloc)?;
+        let hashes = self.hashes.copy(alloc)?;
+        Ok(Names { text, ends, hashes })
     }
 
     pub(crate) fn len(&self) -> usize

@@ -10,6 +10,7 @@ use crate::types::{plain_type, refers_to};
 use std::alloc::{AllocError, Global};
 use std::marker::Model;
 use std::str;
+use stm_terms::NoMemory;
 use stm_terms::kinds::{Base, Ty};
 use stm_terms::values::{Ref, Value};
 use thiserror::Error;
@@ -74,6 +75,20 @@ impl Table {
             kinds: Vec::new(alloc),
             values: Vec::new(alloc),
         }
+    }
+
+    /// A second table of the same variables.
+    pub fn copy(&self, alloc: Global) -> Result<Table, NoMemory>
+        ensures { IfOk result (λ t. t ≡ self.now) }
+    {
+        let names = self.names.copy(alloc)?;
+        let kinds = self.kinds.as_slice().to_vec(alloc)?;
+        let values = self.values.as_slice().to_vec(alloc)?;
+        Ok(Table {
+            names,
+            kinds,
+            values,
+        })
     }
 
     /// How many variables there are. What holds of every table stands here.

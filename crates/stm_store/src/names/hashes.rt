@@ -1,6 +1,6 @@
 //! Numbers in the order of their making, each with a hash, found again by it.
 
-ghost use Rattle.std.specs.Prelude.{◌≡◌, ℕ, ◌<◌, ◌≤◌, ◌^◌, [], ◌∷◌, ◌++◌, length, slice_index, OnOk, OnErr};
+ghost use Rattle.std.specs.Prelude.{◌≡◌, ℕ, ◌<◌, ◌≤◌, ◌^◌, [], ◌∷◌, ◌++◌, length, slice_index, IfOk, OnOk, OnErr};
 ghost use Rattle.stm_store.specs.Chains.{IsNewest, AreLinked};
 
 use std::alloc::{AllocError, Global};
@@ -30,6 +30,20 @@ impl Model for Hashes {
 }
 
 impl Hashes {
+    /// A second list of the same hashes.
+    pub(crate) fn copy(&self, alloc: Global) -> Result<Hashes, AllocError>
+        ensures { IfOk result (λ h. h ≡ self.now) }
+    {
+        let hashes = self.hashes.as_slice().to_vec(alloc)?;
+        let heads = self.heads.as_slice().to_vec(alloc)?;
+        let older = self.older.as_slice().to_vec(alloc)?;
+        Ok(Hashes {
+            hashes,
+            heads,
+            older,
+        })
+    }
+
     pub(crate) fn empty(alloc: Global) -> Hashes
         ensures { result ≡ [] }
     {
