@@ -1,0 +1,11 @@
+-- What the type of a desk keeps: its history is legal and no longer than it may be, and its machine stands for it.
+use Rattle.std.specs.Prelude.{ℕ, ◌≤◌, List, length}
+use Rattle.stm_store.specs.Tables.{Declared}
+use Rattle.stm_history.specs.declared.event.Event.{Event}
+use Rattle.stm_history.specs.SlowDesk.{max_events}
+use Rattle.stm_history.specs.Machine.{Parts, StandsFor}
+
+pub record IsKept (table : List Declared) (limit : ℕ) (history : List Event) (m : Parts) : Type 0 where
+  pub stands : StandsFor table history m
+  pub few : length history ≤ limit
+  pub small : limit ≤ max_events

@@ -1,0 +1,8 @@
+-- What a reader has to believe: what contracts see of a desk, what each call is refused for, and what settling does.
+pub mod Refusals
+pub mod Seen
+pub mod Settling
+
+-- The words inside.
+pub mod Kept
+pub mod Steps

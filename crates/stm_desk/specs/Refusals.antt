@@ -1,0 +1,28 @@
+-- Which refusal a call on a desk tells: the first one whose condition holds; want of memory is told only where none holds.
+use Rattle.std.specs.Prelude.{ℕ, List, Option}
+use Rattle.stm_terms.specs.declared.values.Value.{Value}
+use Rattle.stm_check.specs.Blocks.{Block}
+use Rattle.stm_history.specs.declared.errors.SubmitError.{SubmitError}
+use Rattle.stm_history.specs.declared.errors.CancelError.{CancelError}
+use Rattle.stm_history.specs.declared.errors.DeliverError.{DeliverError}
+use Rattle.stm_history.specs.declared.errors.FinishError.{FinishError}
+use Rattle.stm_history.specs.Refusals.{submit_refused, cancel_refused, finish_refused, TellsDelivery as Tells, pending_left}
+use Rattle.stm_desk.specs.Seen.{Seen, now, is_full}
+
+-- a block's submission, a cancellation and a finish
+abbrev pub submit_refusal : Seen → Block → Option SubmitError
+submit_refusal d block = submit_refused (now d) (is_full d) block
+
+abbrev pub cancel_refusal : Seen → ℕ → Option CancelError
+cancel_refusal d t = cancel_refused (now d) (is_full d) t
+
+abbrev pub finish_refusal : Seen → ℕ → Option FinishError
+finish_refusal d t = finish_refused (now d) (is_full d) t
+
+-- a message's delivery
+abbrev pub TellsDelivery : Option DeliverError → Seen → ℕ → Block → List (ℕ × Value) → Type 0
+TellsDelivery told d t block reads = Tells told (now d) (is_full d) t block reads
+
+-- the desk after a refused message: a ticket that was overtaken is queued
+abbrev pub left_by : DeliverError → ℕ → Seen → Seen
+left_by e t d = record d { pending = pending_left e t d.pending }

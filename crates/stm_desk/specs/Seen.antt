@@ -1,0 +1,39 @@
+-- What contracts see of a desk: all else follows from it.
+use Rattle.std.specs.Prelude.{◌≡◌, ℕ, Bool, nat_le, List, [], ◌∷◌, ◌++◌, length}
+use Rattle.stm_store.specs.Tables.{Declared}
+use Rattle.stm_queue.specs.Queue.{Entry, has_ticket, with_ticket, without_ticket}
+use Rattle.stm_history.specs.declared.event.Event.{Event}
+use Rattle.stm_history.specs.declared.event.What.{What}
+use Rattle.stm_history.specs.declared.event.What.TheVariants.{Submitted, Installed, Finished, Cancelled}
+use Rattle.stm_history.specs.SlowDesk.{Slow, waiter, state}
+use Rattle.stm_history.specs.Marks.{due_of, with_tickets}
+
+-- the table that it was opened on, how many events it takes, its history, and the tickets that are queued or out
+pub record Seen : Type 0 where
+  pub table : List Declared
+  pub limit : ℕ
+  pub history : List Event
+  pub pending : List (ℕ × Bool)
+
+-- what the slow desk makes of the history
+abbrev pub now : Seen → Slow
+now d = state d.table d.history
+
+-- the tickets that are queued or out, after one event more
+abbrev pub pending_after : What → List Entry → List Entry
+pending_after (Submitted t block) es = with_ticket t es
+pending_after (Installed t v) es = without_ticket t es
+pending_after (Finished t v n stale) es = with_tickets stale es
+pending_after (Cancelled t) es = without_ticket t es
+
+-- the desk after one event more
+abbrev pub with_event : Seen → Event → Seen
+with_event d e = record d { history = d.history ++ e ∷ []; pending = pending_after e.what d.pending }
+
+-- there is no room for an event
+abbrev pub is_full : Seen → Bool
+is_full d = nat_le d.limit (length d.history)
+
+-- each ticket of a new or stale block is queued or out, and no other is
+abbrev pub QueueIsRight : Seen → Type 0
+QueueIsRight d = (t : ℕ) → has_ticket t d.pending ≡ due_of (waiter t (now d).waiters)

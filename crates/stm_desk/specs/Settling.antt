@@ -1,0 +1,63 @@
+-- What settling a desk does: it adds the events of the slow desk's settling, and answers their numbers.
+use Rattle.std.specs.Prelude.{◌≡◌, ℕ, ◌<◌, ◌-◌, true, false, List, [], ◌∷◌, ◌++◌, length, Some, None, is_some}
+use Rattle.stm_queue.specs.Queue.{recalled}
+use Rattle.stm_history.specs.declared.event.What.{What}
+use Rattle.stm_history.specs.SlowDesk.{Waiter, Slow, is_current, verdict_on, waiter}
+use Rattle.stm_history.specs.SlowSettle.{next_what, has_cells, settling, finishes, installs, ends}
+use Rattle.stm_history.specs.Machine.{event}
+use Rattle.stm_desk.specs.declared.errors.SettleWhy.{SettleWhy}
+use Rattle.stm_desk.specs.declared.errors.SettleWhy.TheVariants.{HistoryFull, CellsFull, NoMemory}
+use Rattle.stm_desk.specs.Seen.{Seen, now, with_event}
+
+-- what settling does to the desk, as long as its history has room
+abbrev pub slow_settle : Seen → List What
+slow_settle d = settling (d.limit - length d.history) (now d)
+
+-- no ticket is out: each that was is queued
+abbrev pub called_back : Seen → Seen
+called_back d = record d { pending = recalled d.pending }
+
+-- the desk after these events of a client
+abbrev pub with_whats : Seen → ℕ → List What → Seen
+with_whats d client [] = d
+with_whats d client (x ∷ xs) = with_whats (with_event d (event client x)) client xs
+
+-- the history grew by exactly what settling does, with so many finishes and so many blocks run
+pub record HasSettled (client : ℕ) (old new : Seen) (f e : ℕ) : Type 0 where
+  pub grown : new ≡ with_whats old client (slow_settle old)
+  pub finished : f ≡ finishes (slow_settle old)
+  pub evaluated : e ≡ installs (slow_settle old)
+
+-- it grew by a first part of that
+pub record HasBegun (client : ℕ) (old new : Seen) (f e : ℕ) : Type 0 where
+  pub done : List What
+  pub grown : new ≡ with_whats old client done
+  pub rest : done ++ slow_settle new ≡ slow_settle old
+  pub finished : f ≡ finishes done
+  pub evaluated : e ≡ installs done
+
+-- nothing is left to do
+abbrev pub IsSettled : Seen → Type 0
+IsSettled d = next_what (now d) ≡ None
+
+-- something is left, and the history is full
+pub record IsFull (d : Seen) : Type 0 where
+  pub left : is_some (next_what (now d)) ≡ true
+  pub full : length d.history ≡ d.limit
+
+-- there is room for an event, and a finish is left whose new variables don't fit
+pub record IsCrowded (d : Seen) : Type 0 where
+  pub what : What
+  pub left : next_what (now d) ≡ Some what
+  pub room : length d.history < d.limit
+  pub crowded : has_cells (now d) what ≡ false
+
+-- why settling stopped, and how far it came
+abbrev pub StopTold : SettleWhy → ℕ → Seen → Seen → ℕ → ℕ → Type 0
+StopTold HistoryFull client old new f e = HasSettled client old new f e × IsFull new
+StopTold CellsFull client old new f e = HasSettled client old new f e × IsCrowded new
+StopTold NoMemory client old new f e = HasBegun client old new f e
+
+-- each waiting block is current and blocks on the present store
+abbrev pub AllBlock : Slow → Type 0
+AllBlock s = (t : ℕ) (w : Waiter) → waiter t s.waiters ≡ Some w → (is_current w ≡ true) × (ends (verdict_on s.store w.block) ≡ false)

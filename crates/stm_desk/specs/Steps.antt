@@ -1,0 +1,78 @@
+-- One step of settling, and why it can't be made.
+use Rattle.std.specs.Prelude.{◌≡◌, ℕ, ◌<◌, true, [], ◌∷◌, length, Some}
+use Rattle.stm_terms.specs.Looks.{reads_of}
+use Rattle.stm_eval.specs.declared.message.Evaluated.{Evaluated}
+use Rattle.stm_eval.specs.Told.{told_ticket, told_block, told_reads, told_verdict}
+use Rattle.stm_history.specs.declared.event.What.{What}
+use Rattle.stm_history.specs.SlowDesk.{Waiter, Slow, under, verdict_on}
+use Rattle.stm_history.specs.SlowSettle.{lowest, is_due, next_what, has_cells, finishes, installs}
+use Rattle.stm_history.specs.Machine.{event}
+use Rattle.stm_history.specs.declared.errors.DeliverError.{DeliverError}
+use Rattle.stm_history.specs.declared.errors.DeliverError.TheVariants as deliver
+use Rattle.stm_history.specs.declared.errors.FinishError.{FinishError}
+use Rattle.stm_history.specs.declared.errors.FinishError.TheVariants as finish
+use Rattle.stm_desk.specs.declared.errors.SettleWhy.{SettleWhy}
+use Rattle.stm_desk.specs.declared.errors.SettleWhy.TheVariants.{HistoryFull, CellsFull, NoMemory}
+use Rattle.stm_desk.specs.Seen.{Seen, now, with_event}
+use Rattle.stm_desk.specs.Settling.{IsFull, IsCrowded}
+
+-- what the lowest block that is new or stale does on the present store
+pub record IsDueMessage (s : Slow) (t : ℕ) (m : Evaluated) : Type 0 where
+  pub one : Waiter
+  pub first : lowest is_due s.waiters ≡ Some one
+  pub same : t ≡ one.ticket
+  pub ticket : told_ticket m ≡ one.ticket
+  pub block : told_block m ≡ one.block
+  pub verdict : verdict_on s.store one.block ≡ Some (told_verdict m)
+  pub reads : told_reads m ≡ reads_of (under s.store) one.block.tree
+
+-- one event more, the next one of settling
+pub record IsNextEvent (client f e : ℕ) (old new : Seen) : Type 0 where
+  pub what : What
+  pub next : next_what (now old) ≡ Some what
+  pub fits : has_cells (now old) what ≡ true
+  pub grown : new ≡ with_event old (event client what)
+  pub room : length old.history < old.limit
+  pub finishing : finishes (what ∷ []) ≡ f
+  pub evaluating : installs (what ∷ []) ≡ e
+
+-- why settling can't go on
+abbrev pub WhyTold : SettleWhy → Seen → Type 0
+WhyTold HistoryFull d = IsFull d
+WhyTold CellsFull d = IsCrowded d
+WhyTold NoMemory d = Unit {0}
+
+-- the refusals of a delivery and of a finish that settling can meet, and what they stop it for
+abbrev pub StopsDelivery : DeliverError → Type 0
+StopsDelivery deliver.Gone = ⊥
+StopsDelivery deliver.OtherBlock = ⊥
+StopsDelivery deliver.Already = ⊥
+StopsDelivery (deliver.Overtaken i) = ⊥
+StopsDelivery deliver.HistoryFull = Unit {0}
+StopsDelivery deliver.NoMemory = Unit {0}
+
+abbrev pub delivery_why : DeliverError → SettleWhy
+delivery_why deliver.Gone = NoMemory
+delivery_why deliver.OtherBlock = NoMemory
+delivery_why deliver.Already = NoMemory
+delivery_why (deliver.Overtaken i) = NoMemory
+delivery_why deliver.HistoryFull = HistoryFull
+delivery_why deliver.NoMemory = NoMemory
+
+abbrev pub StopsFinish : FinishError → Type 0
+StopsFinish finish.NoTicket = ⊥
+StopsFinish finish.NotEvaluated = ⊥
+StopsFinish finish.Stale = ⊥
+StopsFinish finish.Blocks = ⊥
+StopsFinish finish.HistoryFull = Unit {0}
+StopsFinish finish.CellsFull = Unit {0}
+StopsFinish finish.NoMemory = Unit {0}
+
+abbrev pub finish_why : FinishError → SettleWhy
+finish_why finish.NoTicket = NoMemory
+finish_why finish.NotEvaluated = NoMemory
+finish_why finish.Stale = NoMemory
+finish_why finish.Blocks = NoMemory
+finish_why finish.HistoryFull = HistoryFull
+finish_why finish.CellsFull = CellsFull
+finish_why finish.NoMemory = NoMemory

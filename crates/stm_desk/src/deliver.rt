@@ -1,0 +1,79 @@
+//! A message of an evaluator.
+
+ghost use Rattle.std.specs.Prelude.{◌≡◌, ◌<◌, IfOk, OnOk, IfErr, OnErr, IsSomeAnd, vec_len, vec_capacity};
+ghost use Rattle.stm_history.specs.SlowDesk.{IsLegal, waiter, max_clients};
+ghost use Rattle.stm_history.specs.declared.event.What.{What as AnyWhat};
+ghost use Rattle.stm_history.specs.Machine.{event};
+ghost use Rattle.stm_history.specs.Refusals.{install_told, deliver_told};
+ghost use Rattle.stm_eval.specs.Told.{told_ticket, told_block, told_reads, told_verdict};
+ghost use Rattle.stm_desk.specs.Seen.{now, with_event};
+ghost use Rattle.stm_desk.specs.Refusals.{TellsDelivery, left_by};
+
+use crate::desk::Desk;
+use stm_eval::Evaluated;
+use stm_history::{DeliverError, Event, What};
+use stm_terms::NoMemory;
+use stm_terms::verdicts::Verdict;
+
+/// What the event of an installed message takes: a copy of its verdict, and room in the history.
+fn take_memory(history: &mut Vec<Event>, message: &Evaluated) -> Result<Verdict, NoMemory>
+    ensures told { IfOk result (λ v. v ≡ told_verdict message.now) }
+    ensures history { history.new.items ≡ history.old.items }
+    ensures room { OnOk result (vec_len history.new < vec_capacity history.new) }
+{
+    let alloc = *history.allocator();
+    history.reserve(1)?;
+    message.verdict().copy(alloc)
+}
+
+impl Desk {
+    /// Why the message can't be installed, want of memory aside.
+    fn may_install(&self, message: &Evaluated) -> Result<(), DeliverError>
+        ensures told { TellsDelivery (install_told result) self.now (told_ticket message.now) (told_block message.now) (told_reads message.now) }
+        ensures same { OnOk result (IsSomeAnd (waiter (told_ticket message.now) (now self.now).waiters) (λ w. w.block.tree ≡ (told_block message.now).tree)) }
+    {
+        self.machine.may_install(message, self.is_full())
+    }
+
+    /// Installs a message, wherever and whenever it was made: its block is current from then on. The caller's number is
+    /// below 128. A refusal hands the message back; after `Overtaken` the ticket is queued.
+    pub fn deliver(
+        &mut self,
+        client: u32,
+        message: Evaluated,
+    ) -> Result<(), (Evaluated, DeliverError)>
+        requires { client < max_clients }
+        ensures done { OnOk result (self.new ≡ with_event self.old (event client (AnyWhat.Installed (told_ticket message) (told_verdict message)))) }
+        ensures told { TellsDelivery (deliver_told result) self.old (told_ticket message) (told_block message) (told_reads message) }
+        ensures back { IfErr result (λ e. e.0 ≡ message) }
+        ensures err { IfErr result (λ e. self.new ≡ left_by e.1 (told_ticket message) self.old) }
+        ensures legal { IsLegal self.new.table self.new.history }
+    {
+        match self.may_install(&message) {
+            Ok(()) => {}
+            Err(refusal) => {
+                self.machine.after_refusal(refusal, message.ticket());
+                return Err((message, refusal));
+            }
+        }
+        match take_memory(&mut self.history, &message) {
+            Ok(told) => {
+                let ticket = message.ticket();
+                match self.machine.install(message) {
+                    Ok(()) => {
+                        self.history.push_reserved(Event {
+                            client,
+                            what: What::Installed {
+                                ticket,
+                                verdict: told,
+                            },
+                        });
+                        Ok(())
+                    }
+                    Err((message, _)) => Err((message, DeliverError::NoMemory)),
+                }
+            }
+            Err(_) => Err((message, DeliverError::NoMemory)),
+        }
+    }
+}

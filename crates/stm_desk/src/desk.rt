@@ -1,0 +1,69 @@
+//! The desk, and how it opens.
+
+ghost use Rattle.std.specs.Prelude.{◌≡◌, ◌≤◌, [], IfOk};
+ghost use Rattle.stm_history.specs.SlowDesk.{max_events as most_events};
+ghost use Rattle.stm_desk.specs.Seen.{is_full};
+
+use std::alloc::Global;
+use std::marker::Model;
+use stm_history::{Event, Machine};
+use stm_store::Table;
+use stm_terms::NoMemory;
+
+/// The desk. Contracts see the table that it was opened on, how many events it takes, its history, and the tickets that are
+/// queued or out.
+#[derive(Drop)]
+pub struct Desk {
+    pub(crate) table: Table,
+    pub(crate) limit: u32,
+    pub(crate) history: Vec<Event>,
+    pub(crate) machine: Machine,
+}
+
+impl Model for Desk {
+    ghost use Rattle.std.specs.Coded.{codes};
+    ghost use Rattle.stm_terms.specs.Codes.{act_code};
+    ghost use Rattle.stm_desk.specs.Seen.{Seen};
+    ghost use Rattle.stm_desk.specs.Kept.{IsKept};
+
+    ghost Value = { Seen };
+
+    ghost coded = { Prim.hlevel (codes, act_code) };
+
+    ghost view = { λ d. record { table = d.table; limit = d.limit; history = d.history.items; pending = d.machine.pending } };
+
+    ghost invariant = { λ d. IsKept d.table d.limit d.history.items d.machine };
+}
+
+impl Desk {
+    /// How many blocks may wait.
+    pub const MAX_WAITING: usize = Machine::MAX_WAITING;
+
+    /// How many events a history may have.
+    pub const MAX_EVENTS: u32 = 1_048_576;
+
+    /// A desk with the variables of a table, on which no block waits. It takes this many events.
+    pub fn open(alloc: Global, table: &Table, max_events: u32) -> Result<Desk, NoMemory>
+        requires { max_events ≤ most_events }
+        ensures table { IfOk result (λ d. d.table ≡ table.now) }
+        ensures limit { IfOk result (λ d. d.limit ≡ max_events) }
+        ensures history { IfOk result (λ d. d.history ≡ []) }
+        ensures pending { IfOk result (λ d. d.pending ≡ []) }
+    {
+        let machine = Machine::open(alloc, table)?;
+        let table = table.copy(alloc)?;
+        Ok(Desk {
+            table,
+            limit: max_events,
+            history: Vec::new(alloc),
+            machine,
+        })
+    }
+
+    /// Whether the history has no room for an event.
+    pub fn is_full(&self) -> bool
+        ensures { result ≡ is_full self.now }
+    {
+        self.history.len() >= self.limit as usize
+    }
+}

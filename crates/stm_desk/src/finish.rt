@@ -1,0 +1,134 @@
+//! A block that is to take effect.
+
+ghost use Rattle.std.specs.Prelude.{◌≡◌, ◌++◌, ◌∷◌, [], ◌<◌, IfOk, OnOk, OnErr, vec_len, vec_capacity};
+ghost use Rattle.stm_store.specs.Cells.{told as told_of};
+ghost use Rattle.stm_history.specs.SlowDesk.{IsLegal, max_clients};
+ghost use Rattle.stm_history.specs.declared.event.What.{What as AnyWhat};
+ghost use Rattle.stm_history.specs.Machine.{event};
+ghost use Rattle.stm_history.specs.Plans.{IsPlan};
+ghost use Rattle.stm_history.specs.Refusals.{finish_told};
+ghost use Rattle.stm_desk.specs.Seen.{now, with_event};
+ghost use Rattle.stm_desk.specs.Refusals.{finish_refusal};
+
+use crate::desk::Desk;
+use stm_history::{Event, FinishError, Plan, Tickets, What};
+use stm_store::Applied;
+use stm_terms::NoMemory;
+use stm_terms::verdicts::Verdict;
+
+/// What a finish did: the verdict, with the new variables before they were numbered; what applying it did; and the tickets
+/// that became stale, rising.
+#[derive(Drop)]
+pub struct Finish {
+    pub verdict: Verdict,
+    pub applied: Applied,
+    pub stale: Tickets,
+}
+
+/// The event of a finish by its plan, and room for it in a list of events.
+fn finished_event(
+    events: &mut Vec<Event>,
+    client: u32,
+    ticket: u32,
+    plan: &Plan,
+) -> Result<Event, NoMemory>
+    ensures event { IfOk result (λ e. e ≡ event client (AnyWhat.Finished ticket plan.now.verdict plan.now.first_new plan.now.stale)) }
+    ensures items { events.new.items ≡ events.old.items }
+    ensures room { OnOk result (vec_len events.new < vec_capacity events.new) }
+{
+    let alloc = *events.allocator();
+    events.reserve(1)?;
+    let stale = plan.stale.copy(alloc)?;
+    let verdict = plan.verdict.copy(alloc)?;
+    Ok(Event {
+        client,
+        what: What::Finished {
+            ticket,
+            verdict,
+            first_new: plan.first_new,
+            stale,
+        },
+    })
+}
+
+impl Desk {
+    /// Why the block can't be finished, or what its finish is to do.
+    fn plan(&self, ticket: u32) -> Result<Plan, FinishError>
+        ensures told { finish_told result ≡ finish_refusal self.now ticket }
+        ensures plan { IfOk result (λ p. IsPlan (now self.now) ticket p.verdict p.first_new p.stale) }
+    {
+        self.machine.plan(ticket, self.is_full())
+    }
+
+    /// The finish by its plan: its event joins the history, and the list that is lent. All memory is taken before the first
+    /// change.
+    fn finish_by(
+        &mut self,
+        client: u32,
+        ticket: u32,
+        plan: &Plan,
+        own: &mut Vec<Event>,
+    ) -> Result<Applied, NoMemory>
+        requires client { client < max_clients }
+        requires allowed { finish_refusal self.old ticket ≡ None }
+        requires plan { IsPlan (now self.old) ticket plan.now.verdict plan.now.first_new plan.now.stale }
+        ensures done { OnOk result (self.new ≡ with_event self.old (event client (AnyWhat.Finished ticket plan.now.verdict plan.now.first_new plan.now.stale))) }
+        ensures noted { OnOk result (own.new.items ≡ own.old.items ++ event client (AnyWhat.Finished ticket plan.now.verdict plan.now.first_new plan.now.stale) ∷ []) }
+        ensures applied { IfOk result (λ a. a ≡ told_of (now self.old).store plan.now.verdict) }
+        ensures err { OnErr result ((self.new ≡ self.old) × (own.new.items ≡ own.old.items)) }
+        ensures legal { IsLegal self.new.table self.new.history }
+    {
+        let told = finished_event(&mut self.history, client, ticket, plan)?;
+        let noted = finished_event(own, client, ticket, plan)?;
+        let applied = self.machine.finish(ticket, plan)?;
+        self.history.push_reserved(told);
+        own.push_reserved(noted);
+        Ok(applied)
+    }
+
+    /// The block takes effect and waits no more, and the event is at the end of the client's own list too, where it is
+    /// accepted. The caller's number is below 128.
+    pub fn finish_noted(
+        &mut self,
+        client: u32,
+        ticket: u32,
+        own: &mut Vec<Event>,
+    ) -> Result<Finish, FinishError>
+        requires { client < max_clients }
+        ensures done { IfOk result (λ f. self.new ≡ with_event self.old (event client (AnyWhat.Finished ticket f.verdict f.applied.first_new f.stale))) }
+        ensures noted { IfOk result (λ f. own.new.items ≡ own.old.items ++ event client (AnyWhat.Finished ticket f.verdict f.applied.first_new f.stale) ∷ []) }
+        ensures applied { IfOk result (λ f. f.applied ≡ told_of (now self.old).store f.verdict) }
+        ensures told { finish_told result ≡ finish_refusal self.old ticket }
+        ensures err { OnErr result ((self.new ≡ self.old) × (own.new.items ≡ own.old.items)) }
+        ensures legal { IsLegal self.new.table self.new.history }
+    {
+        let plan = match self.plan(ticket) {
+            Ok(plan) => plan,
+            Err(refusal) => return Err(refusal),
+        };
+        match self.finish_by(client, ticket, &plan, own) {
+            Ok(applied) => {
+                let Plan { verdict, stale, .. } = plan;
+                Ok(Finish {
+                    verdict,
+                    applied,
+                    stale,
+                })
+            }
+            Err(_) => Err(FinishError::NoMemory),
+        }
+    }
+
+    /// The block takes effect and waits no more; the tickets that become stale are queued. The caller's number is below 128.
+    pub fn finish(&mut self, client: u32, ticket: u32) -> Result<Finish, FinishError>
+        requires { client < max_clients }
+        ensures done { IfOk result (λ f. self.new ≡ with_event self.old (event client (AnyWhat.Finished ticket f.verdict f.applied.first_new f.stale))) }
+        ensures applied { IfOk result (λ f. f.applied ≡ told_of (now self.old).store f.verdict) }
+        ensures told { finish_told result ≡ finish_refusal self.old ticket }
+        ensures err { OnErr result (self.new ≡ self.old) }
+        ensures legal { IsLegal self.new.table self.new.history }
+    {
+        let mut own = Vec::new(*self.history.allocator());
+        self.finish_noted(client, ticket, &mut own)
+    }
+}

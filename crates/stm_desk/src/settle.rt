@@ -1,0 +1,281 @@
+//! Settling: all that can run, in a fixed order.
+
+ghost use Rattle.std.specs.Prelude.{◌≡◌, ℕ, List, ◌<◌, ◌≤◌, true, false, None, Some, length, IfOk, OnOk, IfErr, OnErr};
+ghost use Rattle.stm_store.specs.Cells.{plains};
+ghost use Rattle.stm_history.specs.SlowDesk.{IsLegal, is_blocks, is_current, Waiter, waiter, max_clients};
+ghost use Rattle.stm_history.specs.SlowSettle.{can_end};
+ghost use Rattle.stm_history.specs.Choices.{some_out, next_due, next_end, ended_then, AreCandidates};
+ghost use Rattle.stm_desk.specs.Seen.{now};
+ghost use Rattle.stm_desk.specs.Settling.{called_back, HasBegun, HasSettled, IsSettled, AllBlock, StopTold};
+ghost use Rattle.stm_desk.specs.Steps.{IsDueMessage, IsNextEvent, WhyTold, StopsDelivery, delivery_why, StopsFinish, finish_why};
+
+use crate::desk::Desk;
+use crate::errors::{SettleStop, SettleWhy};
+use stm_eval::Evaluated;
+use stm_history::{DeliverError, FinishError, TicketSet};
+use stm_store::Frozen;
+use stm_terms::NoMemory;
+use stm_terms::verdicts::Verdict;
+
+/// How much settling did.
+#[derive(Clone, Copy, Debug, PartialEq, Eq, Drop)]
+pub struct Settled {
+    /// How many blocks finished.
+    pub finished: u32,
+    /// How many deliveries were accepted.
+    pub evaluations: u32,
+}
+
+/// Whether the verdict is that the block blocks.
+fn blocks(verdict: &Verdict) -> bool
+    ensures { result ≡ is_blocks verdict.now }
+{
+    match verdict {
+        Verdict::Blocks => true,
+        _ => false,
+    }
+}
+
+fn why_of_delivery(refusal: DeliverError) -> SettleWhy
+    requires { StopsDelivery refusal }
+    ensures { result ≡ delivery_why refusal }
+{
+    match refusal {
+        DeliverError::HistoryFull => SettleWhy::HistoryFull,
+        DeliverError::NoMemory => SettleWhy::NoMemory,
+        DeliverError::Gone
+        | DeliverError::OtherBlock
+        | DeliverError::Already
+        | DeliverError::Overtaken(_) => unreachable!(),
+    }
+}
+
+fn why_of_finish(refusal: FinishError) -> SettleWhy
+    requires { StopsFinish refusal }
+    ensures { result ≡ finish_why refusal }
+{
+    match refusal {
+        FinishError::HistoryFull => SettleWhy::HistoryFull,
+        FinishError::CellsFull => SettleWhy::CellsFull,
+        FinishError::NoMemory => SettleWhy::NoMemory,
+        FinishError::NoTicket
+        | FinishError::NotEvaluated
+        | FinishError::Stale
+        | FinishError::Blocks => unreachable!(),
+    }
+}
+
+impl Desk {
+    /// Every ticket that is out is queued again.
+    fn call_back(&mut self)
+        ensures { self.new ≡ called_back self.old }
+    {
+        self.machine.recall();
+    }
+
+    /// The tickets of the blocks that can end by what is kept of their deliveries, and maybe others.
+    fn ended(&self) -> Result<TicketSet, NoMemory>
+        ensures candidates { IfOk result (λ cs. AreCandidates (now self.now) cs) }
+        ensures legal { IsLegal self.now.table self.now.history }
+    {
+        self.machine.ending()
+    }
+
+    /// The lowest ticket of a block that is new or stale.
+    fn next_due(&self) -> Option<u32>
+        requires { some_out self.now.pending ≡ false }
+        ensures first { result ≡ next_due (now self.now) }
+        ensures legal { IsLegal self.now.table self.now.history }
+        ensures few { length self.now.history ≤ self.now.limit }
+    {
+        self.machine.first_queued()
+    }
+
+    /// What the block of that ticket does on the present store.
+    fn evaluated(&self, frozen: &Frozen, ticket: u32) -> Result<Evaluated, NoMemory>
+        requires next { next_due (now self.now) ≡ Some ticket }
+        requires store { frozen.now ≡ plains (now self.now).store }
+        ensures message { IfOk result (λ m. IsDueMessage (now self.now) ticket m) }
+        ensures legal { IsLegal self.now.table self.now.history }
+        ensures few { length self.now.history ≤ self.now.limit }
+    {
+        self.machine.evaluated(frozen, ticket)
+    }
+
+    /// The block of the lowest ticket that is new or stale is evaluated and delivered. Where it doesn't block, it becomes a
+    /// candidate.
+    fn deliver_next(
+        &mut self,
+        client: u32,
+        frozen: &Frozen,
+        ticket: u32,
+        candidates: &mut TicketSet,
+    ) -> Result<(), SettleWhy>
+        requires client { client < max_clients }
+        requires next { next_due (now self.old) ≡ Some ticket }
+        requires store { frozen.now ≡ plains (now self.old).store }
+        requires candidates { AreCandidates (now self.old) candidates.old }
+        ensures done { OnOk result (IsNextEvent client 0 1 self.old self.new) }
+        ensures why { IfErr result (λ why. WhyTold why self.old) }
+        ensures unchanged { OnErr result (self.new ≡ self.old) }
+        ensures store { (now self.new).store ≡ (now self.old).store }
+        ensures candidates { AreCandidates (now self.new) candidates.new }
+        ensures legal { IsLegal self.new.table self.new.history }
+    {
+        let message = match self.evaluated(frozen, ticket) {
+            Ok(message) => message,
+            Err(_) => return Err(SettleWhy::NoMemory),
+        };
+        let ends = !blocks(message.verdict());
+        match candidates.add_if(ends, ticket) {
+            Ok(()) => {}
+            Err(_) => return Err(SettleWhy::NoMemory),
+        }
+        match self.deliver(client, message) {
+            Ok(()) => Ok(()),
+            Err((_, refusal)) => Err(why_of_delivery(refusal)),
+        }
+    }
+
+    /// A round of deliveries: all blocks that are new or stale, rising. How many they were, also at a stop.
+    fn deliver_all(
+        &mut self,
+        client: u32,
+        candidates: &mut TicketSet,
+    ) -> Result<u32, (u32, SettleWhy)>
+        requires client { client < max_clients }
+        requires none_out { some_out self.old.pending ≡ false }
+        requires candidates { AreCandidates (now self.old) candidates.old }
+        ensures begun { IfOk result (λ n. HasBegun client self.old self.new 0 n) }
+        ensures none_due { OnOk result (next_due (now self.new) ≡ None) }
+        ensures stopped { IfErr result (λ e. HasBegun client self.old self.new 0 e.0) }
+        ensures why { IfErr result (λ e. WhyTold e.1 self.new) }
+        ensures none_out { some_out self.new.pending ≡ false }
+        ensures candidates { AreCandidates (now self.new) candidates.new }
+        ensures legal { IsLegal self.new.table self.new.history }
+    {
+        let mut delivered = 0;
+        if self.next_due().is_none() {
+            return Ok(delivered);
+        }
+        let frozen = match self.store().freeze() {
+            Ok(frozen) => frozen,
+            Err(_) => return Err((delivered, SettleWhy::NoMemory)),
+        };
+        loop {
+            let ticket = match self.next_due() {
+                Some(ticket) => ticket,
+                None => return Ok(delivered),
+            };
+            match self.deliver_next(client, &frozen, ticket, candidates) {
+                Ok(()) => {}
+                Err(why) => return Err((delivered, why)),
+            }
+            delivered += 1;
+        }
+    }
+
+    /// Whether a block waits under the ticket whose last delivery brought a verdict that doesn't block.
+    fn ends(&self, ticket: u32) -> bool
+        ensures then { result ≡ ended_then (waiter ticket (now self.now).waiters) }
+        ensures present { (w : Waiter) → waiter ticket (now self.now).waiters ≡ Some w → is_current w ≡ true → result ≡ can_end (now self.now).store w }
+        ensures legal { IsLegal self.now.table self.now.history }
+        ensures few { length self.now.history ≤ self.now.limit }
+    {
+        self.machine.ends(ticket)
+    }
+
+    /// The lowest ticket of a block that doesn't block, where none is new or stale. TicketSet below it are dropped.
+    fn next_end(&self, candidates: &mut TicketSet) -> Option<u32>
+        requires none_due { next_due (now self.now) ≡ None }
+        requires candidates { AreCandidates (now self.now) candidates.old }
+        ensures first { result ≡ next_end (now self.now) }
+        ensures candidates { AreCandidates (now self.now) candidates.new }
+        ensures legal { IsLegal self.now.table self.now.history }
+        ensures few { length self.now.history ≤ self.now.limit }
+    {
+        while let Some(ticket) = candidates.least() {
+            if self.ends(ticket) {
+                return Some(ticket);
+            }
+            candidates.drop_least();
+        }
+        None
+    }
+
+    /// The block of that ticket is finished.
+    fn finish_next(&mut self, client: u32, ticket: u32) -> Result<(), SettleWhy>
+        requires client { client < max_clients }
+        requires none_due { next_due (now self.old) ≡ None }
+        requires next { next_end (now self.old) ≡ Some ticket }
+        requires legal { IsLegal self.old.table self.old.history }
+        requires few { length self.old.history ≤ self.old.limit }
+        ensures done { OnOk result (IsNextEvent client 1 0 self.old self.new) }
+        ensures why { IfErr result (λ why. WhyTold why self.old) }
+        ensures unchanged { OnErr result (self.new ≡ self.old) }
+        ensures candidates { (cs : List ℕ) → AreCandidates (now self.old) cs → AreCandidates (now self.new) cs }
+        ensures legal { IsLegal self.new.table self.new.history }
+    {
+        match self.finish(client, ticket) {
+            Ok(_) => Ok(()),
+            Err(refusal) => Err(why_of_finish(refusal)),
+        }
+    }
+
+    /// Evaluates and delivers what is new or stale, and finishes the lowest block that doesn't block, until nothing is left
+    /// to do or something can't be done. The caller's number is below 128. First each ticket that is out is queued.
+    pub fn settle(&mut self, client: u32) -> Result<Settled, SettleStop>
+        requires { client < max_clients }
+        ensures done { IfOk result (λ r. HasSettled client (called_back self.old) self.new r.finished r.evaluations) }
+        ensures settled { OnOk result (IsSettled self.new) }
+        ensures blocks { OnOk result (AllBlock (now self.new)) }
+        ensures stopped { IfErr result (λ e. StopTold e.why client (called_back self.old) self.new e.finished e.evaluations) }
+        ensures none_out { some_out self.new.pending ≡ false }
+        ensures legal { IsLegal self.new.table self.new.history }
+    {
+        self.call_back();
+        let mut finished = 0;
+        let mut evaluations = 0;
+        let mut candidates = match self.ended() {
+            Ok(candidates) => candidates,
+            Err(_) => {
+                return Err(SettleStop {
+                    finished,
+                    evaluations,
+                    why: SettleWhy::NoMemory,
+                });
+            }
+        };
+        loop {
+            match self.deliver_all(client, &mut candidates) {
+                Ok(delivered) => evaluations += delivered,
+                Err((delivered, why)) => {
+                    return Err(SettleStop {
+                        finished,
+                        evaluations: evaluations + delivered,
+                        why,
+                    });
+                }
+            }
+            let ticket = match self.next_end(&mut candidates) {
+                Some(ticket) => ticket,
+                None => {
+                    return Ok(Settled {
+                        finished,
+                        evaluations,
+                    });
+                }
+            };
+            match self.finish_next(client, ticket) {
+                Ok(()) => finished += 1,
+                Err(why) => {
+                    return Err(SettleStop {
+                        finished,
+                        evaluations,
+                        why,
+                    });
+                }
+            }
+        }
+    }
+}

@@ -1,0 +1,43 @@
+//! Work that is handed out, and comes back.
+
+ghost use Rattle.std.specs.Prelude.{◌≡◌, ◌≤◌, map, take, length, vec_len, IfOk, OnErr, is_some};
+ghost use Rattle.stm_store.specs.Cells.{plains};
+ghost use Rattle.stm_queue.specs.Queue.{queued, is_out, marked, first_queued};
+ghost use Rattle.stm_history.specs.Taken.{sent, AreJobs, AreCovered};
+ghost use Rattle.stm_desk.specs.Seen.{now};
+
+use crate::desk::Desk;
+use stm_eval::Job;
+use stm_store::Frozen;
+use stm_terms::NoMemory;
+
+impl Desk {
+    /// The jobs of the n lowest queued tickets, or of all of them, which are out from then on, and an unchanging copy of the
+    /// present store, which has their variables.
+    pub fn take(&mut self, n: usize) -> Result<(Frozen, Vec<Job>), NoMemory>
+        ensures tickets { IfOk result (λ r. map (λ j. j.ticket) r.1.items ≡ take n (queued self.old.pending)) }
+        ensures blocks { IfOk result (λ r. AreJobs (now self.old) r.1.items) }
+        ensures store { IfOk result (λ r. r.0 ≡ plains (now self.old).store) }
+        ensures covered { IfOk result (λ r. AreCovered r.0 r.1.items) }
+        ensures few { IfOk result (λ r. vec_len r.1 ≤ n) }
+        ensures out { IfOk result (λ r. self.new ≡ record self.old { pending = sent (length r.1.items) self.old.pending }) }
+        ensures err { OnErr result (self.new ≡ self.old) }
+    {
+        self.machine.take(n)
+    }
+
+    /// A ticket that is out is queued again, and the answer is whether it was out.
+    pub fn hand_back(&mut self, ticket: u32) -> bool
+        ensures was { result ≡ is_out ticket self.old.pending }
+        ensures queued { self.new ≡ record self.old { pending = marked ticket false self.old.pending } }
+    {
+        self.machine.hand_back(ticket)
+    }
+
+    /// Whether some ticket is queued.
+    pub fn has_queued(&self) -> bool
+        ensures { result ≡ is_some (first_queued self.now.pending) }
+    {
+        self.machine.has_queued()
+    }
+}
