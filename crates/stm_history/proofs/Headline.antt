@@ -1,10 +1,12 @@
 -- The promise of the scheduler, from what each waiting block waits since.
-use Rattle.std.proofs.Common.{◌≡◌, ℕ, Bool, true, false, not, List, Option, Some, None, refl, sym, ap, subst, ◌∙◌}
+use Rattle.std.proofs.Common.{◌≡◌, ℕ, Bool, true, false, not, cond, List, Option, Some, None, refl, sym, ap, subst, ◌∙◌}
 use Rattle.stm_terms.specs.Looks.{reads_of}
 use Rattle.stm_store.specs.declared.cell.Cell.{Cell}
 use Rattle.stm_store.specs.Tables.{Declared}
 use Rattle.stm_history.specs.declared.event.Event.{Event}
-use Rattle.stm_history.specs.SlowDesk.{Since, Waiter, under, verdict_on, looked_on, meets, is_stale_since, is_new_since, current_since, is_current, waiter, state, IsLegal}
+use Rattle.stm_history.specs.SlowDesk.{Since, Waiter, Standing, under, verdict_on, looked_on, meets, is_stale_since, is_new_since, current_since, is_current, waiter, state, standing_since, weak_since, IsLegal}
+use Rattle.stm_history.specs.SlowDesk.{Stale, Current}
+use Rattle.stm_history.specs.Laws.{WeakIsPresent}
 use Rattle.stm_history.specs.Headline.{written_by, Headline, IsKnown, Fresh, Evaluated, IsMarkedRightly}
 use Rattle.stm_history.proofs.Since.{IsSince, Tracks, tracked_state}
 use Rattle.stm_history.proofs.Serial.{store_is_serial}
@@ -43,3 +45,21 @@ headline table history l = record {
   blocks = λ t w f. known_by table history t w w.since l f refl ((tracked_state table history l).each t w f);
   store = store_is_serial table history l;
 }
+
+-- ---- the weak status is the status
+stands_by : (a : Bool) (then now present : Standing) → (a ≡ false → now ≡ present) → cond a then now ≡ cond a then present
+stands_by true then now present e = refl
+stands_by false then now present e = e refl
+
+weak_by : (table : List Declared) (history : List Event) (t : ℕ) (w : Waiter) (o : Option Since) → IsLegal table history → waiter t (state table history).waiters ≡ Some w → w.since ≡ o → Tracks table history t w.block o
+    → standing_since (state table history).store w.block o ≡ weak_since w.block o
+weak_by table history t w None l f e k = refl
+weak_by table history t w (Some s) l f e k =
+    let store = (state table history).store in
+    stands_by (is_stale_since w.block s) (Stale (verdict_on s.store_then w.block)) (Current (verdict_on store w.block)) (Current (verdict_on s.store_then w.block))
+    (λ n.
+    let c : is_current w ≡ true = ap (current_since w.block) e ∙ ap not n in
+    ap Current ((marked_by table history t w s l f e k).present c ∙ sym k.verdict))
+
+pub weak_is_present : WeakIsPresent
+weak_is_present table history t w l f = weak_by table history t w w.since l f refl ((tracked_state table history l).each t w f)
