@@ -6,3 +6,4 @@ pub mod Serial
 pub mod Stores
 pub mod Headline
 pub mod Since
+pub mod Rounds

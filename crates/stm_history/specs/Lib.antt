@@ -1,4 +1,5 @@
 pub mod Headline
 pub mod Laws
+pub mod Rounds
 pub mod SlowDesk
 pub mod SlowSettle
