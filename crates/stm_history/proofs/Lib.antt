@@ -2,8 +2,11 @@
 pub mod Covered
 pub mod Folds
 pub mod Fresh
+pub mod Headline
 pub mod Rising
+pub mod Rounds
 pub mod Serial
+pub mod Since
 pub mod Stores
 -- What the machine keeps.
 pub mod Due

@@ -1,0 +1,208 @@
+-- What a waiting block waits since is its last delivery in the history.
+use Rattle.std.proofs.Common.{◌≡◌, ℕ, ◌<◌, ◌≤◌, Bool, true, false, ◌||◌, cond, List, [], ◌∷◌, ◌++◌, Option, Some, None, refl, sym, ap, subst, ◌∙◌, arith, eqb-true}
+use Rattle.std.specs.Prelude.{nat_eq, option_map, IsSomeAnd}
+use Rattle.std.proofs.lemmas.Bool.Decides.{nat_tests}
+use Rattle.std.proofs.lemmas.List.{append_assoc, append-nil}
+use Rattle.stm_terms.specs.declared.verdicts.Verdict.{Verdict}
+use Rattle.stm_store.specs.declared.cell.Cell.{Cell}
+use Rattle.stm_store.specs.Tables.{Declared}
+use Rattle.stm_check.specs.Blocks.{Block}
+use Rattle.stm_history.specs.declared.event.Event.{Event}
+use Rattle.stm_history.specs.declared.event.What.{What}
+use Rattle.stm_history.specs.declared.event.What.TheVariants.{Submitted, Installed, Finished, Cancelled}
+use Rattle.stm_history.specs.SlowDesk.{Since, Waiter, Slow, verdict_on, written_in, MayInstall, waiter, without, with_delivery, wrote_more, after_writes, after, Allows, start, state_from, state, LegalFrom, IsLegal}
+use Rattle.stm_history.specs.Laws.{AreRising}
+use Rattle.stm_history.specs.Headline.{installs_to, is_installed, written_at, written_by, LastDelivery}
+use Rattle.stm_history.proofs.Folds.{state-push}
+use Rattle.stm_history.proofs.Rising.{rising_after, next_after, waiter_without, waiter_delivered, waiter_marks, waiter_push}
+
+-- the last delivery to a ticket, and that `since` speaks of it
+pub record IsSince (table : List Declared) (history : List Event) (t : ℕ) (b : Block) (s : Since) : Type 0 where
+  pub delivery : LastDelivery history t
+  pub store : s.store_then ≡ (state table delivery.before).store
+  pub wrote : s.wrote ≡ written_by delivery.later
+  pub verdict : verdict_on s.store_then b ≡ Some delivery.verdict
+
+abbrev pub Tracks : List Declared → List Event → ℕ → Block → Option Since → Type 0
+Tracks table history t b None = is_installed t history ≡ false
+Tracks table history t b (Some s) = IsSince table history t b s
+
+-- ---- one event more
+installed-push : (t : ℕ) (es : List Event) (e : Event) → is_installed t (es ++ e ∷ []) ≡ (is_installed t es || installs_to t e.what)
+installed-push t [] e = turn (installs_to t e.what) where
+  turn : (a : Bool) → (a || false) ≡ (false || a)
+  turn true = refl
+  turn false = refl
+installed-push t (d ∷ es) e = ap (λ (b : Bool). installs_to t d.what || b) (installed-push t es e) ∙ sym (turn (installs_to t d.what) (is_installed t es) (installs_to t e.what)) where
+  turn : (a b c : Bool) → ((a || b) || c) ≡ (a || (b || c))
+  turn true b c = refl
+  turn false b c = refl
+
+written-push : (es : List Event) (e : Event) → written_by (es ++ e ∷ []) ≡ written_by es ++ written_at e.what
+written-push [] e = append-nil (written_at e.what)
+written-push (d ∷ es) e = ap (λ (xs : List ℕ). written_at d.what ++ xs) (written-push es e) ∙ sym (append_assoc (written_at d.what) (written_by es) (written_at e.what))
+
+neither : (a b : Bool) → a ≡ false → b ≡ false → (a || b) ≡ false
+neither a b g h = rw (g, h)
+
+-- another event for the block of a ticket
+abbrev delivery-push : (h : List Event) (e : Event) (t : ℕ) → installs_to t e.what ≡ false → LastDelivery h t → LastDelivery (h ++ e ∷ []) t
+delivery-push h e t n d = record {
+  before = d.before;
+  client = d.client;
+  verdict = d.verdict;
+  later = d.later ++ e ∷ [];
+  whole = ap (λ (xs : List Event). xs ++ e ∷ []) d.whole ∙ append_assoc d.before (record { client = d.client; what = Installed t d.verdict } ∷ d.later) (e ∷ []);
+  last = installed-push t d.later e ∙ neither (is_installed t d.later) (installs_to t e.what) d.last n;
+}
+
+-- what is written by the event joins what was written
+tracks-push : (table : List Declared) (h : List Event) (e : Event) (t : ℕ) (b : Block) (o : Option Since) → installs_to t e.what ≡ false → Tracks table h t b o → Tracks table (h ++ e ∷ []) t b (wrote_more (written_at e.what) o)
+tracks-push table h e t b None n k = installed-push t h e ∙ neither (is_installed t h) (installs_to t e.what) k n
+tracks-push table h e t b (Some s) n k = record {
+  delivery = delivery-push h e t n k.delivery;
+  store = k.store;
+  wrote = ap (λ (xs : List ℕ). xs ++ written_at e.what) k.wrote ∙ sym (written-push k.delivery.later e);
+  verdict = k.verdict;
+}
+
+-- an event that writes nothing
+wrote-nothing : (o : Option Since) → wrote_more [] o ≡ o
+wrote-nothing None = refl
+wrote-nothing (Some s) = ap (λ (xs : List ℕ). Some (record s { wrote = xs })) (append-nil s.wrote)
+
+tracks-quiet : (table : List Declared) (h : List Event) (e : Event) (t : ℕ) (b : Block) (o : Option Since) → installs_to t e.what ≡ false → written_at e.what ≡ [] → Tracks table h t b o → Tracks table (h ++ e ∷ []) t b o
+tracks-quiet table h e t b o n q k =
+    subst (λ (x : Option Since). Tracks table (h ++ e ∷ []) t b x) (ap (λ (xs : List ℕ). wrote_more xs o) q ∙ wrote-nothing o) (tracks-push table h e t b o n k)
+
+-- ---- each waiting block's delivery is tracked, and no ticket that isn't given yet was delivered to
+pub record AreTracked (table : List Declared) (h : List Event) (s : Slow) : Type 0 where
+  pub rising : AreRising s.next 0 s.waiters
+  pub begun : 0 < s.next
+  pub reached : s ≡ state table h
+  pub each : (t : ℕ) (w : Waiter) → waiter t s.waiters ≡ Some w → Tracks table h t w.block w.since
+  pub none_yet : (t : ℕ) → s.next ≤ t → is_installed t h ≡ false
+
+abbrev by_client : ℕ → What → Event
+by_client c d = record { client = c; what = d }
+
+-- the events of a client
+abbrev Pushed : List Event → ℕ → What → List Event
+Pushed h c d = h ++ by_client c d ∷ []
+
+-- ---- a block more
+submit_by : (b : Bool) (table : List Declared) (h : List Event) (c t u : ℕ) (block : Block) (w : Waiter) (o : Option Waiter) → nat_eq u t ≡ b → is_installed t h ≡ false
+    → (o ≡ Some w → Tracks table h u w.block w.since) → cond b (Some (record { ticket = t; block = block; since = None })) o ≡ Some w
+    → Tracks table (Pushed h c (Submitted t block)) u w.block w.since
+submit_by true table h c t u block w o e none more k =
+    let q : record { ticket = t; block = block; since = None } ≡ w = cc in
+    let z : is_installed u h ≡ false = subst (λ (x : ℕ). is_installed x h ≡ false) (sym (eqb-true u t e)) none in
+    subst (λ (x : Waiter). Tracks table (Pushed h c (Submitted t block)) u x.block x.since) q
+    (installed-push u h (by_client c (Submitted t block)) ∙ neither (is_installed u h) false z refl)
+submit_by false table h c t u block w o e none more k = tracks-quiet table h (by_client c (Submitted t block)) u w.block w.since refl refl (more k)
+
+-- ---- a delivery
+deliver_other : (table : List Declared) (h : List Event) (c t u : ℕ) (v : Verdict) (w : Waiter) → nat_eq u t ≡ false → Tracks table h u w.block w.since → Tracks table (Pushed h c (Installed t v)) u w.block w.since
+deliver_other table h c t u v w n k = tracks-quiet table h (by_client c (Installed t v)) u w.block w.since n refl k
+
+deliver_here : (table : List Declared) (h : List Event) (c t : ℕ) (v : Verdict) (s : Slow) (one : Waiter) → s ≡ state table h → verdict_on s.store one.block ≡ Some v
+    → Tracks table (Pushed h c (Installed t v)) t one.block (Some (record { store_then = s.store; wrote = [] }))
+deliver_here table h c t v s one r e = record {
+  delivery = record { before = h; client = c; verdict = v; later = []; whole = refl; last = refl };
+  store = ap (λ (x : Slow). x.store) r;
+  wrote = refl;
+  verdict = e;
+}
+
+delivered_one : (store : List Cell) (o : Option Waiter) (w one : Waiter) → o ≡ Some one → option_map (with_delivery store) o ≡ Some w → with_delivery store one ≡ w
+delivered_one store None w one f k = cc
+delivered_one store (Some x) w one f k = let q : x ≡ one = cc in subst (λ (y : Waiter). with_delivery store y ≡ w) q cc
+
+deliver_by : (b : Bool) (table : List Declared) (h : List Event) (c t u : ℕ) (v : Verdict) (s : Slow) (w one : Waiter) → nat_eq u t ≡ b → s ≡ state table h → waiter t s.waiters ≡ Some one → MayInstall s one v
+    → ((x : Waiter) → waiter u s.waiters ≡ Some x → Tracks table h u x.block x.since) → cond b (option_map (with_delivery s.store) (waiter u s.waiters)) (waiter u s.waiters) ≡ Some w
+    → Tracks table (Pushed h c (Installed t v)) u w.block w.since
+deliver_by true table h c t u v s w one e r f m more k =
+    let n : u ≡ t = eqb-true u t e in
+    let g : waiter u s.waiters ≡ Some one = subst (λ (x : ℕ). waiter x s.waiters ≡ Some one) (sym n) f in
+    let q : with_delivery s.store one ≡ w = delivered_one s.store (waiter u s.waiters) w one g k in
+    subst (λ (x : Waiter). Tracks table (Pushed h c (Installed t v)) u x.block x.since) q
+    (subst (λ (x : ℕ). Tracks table (Pushed h c (Installed t v)) x one.block (Some (record { store_then = s.store; wrote = [] }))) (sym n) (deliver_here table h c t v s one r m.verdict_is))
+deliver_by false table h c t u v s w one e r f m more k = deliver_other table h c t u v w e (more w k)
+
+-- ---- a block less
+gone_by : (b : Bool) (o : Option Waiter) (w : Waiter) → cond b None o ≡ Some w → o ≡ Some w
+gone_by true o w k = cc
+gone_by false o w k = k
+
+-- ---- writes
+marked_one : (W : List ℕ) (table : List Declared) (h : List Event) (u : ℕ) (o : Option Waiter) (w : Waiter) → option_map (after_writes W) o ≡ Some w
+    → ((x : Waiter) → o ≡ Some x → Tracks table h u x.block (wrote_more W x.since)) → Tracks table h u w.block w.since
+marked_one W table h u None w k more = cc
+marked_one W table h u (Some x) w k more = let q : after_writes W x ≡ w = cc in subst (λ (y : Waiter). Tracks table h u y.block y.since) q (more x refl)
+
+-- ---- one event more
+later_none : (h : List Event) (e : Event) (t : ℕ) → installs_to t e.what ≡ false → is_installed t h ≡ false → is_installed t (h ++ e ∷ []) ≡ false
+later_none h e t n k = installed-push t h e ∙ neither (is_installed t h) (installs_to t e.what) k n
+
+-- a waiting ticket is below the next one
+low_step : (b : Bool) (t n : ℕ) (w one : Waiter) (o : Option Waiter) → nat_eq t w.ticket ≡ b → w.ticket < n → (o ≡ Some one → t < n) → cond b (Some w) o ≡ Some one → t < n
+low_step true t n w one o e l more k = let q : t ≡ w.ticket = eqb-true t w.ticket e in omega arith
+low_step false t n w one o e l more k = more k
+
+low : (t n k : ℕ) (ws : List Waiter) (one : Waiter) → AreRising n k ws → waiter t ws ≡ Some one → t < n
+low t n k [] one r e = cc
+low t n k (w ∷ ws) one r e = low_step (nat_eq t w.ticket) t n w one (waiter t ws) refl r.1 (low t n w.ticket ws one r.2) e
+
+other_ticket : (t u n : ℕ) → t < n → n ≤ u → nat_eq u t ≡ false
+other_ticket t u n l m = grind (arith, nat_tests)
+
+some_of : (o : Option Waiter) (P : Waiter → Type 0) → IsSomeAnd o P → (w : Waiter) × (o ≡ Some w) × P w
+some_of None P i = absurd i
+some_of (Some w) P i = (w, refl, i)
+
+tracked_after : (table : List Declared) (h : List Event) (s : Slow) (c : ℕ) (d : What) → AreTracked table h s → Allows s d → AreTracked table (Pushed h c d) (after s d)
+tracked_after table h s c (Submitted t block) k a = record {
+  rising = rising_after s (Submitted t block) k.begun k.rising a;
+  begun = next_after s (Submitted t block) k.begun;
+  reached = ap (λ (x : Slow). after x (Submitted t block)) k.reached ∙ sym (state-push (start table) h (by_client c (Submitted t block)));
+  each = λ u w e.
+      let there = waiter_push u s.next 0 (record { ticket = t; block = block; since = None }) s.waiters a.0 k.rising in
+      submit_by (nat_eq u t) table h c t u block w (waiter u s.waiters) refl (k.none_yet t (let q = a.0 in omega arith)) (k.each u w) (sym there ∙ e);
+  none_yet = λ u l. later_none h (by_client c (Submitted t block)) u refl (k.none_yet u (omega arith));
+}
+tracked_after table h s c (Installed t v) k a =
+    let p = some_of (waiter t s.waiters) (λ w. MayInstall s w v) a in
+    record {
+      rising = rising_after s (Installed t v) k.begun k.rising a;
+      begun = k.begun;
+      reached = ap (λ (x : Slow). after x (Installed t v)) k.reached ∙ sym (state-push (start table) h (by_client c (Installed t v)));
+      each = λ u w e. deliver_by (nat_eq u t) table h c t u v s w p.0 refl k.reached p.1 p.2 (k.each u) (sym (waiter_delivered t u s.store s.waiters) ∙ e);
+      none_yet = λ u l. later_none h (by_client c (Installed t v)) u (other_ticket t u s.next (low t s.next 0 s.waiters p.0 k.rising p.1) l) (k.none_yet u l);
+    }
+tracked_after table h s c (Finished t v n stale) k a = record {
+  rising = rising_after s (Finished t v n stale) k.begun k.rising a;
+  begun = k.begun;
+  reached = ap (λ (x : Slow). after x (Finished t v n stale)) k.reached ∙ sym (state-push (start table) h (by_client c (Finished t v n stale)));
+  each = λ u w e.
+      marked_one (written_in v) table (Pushed h c (Finished t v n stale)) u (waiter u (without t s.waiters)) w (sym (waiter_marks u (written_in v) (without t s.waiters)) ∙ e)
+      (λ x f. tracks-push table h (by_client c (Finished t v n stale)) u x.block x.since refl (k.each u x (gone_by (nat_eq u t) (waiter u s.waiters) x (sym (waiter_without t u s.next 0 s.waiters k.rising) ∙ f))));
+  none_yet = λ u l. later_none h (by_client c (Finished t v n stale)) u refl (k.none_yet u l);
+}
+tracked_after table h s c (Cancelled t) k a = record {
+  rising = rising_after s (Cancelled t) k.begun k.rising a;
+  begun = k.begun;
+  reached = ap (λ (x : Slow). after x (Cancelled t)) k.reached ∙ sym (state-push (start table) h (by_client c (Cancelled t)));
+  each = λ u w e.
+      tracks-quiet table h (by_client c (Cancelled t)) u w.block w.since refl refl (k.each u w (gone_by (nat_eq u t) (waiter u s.waiters) w (sym (waiter_without t u s.next 0 s.waiters k.rising) ∙ e)));
+  none_yet = λ u l. later_none h (by_client c (Cancelled t)) u refl (k.none_yet u l);
+}
+
+tracked_all : (table : List Declared) (h : List Event) (s : Slow) (es : List Event) → AreTracked table h s → LegalFrom s es → AreTracked table (h ++ es) (state_from s es)
+tracked_all table h s [] k l = subst (λ (x : List Event). AreTracked table x s) (sym (append-nil h)) k
+tracked_all table h s (e ∷ es) k l =
+    subst (λ (x : List Event). AreTracked table x (state_from (after s e.what) es)) (append_assoc h (e ∷ []) es)
+    (tracked_all table (h ++ e ∷ []) (after s e.what) es (tracked_after table h s e.client e.what k l.0.what) l.1)
+
+pub tracked_state : (table : List Declared) (history : List Event) → IsLegal table history → AreTracked table history (state table history)
+tracked_state table history l =
+    tracked_all table [] (start table) history (record { rising = tt; begun = omega arith; reached = refl; each = λ t w e. cc; none_yet = λ t l. refl }) l.each
