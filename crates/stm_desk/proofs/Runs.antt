@@ -13,7 +13,7 @@ use Rattle.stm_history.specs.declared.event.Event.{Event}
 use Rattle.stm_history.specs.declared.event.What.{What}
 use Rattle.stm_history.specs.declared.event.What.TheVariants.{Submitted, Installed, Finished, Cancelled}
 use Rattle.stm_history.specs.SlowDesk.{Since, Waiter, Slow, MayFinish, under, verdict_on, written_in, is_blocks, is_new_since, is_new, current_since, is_current, waiter, without, stale_after, after, start, state_from, IsLegal, max_cells}
-use Rattle.stm_history.specs.SlowSettle.{lowest, is_due, ends, can_end, installing, ending, next_of, next_what, has_cells, settle_on, settling, is_finish, is_install, finishes, installs}
+use Rattle.stm_history.specs.SlowSettle.{lowest, is_due, ends, can_end, installing, ending, next_of, next_what, has_cells, settle_on, settling, Stop, NoRoom, NoCells, stop_on, settle_stop, is_finish, is_install, finishes, installs}
 use Rattle.stm_history.specs.Laws.{AreRising}
 use Rattle.stm_history.proofs.Folds.{state-push, IsLegalPush, legal_split}
 use Rattle.stm_history.proofs.Rising.{rising_state}
@@ -29,7 +29,7 @@ use Rattle.stm_history.specs.Refusals.{differing, overtaken_first, install_first
 use Rattle.stm_history.proofs.Heads.{lowest_waits, lowest_holds}
 use Rattle.stm_desk.specs.Seen.{Seen, now, with_event, is_full}
 use Rattle.stm_desk.specs.Refusals.{TellsDelivery, finish_refusal, left_by}
-use Rattle.stm_desk.specs.Settling.{slow_settle, with_whats, called_back, HasSettled, HasBegun, IsFull, IsCrowded, StopTold, AllBlock}
+use Rattle.stm_desk.specs.Settling.{slow_settle, slow_stop, with_whats, called_back, HasSettled, HasBegun, IsFull, IsCrowded, StopTold, AllBlock}
 use Rattle.stm_desk.specs.Steps.{IsDueMessage, IsNextEvent, WhyTold, StopsDelivery, delivery_why, StopsFinish, finish_why}
 use Rattle.stm_desk.proofs.Settles.{out_after, out_recalled, reads_differ_nowhere}
 
@@ -48,12 +48,26 @@ settling_crowded : (room : ℕ) (s : Slow) (x : What) → next_what s ≡ Some x
 settling_crowded zero s x n h = refl
 settling_crowded (suc room) s x n h = rw (n, h) refl
 
+stopping_more : (room left : ℕ) (s : Slow) (x : What) → room ≡ suc left → next_what s ≡ Some x → has_cells s x ≡ true → settle_stop room s ≡ settle_stop left (after s x)
+stopping_more room left s x e n h = rw (e, n, h) refl
+
+stopping_ends : (room : ℕ) (s : Slow) → next_what s ≡ None → settle_stop room s ≡ None
+stopping_ends zero s n = rw n refl
+stopping_ends (suc room) s n = rw n refl
+
+stopping_full : (room : ℕ) (s : Slow) → room ≡ 0 → is_some (next_what s) ≡ true → settle_stop room s ≡ Some NoRoom
+stopping_full room s e n = rw (e, n) refl
+
+stopping_crowded : (room : ℕ) (s : Slow) (x : What) → 0 < room → next_what s ≡ Some x → has_cells s x ≡ false → settle_stop room s ≡ Some NoCells
+stopping_crowded zero s x l n h = absurd (omega arith)
+stopping_crowded (suc room) s x l n h = rw (n, h) refl
+
 append_nil : {A : Type 0} (xs : List A) → xs ++ [] ≡ xs
 append_nil [] = refl
 append_nil {A = A} (x ∷ xs) = ap (λ (ys : List A). x ∷ ys) (append_nil xs)
 
 pub begun_here : (client : ℕ) (d : Seen) → HasBegun client d d 0 0
-begun_here client d = record { done = []; grown = refl; rest = refl; finished = refl; evaluated = refl }
+begun_here client d = record { done = []; grown = refl; rest = refl; same_stop = refl; finished = refl; evaluated = refl }
 
 with_more : (client : ℕ) (d : Seen) (xs ys : List What) → with_whats d client (xs ++ ys) ≡ with_whats (with_whats d client xs) client ys
 with_more client d [] ys = refl
@@ -72,11 +86,18 @@ next_left client d new x n h room e =
     let left : d.limit - length d.history ≡ suc (d.limit - length (d.history ++ event client x ∷ [])) = omega (arith, length-append d.history (event client x ∷ [])) in
     sym (rw e (settling_more _ _ (now d) x left n h ∙ ap (λ (s : Slow). x ∷ settling (d.limit - length (d.history ++ event client x ∷ [])) s) (sym p)))
 
+stop_left : (client : ℕ) (d new : Seen) (x : What) → next_what (now d) ≡ Some x → has_cells (now d) x ≡ true → length d.history < d.limit → new ≡ with_event d (event client x) → slow_stop new ≡ slow_stop d
+stop_left client d new x n h room e =
+    let p : state_from (start d.table) (d.history ++ event client x ∷ []) ≡ after (now d) x = state-push (start d.table) d.history (event client x) in
+    let left : d.limit - length d.history ≡ suc (d.limit - length (d.history ++ event client x ∷ [])) = omega (arith, length-append d.history (event client x ∷ [])) in
+    rw e (ap (settle_stop (d.limit - length (d.history ++ event client x ∷ []))) p ∙ sym (stopping_more _ _ (now d) x left n h))
+
 pub begun_one : (client f e : ℕ) (d new : Seen) → IsNextEvent client f e d new → HasBegun client d new f e
 begun_one client f e d new n = record {
   done = n.what ∷ [];
   grown = n.grown;
   rest = next_left client d new n.what n.next n.fits n.room n.grown;
+  same_stop = stop_left client d new n.what n.next n.fits n.room n.grown;
   finished = sym n.finishing;
   evaluated = sym n.evaluating;
 }
@@ -85,29 +106,35 @@ pub begun_then : (client f e g h : ℕ) (old mid new : Seen) → HasBegun client
 begun_then client f e g h old mid new b c = record {
   done = b.done ++ c.done;
   grown = c.grown ∙ ap (λ (d : Seen). with_whats d client c.done) b.grown ∙ sym (with_more client old b.done c.done);
+  same_stop = c.same_stop ∙ b.same_stop;
   rest = append_assoc b.done c.done (slow_settle new) ∙ ap (λ (xs : List What). b.done ++ xs) c.rest ∙ b.rest;
   finished = rw (b.finished, c.finished) (sym (count_more is_finish b.done c.done));
   evaluated = rw (b.evaluated, c.evaluated) (sym (count_more is_install b.done c.done));
 }
 
-all_done : (client f e : ℕ) (old new : Seen) → HasBegun client old new f e → slow_settle new ≡ [] → HasSettled client old new f e
-all_done client f e old new b h =
+all_done : (client f e : ℕ) (old new : Seen) (stop : Option Stop) → HasBegun client old new f e → slow_settle new ≡ [] → slow_stop new ≡ stop → HasSettled client old new f e stop
+all_done client f e old new stop b h g =
     let k : b.done ≡ slow_settle old = sym (append_nil b.done) ∙ ap (λ (xs : List What). b.done ++ xs) (sym h) ∙ b.rest in
     record {
       grown = b.grown ∙ ap (with_whats old client) k;
       finished = b.finished ∙ ap finishes k;
       evaluated = b.evaluated ∙ ap installs k;
+      stopped = sym b.same_stop ∙ g;
     }
 
-pub settled_end : (client f e : ℕ) (old new : Seen) → HasBegun client old new f e → next_what (now new) ≡ None → HasSettled client old new f e
-settled_end client f e old new b n = all_done client f e old new b (settling_ends (new.limit - length new.history) (now new) n)
+pub settled_end : (client f e : ℕ) (old new : Seen) → HasBegun client old new f e → next_what (now new) ≡ None → HasSettled client old new f e None
+settled_end client f e old new b n =
+    all_done client f e old new None b (settling_ends (new.limit - length new.history) (now new) n) (stopping_ends (new.limit - length new.history) (now new) n)
 
 pub stop_told : (client f e : ℕ) (old new : Seen) (why : SettleWhy) → HasBegun client old new f e → WhyTold why new → StopTold why client old new f e
 stop_told client f e old new HistoryFull b w =
     let full : length new.history ≡ new.limit = w.full in
-    (all_done client f e old new b (settling_full (new.limit - length new.history) (now new) (omega arith)), w)
+    let none : new.limit - length new.history ≡ 0 = omega arith in
+    (all_done client f e old new (Some NoRoom) b (settling_full (new.limit - length new.history) (now new) none) (stopping_full (new.limit - length new.history) (now new) none w.left), w)
 stop_told client f e old new CellsFull b w =
-    (all_done client f e old new b (settling_crowded (new.limit - length new.history) (now new) w.what w.left w.crowded), w)
+    let some : 0 < new.limit - length new.history = (let r = w.room in omega arith) in
+    (all_done client f e old new (Some NoCells) b (settling_crowded (new.limit - length new.history) (now new) w.what w.left w.crowded)
+        (stopping_crowded (new.limit - length new.history) (now new) w.what some w.left w.crowded), w)
 stop_told client f e old new NoMemory b w = b
 
 -- the counts fit

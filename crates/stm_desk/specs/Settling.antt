@@ -1,9 +1,9 @@
 -- What settling a desk does: it adds the events of the slow desk's settling, and answers their numbers.
-use Rattle.std.specs.Prelude.{◌≡◌, ℕ, ◌<◌, ◌-◌, true, false, List, [], ◌∷◌, ◌++◌, length, Some, None, is_some}
+use Rattle.std.specs.Prelude.{◌≡◌, ℕ, ◌<◌, ◌-◌, true, false, List, [], ◌∷◌, ◌++◌, length, Option, Some, None, is_some}
 use Rattle.stm_queue.specs.Queue.{recalled}
 use Rattle.stm_history.specs.declared.event.What.{What}
 use Rattle.stm_history.specs.SlowDesk.{Waiter, Slow, is_current, verdict_on, waiter}
-use Rattle.stm_history.specs.SlowSettle.{next_what, has_cells, settling, finishes, installs, ends}
+use Rattle.stm_history.specs.SlowSettle.{next_what, has_cells, settling, Stop, NoRoom, NoCells, settle_stop, finishes, installs, ends}
 use Rattle.stm_history.specs.Machine.{event}
 use Rattle.stm_desk.specs.declared.errors.SettleWhy.{SettleWhy}
 use Rattle.stm_desk.specs.declared.errors.SettleWhy.TheVariants.{HistoryFull, CellsFull, NoMemory}
@@ -12,6 +12,10 @@ use Rattle.stm_desk.specs.Seen.{Seen, now, with_event}
 -- what settling does to the desk, as long as its history has room
 abbrev pub slow_settle : Seen → List What
 slow_settle d = settling (d.limit - length d.history) (now d)
+
+-- and why it stops before nothing is left to do
+abbrev pub slow_stop : Seen → Option Stop
+slow_stop d = settle_stop (d.limit - length d.history) (now d)
 
 -- no ticket is out: each that was is queued
 abbrev pub called_back : Seen → Seen
@@ -22,17 +26,19 @@ abbrev pub with_whats : Seen → ℕ → List What → Seen
 with_whats d client [] = d
 with_whats d client (x ∷ xs) = with_whats (with_event d (event client x)) client xs
 
--- the history grew by exactly what settling does, with so many finishes and so many blocks run
-pub record HasSettled (client : ℕ) (old new : Seen) (f e : ℕ) : Type 0 where
+-- the history grew by exactly what settling does, with so many finishes and so many blocks run, and it stopped so
+pub record HasSettled (client : ℕ) (old new : Seen) (f e : ℕ) (stop : Option Stop) : Type 0 where
   pub grown : new ≡ with_whats old client (slow_settle old)
   pub finished : f ≡ finishes (slow_settle old)
   pub evaluated : e ≡ installs (slow_settle old)
+  pub stopped : slow_stop old ≡ stop
 
 -- it grew by a first part of that
 pub record HasBegun (client : ℕ) (old new : Seen) (f e : ℕ) : Type 0 where
   pub done : List What
   pub grown : new ≡ with_whats old client done
   pub rest : done ++ slow_settle new ≡ slow_settle old
+  pub same_stop : slow_stop new ≡ slow_stop old
   pub finished : f ≡ finishes done
   pub evaluated : e ≡ installs done
 
@@ -54,8 +60,8 @@ pub record IsCrowded (d : Seen) : Type 0 where
 
 -- why settling stopped, and how far it came
 abbrev pub StopTold : SettleWhy → ℕ → Seen → Seen → ℕ → ℕ → Type 0
-StopTold HistoryFull client old new f e = HasSettled client old new f e × IsFull new
-StopTold CellsFull client old new f e = HasSettled client old new f e × IsCrowded new
+StopTold HistoryFull client old new f e = HasSettled client old new f e (Some NoRoom) × IsFull new
+StopTold CellsFull client old new f e = HasSettled client old new f e (Some NoCells) × IsCrowded new
 StopTold NoMemory client old new f e = HasBegun client old new f e
 
 -- each waiting block is current and blocks on the present store

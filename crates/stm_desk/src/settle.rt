@@ -226,7 +226,7 @@ impl Desk {
     /// to do or something can't be done. The caller's number is below 128. First each ticket that is out is queued.
     pub fn settle(&mut self, client: u32) -> Result<Settled, SettleStop>
         requires { client < max_clients }
-        ensures done { IfOk result (λ r. HasSettled client (called_back self.old) self.new r.finished r.evaluations) }
+        ensures done { IfOk result (λ r. HasSettled client (called_back self.old) self.new r.finished r.evaluations None) }
         ensures settled { OnOk result (IsSettled self.new) }
         ensures blocks { OnOk result (AllBlock (now self.new)) }
         ensures stopped { IfErr result (λ e. StopTold e.why client (called_back self.old) self.new e.finished e.evaluations) }
