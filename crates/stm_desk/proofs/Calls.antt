@@ -75,7 +75,7 @@ module _ (table : List Declared) (limit : ℕ) (history : List Event) (m : Parts
 
   pub can_finish : (t : ℕ) (v : Verdict) (n : ℕ) (stale : List ℕ) → None ≡ finish_refused (state table history) full t → IsPlan (state table history) t v n stale → CanFinish table history m t v n stale
   can_finish t v n stale e p =
-      let r : full ≡ false = finish_room _ full _ e in
+      let r : full ≡ false = finish_room (state table history).store full (waiter t (state table history).waiters) e in
       record { stands = k.stands; room = has_room r; allowed = sym (e ∙ ap (λ (b : Bool). finish_refused (state table history) b t) r); plan = p }
 
   pub can_install : (message : Evaluated) → Tells None (state table history) full (told_ticket message) (told_block message) (told_reads message)
@@ -108,7 +108,7 @@ module _ (table : List Declared) (limit : ℕ) (history : List Event) (m : Parts
   cancel_full t e = cancel_room _ full e
 
   pub finish_full : (t : ℕ) → None ≡ finish_refused (state table history) full t → full ≡ false
-  finish_full t e = finish_room _ full _ e
+  finish_full t e = finish_room (state table history).store full (waiter t (state table history).waiters) e
 
   pub install_full : (message : Evaluated) → Tells None (state table history) full (told_ticket message) (told_block message) (told_reads message)
       → IsSomeAnd (waiter (told_ticket message) (state table history).waiters) (λ w. w.block.tree ≡ (told_block message).tree) → full ≡ false

@@ -1,11 +1,14 @@
 -- The candidates: each ticket of a block that is current and can end is among them.
 use Rattle.std.proofs.Common.{◌≡◌, ℕ, ◌<◌, ◌≤◌, Bool, true, false, not, ◌&&◌, ◌||◌, cond, List, [], ◌∷◌, ◌++◌, map, drop, Option, Some, None, IsSome, refl, sym, ap, subst, ◌∙◌, arith, eqb-true}
-use Rattle.std.specs.Prelude.{nat_eq, nat_le, slice_get, option_map}
+use Rattle.std.specs.Prelude.{nat_eq, nat_le, slice_get, option_map, Result, Ok, Err, IfOk}
 use Rattle.std.proofs.lemmas.Bool.Decides.{nat_tests}
 use Rattle.stm_terms.specs.declared.verdicts.Verdict.{Verdict}
+use Rattle.stm_check.specs.Blocks.{Block}
 use Rattle.stm_eval.specs.declared.message.Evaluated.{Evaluated}
 use Rattle.stm_eval.specs.Told.{told_ticket, told_block, told_reads, told_verdict}
 use Rattle.stm_queue.specs.Rising.{has}
+use Rattle.stm_store.specs.Tables.{Declared}
+use Rattle.stm_history.specs.declared.event.Event.{Event}
 use Rattle.stm_history.specs.declared.event.What.{What}
 use Rattle.stm_history.specs.declared.event.What.TheVariants.{Submitted, Installed, Finished, Cancelled}
 use Rattle.stm_history.specs.SlowDesk.{Since, Waiter, Slow, Standing, verdict_on, written_in, is_blocks, is_stale_since, current_since, is_current, wrote_more, after_writes, waiter, without, with_delivery, after, start, state, IsLegal, standing_since, weak_since}
@@ -13,7 +16,7 @@ use Rattle.stm_history.specs.SlowDesk as slow
 use Rattle.stm_history.specs.SlowSettle.{lowest, is_due, ends, can_end}
 use Rattle.stm_history.specs.Laws.{AreRising}
 use Rattle.stm_history.specs.Choices.{ended_since, ended_then, is_ripe, AreCandidates, next_due, next_end}
-use Rattle.stm_history.specs.Machine.{event}
+use Rattle.stm_history.specs.Machine.{Parts, StandsFor, event}
 use Rattle.stm_history.specs.Taken.{IsPresent}
 use Rattle.stm_history.proofs.Folds.{state-push}
 use Rattle.stm_history.proofs.Rising.{waiter_without, waiter_delivered, waiter_marks}
@@ -181,6 +184,11 @@ due_message d t m l n p =
       verdict = p.verdict;
       reads = p.reads;
     }
+
+pub if_due : {E : Type 0} (d : Seen) (parts : Parts) (t : ℕ) (r : Result Evaluated E) → StandsFor d.table d.history parts → next_due (now d) ≡ Some t
+    → IfOk r (λ m. (T : List Declared) (H : List Event) → StandsFor T H parts → IsPresent (state T H) t m) → IfOk r (λ m. IsDueMessage (now d) t m)
+if_due d parts t (Ok m) k n p = due_message d t m k.legal n (p d.table d.history k)
+if_due d parts t (Err e) k n p = tt
 
 -- ---- candidates after an event
 install_by : (u t : ℕ) (b : Bool) (s : Slow) (v : Verdict) (one : Waiter) (o : Option Waiter) (cs cs' : List ℕ) → nat_eq u t ≡ b → (is_ripe o ≡ true → has u cs ≡ true) → (b ≡ true → o ≡ Some one) → verdict_on s.store one.block ≡ Some v

@@ -1,6 +1,6 @@
 -- A run of events of settling, and its end.
 use Rattle.std.proofs.Common.{◌≡◌, ℕ, zero, suc, ◌+◌, ◌-◌, ◌<◌, ◌≤◌, Bool, true, false, not, cond, List, [], ◌∷◌, ◌++◌, filter, length, Option, Some, None, Err, refl, sym, ap, subst, ◌∙◌, arith, append_assoc, length-append, add-zero}
-use Rattle.std.specs.Prelude.{is_some, IsSomeAnd, nat_le, option_map}
+use Rattle.std.specs.Prelude.{nat_eq, is_some, IsSomeAnd, nat_le, option_map}
 use Rattle.std.proofs.lemmas.List.Elements.{filter-append}
 use Rattle.std.proofs.lemmas.Bool.Decides.{nat_tests}
 use Rattle.stm_terms.specs.declared.verdicts.Verdict.{Verdict}

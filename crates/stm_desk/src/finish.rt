@@ -56,6 +56,7 @@ impl Desk {
     fn plan(&self, ticket: u32) -> Result<Plan, FinishError>
         ensures told { finish_told result ≡ finish_refusal self.now ticket }
         ensures plan { IfOk result (λ p. IsPlan (now self.now) ticket p.verdict p.first_new p.stale) }
+        ensures legal { IsLegal self.now.table self.now.history }
     {
         self.machine.plan(ticket, self.is_full())
     }

@@ -153,6 +153,7 @@ impl Desk {
         ensures none_out { some_out self.new.pending ≡ false }
         ensures candidates { AreCandidates (now self.new) candidates.new }
         ensures legal { IsLegal self.new.table self.new.history }
+        ensures few { OnOk result (length self.new.history ≤ self.new.limit) }
     {
         let mut delivered = 0;
         if self.next_due().is_none() {
@@ -187,12 +188,11 @@ impl Desk {
 
     /// The lowest ticket of a block that doesn't block, where none is new or stale. TicketSet below it are dropped.
     fn next_end(&self, candidates: &mut TicketSet) -> Option<u32>
+        requires legal { IsLegal self.now.table self.now.history }
         requires none_due { next_due (now self.now) ≡ None }
         requires candidates { AreCandidates (now self.now) candidates.old }
         ensures first { result ≡ next_end (now self.now) }
         ensures candidates { AreCandidates (now self.now) candidates.new }
-        ensures legal { IsLegal self.now.table self.now.history }
-        ensures few { length self.now.history ≤ self.now.limit }
     {
         while let Some(ticket) = candidates.least() {
             if self.ends(ticket) {

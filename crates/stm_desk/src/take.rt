@@ -1,6 +1,6 @@
 //! Work that is handed out, and comes back.
 
-ghost use Rattle.std.specs.Prelude.{◌≡◌, ◌≤◌, map, take, length, vec_len, IfOk, OnErr, is_some};
+ghost use Rattle.std.specs.Prelude.{◌≡◌, ◌≤◌, false, map, take, length, vec_len, IfOk, OnErr, is_some};
 ghost use Rattle.stm_store.specs.Cells.{plains};
 ghost use Rattle.stm_queue.specs.Queue.{queued, is_out, marked, first_queued};
 ghost use Rattle.stm_history.specs.Taken.{sent, AreJobs, AreCovered};
