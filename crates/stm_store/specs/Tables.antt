@@ -78,7 +78,7 @@ NamesAreNames table = (i : ℕ) (d : Declared) → slice_get table i ≡ Some d 
 abbrev pub NamesAreDistinct : List Declared → Type 0
 NamesAreDistinct table = (i : ℕ) (d : Declared) → slice_get table i ≡ Some d → number_of d.name table ≡ Some i
 
--- the table is one that declarations make: each variable has a name, and is not refused behind those before it
+-- a table that declarations make: each name is one, and none of the declarations is refused, in their order
 abbrev pub AreDeclared : List Declared → Type 0
 AreDeclared table = (i : ℕ) (d : Declared) → slice_get table i ≡ Some d →
     IsTrue (is_name_text d.name) × (declare_refusal (take i table) d.name d.kind d.value ≡ None)

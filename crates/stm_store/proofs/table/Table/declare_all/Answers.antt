@@ -1,4 +1,4 @@
-use Rattle.std.proofs.Common.{◌≡◌, ◌<◌, List, [], ◌∷◌, ◌++◌, length, ap, sym, ◌∙◌, add-one, arith}
+use Rattle.std.proofs.Common.{◌<◌, List, [], ◌∷◌, ◌++◌, length, ap, sym, ◌∙◌, add-one, arith}
 use Rattle.stm_store.specs.Tables.{Declared}
 use Rattle.stm_store.proofs.Declaring.{declared_at, take-next}
 use Rattle.stm_store.proofs.table.Table.declare_all.Goals as goal
