@@ -5,7 +5,7 @@ ghost use Rattle.std.specs.List.{list_all};
 ghost use Rattle.std.specs.Str.{IsAscii};
 ghost use Rattle.stm_terms.specs.Names.{is_word_byte, starts_small};
 ghost use Rattle.stm_parse.specs.declared.cutting.Kind.TheVariants as kind;
-ghost use Rattle.stm_parse.specs.Lexing.{word_mark, sym_of};
+ghost use Rattle.stm_parse.specs.Lexing.{control_mark, action_mark, value_mark, word_mark, sym_of};
 ghost use Rattle.stm_parse.specs.Parsing.{Lexes};
 ghost use Rattle.stm_parse.specs.Pieces.{front_seen, IsSeen};
 ghost use Rattle.stm_parse.specs.RawBlocks.{NamesOf};
@@ -29,32 +29,65 @@ pub enum Piece {
     BadNumber,
 }
 
-// A reserved word.
-#[tactic(auto, unfolding(crate::specs::Lexing::control_mark, crate::specs::Lexing::action_mark, crate::specs::Lexing::value_mark))]
-fn word_mark(word: &[u8]) -> Option<Mark>
-    ensures { result ≡ word_mark word.now }
+// A word of control.
+#[tactic(auto, unfolding(crate::specs::Lexing::control_mark))]
+fn control_mark(word: &[u8]) -> Option<Mark>
+    ensures { result ≡ control_mark word.now }
 {
     match word {
         b"do" => Some(Mark::Do),
-        b"if" => Some(Mark::If),
         b"let" => Some(Mark::Let),
-        b"Int" => Some(Mark::Int),
+        b"if" => Some(Mark::If),
         b"then" => Some(Mark::Then),
         b"else" => Some(Mark::Else),
-        b"True" => Some(Mark::True),
-        b"Bool" => Some(Mark::Bool),
-        b"TVar" => Some(Mark::Var),
-        b"retry" => Some(Mark::Retry),
-        b"throw" => Some(Mark::Throw),
-        b"catch" => Some(Mark::Catch),
-        b"False" => Some(Mark::False),
-        b"return" => Some(Mark::Return),
-        b"orElse" => Some(Mark::OrElse),
-        b"newTVar" => Some(Mark::Make),
-        b"readTVar" => Some(Mark::Read),
-        b"writeTVar" => Some(Mark::Write),
         _ => None,
     }
+}
+
+// A word that begins an action.
+#[tactic(auto, unfolding(crate::specs::Lexing::action_mark))]
+fn action_mark(word: &[u8]) -> Option<Mark>
+    ensures { result ≡ action_mark word.now }
+{
+    match word {
+        b"return" => Some(Mark::Return),
+        b"readTVar" => Some(Mark::Read),
+        b"writeTVar" => Some(Mark::Write),
+        b"newTVar" => Some(Mark::Make),
+        b"retry" => Some(Mark::Retry),
+        b"orElse" => Some(Mark::OrElse),
+        b"throw" => Some(Mark::Throw),
+        b"catch" => Some(Mark::Catch),
+        _ => None,
+    }
+}
+
+// A word for a value or a type.
+#[tactic(auto, unfolding(crate::specs::Lexing::value_mark))]
+fn value_mark(word: &[u8]) -> Option<Mark>
+    ensures { result ≡ value_mark word.now }
+{
+    match word {
+        b"True" => Some(Mark::True),
+        b"False" => Some(Mark::False),
+        b"Int" => Some(Mark::Int),
+        b"Bool" => Some(Mark::Bool),
+        b"TVar" => Some(Mark::Var),
+        _ => None,
+    }
+}
+
+// A reserved word.
+fn word_mark(word: &[u8]) -> Option<Mark>
+    ensures { result ≡ word_mark word.now }
+{
+    if let Some(mark) = control_mark(word) {
+        return Some(mark);
+    }
+    if let Some(mark) = action_mark(word) {
+        return Some(mark);
+    }
+    value_mark(word)
 }
 
 fn starts_small(word: &[u8]) -> bool
