@@ -52,7 +52,6 @@ pub(crate) fn evaluate(
 
 /// One step of an action. Locals are added where the rest has more of them.
 #[cycle(evaluate)]
-#[tactic(auto, using(crate::proofs::Noting::reads_in_turn))]
 fn step<'a>(
     frozen: &Frozen,
     action: &'a Action,
@@ -138,7 +137,6 @@ fn run_let<'a>(
 
 /// A statement that binds a name: the rest is left to be run, with one more local, where the statement returned.
 #[cycle(evaluate)]
-#[tactic(auto, using(crate::proofs::Noting::reads_in_turn))]
 fn run_bound<'a>(
     frozen: &Frozen,
     bound: &Action,
@@ -168,7 +166,6 @@ fn run_bound<'a>(
 
 /// A statement whose result is dropped: the rest is left to be run where the statement returned.
 #[cycle(evaluate)]
-#[tactic(auto, using(crate::proofs::Noting::reads_in_turn))]
 fn run_first<'a>(
     frozen: &Frozen,
     first: &Action,
@@ -196,7 +193,6 @@ fn run_first<'a>(
 /// The left branch of `orElse`, in a frame of its own. The right branch is left to be run where it retried, from the view
 /// before it; what it read stays.
 #[cycle(evaluate)]
-#[tactic(auto, using(crate::proofs::Noting::reads_in_turn))]
 fn run_left<'a>(
     frozen: &Frozen,
     left: &Action,
