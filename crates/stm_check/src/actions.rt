@@ -48,7 +48,6 @@ fn check_read(
     }
 }
 
-#[tactic(auto, using(crate::proofs::Noted::note_all_append))]
 fn check_write(
     alloc: Global,
     names: &Names,
@@ -99,7 +98,6 @@ fn check_throw(alloc: Global, names: &Names, uses: &mut Vec<(u32, Ty)>, number: 
 }
 
 #[cycle(actions)]
-#[tactic(auto, using(crate::proofs::Noted::note_all_append))]
 fn check_if(
     alloc: Global,
     names: &Names,
@@ -127,7 +125,6 @@ fn check_if(
 }
 
 #[cycle(actions)]
-#[tactic(auto, using(crate::proofs::Noted::note_all_append))]
 fn check_or_else(
     alloc: Global,
     names: &Names,
@@ -150,7 +147,6 @@ fn check_or_else(
 }
 
 #[cycle(actions)]
-#[tactic(auto, using(crate::proofs::Noted::note_all_append))]
 fn check_bind(
     alloc: Global,
     names: &Names,
@@ -180,7 +176,6 @@ fn check_bind(
 }
 
 #[cycle(actions)]
-#[tactic(auto, using(crate::proofs::Noted::note_all_append))]
 fn check_let(
     alloc: Global,
     names: &Names,
@@ -206,7 +201,6 @@ fn check_let(
 }
 
 #[cycle(actions)]
-#[tactic(auto, using(crate::proofs::Noted::note_all_append))]
 fn check_seq(
     alloc: Global,
     names: &Names,
