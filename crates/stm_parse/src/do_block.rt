@@ -57,7 +57,7 @@ pub fn action<'t>(
 
 // An action.
 #[cycle(actions)]
-#[tactic(auto, using(crate::proofs::ActLevels::inside_act_none, crate::proofs::ActLevels::inside_act_some), unfolding(crate::specs::Reading::action_at))]
+#[tactic(auto, unfolding(crate::specs::Reading::action_at))]
 fn boxed_action<'t>(
     alloc: Global,
     levels: u8,
@@ -154,7 +154,7 @@ fn closed<'t>(
 
 // "(" action ")"
 #[cycle(actions)]
-#[tactic(auto, using(crate::proofs::ActLevels::inside_act_none, crate::proofs::ActLevels::inside_act_some), unfolding(crate::specs::Reading::paren_at))]
+#[tactic(auto, unfolding(crate::specs::Reading::paren_at))]
 fn paren<'t>(
     alloc: Global,
     levels: u8,
@@ -234,7 +234,6 @@ fn block<'t>(
 
 // Statements and the last action.
 #[cycle(actions)]
-#[tactic(auto, using(crate::proofs::ActLevels::body_more))]
 fn body<'t>(
     alloc: Global,
     levels: u8,
