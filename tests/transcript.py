@@ -1,9 +1,11 @@
 """Transcripts of a program: what it reads, and beneath each line what it answers (tests/README.md)."""
 
 import ast
+import os
 import pathlib
 import resource
 import subprocess
+import tempfile
 
 SECONDS = 60
 STACK = 2 << 20  # bytes, as much as a thread has
@@ -21,6 +23,7 @@ class Case:
         self.text = b"".join(line for line, _ in self.steps)
         self.errors = errors
         self.status = status
+        self.only_again = False  # a refused call is made again, and never left at that
 
 
 def computed(expression):
@@ -72,7 +75,7 @@ def parsed(name, lines):
     if said["end"]:
         line, answer = steps[-1]
         steps[-1] = (line[:-1], answer)
-    return Case(
+    case = Case(
         name,
         [word for line in said["words"] for word in line.split(" ")],
         steps,
@@ -80,6 +83,8 @@ def parsed(name, lines):
         "".join(line + "\n" for line in said["stderr"]).encode(ENCODING),
         int(said["status"][0]) if said["status"] else 0,
     )
+    case.only_again = "again" in said["mode"]
+    return case
 
 
 def read(path):
@@ -93,10 +98,16 @@ def small_stack():
 
 
 def run(program, case, environment=None):
-    """The finished process of a case."""
-    return subprocess.run(
-        [program] + case.words, input=case.text, capture_output=True, timeout=SECONDS, env=environment, preexec_fn=small_stack
-    )
+    """The finished process of a case, with `taken`, how many bytes of its input it took."""
+    with tempfile.TemporaryFile() as text:
+        text.write(case.text)
+        text.seek(0)
+        command = [program] + case.words
+        done = subprocess.run(
+            command, stdin=text, capture_output=True, timeout=SECONDS, env=environment, preexec_fn=small_stack
+        )
+        done.taken = os.lseek(text.fileno(), 0, os.SEEK_CUR)
+    return done
 
 
 def shown(case, answer, width=160):
@@ -120,6 +131,8 @@ def judged(program, case):
         said.append(f"standard error {done.stderr!r}, not {case.errors!r}")
     if done.stdout != case.printed:
         said.append(shown(case, done.stdout))
+    if done.taken != (len(case.text) if case.status == 0 else 0):
+        said.append(f"{done.taken} bytes of the input were read")
     return "\n".join(said) or None
 
 

@@ -1,6 +1,6 @@
 //! Texts read, and blocks checked over the declared variables.
 
-use crate::words::{first_word, say, say_count, say_whether};
+use crate::words::{first_word, say, say_whether};
 use std::alloc::{AllocError, Global};
 use std::fmt::Write;
 use stm_check::{TypeFault, Typed, check};
@@ -139,7 +139,6 @@ pub fn answer(
 ) -> Result<(), AllocError> {
     let (call, rest) = first_word(text);
     match call {
-        "len" => say_count(rest.len(), out),
         "is_name" => say_whether(is_name(rest), out),
         "tokens" => answer_tokens(alloc, rest, out),
         "parse" => answer_parse(alloc, rest, out),

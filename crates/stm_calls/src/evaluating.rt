@@ -216,7 +216,10 @@ fn answer_evaluate(
             evaluate_job(evaluating, job, frozen, alloc)?;
             say("done", out)
         }
-        Some(_) => say("refused not covered", out),
+        Some(job) => {
+            evaluating.job = Some(job);
+            say("refused not covered", out)
+        }
     }
 }
 
@@ -233,6 +236,13 @@ fn answer_parts(message: Evaluated, out: &mut String) -> Result<(), AllocError> 
     say_verdict(&verdict, &reads, out)
 }
 
+/// Takes the verdict out of a message, and answers with it.
+fn answer_verdict(message: Evaluated, out: &mut String) -> Result<(), AllocError> {
+    let verdict = message.into_verdict();
+    write_verdict(&verdict, out)?;
+    out.push_str("\n")
+}
+
 fn answer_message(message: &Option<Evaluated>, out: &mut String) -> Result<(), AllocError> {
     match message {
         Some(message) => say_message(message, out),
@@ -240,8 +250,14 @@ fn answer_message(message: &Option<Evaluated>, out: &mut String) -> Result<(), A
     }
 }
 
-fn take_message(message: &mut Option<Evaluated>, out: &mut String) -> Result<(), AllocError> {
+/// Takes the message apart: its verdict alone, or its reads too.
+fn take_message(
+    message: &mut Option<Evaluated>,
+    call: &str,
+    out: &mut String,
+) -> Result<(), AllocError> {
     match message.take() {
+        Some(message) if call == "verdict" => answer_verdict(message, out),
         Some(message) => answer_parts(message, out),
         None => say("refused no message", out),
     }
@@ -277,7 +293,7 @@ pub fn answer(
     match call {
         "job" => make_job(evaluating, number(rest), out),
         "message" => answer_message(&evaluating.message, out),
-        "parts" => take_message(&mut evaluating.message, out),
+        "parts" | "verdict" => take_message(&mut evaluating.message, call, out),
         _ => match frozen {
             Some(frozen) => answer_on(evaluating, table, frozen, alloc, text, out),
             None => say("refused no copy", out),

@@ -193,18 +193,31 @@ fn new_answer(alloc: Global) -> Result<String, AllocError> {
     }
 }
 
-fn main(rt: HostRuntime) -> ExitCode {
-    let alloc = rt.alloc();
-    let (Ok(mut lines), Ok(mut out)) = (new_lines(alloc), new_answer(alloc)) else {
-        return ExitCode::from(NO_MEMORY);
-    };
+/// Answers each line of standard input with room for lines and answers.
+fn run_with_room(rt: &HostRuntime, alloc: Global, lines: &mut Lines, out: &mut String) -> u8 {
     let mut desk = new_desk(alloc);
-    ExitCode::from(run(
+    run(
         &mut desk,
         alloc,
-        &mut lines,
-        &mut out,
+        lines,
+        out,
         &mut rt.stdin(),
         &mut rt.stdout(),
-    ))
+    )
+}
+
+/// The same, with room for answers yet to be had.
+fn run_with_lines(rt: &HostRuntime, alloc: Global, lines: &mut Lines) -> u8 {
+    match new_answer(alloc) {
+        Ok(mut out) => run_with_room(rt, alloc, lines, &mut out),
+        Err(_) => NO_MEMORY,
+    }
+}
+
+fn main(rt: HostRuntime) -> ExitCode {
+    let alloc = rt.alloc();
+    ExitCode::from(match new_lines(alloc) {
+        Ok(mut lines) => run_with_lines(&rt, alloc, &mut lines),
+        Err(_) => NO_MEMORY,
+    })
 }
