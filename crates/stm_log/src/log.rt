@@ -55,6 +55,20 @@ impl Log {
         }
     }
 
+    /// How many frames are open below the top one.
+    pub fn depth(&self) -> usize
+        ensures { result ≡ length self.now.below }
+    {
+        self.below.len()
+    }
+
+    /// How many cells the top view has made.
+    pub fn made(&self) -> usize
+        ensures { result ≡ length self.now.top.news }
+    {
+        self.top.news.len()
+    }
+
     /// The value of a reference in the top view. A variable of the store that the view has not written is read from the
     /// store, and is in the set of reads from then on.
     ///

@@ -9,6 +9,3 @@ pub mod pending;
 mod sorted;
 
 pub use pending::Pending;
-
-#[cfg(test)]
-mod tests;

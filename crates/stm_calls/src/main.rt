@@ -1,0 +1,223 @@
+//! Calls of the crates by a script: each line of standard input is a call, and its answer goes on standard output.
+//!
+//! The first word of a line names a module, the second a call of it (tests/README.md lists them). A premise of a call is
+//! asked for first, and where it doesn't hold the answer is `refused` with the reason. A call that is refused memory is
+//! made again, or told as `no memory` with the number of its line and left at that, as `memory again` and `memory once`
+//! say.
+#![tactic(auto)]
+
+mod blocks;
+mod cells;
+mod evaluating;
+mod frozen;
+mod input;
+mod log;
+mod log_calls;
+mod queue;
+mod store;
+mod tables;
+mod verdicts;
+mod watch;
+mod words;
+
+use crate::evaluating::Evaluating;
+use crate::input::Lines;
+use crate::log::Logging;
+use crate::words::{first_word, say};
+use std::alloc::{AllocError, Global};
+use std::io::{Read, Write};
+use std::process::ExitCode;
+use stm_queue::Pending;
+use stm_store::{Frozen, Ready, Store, Table};
+use stm_terms::Verdict;
+use stm_watch::Watch;
+
+/// The exit status where the input or the output failed.
+const BROKEN: u8 = 1;
+
+/// The exit status where memory was refused twice in one line, or before the first.
+const NO_MEMORY: u8 = 4;
+
+/// Room for the longest line and the longest answer, so that neither asks for memory later.
+const ROOM: usize = 1 << 18;
+
+/// What the calls are made on.
+#[derive(Drop)]
+struct Desk {
+    queue: Pending,
+    watch: Watch,
+    table: Table,
+    store: Option<Store>,
+    ready: Option<Ready>,
+    frozen: Option<Frozen>,
+    verdict: Verdict,
+    log: Option<Logging>,
+    evaluating: Evaluating,
+    calls_once: bool,
+}
+
+fn new_desk(alloc: Global) -> Desk {
+    Desk {
+        queue: Pending::empty(alloc),
+        watch: Watch::empty(alloc),
+        table: Table::empty(alloc),
+        store: None,
+        ready: None,
+        frozen: None,
+        verdict: Verdict::Blocks,
+        log: None,
+        evaluating: Evaluating::new(),
+        calls_once: false,
+    }
+}
+
+/// Makes a call on the declared variables, the store or its copy.
+fn answer_store(
+    desk: &mut Desk,
+    alloc: Global,
+    module: &str,
+    call: &str,
+    out: &mut String,
+) -> Result<(), AllocError> {
+    match module {
+        "table" => tables::answer(&mut desk.table, alloc, call, out),
+        "verdict" => verdicts::answer(&mut desk.verdict, alloc, call, out),
+        "frozen" => frozen::answer(&mut desk.frozen, alloc, call, out),
+        "cell" => cells::answer(call, out),
+        _ => answer_store_itself(desk, alloc, call, out),
+    }
+}
+
+fn answer_store_itself(
+    desk: &mut Desk,
+    alloc: Global,
+    call: &str,
+    out: &mut String,
+) -> Result<(), AllocError> {
+    if call == "open" {
+        return store::open(&mut desk.store, alloc, &desk.table, out);
+    }
+    match &mut desk.store {
+        Some(store) => match call {
+            "freeze" => store::freeze(store, &mut desk.frozen, out),
+            "prepare" => store::prepare(store, &desk.verdict, &mut desk.ready, out),
+            "install" => store::install(store, &mut desk.ready, out),
+            _ => store::answer(store, &desk.verdict, alloc, call, out),
+        },
+        None => say("refused no store", out),
+    }
+}
+
+/// Makes the call of a line, and writes its answer.
+fn answer(desk: &mut Desk, alloc: Global, line: &str, out: &mut String) -> Result<(), AllocError> {
+    let (module, call) = first_word(line);
+    match module {
+        "" | "--" => Ok(()),
+        "memory" => {
+            desk.calls_once = call == "once";
+            Ok(())
+        }
+        "queue" => queue::answer(&mut desk.queue, alloc, call, out),
+        "watch" => watch::answer(&mut desk.watch, alloc, call, out),
+        "log" => log_calls::answer(&mut desk.log, &desk.frozen, alloc, call, out),
+        "text" => blocks::answer(&desk.table, alloc, call, out),
+        "block" => evaluating::answer_block(&mut desk.evaluating, &desk.table, alloc, call, out),
+        "eval" => evaluating::answer(
+            &mut desk.evaluating,
+            &desk.table,
+            &desk.frozen,
+            alloc,
+            call,
+            out,
+        ),
+        _ => answer_store(desk, alloc, module, call, out),
+    }
+}
+
+/// Answers a line. A call that is refused memory is made again, or told by the number of its line.
+fn answer_line(
+    desk: &mut Desk,
+    alloc: Global,
+    lines: &Lines,
+    out: &mut String,
+) -> Result<(), AllocError> {
+    if answer(desk, alloc, lines.line(), out).is_ok() {
+        return Ok(());
+    }
+    out.clear();
+    if desk.calls_once {
+        return writeln!(out, "no memory {}", lines.number());
+    }
+    answer(desk, alloc, lines.line(), out)
+}
+
+/// Answers each line of the reader on the writer, and tells the exit status.
+fn run<R: Read, W: Write>(
+    desk: &mut Desk,
+    alloc: Global,
+    lines: &mut Lines,
+    out: &mut String,
+    reader: &mut R,
+    writer: &mut W,
+) -> u8 {
+    for _ in 0..u64::MAX {
+        match lines.next(reader) {
+            Ok(true) => {}
+            Ok(false) => return 0,
+            Err(_) => return BROKEN,
+        }
+        out.clear();
+        if answer_line(desk, alloc, lines, out).is_err() {
+            return NO_MEMORY;
+        }
+        if writer.write_all(out.as_bytes()).is_err() {
+            return BROKEN;
+        }
+    }
+    0
+}
+
+/// Lines with room for the longest, asked for twice.
+fn new_lines(alloc: Global) -> Result<Lines, AllocError> {
+    match Lines::with_room(alloc, ROOM) {
+        Ok(lines) => Ok(lines),
+        Err(_) => Lines::with_room(alloc, ROOM),
+    }
+}
+
+/// A text with room for the longest answer, asked for twice.
+fn new_answer(alloc: Global) -> Result<String, AllocError> {
+    match String::with_capacity(alloc, ROOM) {
+        Ok(out) => Ok(out),
+        Err(_) => String::with_capacity(alloc, ROOM),
+    }
+}
+
+/// Answers each line of standard input with room for lines and answers.
+fn run_with_room(rt: &HostRuntime, alloc: Global, lines: &mut Lines, out: &mut String) -> u8 {
+    let mut desk = new_desk(alloc);
+    run(
+        &mut desk,
+        alloc,
+        lines,
+        out,
+        &mut rt.stdin(),
+        &mut rt.stdout(),
+    )
+}
+
+/// The same, with room for answers yet to be had.
+fn run_with_lines(rt: &HostRuntime, alloc: Global, lines: &mut Lines) -> u8 {
+    match new_answer(alloc) {
+        Ok(mut out) => run_with_room(rt, alloc, lines, &mut out),
+        Err(_) => NO_MEMORY,
+    }
+}
+
+fn main(rt: HostRuntime) -> ExitCode {
+    let alloc = rt.alloc();
+    ExitCode::from(match new_lines(alloc) {
+        Ok(mut lines) => run_with_lines(&rt, alloc, &mut lines),
+        Err(_) => NO_MEMORY,
+    })
+}

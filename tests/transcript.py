@@ -1,0 +1,149 @@
+"""Transcripts of a program: what it reads, and beneath each line what it answers (tests/README.md)."""
+
+import ast
+import os
+import pathlib
+import resource
+import subprocess
+import tempfile
+
+SECONDS = 60
+STACK = 2 << 20  # bytes, as much as a thread has
+ENCODING = "latin-1"  # a character of a transcript is a byte
+
+
+class Case:
+    """What a program is given and has to do."""
+
+    def __init__(self, name, words=(), steps=(), printed=b"", errors=b"", status=0):
+        self.name = name
+        self.words = list(words)
+        self.steps = list(steps)  # pairs of a line that is read and what is answered to it
+        self.printed = printed + b"".join(answer for _, answer in self.steps)
+        self.text = b"".join(line for line, _ in self.steps)
+        self.errors = errors
+        self.status = status
+        self.only_again = False  # a refused call is made again, and never left at that
+
+
+def computed(expression):
+    """The bytes of texts that are joined by +, repeated by * N, or written for each number below N by @ N."""
+
+    def value(node):
+        if isinstance(node, ast.Constant) and isinstance(node.value, (str, int)):
+            return node.value
+        left, right = value(node.left), value(node.right)
+        if isinstance(node.op, ast.Add):
+            return left + right
+        if isinstance(node.op, ast.Mult):
+            return left * right
+        return "".join(left.replace("{}", str(number)) for number in range(right))
+
+    return value(ast.parse(expression.strip(), mode="eval").body).encode(ENCODING)
+
+
+def header(lines):
+    """The lines above the first empty one, by their names, and the rest; nothing where a line of input is first."""
+    found = {"words": [], "status": [], "stderr": [], "about": [], "end": [], "mode": []}
+    if not lines or lines[0].startswith(">"):
+        return found, lines
+    for number, line in enumerate(lines):
+        if not line:
+            return found, lines[number + 1 :]
+        name, _, value = line.partition(":")
+        found[name].append(value[1:])
+    return found, []
+
+
+def pairs(lines):
+    """The lines that are printed before the first that is read, and the steps."""
+    printed, steps = [], []
+    for line in lines:
+        if line.startswith(">= "):
+            steps.append((computed(line[3:]) + b"\n", []))
+        elif line.startswith(">"):
+            steps.append((line[2:].encode(ENCODING) + b"\n", []))
+        else:
+            (steps[-1][1] if steps else printed).append(line.encode(ENCODING) + b"\n")
+    return b"".join(printed), [(line, b"".join(answer)) for line, answer in steps]
+
+
+def parsed(name, lines):
+    """The case of a transcript's lines."""
+    said, rest = header(lines)
+    printed, steps = pairs(rest)
+    if said["end"]:
+        line, answer = steps[-1]
+        steps[-1] = (line[:-1], answer)
+    case = Case(
+        name,
+        [word for line in said["words"] for word in line.split(" ")],
+        steps,
+        printed,
+        "".join(line + "\n" for line in said["stderr"]).encode(ENCODING),
+        int(said["status"][0]) if said["status"] else 0,
+    )
+    case.only_again = "again" in said["mode"]
+    return case
+
+
+def read(path):
+    path = pathlib.Path(path)
+    return parsed(path.name, path.read_text(ENCODING).split("\n")[:-1])
+
+
+def small_stack():
+    _, most = resource.getrlimit(resource.RLIMIT_STACK)
+    resource.setrlimit(resource.RLIMIT_STACK, (STACK, most))
+
+
+def run(program, case, environment=None):
+    """The finished process of a case, with `taken`, how many bytes of its input it took."""
+    with tempfile.TemporaryFile() as text:
+        text.write(case.text)
+        text.seek(0)
+        command = [program] + case.words
+        done = subprocess.run(
+            command, stdin=text, capture_output=True, timeout=SECONDS, env=environment, preexec_fn=small_stack
+        )
+        done.taken = os.lseek(text.fileno(), 0, os.SEEK_CUR)
+    return done
+
+
+def shown(case, answer, width=160):
+    """Where the first answer that differs stands."""
+    want, got = case.printed.decode(ENCODING).split("\n"), answer.decode(ENCODING).split("\n")
+    at = next((n for n, (w, g) in enumerate(zip(want, got)) if w != g), min(len(want), len(got)))
+    told = lambda lines: lines[at][:width] if at < len(lines) else "(nothing)"
+    return f"line {at + 1} of the answers is\n  {told(got)}\nnot\n  {told(want)}"
+
+
+def judged(program, case):
+    """None, or how what a program does differs from the case."""
+    try:
+        done = run(program, case)
+    except subprocess.TimeoutExpired:
+        return f"no end after {SECONDS} seconds"
+    said = []
+    if done.returncode != case.status:
+        said.append(f"status {done.returncode}, not {case.status}")
+    if done.stderr != case.errors:
+        said.append(f"standard error {done.stderr!r}, not {case.errors!r}")
+    if done.stdout != case.printed:
+        said.append(shown(case, done.stdout))
+    if done.taken != (len(case.text) if case.status == 0 else 0):
+        said.append(f"{done.taken} bytes of the input were read")
+    return "\n".join(said) or None
+
+
+def tally(results):
+    """Prints the failures among pairs of a name and what is said of it, and the last line; answers the exit status."""
+    passed = failed = 0
+    for name, said in results:
+        if said is None:
+            passed += 1
+        else:
+            failed += 1
+            print(f"FAILED {name}\n{said}", flush=True)
+    print(f"{passed} passed, {failed} failed", flush=True)
+    return 1 if failed or not passed else 0
