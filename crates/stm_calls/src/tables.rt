@@ -44,7 +44,6 @@ fn initial(table: &Table, init: &Init) -> Value {
 
 fn declare_read(
     table: &mut Table,
-    alloc: Global,
     declaration: &Declaration,
     out: &mut String,
 ) -> Result<(), AllocError> {
@@ -64,7 +63,7 @@ fn answer_declare(
     out: &mut String,
 ) -> Result<(), AllocError> {
     match parse_declare(alloc, text) {
-        Ok(declaration) => declare_read(table, alloc, &declaration, out),
+        Ok(declaration) => declare_read(table, &declaration, out),
         Err(ParseFault::NoMemory) => Err(AllocError),
         Err(fault) => writeln!(out, "refused {fault:?}"),
     }
@@ -79,7 +78,7 @@ fn declare_numbered(table: &mut Table, alloc: Global, number: u32) -> Result<(),
     let text = numbered(alloc, "v", number)?;
     let name = text.as_str();
     if is_name(name) {
-        let _ = declare(table, alloc, name, INT, Value::Int(0))?;
+        let _ = declare(table, name, INT, Value::Int(0))?;
     }
     Ok(())
 }
