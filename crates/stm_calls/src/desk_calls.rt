@@ -1,0 +1,156 @@
+//! The calls that change a desk, each on its own.
+
+ghost use Rattle.std.specs.Prelude.{◌<◌};
+
+use crate::desks::Counts;
+use crate::words::{number, range, say, say_count, say_whether};
+use std::alloc::AllocError;
+use std::fmt::Write;
+use stm_check::Script;
+use stm_desk::{
+    CancelError, Desk, Finish, FinishError, SettleStop, SettleWhy, Settled, SubmitError,
+};
+use stm_terms::{write_value, write_verdict};
+
+/// Submits a block, and answers with its ticket.
+pub fn submit(
+    desk: &mut Desk,
+    client: u32,
+    block: Script,
+    out: &mut String,
+) -> Result<(), AllocError>
+    requires { client < 128 }
+{
+    match desk.submit(client, block) {
+        Ok(ticket) => writeln!(out, "ticket {ticket}"),
+        Err(SubmitError::NoMemory) => Err(AllocError),
+        Err(refusal) => writeln!(out, "refused {refusal:?}"),
+    }
+}
+
+/// Submits the block until so many wait, and answers how many do, or why no more can.
+pub fn fill(
+    desk: &mut Desk,
+    client: u32,
+    block: &Script,
+    count: usize,
+    out: &mut String,
+) -> Result<(), AllocError>
+    requires { client < 128 }
+{
+    for _ in desk.waiting()..count {
+        match desk.submit(client, block.share()?) {
+            Ok(_) => {}
+            Err(SubmitError::NoMemory) => return Err(AllocError),
+            Err(refusal) => return writeln!(out, "refused {refusal:?} at {}", desk.waiting()),
+        }
+    }
+    say_count(desk.waiting(), out)
+}
+
+/// Answers with tickets, or that there are none.
+pub fn say_tickets(tickets: &[u32], out: &mut String) -> Result<(), AllocError> {
+    if tickets.is_empty() {
+        return say(" none", out);
+    }
+    for ticket in tickets {
+        write!(out, " {ticket}")?;
+    }
+    out.push_str("\n")
+}
+
+/// Answers with what a finish did.
+fn say_finish(finish: &Finish, out: &mut String) -> Result<(), AllocError> {
+    write_verdict(&finish.verdict, out)?;
+    write!(out, " first {} result ", finish.applied.first_new)?;
+    match finish.applied.result {
+        Some(value) => write_value(value, out)?,
+        None => out.push_str("none")?,
+    }
+    out.push_str(" stale")?;
+    say_tickets(finish.stale.as_slice(), out)
+}
+
+/// Finishes the block of a ticket.
+pub fn finish(desk: &mut Desk, client: u32, ticket: u32, out: &mut String) -> Result<(), AllocError>
+    requires { client < 128 }
+{
+    match desk.finish(client, ticket) {
+        Ok(done) => say_finish(&done, out),
+        Err(FinishError::NoMemory) => Err(AllocError),
+        Err(refusal) => writeln!(out, "refused {refusal:?}"),
+    }
+}
+
+/// Cancels the block of a ticket.
+pub fn cancel(desk: &mut Desk, client: u32, ticket: u32, out: &mut String) -> Result<(), AllocError>
+    requires { client < 128 }
+{
+    match desk.cancel(client, ticket) {
+        Ok(()) => say("done", out),
+        Err(CancelError::NoMemory) => Err(AllocError),
+        Err(refusal) => writeln!(out, "refused {refusal:?}"),
+    }
+}
+
+/// Hands tickets back: whether one was out, or how many of a range were.
+pub fn hand_back(desk: &mut Desk, word: &str, out: &mut String) -> Result<(), AllocError> {
+    if !word.contains('.') {
+        return say_whether(desk.hand_back(number(word)), out);
+    }
+    let tickets = range(word);
+    let mut count = 0usize;
+    for ticket in tickets.from..tickets.to {
+        if desk.hand_back(ticket) {
+            count = count.saturating_add(1);
+        }
+    }
+    say_count(count, out)
+}
+
+/// Answers with all that settling did, calls that were refused memory included.
+fn say_settled(
+    settled: &mut Counts,
+    done: Settled,
+    stopped: &str,
+    out: &mut String,
+) -> Result<(), AllocError> {
+    let finished = settled.finished.saturating_add(done.finished);
+    let evaluations = settled.evaluations.saturating_add(done.evaluations);
+    *settled = Counts {
+        finished: 0,
+        evaluations: 0,
+    };
+    writeln!(out, "{stopped}settled {finished} evaluations {evaluations}")
+}
+
+fn say_stop(settled: &mut Counts, stop: SettleStop, out: &mut String) -> Result<(), AllocError> {
+    let done = Settled {
+        finished: stop.finished,
+        evaluations: stop.evaluations,
+    };
+    match stop.why {
+        SettleWhy::HistoryFull => say_settled(settled, done, "stopped HistoryFull ", out),
+        SettleWhy::CellsFull => say_settled(settled, done, "stopped CellsFull ", out),
+        SettleWhy::NoMemory => {
+            settled.finished = settled.finished.saturating_add(done.finished);
+            settled.evaluations = settled.evaluations.saturating_add(done.evaluations);
+            Err(AllocError)
+        }
+    }
+}
+
+/// Settles the desk.
+pub fn settle(
+    desk: &mut Desk,
+    settled: &mut Counts,
+    client: u32,
+    out: &mut String,
+) -> Result<(), AllocError>
+    requires { client < 128 }
+{
+    match desk.settle(client) {
+        Ok(done) => say_settled(settled, done, "", out),
+        Err(stop) => say_stop(settled, stop, out),
+    }
+}

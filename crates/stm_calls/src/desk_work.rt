@@ -1,0 +1,255 @@
+//! Jobs that a desk handed out, and the messages made of them.
+
+ghost use Rattle.std.specs.Prelude.{◌<◌};
+ghost use Rattle.stm_store.specs.Cells.{Covers};
+
+use crate::words::say;
+use std::alloc::{AllocError, Global};
+use std::fmt::Write;
+use stm_desk::{DeliverError, Desk};
+use stm_eval::{Evaluated, Job, evaluate};
+use stm_store::Frozen;
+
+/// The jobs of the last call that took some, the copy of the store beside them, the messages made of them, and how many
+/// messages were accepted and refused since the jobs were taken.
+#[derive(Drop)]
+pub struct Work {
+    frozen: Option<Frozen>,
+    jobs: Vec<Job>,
+    messages: Vec<Option<Evaluated>>,
+    accepted: u32,
+    refused: u32,
+}
+
+impl Work {
+    /// Nothing.
+    pub fn new(alloc: Global) -> Work {
+        Work {
+            frozen: None,
+            jobs: Vec::new(alloc),
+            messages: Vec::new(alloc),
+            accepted: 0,
+            refused: 0,
+        }
+    }
+}
+
+fn say_jobs(jobs: &[Job], out: &mut String) -> Result<(), AllocError> {
+    out.push_str("jobs")?;
+    if jobs.is_empty() {
+        return say(" none", out);
+    }
+    for job in jobs {
+        write!(out, " {}", job.ticket)?;
+    }
+    out.push_str("\n")
+}
+
+/// Takes jobs, and keeps them with the copy of the store.
+pub fn take(
+    desk: &mut Desk,
+    work: &mut Work,
+    n: usize,
+    out: &mut String,
+) -> Result<(), AllocError> {
+    let (frozen, jobs) = desk.take(n)?;
+    say_jobs(jobs.as_slice(), out)?;
+    work.frozen = Some(frozen);
+    work.jobs = jobs;
+    work.accepted = 0;
+    work.refused = 0;
+    Ok(())
+}
+
+/// The message of a job, which stays.
+fn message_of(job: &Job, frozen: &Frozen, alloc: Global) -> Result<Option<Evaluated>, AllocError> {
+    if !frozen.covers(job.block.block().uses()) {
+        return Ok(None);
+    }
+    let block = job.block.share()?;
+    message_of_copy(
+        Job {
+            ticket: job.ticket,
+            block,
+        },
+        frozen,
+        alloc,
+    )
+}
+
+fn message_of_copy(
+    job: Job,
+    frozen: &Frozen,
+    alloc: Global,
+) -> Result<Option<Evaluated>, AllocError>
+    requires { Covers frozen.now job.block.uses }
+{
+    match evaluate(alloc, job, frozen) {
+        Ok(message) => Ok(Some(message)),
+        Err((_, refused)) => Err(refused),
+    }
+}
+
+fn make_messages(
+    messages: &mut Vec<Option<Evaluated>>,
+    jobs: &[Job],
+    frozen: &Frozen,
+    alloc: Global,
+) -> Result<(), AllocError> {
+    for job in jobs {
+        messages.push(message_of(job, frozen, alloc)?)?;
+    }
+    Ok(())
+}
+
+/// Makes a message of each job that was taken, on the copy that came with them.
+pub fn evaluate_jobs(work: &mut Work, alloc: Global, out: &mut String) -> Result<(), AllocError> {
+    match &work.frozen {
+        None => say("refused no jobs", out),
+        Some(frozen) => {
+            let mut messages = Vec::new(alloc);
+            make_messages(&mut messages, work.jobs.as_slice(), frozen, alloc)?;
+            work.messages = messages;
+            say("done", out)
+        }
+    }
+}
+
+/// Answers with the tickets of the messages that are left.
+pub fn say_messages(work: &Work, out: &mut String) -> Result<(), AllocError> {
+    out.push_str("messages")?;
+    for message in work.messages.as_slice() {
+        match message {
+            Some(message) => write!(out, " {}", message.ticket())?,
+            None => {}
+        }
+    }
+    out.push_str("\n")
+}
+
+/// Delivers a message. One that is refused is there again.
+fn deliver_one(
+    desk: &mut Desk,
+    place: &mut Option<Evaluated>,
+    client: u32,
+) -> Option<Result<(), DeliverError>>
+    requires { client < 128 }
+{
+    match place.take() {
+        None => None,
+        Some(message) => match desk.deliver(client, message) {
+            Ok(()) => Some(Ok(())),
+            Err((message, refusal)) => {
+                *place = Some(message);
+                Some(Err(refusal))
+            }
+        },
+    }
+}
+
+/// Delivers the message of a number, counted from 1.
+pub fn deliver(
+    desk: &mut Desk,
+    work: &mut Work,
+    client: u32,
+    number: u32,
+    out: &mut String,
+) -> Result<(), AllocError>
+    requires { client < 128 }
+{
+    let place = (number as usize).wrapping_sub(1);
+    match work.messages.as_mut_slice().get_mut(place) {
+        None => say("refused no message", out),
+        Some(place) => match deliver_one(desk, place, client) {
+            None => say("refused no message", out),
+            Some(Ok(())) => say("done", out),
+            Some(Err(DeliverError::NoMemory)) => Err(AllocError),
+            Some(Err(refusal)) => writeln!(out, "refused {refusal:?}"),
+        },
+    }
+}
+
+/// Delivers all messages that are left, and answers how many were accepted and refused since the jobs were taken.
+pub fn deliver_all(
+    desk: &mut Desk,
+    work: &mut Work,
+    client: u32,
+    out: &mut String,
+) -> Result<(), AllocError>
+    requires { client < 128 }
+{
+    for place in 0..work.messages.len() {
+        match deliver_one(desk, &mut work.messages[place], client) {
+            None => {}
+            Some(Ok(())) => work.accepted = work.accepted.saturating_add(1),
+            Some(Err(DeliverError::NoMemory)) => return Err(AllocError),
+            Some(Err(_)) => {
+                work.messages[place] = None;
+                work.refused = work.refused.saturating_add(1);
+            }
+        }
+    }
+    writeln!(out, "accepted {} refused {}", work.accepted, work.refused)
+}
+
+/// Evaluates the queued blocks and delivers them, one after another.
+pub fn eval(desk: &mut Desk, client: u32, alloc: Global, out: &mut String) -> Result<(), AllocError>
+    requires { client < 128 }
+{
+    for _ in 0..desk.waiting() {
+        if !desk.has_queued() {
+            return say("done", out);
+        }
+        match eval_first(desk, client, alloc)? {
+            None => {}
+            Some(refusal) => return writeln!(out, "refused {refusal:?}"),
+        }
+    }
+    say("done", out)
+}
+
+/// Evaluates the first queued block and delivers it. One whose message is refused is queued again.
+fn eval_first(
+    desk: &mut Desk,
+    client: u32,
+    alloc: Global,
+) -> Result<Option<DeliverError>, AllocError>
+    requires { client < 128 }
+{
+    let (frozen, jobs) = desk.take(1)?;
+    match jobs.as_slice().first() {
+        None => Ok(None),
+        Some(job) => {
+            let ticket = job.ticket;
+            match message_of(job, &frozen, alloc) {
+                Ok(Some(message)) => deliver_first(desk, client, message, ticket),
+                Ok(None) => Ok(None),
+                Err(refused) => {
+                    let _ = desk.hand_back(ticket);
+                    Err(refused)
+                }
+            }
+        }
+    }
+}
+
+fn deliver_first(
+    desk: &mut Desk,
+    client: u32,
+    message: Evaluated,
+    ticket: u32,
+) -> Result<Option<DeliverError>, AllocError>
+    requires { client < 128 }
+{
+    match desk.deliver(client, message) {
+        Ok(()) => Ok(None),
+        Err((_, DeliverError::NoMemory)) => {
+            let _ = desk.hand_back(ticket);
+            Err(AllocError)
+        }
+        Err((_, refusal)) => {
+            let _ = desk.hand_back(ticket);
+            Ok(Some(refusal))
+        }
+    }
+}
