@@ -43,7 +43,7 @@ const ROOM: usize = 1 << 18;
 
 /// What the calls are made on.
 #[derive(Drop)]
-struct Desk {
+struct Objects {
     queue: Pending,
     watch: Watch,
     table: Table,
@@ -56,8 +56,8 @@ struct Desk {
     calls_once: bool,
 }
 
-fn new_desk(alloc: Global) -> Desk {
-    Desk {
+fn new_objects(alloc: Global) -> Objects {
+    Objects {
         queue: Pending::empty(alloc),
         watch: Watch::empty(alloc),
         table: Table::empty(alloc),
@@ -73,87 +73,98 @@ fn new_desk(alloc: Global) -> Desk {
 
 /// Makes a call on the declared variables, the store or its copy.
 fn answer_store(
-    desk: &mut Desk,
+    objects: &mut Objects,
     alloc: Global,
     module: &str,
     call: &str,
     out: &mut String,
 ) -> Result<(), AllocError> {
     match module {
-        "table" => tables::answer(&mut desk.table, alloc, call, out),
-        "verdict" => verdicts::answer(&mut desk.verdict, alloc, call, out),
-        "frozen" => frozen::answer(&mut desk.frozen, alloc, call, out),
+        "table" => tables::answer(&mut objects.table, alloc, call, out),
+        "verdict" => verdicts::answer(&mut objects.verdict, alloc, call, out),
+        "frozen" => frozen::answer(&mut objects.frozen, alloc, call, out),
         "cell" => cells::answer(call, out),
-        _ => answer_store_itself(desk, alloc, call, out),
+        _ => answer_store_itself(objects, alloc, call, out),
     }
 }
 
 fn answer_store_itself(
-    desk: &mut Desk,
+    objects: &mut Objects,
     alloc: Global,
     call: &str,
     out: &mut String,
 ) -> Result<(), AllocError> {
     if call == "open" {
-        return store::open(&mut desk.store, alloc, &desk.table, out);
+        return store::open(&mut objects.store, alloc, &objects.table, out);
     }
-    match &mut desk.store {
+    match &mut objects.store {
         Some(store) => match call {
-            "freeze" => store::freeze(store, &mut desk.frozen, out),
-            "prepare" => store::prepare(store, &desk.verdict, &mut desk.ready, out),
-            "install" => store::install(store, &mut desk.ready, out),
-            _ => store::answer(store, &desk.verdict, alloc, call, out),
+            "freeze" => store::freeze(store, &mut objects.frozen, out),
+            "prepare" => store::prepare(store, &objects.verdict, &mut objects.ready, out),
+            "install" => store::install(store, &mut objects.ready, out),
+            _ => store::answer(store, &objects.verdict, alloc, call, out),
         },
         None => say("refused no store", out),
     }
 }
 
 /// Makes the call of a line, and writes its answer.
-fn answer(desk: &mut Desk, alloc: Global, line: &str, out: &mut String) -> Result<(), AllocError> {
+fn answer(
+    objects: &mut Objects,
+    alloc: Global,
+    line: &str,
+    out: &mut String,
+) -> Result<(), AllocError> {
     let (module, call) = first_word(line);
     match module {
         "" | "--" => Ok(()),
         "memory" => {
-            desk.calls_once = call == "once";
+            objects.calls_once = call == "once";
             Ok(())
         }
-        "queue" => queue::answer(&mut desk.queue, alloc, call, out),
-        "watch" => watch::answer(&mut desk.watch, alloc, call, out),
-        "log" => log_calls::answer(&mut desk.log, &desk.frozen, alloc, call, out),
-        "text" => blocks::answer(&desk.table, alloc, call, out),
-        "block" => evaluating::answer_block(&mut desk.evaluating, &desk.table, alloc, call, out),
-        "eval" => evaluating::answer(
-            &mut desk.evaluating,
-            &desk.table,
-            &desk.frozen,
+        "queue" => queue::answer(&mut objects.queue, alloc, call, out),
+        "watch" => watch::answer(&mut objects.watch, alloc, call, out),
+        "log" => log_calls::answer(&mut objects.log, &objects.frozen, alloc, call, out),
+        "text" => blocks::answer(&objects.table, alloc, call, out),
+        "block" => evaluating::answer_block(
+            &mut objects.evaluating,
+            &objects.table,
             alloc,
             call,
             out,
         ),
-        _ => answer_store(desk, alloc, module, call, out),
+        "eval" => evaluating::answer(
+            &mut objects.evaluating,
+            &objects.table,
+            &objects.frozen,
+            alloc,
+            call,
+            out,
+        ),
+        _ => answer_store(objects, alloc, module, call, out),
     }
 }
 
 /// Answers a line. A call that is refused memory is made again, or told by the number of its line.
 fn answer_line(
-    desk: &mut Desk,
+    objects: &mut Objects,
     alloc: Global,
     lines: &Lines,
     out: &mut String,
 ) -> Result<(), AllocError> {
-    if answer(desk, alloc, lines.line(), out).is_ok() {
+    if answer(objects, alloc, lines.line(), out).is_ok() {
         return Ok(());
     }
     out.clear();
-    if desk.calls_once {
+    if objects.calls_once {
         return writeln!(out, "no memory {}", lines.number());
     }
-    answer(desk, alloc, lines.line(), out)
+    answer(objects, alloc, lines.line(), out)
 }
 
 /// Answers each line of the reader on the writer, and tells the exit status.
 fn run<R: Read, W: Write>(
-    desk: &mut Desk,
+    objects: &mut Objects,
     alloc: Global,
     lines: &mut Lines,
     out: &mut String,
@@ -167,7 +178,7 @@ fn run<R: Read, W: Write>(
             Err(_) => return BROKEN,
         }
         out.clear();
-        if answer_line(desk, alloc, lines, out).is_err() {
+        if answer_line(objects, alloc, lines, out).is_err() {
             return NO_MEMORY;
         }
         if writer.write_all(out.as_bytes()).is_err() {
@@ -193,23 +204,22 @@ fn new_answer(alloc: Global) -> Result<String, AllocError> {
     }
 }
 
-/// Answers each line of standard input with room for lines and answers.
-fn run_with_room(rt: &HostRuntime, alloc: Global, lines: &mut Lines, out: &mut String) -> u8 {
-    let mut desk = new_desk(alloc);
-    run(
-        &mut desk,
-        alloc,
-        lines,
-        out,
-        &mut rt.stdin(),
-        &mut rt.stdout(),
-    )
+/// Answers each line of the reader, with room for lines and answers.
+fn run_with_room<R: Read, W: Write>(
+    alloc: Global,
+    lines: &mut Lines,
+    out: &mut String,
+    reader: &mut R,
+    writer: &mut W,
+) -> u8 {
+    let mut objects = new_objects(alloc);
+    run(&mut objects, alloc, lines, out, reader, writer)
 }
 
-/// The same, with room for answers yet to be had.
+/// The same on standard input and output, with room for answers yet to be had.
 fn run_with_lines(rt: &HostRuntime, alloc: Global, lines: &mut Lines) -> u8 {
     match new_answer(alloc) {
-        Ok(mut out) => run_with_room(rt, alloc, lines, &mut out),
+        Ok(mut out) => run_with_room(alloc, lines, &mut out, &mut rt.stdin(), &mut rt.stdout()),
         Err(_) => NO_MEMORY,
     }
 }
