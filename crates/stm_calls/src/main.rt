@@ -84,7 +84,8 @@ fn answer_store(
         "verdict" => verdicts::answer(&mut objects.verdict, alloc, call, out),
         "frozen" => frozen::answer(&mut objects.frozen, alloc, call, out),
         "cell" => cells::answer(call, out),
-        _ => answer_store_itself(objects, alloc, call, out),
+        "store" => answer_store_itself(objects, alloc, call, out),
+        _ => say("no such call", out),
     }
 }
 
