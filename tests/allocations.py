@@ -70,7 +70,7 @@ def ends_early(ample, done):
 
 
 def makes_again(ample, done):
-    """The same, or nothing but status 4 where there was no room for lines."""
+    """The whole run."""
     return end_of(done) == end_of(ample)
 
 

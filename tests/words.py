@@ -31,7 +31,7 @@ ANSWERS = b"tvar #0 x\n#0 x : Int = 1 count 0\ncells 1\n"
 
 
 def of(words):
-    """A case of these words, and what it does not say is left to be judged."""
+    """These words, with input to read; what is printed is left open."""
     case = transcript.Case(f"words {words}", words)
     case.text = INPUT
     return case

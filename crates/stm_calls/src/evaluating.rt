@@ -63,7 +63,16 @@ fn keep(
     }
 }
 
-/// Answers whether the block is the one of a text, in all or in its tree.
+/// Whether two blocks are the same, in all or in their trees.
+fn is_same(block: &Typed, other: &Typed, in_tree: bool) -> bool {
+    if in_tree {
+        block.same_tree(other)
+    } else {
+        block.same(other)
+    }
+}
+
+/// Answers whether the block is the one of a text.
 fn answer_same(
     block: &Typed,
     alloc: Global,
@@ -73,8 +82,7 @@ fn answer_same(
     out: &mut String,
 ) -> Result<(), AllocError> {
     match typed(alloc, table, text, out)? {
-        Some(other) if in_tree => say_whether(block.same_tree(&other), out),
-        Some(other) => say_whether(block.same(&other), out),
+        Some(other) => say_whether(is_same(block, &other, in_tree), out),
         None => Ok(()),
     }
 }

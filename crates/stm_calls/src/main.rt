@@ -91,7 +91,8 @@ fn answer_store(
         "verdict" => verdicts::answer(&mut objects.verdict, alloc, call, out),
         "frozen" => frozen::answer(&mut objects.frozen, alloc, call, out),
         "cell" => cells::answer(call, out),
-        _ => answer_store_itself(objects, alloc, call, out),
+        "store" => answer_store_itself(objects, alloc, call, out),
+        _ => say("no such call", out),
     }
 }
 
@@ -212,23 +213,22 @@ fn new_answer(alloc: Global) -> Result<String, AllocError> {
     }
 }
 
-/// Answers each line of standard input with room for lines and answers.
-fn run_with_room(rt: &HostRuntime, alloc: Global, lines: &mut Lines, out: &mut String) -> u8 {
+/// Answers each line of the reader, with room for lines and answers.
+fn run_with_room<R: Read, W: Write>(
+    alloc: Global,
+    lines: &mut Lines,
+    out: &mut String,
+    reader: &mut R,
+    writer: &mut W,
+) -> u8 {
     let mut objects = new_objects(alloc);
-    run(
-        &mut objects,
-        alloc,
-        lines,
-        out,
-        &mut rt.stdin(),
-        &mut rt.stdout(),
-    )
+    run(&mut objects, alloc, lines, out, reader, writer)
 }
 
-/// The same, with room for answers yet to be had.
+/// The same on standard input and output, with room for answers yet to be had.
 fn run_with_lines(rt: &HostRuntime, alloc: Global, lines: &mut Lines) -> u8 {
     match new_answer(alloc) {
-        Ok(mut out) => run_with_room(rt, alloc, lines, &mut out),
+        Ok(mut out) => run_with_room(alloc, lines, &mut out, &mut rt.stdin(), &mut rt.stdout()),
         Err(_) => NO_MEMORY,
     }
 }
