@@ -7,22 +7,22 @@ use Rattle.stm_terms.specs.declared.values.Value.{Value}
 use Rattle.stm_terms.specs.Views.{cell_value}
 use Rattle.stm_terms.specs.Looks.{reads_of}
 use Rattle.stm_terms.specs.Verdict.{verdict}
-use Rattle.stm_store.specs.declared.cell.Cell.{Cell}
 use Rattle.stm_store.specs.Cells.{plains, Covers}
 use Rattle.stm_store.specs.Tables.{Declared}
 use Rattle.stm_check.specs.Blocks.{Block}
 use Rattle.stm_eval.specs.declared.job.Job.{Job}
 use Rattle.stm_eval.specs.declared.message.Evaluated.{Evaluated}
 use Rattle.stm_eval.specs.Told.{told_ticket, told_block, told_reads, told_verdict}
-use Rattle.stm_watch.specs.Pairs.{Pairs}
 use Rattle.stm_queue.specs.Queue.{Entry, has_ticket, queued, first_queued, sent_out}
 use Rattle.stm_history.specs.declared.event.Event.{Event}
-use Rattle.stm_history.specs.SlowDesk.{Waiter, Slow, waiter, state}
+use Rattle.stm_history.specs.SlowDesk.{Waiter, Slow, under, waiter, state}
 use Rattle.stm_history.specs.declared.waiting.Waiting.{Waiting}
 use Rattle.stm_history.specs.Entries.{kept_at, AreDue}
 use Rattle.stm_history.specs.Machine.{Parts, StandsFor}
 use Rattle.stm_history.specs.Marks.{due_of}
 use Rattle.stm_history.specs.Taken.{sent, block_at, AreJobs, IsKeptJob, AreKept, AreCovered, IsPresent}
+use Rattle.stm_history.specs.Refusals.{differing}
+use Rattle.stm_history.proofs.Agreeing.{reads_differ_nowhere}
 use Rattle.stm_history.proofs.Covered.{blocks_are_covered}
 use Rattle.stm_history.proofs.Due.{IsFound, found}
 use Rattle.stm_history.proofs.Delivery.{has_marked}
@@ -134,11 +134,13 @@ is_present table history m k t j message cells c i a mt mb mv mr =
     let there : block_at s t ≡ Some j.block = subst (λ (u : ℕ). block_at s u ≡ Some j.block) i (are_jobs s m.entries (j ∷ []) k.stands.entries_are (a, tt)).0 in
     let one = waits_at s t j.block (waiter t s.waiters) refl there in
     let same : cells ≡ plains s.store = c ∙ ap plains k.stands.store_is in
+    let reads : told_reads message ≡ reads_of (under s.store) one.0.block.tree = rw (← same, one.2) mr in
     record {
       one = one.0;
       found = one.1;
       ticket = mt ∙ i;
       block = mb ∙ sym one.2;
       verdict = rw (← same, one.2) mv;
-      reads = rw (← same, one.2) mr;
+      reads = reads;
+      differs = ap (differing (under s.store)) reads ∙ reads_differ_nowhere (under s.store) one.0.block.tree;
     }
