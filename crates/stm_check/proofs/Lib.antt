@@ -10,6 +10,7 @@ pub mod ExpressionsSound
 pub mod Kept
 pub mod Memory
 pub mod Noted
+mod Sizes
 pub mod OneBlock
 pub mod SameTypes
 pub mod Soundness

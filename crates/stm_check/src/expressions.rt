@@ -3,6 +3,7 @@
 ghost use Rattle.std.specs.Prelude.{◌≡◌, ◌≤◌, IfOk, length, slice_range};
 ghost use Rattle.std.specs.Str.{IsAscii};
 ghost use Rattle.stm_terms.specs.Trees.{term_of};
+ghost use Rattle.stm_terms.specs.RawTrees as raw;
 ghost use Rattle.stm_terms.specs.RawTrees.{raw_term_of, place};
 ghost use Rattle.stm_check.specs.Checking.{Says};
 ghost use Rattle.stm_check.specs.Walk.{CanLookUp, expr_found, noted_expr};
@@ -12,7 +13,7 @@ use crate::scope::{Names, find_local, find_variable};
 use crate::types::{BOOL, INT, UNIT, as_wanted, given, reference_to, same, wanted};
 use crate::uses::note;
 use std::alloc::Global;
-use stm_terms::expr::Expr;
+use stm_terms::expr::{Expr, Op};
 use stm_terms::kinds::Ty;
 use stm_terms::raw::RawExpr;
 use stm_terms::values::Value;
@@ -40,8 +41,77 @@ pub(crate) fn name_at(text: &str, from: usize, to: usize) -> &str
     &text[from..to]
 }
 
+/// A name: the innermost local, else a declared variable, which is noted.
+fn check_name(
+    names: &Names,
+    uses: &mut Vec<(u32, Ty)>,
+    from: usize,
+    to: usize,
+) -> Result<(Expr, Ty), TypeFault>
+    requires { CanLookUp names.now (raw.name from to) }
+    ensures says { Says (λ r. (term_of r.0, r.1)) result (expr_found names.now (raw.name from to)) }
+    ensures uses { IfOk result (λ r. uses.new.items ≡ noted_expr names.now (term_of r.0) uses.old.items) }
+    ensures low { IfOk result (λ r. r.1.refs ≤ 9) }
+{
+    let name = name_at(names.text, from, to);
+    if let Some((number, kind)) = find_local(names.locals, name) {
+        return Ok((Expr::Local(number), kind));
+    }
+    match find_variable(names.table, name) {
+        Some((id, kind)) => {
+            note(uses, id, kind)?;
+            Ok((Expr::Global(id), reference_to(kind)))
+        }
+        None => Err(TypeFault::Unknown(from)),
+    }
+}
+
+/// An operand, boxed as soon as it is whole.
+#[cycle(expressions)]
+fn check_operand(
+    alloc: Global,
+    names: &Names,
+    uses: &mut Vec<(u32, Ty)>,
+    raw: &RawExpr,
+) -> Result<(Box<Expr>, Ty), TypeFault>
+    requires { CanLookUp names.now (raw_term_of raw.now) }
+    ensures says { Says (λ r. (term_of r.0.value, r.1)) result (expr_found names.now (raw_term_of raw.now)) }
+    ensures uses { IfOk result (λ r. uses.new.items ≡ noted_expr names.now (term_of r.0.value) uses.old.items) }
+    ensures low { IfOk result (λ r. r.1.refs ≤ 9) }
+{
+    let (operand, kind) = check_expr(alloc, names, uses, raw)?;
+    let operand = Box::new(alloc, operand)?;
+    Ok((operand, kind))
+}
+
+/// An operator with its operands.
+#[cycle(expressions)]
+fn check_operator(
+    alloc: Global,
+    names: &Names,
+    uses: &mut Vec<(u32, Ty)>,
+    op: Op,
+    left: &RawExpr,
+    right: &RawExpr,
+) -> Result<(Expr, Ty), TypeFault>
+    requires { CanLookUp names.now (raw.bin op (raw_term_of left.now) (raw_term_of right.now)) }
+    ensures says { Says (λ r. (term_of r.0, r.1)) result (expr_found names.now (raw.bin op (raw_term_of left.now) (raw_term_of right.now))) }
+    ensures uses { IfOk result (λ r. uses.new.items ≡ noted_expr names.now (term_of r.0) uses.old.items) }
+    ensures low { IfOk result (λ r. r.1.refs ≤ 9) }
+{
+    let (a, first) = check_operand(alloc, names, uses, left)?;
+    if !as_wanted(wanted(op), first) {
+        return Err(TypeFault::Mismatch(place(left)));
+    }
+    let (b, second) = check_operand(alloc, names, uses, right)?;
+    if !same(second, wanted(op).unwrap_or(first)) {
+        return Err(TypeFault::Mismatch(place(right)));
+    }
+    Ok((Expr::Bin(op, a, b), given(op)))
+}
+
 /// The expression with its names resolved, and its type.
-#[tactic(auto, using(crate::proofs::Noted::note_all_append))]
+#[cycle(expressions)]
 pub(crate) fn check_expr(
     alloc: Global,
     names: &Names,
@@ -57,30 +127,7 @@ pub(crate) fn check_expr(
         RawExpr::Int(n, _) => Ok((Expr::Lit(Value::Int(*n)), INT)),
         RawExpr::Bool(b, _) => Ok((Expr::Lit(Value::Bool(*b)), BOOL)),
         RawExpr::Unit(_) => Ok((Expr::Lit(Value::Unit), UNIT)),
-        RawExpr::Name(from, to) => {
-            let name = name_at(names.text, *from, *to);
-            if let Some((number, kind)) = find_local(names.locals, name) {
-                return Ok((Expr::Local(number), kind));
-            }
-            match find_variable(names.table, name) {
-                Some((id, kind)) => {
-                    note(uses, id, kind)?;
-                    Ok((Expr::Global(id), reference_to(kind)))
-                }
-                None => Err(TypeFault::Unknown(*from)),
-            }
-        }
-        RawExpr::Bin(op, left, right) => {
-            let (a, first) = check_expr(alloc, names, uses, left)?;
-            if !as_wanted(wanted(*op), first) {
-                return Err(TypeFault::Mismatch(place(left)));
-            }
-            let (b, second) = check_expr(alloc, names, uses, right)?;
-            if !same(second, wanted(*op).unwrap_or(first)) {
-                return Err(TypeFault::Mismatch(place(right)));
-            }
-            let whole = Expr::Bin(*op, Box::new(alloc, a)?, Box::new(alloc, b)?);
-            Ok((whole, given(*op)))
-        }
+        RawExpr::Name(from, to) => check_name(names, uses, *from, *to),
+        RawExpr::Bin(op, left, right) => check_operator(alloc, names, uses, *op, left, right),
     }
 }

@@ -193,6 +193,7 @@ fn run_first<'a>(
 /// The left branch of `orElse`, in a frame of its own. The right branch is left to be run where it retried, from the view
 /// before it; what it read stays.
 #[cycle(evaluate)]
+#[tactic(auto, using(crate::proofs::Noting::reads_in_turn))]
 fn run_left<'a>(
     frozen: &Frozen,
     left: &Action,

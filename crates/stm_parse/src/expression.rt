@@ -109,7 +109,7 @@ fn bracketed<'t>(
 
 /// A literal, a name, or an expression in brackets.
 #[cycle(expressions)]
-#[tactic(auto, using(crate::proofs::Levels::inside_none, crate::proofs::Levels::inside_some), unfolding(crate::specs::Reading::atom_at))]
+#[tactic(auto, unfolding(crate::specs::Reading::atom_at))]
 pub fn atom<'t>(
     alloc: Global,
     levels: u8,
@@ -133,7 +133,6 @@ pub fn atom<'t>(
 
 // An expression whose operators outside of brackets are of tiers below this one.
 #[cycle(expressions)]
-#[tactic(auto, using(crate::proofs::Levels::tier_zero, crate::proofs::Levels::tier_more))]
 fn tier<'t>(
     alloc: Global,
     levels: u8,
@@ -164,7 +163,6 @@ fn joined(alloc: Global, op: Op, left: RawExpr, right: RawExpr) -> Result<RawExp
 
 // What may follow the first operand of the operators of a tier.
 #[cycle(expressions)]
-#[tactic(auto, using(crate::proofs::Levels::tail_more))]
 fn tail<'t>(
     alloc: Global,
     levels: u8,

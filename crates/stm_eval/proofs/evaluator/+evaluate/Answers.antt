@@ -8,6 +8,3 @@ run_bound-returns-in_ok-push-in-Returned-clause-reads t c = grind (arith, reads_
 
 pub run_first-returns-in-Returned-clause-reads : goal.run_first-returns-in-Returned-clause-reads
 run_first-returns-in-Returned-clause-reads t c = grind (arith, reads_in_turn)
-
-pub run_left-returns-in-Retried-clause-reads : goal.run_left-returns-in-Retried-clause-reads
-run_left-returns-in-Retried-clause-reads t c = grind (arith, reads_in_turn)
