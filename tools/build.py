@@ -166,16 +166,16 @@ def end_with_children():
 def main():
     parser = argparse.ArgumentParser(description=__doc__, formatter_class=argparse.RawDescriptionHelpFormatter)
     parser.add_argument("program", help="the name of a crate")
-    parser.add_argument("--jobs", type=int, default=0, metavar="N", help="checks at a time, by default as processors and memory allow")
+    parser.add_argument("--jobs", type=int, default=0, metavar="N", help="checks at a time, else as many as there is room for")
     asked = parser.parse_args()
     end_with_children()
     crate = repository.crates().get(asked.program) or sys.exit(f"crates.txt names no crate {asked.program}")
     ledger = parts.Ledger(LEDGER)
-    done = sum(ledger.find(f"proof {it.name}", it.digest()) is not None for it in crate.below)
-    progress = Progress(crate.name, done, len(crate.below) + 1)
+    done = [it for it in crate.below if it.is_built() and ledger.find(f"proof {it.name}", it.digest()) is not None]
+    progress = Progress(crate.name, len(done), len(crate.below) + 1)
     shows = threading.Thread(target=progress.show, daemon=True)
     shows.start()
-    made = [proof(it, progress.heard) for it in crate.below] + [proof(crate, progress.heard, anew=True)]
+    made = [proof(it, progress.heard, anew=it not in done) for it in [*crate.below, crate]]
     failed = parts.run_parts(made, ledger, asked.jobs, progress.told)[1]
     progress.ended.set()
     shows.join()

@@ -53,7 +53,8 @@ def of_crate(crate, anew=False):
     name, made = crate.name, [build.proof(crate, anew=anew)]
     made.append(parts.Part(f"layout {name}", lambda jobs: layout(crate), [crate.own_digest]))
     if crate.has_tests:
-        made.append(parts.Part(f"tests {name}", lambda jobs: tests(crate, jobs), [crate.digest], [made[0].name], crate.weight, 4))
+        work = lambda jobs: tests(crate, jobs)
+        made.append(parts.Part(f"tests {name}", work, [crate.digest], [made[0].name], crate.weight, 4))
     for tier, found in zip(("edit", SECOND), crate.edits()):
         for edit in found:
             work = lambda jobs, it=edit: edits.try_edit(crate, it)
@@ -86,7 +87,7 @@ def lacking(ledger):
     found = {it.name for it in programs} if any(map(is_stale, of_runs(programs))) else set()
     for crate in crates:
         if crate.name in found or any(map(is_stale, of_crate(crate))):
-            found |= {it.name for it in crate.below if not (it.folder / "out/rlib/stamp").exists()}
+            found |= {it.name for it in crate.below if not it.is_built()}
     return found
 
 

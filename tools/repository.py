@@ -35,6 +35,10 @@ class Crate:
         second = self.folder.parent.parent / "tests" / "edits" / self.name
         return sorted(self.folder.glob("must-fail/*.edit")), sorted(second.glob("*.edit"))
 
+    def is_built(self):
+        """Whether a library stands in out/ that the toolchain can take, if its text is still the same."""
+        return (self.folder / "out" / "rlib" / "stamp").exists()
+
     def own_digest(self):
         """A hash of the crate's own text and line, and of the toolchain."""
         return digest(toolchain(), self.line, *(contents(self.folder / it) for it in TEXTS + GIVEN))
