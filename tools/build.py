@@ -20,12 +20,15 @@ import repository
 
 LEDGER = repository.ROOT / "out" / "passed.json"
 RUNNING, BUILT = set(), set()  # the commands that run now; the libraries that this run has seen built
+STOPPED = threading.Event()  # set once this program is to end
 PROVED = re.compile(r"checked |(fn|struct|enum) .*: proved$|statements |crate |logic ")
 
 
 @contextlib.contextmanager
 def started(words, folder, **how):
     """A command that is ended where this program is."""
+    if STOPPED.is_set():
+        raise OSError("stopped")
     ran = subprocess.Popen(words, cwd=folder, stdout=subprocess.PIPE, **how)
     RUNNING.add(ran)
     try:
@@ -47,9 +50,9 @@ def run(words, folder, heard=None):
     return ran.returncode, lines
 
 
-def faults(lines):
-    """The end of what a failed command said, without the lines on what is proved."""
-    return "\n".join(["", *[it for it in lines if not PROVED.match(it)][-40:]])
+def faults(status, lines):
+    """How a failed command ended and the end of what it said, without the lines on what is proved."""
+    return "\n".join([f"status {status}", *[it for it in lines if not PROVED.match(it)][-40:]])
 
 
 def build_library(crate, jobs=1):
@@ -60,7 +63,7 @@ def build_library(crate, jobs=1):
     with repository.workroom(crate) as folder:
         status, lines = run(["rt", "lib", "--jobs", str(jobs)], folder)
     if status:
-        return faults(lines)
+        return faults(status, lines)
     BUILT.add(crate.name)
     return None
 
@@ -70,7 +73,7 @@ def build_below(crate):
     for it in crate.below:
         why = build_library(it)
         if why:
-            return f"{it.name} below it was not built{why}"
+            return f"{it.name} below it was not built: {why}"
     return None
 
 
@@ -81,10 +84,8 @@ def run_program(crate, folder, jobs):
     with started(words, folder, stdin=subprocess.PIPE, stderr=subprocess.PIPE) as ran:
         written, said = ran.communicate(given["stdin"])
     lines = said.decode(errors="replace").splitlines()
-    if not any(it.startswith("rt: running ") for it in lines):
-        return faults(lines)
-    if ran.returncode != int(given["status"] or 0):
-        return f"it ended with status {ran.returncode}{faults(lines)}"
+    if not any(it.startswith("rt: running ") for it in lines) or ran.returncode != int(given["status"] or 0):
+        return faults(ran.returncode, lines)
     return None if written == given["stdout"] else "it writes something else than its file stdout has"
 
 
@@ -101,7 +102,7 @@ def prove(crate, jobs, heard=lambda line: None):
         else:
             for words in ["rt", "check"], ["rt", "lib"]:
                 status, lines = run([*words, "--jobs", str(jobs)], folder, heard)
-                why = why or (faults(lines) if status else None)
+                why = why or (faults(status, lines) if status else None)
                 if why:
                     break
     if why:
@@ -153,6 +154,7 @@ class Progress:
 
 def end_running(*_):
     """Ends what runs, and then this program, which gives back each out/ that it works on."""
+    STOPPED.set()
     for it in [*RUNNING]:
         it.terminate()
     sys.exit(130)

@@ -32,14 +32,14 @@ def layout(crate):
         status, lines = build.run(["rt", "fmt"], folder)
     found = [it.rpartition(" ")[2] for it in lines if it.startswith("rt: formatted ")]
     if status or found:
-        return 0, 1, build.faults(lines) if status else f"run rt fmt for {' '.join(found)}"
+        return 0, 1, build.faults(status, lines) if status else f"run rt fmt for {' '.join(found)}"
     return 1, 0, ""
 
 
 def tests(crate, jobs):
     with repository.workroom(crate) as folder:
         status, lines = build.run(["rt", "test", "--jobs", str(jobs)], folder)
-    return (0, 1, build.faults(lines)) if status else (1, 0, "")
+    return (0, 1, build.faults(status, lines)) if status else (1, 0, "")
 
 
 def on_programs(command):

@@ -36,7 +36,7 @@ def try_edit(crate, edit):
         status, lines = build.run(["rt", "check", "--jobs", "1"], folder)
     if status and any(it.startswith("logic=not-proved") for it in lines):
         return 1, 0, ""
-    return 0, 1, f"it did not reach the prover{build.faults(lines)}" if status else "the crate is still proved with it"
+    return 0, 1, f"it did not reach the prover: {build.faults(status, lines)}" if status else "the crate is still proved with it"
 
 
 def keys(crate, edit):
