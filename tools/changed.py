@@ -1,0 +1,97 @@
+"""What a change has to pass, part by part: the gate over what earlier checks kept."""
+
+import sys
+
+import build
+import edits
+import parts
+import repository
+
+ROOT = repository.ROOT
+SECOND = "second-tier edit"
+# What is run on the built programs: what is shown, the script of tests/, and the program that it is given, if it is.
+RUNS = [
+    ("cases and examples", "run_cases", "stmdesk"),
+    ("calls", "run_calls", "stm_calls"),
+    ("each allocation refused in turn", "refused", None),
+]
+
+
+def runs(root=ROOT):
+    """The runs on built programs that are there: what each shows, and its command in the repository."""
+    found = []
+    for shown, script, program in RUNS:
+        if (root / "tests" / script).exists():
+            found.append((shown, [sys.executable, f"tests/{script}"] + [f"crates/{program}/out/{program}"] * bool(program)))
+    return found
+
+
+def layout(crate):
+    """Whether the crate's files are in the layout of `rt fmt`: counts and a text."""
+    with repository.room(crate) as folder:
+        status, lines = build.run(["rt", "fmt"], folder)
+    found = [it.rpartition(" ")[2] for it in lines if it.startswith("rt: formatted ")]
+    if status or found:
+        return 0, 1, build.faults(status, lines) if status else f"run rt fmt for {' '.join(found)}"
+    return 1, 0, ""
+
+
+def tests(crate, jobs):
+    with repository.workroom(crate) as folder:
+        status, lines = build.run(["rt", "test", "--jobs", str(jobs)], folder)
+    return (0, 1, build.faults(status, lines)) if status else (1, 0, "")
+
+
+def on_programs(command):
+    status, lines = build.run(command, ROOT)
+    passed, failed = parts.counted("\n".join(lines))
+    return passed, failed or bool(status), "\n".join(["", *lines]) if failed or status else ""
+
+
+def of_crate(crate, anew=False):
+    """The parts that judge a crate."""
+    name, made = crate.name, [build.proof(crate, anew=anew)]
+    made.append(parts.Part(f"layout {name}", lambda jobs: layout(crate), [crate.own_digest]))
+    if crate.has_tests:
+        work = lambda jobs: tests(crate, jobs)
+        made.append(parts.Part(f"tests {name}", work, [crate.digest], [made[0].name], crate.weight, 4))
+    for tier, found in zip(("edit", SECOND), crate.edits()):
+        for edit in found:
+            work = lambda jobs, it=edit: edits.try_edit(crate, it)
+            part = f"{tier} {name}/{edit.stem}"
+            made.append(parts.Part(part, work, edits.keys(crate, edit), [made[0].name], crate.weight // 4))
+    return made
+
+
+def of_runs(programs):
+    """The parts that run the programs."""
+    texts = [it for it in sorted((ROOT / "tests").iterdir()) if it.name not in ("edits", "budget", "__pycache__")]
+    texts += [ROOT / it for it in ("examples", "README.md", "docs")]
+    key = lambda: repository.digest(*(it.digest() for it in programs), *map(repository.contents, texts))
+    after = [f"proof {it.name}" for it in programs]
+    return [parts.Part(shown, lambda jobs, it=command: on_programs(it), [key], after) for shown, command in runs()]
+
+
+def all_parts(again=()):
+    """All parts, each behind those that it waits for. The crates named are proved again though they passed."""
+    crates = repository.crates().values()
+    made = [part for it in crates for part in of_crate(it, it.name in again)]
+    return made + of_runs([it for it in crates if it.is_program])
+
+
+def lacking(ledger):
+    """The crates whose proofs passed, while what they build is needed by a part that didn't, and isn't there."""
+    crates = repository.crates().values()
+    is_stale = lambda part: ledger.find(part.name, part.keys[0]()) is None
+    programs = [it for it in crates if it.is_program]
+    found = {it.name for it in programs} if any(map(is_stale, of_runs(programs))) else set()
+    for crate in crates:
+        if crate.name in found or any(map(is_stale, of_crate(crate))):
+            found |= {it.name for it in crate.below if not it.is_built()}
+    return found
+
+
+def judge(jobs):
+    """Judges what changed since it last passed. Returns how many passed, failed and were unchanged."""
+    ledger = parts.Ledger(build.LEDGER)
+    return parts.run_parts(all_parts(lacking(ledger)), ledger, jobs, lambda line: print(line, flush=True))
