@@ -12,6 +12,7 @@ mod console;
 mod declaring;
 mod desk;
 mod judging;
+pub mod laws;
 mod output;
 mod program;
 mod reading;
