@@ -48,7 +48,6 @@ fn check_read(
     }
 }
 
-#[tactic(auto, using(crate::proofs::Noted::note_all_append))]
 fn check_write(
     alloc: Global,
     names: &Names,
@@ -99,7 +98,6 @@ fn check_throw(alloc: Global, names: &Names, uses: &mut Vec<(u32, Ty)>, number: 
 }
 
 #[cycle(actions)]
-#[tactic(auto, using(crate::proofs::Noted::note_all_append))]
 fn check_if(
     alloc: Global,
     names: &Names,
@@ -118,17 +116,15 @@ fn check_if(
     if !same(kind, BOOL) {
         return Err(TypeFault::Mismatch(place(condition)));
     }
-    let (a, one) = check_action(alloc, names, uses, first)?;
-    let (b, other) = check_action(alloc, names, uses, second)?;
+    let (a, one) = check_part(alloc, names, uses, first)?;
+    let (b, other) = check_part(alloc, names, uses, second)?;
     let Some(kind) = join(one, other) else {
         return Err(TypeFault::Mismatch(at));
     };
-    let whole = Action::If(test, Box::new(alloc, a)?, Box::new(alloc, b)?);
-    Ok((whole, kind))
+    Ok((Action::If(test, a, b), kind))
 }
 
 #[cycle(actions)]
-#[tactic(auto, using(crate::proofs::Noted::note_all_append))]
 fn check_or_else(
     alloc: Global,
     names: &Names,
@@ -142,17 +138,15 @@ fn check_or_else(
     ensures uses { IfOk result (λ r. uses.new.items ≡ noted_act names.now (act_of r.0) uses.old.items) }
     ensures low { IfOk result (λ r. IsLow r.1) }
 {
-    let (a, left) = check_action(alloc, names, uses, first)?;
-    let (b, right) = check_action(alloc, names, uses, second)?;
+    let (a, left) = check_part(alloc, names, uses, first)?;
+    let (b, right) = check_part(alloc, names, uses, second)?;
     let Some(kind) = join(left, right) else {
         return Err(TypeFault::Mismatch(at));
     };
-    let whole = Action::OrElse(Box::new(alloc, a)?, Box::new(alloc, b)?);
-    Ok((whole, kind))
+    Ok((Action::OrElse(a, b), kind))
 }
 
 #[cycle(actions)]
-#[tactic(auto, using(crate::proofs::Noted::note_all_append))]
 fn check_bind(
     alloc: Global,
     names: &Names,
@@ -167,7 +161,7 @@ fn check_bind(
     ensures uses { IfOk result (λ r. uses.new.items ≡ noted_act names.now (act_of r.0) uses.old.items) }
     ensures low { IfOk result (λ r. IsLow r.1) }
 {
-    let (a, kind) = check_action(alloc, names, uses, bound)?;
+    let (a, kind) = check_part(alloc, names, uses, bound)?;
     let Some(kind) = kind else {
         return Err(TypeFault::Untyped(at));
     };
@@ -177,13 +171,11 @@ fn check_bind(
         text: names.text,
         locals: &Scope::Local(name, kind, names.locals),
     };
-    let (b, kind) = check_action(alloc, &inner, uses, rest)?;
-    let whole = Action::Bind(Box::new(alloc, a)?, Box::new(alloc, b)?);
-    Ok((whole, kind))
+    let (b, kind) = check_part(alloc, &inner, uses, rest)?;
+    Ok((Action::Bind(a, b), kind))
 }
 
 #[cycle(actions)]
-#[tactic(auto, using(crate::proofs::Noted::note_all_append))]
 fn check_let(
     alloc: Global,
     names: &Names,
@@ -204,12 +196,11 @@ fn check_let(
         text: names.text,
         locals: &Scope::Local(name, kind, names.locals),
     };
-    let (b, kind) = check_action(alloc, &inner, uses, rest)?;
-    Ok((Action::Let(a, Box::new(alloc, b)?), kind))
+    let (b, kind) = check_part(alloc, &inner, uses, rest)?;
+    Ok((Action::Let(a, b), kind))
 }
 
 #[cycle(actions)]
-#[tactic(auto, using(crate::proofs::Noted::note_all_append))]
 fn check_seq(
     alloc: Global,
     names: &Names,
@@ -222,10 +213,28 @@ fn check_seq(
     ensures uses { IfOk result (λ r. uses.new.items ≡ noted_act names.now (act_of r.0) uses.old.items) }
     ensures low { IfOk result (λ r. IsLow r.1) }
 {
-    let (a, _) = check_action(alloc, names, uses, statement)?;
-    let (b, kind) = check_action(alloc, names, uses, rest)?;
-    let whole = Action::Seq(Box::new(alloc, a)?, Box::new(alloc, b)?);
-    Ok((whole, kind))
+    let (a, _) = check_part(alloc, names, uses, statement)?;
+    let (b, kind) = check_part(alloc, names, uses, rest)?;
+    Ok((Action::Seq(a, b), kind))
+}
+
+/// The check of an action that is part of another. It is boxed here, so that no memory is asked for where parts wait for
+/// each other.
+#[cycle(actions)]
+fn check_part(
+    alloc: Global,
+    names: &Names,
+    uses: &mut Vec<(u32, Ty)>,
+    raw: &RawAction,
+) -> Result<(Box<Action>, Option<Ty>), TypeFault>
+    requires { CanCheck names.now (raw_act_of raw.now) }
+    ensures says { Says (λ r. (act_of r.0.value, result_type r.1)) result (act_found names.now (raw_act_of raw.now)) }
+    ensures uses { IfOk result (λ r. uses.new.items ≡ noted_act names.now (act_of r.0.value) uses.old.items) }
+    ensures low { IfOk result (λ r. IsLow r.1) }
+{
+    let (action, kind) = check_action(alloc, names, uses, raw)?;
+    let part = Box::new(alloc, action)?;
+    Ok((part, kind))
 }
 
 /// The action with its names resolved, and the type of its result, with none for any; or the first fault.

@@ -1,9 +1,9 @@
 //! From the bytes of a reader to the bytes of a writer.
 
-ghost use Rattle.std.specs.Prelude.{◌≡◌, ◌++◌, ℕ, List, OnOk, OnErr, IfSome, IsErrOf, Some};
+ghost use Rattle.std.specs.Prelude.{◌≡◌, [], ◌++◌, ℕ, List, OnOk, OnErr, IfSome, IsErrOf, Some};
 ghost use Rattle.std.specs.Io.KnownBytes.{Appends};
 ghost use Rattle.stm_terms.specs.Texts.{IsPrefixOf};
-ghost use Rattle.stm_console.specs.Console.{console_text, whole_lines_text};
+ghost use Rattle.stm_console.specs.Console.{start, console_text, whole_lines_text};
 
 use crate::output::flush;
 use crate::session::Session;
@@ -20,6 +20,46 @@ pub enum RunFault {
     Write,
     #[error("stmdesk: out of memory")]
     NoMemory,
+}
+
+/// A run in a session that begins. `run` owns the session, so that this function, with a loop and many ends, owns nothing.
+fn run_session<R: Read, W: Write>(
+    alloc: Global,
+    session: &mut Session,
+    reader: &mut R,
+    writer: &mut W,
+) -> Result<(), RunFault>
+    requires console { session.old.console ≡ start }
+    requires line { session.old.line.items ≡ [] }
+    // The whole text of the input was written.
+    ensures answered { OnOk result (IfSome (R.remaining reader.old) (λ input.
+        Appends (W.contents writer.old) (W.contents writer.new) (console_text input))) }
+    // After a read fault it is the text of the lines that were whole before.
+    ensures read_fault { IsErrOf result RunFault.Read → IfSome (R.remaining reader.old) (λ input.
+        (taken rest : List ℕ) × (input ≡ taken ++ rest) × (R.remaining reader.new ≡ Some rest)
+        × Appends (W.contents writer.old) (W.contents writer.new) (whole_lines_text taken)) }
+    // After any fault it is a prefix of the text.
+    ensures part { OnErr result (IfSome (R.remaining reader.old) (λ input.
+        (front : List ℕ) × IsPrefixOf front (console_text input)
+        × Appends (W.contents writer.old) (W.contents writer.new) front)) }
+{
+    let mut buffer = [0u8; 8_192];
+    'reads: for _ in 0..u32::MAX {
+        match reader.read(&mut buffer) {
+            Ok(count) => {
+                if count == 0 {
+                    session.end(alloc, writer)?;
+                    flush(writer)?;
+                    return Ok(());
+                }
+                session.take_bytes(alloc, &buffer[..count], writer)?;
+                flush(writer)?;
+            }
+            Err(fault) if fault.kind() == ErrorKind::Interrupted => {}
+            Err(_) => return Err(RunFault::Read),
+        }
+    }
+    Err(RunFault::Read)
 }
 
 /// Reads commands by line to the end of the input and writes the answer to each before it reads more.
@@ -41,21 +81,5 @@ pub fn run<R: Read, W: Write>(alloc: Global, reader: &mut R, writer: &mut W) -> 
         × Appends (W.contents writer.old) (W.contents writer.new) front)) }
 {
     let mut session = Session::new(alloc);
-    let mut buffer = [0u8; 8_192];
-    'reads: for _ in 0..u32::MAX {
-        match reader.read(&mut buffer) {
-            Ok(count) => {
-                if count == 0 {
-                    session.end(alloc, writer)?;
-                    flush(writer)?;
-                    return Ok(());
-                }
-                session.take_bytes(alloc, &buffer[..count], writer)?;
-                flush(writer)?;
-            }
-            Err(fault) if fault.kind() == ErrorKind::Interrupted => {}
-            Err(_) => return Err(RunFault::Read),
-        }
-    }
-    Err(RunFault::Read)
+    run_session(alloc, &mut session, reader, writer)
 }

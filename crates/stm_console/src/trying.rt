@@ -1,6 +1,10 @@
 //! `try` and `looks`: a block on the present store.
 
 ghost use Rattle.std.specs.Prelude.{◌≡◌, ◌++◌, Some, string_bytes, OnOk};
+ghost use Rattle.stm_terms.specs.Looks.{reads_of};
+ghost use Rattle.stm_terms.specs.Verdict.{verdict};
+ghost use Rattle.stm_terms.specs.Views.{cell_value};
+ghost use Rattle.stm_store.specs.Cells.{Covers, plains};
 ghost use Rattle.stm_store.specs.Tables.{opened};
 ghost use Rattle.stm_console.specs.Commands.{try_answer, looks_answer, verdict_line, reads_line};
 
@@ -8,6 +12,7 @@ use crate::desk::Desk;
 use crate::reading::read_block;
 use crate::refusal::write_refusal;
 use std::alloc::Global;
+use stm_check::Typed;
 use stm_eval::{Reads, try_block};
 use stm_store::Table;
 use stm_terms::NoMemory;
@@ -33,6 +38,24 @@ fn write_reads_line(reads: &Reads, out: &mut String) -> Result<(), NoMemory>
     out.push_str("\n")
 }
 
+/// Appends the verdict of a block on the present store.
+fn write_tried(alloc: Global, desk: &Desk, block: &Typed, out: &mut String) -> Result<(), NoMemory>
+    requires { Covers (plains desk.now) block.now.uses }
+    ensures { OnOk result (string_bytes out.new ≡ string_bytes out.old ++ verdict_line (verdict (cell_value (plains desk.now)) block.now.tree)) }
+{
+    let (verdict, _reads) = try_block(alloc, desk.frozen(), block)?;
+    write_verdict_line(&verdict, out)
+}
+
+/// Appends what a block reads on the present store.
+fn write_looked(alloc: Global, desk: &Desk, block: &Typed, out: &mut String) -> Result<(), NoMemory>
+    requires { Covers (plains desk.now) block.now.uses }
+    ensures { OnOk result (string_bytes out.new ≡ string_bytes out.old ++ reads_line (reads_of (cell_value (plains desk.now)) block.now.tree)) }
+{
+    let (_verdict, reads) = try_block(alloc, desk.frozen(), block)?;
+    write_reads_line(&reads, out)
+}
+
 /// Answers `try`: the verdict of a block.
 #[tactic(auto, unfolding(crate::specs::Commands::try_answer, crate::specs::Commands::present))]
 pub fn answer_try(
@@ -46,15 +69,8 @@ pub fn answer_try(
     ensures { OnOk result (string_bytes out.new ≡ string_bytes out.old ++ try_answer (record { declared = table.now; store = Some desk.now }) text.now) }
 {
     match read_block(alloc, table, text) {
-        Ok(block) => {
-            let (verdict, _reads) = try_block(alloc, desk.frozen(), &block)?;
-            write_verdict_line(&verdict, out)?;
-            Ok(())
-        }
-        Err(refusal) => {
-            write_refusal(refusal, out)?;
-            Ok(())
-        }
+        Ok(block) => write_tried(alloc, desk, &block, out),
+        Err(refusal) => write_refusal(refusal, out),
     }
 }
 
@@ -71,14 +87,7 @@ pub fn answer_looks(
     ensures { OnOk result (string_bytes out.new ≡ string_bytes out.old ++ looks_answer (record { declared = table.now; store = Some desk.now }) text.now) }
 {
     match read_block(alloc, table, text) {
-        Ok(block) => {
-            let (_verdict, reads) = try_block(alloc, desk.frozen(), &block)?;
-            write_reads_line(&reads, out)?;
-            Ok(())
-        }
-        Err(refusal) => {
-            write_refusal(refusal, out)?;
-            Ok(())
-        }
+        Ok(block) => write_looked(alloc, desk, &block, out),
+        Err(refusal) => write_refusal(refusal, out),
     }
 }

@@ -1,7 +1,7 @@
 //! The actions that have no actions in them, run on the log.
 
 ghost use Rattle.std.specs.Prelude.{◌≡◌, ◌≢◌, ◌+◌, ◌≤◌, ◌<◌, ◌^◌, length, OnOk, IfOk};
-ghost use Rattle.stm_terms.specs.Trees.{term_of, read, write, make, throw};
+ghost use Rattle.stm_terms.specs.Trees.{term_of, return, read, write, make, throw};
 ghost use Rattle.stm_terms.specs.Views.{cell_value};
 ghost use Rattle.stm_terms.specs.Run.{run, Stuck};
 ghost use Rattle.stm_terms.specs.Looks.{looks, noted};
@@ -15,6 +15,17 @@ use stm_terms::eval::eval_expr;
 use stm_terms::expr::Expr;
 use stm_terms::kinds::Ty;
 use stm_terms::values::{Fault, Value};
+
+/// `return value`.
+pub(crate) fn run_return(frozen: &Frozen, value: &Expr, locals: &[Value], log: &Log) -> Ending
+    requires { run (cell_value frozen.now) (return (term_of value.now)) locals.now log.now.top ≢ Stuck }
+    ensures { run (cell_value frozen.now) (return (term_of value.now)) locals.now log.now.top ≡ outcome result log.now.top }
+{
+    match eval_expr(value, locals) {
+        Ok(v) => Ending::Returned(v),
+        Err(f) => Ending::Threw(f),
+    }
+}
 
 /// `readTVar at`.
 pub(crate) fn run_read(

@@ -1,8 +1,11 @@
 //! The descent through actions. An action comes with the place of its first word.
+//!
+//! An action is boxed as soon as it is whole, so no memory is asked for while its parts wait to be put together.
 
-ghost use Rattle.std.specs.Prelude.{◌≡◌, ◌+◌, ◌-◌, ◌<◌, ◌≤◌, length, IfOk};
-ghost use Rattle.stm_terms.specs.RawTrees.{raw_act_of, return, read, make, throw};
-ghost use Rattle.stm_parse.specs.Grammar.{deepest, widest};
+ghost use Rattle.std.specs.Prelude.{◌≡◌, ◌+◌, ◌-◌, ◌<◌, ◌≤◌, length, List, IfOk, Ok};
+ghost use Rattle.stm_terms.specs.RawTrees.{Act, raw_act_of, return, read, make, throw};
+ghost use Rattle.stm_parse.specs.Grammar.{Placed, deepest, widest};
+ghost use Rattle.stm_parse.specs.declared.lexeme.Lexeme.{Lexeme};
 ghost use Rattle.stm_parse.specs.Reading.{Gives, atom_at, tier_at, action_at, paren_at, body_at, closed, block, if_of, or_else_of, bound, let_bound, sequence, two_operands};
 
 use crate::descent::{behind, expect, expect_name, is_name_sym, too_deep, unexpected};
@@ -11,9 +14,34 @@ use crate::lexeme::{Lexeme, Mark, Stop, Sym};
 use std::alloc::Global;
 use stm_terms::RawAction;
 
+// An action that is whole.
+fn whole<'t>(
+    alloc: Global,
+    action: RawAction,
+    toks: &'t [Lexeme],
+) -> Result<(Box<RawAction>, &'t [Lexeme]), Stop>
+    ensures gives { Gives {Y = Act × List Lexeme} (λ r. (raw_act_of r.0.value, r.1.now)) result (Ok (raw_act_of action, toks.now)) }
+    ensures shorter { IfOk result (λ r. length r.1.now ≤ length toks.now) }
+{
+    let action = Box::new(alloc, action)?;
+    Ok((action, toks))
+}
+
+// An action that is whole, with its place.
+fn placed<'t>(
+    alloc: Global,
+    action: RawAction,
+    place: usize,
+    toks: &'t [Lexeme],
+) -> Result<((Box<RawAction>, usize), &'t [Lexeme]), Stop>
+    ensures gives { Gives {Y = Placed × List Lexeme} (λ r. ((raw_act_of r.0.0.value, r.0.1), r.1.now)) result (Ok ((raw_act_of action, place), toks.now)) }
+    ensures shorter { IfOk result (λ r. length r.1.now ≤ length toks.now) }
+{
+    let action = Box::new(alloc, action)?;
+    Ok(((action, place), toks))
+}
+
 /// An action.
-#[cycle(actions)]
-#[tactic(auto, using(crate::proofs::ActLevels::inside_act_none, crate::proofs::ActLevels::inside_act_some), unfolding(crate::specs::Reading::action_at))]
 pub fn action<'t>(
     alloc: Global,
     levels: u8,
@@ -21,6 +49,22 @@ pub fn action<'t>(
 ) -> Result<((RawAction, usize), &'t [Lexeme]), Stop>
     requires { levels ≤ deepest }
     ensures gives { Gives (λ r. ((raw_act_of r.0.0, r.0.1), r.1.now)) result (action_at levels toks.now) }
+    ensures shorter { IfOk result (λ r. length r.1.now ≤ length toks.now) }
+{
+    let ((action, place), rest) = boxed_action(alloc, levels, toks)?;
+    Ok(((Box::into_inner(action), place), rest))
+}
+
+// An action.
+#[cycle(actions)]
+#[tactic(auto, using(crate::proofs::ActLevels::inside_act_none, crate::proofs::ActLevels::inside_act_some), unfolding(crate::specs::Reading::action_at))]
+fn boxed_action<'t>(
+    alloc: Global,
+    levels: u8,
+    toks: &'t [Lexeme],
+) -> Result<((Box<RawAction>, usize), &'t [Lexeme]), Stop>
+    requires { levels ≤ deepest }
+    ensures gives { Gives (λ r. ((raw_act_of r.0.0.value, r.0.1), r.1.now)) result (action_at levels toks.now) }
     ensures shorter { IfOk result (λ r. length r.1.now ≤ length toks.now) }
 {
     let Some((first, rest)) = toks.split_first() else {
@@ -56,22 +100,22 @@ pub fn action<'t>(
         }
         Mark::Return => {
             let (value, rest) = atom(alloc, levels, rest)?;
-            Ok(((RawAction::Return(value), first.start), rest))
+            placed(alloc, RawAction::Return(value), first.start, rest)
         }
         Mark::Read => {
             let (variable, rest) = atom(alloc, levels, rest)?;
-            Ok(((RawAction::Read(variable), first.start), rest))
+            placed(alloc, RawAction::Read(variable), first.start, rest)
         }
         Mark::Make => {
             let (value, rest) = atom(alloc, levels, rest)?;
-            Ok(((RawAction::Make(value), first.start), rest))
+            placed(alloc, RawAction::Make(value), first.start, rest)
         }
         Mark::Throw => {
             let (number, rest) = atom(alloc, levels, rest)?;
-            Ok(((RawAction::Throw(number), first.start), rest))
+            placed(alloc, RawAction::Throw(number), first.start, rest)
         }
         Mark::Write => write(alloc, levels, first.start, rest),
-        Mark::Retry => Ok(((RawAction::Retry, first.start), rest)),
+        Mark::Retry => placed(alloc, RawAction::Retry, first.start, rest),
         _ => Err(unexpected(toks)),
     }
 }
@@ -82,14 +126,14 @@ fn write<'t>(
     levels: u8,
     place: usize,
     toks: &'t [Lexeme],
-) -> Result<((RawAction, usize), &'t [Lexeme]), Stop>
+) -> Result<((Box<RawAction>, usize), &'t [Lexeme]), Stop>
     requires { levels ≤ deepest }
-    ensures gives { Gives (λ r. ((raw_act_of r.0.0, r.0.1), r.1.now)) result (two_operands (atom_at levels) place toks.now) }
+    ensures gives { Gives (λ r. ((raw_act_of r.0.0.value, r.0.1), r.1.now)) result (two_operands (atom_at levels) place toks.now) }
     ensures shorter { IfOk result (λ r. length r.1.now ≤ length toks.now) }
 {
     let (variable, rest) = atom(alloc, levels, toks)?;
     let (value, rest) = atom(alloc, levels, rest)?;
-    Ok(((RawAction::Write(variable, value), place), rest))
+    placed(alloc, RawAction::Write(variable, value), place, rest)
 }
 
 // Behind "(".
@@ -98,12 +142,12 @@ fn closed<'t>(
     alloc: Global,
     levels: u8,
     toks: &'t [Lexeme],
-) -> Result<((RawAction, usize), &'t [Lexeme]), Stop>
+) -> Result<((Box<RawAction>, usize), &'t [Lexeme]), Stop>
     requires { levels ≤ deepest }
-    ensures gives { Gives (λ r. ((raw_act_of r.0.0, r.0.1), r.1.now)) result (closed (action_at levels) toks.now) }
+    ensures gives { Gives (λ r. ((raw_act_of r.0.0.value, r.0.1), r.1.now)) result (closed (action_at levels) toks.now) }
     ensures shorter { IfOk result (λ r. length r.1.now ≤ length toks.now) }
 {
-    let (inner, rest) = action(alloc, levels, toks)?;
+    let (inner, rest) = boxed_action(alloc, levels, toks)?;
     let (_, rest) = expect(Mark::Close, rest)?;
     Ok((inner, rest))
 }
@@ -115,9 +159,9 @@ fn paren<'t>(
     alloc: Global,
     levels: u8,
     toks: &'t [Lexeme],
-) -> Result<((RawAction, usize), &'t [Lexeme]), Stop>
+) -> Result<((Box<RawAction>, usize), &'t [Lexeme]), Stop>
     requires { levels ≤ deepest }
-    ensures gives { Gives (λ r. ((raw_act_of r.0.0, r.0.1), r.1.now)) result (paren_at levels toks.now) }
+    ensures gives { Gives (λ r. ((raw_act_of r.0.0.value, r.0.1), r.1.now)) result (paren_at levels toks.now) }
     ensures shorter { IfOk result (λ r. length r.1.now ≤ length toks.now) }
 {
     let Some((first, rest)) = toks.split_first() else {
@@ -139,15 +183,14 @@ fn or_else<'t>(
     levels: u8,
     place: usize,
     toks: &'t [Lexeme],
-) -> Result<((RawAction, usize), &'t [Lexeme]), Stop>
+) -> Result<((Box<RawAction>, usize), &'t [Lexeme]), Stop>
     requires { levels ≤ deepest }
-    ensures gives { Gives (λ r. ((raw_act_of r.0.0, r.0.1), r.1.now)) result (or_else_of (paren_at levels) place toks.now) }
+    ensures gives { Gives (λ r. ((raw_act_of r.0.0.value, r.0.1), r.1.now)) result (or_else_of (paren_at levels) place toks.now) }
     ensures shorter { IfOk result (λ r. length r.1.now ≤ length toks.now) }
 {
     let ((first, _), rest) = paren(alloc, levels, toks)?;
     let ((second, at), rest) = paren(alloc, levels, rest)?;
-    let both = RawAction::OrElse(Box::new(alloc, first)?, at, Box::new(alloc, second)?);
-    Ok(((both, place), rest))
+    placed(alloc, RawAction::OrElse(first, at, second), place, rest)
 }
 
 // Behind if.
@@ -157,23 +200,18 @@ fn if_then_else<'t>(
     levels: u8,
     place: usize,
     toks: &'t [Lexeme],
-) -> Result<((RawAction, usize), &'t [Lexeme]), Stop>
+) -> Result<((Box<RawAction>, usize), &'t [Lexeme]), Stop>
     requires { levels ≤ deepest }
-    ensures gives { Gives (λ r. ((raw_act_of r.0.0, r.0.1), r.1.now)) result (if_of (tier_at widest levels) (action_at levels) place toks.now) }
+    ensures gives { Gives (λ r. ((raw_act_of r.0.0.value, r.0.1), r.1.now)) result (if_of (tier_at widest levels) (action_at levels) place toks.now) }
     ensures shorter { IfOk result (λ r. length r.1.now ≤ length toks.now) }
 {
     let (condition, rest) = expression(alloc, levels, toks)?;
     let (_, rest) = expect(Mark::Then, rest)?;
-    let ((first, _), rest) = action(alloc, levels, rest)?;
+    let ((first, _), rest) = boxed_action(alloc, levels, rest)?;
     let (_, rest) = expect(Mark::Else, rest)?;
-    let ((second, at), rest) = action(alloc, levels, rest)?;
-    let choice = RawAction::If(
-        condition,
-        Box::new(alloc, first)?,
-        at,
-        Box::new(alloc, second)?,
-    );
-    Ok(((choice, place), rest))
+    let ((second, at), rest) = boxed_action(alloc, levels, rest)?;
+    let choice = RawAction::If(condition, first, at, second);
+    placed(alloc, choice, place, rest)
 }
 
 // Behind "do".
@@ -183,9 +221,9 @@ fn block<'t>(
     levels: u8,
     place: usize,
     toks: &'t [Lexeme],
-) -> Result<((RawAction, usize), &'t [Lexeme]), Stop>
+) -> Result<((Box<RawAction>, usize), &'t [Lexeme]), Stop>
     requires { levels ≤ deepest }
-    ensures gives { Gives (λ r. ((raw_act_of r.0.0, r.0.1), r.1.now)) result (block (body_at levels) place toks.now) }
+    ensures gives { Gives (λ r. ((raw_act_of r.0.0.value, r.0.1), r.1.now)) result (block (body_at levels) place toks.now) }
     ensures shorter { IfOk result (λ r. length r.1.now ≤ length toks.now) }
 {
     let (_, rest) = expect(Mark::BraceOpen, toks)?;
@@ -201,9 +239,9 @@ fn body<'t>(
     alloc: Global,
     levels: u8,
     toks: &'t [Lexeme],
-) -> Result<(RawAction, &'t [Lexeme]), Stop>
+) -> Result<(Box<RawAction>, &'t [Lexeme]), Stop>
     requires { levels ≤ deepest }
-    ensures gives { Gives (λ r. (raw_act_of r.0, r.1.now)) result (body_at levels toks.now) }
+    ensures gives { Gives (λ r. (raw_act_of r.0.value, r.1.now)) result (body_at levels toks.now) }
     ensures shorter { IfOk result (λ r. length r.1.now ≤ length toks.now) }
 {
     let Some((first, rest)) = toks.split_first() else {
@@ -226,23 +264,16 @@ fn bound<'t>(
     start: usize,
     end: usize,
     toks: &'t [Lexeme],
-) -> Result<(RawAction, &'t [Lexeme]), Stop>
+) -> Result<(Box<RawAction>, &'t [Lexeme]), Stop>
     requires { levels ≤ deepest }
-    ensures gives { Gives (λ r. (raw_act_of r.0, r.1.now)) result (bound (action_at levels) (body_at levels) start end toks.now) }
+    ensures gives { Gives (λ r. (raw_act_of r.0.value, r.1.now)) result (bound (action_at levels) (body_at levels) start end toks.now) }
     ensures shorter { IfOk result (λ r. length r.1.now ≤ length toks.now) }
 {
     let (_, rest) = expect(Mark::Arrow, toks)?;
-    let ((first, at), rest) = action(alloc, levels, rest)?;
+    let ((first, at), rest) = boxed_action(alloc, levels, rest)?;
     let (_, rest) = expect(Mark::Semicolon, rest)?;
     let (then, rest) = body(alloc, levels, rest)?;
-    let all = RawAction::Bind(
-        start,
-        end,
-        at,
-        Box::new(alloc, first)?,
-        Box::new(alloc, then)?,
-    );
-    Ok((all, rest))
+    whole(alloc, RawAction::Bind(start, end, at, first, then), rest)
 }
 
 // Behind let.
@@ -251,9 +282,9 @@ fn let_bound<'t>(
     alloc: Global,
     levels: u8,
     toks: &'t [Lexeme],
-) -> Result<(RawAction, &'t [Lexeme]), Stop>
+) -> Result<(Box<RawAction>, &'t [Lexeme]), Stop>
     requires { levels ≤ deepest }
-    ensures gives { Gives (λ r. (raw_act_of r.0, r.1.now)) result (let_bound (tier_at widest levels) (body_at levels) toks.now) }
+    ensures gives { Gives (λ r. (raw_act_of r.0.value, r.1.now)) result (let_bound (tier_at widest levels) (body_at levels) toks.now) }
     ensures shorter { IfOk result (λ r. length r.1.now ≤ length toks.now) }
 {
     let (name, rest) = expect_name(toks)?;
@@ -261,8 +292,8 @@ fn let_bound<'t>(
     let (value, rest) = expression(alloc, levels, rest)?;
     let (_, rest) = expect(Mark::Semicolon, rest)?;
     let (then, rest) = body(alloc, levels, rest)?;
-    let all = RawAction::Let(name.start, name.end, value, Box::new(alloc, then)?);
-    Ok((all, rest))
+    let all = RawAction::Let(name.start, name.end, value, then);
+    whole(alloc, all, rest)
 }
 
 // An action, and the rest of the body behind a semicolon.
@@ -271,16 +302,15 @@ fn sequence<'t>(
     alloc: Global,
     levels: u8,
     toks: &'t [Lexeme],
-) -> Result<(RawAction, &'t [Lexeme]), Stop>
+) -> Result<(Box<RawAction>, &'t [Lexeme]), Stop>
     requires { levels ≤ deepest }
-    ensures gives { Gives (λ r. (raw_act_of r.0, r.1.now)) result (sequence (action_at levels) (body_at levels) toks.now) }
+    ensures gives { Gives (λ r. (raw_act_of r.0.value, r.1.now)) result (sequence (action_at levels) (body_at levels) toks.now) }
     ensures shorter { IfOk result (λ r. length r.1.now ≤ length toks.now) }
 {
-    let ((first, _), rest) = action(alloc, levels, toks)?;
+    let ((first, _), rest) = boxed_action(alloc, levels, toks)?;
     let Some(rest) = behind(Mark::Semicolon, rest) else {
         return Ok((first, rest));
     };
     let (then, rest) = body(alloc, levels, rest)?;
-    let all = RawAction::Seq(Box::new(alloc, first)?, Box::new(alloc, then)?);
-    Ok((all, rest))
+    whole(alloc, RawAction::Seq(first, then), rest)
 }

@@ -1,7 +1,7 @@
 //! The descent through expressions. Each function reads a tree from the front of the tokens.
 
-ghost use Rattle.std.specs.Prelude.{◌≡◌, ◌+◌, ◌-◌, ◌<◌, ◌≤◌, ◌∷◌, length, IfOk, pos, neg_ℤ};
-ghost use Rattle.stm_terms.specs.RawTrees.{raw_term_of};
+ghost use Rattle.std.specs.Prelude.{◌≡◌, ◌+◌, ◌-◌, ◌<◌, ◌≤◌, ◌∷◌, length, IfOk, IfErr, pos, neg_ℤ};
+ghost use Rattle.stm_terms.specs.RawTrees.{raw_term_of, bin};
 ghost use Rattle.stm_parse.specs.Grammar.{deepest, widest, greatest};
 ghost use Rattle.stm_parse.specs.Reading.{Gives, in_reach, literal, bracketed, short_of, refuse, init, atom_at, tier_at, tail_at};
 
@@ -10,7 +10,7 @@ use crate::descent::{
 };
 use crate::lexeme::{Lexeme, Mark, Stop, Sym};
 use std::alloc::Global;
-use stm_terms::RawExpr;
+use stm_terms::{Op, RawExpr};
 
 // The tier of whole expressions.
 const WIDEST: u8 = 5;
@@ -152,6 +152,16 @@ fn tier<'t>(
     tail(alloc, levels, width - 1, first, rest)
 }
 
+// An operator with its operands.
+fn joined(alloc: Global, op: Op, left: RawExpr, right: RawExpr) -> Result<RawExpr, Stop>
+    ensures value { IfOk result (λ e. raw_term_of e ≡ bin op (raw_term_of left) (raw_term_of right)) }
+    ensures refused { IfErr result (λ e. e ≡ Stop.Memory) }
+{
+    let left = Box::new(alloc, left)?;
+    let right = Box::new(alloc, right)?;
+    Ok(RawExpr::Bin(op, left, right))
+}
+
 // What may follow the first operand of the operators of a tier.
 #[cycle(expressions)]
 #[tactic(auto, using(crate::proofs::Levels::tail_more))]
@@ -173,17 +183,17 @@ fn tail<'t>(
     match groups(width) {
         Grouping::ToLeft => {
             let (right, rest) = tier(alloc, levels, width, rest)?;
-            let both = RawExpr::Bin(op, Box::new(alloc, left)?, Box::new(alloc, right)?);
+            let both = joined(alloc, op, left, right)?;
             tail(alloc, levels, width, both, rest)
         }
         Grouping::NotChained => {
             let (right, rest) = tier(alloc, levels, width, rest)?;
-            let both = RawExpr::Bin(op, Box::new(alloc, left)?, Box::new(alloc, right)?);
+            let both = joined(alloc, op, left, right)?;
             Ok((both, rest))
         }
         Grouping::ToRight => {
             let (right, rest) = tier(alloc, levels, width + 1, rest)?;
-            let both = RawExpr::Bin(op, Box::new(alloc, left)?, Box::new(alloc, right)?);
+            let both = joined(alloc, op, left, right)?;
             Ok((both, rest))
         }
     }

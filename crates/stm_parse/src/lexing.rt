@@ -1,16 +1,17 @@
 //! The tokens of a text as the grammar sees them, in one pass over its bytes.
 
-ghost use Rattle.std.specs.Prelude.{◌≡◌, ◌-◌, ◌<◌, ◌≤◌, length, drop, true, MatchResult, IfOk, IfErr};
+ghost use Rattle.std.specs.Prelude.{◌≡◌, ◌-◌, ◌<◌, ◌≤◌, ◌∷◌, length, take, drop, true, MatchResult, IfOk, IfErr};
 ghost use Rattle.std.specs.List.{list_all};
 ghost use Rattle.std.specs.Str.{IsAscii};
 ghost use Rattle.stm_terms.specs.Names.{is_word_byte, starts_small};
 ghost use Rattle.stm_parse.specs.declared.cutting.Kind.TheVariants as kind;
-ghost use Rattle.stm_parse.specs.Lexing.{word_mark, sym_of};
+ghost use Rattle.stm_parse.specs.Bytes.{is_letter, word_len, number_len, number_of};
+ghost use Rattle.stm_parse.specs.Lexing.{control_mark, action_mark, value_mark, word_mark, sym_of};
 ghost use Rattle.stm_parse.specs.Parsing.{Lexes};
 ghost use Rattle.stm_parse.specs.Pieces.{front_seen, IsSeen};
 ghost use Rattle.stm_parse.specs.RawBlocks.{NamesOf};
 ghost use Rattle.stm_parse.specs.Told.{TellsFault};
-ghost use Rattle.stm_parse.specs.Tokens.{symbol_front, front_of, tokens_of, IsOfTokens, IsWithin};
+ghost use Rattle.stm_parse.specs.Tokens.{symbol_front, word_front, number_front, front_of, tokens_of, IsOfTokens, IsWithin};
 
 use crate::cutting::{
     Kind, is_blank, is_digit, is_letter, number_len, number_of, pair_mark, single_mark, word_len,
@@ -29,32 +30,65 @@ pub enum Piece {
     BadNumber,
 }
 
-// A reserved word.
-#[tactic(auto, unfolding(crate::specs::Lexing::control_mark, crate::specs::Lexing::action_mark, crate::specs::Lexing::value_mark))]
-fn word_mark(word: &[u8]) -> Option<Mark>
-    ensures { result ≡ word_mark word.now }
+// A word of control.
+#[tactic(auto, unfolding(crate::specs::Lexing::control_mark))]
+fn control_mark(word: &[u8]) -> Option<Mark>
+    ensures { result ≡ control_mark word.now }
 {
     match word {
         b"do" => Some(Mark::Do),
-        b"if" => Some(Mark::If),
         b"let" => Some(Mark::Let),
-        b"Int" => Some(Mark::Int),
+        b"if" => Some(Mark::If),
         b"then" => Some(Mark::Then),
         b"else" => Some(Mark::Else),
-        b"True" => Some(Mark::True),
-        b"Bool" => Some(Mark::Bool),
-        b"TVar" => Some(Mark::Var),
-        b"retry" => Some(Mark::Retry),
-        b"throw" => Some(Mark::Throw),
-        b"catch" => Some(Mark::Catch),
-        b"False" => Some(Mark::False),
-        b"return" => Some(Mark::Return),
-        b"orElse" => Some(Mark::OrElse),
-        b"newTVar" => Some(Mark::Make),
-        b"readTVar" => Some(Mark::Read),
-        b"writeTVar" => Some(Mark::Write),
         _ => None,
     }
+}
+
+// A word that begins an action.
+#[tactic(auto, unfolding(crate::specs::Lexing::action_mark))]
+fn action_mark(word: &[u8]) -> Option<Mark>
+    ensures { result ≡ action_mark word.now }
+{
+    match word {
+        b"return" => Some(Mark::Return),
+        b"readTVar" => Some(Mark::Read),
+        b"writeTVar" => Some(Mark::Write),
+        b"newTVar" => Some(Mark::Make),
+        b"retry" => Some(Mark::Retry),
+        b"orElse" => Some(Mark::OrElse),
+        b"throw" => Some(Mark::Throw),
+        b"catch" => Some(Mark::Catch),
+        _ => None,
+    }
+}
+
+// A word for a value or a type.
+#[tactic(auto, unfolding(crate::specs::Lexing::value_mark))]
+fn value_mark(word: &[u8]) -> Option<Mark>
+    ensures { result ≡ value_mark word.now }
+{
+    match word {
+        b"True" => Some(Mark::True),
+        b"False" => Some(Mark::False),
+        b"Int" => Some(Mark::Int),
+        b"Bool" => Some(Mark::Bool),
+        b"TVar" => Some(Mark::Var),
+        _ => None,
+    }
+}
+
+// A reserved word.
+fn word_mark(word: &[u8]) -> Option<Mark>
+    ensures { result ≡ word_mark word.now }
+{
+    if let Some(mark) = control_mark(word) {
+        return Some(mark);
+    }
+    if let Some(mark) = action_mark(word) {
+        return Some(mark);
+    }
+    value_mark(word)
 }
 
 fn starts_small(word: &[u8]) -> bool
@@ -106,8 +140,39 @@ fn symbol_piece(bytes: &[u8]) -> Piece
     }
 }
 
+// A word, of which the first letter is given.
+#[tactic(auto, using(crate::proofs::Words::word_bytes, crate::proofs::Words::word_len_more))]
+fn word_piece(first: u8, rest: &[u8], bytes: &[u8]) -> Piece
+    requires bytes { bytes.now ≡ first ∷ rest.now }
+    requires letter { is_letter first ≡ true }
+    ensures front { front_seen result ≡ word_front (word_len bytes.now) }
+    ensures sym { IsSeen bytes.now result }
+    ensures within { IsWithin (front_seen result) (length bytes.now) }
+{
+    let n = 1 + word_len(rest);
+    if n > 32 {
+        Piece::LongName
+    } else {
+        Piece::Found(Kind::Word, word_sym(&bytes[..n]), n)
+    }
+}
+
+// A number, which has a digit.
+fn number_piece(bytes: &[u8]) -> Piece
+    requires { 0 < number_len bytes.now }
+    ensures front { front_seen result ≡ number_front (number_len bytes.now) (number_of (take (number_len bytes.now) bytes.now)) }
+    ensures sym { IsSeen bytes.now result }
+    ensures within { IsWithin (front_seen result) (length bytes.now) }
+{
+    let n = number_len(bytes);
+    match number_of(&bytes[..n]) {
+        Some(value) => Piece::Found(Kind::Number, Sym::Number(value), n),
+        None => Piece::BadNumber,
+    }
+}
+
 /// What stands at the front of some bytes.
-#[tactic(auto, unfolding(crate::specs::Tokens::front_of), using(crate::proofs::Words::letter_not_blank, crate::proofs::Words::word_bytes, crate::proofs::Words::word_len_more))]
+#[tactic(auto, unfolding(crate::specs::Tokens::front_of), using(crate::proofs::Words::letter_not_blank))]
 pub(crate) fn first_piece(bytes: &[u8]) -> Piece
     ensures front { front_seen result ≡ front_of bytes.now }
     ensures sym { IsSeen bytes.now result }
@@ -117,20 +182,11 @@ pub(crate) fn first_piece(bytes: &[u8]) -> Piece
         return Piece::BadByte;
     };
     if is_letter(*first) {
-        let n = 1 + word_len(rest);
-        if n > 32 {
-            Piece::LongName
-        } else {
-            Piece::Found(Kind::Word, word_sym(&bytes[..n]), n)
-        }
+        word_piece(*first, rest, bytes)
     } else if is_blank(*first) {
         Piece::Blank
     } else if is_digit(*first) {
-        let n = number_len(bytes);
-        match number_of(&bytes[..n]) {
-            Some(value) => Piece::Found(Kind::Number, Sym::Number(value), n),
-            None => Piece::BadNumber,
-        }
+        number_piece(bytes)
     } else {
         symbol_piece(bytes)
     }

@@ -8,12 +8,11 @@ use Rattle.stm_check.proofs.whole.check_raw.Goals as goal
 pub of_checked-requires-clause-typed : goal.of_checked-requires-clause-typed
 of_checked-requires-clause-typed c =
     let says = rw c.as_str.ensures.value at c.in_ok-action.ensures.says in
-    let uses = rw c.new-uses.ensures.items at c.in_ok-action.ensures.uses in
-    kept_type c.args.table.now (string_bytes c.args.text) (raw_act_of c.args.raw) (act_of c.in_ok-action.action) (result_type c.in_ok-action.result_type) c.check_action.new.uses.items says uses
+    kept_type c.args.table.now (string_bytes c.args.text) (raw_act_of c.args.raw.now) (act_of c.in_ok-action.action) (result_type c.in_ok-action.kind) c.in_ok-action.uses.items says c.in_ok-action.ensures.uses
 
 pub of_checked-requires-clause-small : goal.of_checked-requires-clause-small
 of_checked-requires-clause-small c =
     let says = rw c.as_str.ensures.value at c.in_ok-action.ensures.says in
-    let few : makes (act_of c.in_ok-action.action) ≤ actions (raw_act_of c.args.raw) =
-    kept_small c.args.table.now (string_bytes c.args.text) (raw_act_of c.args.raw) (act_of c.in_ok-action.action) (result_type c.in_ok-action.result_type) says in
+    let few : makes (act_of c.in_ok-action.action) ≤ actions (raw_act_of c.args.raw.now) =
+    kept_small c.args.table.now (string_bytes c.args.text) (raw_act_of c.args.raw.now) (act_of c.in_ok-action.action) (result_type c.in_ok-action.kind) says in
     omega arith

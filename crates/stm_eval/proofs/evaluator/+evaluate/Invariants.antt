@@ -30,3 +30,9 @@ decreases-step l = 3 * size (act_of l.action.now)
 
 abbrev pub decreases-run_left : goal.decreases-run_left
 decreases-run_left l = 3 * size (act_of l.left.now) + 3 * size (act_of l.right.now) + 2
+
+abbrev pub decreases-run_bound : goal.decreases-run_bound
+decreases-run_bound l = 3 * size (act_of l.bound.now) + 3 * size (act_of l.rest.now) + 2
+
+abbrev pub decreases-run_first : goal.decreases-run_first
+decreases-run_first l = 3 * size (act_of l.first.now) + 3 * size (act_of l.rest.now) + 2

@@ -2,8 +2,8 @@
 use Rattle.std.proofs.Common.{◌+◌, ◌*◌, length}
 use Rattle.stm_parse.proofs.do_block.+actions.Given as goal
 
-abbrev pub decreases-action : goal.decreases-action
-decreases-action l = 4 * length l.toks.now + 0
+abbrev pub decreases-boxed_action : goal.decreases-boxed_action
+decreases-boxed_action l = 4 * length l.toks.now + 0
 
 abbrev pub decreases-closed : goal.decreases-closed
 decreases-closed l = 4 * length l.toks.now + 1

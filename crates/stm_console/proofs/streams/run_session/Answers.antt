@@ -2,8 +2,8 @@ use Rattle.std.proofs.Common.{rules, sym, [], ◌++◌, append-nil}
 use Rattle.std.proofs.KnownBytes.{Appends-trans, Appends-kept, Consumes-trans, Consumes-kept}
 use Rattle.std.proofs.lemmas.Result.{err_from_is_err_and}
 use Rattle.stm_console.proofs.Running as Running
-use Rattle.stm_console.proofs.streams.run.Goals as goal
-use Rattle.stm_console.proofs.streams.run.Goals.{in-Ok+else-count-eq0+in_ok-take_bytes-in-Ok+in_ok-flush-in-Ok-2, in-Err}
+use Rattle.stm_console.proofs.streams.run_session.Goals as goal
+use Rattle.stm_console.proofs.streams.run_session.Goals.{in-Ok+else-count-eq0+in_ok-take_bytes-in-Ok+in_ok-flush-in-Ok-2, in-Err}
 
 pub returns-in_err-end-in-Ok-clause-part : goal.returns-in_err-end-in-Ok-clause-part
 returns-in_err-end-in-Ok-clause-part g c =
