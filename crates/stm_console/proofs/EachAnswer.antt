@@ -91,25 +91,25 @@ typing_told (typed.TypeTooDeep n) h = refl
 typing_told typed.NoMemory h = absurd (h refl)
 
 -- where a variable is declared, its value is of its type; where it is refused, the refusal is told
-Declares : List Declared → Result Declared Refusal → Type 0
-Declares table (Ok d) = may_hold (declared_cells table) d.kind d.value ≡ true
-Declares table (Err e) = is_told e ≡ true
+MayHoldOrTold : List Declared → Result Declared Refusal → Type 0
+MayHoldOrTold table (Ok d) = may_hold (declared_cells table) d.kind d.value ≡ true
+MayHoldOrTold table (Err e) = is_told e ≡ true
 
 abbrev judged_by : Bool → Bool → Bool → Option DeclareError
 judged_by twice holds room = cond twice (Some declare.Twice) (cond (not holds) (Some declare.TypeOfValue) (cond room None (Some declare.TableFull)))
 
-declares_value : (table : List Declared) (name : List ℕ) (d : Declared) → Declares table (unless_refused d (declare_refusal table name d.kind d.value))
-unfolding Declares
+declares_value : (table : List Declared) (name : List ℕ) (d : Declared) → MayHoldOrTold table (unless_refused d (declare_refusal table name d.kind d.value))
+unfolding MayHoldOrTold
 declares_value table name d = by (is_some (number_of name table)) (may_hold (declared_cells table) d.kind d.value) refl (nat_lt (length table) 1000000)
   where
-    by : (twice holds : Bool) → may_hold (declared_cells table) d.kind d.value ≡ holds → (room : Bool) → Declares table (unless_refused d (judged_by twice holds room))
+    by : (twice holds : Bool) → may_hold (declared_cells table) d.kind d.value ≡ holds → (room : Bool) → MayHoldOrTold table (unless_refused d (judged_by twice holds room))
     by true holds e room = refl
     by false false e room = refl
     by false true e true = e
     by false true e false = refl
 
-declares_initial : (table : List Declared) (d : ParsedDeclaration) (r : Result Value Refusal) → initial table d.init ≡ r → Declares table (with_value table d.name d.kind r)
-unfolding Declares
+declares_initial : (table : List Declared) (d : ParsedDeclaration) (r : Result Value Refusal) → initial table d.init ≡ r → MayHoldOrTold table (with_value table d.name d.kind r)
+unfolding MayHoldOrTold
 declares_initial table d (Ok v) e = declares_value table d.name (record { name = d.name; kind = d.kind; value = v })
 declares_initial table d (Err x) e = of d.init e
   where
@@ -122,31 +122,31 @@ declares_initial table d (Err x) e = of d.init e
     of (named name place) q = referred place (number_of name table) q
 
 module _ (blocks : BlockAnswersAreRight) (declarations : DeclarationAnswersAreRight) (accepts : AcceptsTheWellTyped) (faults : FaultsAreTheText) (enough : OwnVariablesAreEnough) (fits : VerdictFits) where
-  declares_tree : (table : List Declared) (text : List ℕ) (r : Result Tree ParseFault) → IsAnswer IsDeclaration text r → Declares table (on_declaration table (said_of text r))
-  unfolding Declares
+  declares_tree : (table : List Declared) (text : List ℕ) (r : Result Tree ParseFault) → IsAnswer IsDeclaration text r → MayHoldOrTold table (on_declaration table (said_of text r))
+  unfolding MayHoldOrTold
   declares_tree table text (Ok t) h = declares_initial table _ _ refl
   declares_tree table text (Err f) h = parsing_told f h.0
 
-  declares : (table : List Declared) (text : List ℕ) → Declares table (variable_of table text)
+  declares : (table : List Declared) (text : List ℕ) → MayHoldOrTold table (variable_of table text)
   unfolding variable_of parsed_declaration
   declares table text = declares_tree table text (declared_tree text) (declarations text)
 
   -- a block of a text is well typed; where there is none, the refusal is told
-  Blocks : List Declared → Result Act Refusal → Type 0
-  Blocks table (Ok a) = (r : ActionType) × (action_type (table_kinds table) [] a ≡ Some r)
-  Blocks table (Err e) = is_told e ≡ true
+  TypedOrTold : List Declared → Result Act Refusal → Type 0
+  TypedOrTold table (Ok a) = (r : ActionType) × (action_type (table_kinds table) [] a ≡ Some r)
+  TypedOrTold table (Err e) = is_told e ≡ true
 
-  blocks_checked : (table : List Declared) (text : List ℕ) (tree : raw.Act) (r : Result (Act × ActionType) TypeFault) → checked table text [] tree ≡ r → Blocks table (typed_block r)
-  unfolding Blocks
+  blocks_checked : (table : List Declared) (text : List ℕ) (tree : raw.Act) (r : Result (Act × ActionType) TypeFault) → checked table text [] tree ≡ r → TypedOrTold table (typed_block r)
+  unfolding TypedOrTold
   blocks_checked table text tree (Ok x) e = (x.1, ((accepts table text tree [] x.0 x.1).0 e).1)
   blocks_checked table text tree (Err f) e = typing_told f (λ q. faults table text tree [] (e ∙ ap Err q))
 
-  blocks_parsed : (table : List Declared) (text : List ℕ) (r : Result raw.Act ParseFault) → IsAnswer IsBlock text r → Blocks table (on_block table text r)
-  unfolding Blocks
+  blocks_parsed : (table : List Declared) (text : List ℕ) (r : Result raw.Act ParseFault) → IsAnswer IsBlock text r → TypedOrTold table (on_block table text r)
+  unfolding TypedOrTold
   blocks_parsed table text (Ok tree) h = blocks_checked table text tree (checked table text [] tree) refl
   blocks_parsed table text (Err f) h = parsing_told f h.0
 
-  blocks_of : (table : List Declared) (text : List ℕ) → Blocks table (block_of table text)
+  blocks_of : (table : List Declared) (text : List ℕ) → TypedOrTold table (block_of table text)
   unfolding block_of
   blocks_of table text = blocks_parsed table text (parsed_block text) (blocks text)
 
@@ -161,20 +161,20 @@ module _ (blocks : BlockAnswersAreRight) (declarations : DeclarationAnswersAreRi
   verdict_ends v (Some w) e = (verdict_text w, refl)
   verdict_ends v None e = absurd cc
 
-  tried_ends : (table : List Declared) → StoreIsTyped (declared_cells table) → (cells : List Cell) → cells ≡ opened table → (r : Result Act Refusal) → Blocks table r → EndsALine (tried_text cells r)
-  unfolding Blocks
+  tried_ends : (table : List Declared) → StoreIsTyped (declared_cells table) → (cells : List Cell) → cells ≡ opened table → (r : Result Act Refusal) → TypedOrTold table r → EndsALine (tried_text cells r)
+  unfolding TypedOrTold
   tried_ends table t cells e (Ok a) h =
       let v = has_verdict table a h.0 t h.1 in
       verdict_ends v.0 (verdict (cell_value (plains cells)) a) (ap (λ cells. verdict (cell_value (plains cells)) a) e ∙ v.1)
   tried_ends table t cells e (Err x) h = refusal_ends x h
 
-  looked_ends : (table : List Declared) (cells : List Cell) (r : Result Act Refusal) → Blocks table r → EndsALine (looked_text cells r)
-  unfolding Blocks reads_line
+  looked_ends : (table : List Declared) (cells : List Cell) (r : Result Act Refusal) → TypedOrTold table r → EndsALine (looked_text cells r)
+  unfolding TypedOrTold reads_line
   looked_ends table cells (Ok a) h = (codes "reads " ++ list_text write_text (reads_of (cell_value (plains cells)) a), refl)
   looked_ends table cells (Err x) h = refusal_ends x h
 
-  declared_ends : (table : List Declared) (number : ℕ) (r : Result Declared Refusal) → Declares table r → EndsALine (declared_text number r)
-  unfolding Declares tvar_line
+  declared_ends : (table : List Declared) (number : ℕ) (r : Result Declared Refusal) → MayHoldOrTold table r → EndsALine (declared_text number r)
+  unfolding MayHoldOrTold tvar_line
   declared_ends table number (Ok d) h = (codes "tvar #" ++ decimal number ++ 32 ∷ d.name, refl)
   declared_ends table number (Err e) h = refusal_ends e h
 
@@ -221,10 +221,10 @@ module _ (blocks : BlockAnswersAreRight) (declarations : DeclarationAnswersAreRi
   reached_start = record { table_typed = λ i c e. absurd cc; stands = tt }
 
   reached_tvar : (s : ConsoleState) → IsReached s → (argument : List ℕ) → IsReached (tvar_state s argument)
-  unfolding tvar_state Declares
+  unfolding tvar_state MayHoldOrTold
   reached_tvar s h argument = by s.store h.stands
     where
-      more : (r : Result Declared Refusal) → Declares s.declared r → StoreIsTyped (declared_cells (with_variable s.declared r))
+      more : (r : Result Declared Refusal) → MayHoldOrTold s.declared r → StoreIsTyped (declared_cells (with_variable s.declared r))
       more (Ok d) k = typed_more s.declared d h.table_typed k
       more (Err e) k = h.table_typed
 
