@@ -21,7 +21,7 @@ covers_all cells [] us c = c
 covers_all cells (i ∷ is) us c =
     covers_all cells is (noted (kinds_of cells) i us) (covers_as cells us i (kinds_in us i) (kinds_of cells i) c refl)
 
-plains_opened : (t : List Declared) → plains (opened t) ≡ declared_cells t
+pub plains_opened : (t : List Declared) → plains (opened t) ≡ declared_cells t
 plains_opened [] = refl
 plains_opened (d ∷ t) = ap (λ (cs : List (Ty × Value)). declared_cell d ∷ cs) (plains_opened t)
 

@@ -1,5 +1,5 @@
 -- What clap answers to words.
-use Rattle.std.proofs.Common.{◌≡◌, ℕ, Bool, true, false, List, [], ◌∷◌, ◌&&◌, inl, inr, codes, refl, ap, ◌∙◌, subst}
+use Rattle.std.proofs.Common.{◌≡◌, ℕ, Bool, true, false, List, [], ◌∷◌, ◌++◌, ◌&&◌, inl, inr, codes, refl, ap, ◌∙◌, subst}
 use Rattle.std.proofs.lemmas.Bool.{false≢true}
 use Rattle.std.specs.List.{list_all}
 use Rattle.std.proofs.lemmas.Slice.Eq.{bytes_eq-Decides}
@@ -32,6 +32,18 @@ run_unanswered [] e = refl
 run_unanswered (name ∷ []) e = refl
 run_unanswered (name ∷ word ∷ []) e = named name word ((bytes_eq-Decides word (codes "run")).0 e)
 run_unanswered (name ∷ word ∷ next ∷ rest) e = absurd (false≢true e)
+
+-- nor with a last word `--`
+dashed : (name word : List ℕ) → word ≡ codes "run" → answers_of (name ∷ word ∷ codes "--" ∷ []) ≡ []
+unfolding answers_of clap_on_literals
+dashed name word e = rw e refl
+
+pub dashes_unanswered : (words : List (List ℕ)) → asks_for_run words ≡ true → answers_of (words ++ codes "--" ∷ []) ≡ []
+unfolding answers_of clap_on_literals
+dashes_unanswered [] e = refl
+dashes_unanswered (name ∷ []) e = refl
+dashes_unanswered (name ∷ word ∷ []) e = dashed name word ((bytes_eq-Decides word (codes "run")).0 e)
+dashes_unanswered (name ∷ word ∷ next ∷ rest) e = absurd (false≢true e)
 
 both : (a b : Bool) → (a && b) ≡ true → (a ≡ true) × (b ≡ true)
 both true b e = (refl, e)

@@ -2,6 +2,7 @@ pub mod Commands
 pub mod Console
 pub mod Continuing
 pub mod Judged
+pub mod Laws
 pub mod Lines
 pub mod Refusals
 pub mod Seen

@@ -1,12 +1,12 @@
 //! The program over its words and streams, and its exit status.
 
-ghost use Rattle.std.specs.Prelude.{◌≡◌, ◌≢◌, ◌⊎◌, ℕ, List, IfSome, IsTrue, map};
+ghost use Rattle.std.specs.Prelude.{◌≡◌, ◌≢◌, ◌⊎◌, ℕ, List, [], IfSome, IsTrue, map};
 ghost use Rattle.std.specs.Io.KnownBytes.{Appends, Keeps};
 ghost use Rattle.clap.specs.Values.{kind_of};
 ghost use Rattle.stm_terms.specs.Texts.{IsPrefixOf};
 ghost use Rattle.stm_console.specs.Console.{console_text};
 ghost use Rattle.stm_console.specs.Statuses.{status_of, IsStatus};
-ghost use Rattle.stm_console.specs.Words.{asks_for_help, asks_for_run, has_mistake, is_mistake};
+ghost use Rattle.stm_console.specs.Words.{answers_of, asks_for_help, has_mistake, is_mistake};
 
 use crate::command_line::read_words;
 use crate::streams::{RunFault, run};
@@ -47,6 +47,8 @@ fn tell_words<W: Write, E: Write>(error: &Error, writer: &mut W, errors: &mut E)
     ensures refused { result ≡ 2 → Keeps (W.contents writer.old) (W.contents writer.new) }
     ensures mistake { IsTrue (is_mistake (kind_of error.now)) → ((result ≡ 2) ⊎ (result ≡ 4))
         × Keeps (W.contents writer.old) (W.contents writer.new) }
+    ensures memory { kind_of error.now ≡ ErrorKind.OutOfMemory → (result ≡ 4)
+        × Keeps (W.contents writer.old) (W.contents writer.new) }
     ensures help { (kind_of error.now ≡ ErrorKind.OutOfMemory) ⊎ (kind_of error.now ≡ ErrorKind.DisplayHelp) → result ≢ 2 }
 {
     if error.kind() == ErrorKind::OutOfMemory {
@@ -75,14 +77,14 @@ pub fn start<'a, S: AsStr, R: Read, W: Write, E: Write>(
     errors: &mut E,
 ) -> u8
     ensures status { IsStatus result }
-    // The words of a run aren't refused.
-    ensures runs { IsTrue (asks_for_run (map S.text words.now)) → result ≢ 2 }
+    // Words of which there is nothing to tell are those of a run, as the name alone and `run` are, and aren't refused.
+    ensures runs { answers_of (map S.text words.now) ≡ [] → result ≢ 2 }
     // With status 0 the whole text of the input was written.
-    ensures answered { IsTrue (asks_for_run (map S.text words.now)) → result ≡ 0 →
+    ensures answered { answers_of (map S.text words.now) ≡ [] → result ≡ 0 →
         IfSome (R.remaining reader.old) (λ input.
         Appends (W.contents writer.old) (W.contents writer.new) (console_text input)) }
     // With any other it is a prefix of the text.
-    ensures part { IsTrue (asks_for_run (map S.text words.now)) → result ≢ 0 →
+    ensures part { answers_of (map S.text words.now) ≡ [] → result ≢ 0 →
         IfSome (R.remaining reader.old) (λ input.
         (front : List ℕ) × IsPrefixOf front (console_text input)
         × Appends (W.contents writer.old) (W.contents writer.new) front) }

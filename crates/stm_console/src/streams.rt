@@ -5,6 +5,7 @@ ghost use Rattle.std.specs.Io.KnownBytes.{Appends};
 ghost use Rattle.stm_terms.specs.Texts.{IsPrefixOf};
 ghost use Rattle.stm_console.specs.Console.{start, console_text, whole_lines_text};
 
+use crate::calls::Calls;
 use crate::output::flush;
 use crate::session::Session;
 use std::alloc::Global;
@@ -26,26 +27,27 @@ pub enum RunFault {
 fn run_session<R: Read, W: Write>(
     alloc: Global,
     session: &mut Session,
-    reader: &mut R,
+    calls: &mut Calls<R>,
     writer: &mut W,
 ) -> Result<(), RunFault>
     requires console { session.old.console ≡ start }
     requires line { session.old.line.items ≡ [] }
+    ensures same_reader { calls.new.reader.ghost_name ≡ calls.old.reader.ghost_name }
     // The whole text of the input was written.
-    ensures answered { OnOk result (IfSome (R.remaining reader.old) (λ input.
+    ensures answered { OnOk result (IfSome (R.remaining calls.old.reader.now) (λ input.
         Appends (W.contents writer.old) (W.contents writer.new) (console_text input))) }
     // After a read fault it is the text of the lines that were whole before.
-    ensures read_fault { IsErrOf result RunFault.Read → IfSome (R.remaining reader.old) (λ input.
-        (taken rest : List ℕ) × (input ≡ taken ++ rest) × (R.remaining reader.new ≡ Some rest)
+    ensures read_fault { IsErrOf result RunFault.Read → IfSome (R.remaining calls.old.reader.now) (λ input.
+        (taken rest : List ℕ) × (input ≡ taken ++ rest) × (R.remaining calls.new.reader.now ≡ Some rest)
         × Appends (W.contents writer.old) (W.contents writer.new) (whole_lines_text taken)) }
     // After any fault it is a prefix of the text.
-    ensures part { OnErr result (IfSome (R.remaining reader.old) (λ input.
+    ensures part { OnErr result (IfSome (R.remaining calls.old.reader.now) (λ input.
         (front : List ℕ) × IsPrefixOf front (console_text input)
         × Appends (W.contents writer.old) (W.contents writer.new) front)) }
 {
     let mut buffer = [0u8; 8_192];
-    'reads: for _ in 0..u32::MAX {
-        match reader.read(&mut buffer) {
+    'reads: while calls.may_read() {
+        match calls.read(&mut buffer) {
             Ok(count) => {
                 if count == 0 {
                     session.end(alloc, writer)?;
@@ -81,5 +83,6 @@ pub fn run<R: Read, W: Write>(alloc: Global, reader: &mut R, writer: &mut W) -> 
         × Appends (W.contents writer.old) (W.contents writer.new) front)) }
 {
     let mut session = Session::new(alloc);
-    run_session(alloc, &mut session, reader, writer)
+    let mut calls = Calls::new(reader);
+    run_session(alloc, &mut session, &mut calls, writer)
 }

@@ -12,7 +12,7 @@ use Rattle.stm_parse.specs.Grammar.{At, at, deepest, widest, Placed, IsAtom, is_
 use Rattle.stm_parse.specs.Faults.{Language}
 use Rattle.stm_parse.specs.Reading.{Reader, ◌>>=◌, unexpected, expect, closed, deeper, Level, paren_with, or_else_of, if_of, block, one_operand, two_operands, action_of, action_with, tier_at, atom_at, inside_act, action_at, body_at, body_turn}
 use Rattle.stm_parse.proofs.Says.{Says, Some_text, Then, then_, Mapped, mapped, says_end, says_refused, says_beyond, says_token, says_one}
-use Rattle.stm_parse.proofs.Good.{Reads, reads_step, reads_beyond, Good, good_chain, good_map, good_expect, each_says, each_reads, is_mark-true, is_mark-same, Any, some_mark, Token, token, allowed}
+use Rattle.stm_parse.proofs.Good.{Reads, reads_step, reads_beyond, only_deep, Good, good_chain, good_map, good_expect, each_says, each_reads, is_mark-true, is_mark-same, Any, some_mark, Token, token, allowed}
 use Rattle.stm_parse.proofs.Tiers.{Follows}
 use Rattle.stm_parse.proofs.Expressions.{Closing, good_closed, mark_follows, good_atom, good_tier}
 use Rattle.stm_parse.proofs.Bodies.{then_token, map_token, NoSemicolon, behind_mark, good_body, body_more as body_more_over}
@@ -64,9 +64,9 @@ module _ (d e : ℕ) (low : e ≤ deepest) where
       by true f (Some l) i = says_token (paren_with (Some l)) (closed l.action) (IsParen d e) (Closing e (IsAction d)) (at d x) s (allowed d x i.low) (λ s'. opens (Some l) x s' true f) (closing_to x (is_mark-true mark.Open x.sym f)) (each_says (closed l.action) (Closing e (IsAction d)) Any (good_action_closed l i) s)
 
   reads_paren : (one : Option Level) → LevelOf one d → (us : List At) (a : Placed) → IsParen d e us a → (rest : List Lexeme) → Reads (paren_with one) us a rest
-  reads_paren None i us a (is_paren {x} w {us = vs} o h c) rest = reads_beyond (paren_with None) cause.TooDeep (at d x) (vs ++ (at e w ∷ [])) a rest tt (λ k. let j = k.0 in absurd (omega arith)) (λ s. opens None x s true (is_mark-same mark.Open x.sym o))
+  reads_paren None i us a (is_paren {x} w {us = vs} o h c) rest = reads_beyond (paren_with None) cause.TooDeep (at d x) (vs ++ (at e w ∷ [])) a rest (inl i) (only_deep d 0 x) (λ s. opens None x s true (is_mark-same mark.Open x.sym o))
   reads_paren (Some l) i us a (is_paren {x} w {us = vs} o h c) rest =
-      reads_step (paren_with (Some l)) (closed l.action) (at d x) (vs ++ (at e w ∷ [])) a rest (λ s. opens (Some l) x s true (is_mark-same mark.Open x.sym o))
+      reads_step (paren_with (Some l)) (closed l.action) (at d x) (vs ++ (at e w ∷ [])) a rest (allowed d x i.low) (λ s. opens (Some l) x s true (is_mark-same mark.Open x.sym o))
       (each_reads (closed l.action) (Closing e (IsAction d)) Any (good_action_closed l i) (vs ++ (at e w ∷ [])) a rest (then_ vs (at e w ∷ []) a h (mapped (at e w ∷ []) w (token w c))) tt)
 
   pub good_paren : (one : Option Level) → LevelOf one d → (n : ℕ) → Good n (paren_with one) (IsParen d e) Any
@@ -150,8 +150,8 @@ module _ (atom : Reader Term) (one : Option Level) (d : ℕ) (low : d ≤ deepes
     reads_deeper us t rest h = by one i e
       where
         by : (o : Option Level) → LevelOf o (suc d) → ((s : List Lexeme) → r (x ∷ s) ≡ deeper o (λ l. go l s) (x ∷ s)) → Reads r (at (suc d) x ∷ us) t rest
-        by None j f = reads_beyond r cause.TooDeep (at (suc d) x) us t rest tt (λ k. let m = k.0 in absurd (omega arith)) f
-        by (Some l) j f = reads_step r (go l) (at (suc d) x) us t rest f (each_reads (go l) L Any (g l j) us t rest h tt)
+        by None j f = reads_beyond r cause.TooDeep (at (suc d) x) us t rest (inl j) (only_deep (suc d) 0 x) f
+        by (Some l) j f = reads_step r (go l) (at (suc d) x) us t rest (allowed (suc d) x j.low) f (each_reads (go l) L Any (g l j) us t rest h tt)
 
   do_to : (x : Lexeme) → IsMark mark.Do x → (us : List At) (t : Placed) → DoRest d x.start us t → IsAction d (at (suc d) x ∷ us) t
   do_to x p us t (then_ _ _ _ (token y q) (then_ _ _ b h (mapped _ _ (token w c)))) = is_do w p q h c
@@ -212,7 +212,7 @@ module _ (atom : Reader Term) (one : Option Level) (d : ℕ) (low : d ≤ deepes
 
   reads_one : (x : Lexeme) (f : Term → Act) → ((s : List Lexeme) → r (x ∷ s) ≡ one_operand atom f x.start s) → (us : List At) (e : Term) → IsAtom d us e → (rest : List Lexeme) → Reads r (at d x ∷ us) (f e, x.start) rest
   unfolding OneRest
-  reads_one x f q us e h rest = reads_step r (one_operand atom f x.start) (at d x) us (f e, x.start) rest q (each_reads (one_operand atom f x.start) (OneRest f x.start) Any (good_one f x.start) us (f e, x.start) rest (mapped us e h) tt)
+  reads_one x f q us e h rest = reads_step r (one_operand atom f x.start) (at d x) us (f e, x.start) rest (allowed d x low) q (each_reads (one_operand atom f x.start) (OneRest f x.start) Any (good_one f x.start) us (f e, x.start) rest (mapped us e h) tt)
 
   reads_action : (us : List At) (t : Placed) → IsAction d us t → (rest : List Lexeme) → Reads r us t rest
   unfolding TwoRest
@@ -228,8 +228,8 @@ module _ (atom : Reader Term) (one : Option Level) (d : ℕ) (low : d ≤ deepes
   reads_action us t (is_make {x} {us = vs} {e} p h) rest = reads_one x make (λ s. first (tok.Mark mark.Make) x s p) vs e h rest
   reads_action us t (is_throw {x} {us = vs} {e} p h) rest = reads_one x throw (λ s. first (tok.Mark mark.Throw) x s p) vs e h rest
   reads_action us t (is_write {x} {us = vs} {vs = ws} {r = v} {e} p h k) rest =
-      reads_step r (two_operands atom x.start) (at d x) (vs ++ ws) t rest (λ s. first (tok.Mark mark.Write) x s p) (each_reads (two_operands atom x.start) (TwoRest x.start) Any (good_two x.start) (vs ++ ws) t rest (then_ vs ws v h (mapped ws e k)) tt)
-  reads_action us t (is_retry {x} p) rest = inl (first (tok.Mark mark.Retry) x rest p)
+      reads_step r (two_operands atom x.start) (at d x) (vs ++ ws) t rest (allowed d x low) (λ s. first (tok.Mark mark.Write) x s p) (each_reads (two_operands atom x.start) (TwoRest x.start) Any (good_two x.start) (vs ++ ws) t rest (then_ vs ws v h (mapped ws e k)) tt)
+  reads_action us t (is_retry {x} p) rest = inl (first (tok.Mark mark.Retry) x rest p, (allowed d x low, tt))
   reads_action us t (is_brackets (is_paren {x} w {us = vs} {a} o h c)) rest =
       reads_deeper x (λ l. closed l.action) (Closing d (IsAction (suc d))) (λ s. first (tok.Mark mark.Open) x s o) good_open (vs ++ (at d w ∷ [])) t rest (then_ vs (at d w ∷ []) a h (mapped (at d w ∷ []) w (token w c)))
 

@@ -113,7 +113,7 @@ module _ {A : Type 0} (r : Reader A) (text : List ℕ) where
   unfolding answered
   small l = ap (λ b. cond b (Err fault.TooLarge) (of_tokens r text (tokens_of text))) (is_less most_bytes (length text) l)
 
-  fits_answer : (ls : List Lexeme) → Fits text ls → answered r text ≡ told_of ls (whole r ls)
+  pub fits_answer : (ls : List Lexeme) → Fits text ls → answered r text ≡ told_of ls (whole r ls)
   fits_answer ls f =
       let ts = f.1.0 in
       let e = ap length f.1.2 in

@@ -176,7 +176,7 @@ module _ (expression : Reader Term) (action : Reader Placed) (d : ℕ) (low : d 
   unfolding after_reader
   reads_after a us t after_none rest f g = reads_stop (after_reader a) a.0 rest (ap (after_action next a.0 rest) f)
   reads_after a us t (after_some {w} vs {b} c h) rest f g =
-      reads_step (after_reader a) (λ s. next s >>= λ b. Ok (seq a.0 b.0, b.1)) (at d w) vs (seq a.0 b) rest (λ s. ap (after_action next a.0 (w ∷ s)) (behind_mark mark.Semicolon w s true (is_mark-same mark.Semicolon w.sym c)))
+      reads_step (after_reader a) (λ s. next s >>= λ b. Ok (seq a.0 b.0, b.1)) (at d w) vs (seq a.0 b) rest (allowed d w low) (λ s. ap (after_action next a.0 (w ∷ s)) (behind_mark mark.Semicolon w s true (is_mark-same mark.Semicolon w.sym c)))
       (reads_map next (seq a.0) vs b rest (g vs b (omega arith) h))
 
   Sequence : Language Act
@@ -243,11 +243,11 @@ module _ (expression : Reader Term) (action : Reader Placed) (d : ℕ) (low : d 
     unfolding Body
     reads_body us t (is_bind {x} {y} w {us = vs} {vs = ws} {a} {b} p q h c g) rest l f =
         let list = at d y ∷ (vs ++ (at d w ∷ ws)) in
-        reads_step next (bound action next x.start x.end) (at d x) list t rest (λ s. turns x s true (is_mark mark.Let x.sym) (ap is_name_sym p) refl)
+        reads_step next (bound action next x.start x.end) (at d x) list t rest (allowed d x low) (λ s. turns x s true (is_mark mark.Let x.sym) (ap is_name_sym p) refl)
         ((good_bound (length list + length rest) x.start x.end (rec (length list + length rest) (omega arith))).reads list t rest (omega arith) (then_ (at d y ∷ []) (vs ++ (at d w ∷ ws)) y (token y q) (then_ vs (at d w ∷ ws) a h (then_ (at d w ∷ []) ws w (token w c) (mapped ws b g)))) f)
     reads_body us t (is_let {x} {y} {z} w {us = vs} {vs = ws} {e} {b} p q r h c g) rest l f =
         let list = at d y ∷ at d z ∷ (vs ++ (at d w ∷ ws)) in
-        reads_step next (let_bound expression next) (at d x) list t rest (λ s. turns x s false true (ap is_name_sym p) (is_mark-same mark.Let x.sym p))
+        reads_step next (let_bound expression next) (at d x) list t rest (allowed d x low) (λ s. turns x s false true (ap is_name_sym p) (is_mark-same mark.Let x.sym p))
         ((good_let (length list + length rest) (rec (length list + length rest) (omega arith))).reads list t rest (omega arith) (then_ (at d y ∷ []) (at d z ∷ (vs ++ (at d w ∷ ws))) y (token y q) (then_ (at d z ∷ []) (vs ++ (at d w ∷ ws)) z (token z r) (then_ vs (at d w ∷ ws) e h (then_ (at d w ∷ []) ws w (token w c) (mapped ws b g))))) f)
     reads_body us t (is_seq {d} w {us = vs} {vs = ws} {a} {b} h c g) rest l f = reads_sequence vs (at d w ∷ ws) a t rest l h (after_some ws c g) f
     reads_body us t (is_last {d} {us = vs} {a} h) rest l f =

@@ -1,5 +1,5 @@
 -- A reader that reads each text of its language and tells the first fault of all else, and how such readers are put together.
-use Rattle.std.proofs.Common.{◌≡◌, ◌≢◌, ℕ, zero, suc, ◌+◌, ◌<◌, ◌≤◌, List, [], ◌∷◌, ◌++◌, length, refl, sym, ap, ◌∙◌, subst, arith, length-append, Ok, Err, Bool, true, false, cond, ◌⊎◌, inl, inr, get_or}
+use Rattle.std.proofs.Common.{◌≡◌, ℕ, zero, suc, ◌+◌, ◌<◌, ◌≤◌, List, [], ◌∷◌, ◌++◌, length, refl, sym, ap, ◌∙◌, subst, arith, length-append, append_assoc, Ok, Err, Bool, true, false, cond, ◌⊎◌, inl, inr, get_or}
 use Rattle.std.proofs.lemmas.Bool.{eqb-true, eq-eqb}
 use Rattle.stm_parse.specs.declared.lexeme.Mark.{Mark}
 use Rattle.stm_parse.specs.declared.lexeme.Mark.TheVariants as mark
@@ -11,13 +11,24 @@ use Rattle.stm_parse.specs.declared.lexeme.Cause.{Cause}
 use Rattle.stm_parse.specs.declared.lexeme.Cause.TheVariants as cause
 use Rattle.stm_parse.specs.Marks.{code, is_mark, IsMark}
 use Rattle.stm_parse.specs.Reading.{Reading, Reader, ◌>>=◌, unexpected, expect, expect_name, is_name_sym}
-use Rattle.stm_parse.specs.Grammar.{At, at, plain, deepest, IsAllowed, WithinLimits}
-use Rattle.stm_parse.specs.Faults.{Language}
-use Rattle.stm_parse.proofs.Says.{plain-split, plain-length, within-front, within-back, Says, SaysOf, Some_text, Then, then_, Mapped, mapped, took_length, says_more, says_map, says_chain, says_end, says_refused, says_one, IsOfLimit, fault}
+use Rattle.stm_parse.specs.Grammar.{At, at, at_ref, at_number, plain, deepest, IsAllowed, WithinLimits}
+use Rattle.stm_parse.specs.Faults.{Language, IsBeyond}
+use Rattle.stm_parse.proofs.Says.{plain-split, plain-length, within-append, within-back, Says, SaysOf, Some_text, Then, then_, Mapped, mapped, took_length, says_more, says_map, says_chain, says_end, says_refused, says_one, fault}
 
--- this tree, or the fault of a limit
+-- the tokens are within the limits up to one that is past the limit of the fault and no other, and so far from the end
+pub record Passes (f : Fault) (us : List At) (rest : List Lexeme) : Type 0 where
+  pub front : List At
+  pub past : At
+  pub back : List At
+  pub cut : us ≡ front ++ (past ∷ back)
+  pub within : WithinLimits front
+  pub beyond : IsBeyond f.cause past
+  pub only : (c : Cause) → IsBeyond c past → c ≡ f.cause
+  pub left : f.left ≡ suc (length back + length rest)
+
+-- this tree of tokens within the limits, or the fault of the first that is past one
 abbrev pub Outcome : {A : Type 0} → Reading A → List At → A → List Lexeme → Type 0
-Outcome x us a rest = (x ≡ Ok (a, rest)) ⊎ (f : Fault) × (f.cause ≢ cause.Unexpected) × (x ≡ Err f) × (WithinLimits us → ⊥)
+Outcome x us a rest = ((x ≡ Ok (a, rest)) × WithinLimits us) ⊎ (f : Fault) × (x ≡ Err f) × Passes f us rest
 
 abbrev pub Reads : {A : Type 0} → Reader A → List At → A → List Lexeme → Type 0
 Reads r us a rest = Outcome (r (plain us ++ rest)) us a rest
@@ -25,30 +36,67 @@ Reads r us a rest = Outcome (r (plain us ++ rest)) us a rest
 pub reads_same : {A : Type 0} (r r' : Reader A) (us : List At) (a : A) (rest : List Lexeme) → r (plain us ++ rest) ≡ r' (plain us ++ rest) → Reads r' us a rest → Reads r us a rest
 reads_same r r' us a rest e h = subst (λ x. Outcome x us a rest) (sym e) h
 
-pub reads_step : {A : Type 0} (r k : Reader A) (u : At) (us : List At) (a : A) (rest : List Lexeme) → ((s : List Lexeme) → r (u.lexeme ∷ s) ≡ k s) → Reads k us a rest → Reads r (u ∷ us) a rest
-reads_step r k u us a rest e (inl h) = inl (e _ ∙ h)
-reads_step r k u us a rest e (inr h) = inr (h.0, h.1, e _ ∙ h.2, λ w. h.3 w.1)
+-- a token before them
+passes_step : (f : Fault) (u : At) (us : List At) (rest : List Lexeme) → IsAllowed u → Passes f us rest → Passes f (u ∷ us) rest
+passes_step f u us rest low p = record { front = u ∷ p.front; past = p.past; back = p.back; cut = ap (λ l. u ∷ l) p.cut; within = (low, p.within); beyond = p.beyond; only = p.only; left = p.left }
+
+-- tokens before them
+passes_behind : (f : Fault) (us vs : List At) (rest : List Lexeme) → WithinLimits us → Passes f vs rest → Passes f (us ++ vs) rest
+passes_behind f us vs rest w p = record { front = us ++ p.front; past = p.past; back = p.back; cut = ap (λ l. us ++ l) p.cut ∙ sym (append_assoc us p.front (p.past ∷ p.back)); within = within-append us p.front w p.within; beyond = p.beyond; only = p.only; left = p.left }
+
+-- tokens behind them
+passes_before : (f : Fault) (us vs : List At) (rest : List Lexeme) → Passes f us (plain vs ++ rest) → Passes f (us ++ vs) rest
+passes_before f us vs rest p =
+    let l = p.left in
+    let m = length-append (plain vs) rest in
+    let n = plain-length vs in
+    let o = length-append p.back vs in
+    record { front = p.front; past = p.past; back = p.back ++ vs; cut = ap (λ l. l ++ vs) p.cut ∙ append_assoc p.front (p.past ∷ p.back) vs; within = p.within; beyond = p.beyond; only = p.only; left = omega arith }
+
+-- no token that is past a limit is within the limits
+pub beyond_out : (c : Cause) (u : At) → IsBeyond c u → IsAllowed u → ⊥
+beyond_out cause.Unexpected u b a = b
+beyond_out cause.TooDeep u (inl e) a = let l = a.0 in absurd (omega arith)
+beyond_out cause.TooDeep u (inr e) a = let l = a.1 in absurd (omega arith)
+beyond_out cause.BadNumber u b a = let l = a.2 in absurd (omega arith)
+
+pub passes_out : (f : Fault) (us : List At) (rest : List Lexeme) → Passes f us rest → WithinLimits us → ⊥
+passes_out f us rest p w = beyond_out f.cause p.past p.beyond (within-back p.front (p.past ∷ p.back) (subst WithinLimits p.cut w)).0
+
+pub reads_step : {A : Type 0} (r k : Reader A) (u : At) (us : List At) (a : A) (rest : List Lexeme) → IsAllowed u → ((s : List Lexeme) → r (u.lexeme ∷ s) ≡ k s) → Reads k us a rest → Reads r (u ∷ us) a rest
+reads_step r k u us a rest low e (inl h) = inl (e _ ∙ h.0, (low, h.1))
+reads_step r k u us a rest low e (inr h) = inr (h.0, e _ ∙ h.1, passes_step h.0 u us rest low h.2)
 
 pub reads_chain : {A B : Type 0} (r : Reader A) (k : A → Reader B) (us vs : List At) (a : A) (b : B) (rest : List Lexeme) → Reads r us a (plain vs ++ rest) → Reads (k a) vs b rest → Reads (λ s. r s >>= λ x. k x.0 x.1) (us ++ vs) b rest
-reads_chain r k us vs a b rest (inl e) (inl g) = inl (ap (λ s. r s >>= λ x. k x.0 x.1) (plain-split us vs rest) ∙ ap (λ y. y >>= λ x. k x.0 x.1) e ∙ g)
-reads_chain r k us vs a b rest (inl e) (inr g) = inr (g.0, g.1, ap (λ s. r s >>= λ x. k x.0 x.1) (plain-split us vs rest) ∙ ap (λ y. y >>= λ x. k x.0 x.1) e ∙ g.2, λ w. g.3 (within-back us vs w))
-reads_chain r k us vs a b rest (inr e) g = inr (e.0, e.1, ap (λ s. r s >>= λ x. k x.0 x.1) (plain-split us vs rest) ∙ ap (λ y. y >>= λ x. k x.0 x.1) e.2, λ w. e.3 (within-front us vs w))
+reads_chain r k us vs a b rest (inl e) (inl g) = inl (ap (λ s. r s >>= λ x. k x.0 x.1) (plain-split us vs rest) ∙ ap (λ y. y >>= λ x. k x.0 x.1) e.0 ∙ g.0, within-append us vs e.1 g.1)
+reads_chain r k us vs a b rest (inl e) (inr g) = inr (g.0, ap (λ s. r s >>= λ x. k x.0 x.1) (plain-split us vs rest) ∙ ap (λ y. y >>= λ x. k x.0 x.1) e.0 ∙ g.1, passes_behind g.0 us vs rest e.1 g.2)
+reads_chain r k us vs a b rest (inr e) g = inr (e.0, ap (λ s. r s >>= λ x. k x.0 x.1) (plain-split us vs rest) ∙ ap (λ y. y >>= λ x. k x.0 x.1) e.1, passes_before e.0 us vs rest e.2)
 
 pub reads_map : {A B : Type 0} (r : Reader A) (f : A → B) (us : List At) (a : A) (rest : List Lexeme) → Reads r us a rest → Reads (λ s. r s >>= λ x. Ok (f x.0, x.1)) us (f a) rest
-reads_map r f us a rest (inl e) = inl (ap (λ y. y >>= λ x. Ok (f x.0, x.1)) e)
-reads_map r f us a rest (inr h) = inr (h.0, h.1, ap (λ y. y >>= λ x. Ok (f x.0, x.1)) h.2, h.3)
+reads_map r f us a rest (inl e) = inl (ap (λ y. y >>= λ x. Ok (f x.0, x.1)) e.0, e.1)
+reads_map r f us a rest (inr h) = inr (h.0, ap (λ y. y >>= λ x. Ok (f x.0, x.1)) h.1, h.2)
 
 pub reads_stop : {A : Type 0} (r : Reader A) (a : A) (rest : List Lexeme) → r rest ≡ Ok (a, rest) → Reads r [] a rest
-reads_stop r a rest e = inl e
-
-of_limit : (c : Cause) → IsOfLimit c → c ≢ cause.Unexpected
-of_limit cause.Unexpected l e = l
-of_limit cause.TooDeep l e = absurd cc
-of_limit cause.BadNumber l e = absurd cc
+reads_stop r a rest e = inl (e, tt)
 
 -- the first token is past a limit
-pub reads_beyond : {A : Type 0} (r : Reader A) (c : Cause) (u : At) (us : List At) (a : A) (rest : List Lexeme) → IsOfLimit c → (IsAllowed u → ⊥) → ((s : List Lexeme) → r (u.lexeme ∷ s) ≡ Err (fault c (u.lexeme ∷ s))) → Reads r (u ∷ us) a rest
-reads_beyond r c u us a rest l b e = inr (fault c (u.lexeme ∷ (plain us ++ rest)), of_limit c l, e _, λ w. b w.0)
+pub reads_beyond : {A : Type 0} (r : Reader A) (c : Cause) (u : At) (us : List At) (a : A) (rest : List Lexeme) → IsBeyond c u → ((k : Cause) → IsBeyond k u → k ≡ c) → ((s : List Lexeme) → r (u.lexeme ∷ s) ≡ Err (fault c (u.lexeme ∷ s))) → Reads r (u ∷ us) a rest
+reads_beyond r c u us a rest b only e =
+    let m = length-append (plain us) rest in
+    let n = plain-length us in
+    inr (fault c (u.lexeme ∷ (plain us ++ rest)), e _, record { front = []; past = u; back = us; cut = refl; within = tt; beyond = b; only = only; left = omega arith })
+
+-- a token is past one limit only
+pub only_deep : (d k : ℕ) (x : Lexeme) (c : Cause) → IsBeyond c (at_ref d k x) → c ≡ cause.TooDeep
+only_deep d k x cause.Unexpected b = absurd b
+only_deep d k x cause.TooDeep b = refl
+only_deep d k x cause.BadNumber b = absurd (omega arith)
+
+pub only_number : (d n : ℕ) (x : Lexeme) → d ≤ deepest → (c : Cause) → IsBeyond c (at_number d n x) → c ≡ cause.BadNumber
+only_number d n x low cause.Unexpected b = absurd b
+only_number d n x low cause.TooDeep (inl e) = absurd (omega arith)
+only_number d n x low cause.TooDeep (inr e) = absurd (omega arith)
+only_number d n x low cause.BadNumber b = refl
 
 -- for lists of at most n tokens, where what follows a text is of F
 pub record Good {A : Type 0} (n : ℕ) (r : Reader A) (L : Language A) (F : List Lexeme → Type 0) : Type 0 where
@@ -186,7 +234,7 @@ module _ (d : ℕ) (low : d ≤ deepest) where
       by false e = says_refused (expect m) (Token d (IsMark m)) x s (λ s'. ap (λ b. cond b (Ok (x, s')) (Err (unexpected (x ∷ s')))) e) (_, _, token (some_mark m) refl)
 
   reads_expect : (m : Mark) (us : List At) (a : Lexeme) → Token d (IsMark m) us a → (rest : List Lexeme) → Reads (expect m) us a rest
-  reads_expect m us a (token x p) rest = inl (ap (λ b. cond b (Ok (x, rest)) (Err (unexpected (x ∷ rest)))) (is_mark-same m x.sym p))
+  reads_expect m us a (token x p) rest = inl (ap (λ b. cond b (Ok (x, rest)) (Err (unexpected (x ∷ rest)))) (is_mark-same m x.sym p), (allowed d x low, tt))
 
   pub good_expect : (m : Mark) (n : ℕ) → Good n (expect m) (Token d (IsMark m)) Any
   good_expect m n = record { says = λ toks l. says_expect m toks; reads = λ us a rest l h f. reads_expect m us a h rest; some = (_, _, token (some_mark m) refl) }
@@ -200,7 +248,7 @@ module _ (d : ℕ) (low : d ≤ deepest) where
       by false e = says_refused expect_name (Token d IsName) x s (λ s'. ap (λ b. cond b (Ok (x, s')) (Err (unexpected (x ∷ s')))) e) (_, _, token some_name refl)
 
   reads_name : (us : List At) (a : Lexeme) → Token d IsName us a → (rest : List Lexeme) → Reads expect_name us a rest
-  reads_name us a (token x p) rest = inl (ap (λ b. cond b (Ok (x, rest)) (Err (unexpected (x ∷ rest)))) (ap is_name_sym p))
+  reads_name us a (token x p) rest = inl (ap (λ b. cond b (Ok (x, rest)) (Err (unexpected (x ∷ rest)))) (ap is_name_sym p), (allowed d x low, tt))
 
   pub good_name : (n : ℕ) → Good n expect_name (Token d IsName) Any
   good_name n = record { says = λ toks l. says_name toks; reads = λ us a rest l h f. reads_name us a h rest; some = (_, _, token some_name refl) }

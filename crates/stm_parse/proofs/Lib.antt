@@ -13,6 +13,7 @@ pub mod Levels
 pub mod LongestCuts
 pub mod LongestFronts
 pub mod SymbolTexts
+pub mod OneFault
 pub mod Operands
 pub mod Pieces
 pub mod Says

@@ -13,7 +13,7 @@ use Rattle.stm_parse.specs.Grammar.{At, at, at_number, plain, deepest, greatest}
 use Rattle.stm_parse.specs.Faults.{Language}
 use Rattle.stm_parse.specs.Reading.{Reading, Reader, bad_number, behind, or_behind, expect, in_reach, close_literal, literal_of, literal, closed, bracketed, short_of, deeper, atom_with}
 use Rattle.stm_parse.proofs.Says.{plain-split, Says, Some_text, Mapped, mapped, says_map, says_end, says_refused, says_beyond, says_token, says_one, says_same_first, says_same_end}
-use Rattle.stm_parse.proofs.Good.{Reads, reads_same, reads_step, reads_map, reads_beyond, Good, Any, is_mark-true, is_mark-same, some_mark, Token, token, good_expect, allowed}
+use Rattle.stm_parse.proofs.Good.{Reads, reads_same, reads_step, reads_map, reads_beyond, only_deep, only_number, Good, Any, is_mark-true, is_mark-same, some_mark, Token, token, good_expect, allowed}
 
 pub within_reach : (n : ℕ) → in_reach n ≡ true → n ≤ greatest
 within_reach n e = grind (arith, nat_tests)
@@ -146,20 +146,20 @@ module _ (d : ℕ) (E : Language Term) where
           by true f = says_one (atom_with inner) (Operand d E) (int (pos n) x.start) (at_number d n x) s (low, omega arith, within_reach n f) (λ s'. is_short inner x s' (tok.Number n) e refl ∙ ap (λ b. cond b (Ok (int (pos n) x.start, s')) (Err (bad_number (x ∷ s')))) f) (of_number e)
           by false f = says_beyond (atom_with inner) (Operand d E) cause.BadNumber (at_number d n x) s [] (int (pos n) x.start) tt (out_of_reach n f) (of_number e) (λ s'. is_short inner x s' (tok.Number n) e refl ∙ ap (λ b. cond b (Ok (int (pos n) x.start, s')) (Err (bad_number (x ∷ s')))) f)
 
-  reads_literal : (at_x n : ℕ) (z w : Lexeme) (rest : List Lexeme) → d ≤ deepest → z.sym ≡ tok.Number n → IsMark mark.Close w → Reads (literal at_x) (at_number (suc d) (n - 1) z ∷ at d w ∷ []) (int (neg_ℤ (pos n)) at_x) rest
+  reads_literal : (at_x n : ℕ) (z w : Lexeme) (rest : List Lexeme) → suc d ≤ deepest → z.sym ≡ tok.Number n → IsMark mark.Close w → Reads (literal at_x) (at_number (suc d) (n - 1) z ∷ at d w ∷ []) (int (neg_ℤ (pos n)) at_x) rest
   reads_literal p n z w rest low e c = by (in_reach (n - 1)) refl
     where
       by : (b : Bool) → in_reach (n - 1) ≡ b → Reads (literal p) (at_number (suc d) (n - 1) z ∷ at d w ∷ []) (int (neg_ℤ (pos n)) p) rest
       by true f =
-          reads_step (literal p) (close_literal n p) (at_number (suc d) (n - 1) z) (at d w ∷ []) (int (neg_ℤ (pos n)) p) rest (λ s. ap (λ q. literal_of p q (z ∷ s) s) e ∙ ap (λ b. cond b (close_literal n p s) (Err (bad_number (z ∷ s)))) f)
-          (reads_map (expect mark.Close) (λ c. int (neg_ℤ (pos n)) p) (at d w ∷ []) w rest ((good_expect d low mark.Close (1 + length rest)).reads (at d w ∷ []) w rest (omega arith) (token w c) tt))
+          reads_step (literal p) (close_literal n p) (at_number (suc d) (n - 1) z) (at d w ∷ []) (int (neg_ℤ (pos n)) p) rest (low, omega arith, within_reach (n - 1) f) (λ s. ap (λ q. literal_of p q (z ∷ s) s) e ∙ ap (λ b. cond b (close_literal n p s) (Err (bad_number (z ∷ s)))) f)
+          (reads_map (expect mark.Close) (λ c. int (neg_ℤ (pos n)) p) (at d w ∷ []) w rest ((good_expect d (omega arith) mark.Close (1 + length rest)).reads (at d w ∷ []) w rest (omega arith) (token w c) tt))
       by false f =
-          reads_beyond (literal p) cause.BadNumber (at_number (suc d) (n - 1) z) (at d w ∷ []) (int (neg_ℤ (pos n)) p) rest tt (λ a. let g = out_of_reach (n - 1) f in let h = a.2 in absurd (omega arith)) (λ s. ap (λ q. literal_of p q (z ∷ s) s) e ∙ ap (λ b. cond b (close_literal n p s) (Err (bad_number (z ∷ s)))) f)
+          reads_beyond (literal p) cause.BadNumber (at_number (suc d) (n - 1) z) (at d w ∷ []) (int (neg_ℤ (pos n)) p) rest (out_of_reach (n - 1) f) (only_number (suc d) (n - 1) z low) (λ s. ap (λ q. literal_of p q (z ∷ s) s) e ∙ ap (λ b. cond b (close_literal n p s) (Err (bad_number (z ∷ s)))) f)
 
   -- an open bracket, and what comes behind it
   reads_open : (inner : Option (Reader Term)) → InnerOf d E inner → (x : Lexeme) (us : List At) (t : Term) (rest : List Lexeme) → IsMark mark.Open x → ((r : Reader Term) → Inner d E r → Reads (bracketed r x.start) us t rest) → Reads (atom_with inner) (at (suc d) x ∷ us) t rest
-  reads_open None i x us t rest o h = reads_beyond (atom_with None) cause.TooDeep (at (suc d) x) us t rest tt (λ a. let l = a.0 in absurd (omega arith)) (λ s. opens None x s o)
-  reads_open (Some r) i x us t rest o h = reads_step (atom_with (Some r)) (bracketed r x.start) (at (suc d) x) us t rest (λ s. opens (Some r) x s o) (h r i)
+  reads_open None i x us t rest o h = reads_beyond (atom_with None) cause.TooDeep (at (suc d) x) us t rest (inl (ap suc i)) (only_deep (suc d) 0 x) (λ s. opens None x s o)
+  reads_open (Some r) i x us t rest o h = reads_step (atom_with (Some r)) (bracketed r x.start) (at (suc d) x) us t rest (allowed (suc d) x i.low) (λ s. opens (Some r) x s o) (h r i)
 
   no_mark : (m k : Mark) (s : Sym) → s ≡ tok.Mark k → is_mark m (tok.Mark k) ≡ false → is_mark m s ≡ false
   no_mark m k s e f = ap (is_mark m) e ∙ f
@@ -168,15 +168,15 @@ module _ (d : ℕ) (E : Language Term) where
   reads_operand inner low i us t (of_number {n} {x} e) rest = by (in_reach n) refl
     where
       by : (b : Bool) → in_reach n ≡ b → Reads (atom_with inner) (at_number d n x ∷ []) (int (pos n) x.start) rest
-      by true f = inl (is_short inner x rest (tok.Number n) e refl ∙ ap (λ b. cond b (Ok (int (pos n) x.start, rest)) (Err (bad_number (x ∷ rest)))) f)
-      by false f = reads_beyond (atom_with inner) cause.BadNumber (at_number d n x) [] (int (pos n) x.start) rest tt (λ a. let g = out_of_reach n f in let h = a.2 in absurd (omega arith)) (λ s. is_short inner x s (tok.Number n) e refl ∙ ap (λ b. cond b (Ok (int (pos n) x.start, s)) (Err (bad_number (x ∷ s)))) f)
+      by true f = inl (is_short inner x rest (tok.Number n) e refl ∙ ap (λ b. cond b (Ok (int (pos n) x.start, rest)) (Err (bad_number (x ∷ rest)))) f, ((low, omega arith, within_reach n f), tt))
+      by false f = reads_beyond (atom_with inner) cause.BadNumber (at_number d n x) [] (int (pos n) x.start) rest (out_of_reach n f) (only_number d n x low) (λ s. is_short inner x s (tok.Number n) e refl ∙ ap (λ b. cond b (Ok (int (pos n) x.start, s)) (Err (bad_number (x ∷ s)))) f)
   reads_operand inner low i us t (of_negative {n} {x} {y} {z} {w} o m e c) rest =
       reads_open inner i x (at (suc d) y ∷ at_number (suc d) (n - 1) z ∷ at d w ∷ []) (int (neg_ℤ (pos n)) x.start) rest o (λ r j.
-      reads_step (bracketed r x.start) (literal x.start) (at (suc d) y) (at_number (suc d) (n - 1) z ∷ at d w ∷ []) (int (neg_ℤ (pos n)) x.start) rest (λ s. at_literal r x.start y s (no_mark mark.Close mark.Minus y.sym m refl) (is_mark-same mark.Minus y.sym m)) (reads_literal x.start n z w rest low e c))
-  reads_operand inner low i us t (of_true {x} e) rest = inl (is_short inner x rest (tok.Mark mark.True) e refl)
-  reads_operand inner low i us t (of_false {x} e) rest = inl (is_short inner x rest (tok.Mark mark.False) e refl)
-  reads_operand inner low i us t (of_unit {x} {w} o c) rest = reads_open inner i x (at d w ∷ []) (unit x.start) rest o (λ r j. inl (at_unit r x.start w rest (is_mark-same mark.Close w.sym c)))
-  reads_operand inner low i us t (of_name {x} e) rest = inl (is_short inner x rest tok.Name e refl)
+      reads_step (bracketed r x.start) (literal x.start) (at (suc d) y) (at_number (suc d) (n - 1) z ∷ at d w ∷ []) (int (neg_ℤ (pos n)) x.start) rest (allowed (suc d) y j.low) (λ s. at_literal r x.start y s (no_mark mark.Close mark.Minus y.sym m refl) (is_mark-same mark.Minus y.sym m)) (reads_literal x.start n z w rest j.low e c))
+  reads_operand inner low i us t (of_true {x} e) rest = inl (is_short inner x rest (tok.Mark mark.True) e refl, (allowed d x low, tt))
+  reads_operand inner low i us t (of_false {x} e) rest = inl (is_short inner x rest (tok.Mark mark.False) e refl, (allowed d x low, tt))
+  reads_operand inner low i us t (of_unit {x} {w} o c) rest = reads_open inner i x (at d w ∷ []) (unit x.start) rest o (λ r j. inl (at_unit r x.start w rest (is_mark-same mark.Close w.sym c), (allowed d w low, tt)))
+  reads_operand inner low i us t (of_name {x} e) rest = inl (is_short inner x rest tok.Name e refl, (allowed d x low, tt))
   reads_operand inner low i us t (of_bracketed {x} w vs {e} o h c) rest =
       reads_open inner i x (vs ++ (at d w ∷ [])) e rest o (λ r j.
       reads_same (bracketed r x.start) (closed r) (vs ++ (at d w ∷ [])) e rest (bracket_same r j) (j.closed_reads w vs e rest c h))

@@ -20,10 +20,6 @@ pub within-append : (xs ys : List At) → WithinLimits xs → WithinLimits ys �
 within-append [] ys h k = k
 within-append (x ∷ xs) ys h k = (h.0, within-append xs ys h.1 k)
 
-pub within-front : (xs ys : List At) → WithinLimits (xs ++ ys) → WithinLimits xs
-within-front [] ys h = tt
-within-front (x ∷ xs) ys h = (h.0, within-front xs ys h.1)
-
 pub within-back : (xs ys : List At) → WithinLimits (xs ++ ys) → WithinLimits ys
 within-back [] ys h = h
 within-back (x ∷ xs) ys h = within-back xs ys h.1

@@ -17,15 +17,15 @@ use Rattle.stm_parse.specs.Reading.{Reader, Fails, whole}
 use Rattle.stm_parse.proofs.Good.{Good, Any}
 use Rattle.stm_parse.proofs.Whole.{Right, right, only}
 
-get_end : (q : List Lexeme) → slice_get (q ++ []) (length q) ≡ None
+pub get_end : (q : List Lexeme) → slice_get (q ++ []) (length q) ≡ None
 get_end [] = refl
 get_end (x ∷ q) = get_end q
 
-get_next : (q s : List Lexeme) (x : Lexeme) → slice_get (q ++ (x ∷ s)) (length q) ≡ Some x
+pub get_next : (q s : List Lexeme) (x : Lexeme) → slice_get (q ++ (x ∷ s)) (length q) ≡ Some x
 get_next [] s x = refl
 get_next (y ∷ q) s x = get_next q s x
 
-place_is : (ls q s : List Lexeme) (n : ℕ) → ls ≡ q ++ s → n ≡ length s → slice_get ls (length ls - n) ≡ slice_get (q ++ s) (length q)
+pub place_is : (ls q s : List Lexeme) (n : ℕ) → ls ≡ q ++ s → n ≡ length s → slice_get ls (length ls - n) ≡ slice_get (q ++ s) (length q)
 place_is ls q s n e l =
     let p : length ls - n ≡ length q = omega (arith, ap length e, length-append q s) in
     ap (λ l. slice_get l (length ls - n)) e ∙ ap (λ i. slice_get (q ++ s) i) p

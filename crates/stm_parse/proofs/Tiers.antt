@@ -177,13 +177,13 @@ module _ (k d : ℕ) (low : d ≤ deepest) (next : Reader Term) (good : (n : ℕ
     reads_tail left us t no_more rest l f = reads_stop (r left) left rest (stops left rest (none_follows k rest f))
     reads_tail left us t (to_left {o} {x} {us = vs} {vs = ws} {b} e q h u) rest l f =
         let s = length-append vs ws in
-        reads_step (r left) (λ s. next s >>= λ b. r (bin o left b.0) b.1) (at d x) (vs ++ ws) t rest (λ s. goes_on grouping.ToLeft left o x s e q)
+        reads_step (r left) (λ s. next s >>= λ b. r (bin o left b.0) b.1) (at d x) (vs ++ ws) t rest (allowed d x low) (λ s. goes_on grouping.ToLeft left o x s e q)
         (reads_chain next (λ b. r (bin o left b)) vs ws b t rest (each_reads next (IsExpression k d) (Follows k) good vs b (plain ws ++ rest) h (tail_follows (bin o left b) ws t rest u f)) ((rec (length ws + length rest) (omega arith) (bin o left b)).reads ws t rest (omega arith) u f))
     reads_tail left us t (not_chained {o} {x} {us = vs} {b} e q h) rest l f =
-        reads_step (r left) (λ s. next s >>= λ b. Ok (bin o left b.0, b.1)) (at d x) vs (bin o left b) rest (λ s. goes_on grouping.NotChained left o x s e q)
+        reads_step (r left) (λ s. next s >>= λ b. Ok (bin o left b.0, b.1)) (at d x) vs (bin o left b) rest (allowed d x low) (λ s. goes_on grouping.NotChained left o x s e q)
         (reads_map next (bin o left) vs b rest (each_reads next (IsExpression k d) (Follows k) good vs b rest h (omega arith)))
     reads_tail left us t (to_right {o} {x} {us = vs} {b} e q h) rest l f =
-        reads_step (r left) (λ s. step_from (grouping_of k) k next s >>= λ b. Ok (bin o left b.0, b.1)) (at d x) vs (bin o left b) rest (λ s. goes_on grouping.ToRight left o x s e q)
+        reads_step (r left) (λ s. step_from (grouping_of k) k next s >>= λ b. Ok (bin o left b.0, b.1)) (at d x) vs (bin o left b) rest (allowed d x low) (λ s. goes_on grouping.ToRight left o x s e q)
         (reads_map (step_from (grouping_of k) k next) (bin o left) vs b rest ((step (length vs + length rest) (rec (length vs + length rest) (omega arith))).reads vs b rest (omega arith) h f))
 
   good_tail : (n : ℕ) → Tail n

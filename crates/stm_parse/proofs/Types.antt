@@ -15,7 +15,7 @@ use Rattle.stm_parse.specs.Grammar.{At, at, at_ref, plain, deepest, most_refs, I
 use Rattle.stm_parse.specs.Faults.{Language}
 use Rattle.stm_parse.specs.Reading.{Reading, Reader, ◌>>=◌, behind, or_behind, expect, expect_name, closed, deeper, refuse, init, var_ty, bracketed_type, bare_of, bare_with, var_of, type_with, inside_type, bare_at, type_at, declaration_reader}
 use Rattle.stm_parse.proofs.Says.{plain-split, Says, Then, then_, Mapped, mapped, says_more, says_map, says_end, says_refused, says_beyond, says_token, says_one, says_same_first, says_same_end}
-use Rattle.stm_parse.proofs.Good.{Reads, reads_same, reads_step, reads_map, reads_beyond, Good, good_same, good_chain, good_map, good_expect, good_name, each_says, each_reads, is_mark-true, is_mark-same, IsName, Any, some_mark, Token, token, allowed}
+use Rattle.stm_parse.proofs.Good.{Reads, reads_same, reads_step, reads_map, reads_beyond, only_deep, Good, good_same, good_chain, good_map, good_expect, good_name, each_says, each_reads, is_mark-true, is_mark-same, IsName, Any, some_mark, Token, token, allowed}
 use Rattle.stm_parse.proofs.Expressions.{Closing, good_closed}
 use Rattle.stm_parse.proofs.Operands.{Operand, of_number, of_negative, of_true, of_false, of_unit, of_name, of_bracketed, Behind, Inner, good_operand}
 use Rattle.stm_parse.proofs.Bodies.{behind_mark}
@@ -123,13 +123,13 @@ module _ (k d : ℕ) where
     reads_open x us t rest e h = by inner i (λ s. first (tok.Mark mark.Open) x s e)
       where
         by : (o : Option (Reader Ty)) → Inside k d o → ((s : List Lexeme) → bare_with inner (x ∷ s) ≡ deeper o (λ r. bracketed_type r s) (x ∷ s)) → Reads (bare_with inner) (at (suc d) x ∷ us) t rest
-        by None j f = reads_beyond (bare_with inner) cause.TooDeep (at (suc d) x) us t rest tt (λ a. let l = a.0 in absurd (omega arith)) f
-        by (Some r) j f = reads_step (bare_with inner) (bracketed_type r) (at (suc d) x) us t rest f (h r j)
+        by None j f = reads_beyond (bare_with inner) cause.TooDeep (at (suc d) x) us t rest (inl (ap suc j)) (only_deep (suc d) 0 x) f
+        by (Some r) j f = reads_step (bare_with inner) (bracketed_type r) (at (suc d) x) us t rest (allowed (suc d) x j.0) f (h r j)
 
     reads_bare : (us : List At) (t : Ty) → IsBareType k d us t → (rest : List Lexeme) → Reads (bare_with inner) us t rest
-    reads_bare us t (is_int {x} p) rest = inl (first (tok.Mark mark.Int) x rest p)
-    reads_bare us t (is_bool {x} p) rest = inl (first (tok.Mark mark.Bool) x rest p)
-    reads_bare us t (is_unit_type {x} {w} p c) rest = reads_open x (at d w ∷ []) t rest p (λ r j. inl (reads_unit r j w rest c))
+    reads_bare us t (is_int {x} p) rest = inl (first (tok.Mark mark.Int) x rest p, (allowed d x low, tt))
+    reads_bare us t (is_bool {x} p) rest = inl (first (tok.Mark mark.Bool) x rest p, (allowed d x low, tt))
+    reads_bare us t (is_unit_type {x} {w} p c) rest = reads_open x (at d w ∷ []) t rest p (λ r j. inl (reads_unit r j w rest c, (allowed d w low, tt)))
     reads_bare us t (is_bracketed_type {x} w {us = vs} p h c) rest = reads_open x (vs ++ (at d w ∷ [])) t rest p (λ r j. reads_bracketed r j w vs t rest h c)
 
     pub good_bare_with : (n : ℕ) → Good n (bare_with inner) (IsBareType k d) Any
@@ -183,8 +183,8 @@ module _ (k d : ℕ) (low : d ≤ deepest) (few : k ≤ most_refs) (bare : ℕ �
   reads_type us t (is_var {x} {us = vs} {t = v} e h) rest = by (nat_lt k most_refs) refl
     where
       by : (b : Bool) → nat_lt k most_refs ≡ b → Reads (type_with k bare) (at_ref d (suc k) x ∷ vs) (var_ty v) rest
-      by false f = reads_beyond (type_with k bare) cause.TooDeep (at_ref d (suc k) x) vs (var_ty v) rest tt (λ a. let g = full f in let l = a.1 in absurd (omega arith)) (λ s'. at_var x s' false e f)
-      by true f = reads_step (type_with k bare) (λ s'. bare (suc k) s' >>= λ t. Ok (var_ty t.0, t.1)) (at_ref d (suc k) x) vs (var_ty v) rest (λ s'. at_var x s' true e f) (reads_map (bare (suc k)) var_ty vs v rest (each_reads (bare (suc k)) (IsBareType (suc k) d) Any (good (suc k) (fewer f)) vs v rest h tt))
+      by false f = reads_beyond (type_with k bare) cause.TooDeep (at_ref d (suc k) x) vs (var_ty v) rest (inr (ap suc (full f))) (only_deep d (suc k) x) (λ s'. at_var x s' false e f)
+      by true f = reads_step (type_with k bare) (λ s'. bare (suc k) s' >>= λ t. Ok (var_ty t.0, t.1)) (at_ref d (suc k) x) vs (var_ty v) rest (low, fewer f, omega arith) (λ s'. at_var x s' true e f) (reads_map (bare (suc k)) var_ty vs v rest (each_reads (bare (suc k)) (IsBareType (suc k) d) Any (good (suc k) (fewer f)) vs v rest h tt))
   reads_type us t (is_bare h) rest = reads_same (type_with k bare) (bare k) us t rest (at_bare (plain us ++ rest) (no_var h rest)) (each_reads (bare k) (IsBareType k d) Any (good k few) us t rest h tt)
 
   pub good_type_with : (n : ℕ) → Good n (type_with k bare) (IsType k d) Any

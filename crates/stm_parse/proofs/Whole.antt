@@ -7,9 +7,9 @@ use Rattle.stm_parse.specs.declared.lexeme.Cause.{Cause}
 use Rattle.stm_parse.specs.declared.lexeme.Cause.TheVariants as cause
 use Rattle.stm_parse.specs.Reading.{Reading, Reader, ◌>>=◌, action_at, block_reader, ended, whole}
 use Rattle.stm_parse.specs.Grammar.{At, plain, Placed, IsAction, IsBlock, WithinLimits}
-use Rattle.stm_parse.specs.Faults.{Language, IsText, BeginsNone, IsPast, AtFault, IsFault}
+use Rattle.stm_parse.specs.Faults.{Language, IsText, BeginsNone, IsBeyond, IsPast, AtFault, IsFault}
 use Rattle.stm_parse.proofs.Says.{Took, Failed, Points, PointsAt, SaysOf, plain-split, Mapped, mapped}
-use Rattle.stm_parse.proofs.Good.{Outcome, Good, Any, good_same, good_map, each_says, each_reads}
+use Rattle.stm_parse.proofs.Good.{Outcome, passes_out, Good, Any, good_same, good_map, each_says, each_reads}
 use Rattle.stm_parse.proofs.Actions.{good_action}
 
 -- what is right to answer
@@ -29,8 +29,8 @@ module _ {A : Type 0} (r : Reader A) (L : Language A) (good : (n : ℕ) → Good
       same = append-nil (plain h.0) ∙ sym h.3
 
       of : Outcome (r (plain h.0 ++ [])) h.0 t [] → whole r toks ≡ Ok t
-      of (inl e) = ap (λ l. r l >>= λ x. ended x.0 x.1) (sym same) ∙ ap (λ y. y >>= λ x. ended x.0 x.1) e
-      of (inr f) = absurd (f.3 h.2)
+      of (inl e) = ap (λ l. r l >>= λ x. ended x.0 x.1) (sym same) ∙ ap (λ y. y >>= λ x. ended x.0 x.1) e.0
+      of (inr f) = absurd (passes_out f.0 h.0 [] f.2 h.2)
 
   -- what no text can be read as
   Refuses : List Lexeme → Reading A → Type 0
@@ -49,10 +49,10 @@ module _ {A : Type 0} (r : Reader A) (L : Language A) (good : (n : ℕ) → Good
       same = plain-split us ws [] ∙ ap (λ p. p ++ l) (sym e) ∙ append_assoc q (x ∷ []) l
 
       of : (y : Reading A) → r (q ++ (x ∷ l)) ≡ y → Refuses (x ∷ l) y → Outcome (r (plain (us ++ ws) ++ [])) (us ++ ws) t [] → ⊥
-      of (Ok y) e j (inl k) = let f = ap r same ∙ e in cc
-      of (Ok y) e j (inr k) = let f = ap r same ∙ e in let g = k.2 in cc
-      of (Err y) e j (inl k) = let f = ap r same ∙ e in cc
-      of (Err y) e j (inr k) = let f = ap r same ∙ e in let g = k.2 in let p : k.0 ≡ y = cc in k.1 (ap (λ z. z.cause) p ∙ j)
+      of (Ok y) e j (inl k) = let f = ap r same ∙ e in let g = k.0 in cc
+      of (Ok y) e j (inr k) = let f = ap r same ∙ e in let g = k.1 in cc
+      of (Err y) e j (inl k) = let f = ap r same ∙ e in let g = k.0 in cc
+      of (Err y) e j (inr k) = let f = ap r same ∙ e in let g = k.1 in let p : k.0 ≡ y = cc in subst (λ c. IsBeyond c k.2.past) (ap (λ z. z.cause) p ∙ j) k.2.beyond
 
   ended_right : (toks rest : List Lexeme) (a : A) → Took r L toks a rest → Right L toks (ended a rest)
   unfolding Refuses

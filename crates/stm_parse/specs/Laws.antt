@@ -1,5 +1,5 @@
--- Laws of the grammar: each text has one tree, and operators group as in Haskell 2010.
-use Rattle.std.specs.Prelude.{◌≡◌, ℕ, List, [], ◌∷◌}
+-- Laws of the grammar: each text has one tree or one fault, and operators group as in Haskell 2010.
+use Rattle.std.specs.Prelude.{◌≡◌, ◌≢◌, ℕ, List, [], ◌∷◌, ◌++◌, All}
 use Rattle.stm_terms.specs.declared.expr.Op.{Op}
 use Rattle.stm_terms.specs.declared.expr.Op.TheVariants as op
 use Rattle.stm_terms.specs.RawTrees.{name, bin, Act, return}
@@ -8,14 +8,65 @@ use Rattle.stm_parse.specs.declared.lexeme.Mark.TheVariants as mark
 use Rattle.stm_parse.specs.declared.lexeme.Sym.{Sym}
 use Rattle.stm_parse.specs.declared.lexeme.Sym.TheVariants as tok
 use Rattle.stm_parse.specs.declared.lexeme.Lexeme.{Lexeme}
+use Rattle.stm_parse.specs.declared.fault.ParseFault.{ParseFault}
+use Rattle.stm_parse.specs.declared.fault.ParseFault.TheVariants.{NoMemory}
 use Rattle.stm_parse.specs.Grammar.{IsBlock, Declared, IsDeclaration}
-use Rattle.stm_parse.specs.Faults.{IsText}
+use Rattle.stm_parse.specs.Faults.{Language, IsText}
+use Rattle.stm_parse.specs.Parsing.{IsTextOf, IsTold}
 
 abbrev pub EachBlockIsOne : Type 0
 EachBlockIsOne = (ls : List Lexeme) (t u : Act) → IsText IsBlock ls t → IsText IsBlock ls u → t ≡ u
 
 abbrev pub EachDeclarationIsOne : Type 0
 EachDeclarationIsOne = (ls : List Lexeme) (t u : Declared) → IsText IsDeclaration ls t → IsText IsDeclaration ls u → t ≡ u
+
+-- two faults that are told of a text, neither of them want of memory, are one
+abbrev pub OneFault : {A : Type 0} → Language A → Type 0
+OneFault L = (text : List ℕ) (e f : ParseFault) → e ≢ NoMemory → f ≢ NoMemory → IsTold L text e → IsTold L text f → e ≡ f
+
+-- of a text that has a tree no fault is told but want of memory
+abbrev pub TextOrFault : {A : Type 0} → Language A → Type 0
+TextOrFault {A} L = (text : List ℕ) (t : A) (e : ParseFault) → IsTextOf L text t → IsTold L text e → e ≡ NoMemory
+
+abbrev pub EachBlockFaultIsOne : Type 0
+EachBlockFaultIsOne = OneFault IsBlock
+
+abbrev pub EachDeclarationFaultIsOne : Type 0
+EachDeclarationFaultIsOne = OneFault IsDeclaration
+
+abbrev pub BlockOrFault : Type 0
+BlockOrFault = TextOrFault IsBlock
+
+abbrev pub DeclarationOrFault : Type 0
+DeclarationOrFault = TextOrFault IsDeclaration
+
+-- an operator with its sign
+abbrev pub Signed : Type 0
+Signed = Mark × Op
+
+-- the operators as Haskell 2010 has them: infixl 7 *
+abbrev pub products : List Signed
+products = (mark.Star, op.Mul) ∷ []
+
+-- infixl 6 +, -
+abbrev pub sums : List Signed
+sums = (mark.Plus, op.Add) ∷ (mark.Minus, op.Sub) ∷ []
+
+-- infix 4 ==, <, <=
+abbrev pub comparisons : List Signed
+comparisons = (mark.Same, op.Eq) ∷ (mark.Below, op.Lt) ∷ (mark.AtMost, op.Le) ∷ []
+
+-- infixr 3 &&
+abbrev pub conjunctions : List Signed
+conjunctions = (mark.Both, op.And) ∷ []
+
+-- infixr 2 ||
+abbrev pub disjunctions : List Signed
+disjunctions = (mark.Either, op.Or) ∷ []
+
+-- this holds of each of these with each of those
+abbrev pub EachPair : (Signed → Signed → Type 0) → List Signed → List Signed → Type 0
+EachPair P xs ys = All (λ x. All (P x) ys) xs
 
 -- a token
 abbrev pub lexeme : Sym → ℕ → ℕ → Lexeme
@@ -26,28 +77,46 @@ abbrev pub two_operators : Mark → Mark → ℕ → ℕ → ℕ → ℕ → ℕ
 two_operators o p r a a' b b' c c' i j =
     lexeme (tok.Mark mark.Return) r j ∷ lexeme (tok.Mark mark.Open) i j ∷ lexeme tok.Name a a' ∷ lexeme (tok.Mark o) i j ∷ lexeme tok.Name b b' ∷ lexeme (tok.Mark p) i j ∷ lexeme tok.Name c c' ∷ lexeme (tok.Mark mark.Close) i j ∷ []
 
--- these operators group to the left
-abbrev pub ToLeft : Mark → Op → Mark → Op → Type 0
-ToLeft m o n p = (r a a' b b' c c' i j : ℕ) → IsText IsBlock (two_operators m n r a a' b b' c c' i j) (return (bin p (bin o (name a a') (name b b')) (name c c')))
+-- a o b p c is (a o b) p c
+abbrev pub ToLeft : Signed → Signed → Type 0
+ToLeft o p = (r a a' b b' c c' i j : ℕ) → IsText IsBlock (two_operators o.0 p.0 r a a' b b' c c' i j) (return (bin p.1 (bin o.1 (name a a') (name b b')) (name c c')))
 
--- these operators group to the right
-abbrev pub ToRight : Mark → Op → Mark → Op → Type 0
-ToRight m o n p = (r a a' b b' c c' i j : ℕ) → IsText IsBlock (two_operators m n r a a' b b' c c' i j) (return (bin o (name a a') (bin p (name b b') (name c c'))))
+-- a o b p c is a o (b p c)
+abbrev pub ToRight : Signed → Signed → Type 0
+ToRight o p = (r a a' b b' c c' i j : ℕ) → IsText IsBlock (two_operators o.0 p.0 r a a' b b' c c' i j) (return (bin o.1 (name a a') (bin p.1 (name b b') (name c c'))))
+
+-- a o b p c is no text
+abbrev pub NotChained : Signed → Signed → Type 0
+NotChained o p = (r a a' b b' c c' i j : ℕ) (t : Act) → IsText IsBlock (two_operators o.0 p.0 r a a' b b' c c' i j) t → ⊥
+
+-- a o b p c is (a o b) p c, and a p b o c is a p (b o c)
+abbrev pub Tighter : Signed → Signed → Type 0
+Tighter o p = ToLeft o p × ToRight p o
 
 abbrev pub ProductsGroupToTheLeft : Type 0
-ProductsGroupToTheLeft = ToLeft mark.Star op.Mul mark.Star op.Mul
+ProductsGroupToTheLeft = EachPair ToLeft products products
 
-abbrev pub DifferencesGroupToTheLeft : Type 0
-DifferencesGroupToTheLeft = ToLeft mark.Minus op.Sub mark.Minus op.Sub
+abbrev pub SumsGroupToTheLeft : Type 0
+SumsGroupToTheLeft = EachPair ToLeft sums sums
 
-abbrev pub ProductsBindTighter : Type 0
-ProductsBindTighter = ToRight mark.Minus op.Sub mark.Star op.Mul
+abbrev pub ComparisonsAreNotChained : Type 0
+ComparisonsAreNotChained = EachPair NotChained comparisons comparisons
 
-abbrev pub EqualitiesAreNotChained : Type 0
-EqualitiesAreNotChained = (r a a' b b' c c' i j : ℕ) (t : Act) → IsText IsBlock (two_operators mark.Same mark.Same r a a' b b' c c' i j) t → ⊥
+abbrev pub ConjunctionsGroupToTheRight : Type 0
+ConjunctionsGroupToTheRight = EachPair ToRight conjunctions conjunctions
 
-abbrev pub BothGroupsToTheRight : Type 0
-BothGroupsToTheRight = ToRight mark.Both op.And mark.Both op.And
+abbrev pub DisjunctionsGroupToTheRight : Type 0
+DisjunctionsGroupToTheRight = EachPair ToRight disjunctions disjunctions
 
-abbrev pub EitherGroupsToTheRight : Type 0
-EitherGroupsToTheRight = ToRight mark.Either op.Or mark.Either op.Or
+-- each operator binds tighter than all of the tiers behind its own
+abbrev pub ProductsBindTightest : Type 0
+ProductsBindTightest = EachPair Tighter products (sums ++ comparisons ++ conjunctions ++ disjunctions)
+
+abbrev pub SumsBindTighter : Type 0
+SumsBindTighter = EachPair Tighter sums (comparisons ++ conjunctions ++ disjunctions)
+
+abbrev pub ComparisonsBindTighter : Type 0
+ComparisonsBindTighter = EachPair Tighter comparisons (conjunctions ++ disjunctions)
+
+abbrev pub ConjunctionsBindTighter : Type 0
+ConjunctionsBindTighter = EachPair Tighter conjunctions disjunctions

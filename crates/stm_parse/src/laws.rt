@@ -1,6 +1,7 @@
 //! What holds of the grammar. Each function is a law: its contract says it, and its body does nothing.
 
-ghost use Rattle.stm_parse.specs.Laws.{EachBlockIsOne, EachDeclarationIsOne, ProductsGroupToTheLeft, DifferencesGroupToTheLeft, ProductsBindTighter, EqualitiesAreNotChained, BothGroupsToTheRight, EitherGroupsToTheRight};
+ghost use Rattle.stm_parse.specs.Laws.{EachBlockIsOne, EachDeclarationIsOne, EachBlockFaultIsOne, EachDeclarationFaultIsOne, BlockOrFault, DeclarationOrFault};
+ghost use Rattle.stm_parse.specs.Laws.{ProductsGroupToTheLeft, SumsGroupToTheLeft, ComparisonsAreNotChained, ConjunctionsGroupToTheRight, DisjunctionsGroupToTheRight, ProductsBindTightest, SumsBindTighter, ComparisonsBindTighter, ConjunctionsBindTighter};
 ghost use Rattle.stm_parse.specs.Parsed.{BlockAnswersAreRight, DeclarationAnswersAreRight};
 
 /// Each text has one tree.
@@ -9,22 +10,42 @@ pub fn each_text_is_one_tree()
     ensures declaration { EachDeclarationIsOne }
 {}
 
-/// `a * b * c` is `(a * b) * c`, `a - b - c` is `(a - b) - c`, and `a - b * c` is `a - (b * c)`.
-pub fn sums_and_products_group_to_the_left()
-    ensures products { ProductsGroupToTheLeft }
-    ensures differences { DifferencesGroupToTheLeft }
-    ensures tighter { ProductsBindTighter }
+/// Of each text one fault is told, want of memory apart.
+pub fn each_fault_is_one()
+    ensures block { EachBlockFaultIsOne }
+    ensures declaration { EachDeclarationFaultIsOne }
 {}
 
-/// `a == b == c` is no text.
+/// Of a text that has a tree no fault is told, want of memory apart.
+pub fn tree_or_fault()
+    ensures block { BlockOrFault }
+    ensures declaration { DeclarationOrFault }
+{}
+
+/// `a * b * c` is `(a * b) * c`, and `a - b + c` is `(a - b) + c`, for each two of `+` and `-`.
+pub fn sums_and_products_group_to_the_left()
+    ensures products { ProductsGroupToTheLeft }
+    ensures sums { SumsGroupToTheLeft }
+{}
+
+/// `a == b < c` is no text, for each two of `==`, `<` and `<=`.
 pub fn comparisons_are_not_chained()
-    ensures { EqualitiesAreNotChained }
+    ensures { ComparisonsAreNotChained }
 {}
 
 /// `a && b && c` is `a && (b && c)`, and `a || b || c` is `a || (b || c)`.
 pub fn conditions_group_to_the_right()
-    ensures both { BothGroupsToTheRight }
-    ensures either { EitherGroupsToTheRight }
+    ensures both { ConjunctionsGroupToTheRight }
+    ensures either { DisjunctionsGroupToTheRight }
+{}
+
+/// `*` binds tighter than `+` and `-`, these tighter than `==`, `<` and `<=`, these tighter than `&&`, and this tighter
+/// than `||`; so `a - b * c` is `a - (b * c)`, and `a * b - c` is `(a * b) - c`.
+pub fn each_tier_binds_tighter_than_the_next()
+    ensures products { ProductsBindTightest }
+    ensures sums { SumsBindTighter }
+    ensures comparisons { ComparisonsBindTighter }
+    ensures conjunctions { ConjunctionsBindTighter }
 {}
 
 /// What is answered for a text is right by the grammar.

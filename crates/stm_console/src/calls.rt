@@ -1,0 +1,47 @@
+//! The reader of a run, and how often it may still be called.
+
+ghost use Rattle.std.specs.Prelude.{◌≡◌, ◌↔◌, ◌+◌, ◌-◌, ◌^◌, ◌<◌, IsTrue};
+ghost use Rattle.std.specs.Io.{ReadsAtMost};
+ghost use Rattle.std.specs.Io.KnownBytes.{ReadConsumes};
+
+use std::io;
+use std::io::Read;
+
+/// A reader that may be called 4,294,967,295 times. It is reached by `read` alone, and each call is one less that is left.
+#[derive(Drop)]
+pub struct Calls<'a, R> {
+    reader: &'a mut R,
+    left: u32,
+}
+
+impl<'a, R: Read> Calls<'a, R> {
+    pub fn new(reader: &'a mut R) -> Calls<'a, R>
+        ensures same_reader { result.reader.ghost_name ≡ reader.entry.ghost_name }
+        ensures reader { result.reader.now ≡ reader.old }
+        ensures all { result.left ≡ 2 ^ 32 - 1 }
+    {
+        Calls {
+            reader,
+            left: u32::MAX,
+        }
+    }
+
+    /// Whether a call is left.
+    pub fn may_read(&self) -> bool
+        ensures { IsTrue result ↔ (0 < self.now.left) }
+    {
+        self.left > 0
+    }
+
+    /// Calls the reader.
+    pub fn read(&mut self, buffer: &mut [u8]) -> io::Result<usize>
+        requires { 0 < self.old.left }
+        ensures same_reader { self.new.reader.ghost_name ≡ self.old.reader.ghost_name }
+        ensures one_less { self.new.left + 1 ≡ self.old.left }
+        ensures bound { ReadsAtMost result buffer.new }
+        ensures bytes { ReadConsumes (R.remaining self.old.reader.now) (R.remaining self.new.reader.now) result buffer.new }
+    {
+        self.left -= 1;
+        self.reader.read(buffer)
+    }
+}

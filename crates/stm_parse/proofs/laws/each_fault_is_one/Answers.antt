@@ -1,0 +1,12 @@
+use Rattle.stm_parse.specs.Grammar.{IsBlock, IsDeclaration}
+use Rattle.stm_parse.specs.Reading.{block_reader, declaration_reader}
+use Rattle.stm_parse.proofs.OneFault.{one_fault}
+use Rattle.stm_parse.proofs.Types.{good_declaration}
+use Rattle.stm_parse.proofs.Whole.{good_block}
+use Rattle.stm_parse.proofs.laws.each_fault_is_one.Goals as goal
+
+pub returns-clause-block : goal.returns-clause-block
+returns-clause-block c = one_fault block_reader IsBlock good_block
+
+pub returns-clause-declaration : goal.returns-clause-declaration
+returns-clause-declaration c = one_fault declaration_reader IsDeclaration good_declaration

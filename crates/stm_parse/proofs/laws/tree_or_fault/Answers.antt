@@ -1,0 +1,12 @@
+use Rattle.stm_parse.specs.Grammar.{IsBlock, IsDeclaration}
+use Rattle.stm_parse.specs.Reading.{block_reader, declaration_reader}
+use Rattle.stm_parse.proofs.OneFault.{text_or_fault}
+use Rattle.stm_parse.proofs.Types.{good_declaration}
+use Rattle.stm_parse.proofs.Whole.{good_block}
+use Rattle.stm_parse.proofs.laws.tree_or_fault.Goals as goal
+
+pub returns-clause-block : goal.returns-clause-block
+returns-clause-block c = text_or_fault block_reader IsBlock good_block
+
+pub returns-clause-declaration : goal.returns-clause-declaration
+returns-clause-declaration c = text_or_fault declaration_reader IsDeclaration good_declaration
