@@ -2,6 +2,7 @@
 
 ghost use Rattle.stm_parse.specs.Laws.{EachBlockIsOne, EachDeclarationIsOne, ProductsGroupToTheLeft, DifferencesGroupToTheLeft, ProductsBindTighter, EqualitiesAreNotChained, BothGroupsToTheRight, EitherGroupsToTheRight};
 ghost use Rattle.stm_parse.specs.Parsed.{BlockAnswersAreRight, DeclarationAnswersAreRight};
+ghost use Rattle.stm_parse.specs.TypeTexts.{TypesAreReadBack};
 
 /// Each text has one tree.
 pub fn each_text_is_one_tree()
@@ -31,4 +32,9 @@ pub fn conditions_group_to_the_right()
 pub fn answers_are_right()
     ensures blocks { BlockAnswersAreRight }
     ensures declarations { DeclarationAnswersAreRight }
+{}
+
+/// A declaration that is written with the text of a type, of at most 8 `TVar`, has that type.
+pub fn types_are_read_back()
+    ensures { TypesAreReadBack }
 {}
