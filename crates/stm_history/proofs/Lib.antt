@@ -1,18 +1,40 @@
+-- The laws.
 pub mod Covered
 pub mod Folds
 pub mod Fresh
 pub mod Rising
 pub mod Serial
 pub mod Stores
--- histories as text
+-- What the machine keeps.
+pub mod Due
+pub mod Keys
+pub mod Maps
+pub mod Points
+pub mod Rises
+pub mod Stales
+-- Its moves, and its questions.
+pub mod Calls
+pub mod Delivery
+pub mod Finishing
+pub mod Heads
+pub mod Moves
+pub mod Reading
+pub mod Ripe
+pub mod Taking
+-- Histories as text.
 pub mod Cuts
 pub mod Exact
+pub mod Few
 pub mod FitsPushed
 pub mod OneLines
 pub mod Parts
 pub mod Ranges
 pub mod ReadsBack
+pub mod Refusing
 pub mod RoundTrips
 pub mod Standing
+pub mod Steps
+pub mod Telling
 pub mod Types
 pub mod Unique
+pub mod Variables

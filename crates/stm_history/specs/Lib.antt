@@ -1,13 +1,27 @@
+-- What a reader has to believe: the slow desk, its settling, its laws, and what each call is refused for.
 pub mod Laws
+pub mod Refusals
 pub mod SlowDesk
 pub mod SlowSettle
--- histories as text: what a reader has to believe
-pub mod Lines
+-- The words inside, for what the machine holds and hands out.
+pub mod Choices
+pub mod Codes
+pub mod Entries
+pub mod Machine
+pub mod Marks
+pub mod Plans
+pub mod Shown
+pub mod Stands
+pub mod Taken
+-- Histories as text: what a reader has to believe.
+pub mod FileLaws
 pub mod Fits
 pub mod HistoryText
 pub mod Judgement
-pub mod FileLaws
--- and the words inside
+pub mod Lines
+-- And the words inside.
 pub mod Checking
 pub mod Fields
+pub mod Following
+pub mod Stages
 pub mod Variables

@@ -2,7 +2,7 @@
 use Rattle.std.proofs.Common.{◌≡◌, ℕ, zero, suc, ◌<◌, ◌≤◌, get_or, length, Some, None, Bool, true, false, not, cond, List, [], ◌∷◌, map, filter, refl, sym, ap, subst, ◌∙◌, arith}
 use Rattle.std.specs.Prelude.{nat_lt, slice_get}
 use Rattle.std.proofs.lemmas.Bool.Decides.{nat_tests}
-use Rattle.stm_queue.specs.Queue.{Entry, with_ticket, queued}
+use Rattle.stm_queue.specs.Queue.{Entry, with_ticket, first_queued, queued}
 use Rattle.stm_queue.specs.Rising.{RisesAbove, IsRising}
 use Rattle.stm_queue.specs.Merged.{outs, merged}
 
@@ -50,3 +50,12 @@ pub got_none : (xs : List ℕ) (i : ℕ) → length xs ≤ i → slice_get xs i 
 got_none [] i h = refl
 got_none (x ∷ xs) zero h = absurd (omega arith)
 got_none (x ∷ xs) (suc i) h = got_none xs i (omega arith)
+
+first_step : (o : Bool) (f : Entry) (es : List Entry) → slice_get (queued es) 0 ≡ first_queued es → slice_get (cond (not o) (f.0 ∷ queued es) (queued es)) 0 ≡ cond o (first_queued es) (Some f.0)
+first_step true f es h = h
+first_step false f es h = refl
+
+-- the first of the queued tickets is the lowest queued one
+pub first_of_queued : (es : List Entry) → slice_get (queued es) 0 ≡ first_queued es
+first_of_queued [] = refl
+first_of_queued (f ∷ es) = ap (λ (ts : List ℕ). slice_get ts 0) (queued_cons f es) ∙ first_step f.1 f es (first_of_queued es)

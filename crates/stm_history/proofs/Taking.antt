@@ -1,0 +1,103 @@
+-- The jobs that are handed out.
+use Rattle.std.proofs.Common.{◌≡◌, ◌≢◌, ℕ, zero, suc, ◌+◌, ◌-◌, ◌<◌, ◌≤◌, Bool, true, false, not, ◌||◌, cond, List, [], ◌∷◌, ◌++◌, map, filter, take, Option, Some, None, refl, sym, ap, subst, ◌∙◌, arith, add-one}
+use Rattle.std.specs.Prelude.{nat_eq, slice_get, option_map}
+use Rattle.std.proofs.lemmas.Bool.Decides.{nat_tests}
+use Rattle.stm_terms.specs.declared.kinds.Ty.{Ty}
+use Rattle.stm_terms.specs.declared.values.Value.{Value}
+use Rattle.stm_store.specs.declared.cell.Cell.{Cell}
+use Rattle.stm_store.specs.Cells.{plains, Covers}
+use Rattle.stm_store.specs.Tables.{Declared}
+use Rattle.stm_check.specs.Blocks.{Block}
+use Rattle.stm_eval.specs.declared.job.Job.{Job}
+use Rattle.stm_watch.specs.Pairs.{Pairs}
+use Rattle.stm_queue.specs.Queue.{Entry, has_ticket, queued, first_queued, sent_out}
+use Rattle.stm_history.specs.declared.event.Event.{Event}
+use Rattle.stm_history.specs.SlowDesk.{Waiter, Slow, waiter, state}
+use Rattle.stm_history.specs.declared.waiting.Waiting.{Waiting}
+use Rattle.stm_history.specs.Entries.{kept_at, AreDue}
+use Rattle.stm_history.specs.Machine.{Parts, StandsFor}
+use Rattle.stm_history.specs.Marks.{due_of}
+use Rattle.stm_history.specs.Taken.{sent, AreJobs, IsKeptJob, AreKept, AreCovered}
+use Rattle.stm_history.proofs.Due.{IsFound, found}
+use Rattle.stm_history.proofs.Delivery.{has_marked}
+
+itself : (i : ℕ) → nat_eq i i ≡ true
+itself i = grind (arith, nat_tests)
+
+or_right : (a b : Bool) → b ≡ true → (a || b) ≡ true
+or_right true b h = refl
+or_right false b h = h
+
+-- ---- a queued ticket is in the queue
+in_step : (o : Bool) (t i : ℕ) (f : Entry) (es : List Entry) → f.1 ≡ o → ((j : ℕ) → slice_get (queued es) j ≡ Some t → has_ticket t es ≡ true)
+    → slice_get (map (λ e. e.0) (cond (not o) (f ∷ filter (λ e. not e.1) es) (filter (λ e. not e.1) es))) i ≡ Some t → (nat_eq t f.0 || has_ticket t es) ≡ true
+in_step true t i f es e more h = or_right (nat_eq t f.0) (has_ticket t es) (more i h)
+in_step false t zero f es e more h = let q : f.0 ≡ t = cc in rw (q, itself t) refl
+in_step false t (suc i) f es e more h = or_right (nat_eq t f.0) (has_ticket t es) (more i h)
+
+pub in_queue : (t i : ℕ) (es : List Entry) → slice_get (queued es) i ≡ Some t → has_ticket t es ≡ true
+in_queue t i [] h = cc
+in_queue t i (f ∷ es) h = in_step f.1 t i f es refl (λ j. in_queue t j es) h
+
+-- ---- one more of a list
+take_suc : (xs : List ℕ) (i t : ℕ) → slice_get xs i ≡ Some t → take (suc i) xs ≡ take i xs ++ t ∷ []
+take_suc [] i t h = cc
+take_suc (x ∷ xs) zero t h = let q : x ≡ t = cc in rw q refl
+take_suc (x ∷ xs) (suc i) t h = ap (λ (ys : List ℕ). x ∷ ys) (take_suc xs i t h)
+
+pub take_more : (xs : List ℕ) (i t : ℕ) → slice_get xs i ≡ Some t → take (i + 1) xs ≡ take i xs ++ t ∷ []
+take_more xs i t h = rw add-one (take_suc xs i t h)
+
+pub take_past : (xs : List ℕ) (i n : ℕ) → slice_get xs i ≡ None → i ≤ n → take i xs ≡ take n xs
+take_past [] zero zero h l = refl
+take_past [] zero (suc n) h l = refl
+take_past [] (suc i) zero h l = refl
+take_past [] (suc i) (suc n) h l = refl
+take_past (x ∷ xs) zero n h l = cc
+take_past (x ∷ xs) (suc i) zero h l = absurd (omega arith)
+take_past (x ∷ xs) (suc i) (suc n) h l = ap (λ (ys : List ℕ). x ∷ ys) (take_past xs i n h (omega arith))
+
+pub kept_job-push : (es : List (ℕ × Waiting)) (js : List Job) (j : Job) → AreKept es js → IsKeptJob es j → AreKept es (js ++ j ∷ [])
+kept_job-push es [] j a k = (k, tt)
+kept_job-push es (i ∷ js) j a k = (a.0, kept_job-push es js j a.1 k)
+
+-- ---- what is sent out
+pub sent_more : (n k : ℕ) (es : List Entry) → k < n → sent (n - (k + 1)) (sent_out (first_queued es) es) ≡ sent (n - k) es
+sent_more n k es l = let e : n - k ≡ suc (n - (k + 1)) = omega arith in rw e refl
+
+has_sent_out : (u : ℕ) (o : Option ℕ) (es : List Entry) → has_ticket u (sent_out o es) ≡ has_ticket u es
+has_sent_out u None es = refl
+has_sent_out u (Some t) es = has_marked u t true es
+
+pub has_sent : (u n : ℕ) (es : List Entry) → has_ticket u (sent n es) ≡ has_ticket u es
+has_sent u zero es = refl
+has_sent u (suc n) es = has_sent u n (sent_out (first_queued es) es) ∙ has_sent_out u (first_queued es) es
+
+-- ---- who is handed out waits
+due_waits : (o : Option Waiting) (p : Option Waiter) → IsFound o p → due_of p ≡ true → o ≡ None → ⊥
+due_waits o None f d e = cc
+due_waits None (Some w) f d e = f
+due_waits (Some x) (Some w) f d e = cc
+
+pub queued_wait : (table : List Declared) (history : List Event) (m : Parts) → StandsFor table history m → (t : ℕ) → has_ticket t m.pending ≡ true → kept_at t m.entries ≢ None
+queued_wait table history m k t h =
+    let ws = (state table history).waiters in
+    due_waits (kept_at t m.entries) (waiter t ws) (found t m.entries ws k.stands.entries_are) (sym (k.stands.queue t) ∙ h)
+
+job_step : (o : Option Waiting) (p : Option Waiter) (b : Block) → IsFound o p → option_map (λ w. w.block) o ≡ Some b → option_map (λ w. w.block) p ≡ Some b
+job_step None None b f e = cc
+job_step None (Some w) b f e = absurd f
+job_step (Some x) None b f e = absurd f
+job_step (Some x) (Some w) b f e = ap Some (sym f.block) ∙ e
+
+pub are_jobs : (s : Slow) (es : List (ℕ × Waiting)) (js : List Job) → AreDue es s.waiters → AreKept es js → AreJobs s js
+are_jobs s es [] d a = tt
+are_jobs s es (j ∷ js) d a = (job_step (kept_at j.ticket es) (waiter j.ticket s.waiters) j.block (found j.ticket es s.waiters d) a.0, are_jobs s es js d a.1)
+
+covered_step : (cells : List (Ty × Value)) (o : Option Waiter) (b : Block) → ((w : Waiter) → o ≡ Some w → Covers cells w.block.uses) → option_map (λ w. w.block) o ≡ Some b → Covers cells b.uses
+covered_step cells None b f e = cc
+covered_step cells (Some w) b f e = let q : w.block ≡ b = cc in subst (λ (x : Block). Covers cells x.uses) q (f w refl)
+
+pub are_covered : (s : Slow) (js : List Job) → ((t : ℕ) (w : Waiter) → waiter t s.waiters ≡ Some w → Covers (plains s.store) w.block.uses) → AreJobs s js → AreCovered (plains s.store) js
+are_covered s [] c a = tt
+are_covered s (j ∷ js) c a = (covered_step (plains s.store) (waiter j.ticket s.waiters) j.block (c j.ticket) a.0, are_covered s js c a.1)

@@ -1,0 +1,63 @@
+-- What a machine holds, the histories that it stands for, and which events it may be led on by.
+use Rattle.std.specs.Prelude.{◌≡◌, ℕ, Bool, false, ◌<◌, List, [], ◌∷◌, ◌++◌, length, None, IsSomeAnd}
+use Rattle.stm_terms.specs.declared.values.Value.{Value}
+use Rattle.stm_terms.specs.declared.verdicts.Verdict.{Verdict}
+use Rattle.stm_store.specs.declared.cell.Cell.{Cell}
+use Rattle.stm_store.specs.Tables.{Declared}
+use Rattle.stm_check.specs.Blocks.{Block}
+use Rattle.stm_eval.specs.declared.message.Evaluated.{Evaluated}
+use Rattle.stm_eval.specs.Told.{told_ticket, told_block, told_reads}
+use Rattle.stm_watch.specs.Pairs.{Pairs}
+use Rattle.stm_history.specs.declared.event.Event.{Event}
+use Rattle.stm_history.specs.declared.event.What.{What}
+use Rattle.stm_history.specs.declared.waiting.Waiting.{Waiting}
+use Rattle.stm_history.specs.SlowDesk.{Waiter, waiter, state, IsLegal, max_events, max_clients}
+use Rattle.stm_history.specs.Plans.{IsPlan}
+use Rattle.stm_history.specs.Refusals.{submit_refused, cancel_refused, finish_refused, TellsDelivery}
+use Rattle.stm_history.specs.Stands.{Stands}
+
+-- the store, the next ticket, the waiting blocks by their tickets, the tickets that are queued or out, and the index
+pub record Parts : Type 0 where
+  pub store : List Cell
+  pub next : ℕ
+  pub entries : List (ℕ × Waiting)
+  pub pending : List (ℕ × Bool)
+  pub watch : Pairs
+
+-- the history of the table is legal, and the parts are what it leads to
+pub record StandsFor (table : List Declared) (history : List Event) (m : Parts) : Type 0 where
+  pub legal : IsLegal table history
+  pub stands : Stands (state table history) m.store m.next m.entries m.pending m.watch
+
+abbrev pub event : ℕ → What → Event
+event client what = record { client = client; what = what }
+
+-- the parts are what the history leads to with this event more, whichever client's it is
+abbrev pub MovesTo : List Declared → List Event → What → Parts → Type 0
+MovesTo table history what m = (client : ℕ) → client < max_clients → StandsFor table (history ++ event client what ∷ []) m
+
+-- the block may be submitted next
+pub record CanWait (table : List Declared) (history : List Event) (m : Parts) (block : Block) : Type 0 where
+  pub stands : StandsFor table history m
+  pub room : length history < max_events
+  pub allowed : submit_refused (state table history) false block ≡ None
+
+-- the message may be installed next: it is of the block that waits, and nothing refuses it
+pub record CanInstall (table : List Declared) (history : List Event) (m : Parts) (message : Evaluated) : Type 0 where
+  pub stands : StandsFor table history m
+  pub room : length history < max_events
+  pub allowed : TellsDelivery None (state table history) false (told_ticket message) (told_block message) (told_reads message)
+  pub same : IsSomeAnd (waiter (told_ticket message) (state table history).waiters) (λ w. w.block.tree ≡ (told_block message).tree)
+
+-- the block under the ticket may finish next, by this plan
+pub record CanFinish (table : List Declared) (history : List Event) (m : Parts) (t : ℕ) (verdict : Verdict) (first_new : ℕ) (stale : List ℕ) : Type 0 where
+  pub stands : StandsFor table history m
+  pub room : length history < max_events
+  pub allowed : finish_refused (state table history) false t ≡ None
+  pub plan : IsPlan (state table history) t verdict first_new stale
+
+-- the block under the ticket may be cancelled next
+pub record CanLeave (table : List Declared) (history : List Event) (m : Parts) (t : ℕ) : Type 0 where
+  pub stands : StandsFor table history m
+  pub room : length history < max_events
+  pub allowed : cancel_refused (state table history) false t ≡ None

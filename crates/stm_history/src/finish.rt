@@ -1,0 +1,173 @@
+//! A block that is to take effect.
+
+ghost use Rattle.std.specs.Prelude.{◌≡◌, ℕ, List, ◌≤◌, not, ◌&&◌, nat_eq, Some, IfOk, OnOk, OnErr, length};
+ghost use Rattle.std.specs.List.{list_any};
+ghost use Rattle.stm_store.specs.Cells.{plains, Fits, applied, made_by, told as told_of};
+ghost use Rattle.stm_store.specs.Tables.{Declared};
+ghost use Rattle.stm_watch.specs.Pairs.{watches};
+ghost use Rattle.stm_queue.specs.Rising.{IsRising};
+ghost use Rattle.stm_history.specs.declared.event.Event.{Event};
+ghost use Rattle.stm_history.specs.declared.event.What.{What as AnyWhat};
+ghost use Rattle.stm_history.specs.SlowDesk.{state, is_blocks, written_in};
+ghost use Rattle.stm_history.specs.Machine.{StandsFor, CanFinish, MovesTo};
+ghost use Rattle.stm_history.specs.Marks.{with_tickets};
+ghost use Rattle.stm_history.specs.Plans.{IsPlan};
+ghost use Rattle.stm_history.specs.Refusals.{overflows, finish_refused, finish_told};
+
+use crate::errors::FinishError;
+use crate::index::{forget, queue_all, stale_tickets, unwatch_all};
+use crate::machine::Machine;
+use crate::tickets::Tickets;
+use std::alloc::Global;
+use stm_queue::Pending;
+use stm_store::{Applied, Store};
+use stm_terms::NoMemory;
+use stm_terms::verdicts::Verdict;
+use stm_watch::Watch;
+
+/// What a finish is to do: the verdict, with its new variables before they are numbered; the number that the first of them
+/// gets; and the tickets that become stale, rising.
+#[derive(Drop)]
+pub struct Plan {
+    pub verdict: Verdict,
+    pub first_new: u32,
+    pub stale: Tickets,
+}
+
+/// Whether the verdict is that the block blocks.
+pub(crate) fn blocks(verdict: &Verdict) -> bool
+    ensures { result ≡ is_blocks verdict.now }
+{
+    match verdict {
+        Verdict::Blocks => true,
+        _ => false,
+    }
+}
+
+/// Whether the new variables of a verdict don't fit the store.
+fn overflows_store(store: &Store, verdict: &Verdict) -> bool
+    ensures { result ≡ overflows store.now (Some verdict.now) }
+{
+    news_of(verdict) > Store::LIMIT - store.len()
+}
+
+fn news_of(verdict: &Verdict) -> usize
+    ensures { result ≡ length (made_by verdict.now) }
+{
+    match verdict {
+        Verdict::Commits { news, .. } => news.as_slice().len(),
+        _ => 0,
+    }
+}
+
+/// The copy of the verdict, the number and the tickets that a finish needs.
+fn make_plan(
+    alloc: Global,
+    store: &Store,
+    watch: &Watch,
+    verdict: &Verdict,
+    ticket: u32,
+) -> Result<Plan, NoMemory>
+    ensures verdict { IfOk result (λ p. p.verdict ≡ verdict.now) }
+    ensures first_new { IfOk result (λ p. p.first_new ≡ length store.now) }
+    ensures rising { IfOk result (λ p. IsRising p.stale) }
+    ensures watchers { IfOk result (λ p. (u : ℕ) → list_any (nat_eq u) p.stale ≡ (not (nat_eq u ticket) && watches watch.now (written_in verdict.now) u)) }
+{
+    let stale = Tickets::from_vec(stale_tickets(alloc, watch, verdict, ticket)?);
+    let verdict = verdict.copy(alloc)?;
+    Ok(Plan {
+        verdict,
+        first_new: store.len() as u32,
+        stale,
+    })
+}
+
+/// Makes room for a finish, and then its writes.
+fn take_effect(
+    pending: &mut Pending,
+    store: &mut Store,
+    verdict: &Verdict,
+    stale: usize,
+) -> Result<Applied, NoMemory>
+    requires { Fits (plains store.old) verdict.now }
+    ensures entries { pending.new.entries ≡ pending.old.entries }
+    ensures tickets { OnOk result (stale ≤ pending.new.room) }
+    ensures store { OnOk result (store.new ≡ applied store.old verdict.now) }
+    ensures told { IfOk result (λ a. a ≡ told_of store.old verdict.now) }
+    ensures err { OnErr result (store.new ≡ store.old) }
+{
+    pending.make_room(stale)?;
+    match store.apply(verdict) {
+        Ok(applied) => Ok(applied),
+        Err(_) => Err(NoMemory),
+    }
+}
+
+impl Machine {
+    /// Why the block can't be finished, or what its finish is to do. `full` says that the history has no room for an event.
+    pub fn plan(&self, ticket: u32, full: bool) -> Result<Plan, FinishError>
+        ensures told { (T : List Declared) (H : List Event) → StandsFor T H self.now → finish_told result ≡ finish_refused (state T H) full ticket }
+        ensures plan { IfOk result (λ p. (T : List Declared) (H : List Event) → StandsFor T H self.now → IsPlan (state T H) ticket p.verdict p.first_new p.stale) }
+    {
+        match self.waiting.get(ticket) {
+            None => Err(FinishError::NoTicket),
+            Some(waiting) => {
+                // The store and the block are known to be well typed by these.
+                let _cells = self.store.len();
+                let _action = waiting.block.block().action();
+                match &waiting.held {
+                    None => Err(FinishError::NotEvaluated),
+                    Some(held) => {
+                        if self.pending.has(ticket) {
+                            return Err(FinishError::Stale);
+                        }
+                        if blocks(&held.verdict) {
+                            return Err(FinishError::Blocks);
+                        }
+                        if full {
+                            return Err(FinishError::HistoryFull);
+                        }
+                        if overflows_store(&self.store, &held.verdict) {
+                            return Err(FinishError::CellsFull);
+                        }
+                        match make_plan(
+                            self.alloc,
+                            &self.store,
+                            &self.watch,
+                            &held.verdict,
+                            ticket,
+                        ) {
+                            Ok(plan) => Ok(plan),
+                            Err(_) => Err(FinishError::NoMemory),
+                        }
+                    }
+                }
+            }
+        }
+    }
+
+    /// The block takes effect by its plan and waits no more. Its stale tickets are queued.
+    pub fn finish(&mut self, ticket: u32, plan: &Plan) -> Result<Applied, NoMemory>
+        requires { (T : List Declared) × (H : List Event) × CanFinish T H self.old ticket plan.now.verdict plan.now.first_new plan.now.stale }
+        ensures moved { OnOk result ((T : List Declared) (H : List Event) → CanFinish T H self.old ticket plan.now.verdict plan.now.first_new plan.now.stale → MovesTo T H (AnyWhat.Finished ticket plan.now.verdict plan.now.first_new plan.now.stale) self.new) }
+        ensures applied { IfOk result (λ a. a ≡ told_of self.old.store plan.now.verdict) }
+        ensures pending { OnOk result (self.new.pending ≡ with_tickets plan.now.stale self.old.pending) }
+        ensures err { OnErr result (self.new ≡ self.old) }
+    {
+        let stale = plan.stale.as_slice();
+        match take_effect(
+            &mut self.pending,
+            &mut self.store,
+            &plan.verdict,
+            stale.len(),
+        ) {
+            Ok(applied) => {
+                unwatch_all(&mut self.watch, &self.waiting, stale);
+                let _ = forget(&mut self.waiting, &mut self.watch, ticket);
+                queue_all(&mut self.pending, stale);
+                Ok(applied)
+            }
+            Err(refused) => Err(refused),
+        }
+    }
+}

@@ -1,0 +1,108 @@
+//! A message of an evaluator.
+
+ghost use Rattle.std.specs.Prelude.{◌≡◌, List, OnOk, IfErr, OnErr, IsTrue, ◌↔◌, IsSomeAnd};
+ghost use Rattle.stm_terms.specs.Value.{same_value};
+ghost use Rattle.stm_store.specs.Tables.{Declared};
+ghost use Rattle.stm_queue.specs.Queue.{without_ticket};
+ghost use Rattle.stm_eval.specs.Told.{told_ticket, told_block, told_reads, told_verdict};
+ghost use Rattle.stm_history.specs.declared.event.Event.{Event};
+ghost use Rattle.stm_history.specs.declared.event.What.{What as AnyWhat};
+ghost use Rattle.stm_history.specs.SlowDesk.{under, waiter, state};
+ghost use Rattle.stm_history.specs.Machine.{StandsFor, CanInstall, MovesTo};
+ghost use Rattle.stm_history.specs.Refusals.{differing, has_value, install_told, TellsDelivery};
+
+use crate::errors::DeliverError;
+use crate::machine::Machine;
+use crate::waiting::{Held, Waiting};
+use stm_eval::Evaluated;
+use stm_store::Store;
+use stm_terms::NoMemory;
+use stm_terms::values::Value;
+
+/// Whether the message is of the block that waits.
+fn is_of(waiting: &Waiting, message: &Evaluated) -> bool
+    ensures { IsTrue result ↔ (waiting.now.block.tree ≡ (told_block message.now).tree) }
+{
+    waiting.block.block().same_tree(message.block().block())
+}
+
+/// The first of the variables read whose value differs now, or that isn't there.
+fn first_read_differing(store: &Store, message: &Evaluated) -> Option<u32>
+    ensures { result ≡ differing (under store.now) (told_reads message.now) }
+{
+    first_differing(store, message.reads().as_slice())
+}
+
+fn is_same(left: Value, right: Value) -> bool
+    ensures { result ≡ same_value left right }
+{
+    left == right
+}
+
+/// Whether the variable is there and has the value.
+fn holds_value(store: &Store, id: u32, value: Value) -> bool
+    ensures { result ≡ has_value (under store.now id) value }
+{
+    (id as usize) < store.len() && is_same(store.value(id), value)
+}
+
+/// The first of the variables read whose value differs now, or that isn't there.
+fn first_differing(store: &Store, reads: &[(u32, Value)]) -> Option<u32>
+    ensures { result ≡ differing (under store.now) reads.now }
+{
+    for (id, value) in reads {
+        if !holds_value(store, *id, *value) {
+            return Some(*id);
+        }
+    }
+    None
+}
+
+impl Machine {
+    /// Why the message can't be installed, want of memory aside. `full` says that the history has no room for an event.
+    pub fn may_install(&self, message: &Evaluated, full: bool) -> Result<(), DeliverError>
+        ensures told { (T : List Declared) (H : List Event) → StandsFor T H self.now → TellsDelivery (install_told result) (state T H) full (told_ticket message.now) (told_block message.now) (told_reads message.now) }
+        ensures same { OnOk result ((T : List Declared) (H : List Event) → StandsFor T H self.now → IsSomeAnd (waiter (told_ticket message.now) (state T H).waiters) (λ w. w.block.tree ≡ (told_block message.now).tree)) }
+    {
+        let ticket = message.ticket();
+        match self.waiting.get(ticket) {
+            None => return Err(DeliverError::Gone),
+            Some(waiting) => {
+                if !is_of(waiting, message) {
+                    return Err(DeliverError::OtherBlock);
+                }
+                if !self.pending.has(ticket) {
+                    return Err(DeliverError::Already);
+                }
+                match first_read_differing(&self.store, message) {
+                    Some(id) => return Err(DeliverError::Overtaken(id)),
+                    None => {}
+                }
+                if full {
+                    return Err(DeliverError::HistoryFull);
+                }
+                Ok(())
+            }
+        }
+    }
+
+    /// Installs a message: its block is current from then on, neither queued nor out. A refusal hands the message back.
+    pub fn install(&mut self, message: Evaluated) -> Result<(), (Evaluated, NoMemory)>
+        requires { (T : List Declared) × (H : List Event) × CanInstall T H self.old message }
+        ensures moved { OnOk result ((T : List Declared) (H : List Event) → CanInstall T H self.old message → MovesTo T H (AnyWhat.Installed (told_ticket message) (told_verdict message)) self.new) }
+        ensures pending { OnOk result (self.new.pending ≡ without_ticket (told_ticket message) self.old.pending) }
+        ensures back { IfErr result (λ e. e.0 ≡ message) }
+        ensures err { OnErr result (self.new ≡ self.old) }
+    {
+        match self.watch.add(message.ticket(), message.reads().as_slice()) {
+            Ok(()) => {
+                let ticket = message.ticket();
+                let (reads, verdict) = message.into_parts();
+                self.waiting.hold(ticket, Held { reads, verdict });
+                let _ = self.pending.remove(ticket);
+                Ok(())
+            }
+            Err(refused) => Err((message, refused)),
+        }
+    }
+}

@@ -1,0 +1,89 @@
+//! What the machine shows.
+
+ghost use Rattle.std.specs.Prelude.{◌≡◌, List, nat_lt, true, Some, length, option_map};
+ghost use Rattle.std.specs.Option.{option_copied};
+ghost use Rattle.stm_store.specs.Tables.{Declared, opened};
+ghost use Rattle.stm_history.specs.declared.event.Event.{Event};
+ghost use Rattle.stm_history.specs.SlowDesk.{Waiter, is_current, waiter, standing, start, state, serial, finished_from};
+ghost use Rattle.stm_history.specs.SlowSettle.{lowest};
+ghost use Rattle.stm_history.specs.Machine.{StandsFor};
+ghost use Rattle.stm_history.specs.Marks.{QueueIsRight};
+ghost use Rattle.stm_history.specs.Shown.{shown, read_then, read_now};
+ghost use Rattle.stm_history.specs.Taken.{block_at};
+
+use crate::machine::Machine;
+use crate::status::Status;
+use stm_check::Script;
+use stm_store::Store;
+use stm_terms::values::Value;
+
+impl Machine {
+    /// How the block under a ticket stands; none where no block waits. A stale verdict is the one that the block had at its
+    /// last delivery, and a current one is the one that it has on the present store.
+    pub fn status(&self, ticket: u32) -> Option<Status<'_>>
+        ensures { (T : List Declared) (H : List Event) → StandsFor T H self.now → option_map shown result ≡ option_map (standing (state T H).store) (waiter ticket (state T H).waiters) }
+    {
+        match self.waiting.get(ticket) {
+            None => None,
+            Some(waiting) => match &waiting.held {
+                None => Some(Status::New),
+                Some(held) => {
+                    if self.pending.has(ticket) {
+                        Some(Status::Stale(&held.verdict))
+                    } else {
+                        Some(Status::Current(&held.verdict))
+                    }
+                }
+            },
+        }
+    }
+
+    /// What the block under a ticket read at its last delivery, rising; none where no block waits or it is new. Those of a
+    /// current block have their values on the present store.
+    pub fn reads(&self, ticket: u32) -> Option<&[(u32, Value)]>
+        ensures then { (T : List Declared) (H : List Event) → StandsFor T H self.now → option_copied result ≡ read_then (waiter ticket (state T H).waiters) }
+        ensures present { (T : List Declared) (H : List Event) (w : Waiter) → StandsFor T H self.now → waiter ticket (state T H).waiters ≡ Some w → is_current w ≡ true → option_copied result ≡ Some (read_now (state T H).store w) }
+    {
+        match self.waiting.get(ticket) {
+            None => None,
+            Some(waiting) => match &waiting.held {
+                None => None,
+                Some(held) => Some(held.reads.as_slice()),
+            },
+        }
+    }
+
+    /// The block that waits under a ticket.
+    pub fn block(&self, ticket: u32) -> Option<&Script>
+        ensures { (T : List Declared) (H : List Event) → StandsFor T H self.now → option_copied result ≡ block_at (state T H) ticket }
+    {
+        match self.waiting.get(ticket) {
+            None => None,
+            Some(waiting) => Some(&waiting.block),
+        }
+    }
+
+    /// The present store: that of running the finished blocks alone, one after another.
+    pub fn store(&self) -> &Store
+        ensures parts { result.now ≡ self.now.store }
+        ensures store { (T : List Declared) (H : List Event) → StandsFor T H self.now → result.now ≡ (state T H).store }
+        ensures serial { (T : List Declared) (H : List Event) → StandsFor T H self.now → result.now ≡ serial (opened T) (finished_from (start T) H) }
+    {
+        &self.store
+    }
+
+    /// How many blocks wait. What holds of the queue stands here.
+    pub fn waiting(&self) -> usize
+        ensures waiting { (T : List Declared) (H : List Event) → StandsFor T H self.now → result ≡ length (state T H).waiters }
+        ensures queue { (T : List Declared) (H : List Event) → StandsFor T H self.now → QueueIsRight (state T H) self.now.pending }
+    {
+        self.waiting.len()
+    }
+
+    /// The least waiting ticket above this one.
+    pub fn next_waiting(&self, after: u32) -> Option<u32>
+        ensures { (T : List Declared) (H : List Event) → StandsFor T H self.now → result ≡ option_map (λ w. w.ticket) (lowest (λ w. nat_lt after w.ticket) (state T H).waiters) }
+    {
+        self.waiting.first_above(after)
+    }
+}

@@ -1,0 +1,157 @@
+//! The blocks that wait, by their tickets.
+
+ghost use Rattle.std.specs.Prelude.{◌≡◌, ◌≢◌, ℕ, ◌++◌, ◌∷◌, [], true, None, length, IfOk, OnOk, OnErr};
+ghost use Rattle.stm_queue.specs.Rising.{has};
+ghost use Rattle.std.specs.Option.{option_copied};
+ghost use Rattle.stm_history.specs.Entries.{kept_at, kept, lose, with_held, AllBelow, held_reads, held_ends, ends_under, first_above};
+
+use crate::finish::blocks;
+use crate::ticket_set::TicketSet;
+use std::alloc::{AllocError as NoMemory, Global};
+use std::collections::BTreeMap;
+use std::marker::Model;
+use std::ops::Bound;
+use stm_check::Script;
+use stm_log::Reads;
+use stm_terms::values::Value;
+use stm_terms::verdicts::Verdict;
+
+/// What the last accepted delivery brought.
+#[derive(Drop)]
+pub struct Held {
+    pub reads: Reads,
+    pub verdict: Verdict,
+}
+
+/// A block that waits, with what its last accepted delivery brought.
+#[derive(Drop)]
+pub struct Waiting {
+    pub block: Script,
+    pub held: Option<Held>,
+}
+
+impl Waiting {
+    /// What the block read at its last delivery; nothing before there was one.
+    pub fn reads(&self) -> &[(u32, Value)]
+        ensures { result.now ≡ held_reads self.now.held }
+    {
+        match &self.held {
+            Some(held) => held.reads.as_slice(),
+            None => &[],
+        }
+    }
+
+    /// Whether its last delivery brought a verdict that doesn't block.
+    pub fn ends(&self) -> bool
+        ensures { result ≡ held_ends self.now.held }
+    {
+        match &self.held {
+            None => false,
+            Some(held) => !blocks(&held.verdict),
+        }
+    }
+}
+
+/// The waiting blocks in the order of their tickets.
+#[derive(Drop)]
+pub struct WaitingBlocks {
+    map: BTreeMap<u32, Waiting>,
+}
+
+impl Model for WaitingBlocks {
+    ghost use Rattle.std.specs.Prelude.{List, ℕ};
+    ghost use Rattle.std.specs.Coded.{codes};
+    ghost use Rattle.stm_terms.specs.Codes.{act_code};
+    ghost use Rattle.stm_history.specs.declared.waiting.Waiting.{Waiting as AnyWaiting};
+
+    ghost Value = { List (ℕ × AnyWaiting) };
+
+    ghost coded = { Prim.hlevel (codes, act_code) };
+
+    ghost view = { λ w. w.map.entries };
+}
+
+impl WaitingBlocks {
+    pub fn empty(alloc: Global) -> WaitingBlocks
+        ensures { result ≡ [] }
+    {
+        WaitingBlocks {
+            map: BTreeMap::new(alloc),
+        }
+    }
+
+    pub fn len(&self) -> usize
+        ensures { result ≡ length self.now }
+    {
+        self.map.len()
+    }
+
+    /// The block that waits under a ticket.
+    pub fn get(&self, ticket: u32) -> Option<&Waiting>
+        ensures { option_copied result ≡ kept_at ticket self.now }
+    {
+        self.map.get(&ticket)
+    }
+
+    /// The least ticket above this one.
+    pub fn first_above(&self, after: u32) -> Option<u32>
+        ensures { result ≡ first_above after self.now }
+    {
+        match self
+            .map
+            .range((Bound::Excluded(after), Bound::Unbounded))
+            .next()
+        {
+            Some((ticket, _)) => Some(*ticket),
+            None => None,
+        }
+    }
+
+    /// The tickets of the blocks whose last delivery brought a verdict that doesn't block.
+    pub(crate) fn ending(&self, alloc: Global) -> Result<TicketSet, NoMemory>
+        ensures { IfOk result (λ cs. (t : ℕ) → ends_under t self.now ≡ true → has t cs ≡ true) }
+    {
+        let mut tickets = TicketSet::empty(alloc);
+        for (ticket, waiting) in self.map.iter() {
+            if waiting.ends() {
+                tickets.add(*ticket)?;
+            }
+        }
+        Ok(tickets)
+    }
+
+    /// One block more, behind the others.
+    pub fn insert(&mut self, ticket: u32, block: Script) -> Result<(), NoMemory>
+        requires { AllBelow ticket self.old }
+        ensures ok { OnOk result (self.new ≡ self.old ++ (ticket, record { block = block; held = None }) ∷ []) }
+        ensures err { OnErr result (self.new ≡ self.old) }
+    {
+        self.map.insert(ticket, Waiting { block, held: None })?;
+        Ok(())
+    }
+
+    /// What a delivery brings to a block that waits.
+    pub fn hold(&mut self, ticket: u32, held: Held)
+        requires { kept_at ticket self.old ≢ None }
+        ensures { self.new ≡ with_held ticket held self.old }
+    {
+        match self.map.get_mut(&ticket) {
+            Some(waiting) => keep(waiting, held),
+            None => unreachable!(),
+        }
+    }
+
+    /// The block waits no more.
+    pub fn remove(&mut self, ticket: u32) -> Option<Waiting>
+        ensures was { result ≡ kept_at ticket self.old }
+        ensures gone { self.new ≡ lose ticket self.old }
+    {
+        self.map.remove(&ticket)
+    }
+}
+
+fn keep(waiting: &mut Waiting, held: Held)
+    ensures { waiting.new ≡ kept held waiting.old }
+{
+    waiting.held = Some(held);
+}
