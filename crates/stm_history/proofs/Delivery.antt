@@ -16,7 +16,7 @@ use Rattle.stm_eval.specs.declared.message.Evaluated.{Evaluated}
 use Rattle.stm_eval.specs.Messages.{Agrees, Holds}
 use Rattle.stm_eval.specs.Told.{told_ticket, told_block, told_reads, told_verdict}
 use Rattle.stm_watch.specs.Pairs.{Pairs, WithReads}
-use Rattle.stm_queue.specs.Queue.{Entry, has_ticket, without_ticket, marked}
+use Rattle.stm_queue.specs.Queue.{Entry, has_ticket, without_ticket, marked, recalled}
 use Rattle.stm_history.specs.declared.event.Event.{Event}
 use Rattle.stm_history.specs.declared.event.What.TheVariants.{Installed}
 use Rattle.stm_history.specs.SlowDesk.{Waiter, Slow, under, is_current, waiter, state, Allows, max_clients}
@@ -191,3 +191,7 @@ requeued table history m ps same k = record {
     index = k.stands.index;
   };
 }
+
+pub has_recalled : (u : ℕ) (es : List Entry) → has_ticket u (recalled es) ≡ has_ticket u es
+has_recalled u [] = refl
+has_recalled u (e ∷ es) = ap (λ (b : Bool). nat_eq u e.0 || b) (has_recalled u es)

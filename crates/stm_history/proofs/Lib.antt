@@ -1,5 +1,6 @@
 -- The laws.
 pub mod Covered
+pub mod Few
 pub mod Folds
 pub mod Fresh
 pub mod Rising
@@ -13,6 +14,8 @@ pub mod Points
 pub mod Rises
 pub mod Stales
 -- Its moves, and its questions.
+pub mod Agreeing
+pub mod Allowed
 pub mod Calls
 pub mod Delivery
 pub mod Finishing

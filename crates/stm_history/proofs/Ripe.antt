@@ -87,3 +87,8 @@ ends_then table history m k t = kept_is (kept_at t m.entries) (waiter t (state t
 pub ends_now : (table : List Declared) (history : List Event) (m : Parts) → StandsFor table history m → (t : ℕ) (w : Waiter) → waiter t (state table history).waiters ≡ Some w → is_current w ≡ true
     → kept_ends (kept_at t m.entries) ≡ can_end (state table history).store w
 ends_now table history m k t w e c = ends_then table history m k t ∙ ap ended_then e ∙ sym (same_ends table history m k t w e c)
+
+pub if_begin : {E : Type 0} (m : Parts) (es : List (ℕ × Waiting)) (r : Result (List ℕ) E) → ((table : List Declared) (history : List Event) → StandsFor table history m → AreDue es (state table history).waiters)
+    → IfOk r (λ cs. (t : ℕ) → ends_under t es ≡ true → has t cs ≡ true) → IfOk r (λ cs. (table : List Declared) (history : List Event) → StandsFor table history m → AreCandidates (state table history) cs)
+if_begin m es (Ok cs) d h = λ table history k. begin_candidates (state table history) es cs (d table history k) h
+if_begin m es (Err e) d h = tt

@@ -1,5 +1,5 @@
 -- What is handed out to evaluators, and what comes back.
-use Rattle.std.specs.Prelude.{◌≡◌, ℕ, zero, suc, List, [], ◌∷◌, Option, Some, option_map}
+use Rattle.std.specs.Prelude.{◌≡◌, ℕ, zero, suc, List, [], ◌∷◌, Option, Some, None, option_map}
 use Rattle.stm_terms.specs.declared.kinds.Ty.{Ty}
 use Rattle.stm_terms.specs.declared.values.Value.{Value}
 use Rattle.stm_terms.specs.Looks.{reads_of}
@@ -12,6 +12,7 @@ use Rattle.stm_queue.specs.Queue.{Entry, first_queued, sent_out}
 use Rattle.stm_history.specs.SlowDesk.{Waiter, Slow, under, verdict_on, waiter}
 use Rattle.stm_history.specs.declared.waiting.Waiting.{Waiting}
 use Rattle.stm_history.specs.Entries.{kept_at}
+use Rattle.stm_history.specs.Refusals.{differing}
 
 -- the n lowest queued tickets are out
 abbrev pub sent : ℕ → List Entry → List Entry
@@ -40,7 +41,7 @@ abbrev pub AreCovered : List (Ty × Value) → List Job → Type 0
 AreCovered cells [] = Unit {0}
 AreCovered cells (j ∷ js) = Covers cells j.block.uses × AreCovered cells js
 
--- the message is what the block that waits under the ticket does on the present store
+-- the message is what the block that waits under the ticket does on the present store, so nothing of it was overtaken
 pub record IsPresent (s : Slow) (t : ℕ) (m : Evaluated) : Type 0 where
   pub one : Waiter
   pub found : waiter t s.waiters ≡ Some one
@@ -48,3 +49,4 @@ pub record IsPresent (s : Slow) (t : ℕ) (m : Evaluated) : Type 0 where
   pub block : told_block m ≡ one.block
   pub verdict : verdict_on s.store one.block ≡ Some (told_verdict m)
   pub reads : told_reads m ≡ reads_of (under s.store) one.block.tree
+  pub differs : differing (under s.store) (told_reads m) ≡ None

@@ -3,6 +3,7 @@
 ghost use Rattle.std.specs.Prelude.{◌≡◌, List, OnOk, IfErr, OnErr, IsTrue, ◌↔◌, IsSomeAnd};
 ghost use Rattle.stm_terms.specs.Value.{same_value};
 ghost use Rattle.stm_store.specs.Tables.{Declared};
+ghost use Rattle.stm_watch.specs.Pairs.{WithReads};
 ghost use Rattle.stm_queue.specs.Queue.{without_ticket};
 ghost use Rattle.stm_eval.specs.Told.{told_ticket, told_block, told_reads, told_verdict};
 ghost use Rattle.stm_history.specs.declared.event.Event.{Event};
@@ -18,6 +19,7 @@ use stm_eval::Evaluated;
 use stm_store::Store;
 use stm_terms::NoMemory;
 use stm_terms::values::Value;
+use stm_watch::Watch;
 
 /// Whether the message is of the block that waits.
 fn is_of(waiting: &Waiting, message: &Evaluated) -> bool
@@ -58,6 +60,14 @@ fn first_differing(store: &Store, reads: &[(u32, Value)]) -> Option<u32>
     None
 }
 
+/// The ticket of the message watches what its block read.
+fn watch_reads(watch: &mut Watch, message: &Evaluated) -> Result<(), NoMemory>
+    ensures ok { OnOk result (WithReads watch.old (told_ticket message.now) (told_reads message.now) watch.new) }
+    ensures err { OnErr result (watch.new ≡ watch.old) }
+{
+    watch.add(message.ticket(), message.reads().as_slice())
+}
+
 impl Machine {
     /// Why the message can't be installed, want of memory aside. `full` says that the history has no room for an event.
     pub fn may_install(&self, message: &Evaluated, full: bool) -> Result<(), DeliverError>
@@ -94,7 +104,7 @@ impl Machine {
         ensures back { IfErr result (λ e. e.0 ≡ message) }
         ensures err { OnErr result (self.new ≡ self.old) }
     {
-        match self.watch.add(message.ticket(), message.reads().as_slice()) {
+        match watch_reads(&mut self.watch, &message) {
             Ok(()) => {
                 let ticket = message.ticket();
                 let (reads, verdict) = message.into_parts();

@@ -1,10 +1,10 @@
 //! What the machine shows.
 
-ghost use Rattle.std.specs.Prelude.{◌≡◌, List, nat_lt, true, Some, length, option_map};
+ghost use Rattle.std.specs.Prelude.{◌≡◌, ◌≤◌, List, nat_lt, true, Some, length, option_map};
 ghost use Rattle.std.specs.Option.{option_copied};
 ghost use Rattle.stm_store.specs.Tables.{Declared, opened};
 ghost use Rattle.stm_history.specs.declared.event.Event.{Event};
-ghost use Rattle.stm_history.specs.SlowDesk.{Waiter, is_current, waiter, standing, start, state, serial, finished_from};
+ghost use Rattle.stm_history.specs.SlowDesk.{Waiter, is_current, waiter, standing, start, state, serial, finished_from, max_waiting};
 ghost use Rattle.stm_history.specs.SlowSettle.{lowest};
 ghost use Rattle.stm_history.specs.Machine.{StandsFor};
 ghost use Rattle.stm_history.specs.Marks.{QueueIsRight};
@@ -75,6 +75,7 @@ impl Machine {
     /// How many blocks wait. What holds of the queue stands here.
     pub fn waiting(&self) -> usize
         ensures waiting { (T : List Declared) (H : List Event) → StandsFor T H self.now → result ≡ length (state T H).waiters }
+        ensures few { (T : List Declared) (H : List Event) → StandsFor T H self.now → result ≤ max_waiting }
         ensures queue { (T : List Declared) (H : List Event) → StandsFor T H self.now → QueueIsRight (state T H) self.now.pending }
     {
         self.waiting.len()

@@ -1,0 +1,27 @@
+use Rattle.std.proofs.Common.{◌≡◌, None, sym, subst}
+use Rattle.std.specs.Prelude.{IsSomeAnd}
+use Rattle.stm_eval.specs.Told.{told_ticket, told_block, told_reads, told_verdict}
+use Rattle.stm_eval.proofs.Uses.{to_store}
+use Rattle.stm_history.specs.SlowDesk.{waiter, state}
+use Rattle.stm_history.specs.Entries.{kept_at}
+use Rattle.stm_history.specs.Machine.{Parts, CanInstall}
+use Rattle.stm_history.proofs.Calls.{lost}
+use Rattle.stm_history.proofs.Delivery.{moves_install}
+use Rattle.stm_history.proofs.machine.Machine.install.Goals as goal
+
+pub hold-requires : goal.hold-requires
+hold-requires c = λ e.
+    let T = c.requires.0 in let H = c.requires.1 in
+    let m = c.args.message in
+    let k = subst (λ (z : Parts). CanInstall T H z m) (sym c.self.view_is) c.requires.2 in
+    let f : kept_at (told_ticket m) c.self.inside.waiting ≡ None = rw (← c.ticket-ticket.ensures) e in
+    let n = lost (told_ticket m) c.self.inside.waiting _ k.stands.stands.entries_are f in
+    let s : IsSomeAnd (waiter (told_ticket m) (state T H).waiters) (λ w. w.block.tree ≡ (told_block m).tree) = k.same in
+    rw n at s
+
+pub returns-in-Ok-clause-moved : goal.returns-in-Ok-clause-moved
+returns-in-Ok-clause-moved c = λ T H h.
+    let m = c.args.message in
+    let k = subst (λ (z : Parts). CanInstall T H z m) (sym c.self.view_is) h in
+    rw (c.hold.ensures, c.remove.ensures.gone, c.ticket-ticket.ensures, c.into_parts-reads.ensures.reads, c.into_parts-reads.ensures.verdict)
+    (moves_install T H _ _ m k (λ S a. to_store (told_block m).tree (told_reads m) (told_verdict m) S (record { defined = m.defined; all_read = m.all_read }) a) c.in-Ok.ensures.ok)
