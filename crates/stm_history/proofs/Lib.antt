@@ -27,7 +27,6 @@ pub mod Taking
 -- Histories as text.
 pub mod Cuts
 pub mod Exact
-pub mod Few
 pub mod FitsPushed
 pub mod OneLines
 pub mod Parts

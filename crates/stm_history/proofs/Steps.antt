@@ -1,25 +1,15 @@
 -- What a legal event says of the slow desk before it: no question is refused, and its fields are the answers.
 use Rattle.std.proofs.Common.{◌≡◌, ◌≢◌, ℕ, suc, ◌+◌, ◌≤◌, ◌<◌, Bool, true, false, not, cond, List, [], ◌∷◌, ◌++◌, length, Option, Some, None, Result, Ok, Err, OnOk, is_some, refl, sym, ap, ◌∙◌, subst, arith, length-append}
 use Rattle.std.specs.Prelude.{nat_eq, nat_le, IsSomeAnd, IsSome, IfSome, option_map}
-use Rattle.std.proofs.lemmas.Bool.Decides.{nat_tests}
 use Rattle.stm_terms.specs.declared.kinds.Ty.{Ty}
-use Rattle.stm_terms.specs.declared.kinds.Base.{Base}
-use Rattle.stm_terms.specs.declared.kinds.Base.TheVariants as base
 use Rattle.stm_terms.specs.declared.values.Value.{Value}
 use Rattle.stm_terms.specs.declared.verdicts.Verdict.{Verdict}
-use Rattle.stm_terms.specs.Trees.{Act}
-use Rattle.stm_terms.specs.Typing.{same_base, same_ty, Rising, AllAbove}
-use Rattle.stm_terms.specs.Views.{Variables, find}
-use Rattle.stm_terms.specs.Looks.{reads_of}
-use Rattle.stm_terms.proofs.SameValues.{value_same}
 use Rattle.stm_store.specs.declared.cell.Cell.{Cell}
 use Rattle.stm_store.specs.Cells.{plains, Covers, kinds_of, made_by}
 use Rattle.stm_store.specs.Tables.{Declared, is_kind}
 use Rattle.stm_check.specs.Blocks.{Block}
-use Rattle.stm_eval.specs.Messages.{Agrees}
 use Rattle.stm_eval.specs.declared.message.Evaluated.{Evaluated}
 use Rattle.stm_eval.specs.Told.{told_ticket, told_block, told_reads, told_verdict}
-use Rattle.stm_eval.proofs.Uses.{of_the_store}
 use Rattle.stm_history.specs.declared.errors.DeliverError.{DeliverError}
 use Rattle.stm_history.specs.declared.event.Event.{Event}
 use Rattle.stm_history.specs.declared.event.What.{What}
@@ -30,6 +20,7 @@ use Rattle.stm_history.specs.Plans.{IsPlan}
 use Rattle.stm_history.specs.Refusals.{missing, submit_first, submit_refused, cancel_first, cancel_refused, has_value, differing, install_first, overtaken_first, DeliverTold, TellsDelivery, finish_first, finish_refused, blocks_there, overflows}
 use Rattle.stm_history.specs.SlowDesk.{Since, Waiter, Slow, under, verdict_on, is_blocks, is_new, is_current, current_since, is_new_since, waiter, without, stale_after, written_in, MayInstall, MayFinish, Allows, AllowsEvent, start, state, LegalFrom, IsLegal, max_events, max_waiting, max_cells, max_clients, after}
 use Rattle.stm_history.specs.Taken.{IsPresent, block_at}
+use Rattle.stm_history.proofs.Allowed.{wait_allowed, leave_allowed, finish_allowed}
 use Rattle.stm_history.proofs.Folds.{IsLegalPush, legal_split, state-push}
 
 module _ (table : List Declared) (history : List Event) (client : ℕ) (what : What) (a : IsLegal table (history ++ event client what ∷ [])) where
@@ -45,58 +36,21 @@ module _ (table : List Declared) (history : List Event) (client : ℕ) (what : W
 
 -- ---- submit
 
-same_base_itself : (b : Base) → same_base b b ≡ true
-same_base_itself base.Int = refl
-same_base_itself base.Bool = refl
-same_base_itself base.Unit = refl
-
-number_itself : (n : ℕ) → nat_eq n n ≡ true
-number_itself n = grind (arith, nat_tests)
-
-same_ty_itself : (t : Ty) → same_ty t t ≡ true
-same_ty_itself t = rw (same_base_itself t.base) (number_itself t.refs)
-
-kind_there : (o : Option Ty) (t : Ty) → o ≡ Some t → is_kind o t ≡ true
-kind_there o t e = ap (λ (x : Option Ty). is_kind x t) e ∙ same_ty_itself t
-
-missing_none : (cells : List (Ty × Value)) (uses : List (ℕ × Ty)) → Covers cells uses → missing cells uses ≡ None
-missing_none cells [] c = refl
-missing_none cells (u ∷ us) c = rw (kind_there (kinds_of cells u.0) u.1 c.0) (missing_none cells us c.1)
-
 pub no_submit : (table : List Declared) (history : List Event) (client t : ℕ) (b : Block) → IsLegal table (history ++ event client (Submitted t b) ∷ []) → submit_refused (state table history) false b ≡ None
-no_submit table history client t b a =
-    let s = allowed table history client (Submitted t b) a in
-    let few : nat_le max_waiting (length (state table history).waiters) ≡ false = (let h = s.2 in grind (arith, nat_tests)) in
-    rw (missing_none (plains (state table history).store) b.uses s.1, few) refl
+no_submit table history client t b a = wait_allowed (state table history) t b (allowed table history client (Submitted t b) a)
 
-pub submit_same : (table : List Declared) (history : List Event) (client t u : ℕ) (b c : Block) → IsLegal table (history ++ event client (Submitted t b) ∷ []) → IsLegal table (history ++ event client (Submitted u c) ∷ []) → t ≡ u
-submit_same table history client t u b c k l = (allowed table history client (Submitted t b) k).0 ∙ sym (allowed table history client (Submitted u c) l).0
+pub submit_same : (table : List Declared) (history : List Event) (client other t u : ℕ) (b c : Block) → IsLegal table (history ++ event client (Submitted t b) ∷ []) → IsLegal table (history ++ event other (Submitted u c) ∷ []) → t ≡ u
+submit_same table history client other t u b c k l = (allowed table history client (Submitted t b) k).0 ∙ sym (allowed table history other (Submitted u c) l).0
 
 -- ---- cancel
 
-cancel_none : (o : Option Waiter) → IsSomeAnd o (λ w. Unit {0}) → cancel_first o false ≡ None
-cancel_none None s = absurd s
-cancel_none (Some w) s = refl
-
 pub no_cancel : (table : List Declared) (history : List Event) (client t : ℕ) → IsLegal table (history ++ event client (Cancelled t) ∷ []) → cancel_refused (state table history) false t ≡ None
-no_cancel table history client t a = cancel_none (waiter t (state table history).waiters) (allowed table history client (Cancelled t) a)
+no_cancel table history client t a = leave_allowed (state table history) t (allowed table history client (Cancelled t) a)
 
 -- ---- finish
 
-current_old : (b : Block) (o : Option Since) → current_since b o ≡ true → is_new_since o ≡ false
-current_old b None c = cc
-current_old b (Some s) c = refl
-
-fits_there : (store : List Cell) (v : Verdict) → length store + length (made_by v) ≤ max_cells → overflows store (Some v) ≡ false
-fits_there store v h = let e : nat_le (length store + length (made_by v)) max_cells ≡ true = grind (arith, nat_tests) in ap not e
-
-finish_none : (s : Slow) (t : ℕ) (v : Verdict) (n : ℕ) (stale : List ℕ) (o : Option Waiter) → IsSomeAnd o (λ w. MayFinish s t w v n stale) → finish_first s.store false o ≡ None
-finish_none s t v n stale None m = absurd m
-finish_none s t v n stale (Some w) m = rw (current_old w.block w.since m.current, m.current, m.verdict_is, m.ends, fits_there s.store v m.room) refl
-
 pub no_finish : (table : List Declared) (history : List Event) (client t : ℕ) (v : Verdict) (n : ℕ) (stale : List ℕ) → IsLegal table (history ++ event client (Finished t v n stale) ∷ []) → finish_refused (state table history) false t ≡ None
-no_finish table history client t v n stale a =
-    finish_none (state table history) t v n stale (waiter t (state table history).waiters) (allowed table history client (Finished t v n stale) a)
+no_finish table history client t v n stale a = finish_allowed (state table history) t v n stale (allowed table history client (Finished t v n stale) a)
 
 -- the fields are those of the block
 pub record AreSame (v u : Verdict) (n m : ℕ) (k l : List ℕ) : Type 0 where
@@ -128,47 +82,19 @@ finish_same table history client t v u n m k l p g =
 
 -- ---- install
 
-value_there : (o : Option Value) (v : Value) → o ≡ Some v → has_value o v ≡ true
-value_there o v e = ap (λ (x : Option Value). has_value x v) e ∙ value_same v
-
--- rising keys: what is found behind the first is found with it
-above_step : (b : Bool) (k i : ℕ) (v : Value) (r : ℕ × Value) (rs : List (ℕ × Value)) → k < r.0 → nat_eq r.0 i ≡ b → cond b (Some r.1) (find i rs) ≡ Some v → (find i rs ≡ Some v → nat_eq k i ≡ false) → nat_eq k i ≡ false
-above_step true k i v r rs h n e more = grind (arith, nat_tests)
-above_step false k i v r rs h n e more = more e
-
-above_found : (k i : ℕ) (v : Value) (rs : List (ℕ × Value)) → AllAbove k rs → find i rs ≡ Some v → nat_eq k i ≡ false
-above_found k i v [] h e = cc
-above_found k i v (r ∷ rs) h e = above_step (nat_eq r.0 i) k i v r rs h.0 refl e (above_found k i v rs h.1)
-
-tail_agrees : (S : Variables) (r : ℕ × Value) (rs : List (ℕ × Value)) → AllAbove r.0 rs → Agrees (r ∷ rs) S → Agrees rs S
-tail_agrees S r rs h a i v e = a i v (rw (above_found r.0 i v rs h e) e)
-
-none_differing : (S : Variables) (reads : List (ℕ × Value)) → Rising reads → Agrees reads S → differing S reads ≡ None
-none_differing S [] h a = refl
-none_differing S (r ∷ rs) h a =
-    let here : S r.0 ≡ Some r.1 = a r.0 r.1 (rw (number_itself r.0) refl) in
-    rw (value_there (S r.0) r.1 here) (none_differing S rs h.1 (tail_agrees S r rs h.0 a))
-
-pub own_reads : (S : Variables) (block : Act) → differing S (reads_of S block) ≡ None
-own_reads S block = let h = of_the_store block S in none_differing S (reads_of S block) h.0 h.1
-
 -- a message of the present store is not refused where its verdict may be installed
-install_none : (store : List Cell) (w : Waiter) (reads : List (ℕ × Value)) → is_current w ≡ false → differing (under store) reads ≡ None → install_first store false w reads ≡ None
-install_none store w reads c d = rw (c, d) refl
-
-install_by : (s : Slow) (v : Verdict) (told : Option DeliverError) (w : Waiter) (o : Option Waiter) (block : Block) (reads : List (ℕ × Value)) → o ≡ Some w → IsSomeAnd o (λ w. MayInstall s w v) → block ≡ w.block
-    → reads ≡ reads_of (under s.store) w.block.tree → DeliverTold told s.store false o block reads → told ≡ None
-install_by s v told w None block reads f m e r d = absurd m
-install_by s v told w (Some x) block reads f m e r d =
+install_by : (s : Slow) (v : Verdict) (told : Option DeliverError) (w : Waiter) (o : Option Waiter) (m : Evaluated) → o ≡ Some w → IsSomeAnd o (λ w. MayInstall s w v) → told_block m ≡ w.block
+    → differing (under s.store) (told_reads m) ≡ None → DeliverTold told s.store false o (told_block m) (told_reads m) → told ≡ None
+install_by s v told w None m f a e d k = absurd a
+install_by s v told w (Some x) m f a e d k =
     let q : x ≡ w = cc in
-    let trees : x.block.tree ≡ block.tree = ap (λ (y : Waiter). y.block.tree) q ∙ ap (λ (y : Block). y.tree) (sym e) in
-    let own : reads ≡ reads_of (under s.store) x.block.tree = r ∙ ap (λ (y : Waiter). reads_of (under s.store) y.block.tree) (sym q) in
-    d.1 trees ∙ install_none s.store x reads m.not_current (ap (differing (under s.store)) own ∙ own_reads (under s.store) x.block.tree)
+    let trees : x.block.tree ≡ (told_block m).tree = ap (λ (y : Waiter). y.block.tree) q ∙ ap (λ (y : Block). y.tree) (sym e) in
+    k.1 trees ∙ rw (a.not_current, d) refl
 
 pub no_install : (table : List Declared) (history : List Event) (client : ℕ) (v : Verdict) (told : Option DeliverError) (m : Evaluated) → IsLegal table (history ++ event client (Installed (told_ticket m) v) ∷ [])
     → IsPresent (state table history) (told_ticket m) m → TellsDelivery told (state table history) false (told_ticket m) (told_block m) (told_reads m) → told ≡ None
 no_install table history client v told m a p k =
-    install_by (state table history) v told p.one (waiter (told_ticket m) (state table history).waiters) (told_block m) (told_reads m) p.found (allowed table history client (Installed (told_ticket m) v) a) p.block p.reads k
+    install_by (state table history) v told p.one (waiter (told_ticket m) (state table history).waiters) m p.found (allowed table history client (Installed (told_ticket m) v) a) p.block p.differs k
 
 install_same_by : (s : Slow) (v u : Verdict) (w : Waiter) (o : Option Waiter) → o ≡ Some w → IsSomeAnd o (λ w. MayInstall s w v) → verdict_on s.store w.block ≡ Some u → u ≡ v
 install_same_by s v u w None f m e = absurd m

@@ -17,4 +17,4 @@ returns-else-given-ticket-clause-not_allowed c = λ n T H h client a.
     let none : submit_refused (state T H) false c.in_ok-block.block ≡ None = ap (submit_refused (state T H) false) c.in_ok-block.ensures ∙ no_submit T H client c.args.ticket c.args.block.now a in
     let can : CanWait T H c.args.machine.now c.in_ok-block.block = record { stands = h.stands; room = h.room; allowed = none } in
     let moved = c.in_ok-given.ensures.moved T H can 0 (omega arith) in
-    c.if-given-ticket.false (submit_same T H 0 c.in_ok-given.given client c.args.ticket c.in_ok-block.block c.args.block.now moved.legal a)
+    c.if-given-ticket.false (submit_same T H 0 client c.in_ok-given.given c.args.ticket c.in_ok-block.block c.args.block.now moved.legal a)
