@@ -1,7 +1,8 @@
 -- What is told of the bytes where a line is refused.
-use Rattle.std.proofs.Common.{◌≡◌, ◌≢◌, ℕ, suc, ◌+◌, ◌≤◌, ◌<◌, ◌^◌, List, [], ◌∷◌, ◌++◌, length, refl, sym, ap, ◌∙◌, subst, arith, append_assoc, append-nil, length-append, ◌⊎◌, inl, inr, take, drop, get_or, add-one, decimal, codes}
+use Rattle.std.proofs.Common.{◌≡◌, ◌≢◌, ℕ, suc, ◌+◌, ◌≤◌, ◌<◌, ◌^◌, List, [], ◌∷◌, ◌++◌, length, refl, sym, ap, ◌∙◌, subst, arith, append_assoc, append-nil, length-append, ◌⊎◌, inl, inr, take, drop, get_or, add-one, decimal, codes, Result, Ok, Err, IfOk}
 use Rattle.std.proofs.Math.Seq.{drop-cons}
 use Rattle.std.proofs.lemmas.Fmt.{length-decimal-le}
+use Rattle.json.specs.Print.{escape_byte}
 use Rattle.std.proofs.lemmas.List.{take-append-drop}
 use Rattle.stm_store.specs.Tables.{Declared}
 use Rattle.stm_history.specs.declared.event.Event.{Event}
@@ -15,6 +16,9 @@ use Rattle.stm_history.specs.declared.files.fault.HistoryFault.{HistoryFault}
 use Rattle.stm_history.specs.declared.files.fault.HistoryFault.TheVariants.{BadHeader, BadLine, NotLegal, NoMemory}
 use Rattle.stm_history.specs.declared.files.fault.Legal.{Legal}
 use Rattle.stm_history.specs.declared.files.check.Stage.{Stage}
+use Rattle.stm_history.specs.declared.files.check.Stage.TheVariants.{Declaring, Running}
+use Rattle.stm_history.specs.declared.files.replayer.Replayer.{Replayer}
+use Rattle.stm_history.specs.Following.{Follows}
 use Rattle.stm_history.specs.Checking.{Progress, at_header, at_variables, at_events, LeadsTo, LinesUpTo, NoNext, NoFeed, IsStrange, strange, Forbids, MayRefuse, HasTaken}
 use Rattle.stm_history.specs.Stages.{IsStage, Reached, LeadsToStage}
 use Rattle.stm_history.proofs.Cuts.{IsCut, cut_unique, no_cut, no_feed_at_end, nofeed-push, no_feed}
@@ -24,12 +28,11 @@ header_no_feed : (n : ℕ) → n ≤ max_cells → NoFeed (header_line format_1 
 header_no_feed n h = no_feed (header_line format_1 n) (header_one_line format_1 n (omega arith) (omega (arith, h)))
 
 pub header_short : (n : ℕ) → n ≤ max_cells → IsShort (header_line format_1 n)
-unfolding header_line
+unfolding header_line escape_byte
 header_short n h =
     let d = length-decimal-le 7 n (omega arith) (omega arith) (omega arith) in
-    let l = length-append (codes "{\"format\":1,\"vars\":") (decimal n ++ codes "}") in
-    let m = length-append (decimal n) (codes "}") in
-    omega (arith, d, l, m)
+    let one = length-decimal-le 1 1 (omega arith) (omega arith) (omega arith) in
+    simp length-append (omega (arith, d, one))
 
 variable_no_feed : (d : Declared) → FitsVariable d → NoFeed (variable_line d)
 variable_no_feed d f = no_feed (variable_line d) (variable_one_line d f)
@@ -136,10 +139,16 @@ TellsFault-refused at_header line taken more e h (inr (inr k)) = absurd k
 TellsFault-refused (at_variables n cells) line taken more e h (inr (inr k)) = absurd k
 TellsFault-refused (at_events table history) line taken more e h (inr (inr k)) =
     let s = h.lines in
-    subst (λ (x : HistoryFault). TellsFault format_1 x (taken ++ 10 ∷ more)) (sym k.4)
-    (table, history, k.0, more,
-    record { text = ap (λ x. x ++ 10 ∷ more) h.taken_is ∙ append_assoc h.whole line (10 ∷ more) ∙ ap (λ x. x ++ (line ++ 10 ∷ more)) s.0 ∙ ap (λ x. history_text format_1 table history ++ (x ++ 10 ∷ more)) (sym k.1); few = s.2; variables = s.1; events = s.3; legal = s.4 },
-    refl, k.2, k.3)
+    subst (λ (x : HistoryFault). TellsFault format_1 x (taken ++ 10 ∷ more)) (sym k.4) (
+      table,
+      history,
+      k.0,
+      more,
+      record { text = ap (λ x. x ++ 10 ∷ more) h.taken_is ∙ append_assoc h.whole line (10 ∷ more) ∙ ap (λ x. x ++ (line ++ 10 ∷ more)) s.0 ∙ ap (λ x. history_text format_1 table history ++ (x ++ 10 ∷ more)) (sym k.1); few = s.2; variables = s.1; events = s.3; legal = s.4 },
+      refl,
+      k.2,
+      k.3,
+    )
 
 -- a line too long
 pub TellsFault-long : (r : Progress) (line taken more : List ℕ) (b : ℕ) → HasTaken r line taken → b ≢ 10 → max_line ≤ length line → TellsFault format_1 (strange r) (taken ++ b ∷ more)
@@ -186,6 +195,24 @@ ends_early s line taken e k r (inr bad) = let same = k r.progress r.stage in sub
 
 pub too_long : (s : Stage) (line taken more : List ℕ) (b : ℕ) (e : HistoryFault) → ((p : Progress) → IsStage s p → e ≡ strange p) → Reached s line taken → b ≢ 10 → max_line ≤ length line → TellsFault format_1 e (taken ++ b ∷ more)
 too_long s line taken more b e k r n l = subst (λ (x : HistoryFault). TellsFault format_1 x (taken ++ b ∷ more)) (sym (k r.progress r.stage)) (TellsFault-long r.progress line taken more b r.held n l)
+
+-- a stage with variables is at fault in the head
+pub declaring_strange : (s : Stage) (vars : ℕ) (names : List Declared) (p : Progress) → s ≡ Declaring vars names → IsStage s p → BadHeader ≡ strange p
+declaring_strange s vars names at_header e i = refl
+declaring_strange s vars names (at_variables n table) e i = refl
+declaring_strange s vars names (at_events table history) e i = let never : IsStage (Declaring vars names) (at_events table history) = subst (λ (x : Stage). IsStage x (at_events table history)) e i in absurd never
+
+leads_by : (names : List Declared) (r : Replayer) (line : List ℕ) (s : Stage) (p : Progress) → IsStage (Running names r) p → ((H : List Event) → Follows names H r → LeadsToStage (at_events names H) line s) → LeadsToStage p line s
+leads_by names r line s at_header i f = absurd i
+leads_by names r line s (at_variables n table) i f = absurd i
+leads_by names r line s (at_events table history) i f =
+    subst (λ (x : List Declared). LeadsToStage (at_events x history) line s) i.0 (f history (subst (λ (x : List Declared). Follows x history r) (sym i.0) i.1))
+
+-- a line among the events, whatever the progress is called
+pub run_leads : (o : Result Stage HistoryFault) (names : List Declared) (r : Replayer) (line : List ℕ) → IfOk o (λ s. (H : List Event) → Follows names H r → LeadsToStage (at_events names H) line s)
+    → IfOk o (λ s. (p : Progress) → IsStage (Running names r) p → LeadsToStage p line s)
+run_leads (Ok s) names r line f = λ p i. leads_by names r line s p i f
+run_leads (Err e) names r line f = tt
 
 split : (bytes : List ℕ) (i : ℕ) (more : List ℕ) → i < length bytes → bytes ++ more ≡ take i bytes ++ (get_or bytes i 0 ∷ (drop (i + 1) bytes ++ more))
 split bytes i more h =

@@ -25,6 +25,7 @@ use stm_store::{DeclareError, Table};
 
 /// The most bytes of a line.
 const MAX_LINE: usize = 1_048_576;
+
 const MAX_CELLS: u32 = 1_000_000;
 
 /// How far the lines have come: before the first; among the variables, of which so many were promised; among the events.
@@ -111,11 +112,7 @@ fn line_number(table: &Table, replayer: &Replayer) -> u32
 }
 
 /// Takes an event that was read from the line of this number.
-fn take_event(
-    replayer: &mut Replayer,
-    event: &Event,
-    number: u32,
-) -> Result<(), HistoryFault>
+fn take_event(replayer: &mut Replayer, event: &Event, number: u32) -> Result<(), HistoryFault>
     requires { (T : List Declared) × (H : List AnyEvent) × Follows T H replayer.old }
     ensures done { OnOk result ((T : List Declared) (H : List AnyEvent) → Follows T H replayer.old → Follows T (H ++ event.now ∷ []) replayer.new) }
     ensures refused { IfErr result (λ e. (T : List Declared) (H : List AnyEvent) → Follows T H replayer.old → FitsTable T event.now → number ≡ next_line T H → MayRefuse (at_events T H) (event_line event.now) e) }

@@ -194,7 +194,11 @@ fn may_bring(machine: &Machine, message: &Evaluated, verdict: &Verdict) -> Resul
 }
 
 /// The message is installed, where it brings this verdict.
-fn install_message(machine: &mut Machine, message: Evaluated, verdict: &Verdict) -> Result<(), StepError>
+fn install_message(
+    machine: &mut Machine,
+    message: Evaluated,
+    verdict: &Verdict,
+) -> Result<(), StepError>
     requires room { (T : List Declared) × (H : List AnyEvent) × HasRoom T H machine.old }
     requires present { (T : List Declared) (H : List AnyEvent) → HasRoom T H machine.old → IsPresent (state T H) (told_ticket message) message }
     ensures done { OnOk result ((T : List Declared) (H : List AnyEvent) → HasRoom T H machine.old → MovesTo T H (Installed (told_ticket message) verdict.now) machine.new) }
