@@ -1,5 +1,5 @@
 -- What the slow desk allows, nothing refuses.
-use Rattle.std.proofs.Common.{◌≡◌, ℕ, ◌+◌, ◌≤◌, ◌<◌, Bool, true, false, not, List, [], ◌∷◌, length, Option, Some, None, refl, ap, sym, ◌∙◌, arith, subst}
+use Rattle.std.proofs.Common.{◌≡◌, ℕ, ◌+◌, ◌≤◌, true, false, not, List, [], ◌∷◌, length, Option, Some, None, refl, ap, sym, ◌∙◌, arith, subst}
 use Rattle.std.specs.Prelude.{nat_eq, nat_le, IsSomeAnd}
 use Rattle.std.proofs.lemmas.Bool.Decides.{nat_tests}
 use Rattle.stm_terms.specs.declared.kinds.Ty.{Ty}
@@ -13,9 +13,9 @@ use Rattle.stm_store.specs.Cells.{plains, Covers, kinds_of, made_by}
 use Rattle.stm_store.specs.Tables.{is_kind}
 use Rattle.stm_check.specs.Blocks.{Block}
 use Rattle.stm_eval.specs.declared.message.Evaluated.{Evaluated}
-use Rattle.stm_eval.specs.Told.{told_ticket, told_block, told_reads, told_verdict}
+use Rattle.stm_eval.specs.Told.{told_ticket, told_block, told_reads}
 use Rattle.stm_history.specs.declared.event.What.TheVariants.{Submitted, Installed, Finished, Cancelled}
-use Rattle.stm_history.specs.SlowDesk.{Since, Waiter, Slow, under, is_new_since, current_since, is_current, MayInstall, MayFinish, waiter, Allows, max_waiting, max_cells}
+use Rattle.stm_history.specs.SlowDesk.{Since, Waiter, Slow, under, is_new_since, current_since, MayInstall, MayFinish, waiter, Allows, max_waiting, max_cells}
 use Rattle.stm_history.specs.Refusals.{missing, submit_refused, cancel_first, cancel_refused, differing, DeliverTold, TellsDelivery, overflows, finish_first, finish_refused}
 use Rattle.stm_history.specs.Taken.{IsPresent}
 

@@ -3,16 +3,15 @@ use Rattle.std.proofs.Common.{◌≡◌, ℕ, ◌+◌, ◌<◌, ◌^◌, Bool, t
 use Rattle.std.specs.Prelude.{nat_le}
 use Rattle.std.proofs.lemmas.Bool.Decides.{nat_tests}
 use Rattle.stm_terms.specs.declared.kinds.Ty.{Ty}
-use Rattle.stm_store.specs.declared.cell.Cell.{Cell}
 use Rattle.stm_store.specs.Cells.{plains, kinds_of, Covers}
 use Rattle.stm_store.specs.Tables.{Declared, is_kind}
 use Rattle.stm_check.specs.Blocks.{Block}
 use Rattle.stm_check.proofs.ExpressionsSound.{same_ty_equal}
 use Rattle.stm_watch.specs.Pairs.{Pairs, WithoutReads}
-use Rattle.stm_queue.specs.Queue.{Entry, has_ticket, with_ticket, without_ticket}
+use Rattle.stm_queue.specs.Queue.{has_ticket, with_ticket, without_ticket}
 use Rattle.stm_history.specs.declared.event.Event.{Event}
 use Rattle.stm_history.specs.declared.event.What.TheVariants.{Submitted, Cancelled}
-use Rattle.stm_history.specs.SlowDesk.{Waiter, Slow, waiter, start, state, Allows, max_waiting, max_clients}
+use Rattle.stm_history.specs.SlowDesk.{Waiter, Slow, waiter, start, state, Allows, max_waiting}
 use Rattle.stm_history.specs.Laws.{AreRising}
 use Rattle.stm_history.proofs.Rising.{rising_state, next_le}
 use Rattle.stm_history.specs.declared.waiting.Waiting.{Waiting}

@@ -1,6 +1,6 @@
 -- A message that is not refused says what its block does on the present store.
-use Rattle.std.proofs.Common.{◌≡◌, ◌≢◌, ℕ, ◌<◌, ℤ, Bool, true, false, not, ◌||◌, cond, List, [], ◌∷◌, ◌++◌, length, Option, Some, None, refl, sym, ap, subst, ◌∙◌, arith, eqb-true}
-use Rattle.std.specs.Prelude.{nat_le, nat_eq, IsSomeAnd}
+use Rattle.std.proofs.Common.{◌≡◌, ◌≢◌, ℕ, ℤ, Bool, true, false, not, ◌||◌, cond, List, [], ◌∷◌, Option, Some, None, refl, sym, ap, subst, ◌∙◌, arith, eqb-true}
+use Rattle.std.specs.Prelude.{nat_eq, IsSomeAnd}
 use Rattle.std.specs.Ordering.{int_eq}
 use Rattle.std.proofs.lemmas.Bool.Decides.{Decides-int_eq}
 use Rattle.stm_terms.specs.declared.values.Ref.{Ref}
@@ -19,9 +19,8 @@ use Rattle.stm_watch.specs.Pairs.{Pairs, WithReads}
 use Rattle.stm_queue.specs.Queue.{Entry, has_ticket, without_ticket, marked, recalled}
 use Rattle.stm_history.specs.declared.event.Event.{Event}
 use Rattle.stm_history.specs.declared.event.What.TheVariants.{Installed}
-use Rattle.stm_history.specs.SlowDesk.{Waiter, Slow, under, is_current, waiter, state, Allows, max_clients}
+use Rattle.stm_history.specs.SlowDesk.{Waiter, Slow, under, is_current, waiter, state, Allows}
 use Rattle.stm_history.specs.declared.waiting.Held.{Held}
-use Rattle.stm_history.specs.declared.waiting.Waiting.{Waiting}
 use Rattle.stm_history.specs.declared.errors.DeliverError.{DeliverError}
 use Rattle.stm_history.specs.declared.errors.DeliverError.TheVariants as deliver
 use Rattle.stm_history.specs.Entries.{with_held}

@@ -1,5 +1,5 @@
 -- A block that may finish, and what its finish leaves.
-use Rattle.std.proofs.Common.{◌≡◌, ℕ, ◌+◌, ◌<◌, ◌≤◌, Bool, true, false, not, ◌&&◌, cond, List, [], ◌∷◌, ◌++◌, length, Option, Some, None, refl, sym, ap, subst, ◌∙◌, arith}
+use Rattle.std.proofs.Common.{◌≡◌, ℕ, ◌+◌, ◌≤◌, Bool, true, false, not, ◌&&◌, cond, List, [], length, Option, Some, None, refl, sym, ap, subst, ◌∙◌, arith}
 use Rattle.std.specs.Prelude.{nat_le, nat_eq, if◌then◌else◌}
 use Rattle.std.specs.List.{list_any}
 use Rattle.std.proofs.lemmas.Bool.Decides.{nat_tests}
@@ -13,11 +13,11 @@ use Rattle.stm_check.specs.Blocks.{Block}
 use Rattle.stm_check.proofs.Covering.{verdict_fits}
 use Rattle.stm_eval.specs.Messages.{Holds}
 use Rattle.stm_watch.specs.Pairs.{Pairs, watches}
-use Rattle.stm_queue.specs.Queue.{Entry, has_ticket}
+use Rattle.stm_queue.specs.Queue.{has_ticket}
 use Rattle.stm_queue.specs.Rising.{IsRising}
 use Rattle.stm_history.specs.declared.event.Event.{Event}
 use Rattle.stm_history.specs.declared.event.What.TheVariants.{Finished}
-use Rattle.stm_history.specs.SlowDesk.{Since, Waiter, under, verdict_on, written_in, is_blocks, is_new, is_current, is_stale_since, current_since, stale_after, waiter, without, state, Allows, max_clients, max_cells}
+use Rattle.stm_history.specs.SlowDesk.{Since, Waiter, under, verdict_on, written_in, is_blocks, is_new, is_current, is_stale_since, current_since, stale_after, waiter, without, state, Allows, max_cells}
 use Rattle.stm_history.specs.Laws.{AreRising}
 use Rattle.stm_history.proofs.Rising.{waiter_without, rising_without}
 use Rattle.stm_history.proofs.Covered.{blocks_are_covered}

@@ -7,14 +7,12 @@ use Rattle.stm_terms.specs.declared.values.Value.{Value}
 use Rattle.stm_terms.specs.Views.{cell_value}
 use Rattle.stm_terms.specs.Looks.{reads_of}
 use Rattle.stm_terms.specs.Verdict.{verdict}
-use Rattle.stm_store.specs.declared.cell.Cell.{Cell}
 use Rattle.stm_store.specs.Cells.{plains, Covers}
 use Rattle.stm_store.specs.Tables.{Declared}
 use Rattle.stm_check.specs.Blocks.{Block}
 use Rattle.stm_eval.specs.declared.job.Job.{Job}
 use Rattle.stm_eval.specs.declared.message.Evaluated.{Evaluated}
 use Rattle.stm_eval.specs.Told.{told_ticket, told_block, told_reads, told_verdict}
-use Rattle.stm_watch.specs.Pairs.{Pairs}
 use Rattle.stm_queue.specs.Queue.{Entry, has_ticket, queued, first_queued, sent_out}
 use Rattle.stm_history.specs.declared.event.Event.{Event}
 use Rattle.stm_history.specs.SlowDesk.{Waiter, Slow, under, waiter, state}

@@ -1,6 +1,5 @@
 -- What a machine holds, the histories that it stands for, and which events it may be led on by.
 use Rattle.std.specs.Prelude.{◌≡◌, ℕ, Bool, false, ◌<◌, List, [], ◌∷◌, ◌++◌, length, None, IsSomeAnd}
-use Rattle.stm_terms.specs.declared.values.Value.{Value}
 use Rattle.stm_terms.specs.declared.verdicts.Verdict.{Verdict}
 use Rattle.stm_store.specs.declared.cell.Cell.{Cell}
 use Rattle.stm_store.specs.Tables.{Declared}
@@ -11,7 +10,7 @@ use Rattle.stm_watch.specs.Pairs.{Pairs}
 use Rattle.stm_history.specs.declared.event.Event.{Event}
 use Rattle.stm_history.specs.declared.event.What.{What}
 use Rattle.stm_history.specs.declared.waiting.Waiting.{Waiting}
-use Rattle.stm_history.specs.SlowDesk.{Waiter, waiter, state, IsLegal, max_events, max_clients}
+use Rattle.stm_history.specs.SlowDesk.{waiter, state, IsLegal, max_events, max_clients}
 use Rattle.stm_history.specs.Plans.{IsPlan}
 use Rattle.stm_history.specs.Refusals.{submit_refused, cancel_refused, finish_refused, TellsDelivery}
 use Rattle.stm_history.specs.Stands.{Stands}

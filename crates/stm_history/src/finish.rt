@@ -109,40 +109,32 @@ impl Machine {
         ensures told { (T : List Declared) (H : List Event) → StandsFor T H self.now → finish_told result ≡ finish_refused (state T H) full ticket }
         ensures plan { IfOk result (λ p. (T : List Declared) (H : List Event) → StandsFor T H self.now → IsPlan (state T H) ticket p.verdict p.first_new p.stale) }
     {
-        match self.waiting.get(ticket) {
-            None => Err(FinishError::NoTicket),
-            Some(waiting) => {
-                // The store and the block are known to be well typed by these.
-                let _cells = self.store.len();
-                let _action = waiting.block.block().action();
-                match &waiting.held {
-                    None => Err(FinishError::NotEvaluated),
-                    Some(held) => {
-                        if self.pending.has(ticket) {
-                            return Err(FinishError::Stale);
-                        }
-                        if blocks(&held.verdict) {
-                            return Err(FinishError::Blocks);
-                        }
-                        if full {
-                            return Err(FinishError::HistoryFull);
-                        }
-                        if overflows_store(&self.store, &held.verdict) {
-                            return Err(FinishError::CellsFull);
-                        }
-                        match make_plan(
-                            self.alloc,
-                            &self.store,
-                            &self.watch,
-                            &held.verdict,
-                            ticket,
-                        ) {
-                            Ok(plan) => Ok(plan),
-                            Err(_) => Err(FinishError::NoMemory),
-                        }
-                    }
-                }
-            }
+        let waiting = match self.waiting.get(ticket) {
+            Some(waiting) => waiting,
+            None => return Err(FinishError::NoTicket),
+        };
+        // The store and the block are known to be well typed by these.
+        let _cells = self.store.len();
+        let _action = waiting.block.block().action();
+        let held = match &waiting.held {
+            Some(held) => held,
+            None => return Err(FinishError::NotEvaluated),
+        };
+        if self.pending.has(ticket) {
+            return Err(FinishError::Stale);
+        }
+        if blocks(&held.verdict) {
+            return Err(FinishError::Blocks);
+        }
+        if full {
+            return Err(FinishError::HistoryFull);
+        }
+        if overflows_store(&self.store, &held.verdict) {
+            return Err(FinishError::CellsFull);
+        }
+        match make_plan(self.alloc, &self.store, &self.watch, &held.verdict, ticket) {
+            Ok(plan) => Ok(plan),
+            Err(_) => Err(FinishError::NoMemory),
         }
     }
 

@@ -75,25 +75,24 @@ impl Machine {
         ensures same { OnOk result ((T : List Declared) (H : List Event) → StandsFor T H self.now → IsSomeAnd (waiter (told_ticket message.now) (state T H).waiters) (λ w. w.block.tree ≡ (told_block message.now).tree)) }
     {
         let ticket = message.ticket();
-        match self.waiting.get(ticket) {
+        let waiting = match self.waiting.get(ticket) {
+            Some(waiting) => waiting,
             None => return Err(DeliverError::Gone),
-            Some(waiting) => {
-                if !is_of(waiting, message) {
-                    return Err(DeliverError::OtherBlock);
-                }
-                if !self.pending.has(ticket) {
-                    return Err(DeliverError::Already);
-                }
-                match first_read_differing(&self.store, message) {
-                    Some(id) => return Err(DeliverError::Overtaken(id)),
-                    None => {}
-                }
-                if full {
-                    return Err(DeliverError::HistoryFull);
-                }
-                Ok(())
-            }
+        };
+        if !is_of(waiting, message) {
+            return Err(DeliverError::OtherBlock);
         }
+        if !self.pending.has(ticket) {
+            return Err(DeliverError::Already);
+        }
+        match first_read_differing(&self.store, message) {
+            Some(id) => return Err(DeliverError::Overtaken(id)),
+            None => {}
+        }
+        if full {
+            return Err(DeliverError::HistoryFull);
+        }
+        Ok(())
     }
 
     /// Installs a message: its block is current from then on, neither queued nor out. A refusal hands the message back.

@@ -54,7 +54,7 @@ impl Waiting {
 
 /// The waiting blocks in the order of their tickets.
 #[derive(Drop)]
-pub struct WaitingBlocks {
+pub(crate) struct WaitingBlocks {
     map: BTreeMap<u32, Waiting>,
 }
 
@@ -72,7 +72,8 @@ impl Model for WaitingBlocks {
 }
 
 impl WaitingBlocks {
-    pub fn empty(alloc: Global) -> WaitingBlocks
+    /// No block waits.
+    pub(crate) fn empty(alloc: Global) -> WaitingBlocks
         ensures { result ≡ [] }
     {
         WaitingBlocks {
@@ -80,21 +81,22 @@ impl WaitingBlocks {
         }
     }
 
-    pub fn len(&self) -> usize
+    /// How many blocks wait.
+    pub(crate) fn len(&self) -> usize
         ensures { result ≡ length self.now }
     {
         self.map.len()
     }
 
     /// The block that waits under a ticket.
-    pub fn get(&self, ticket: u32) -> Option<&Waiting>
+    pub(crate) fn get(&self, ticket: u32) -> Option<&Waiting>
         ensures { option_copied result ≡ kept_at ticket self.now }
     {
         self.map.get(&ticket)
     }
 
     /// The least ticket above this one.
-    pub fn first_above(&self, after: u32) -> Option<u32>
+    pub(crate) fn first_above(&self, after: u32) -> Option<u32>
         ensures { result ≡ first_above after self.now }
     {
         match self
@@ -121,7 +123,7 @@ impl WaitingBlocks {
     }
 
     /// One block more, behind the others.
-    pub fn insert(&mut self, ticket: u32, block: Script) -> Result<(), NoMemory>
+    pub(crate) fn insert(&mut self, ticket: u32, block: Script) -> Result<(), NoMemory>
         requires { AllBelow ticket self.old }
         ensures ok { OnOk result (self.new ≡ self.old ++ (ticket, record { block = block; held = None }) ∷ []) }
         ensures err { OnErr result (self.new ≡ self.old) }
@@ -131,7 +133,7 @@ impl WaitingBlocks {
     }
 
     /// What a delivery brings to a block that waits.
-    pub fn hold(&mut self, ticket: u32, held: Held)
+    pub(crate) fn hold(&mut self, ticket: u32, held: Held)
         requires { kept_at ticket self.old ≢ None }
         ensures { self.new ≡ with_held ticket held self.old }
     {
@@ -142,7 +144,7 @@ impl WaitingBlocks {
     }
 
     /// The block waits no more.
-    pub fn remove(&mut self, ticket: u32) -> Option<Waiting>
+    pub(crate) fn remove(&mut self, ticket: u32) -> Option<Waiting>
         ensures was { result ≡ kept_at ticket self.old }
         ensures gone { self.new ≡ lose ticket self.old }
     {

@@ -39,7 +39,7 @@ returns-then-blocks-clause-told c = λ T H h.
     let p = has_held T H _ k c.args.ticket c.in-Some.waiting.now c.in-Some-held.held e c.in-Some-held.is in
     let q = is_fresh T H _ k c.args.ticket c.in-Some-held.held c.in-Some.waiting.now c.has.result p c.has.ensures c.if-has.false in
     let v = present T H _ k c.args.ticket c.in-Some-held.held c.in-Some.waiting.now p q in
-    told_blocks _ _ _ p.one p.since c.in-Some-held.held.verdict p.found p.since_is q v (sym c.blocks-in-Some-held.ensures ∙ c.if-blocks.true)
+    told_blocks _ _ _ p.one p.since c.in-Some-held.held.verdict p.found p.since_is q v (sym c.blocks-2.ensures ∙ c.if-blocks.true)
 
 pub returns-then-full-clause-told : goal.returns-then-full-clause-told
 returns-then-full-clause-told c = λ T H h.
@@ -48,7 +48,7 @@ returns-then-full-clause-told c = λ T H h.
     let p = has_held T H _ k c.args.ticket c.in-Some.waiting.now c.in-Some-held.held e c.in-Some-held.is in
     let q = is_fresh T H _ k c.args.ticket c.in-Some-held.held c.in-Some.waiting.now c.has.result p c.has.ensures c.if-has.false in
     let v = present T H _ k c.args.ticket c.in-Some-held.held c.in-Some.waiting.now p q in
-    let b = sym c.blocks-in-Some-held.ensures ∙ c.if-blocks.false in
+    let b = sym c.blocks-2.ensures ∙ c.if-blocks.false in
     let o = told_rest (state T H).store c.args.full _ p.one p.since c.in-Some-held.held.verdict p.found p.since_is q v b in
     rw (← o, c.if-full.true) refl
 
@@ -59,7 +59,7 @@ returns-then-overflows_store-clause-told c = λ T H h.
     let p = has_held T H _ k c.args.ticket c.in-Some.waiting.now c.in-Some-held.held e c.in-Some-held.is in
     let q = is_fresh T H _ k c.args.ticket c.in-Some-held.held c.in-Some.waiting.now c.has.result p c.has.ensures c.if-has.false in
     let v = present T H _ k c.args.ticket c.in-Some-held.held c.in-Some.waiting.now p q in
-    let b = sym c.blocks-in-Some-held.ensures ∙ c.if-blocks.false in
+    let b = sym c.blocks-2.ensures ∙ c.if-blocks.false in
     let o = told_rest (state T H).store c.args.full _ p.one p.since c.in-Some-held.held.verdict p.found p.since_is q v b in
     let room : overflows (state T H).store (Some c.in-Some-held.held.verdict) ≡ true = subst (λ (z : List Cell). overflows z (Some c.in-Some-held.held.verdict) ≡ true) k.stands.store_is (sym c.overflows_store.ensures ∙ c.if-overflows_store.true) in
     rw (← o, c.if-full.false, room) refl
@@ -71,7 +71,7 @@ returns-in-Ok-clause-told c = λ T H h.
     let p = has_held T H _ k c.args.ticket c.in-Some.waiting.now c.in-Some-held.held e c.in-Some-held.is in
     let q = is_fresh T H _ k c.args.ticket c.in-Some-held.held c.in-Some.waiting.now c.has.result p c.has.ensures c.if-has.false in
     let v = present T H _ k c.args.ticket c.in-Some-held.held c.in-Some.waiting.now p q in
-    let b = sym c.blocks-in-Some-held.ensures ∙ c.if-blocks.false in
+    let b = sym c.blocks-2.ensures ∙ c.if-blocks.false in
     let o = told_rest (state T H).store c.args.full _ p.one p.since c.in-Some-held.held.verdict p.found p.since_is q v b in
     let room : overflows (state T H).store (Some c.in-Some-held.held.verdict) ≡ false = subst (λ (z : List Cell). overflows z (Some c.in-Some-held.held.verdict) ≡ false) k.stands.store_is (sym c.overflows_store.ensures ∙ c.if-overflows_store.false) in
     rw (← o, c.if-full.false, room) refl
@@ -83,7 +83,7 @@ returns-in-Err-clause-told c = λ T H h.
     let p = has_held T H _ k c.args.ticket c.in-Some.waiting.now c.in-Some-held.held e c.in-Some-held.is in
     let q = is_fresh T H _ k c.args.ticket c.in-Some-held.held c.in-Some.waiting.now c.has.result p c.has.ensures c.if-has.false in
     let v = present T H _ k c.args.ticket c.in-Some-held.held c.in-Some.waiting.now p q in
-    let b = sym c.blocks-in-Some-held.ensures ∙ c.if-blocks.false in
+    let b = sym c.blocks-2.ensures ∙ c.if-blocks.false in
     let o = told_rest (state T H).store c.args.full _ p.one p.since c.in-Some-held.held.verdict p.found p.since_is q v b in
     let room : overflows (state T H).store (Some c.in-Some-held.held.verdict) ≡ false = subst (λ (z : List Cell). overflows z (Some c.in-Some-held.held.verdict) ≡ false) k.stands.store_is (sym c.overflows_store.ensures ∙ c.if-overflows_store.false) in
     rw (← o, c.if-full.false, room) refl
@@ -97,5 +97,5 @@ returns-in-Ok-clause-plan c = λ T H h.
     let a : action_type (kinds_in c.in-Some.waiting.now.block.uses) [] c.in-Some.waiting.now.block.tree ≡ Some (result_type c.in-Some.waiting.now.block.gives) =
     subst (λ (b : Block). action_type (kinds_in b.uses) [] b.tree ≡ Some (result_type b.gives)) c.block.ensures c.action-action.ensures.typed in
     is_plan T H _ k c.args.ticket c.in-Some-held.held c.in-Some.waiting.now _ p c.in-Ok.plan.verdict c.in-Ok.plan.first_new c.in-Ok.plan.stale
-    q c.len-cells.ensures.typed a (sym c.blocks-in-Some-held.ensures ∙ c.if-blocks.false) (sym c.overflows_store.ensures ∙ c.if-overflows_store.false)
+    q c.len-cells.ensures.typed a (sym c.blocks-2.ensures ∙ c.if-blocks.false) (sym c.overflows_store.ensures ∙ c.if-overflows_store.false)
     c.in-Ok.ensures.verdict c.in-Ok.ensures.first_new c.in-Ok.ensures.rising c.in-Ok.ensures.watchers

@@ -1,6 +1,5 @@
-use Rattle.std.proofs.Common.{◌≡◌, ◌∙◌, ◌≤◌, sym, subst, ℕ}
-use Rattle.std.specs.Prelude.{length}
-use Rattle.stm_history.specs.SlowDesk.{state, max_waiting}
+use Rattle.std.proofs.Common.{◌∙◌, ◌≤◌, sym, subst, ℕ}
+use Rattle.stm_history.specs.SlowDesk.{max_waiting}
 use Rattle.stm_history.specs.Machine.{StandsFor}
 use Rattle.stm_history.proofs.Due.{length_due}
 use Rattle.stm_history.proofs.Few.{few_waiters}

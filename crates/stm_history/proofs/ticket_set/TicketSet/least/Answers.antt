@@ -1,5 +1,3 @@
-use Rattle.std.proofs.Common.{◌≡◌, ◌≤◌, ℕ, true, subst}
-use Rattle.stm_queue.specs.Rising.{has}
 use Rattle.stm_history.proofs.Keys.{low}
 use Rattle.stm_history.proofs.ticket_set.TicketSet.least.Goals as goal
 
