@@ -33,7 +33,7 @@ pub fn declare(alloc: Global, table: &mut Table, text: &str) -> Result<u32, Refu
 {
     let declaration = parse_declare(alloc, text)?;
     let value = initial(table, &declaration.init)?;
-    let number = table.declare(alloc, declaration.name.as_str(), declaration.ty, value)?;
+    let number = table.declare(declaration.name.as_str(), declaration.ty, value)?;
     Ok(number)
 }
 

@@ -24,7 +24,7 @@ fn opened(alloc: Global) -> Option<(Table, Frozen)> {
     if !is_name("x") {
         return None;
     }
-    table.declare(alloc, "x", INT, Value::Int(1)).ok()?;
+    table.declare("x", INT, Value::Int(1)).ok()?;
     let store = Store::open(alloc, &table).ok()?;
     let frozen = store.freeze().ok()?;
     Some((table, frozen))

@@ -17,10 +17,10 @@ fn a_table_holds_a_million_variables(rt: HostRuntime) -> Result<(), Fail> {
         let text = format!(in alloc; "v{i}")?;
         let name = text.as_str();
         assert!(rt; is_name(name));
-        table.declare(alloc, name, INT, Value::Int(0))?;
+        table.declare(name, INT, Value::Int(0))?;
     }
     assert!(rt; is_name("x"));
-    let more = table.declare(alloc, "x", INT, Value::Int(0));
+    let more = table.declare("x", INT, Value::Int(0));
     assert!(rt; more == Err(DeclareError::TableFull));
     Ok(())
 }

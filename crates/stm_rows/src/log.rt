@@ -20,10 +20,10 @@ const INT: Ty = Ty {
 fn one_name(rt: &impl Abort, alloc: Global) -> Result<Table, Fail> {
     let mut table = Table::empty(alloc);
     assert!(rt; is_name("x"));
-    match table.declare(alloc, "x", INT, Value::Int(1)) {
+    match table.declare("x", INT, Value::Int(1)) {
         Ok(_) => Ok(table),
         Err(_) => {
-            table.declare(alloc, "x", INT, Value::Int(1))?;
+            table.declare("x", INT, Value::Int(1))?;
             Ok(table)
         }
     }

@@ -27,7 +27,7 @@ fn table_of(rt: &impl Abort, alloc: Global, count: u32) -> Result<Table, Fail> {
         let text = format!(in alloc; "v{i}")?;
         let name = text.as_str();
         assert!(rt; is_name(name));
-        table.declare(alloc, name, INT, Value::Int(0))?;
+        table.declare(name, INT, Value::Int(0))?;
     }
     Ok(table)
 }

@@ -19,7 +19,7 @@ fn table_once(alloc: Global) -> Option<Table> {
         ("flag", ty(Base::Bool, 0), Value::Bool(true)),
         ("slot", ty(Base::Int, 1), Value::Var(Ref::Old(0))),
     ] {
-        if !is_name(name) || table.declare(alloc, name, kind, value).is_err() {
+        if !is_name(name) || table.declare(name, kind, value).is_err() {
             return None;
         }
     }

@@ -1,9 +1,12 @@
 -- A table with one more variable.
-use Rattle.std.proofs.Common.{◌≡◌, inl, inr, ℕ, suc, ◌+◌, ◌<◌, ◌≤◌, true, false, List, [], ◌∷◌, ◌++◌, Some, length, refl, sym, ap, subst, ◌∙◌, arith, length-append}
-use Rattle.std.specs.Prelude.{is_some, IsTrue, if◌then◌else◌}
+use Rattle.std.proofs.Common.{◌≡◌, inl, inr, ℕ, zero, suc, ◌+◌, ◌<◌, ◌≤◌, true, false, List, [], ◌∷◌, ◌++◌, Some, None, length, take, refl, sym, ap, subst, ◌∙◌, arith, length-append}
+use Rattle.std.specs.Prelude.{is_some, nat_lt, slice_get, option_map, IsTrue, if◌then◌else◌}
 use Rattle.std.specs.Str.{bytes_eq}
-use Rattle.std.proofs.lemmas.List.{map-append}
+use Rattle.std.proofs.lemmas.List.{map-append, take-append-le}
+use Rattle.std.proofs.Math.Seq.{take-append_seam}
+use Rattle.std.proofs.lemmas.Option.{slice_get_within}
 use Rattle.std.proofs.lemmas.Bool.{false≢true}
+use Rattle.std.proofs.lemmas.Bool.Decides.{nat_tests}
 use Rattle.std.proofs.lemmas.Slice.Eq.{bytes_eq-Decides}
 use Rattle.stm_terms.specs.declared.kinds.Ty.{Ty}
 use Rattle.stm_terms.specs.declared.values.Value.{Value}
@@ -11,7 +14,7 @@ use Rattle.stm_terms.specs.Names.{is_name_text}
 use Rattle.stm_terms.specs.Typing.{type_of}
 use Rattle.stm_terms.specs.Views.{no_changes}
 use Rattle.stm_store.specs.Cells.{kinds_of, StoreIsTyped, StoreIsLow}
-use Rattle.stm_store.specs.Tables.{Declared, declared_cell, declared_cells, number_from, number_of, may_hold, NamesAreNames, NamesAreDistinct, IsTable}
+use Rattle.stm_store.specs.Tables.{Declared, declared_cell, declared_cells, number_from, number_of, may_hold, declare_refusal, NamesAreNames, NamesAreDistinct, AreDeclared, IsTable}
 use Rattle.stm_store.proofs.Decided.{and_left, and_right, le_true, kind_from}
 use Rattle.stm_store.proofs.Typed.{added_cases, kinds-left, old_type}
 
@@ -60,6 +63,26 @@ distinct-added t d distinct e i x f =
           subst (λ (y : Declared). number_of y.name (t ++ d ∷ []) ≡ Some i) p.1 (number-last 0 t d e ∙ ap Some s)
     ]
 
+lt_true : (a b : ℕ) → a < b → nat_lt a b ≡ true
+lt_true a b h = grind (arith, nat_tests)
+
+unrefused : (t : List Declared) (d : Declared) → length t < 1000000 → may_hold (declared_cells t) d.kind d.value ≡ true → is_some (number_of d.name t) ≡ false → declare_refusal t d.name d.kind d.value ≡ None
+unrefused t d less holds fresh =
+    let room : nat_lt (length t) 1000000 ≡ true = lt_true (length t) 1000000 less in
+    rw (fresh, holds, room) refl
+
+abbrev Unrefused : List Declared → Declared → Type 0
+Unrefused before d = IsTrue (is_name_text d.name) × (declare_refusal before d.name d.kind d.value ≡ None)
+
+declared-added : (t : List Declared) (d : Declared) → AreDeclared t → Unrefused t d → AreDeclared (t ++ d ∷ [])
+declared-added t d declared free i x f =
+    elim (added_cases t d i x f) [
+      | inl p ↦ let l : i ≤ length t = omega (arith, slice_get_within t i x p) in
+          subst (λ (before : List Declared). Unrefused before x) (sym (take-append-le i t (d ∷ []) l)) (declared i x p)
+      | inr p ↦ let whole : t ≡ take i (t ++ d ∷ []) = sym (take-append_seam t (d ∷ [])) ∙ ap (λ (n : ℕ). take n (t ++ d ∷ [])) (sym p.0) in
+          subst (λ (before : List Declared). Unrefused before x) whole (subst (λ (y : Declared). Unrefused t y) p.1 free)
+    ]
+
 pub table-added : (t : List Declared) (d : Declared) → IsTable t → length t < 1000000 → may_hold (declared_cells t) d.kind d.value ≡ true → is_some (number_of d.name t) ≡ false → IsTrue (is_name_text d.name) → IsTable (t ++ d ∷ [])
 table-added t d i less holds fresh name =
     let cells : declared_cells (t ++ d ∷ []) ≡ declared_cells t ++ declared_cell d ∷ [] = map-append declared_cell t (d ∷ []) in
@@ -69,4 +92,22 @@ table-added t d i less holds fresh name =
       low = rw cells (low-added (declared_cells t) (declared_cell d) i.low (le_true _ _ (and_left _ _ holds)));
       named = named-added t d i.named name;
       distinct = distinct-added t d i.distinct fresh;
+      declared = declared-added t d i.declared (name, unrefused t d less holds fresh);
     }
+
+-- a variable of a table, by its parts
+pub declared_at : (t : List Declared) (i : ℕ) (n : List ℕ) (k : Ty) (v : Value) → i < length t → option_map (λ d. d.name) (slice_get t i) ≡ Some n → option_map (λ d. d.kind) (slice_get t i) ≡ Some k → option_map (λ d. d.value) (slice_get t i) ≡ Some v
+    → slice_get t i ≡ Some (record { name = n; kind = k; value = v })
+declared_at [] i n k v h p q r = absurd (cc)
+declared_at (d ∷ t) zero n k v h p q r =
+    let a : d.name ≡ n = cc in
+    let b : d.kind ≡ k = cc in
+    let c : d.value ≡ v = cc in
+    λ i. Some (record { name = a i; kind = b i; value = c i })
+declared_at (d ∷ t) (suc i) n k v h p q r = declared_at t i n k v (omega arith) p q r
+
+-- one more of a table's variables
+pub take-next : (t : List Declared) (i : ℕ) (d : Declared) → slice_get t i ≡ Some d → take (suc i) t ≡ take i t ++ d ∷ []
+take-next [] i d e = absurd (cc)
+take-next (x ∷ t) zero d e = let same : x ≡ d = cc in ap (λ (y : Declared). y ∷ []) same
+take-next (x ∷ t) (suc i) d e = ap (λ (ys : List Declared). x ∷ ys) (take-next t i d e)

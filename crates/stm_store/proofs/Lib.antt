@@ -1,15 +1,12 @@
-pub mod Chained
-pub mod Columns
-pub mod Cut
 pub mod Decided
 pub mod Declaring
 pub mod Fitting
-pub mod Lettered
 pub mod Lookups
 pub mod Numbers
 pub mod Opening
 pub mod Paged
 pub mod Parted
+pub mod Places
 pub mod Soundness
 pub mod Stretched
 pub mod Typed

@@ -1,9 +1,7 @@
 pub mod Cells
-pub mod Chains
 pub mod Changes
-pub mod Cuts
+pub mod Entries
 pub mod Pages
-pub mod Rows
 pub mod Stretches
 pub mod Suits
 pub mod Tables

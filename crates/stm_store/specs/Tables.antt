@@ -1,5 +1,5 @@
 -- The declared variables, in the order of their declaration.
-use Rattle.std.specs.Prelude.{◌≡◌, ℕ, ◌+◌, ◌≤◌, Bool, false, not, ◌&&◌, nat_le, nat_lt, List, [], ◌∷◌, Option, Some, None, Result, Ok, Err, map, length, is_some, slice_get, IsTrue, if◌then◌else◌}
+use Rattle.std.specs.Prelude.{◌≡◌, ℕ, ◌+◌, ◌≤◌, Bool, false, not, ◌&&◌, nat_le, nat_lt, List, [], ◌∷◌, Option, Some, None, Result, Ok, Err, map, length, is_some, slice_get, take, IsTrue, if◌then◌else◌}
 use Rattle.std.specs.Str.{bytes_eq}
 use Rattle.stm_terms.specs.declared.kinds.Ty.{Ty}
 use Rattle.stm_terms.specs.declared.values.Value.{Value}
@@ -78,6 +78,11 @@ NamesAreNames table = (i : ℕ) (d : Declared) → slice_get table i ≡ Some d 
 abbrev pub NamesAreDistinct : List Declared → Type 0
 NamesAreDistinct table = (i : ℕ) (d : Declared) → slice_get table i ≡ Some d → number_of d.name table ≡ Some i
 
+-- a table that declarations make: each name is one, and none of the declarations is refused, in their order
+abbrev pub AreDeclared : List Declared → Type 0
+AreDeclared table = (i : ℕ) (d : Declared) → slice_get table i ≡ Some d →
+    IsTrue (is_name_text d.name) × (declare_refusal (take i table) d.name d.kind d.value ≡ None)
+
 -- what holds of every table
 pub record IsTable (table : List Declared) : Type 0 where
   pub small : length table ≤ 1000000
@@ -85,3 +90,4 @@ pub record IsTable (table : List Declared) : Type 0 where
   pub low : StoreIsLow (declared_cells table)
   pub named : NamesAreNames table
   pub distinct : NamesAreDistinct table
+  pub declared : AreDeclared table

@@ -8,7 +8,6 @@ mod fits;
 pub mod frozen;
 mod in_place;
 mod list;
-mod names;
 mod page;
 mod part;
 mod parts;

@@ -1,15 +1,14 @@
 //! The table of the declared variables.
 
-ghost use Rattle.std.specs.Prelude.{◌≡◌, ◌<◌, ◌≤◌, ◌++◌, ◌∷◌, [], Some, length, IsTrue, IfOk, IfSome, OnErr, slice_get, option_map};
+ghost use Rattle.std.specs.Prelude.{◌≡◌, ◌<◌, ◌≤◌, ◌++◌, ◌∷◌, [], Some, length, IsTrue, IfOk, IfSome, OnOk, OnErr, slice_get, option_map};
 ghost use Rattle.stm_terms.specs.Names.{is_name_text};
 ghost use Rattle.stm_store.specs.Cells.{StoreIsTyped, StoreIsLow, kinds_of};
-ghost use Rattle.stm_store.specs.Tables.{Declared, declared_cells, number_of, is_of, may_hold, declare_refusal, refusal_told, NamesAreNames, NamesAreDistinct};
+ghost use Rattle.stm_store.specs.Tables.{Declared, declared_cells, number_of, is_of, may_hold, declare_refusal, refusal_told, NamesAreNames, NamesAreDistinct, AreDeclared};
 
-use crate::names::Names;
 use crate::types::{plain_type, refers_to};
+use indexmap::IndexMap;
 use std::alloc::{AllocError, Global};
 use std::marker::Model;
-use std::str;
 use stm_terms::NoMemory;
 use stm_terms::kinds::{Base, Ty};
 use stm_terms::values::{Ref, Value};
@@ -45,21 +44,19 @@ impl From<AllocError> for DeclareError {
 /// The declared variables in the order of their declaration, each with its name, its type and its first value.
 #[derive(Drop)]
 pub struct Table {
-    names: Names,
-    kinds: Vec<Ty>,
-    values: Vec<Value>,
+    entries: IndexMap<String, (Ty, Value)>,
 }
 
 impl Model for Table {
-    ghost use Rattle.std.specs.Prelude.{List};
-    ghost use Rattle.stm_store.specs.Tables.{Declared};
-    ghost use Rattle.stm_store.specs.Rows.{rows, AreColumns};
+    ghost use Rattle.std.specs.Prelude.{List, map};
+    ghost use Rattle.stm_store.specs.Tables.{Declared, IsTable};
+    ghost use Rattle.stm_store.specs.Entries.{declared_of};
 
     ghost Value = { List Declared };
 
-    ghost view = { λ t. rows t.names t.kinds.items t.values.items };
+    ghost view = { λ t. map declared_of t.entries.entries };
 
-    ghost invariant = { λ t. AreColumns t.names t.kinds.items t.values.items };
+    ghost invariant = { λ t. IsTable (map declared_of t.entries.entries) };
 }
 
 impl Table {
@@ -71,9 +68,7 @@ impl Table {
         ensures { result ≡ [] }
     {
         Table {
-            names: Names::empty(alloc),
-            kinds: Vec::new(alloc),
-            values: Vec::new(alloc),
+            entries: IndexMap::new(alloc),
         }
     }
 
@@ -81,14 +76,26 @@ impl Table {
     pub fn copy(&self, alloc: Global) -> Result<Table, NoMemory>
         ensures { IfOk result (λ t. t ≡ self.now) }
     {
-        let names = self.names.copy(alloc)?;
-        let kinds = self.kinds.as_slice().to_vec(alloc)?;
-        let values = self.values.as_slice().to_vec(alloc)?;
-        Ok(Table {
-            names,
-            kinds,
-            values,
-        })
+        let mut copy = Table {
+            entries: IndexMap::with_capacity(alloc, self.len())?,
+        };
+        copy.declare_all(self)?;
+        Ok(copy)
+    }
+
+    /// Declares the variables of a table where there are none. They were declared before, so only memory can be refused.
+    fn declare_all(&mut self, table: &Table) -> Result<(), NoMemory>
+        requires { self.old ≡ [] }
+        ensures { OnOk result (self.new ≡ table.now) }
+    {
+        for id in 0..table.len() as u32 {
+            match self.declare(table.name(id), table.kind(id), table.value(id)) {
+                Ok(_) => {}
+                Err(DeclareError::NoMemory) => return Err(NoMemory),
+                Err(_) => unreachable!(),
+            }
+        }
+        Ok(())
     }
 
     /// How many variables there are. What holds of every table stands here.
@@ -99,8 +106,9 @@ impl Table {
         ensures low { StoreIsLow (declared_cells self.now) }
         ensures named { NamesAreNames self.now }
         ensures distinct { NamesAreDistinct self.now }
+        ensures declared { AreDeclared self.now }
     {
-        self.names.len()
+        self.entries.len()
     }
 
     /// The number of the variable of a name: how many were declared before it.
@@ -108,7 +116,8 @@ impl Table {
         ensures number { result ≡ number_of name.now self.now }
         ensures within { IfSome result (λ i. i < length self.now) }
     {
-        self.names.find(name.as_bytes())
+        let number = self.entries.get_index_of(name)?;
+        Some(number as u32)
     }
 
     /// The name of a variable.
@@ -116,9 +125,9 @@ impl Table {
         requires { id < length self.now }
         ensures { option_map (λ d. d.name) (slice_get self.now id) ≡ Some result.now }
     {
-        match str::from_utf8(self.names.get(id)) {
-            Ok(name) => name,
-            Err(_) => unreachable!(),
+        match self.entries.get_index(id as usize) {
+            Some((name, _)) => name.as_str(),
+            None => unreachable!(),
         }
     }
 
@@ -127,7 +136,10 @@ impl Table {
         requires { id < length self.now }
         ensures { option_map (λ d. d.kind) (slice_get self.now id) ≡ Some result }
     {
-        self.kinds[id as usize]
+        match self.entries.get_index(id as usize) {
+            Some((_, cell)) => cell.0,
+            None => unreachable!(),
+        }
     }
 
     /// The first value of a variable.
@@ -135,7 +147,10 @@ impl Table {
         requires { id < length self.now }
         ensures { option_map (λ d. d.value) (slice_get self.now id) ≡ Some result }
     {
-        self.values[id as usize]
+        match self.entries.get_index(id as usize) {
+            Some((_, cell)) => cell.1,
+            None => unreachable!(),
+        }
     }
 
     /// The type of a variable, if it is there.
@@ -173,13 +188,7 @@ impl Table {
     }
 
     /// Declares a variable behind the others and answers its number. The caller knows that the name is one.
-    pub fn declare(
-        &mut self,
-        alloc: Global,
-        name: &str,
-        kind: Ty,
-        value: Value,
-    ) -> Result<u32, DeclareError>
+    pub fn declare(&mut self, name: &str, kind: Ty, value: Value) -> Result<u32, DeclareError>
         requires { IsTrue (is_name_text name.now) }
         ensures ok { IfOk result (λ id. (id ≡ length self.old) × (self.new ≡ self.old ++ record { name = name.now; kind = kind; value = value } ∷ [])) }
         ensures err { OnErr result (self.new ≡ self.old) }
@@ -195,11 +204,10 @@ impl Table {
         if number >= Table::LIMIT {
             return Err(DeclareError::TableFull);
         }
-        self.kinds.reserve(1)?;
-        self.values.reserve(1)?;
-        self.names.push(alloc, name.as_bytes())?;
-        self.kinds.push_reserved(kind);
-        self.values.push_reserved(value);
+        let key = String::from_str(*self.entries.allocator(), name)?;
+        let Ok(_before) = self.entries.insert(key, (kind, value)) else {
+            return Err(DeclareError::NoMemory);
+        };
         Ok(number as u32)
     }
 }

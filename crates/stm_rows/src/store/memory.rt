@@ -8,16 +8,16 @@ use stm_store::{ApplyError, DeclareError, Frozen, Store, Table};
 use stm_terms::{Value, Verdict, is_name};
 
 /// Declares a variable, a second time where memory is refused, which leaves the table as it was.
-fn declare(rt: &impl Abort, alloc: Global, table: &mut Table, name: &str) -> Result<u32, Fail> {
+fn declare(rt: &impl Abort, table: &mut Table, name: &str) -> Result<u32, Fail> {
     assert!(rt; is_name(name));
     let before = table.len();
-    match table.declare(alloc, name, INT, Value::Int(0)) {
+    match table.declare(name, INT, Value::Int(0)) {
         Ok(id) => Ok(id),
         Err(refusal) => {
             assert_eq!(rt; refusal, DeclareError::NoMemory);
             assert_eq!(rt; table.len(), before);
             assert_eq!(rt; table.find(name), None);
-            Ok(table.declare(alloc, name, INT, Value::Int(0))?)
+            Ok(table.declare(name, INT, Value::Int(0))?)
         }
     }
 }
@@ -25,7 +25,7 @@ fn declare(rt: &impl Abort, alloc: Global, table: &mut Table, name: &str) -> Res
 /// A store of one variable.
 fn small_store(rt: &impl Abort, alloc: Global) -> Result<Store, Fail> {
     let mut table = Table::empty(alloc);
-    declare(rt, alloc, &mut table, "x")?;
+    declare(rt, &mut table, "x")?;
     match Store::open(alloc, &table) {
         Ok(store) => Ok(store),
         Err(_) => Ok(Store::open(alloc, &table)?),
@@ -124,7 +124,7 @@ fn ten_names(rt: HostRuntime) -> Result<(), Fail> {
     let mut table = Table::empty(alloc);
     let names = ["a", "b", "c", "d", "e", "f", "g", "h", "i", "j"];
     for (number, name) in names.iter().enumerate() {
-        assert_eq!(rt; declare(&rt, alloc, &mut table, name)?, number as u32);
+        assert_eq!(rt; declare(&rt, &mut table, name)?, number as u32);
     }
     for (number, name) in names.iter().enumerate() {
         assert_eq!(rt; table.find(name), Some(number as u32));

