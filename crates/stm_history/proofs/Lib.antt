@@ -34,9 +34,11 @@ pub mod Ranges
 pub mod ReadsBack
 pub mod Refusing
 pub mod RoundTrips
+pub mod Shortness
 pub mod Standing
 pub mod Steps
 pub mod Telling
 pub mod Types
 pub mod Unique
 pub mod Variables
+pub mod Written

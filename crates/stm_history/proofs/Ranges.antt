@@ -1,10 +1,10 @@
 -- The numbers of a line are of 64 bits, and its strings ASCII.
-use Rattle.std.proofs.Common.{◌≡◌, ◌≢◌, ℕ, zero, suc, ◌≤◌, ◌<◌, ◌^◌, List, [], ◌∷◌, ◌++◌, map, Option, Some, None, Bool, true, false, cond, refl, sym, ap, ◌∙◌, subst, arith, codes, ℤ, pos, negsuc, IsTrue, get_or, Result, Ok, Err, length}
-use Rattle.std.specs.Prelude.{◌&&◌, ◌||◌, nat_lt, nat_le, nat_eq, not}
+use Rattle.std.proofs.Common.{◌≡◌, ℕ, zero, suc, ◌<◌, List, [], ◌∷◌, ◌++◌, map, Some, Bool, true, false, cond, refl, sym, subst, arith, codes, ℤ, pos, negsuc, IsTrue, Result, Ok, Err, length}
+use Rattle.std.specs.Prelude.{◌&&◌, nat_lt}
 use Rattle.std.specs.List.{list_all}
 use Rattle.std.specs.Str.{IsAscii}
 use Rattle.std.proofs.lemmas.Bool.Decides.{nat_tests}
-use Rattle.serde_json.specs.Data.{Data, number}
+use Rattle.serde_json.specs.Data.{number}
 use Rattle.serde_json.specs.Find.{of_integer}
 use Rattle.serde_json.specs.View.{items_of}
 use Rattle.stm_terms.specs.declared.kinds.Ty.{Ty}
@@ -16,12 +16,12 @@ use Rattle.stm_terms.specs.declared.values.Ref.TheVariants.{Old, New}
 use Rattle.stm_terms.specs.declared.values.Fault.TheVariants.{Thrown, Overflow}
 use Rattle.stm_terms.specs.declared.verdicts.Verdict.{Verdict}
 use Rattle.stm_terms.specs.declared.verdicts.Verdict.TheVariants.{Commits, Throws, Blocks}
-use Rattle.stm_terms.specs.Names.{is_name_text, is_word_byte, is_small, is_great, is_digit, starts_small, is_reserved}
+use Rattle.stm_terms.specs.Names.{is_name_text, is_word_byte}
 use Rattle.stm_terms.specs.Texts.{refs_text, type_text}
 use Rattle.stm_terms.specs.RawTrees as raw
 use Rattle.stm_parse.specs.declared.cutting.Token.{Token}
 use Rattle.stm_parse.specs.declared.fault.ParseFault.{ParseFault}
-use Rattle.stm_parse.specs.Parsed.{parsed_block, answered, of_tokens, told_of}
+use Rattle.stm_parse.specs.Parsed.{parsed_block, answered, of_tokens}
 use Rattle.stm_parse.specs.Parsing.{most_bytes}
 use Rattle.stm_parse.specs.Reading.{block_reader}
 use Rattle.stm_parse.specs.Tokens.{tokens_of}
@@ -36,7 +36,7 @@ use Rattle.stm_check.specs.Checking.{checked}
 use Rattle.stm_check.specs.declared.fault.TypeFault.{TypeFault}
 use Rattle.stm_check.specs.WholeBlocks.{BlockFault, checked_block, block_if_parsed, block_if_typed}
 use Rattle.stm_history.specs.Fields.{unless_faulty, block_of_text}
-use Rattle.stm_history.specs.Fits.{WhatFitsTable, FitsValue, FitsInt, FitsVerdict, FitWrites, FitNews, FitNumbers, FitsVariable, Is32Bit}
+use Rattle.stm_history.specs.Fits.{WhatFitsTable, FitsValue, FitsInt, FitsVerdict, FitWrites, FitNews, FitNumbers, FitsVariable}
 use Rattle.stm_history.specs.Lines.{number_data, value_data, write_data, new_data, verdict_data, what_data, variable_data}
 use Rattle.stm_history.proofs.OneLines.{IsInRange, ItemsInRange, is_ascii_text}
 

@@ -1,8 +1,7 @@
 -- The text of a line reads as its value, and the value as what it was written for.
-use Rattle.std.proofs.Common.{◌≡◌, ◌≢◌, ℕ, suc, ◌≤◌, ◌<◌, ◌^◌, List, [], ◌∷◌, ◌++◌, map, Option, Some, None, Bool, true, false, refl, sym, ap, ◌∙◌, arith, append-nil, decimal, codes, subst, ℤ, pos, negsuc, IsTrue}
-use Rattle.std.specs.Prelude.{option_and_then, ◌&&◌, nat_lt, not}
-use Rattle.std.specs.List.{list_all}
-use Rattle.std.specs.Str.{IsAscii, IsUtf8}
+use Rattle.std.proofs.Common.{◌≡◌, ℕ, ◌≤◌, ◌<◌, ◌^◌, List, [], ◌∷◌, Option, Some, None, refl, sym, ap, ◌∙◌, arith, append-nil, codes, subst, pos, negsuc}
+use Rattle.std.specs.Prelude.{option_and_then}
+use Rattle.std.specs.Str.{IsUtf8}
 use Rattle.std.proofs.lemmas.Str.{IsUtf8-from_ascii}
 use Rattle.std.proofs.lemmas.Bool.{lt-ltb}
 use Rattle.json.specs.Lex.{tokens}
@@ -11,11 +10,9 @@ use Rattle.json.specs.Token.{Token}
 use Rattle.json.specs.Json as json
 use Rattle.json.proofs.Printed.Tokens.{tokens-print}
 use Rattle.json.proofs.Printed.Trees.{value-json_tokens, ArePrintable-json_tokens}
-use Rattle.serde_json.specs.Data.{Data, number, unsigned}
-use Rattle.serde_json.specs.Find.{of_integer}
+use Rattle.serde_json.specs.Data.{Data}
 use Rattle.serde_json.specs.Read.{read, of_json, max_depth}
 use Rattle.serde_json.specs.Written.{outline, compact_text}
-use Rattle.serde_json.specs.View.{items_of}
 use Rattle.serde_json.proofs.Texts.{print-outline}
 use Rattle.stm_terms.specs.declared.kinds.Ty.{Ty}
 use Rattle.stm_terms.specs.declared.values.Value.{Value}
@@ -24,15 +21,14 @@ use Rattle.stm_terms.specs.declared.values.Ref.TheVariants.{Old, New}
 use Rattle.stm_terms.specs.declared.values.Fault.TheVariants.{Thrown, Overflow}
 use Rattle.stm_terms.specs.declared.verdicts.Verdict.{Verdict}
 use Rattle.stm_terms.specs.declared.verdicts.Verdict.TheVariants.{Commits, Throws, Blocks}
-use Rattle.stm_terms.specs.Names.{is_name_text}
 use Rattle.stm_store.specs.Tables.{Declared}
 use Rattle.stm_history.specs.declared.event.Event.{Event}
 use Rattle.stm_history.specs.declared.event.What.{What}
 use Rattle.stm_history.specs.declared.event.What.TheVariants.{Submitted, Installed, Finished, Cancelled}
-use Rattle.stm_history.specs.Fits.{FitsTable, WhatFitsTable, FitsValue, FitsInt, FitsVerdict, FitWrites, FitNews, FitNumbers, FitsVariable, Is32Bit, IsOneLine}
+use Rattle.stm_history.specs.Fits.{FitsTable, WhatFitsTable, FitsValue, FitsVerdict, FitWrites, FitNews, FitNumbers, FitsVariable, Is32Bit, IsOneLine}
 use Rattle.stm_history.specs.Lines.{number_data, value_data, write_data, new_data, verdict_data, what_data, event_data, header_data, variable_data, event_line, header_line, variable_line}
-use Rattle.stm_history.specs.Fields.{in_32_bits, u32_of, number_field, value_of, write_of, new_of, verdict_of, what_of, event_of, declared_of, all_of}
-use Rattle.stm_history.proofs.RoundTrips.{RoundTrips, AllRoundTrip, what_round_trips, header_round_trips, variable_round_trips, AllBack, all_back}
+use Rattle.stm_history.specs.Fields.{in_32_bits, u32_of, number_field, value_of, write_of, new_of, verdict_of, event_of, declared_of}
+use Rattle.stm_history.proofs.RoundTrips.{RoundTrips, what_round_trips, header_round_trips, variable_round_trips, AllBack, all_back}
 use Rattle.stm_history.proofs.OneLines.{IsInRange, one_line, is_ascii}
 use Rattle.stm_history.proofs.Ranges.{what_in_range, variable_in_range}
 use Rattle.stm_history.proofs.Types.{type_back}

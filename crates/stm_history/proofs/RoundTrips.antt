@@ -1,9 +1,8 @@
 -- Data that is written and read back: by induction on its lists.
-use Rattle.std.proofs.Common.{◌≡◌, ℕ, suc, ◌≤◌, ◌<◌, ◌+◌, ◌^◌, max, List, [], ◌∷◌, map, Option, Some, None, Bool, true, false, ℤ, pos, negsuc, refl, sym, ap, ◌∙◌, arith, decimal, codes}
-use Rattle.std.specs.Prelude.{option_map, option_and_then, ◌||◌}
+use Rattle.std.proofs.Common.{◌≡◌, ℕ, suc, ◌≤◌, ◌<◌, List, [], ◌∷◌, map, Option, Some, false, ℤ, pos, negsuc, refl, arith}
 use Rattle.json.specs.Tree.{HasNumbers, ItemsHaveNumbers, depth, items_depth}
 use Rattle.json.proofs.Printed.Decimals.{IsNumber-decimal, IsNumber-signed_decimal}
-use Rattle.serde_json.specs.Data.{Data, null, boolean, number, unsigned, negative, string, array, object, Items, item, no_items, member, no_members}
+use Rattle.serde_json.specs.Data.{Data, number, string, array, Items, item, no_items}
 use Rattle.serde_json.specs.Find.{of_integer}
 use Rattle.serde_json.specs.View.{items_of}
 use Rattle.serde_json.specs.Read.{of_json, of_items}

@@ -1,14 +1,14 @@
 -- One line more.
-use Rattle.std.proofs.Common.{◌≡◌, ◌≢◌, ℕ, suc, ◌+◌, ◌≤◌, ◌<◌, ◌^◌, Bool, true, false, cond, List, [], ◌∷◌, ◌++◌, length, refl, sym, ap, ◌∙◌, subst, arith, append_assoc, append-nil, length-append}
+use Rattle.std.proofs.Common.{◌≡◌, ℕ, ◌+◌, ◌≤◌, ◌<◌, Bool, true, false, cond, List, [], ◌∷◌, ◌++◌, length, refl, sym, ap, ◌∙◌, subst, arith, append_assoc, append-nil, length-append}
 use Rattle.std.specs.Prelude.{nat_lt}
 use Rattle.std.proofs.lemmas.Bool.Decides.{nat_tests}
 use Rattle.stm_store.specs.Tables.{Declared}
 use Rattle.stm_history.specs.declared.event.Event.{Event}
-use Rattle.stm_history.specs.SlowDesk.{IsLegal, max_cells}
+use Rattle.stm_history.specs.SlowDesk.{max_cells}
 use Rattle.stm_history.specs.Fits.{FitsTable}
 use Rattle.stm_history.specs.Lines.{format_1, event_line, header_line, variable_line}
 use Rattle.stm_history.specs.HistoryText.{head_text, history_text, variable_lines, event_lines}
-use Rattle.stm_history.specs.Judgement.{IsShort, MayDeclare, AreVariables, AreVariablesFrom, AreEvents, next_line}
+use Rattle.stm_history.specs.Judgement.{IsShort, MayDeclare, AreVariables, AreVariablesFrom, AreEvents}
 use Rattle.stm_history.specs.Checking.{Progress, at_header, at_variables, at_events, with_table, LeadsTo, LinesUpTo}
 
 pub variable_lines-push : (ds : List Declared) (d : Declared) → variable_lines (ds ++ d ∷ []) ≡ variable_lines ds ++ (variable_line d ++ 10 ∷ [])
@@ -19,10 +19,10 @@ pub event_lines-push : (es : List Event) (e : Event) → event_lines (es ++ e �
 event_lines-push [] e = refl
 event_lines-push (d ∷ es) e = ap (λ l. event_line d ++ 10 ∷ l) (event_lines-push es e) ∙ sym (append_assoc (event_line d) (10 ∷ event_lines es) (event_line e ++ 10 ∷ []))
 
-variables_push : (prior ds : List Declared) (d : Declared) → AreVariablesFrom prior ds → MayDeclare (prior ++ ds) d → IsShort (variable_line d) → AreVariablesFrom prior (ds ++ d ∷ [])
-variables_push prior [] d a m s = (subst (λ (x : List Declared). MayDeclare x d) (append-nil prior) m, s, tt)
-variables_push prior (c ∷ ds) d a m s =
-    (a.0, a.1, variables_push (prior ++ c ∷ []) ds d a.2 (subst (λ (x : List Declared). MayDeclare x d) (sym (append_assoc prior (c ∷ []) ds)) m) s)
+variables_push : (prior ds : List Declared) (d : Declared) → AreVariablesFrom prior ds → MayDeclare (prior ++ ds) d → AreVariablesFrom prior (ds ++ d ∷ [])
+variables_push prior [] d a m = (subst (λ (x : List Declared). MayDeclare x d) (append-nil prior) m, tt)
+variables_push prior (c ∷ ds) d a m =
+    (a.0, variables_push (prior ++ c ∷ []) ds d a.1 (subst (λ (x : List Declared). MayDeclare x d) (sym (append_assoc prior (c ∷ []) ds)) m))
 
 events_push : (table : List Declared) (es : List Event) (e : Event) → AreEvents table es → FitsTable table e → IsShort (event_line e) → AreEvents table (es ++ e ∷ [])
 events_push table [] e a f s = (f, s, tt)
@@ -50,7 +50,7 @@ LinesUpTo-line (at_variables n table) t text line s k short =
     (with_table-lines n (text ++ (line ++ 10 ∷ [])) (table ++ k.0 ∷ [])
     (ap (λ x. x ++ (line ++ 10 ∷ [])) s.0 ∙ ap (λ x. head_text format_1 n table ++ (x ++ 10 ∷ [])) (sym k.1) ∙ append_assoc (header_line format_1 n) (10 ∷ variable_lines table) (variable_line k.0 ++ 10 ∷ [])
     ∙ ap (λ x. header_line format_1 n ++ 10 ∷ x) (sym (variable_lines-push table k.0)))
-    (variables_push [] table k.0 s.1 k.2 (subst IsShort (sym k.1) short))
+    (variables_push [] table k.0 s.1 k.2)
     (let l : length (table ++ k.0 ∷ []) ≡ length table + 1 = length-append table (k.0 ∷ []) in omega (arith, l, s.2)) s.3)
 LinesUpTo-line (at_events table history) t text line s k short =
     subst (λ (r : Progress). LinesUpTo r (text ++ (line ++ 10 ∷ []))) (sym k.4) (

@@ -1,12 +1,11 @@
 -- What a legal event says of the slow desk before it: no question is refused, and its fields are the answers.
-use Rattle.std.proofs.Common.{◌≡◌, ◌≢◌, ℕ, suc, ◌+◌, ◌≤◌, ◌<◌, Bool, true, false, not, cond, List, [], ◌∷◌, ◌++◌, length, Option, Some, None, Result, Ok, Err, OnOk, is_some, refl, sym, ap, ◌∙◌, subst, arith, length-append}
-use Rattle.std.specs.Prelude.{nat_eq, nat_le, IsSomeAnd, IsSome, IfSome, option_map}
+use Rattle.std.proofs.Common.{◌≡◌, ◌≢◌, ℕ, ◌<◌, false, List, [], ◌∷◌, ◌++◌, length, Option, Some, None, Result, Ok, Err, OnOk, is_some, refl, sym, ap, ◌∙◌, subst, arith, length-append}
+use Rattle.std.specs.Prelude.{IsSomeAnd, IfSome, option_map}
 use Rattle.stm_terms.specs.declared.kinds.Ty.{Ty}
 use Rattle.stm_terms.specs.declared.values.Value.{Value}
 use Rattle.stm_terms.specs.declared.verdicts.Verdict.{Verdict}
-use Rattle.stm_store.specs.declared.cell.Cell.{Cell}
-use Rattle.stm_store.specs.Cells.{plains, Covers, kinds_of, made_by}
-use Rattle.stm_store.specs.Tables.{Declared, is_kind}
+use Rattle.stm_store.specs.Cells.{plains}
+use Rattle.stm_store.specs.Tables.{Declared}
 use Rattle.stm_check.specs.Blocks.{Block}
 use Rattle.stm_eval.specs.declared.message.Evaluated.{Evaluated}
 use Rattle.stm_eval.specs.Told.{told_ticket, told_block, told_reads, told_verdict}
@@ -14,14 +13,14 @@ use Rattle.stm_history.specs.declared.errors.DeliverError.{DeliverError}
 use Rattle.stm_history.specs.declared.event.Event.{Event}
 use Rattle.stm_history.specs.declared.event.What.{What}
 use Rattle.stm_history.specs.declared.event.What.TheVariants.{Submitted, Installed, Finished, Cancelled}
-use Rattle.stm_history.specs.Following.{HasRoom, WhatIsIllegal}
-use Rattle.stm_history.specs.Machine.{Parts, StandsFor, MovesTo, event}
+use Rattle.stm_history.specs.Following.{HasRoom}
+use Rattle.stm_history.specs.Machine.{Parts, MovesTo, event}
 use Rattle.stm_history.specs.Plans.{IsPlan}
-use Rattle.stm_history.specs.Refusals.{missing, submit_first, submit_refused, cancel_first, cancel_refused, has_value, differing, install_first, overtaken_first, DeliverTold, TellsDelivery, finish_first, finish_refused, blocks_there, overflows}
-use Rattle.stm_history.specs.SlowDesk.{Since, Waiter, Slow, under, verdict_on, is_blocks, is_new, is_current, current_since, is_new_since, waiter, without, stale_after, written_in, MayInstall, MayFinish, Allows, AllowsEvent, start, state, LegalFrom, IsLegal, max_events, max_waiting, max_cells, max_clients, after}
+use Rattle.stm_history.specs.Refusals.{submit_refused, cancel_refused, differing, DeliverTold, TellsDelivery, finish_refused}
+use Rattle.stm_history.specs.SlowDesk.{Waiter, Slow, under, verdict_on, waiter, without, stale_after, written_in, MayInstall, MayFinish, Allows, start, state, IsLegal, max_events, max_clients, after}
 use Rattle.stm_history.specs.Taken.{IsPresent, block_at}
 use Rattle.stm_history.proofs.Allowed.{wait_allowed, leave_allowed, finish_allowed}
-use Rattle.stm_history.proofs.Folds.{IsLegalPush, legal_split, state-push}
+use Rattle.stm_history.proofs.Folds.{legal_split, state-push}
 
 module _ (table : List Declared) (history : List Event) (client : ℕ) (what : What) (a : IsLegal table (history ++ event client what ∷ [])) where
   -- the slow desk allows it

@@ -1,38 +1,30 @@
 -- What is told of the bytes where a line is refused.
-use Rattle.std.proofs.Common.{◌≡◌, ◌≢◌, ℕ, suc, ◌+◌, ◌≤◌, ◌<◌, ◌^◌, List, [], ◌∷◌, ◌++◌, length, refl, sym, ap, ◌∙◌, subst, arith, append_assoc, append-nil, length-append, ◌⊎◌, inl, inr, take, drop, get_or, add-one, decimal, codes, Result, Ok, Err, IfOk}
+use Rattle.std.proofs.Common.{◌≡◌, ◌≢◌, ℕ, ◌+◌, ◌≤◌, ◌<◌, ◌^◌, List, [], ◌∷◌, ◌++◌, length, refl, sym, ap, ◌∙◌, subst, arith, append_assoc, append-nil, length-append, ◌⊎◌, inl, inr, take, drop, get_or, add-one, Result, Ok, Err, IfOk}
 use Rattle.std.proofs.Math.Seq.{drop-cons}
-use Rattle.std.proofs.lemmas.Fmt.{length-decimal-le}
-use Rattle.json.specs.Print.{escape_byte}
 use Rattle.std.proofs.lemmas.List.{take-append-drop}
 use Rattle.stm_store.specs.Tables.{Declared}
 use Rattle.stm_history.specs.declared.event.Event.{Event}
 use Rattle.stm_history.specs.SlowDesk.{max_cells}
-use Rattle.stm_history.specs.Fits.{FitsTable, FitsVariable, Is32Bit}
+use Rattle.stm_history.specs.Fits.{FitsTable, FitsVariable}
 use Rattle.stm_history.specs.Lines.{format_1, event_line, header_line, variable_line}
 use Rattle.stm_history.proofs.ReadsBack.{event_one_line, header_one_line, variable_one_line, header_same, variable_same}
-use Rattle.stm_history.specs.HistoryText.{head_text, history_text, variable_lines, event_lines}
-use Rattle.stm_history.specs.Judgement.{IsShort, max_line, MayDeclare, AreVariables, AreVariablesFrom, AreEvents, BeginsWithHistory, TellsFault, IsHistory, NoEventNext, IsIllegal, next_line, numbers}
+use Rattle.stm_history.specs.HistoryText.{history_text, variable_lines}
+use Rattle.stm_history.specs.Judgement.{IsShort, max_line, MayDeclare, AreVariablesFrom, TellsFault, IsHistory, numbers}
 use Rattle.stm_history.specs.declared.files.fault.HistoryFault.{HistoryFault}
-use Rattle.stm_history.specs.declared.files.fault.HistoryFault.TheVariants.{BadHeader, BadLine, NotLegal, NoMemory}
+use Rattle.stm_history.specs.declared.files.fault.HistoryFault.TheVariants.{BadHeader}
 use Rattle.stm_history.specs.declared.files.fault.Legal.{Legal}
 use Rattle.stm_history.specs.declared.files.check.Stage.{Stage}
 use Rattle.stm_history.specs.declared.files.check.Stage.TheVariants.{Declaring, Running}
 use Rattle.stm_history.specs.declared.files.replayer.Replayer.{Replayer}
 use Rattle.stm_history.specs.Following.{Follows}
-use Rattle.stm_history.specs.Checking.{Progress, at_header, at_variables, at_events, LeadsTo, LinesUpTo, NoNext, NoFeed, IsStrange, strange, Forbids, MayRefuse, HasTaken}
+use Rattle.stm_history.specs.Checking.{Progress, at_header, at_variables, at_events, LeadsTo, LinesUpTo, NoNext, NoFeed, IsStrange, strange, MayRefuse, HasTaken}
 use Rattle.stm_history.specs.Stages.{IsStage, Reached, LeadsToStage}
 use Rattle.stm_history.proofs.Cuts.{IsCut, cut_unique, no_cut, no_feed_at_end, nofeed-push, no_feed}
+use Rattle.stm_history.proofs.Shortness.{header_short, variable_short}
 use Rattle.stm_history.proofs.Standing.{LinesUpTo-line}
 
 header_no_feed : (n : ℕ) → n ≤ max_cells → NoFeed (header_line format_1 n)
 header_no_feed n h = no_feed (header_line format_1 n) (header_one_line format_1 n (omega arith) (omega (arith, h)))
-
-pub header_short : (n : ℕ) → n ≤ max_cells → IsShort (header_line format_1 n)
-unfolding header_line escape_byte
-header_short n h =
-    let d = length-decimal-le 7 n (omega arith) (omega arith) (omega arith) in
-    let one = length-decimal-le 1 1 (omega arith) (omega arith) (omega arith) in
-    simp length-append (omega (arith, d, one))
 
 variable_no_feed : (d : Declared) → FitsVariable d → NoFeed (variable_line d)
 variable_no_feed d f = no_feed (variable_line d) (variable_one_line d f)
@@ -53,7 +45,7 @@ following prior [] [] a b h k l e = absurd (omega arith)
 following prior [] (y ∷ ys) a b h k l e = record {
   variable = y;
   may = subst (λ (x : List Declared). MayDeclare x y) (sym (append-nil prior)) k.0;
-  short = k.1;
+  short = variable_short y (k.0).fits;
   more = variable_lines ys ++ b;
   rest = e ∙ append_assoc (variable_line y) (10 ∷ variable_lines ys) b;
 }
@@ -64,7 +56,7 @@ following prior (x ∷ xs) (y ∷ ys) a b h k l e =
     (sym (append_assoc (variable_line x) (10 ∷ variable_lines xs) a) ∙ e ∙ append_assoc (variable_line y) (10 ∷ variable_lines ys) b) in
     let same : y ≡ x = variable_same y x (k.0).fits (h.0).fits (sym c.line) in
     subst (λ (z : List Declared). Following z a) (append_assoc prior (x ∷ []) xs)
-    (following (prior ++ x ∷ []) xs ys a b h.2 (subst (λ (z : Declared). AreVariablesFrom (prior ++ z ∷ []) ys) same k.2) (omega arith) c.rest)
+    (following (prior ++ x ∷ []) xs ys a b h.1 (subst (λ (z : Declared). AreVariablesFrom (prior ++ z ∷ []) ys) same k.1) (omega arith) c.rest)
 
 -- a refusal by what comes next
 pub TellsFault-strange : (r : Progress) (whole rest : List ℕ) → LinesUpTo r whole → NoNext r rest → (0 < length rest ⊎ (strange r ≡ BadHeader)) → TellsFault format_1 (strange r) (whole ++ rest)

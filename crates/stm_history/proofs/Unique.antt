@@ -1,16 +1,14 @@
 -- Two readings of the same bytes are one.
-use Rattle.std.proofs.Common.{◌≡◌, ◌≢◌, ℕ, suc, ◌+◌, ◌≤◌, ◌<◌, ◌^◌, List, [], ◌∷◌, ◌++◌, length, refl, sym, ap, ◌∙◌, subst, arith, append_assoc, append-nil, length-append}
+use Rattle.std.proofs.Common.{◌≡◌, ℕ, ◌≤◌, ◌<◌, List, [], ◌∷◌, ◌++◌, length, refl, sym, ap, ◌∙◌, subst, arith, append_assoc, append-nil, length-append}
 use Rattle.stm_store.specs.Tables.{Declared}
 use Rattle.stm_history.specs.declared.event.Event.{Event}
-use Rattle.stm_history.specs.SlowDesk.{IsLegal, LegalFrom, Slow, max_cells, max_events, start, after}
-use Rattle.stm_history.proofs.Folds.{legal_split}
-use Rattle.stm_history.specs.Fits.{FitsTable, FitsVariable, Is32Bit}
+use Rattle.stm_history.specs.SlowDesk.{IsLegal, LegalFrom, Slow, max_events, start, after}
+use Rattle.stm_history.specs.Fits.{FitsTable}
 use Rattle.stm_history.specs.Lines.{format_1, event_line, header_line, variable_line}
 use Rattle.stm_history.proofs.ReadsBack.{event_one_line, header_one_line, variable_one_line, header_same, variable_same, event_same}
-use Rattle.stm_history.specs.declared.files.fault.HistoryFault.TheVariants.{BadHeader, BadLine, NotLegal}
-use Rattle.stm_history.specs.declared.files.fault.Legal.{Legal}
+use Rattle.stm_history.specs.declared.files.fault.HistoryFault.TheVariants.{BadHeader}
 use Rattle.stm_history.specs.HistoryText.{head_text, history_text, variable_lines, event_lines}
-use Rattle.stm_history.specs.Judgement.{IsShort, MayDeclare, AreVariablesFrom, AreEvents, BeginsWithHistory, IsHistory, NoEventNext, IsIllegal, TellsFault, numbers, next_line}
+use Rattle.stm_history.specs.Judgement.{IsShort, AreVariablesFrom, AreEvents, BeginsWithHistory, NoEventNext, IsIllegal, TellsFault, numbers}
 use Rattle.stm_history.specs.FileLaws.{NumbersAreFixed, HistoriesAreTaken}
 use Rattle.stm_history.proofs.Cuts.{IsCut, cut_unique, no_feed}
 
@@ -28,7 +26,7 @@ tables prior (x ∷ xs) (y ∷ ys) a b h k l e =
     cut_unique (variable_line x) _ (variable_line y) _ (no_feed _ (variable_one_line x (h.0).fits)) (no_feed _ (variable_one_line y (k.0).fits))
     (sym (append_assoc (variable_line x) (10 ∷ variable_lines xs) a) ∙ e ∙ append_assoc (variable_line y) (10 ∷ variable_lines ys) b) in
     let same : y ≡ x = variable_same y x (k.0).fits (h.0).fits (sym c.line) in
-    let r = tables (prior ++ x ∷ []) xs ys a b h.2 (subst (λ (z : Declared). AreVariablesFrom (prior ++ z ∷ []) ys) same k.2) (omega (arith, l)) c.rest in
+    let r = tables (prior ++ x ∷ []) xs ys a b h.1 (subst (λ (z : Declared). AreVariablesFrom (prior ++ z ∷ []) ys) same k.1) (omega (arith, l)) c.rest in
     record { tables = ap (λ (z : List Declared). x ∷ z) r.tables ∙ ap (λ (z : Declared). z ∷ ys) (sym same); rest = r.rest }
 
 one_table : (bytes : List ℕ) (T U : List Declared) (H K : List Event) (a b : List ℕ) → BeginsWithHistory format_1 bytes T H a → BeginsWithHistory format_1 bytes U K b → IsOneTable T U (event_lines H ++ a) (event_lines K ++ b)

@@ -1,12 +1,11 @@
 -- A variable that a table refuses.
-use Rattle.std.proofs.Common.{◌≡◌, ◌≢◌, ℕ, List, Option, Some, None, Result, Err, refl, sym, ap, ◌∙◌, subst, inl, inr}
+use Rattle.std.proofs.Common.{◌≡◌, ℕ, List, Some, None, Err, refl, sym, ◌∙◌, subst, inl, inr}
 use Rattle.stm_store.specs.declared.table.DeclareError.{DeclareError}
 use Rattle.stm_store.specs.declared.table.DeclareError.TheVariants as declare
 use Rattle.stm_store.specs.Tables.{Declared, declare_refusal, refusal_told}
 use Rattle.stm_history.specs.Fits.{FitsVariable}
 use Rattle.stm_history.specs.Lines.{variable_line}
 use Rattle.stm_history.proofs.ReadsBack.{variable_same}
-use Rattle.stm_history.specs.Judgement.{MayDeclare}
 use Rattle.stm_history.specs.Checking.{at_variables, IsStrange, MayRefuse}
 use Rattle.stm_history.specs.Stages.{refused_by}
 

@@ -1,5 +1,5 @@
 -- What a JSON value stands for, as the reader finds it. A line is accepted where what was found has this very line again.
-use Rattle.std.specs.Prelude.{ℕ, zero, suc, ◌^◌, List, [], ◌∷◌, codes, Bool, true, false, nat_lt, nat_le, nat_eq, if◌then◌else◌, Option, Some, None, Result, Ok, Err, option_map, option_and_then, is_some}
+use Rattle.std.specs.Prelude.{ℕ, suc, ◌^◌, List, [], ◌∷◌, codes, Bool, nat_lt, nat_le, nat_eq, if◌then◌else◌, Option, Some, None, Result, Ok, Err, option_map, option_and_then, is_some}
 use Rattle.std.specs.List.{list_any}
 use Rattle.std.specs.Str.{bytes_eq}
 use Rattle.serde_json.specs.Data.{Data, Items, no_items, item}

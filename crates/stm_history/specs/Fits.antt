@@ -61,6 +61,11 @@ FitsTable table e = (e.client < max_clients) × WhatFitsTable table e.what
 abbrev pub FitsVariable : Declared → Type 0
 FitsVariable d = IsTrue (is_name_text d.name) × (d.kind.refs ≤ 8) × FitsValue d.value
 
+-- the first values are in range
+abbrev pub AreInRange : List Declared → Type 0
+AreInRange [] = ⊤
+AreInRange (d ∷ ds) = FitsValue d.value × AreInRange ds
+
 -- each byte is ASCII and no line feed
 abbrev pub IsOneLine : List ℕ → Type 0
 IsOneLine [] = ⊤

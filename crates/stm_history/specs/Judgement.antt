@@ -7,7 +7,7 @@ use Rattle.stm_history.specs.declared.files.fault.HistoryFault.TheVariants.{Read
 use Rattle.stm_history.specs.declared.files.fault.Legal.{Legal}
 use Rattle.stm_history.specs.Fits.{FitsTable, FitsVariable}
 use Rattle.stm_history.specs.HistoryText.{head_text, history_text}
-use Rattle.stm_history.specs.Lines.{event_line, variable_line}
+use Rattle.stm_history.specs.Lines.{event_line}
 use Rattle.stm_history.specs.SlowDesk.{state, IsLegal, max_cells}
 
 -- the most bytes of a line, its line feed not counted
@@ -22,10 +22,10 @@ pub record MayDeclare (before : List Declared) (d : Declared) : Type 0 where
   pub fits : FitsVariable d
   pub may : declare_refusal before d.name d.kind d.value ≡ None
 
--- each variable may be declared behind those before it, and its line is short
+-- each variable may be declared behind those before it
 abbrev pub AreVariablesFrom : List Declared → List Declared → Type 0
 AreVariablesFrom before [] = ⊤
-AreVariablesFrom before (d ∷ ds) = MayDeclare before d × IsShort (variable_line d) × AreVariablesFrom (before ++ d ∷ []) ds
+AreVariablesFrom before (d ∷ ds) = MayDeclare before d × AreVariablesFrom (before ++ d ∷ []) ds
 
 abbrev pub AreVariables : List Declared → Type 0
 AreVariables table = AreVariablesFrom [] table

@@ -1,9 +1,7 @@
 -- The progress that a stage of the checker stands for.
 use Rattle.std.specs.Prelude.{◌≡◌, ℕ, ◌<◌, ◌≤◌, List, length}
-use Rattle.stm_store.specs.Tables.{Declared}
 use Rattle.stm_store.specs.declared.table.DeclareError.{DeclareError}
 use Rattle.stm_store.specs.declared.table.DeclareError.TheVariants as declare
-use Rattle.stm_history.specs.declared.event.Event.{Event}
 use Rattle.stm_history.specs.declared.files.check.Stage.{Stage}
 use Rattle.stm_history.specs.declared.files.check.Stage.TheVariants.{Before, Declaring, Running}
 use Rattle.stm_history.specs.declared.files.fault.HistoryFault.{HistoryFault}

@@ -1,11 +1,11 @@
 -- The types of at most 8 `TVar`, case by case: each text computes.
-use Rattle.std.proofs.Common.{◌≡◌, ◌≤◌, ◌-◌, ℕ, zero, suc, List, codes, Ok, refl, length, arith}
+use Rattle.std.proofs.Common.{◌≡◌, ◌≤◌, ℕ, zero, suc, codes, Ok, refl, arith}
 use Rattle.stm_terms.specs.declared.kinds.Ty.{Ty}
 use Rattle.stm_terms.specs.declared.kinds.Base.{Base}
 use Rattle.stm_terms.specs.declared.kinds.Base.TheVariants as base
 use Rattle.stm_terms.specs.Names.{is_name_text, is_control_word, is_action_word, is_value_word}
 use Rattle.stm_terms.specs.Texts.{type_text}
-use Rattle.stm_parse.specs.Declaring.{ParsedDeclaration, named}
+use Rattle.stm_parse.specs.Declaring.{named}
 use Rattle.stm_parse.specs.Parsed.{parsed_declaration, declared_tree, answered}
 use Rattle.stm_parse.specs.Bytes.{pair_mark, single_mark, number_of}
 use Rattle.stm_parse.specs.Lexing.{control_mark, action_mark, value_mark}

@@ -2,7 +2,7 @@
 use Rattle.std.specs.Prelude.{◌≡◌, ℕ, ◌≤◌, List, ◌++◌, codes, Ok}
 use Rattle.stm_terms.specs.declared.kinds.Ty.{Ty}
 use Rattle.stm_terms.specs.Texts.{type_text}
-use Rattle.stm_parse.specs.Declaring.{ParsedDeclaration, named}
+use Rattle.stm_parse.specs.Declaring.{named}
 use Rattle.stm_parse.specs.Parsed.{parsed_declaration}
 
 -- `a : TYPE = a`

@@ -1,5 +1,5 @@
 -- The decision `same_value` is equality.
-use Rattle.std.proofs.Common.{◌≡◌, ℕ, Bool, true, false, ℤ, refl, sym, ap, ◌∙◌, arith, eqb-true}
+use Rattle.std.proofs.Common.{◌≡◌, ℕ, true, false, ℤ, refl, sym, ap, arith, eqb-true}
 use Rattle.std.specs.Prelude.{nat_eq}
 use Rattle.std.specs.Ordering.{int_eq}
 use Rattle.std.proofs.lemmas.Bool.Decides.{Decides-int_eq, nat_tests}

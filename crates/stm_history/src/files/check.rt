@@ -93,7 +93,7 @@ fn take_variable(
 {
     match read_variable(alloc, line) {
         Ok(variable) => {
-            match table.declare(alloc, &variable.name, variable.kind, variable.value) {
+            match table.declare(&variable.name, variable.kind, variable.value) {
                 Ok(_) => with_table(alloc, vars, table),
                 Err(error) => Err(declare_refused(error)),
             }

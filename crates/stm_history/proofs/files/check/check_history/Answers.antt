@@ -1,4 +1,3 @@
-use Rattle.std.proofs.Common.{◌≡◌, ◌++◌, List, ℕ, rules, arith}
 use Rattle.std.proofs.KnownBytes.{Consumes-trans, Consumes-kept}
 use Rattle.stm_history.proofs.files.check.check_history.Goals as goal
 use Rattle.stm_history.proofs.files.check.check_history.Goals.{in-Ok+else-count-eq0+in_ok-take_bytes-in-Ok, in-Err}

@@ -1,4 +1,4 @@
-use Rattle.std.proofs.Common.{◌≡◌, ◌<◌, ◌^◌, refl, inl, inr, arith}
+use Rattle.std.proofs.Common.{refl, inl, inr, arith}
 use Rattle.stm_history.proofs.Telling.{too_many}
 use Rattle.stm_history.proofs.files.check.take_header.Goals as goal
 

@@ -1,4 +1,3 @@
-use Rattle.std.proofs.Common.{◌≡◌}
 use Rattle.stm_history.proofs.Telling.{run_leads}
 use Rattle.stm_history.proofs.files.check.take_line.Goals as goal
 

@@ -1,4 +1,4 @@
-use Rattle.std.proofs.Common.{◌≡◌, ◌∙◌, ℕ, List, Err, sym, ap, subst}
+use Rattle.std.proofs.Common.{◌≡◌, ◌∙◌, ℕ, List, Err, ap}
 use Rattle.stm_store.specs.Tables.{declare_refusal, refusal_told}
 use Rattle.stm_history.specs.Variables.{declared}
 use Rattle.stm_history.proofs.Variables.{declare_fault}

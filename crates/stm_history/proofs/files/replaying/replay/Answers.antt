@@ -1,4 +1,4 @@
-use Rattle.std.proofs.Common.{◌≡◌, ◌+◌, List, length, take, refl, rules, sym, ap, subst}
+use Rattle.std.proofs.Common.{◌+◌, List, take, rules, sym, ap, subst}
 use Rattle.stm_history.specs.declared.event.Event.{Event}
 use Rattle.stm_history.specs.Following.{Follows}
 use Rattle.stm_history.proofs.Parts.{next_at}

@@ -1,4 +1,4 @@
-use Rattle.std.proofs.Common.{◌≡◌, None, Err, sym, ap, ◌∙◌}
+use Rattle.std.proofs.Common.{◌∙◌}
 use Rattle.stm_history.proofs.Steps.{no_cancel}
 use Rattle.stm_history.proofs.files.stepping.cancelled.Goals as goal
 

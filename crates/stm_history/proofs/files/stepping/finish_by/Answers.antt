@@ -1,6 +1,6 @@
-use Rattle.std.proofs.Common.{◌≡◌, true, false, sym, ap, ◌∙◌, arith}
+use Rattle.std.proofs.Common.{arith}
 use Rattle.std.proofs.lemmas.Grind.{common_steps}
-use Rattle.stm_history.proofs.Steps.{AreSame, finish_same}
+use Rattle.stm_history.proofs.Steps.{finish_same}
 use Rattle.stm_history.proofs.files.stepping.finish_by.Goals as goal
 
 pub returns-then-not-is_plan-clause-not_allowed : goal.returns-then-not-is_plan-clause-not_allowed

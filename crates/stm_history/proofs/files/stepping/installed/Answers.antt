@@ -1,5 +1,4 @@
-use Rattle.std.proofs.Common.{◌≡◌, None, true, false, not, List, ℕ, OnOk, sym, ap, ◌∙◌, subst, arith, is_some}
-use Rattle.std.proofs.lemmas.Grind.{common_steps}
+use Rattle.std.proofs.Common.{◌≡◌, List, ℕ, OnOk, sym, ◌∙◌, subst}
 use Rattle.stm_store.specs.Tables.{Declared}
 use Rattle.stm_eval.specs.Told.{told_ticket}
 use Rattle.stm_history.specs.declared.event.Event.{Event}

@@ -1,5 +1,4 @@
-use Rattle.std.proofs.Common.{◌≡◌, ◌<◌, None, Err, false, sym, ap, ◌∙◌, arith}
-use Rattle.stm_check.specs.Blocks.{Block}
+use Rattle.std.proofs.Common.{◌≡◌, None, false, ap, ◌∙◌, arith}
 use Rattle.stm_history.specs.Machine.{CanWait}
 use Rattle.stm_history.specs.Refusals.{submit_refused}
 use Rattle.stm_history.specs.SlowDesk.{state}

@@ -1,4 +1,3 @@
-use Rattle.std.proofs.Common.{◌≡◌, length, sym, rules}
 use Rattle.stm_history.proofs.Parts.{part_1, part_2, part_3}
 use Rattle.stm_history.proofs.files.writing.write_history.Goals as goal
 

@@ -1,6 +1,6 @@
-use Rattle.std.proofs.Common.{◌≡◌, List, ℕ, Some, None, Option, sym, ap, ◌∙◌, true, false, IsTrue, subst, Bool, arith}
+use Rattle.std.proofs.Common.{◌≡◌, List, ℕ, Some, None, sym, ap, ◌∙◌, true, IsTrue, subst, arith}
 use Rattle.std.proofs.lemmas.Grind.{common_steps}
-use Rattle.std.specs.Prelude.{Decides, option_map, string_bytes}
+use Rattle.std.specs.Prelude.{option_map, string_bytes}
 use Rattle.std.proofs.lemmas.Slice.Eq.{bytes_eq-Decides}
 use Rattle.serde_json.specs.View.{view}
 use Rattle.stm_terms.specs.Names.{is_name_text}

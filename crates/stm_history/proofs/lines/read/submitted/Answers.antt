@@ -1,4 +1,4 @@
-use Rattle.std.proofs.Common.{◌≡◌, Some, sym, ap, ◌∙◌}
+use Rattle.std.proofs.Common.{◌≡◌, Some, sym, ◌∙◌}
 use Rattle.stm_history.specs.Fields.{block_of_text}
 use Rattle.stm_history.proofs.Ranges.{own_text}
 use Rattle.stm_history.proofs.lines.read.submitted.Goals as goal

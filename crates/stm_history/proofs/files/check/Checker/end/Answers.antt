@@ -1,4 +1,4 @@
-use Rattle.std.proofs.Common.{◌≡◌, ◌<◌, length, refl, sym, inl, inr, rules}
+use Rattle.std.proofs.Common.{◌<◌, length, refl, inl, inr, rules}
 use Rattle.stm_history.specs.declared.files.fault.HistoryFault.TheVariants.{BadHeader}
 use Rattle.stm_history.proofs.Telling.{ends_early, declaring_strange}
 use Rattle.stm_history.proofs.files.check.Checker.end.Goals as goal

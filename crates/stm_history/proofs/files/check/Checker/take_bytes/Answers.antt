@@ -1,4 +1,4 @@
-use Rattle.std.proofs.Common.{◌≡◌, ◌<◌, ◌+◌, ◌++◌, List, ℕ, length, take, drop, rules, arith}
+use Rattle.std.proofs.Common.{◌+◌, ◌++◌, take, drop, rules}
 use Rattle.std.proofs.lemmas.Result.{err_from_is_err_and}
 use Rattle.stm_history.proofs.Telling.{told_within}
 use Rattle.stm_history.proofs.files.check.Checker.take_bytes.Goals as goal

@@ -1,5 +1,3 @@
-use Rattle.std.proofs.Common.{◌≡◌}
-use Rattle.stm_history.specs.declared.event.What.TheVariants.{Submitted, Installed, Cancelled}
 use Rattle.stm_history.proofs.Steps.{copy_kept, copy_made}
 use Rattle.stm_history.proofs.files.replayer.Replayer.act.Goals as goal
 

@@ -1,4 +1,4 @@
-use Rattle.std.proofs.Common.{◌≡◌, ◌<◌, ◌≤◌, arith}
+use Rattle.std.proofs.Common.{arith}
 use Rattle.std.proofs.lemmas.Grind.{common_steps}
 use Rattle.stm_history.proofs.Steps.{client_low, before_full}
 use Rattle.stm_history.proofs.files.replayer.Replayer.step.Goals as goal
