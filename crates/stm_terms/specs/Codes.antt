@@ -1,5 +1,5 @@
 -- A code for the trees, by the code of those with boxes.
-use Rattle.std.specs.Prelude.{◌≡◌, refl}
+use Rattle.std.specs.Prelude.{◌≡◌, ℕ, refl}
 use Rattle.std.specs.Global.{Box}
 use denote.RawPtr.{null_ptr}
 use Rattle.std.specs.Coded.{Coded, code_by}

@@ -1,5 +1,5 @@
 -- What an action does, run alone in a view.
-use Rattle.std.specs.Prelude.{true, false, List, [], ◌∷◌, ◌++◌, Option, Some, None, Ok, Err, length}
+use Rattle.std.specs.Prelude.{ℕ, true, false, List, [], ◌∷◌, ◌++◌, Option, Some, None, Ok, Err, length}
 use Rattle.stm_terms.specs.declared.values.Ref.TheVariants.{New}
 use Rattle.stm_terms.specs.declared.values.Value.{Value}
 use Rattle.stm_terms.specs.declared.values.Value.TheVariants.{Int, Bool as Truth, Unit as Nil, Var}
