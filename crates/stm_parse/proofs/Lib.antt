@@ -21,5 +21,6 @@ pub mod Telling
 pub mod Tiers
 pub mod TypeLevels
 pub mod Types
+pub mod TypesBack
 pub mod Whole
 pub mod Words

@@ -13,3 +13,4 @@ pub mod RawBlocks
 pub mod Reading
 pub mod Told
 pub mod Tokens
+pub mod TypeTexts

@@ -3,6 +3,7 @@
 ghost use Rattle.stm_parse.specs.Laws.{EachBlockIsOne, EachDeclarationIsOne, EachBlockFaultIsOne, EachDeclarationFaultIsOne, BlockOrFault, DeclarationOrFault};
 ghost use Rattle.stm_parse.specs.Laws.{ProductsGroupToTheLeft, SumsGroupToTheLeft, ComparisonsAreNotChained, ConjunctionsGroupToTheRight, DisjunctionsGroupToTheRight, ProductsBindTightest, SumsBindTighter, ComparisonsBindTighter, ConjunctionsBindTighter};
 ghost use Rattle.stm_parse.specs.Parsed.{BlockAnswersAreRight, DeclarationAnswersAreRight};
+ghost use Rattle.stm_parse.specs.TypeTexts.{TypesAreReadBack};
 
 /// Each text has one tree.
 pub fn each_text_is_one_tree()
@@ -52,4 +53,9 @@ pub fn each_tier_binds_tighter_than_the_next()
 pub fn answers_are_right()
     ensures blocks { BlockAnswersAreRight }
     ensures declarations { DeclarationAnswersAreRight }
+{}
+
+/// A declaration that is written with the text of a type, of at most 8 `TVar`, has that type.
+pub fn types_are_read_back()
+    ensures { TypesAreReadBack }
 {}
