@@ -39,7 +39,7 @@ fn checked(
     }
 }
 
-/// The block of a text; where there is none, the fault is told.
+/// The block of a text; where there is none, the fault is reported.
 pub fn typed(
     alloc: Global,
     table: &Table,

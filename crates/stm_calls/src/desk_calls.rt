@@ -6,7 +6,7 @@ use crate::desks::Counts;
 use crate::words::{number, range, say, say_count, say_whether};
 use std::alloc::AllocError;
 use std::fmt::Write;
-use stm_check::Script;
+use stm_check::SharedBlock;
 use stm_desk::{
     CancelError, Desk, Finish, FinishError, SettleStop, SettleWhy, Settled, SubmitError,
 };
@@ -16,7 +16,7 @@ use stm_terms::{write_value, write_verdict};
 pub fn submit(
     desk: &mut Desk,
     client: u32,
-    block: Script,
+    block: SharedBlock,
     out: &mut String,
 ) -> Result<(), AllocError>
     requires { client < 128 }
@@ -32,7 +32,7 @@ pub fn submit(
 pub fn fill(
     desk: &mut Desk,
     client: u32,
-    block: &Script,
+    block: &SharedBlock,
     count: usize,
     out: &mut String,
 ) -> Result<(), AllocError>

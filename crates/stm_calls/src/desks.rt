@@ -7,7 +7,7 @@ use crate::desk_work::{self, Work};
 use crate::words::{first_word, number, say};
 use crate::{desk_calls, desk_show};
 use std::alloc::{AllocError, Global};
-use stm_check::Script;
+use stm_check::SharedBlock;
 use stm_desk::Desk;
 use stm_store::Table;
 
@@ -83,9 +83,9 @@ fn script(
     table: &Table,
     text: &str,
     out: &mut String,
-) -> Result<Option<Script>, AllocError> {
+) -> Result<Option<SharedBlock>, AllocError> {
     match typed(alloc, table, text, out)? {
-        Some(block) => Ok(Some(Script::new(alloc, block)?)),
+        Some(block) => Ok(Some(SharedBlock::new(alloc, block)?)),
         None => Ok(None),
     }
 }

@@ -7,7 +7,7 @@ use crate::blocks::typed;
 use crate::words::{first_word, number, say, say_whether};
 use std::alloc::{AllocError, Global};
 use std::fmt::Write;
-use stm_check::{Script, Typed};
+use stm_check::{SharedBlock, Typed};
 use stm_eval::{Evaluated, Job, Reads, evaluate, try_block};
 use stm_store::{Frozen, Table};
 use stm_terms::text::write_writes;
@@ -16,8 +16,8 @@ use stm_terms::{Verdict, write_verdict};
 /// A block and a second hold on it, a job, and a message.
 #[derive(Drop)]
 pub struct Evaluating {
-    block: Option<Script>,
-    second: Option<Script>,
+    block: Option<SharedBlock>,
+    second: Option<SharedBlock>,
     job: Option<Job>,
     message: Option<Evaluated>,
 }
@@ -34,15 +34,15 @@ impl Evaluating {
     }
 }
 
-/// The block of a text where many may hold it; where there is none, the fault is told.
+/// The block of a text where many may hold it; where there is none, the fault is reported.
 fn script(
     alloc: Global,
     table: &Table,
     text: &str,
     out: &mut String,
-) -> Result<Option<Script>, AllocError> {
+) -> Result<Option<SharedBlock>, AllocError> {
     match typed(alloc, table, text, out)? {
-        Some(block) => Ok(Some(Script::new(alloc, block)?)),
+        Some(block) => Ok(Some(SharedBlock::new(alloc, block)?)),
         None => Ok(None),
     }
 }
@@ -88,8 +88,8 @@ fn answer_same(
 }
 
 fn answer_kept(
-    block: &Script,
-    second: &mut Option<Script>,
+    block: &SharedBlock,
+    second: &mut Option<SharedBlock>,
     alloc: Global,
     table: &Table,
     text: &str,
@@ -110,8 +110,8 @@ fn answer_kept(
 
 /// Answers whether the second hold is on the block, or with its text.
 fn answer_second(
-    block: &Script,
-    second: &Option<Script>,
+    block: &SharedBlock,
+    second: &Option<SharedBlock>,
     call: &str,
     out: &mut String,
 ) -> Result<(), AllocError> {

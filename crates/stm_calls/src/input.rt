@@ -4,7 +4,7 @@ use std::alloc::{AllocError, Global};
 use std::io;
 use std::io::Read;
 
-/// The line read last, and bytes that were read behind it.
+/// The line read last, and bytes that were read after it.
 #[derive(Drop)]
 pub struct Lines {
     line: Vec<u8>,
@@ -54,7 +54,7 @@ impl Lines {
         }
     }
 
-    /// Reads the next line, without its line feed, and tells whether there was one.
+    /// Reads the next line, without its line feed, and returns whether there was one.
     pub fn next<R: Read>(&mut self, reader: &mut R) -> io::Result<bool> {
         self.line.clear();
         self.number = self.number.saturating_add(1);

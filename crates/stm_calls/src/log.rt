@@ -26,7 +26,7 @@ pub fn read(log: &mut Log, frozen: &Frozen, at: Ref) -> Result<Option<Value>, Al
     }
 }
 
-/// Writes a reference, and tells whether it was there.
+/// Writes a reference, and returns whether it was there.
 pub fn write(log: &mut Log, at: Ref, value: Value) -> Result<bool, AllocError> {
     match at {
         Ref::Old(id) => log.write(Ref::Old(id), value)?,

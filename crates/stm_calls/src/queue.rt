@@ -6,7 +6,7 @@ use crate::words::{Steps, first_word, number, range, say, say_count, say_number,
 use std::alloc::{AllocError, Global};
 use stm_queue::Pending;
 
-/// Adds a ticket that is absent, where there is room, and tells whether it did.
+/// Adds a ticket that is absent, where there is room, and returns whether it did.
 fn add(queue: &mut Pending, ticket: u32) -> bool {
     if queue.has(ticket) || !queue.has_room(1) {
         return false;
@@ -34,7 +34,7 @@ fn answer_room(queue: &mut Pending, n: usize, out: &mut String) -> Result<(), Al
     say("done", out)
 }
 
-/// Makes a call on one ticket, and tells whether it did what is asked.
+/// Makes a call on one ticket, and returns whether it did what is asked.
 fn is_done(queue: &mut Pending, call: &str, ticket: u32) -> bool {
     match call {
         "add" => add(queue, ticket),

@@ -69,7 +69,7 @@ fn answer_declare(
     }
 }
 
-/// The name of a number behind a front, as `v17`.
+/// The name of a number after a front, as `v17`.
 fn numbered(alloc: Global, front: &str, number: u32) -> Result<String, AllocError> {
     format!(in alloc; "{front}{number}")
 }

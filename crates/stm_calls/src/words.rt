@@ -9,7 +9,7 @@ pub const INT: Ty = Ty {
     refs: 0,
 };
 
-/// The first word of a text, and what follows the blank behind it.
+/// The first word of a text, and what follows the blank after it.
 pub fn first_word(text: &str) -> (&str, &str) {
     match text.split_once(' ') {
         Some((word, rest)) => (word, rest),

@@ -7,11 +7,11 @@ use Rattle.stm_terms.specs.declared.values.Ref.{Ref}
 use Rattle.stm_terms.specs.declared.values.Ref.TheVariants.{Old, New}
 use Rattle.stm_terms.specs.declared.values.Value.{Value}
 use Rattle.stm_terms.specs.declared.values.Value.TheVariants.{Int, Bool as Truth, Unit as Nil, Var}
-use Rattle.stm_terms.specs.Trees.{Act, return, read, write, make, retry, throw, choose, or_else, bind, let_in, seq}
+use Rattle.stm_terms.specs.Ast.{Act, return, read, write, make, retry, throw, if_else, or_else, bind, let_in, seq}
 use Rattle.stm_terms.specs.Value.{Answer}
-use Rattle.stm_terms.specs.Views.{Variables, Changes, find, put, first_of, seen, written, cell_written, made}
-use Rattle.stm_terms.specs.Run.{Outcome, Returned, Threw, Retried, Stuck, on_answer, then_run, else_run, returned_value, returned_unit, read_at, write_at, thrown, chosen, run}
-use Rattle.stm_terms.specs.Typing.{Kinds, int_ty, bool_ty, unit_ty, var_ty, inside, same_ty, kind_of, type_of, with_type, ActionType, Gives, Any, joined, with_result, with_bound, action_type, WellTyped, HaveTypes, AllAbove, Rising}
+use Rattle.stm_terms.specs.Changes.{Variables, Changes, find, put, first_of, view_at, written, cell_written, made}
+use Rattle.stm_terms.specs.Semantics.{Outcome, Returned, Threw, Retried, Stuck, on_answer, then_run, else_run, returned_value, returned_unit, read_at, write_at, thrown, chosen, run}
+use Rattle.stm_terms.specs.Typing.{TypeEnv, int_ty, bool_ty, unit_ty, var_ty, deref_ty, same_ty, kind_of, type_of, with_type, ActionType, Gives, Any, join_types, with_result, with_bound, action_type, WellTyped, HaveTypes, AllAbove, Rising}
 use Rattle.stm_check.proofs.ExpressionsSound.{IsOf, and_left, and_right, is_int, is_truth, same_ty_equal, when_true, with_type_some, expr_fine}
 
 -- ---- options
@@ -138,7 +138,7 @@ kind_pushed (d ∷ ds) x = kind_pushed ds x
 abbrev pub Extends : Changes → Changes → Type 0
 Extends h k = (i : ℕ) (t : Ty) → kind_at h.news i ≡ Some t → kind_at k.news i ≡ Some t
 
-module _ (kinds : Kinds) where
+module _ (kinds : TypeEnv) where
   kept : (h k : Changes) → Extends h k → (v : Value) (t : Ty) → type_of kinds h v ≡ Some t → type_of kinds k v ≡ Some t
   kept h k x (Int n) t e = e
   kept h k x (Truth b) t e = e
@@ -159,17 +159,17 @@ module _ (kinds : Kinds) where
   one_more h [] (u ∷ ts) v t p e = absurd p
   one_more h (w ∷ vs) (u ∷ ts) v t p e = (p.0, one_more h vs ts v t p.1 e)
 
-  is_var : (h : Changes) (v : Value) (t u : Ty) → type_of kinds h v ≡ Some t → inside t ≡ Some u → (r : Ref) × (v ≡ Var r) × (kind_of kinds h r ≡ Some u)
-  is_var h (Int n) t u p e = let q : None ≡ Some u = ap (λ o. with_type o inside) p ∙ e in absurd (cc)
-  is_var h (Truth b) t u p e = let q : None ≡ Some u = ap (λ o. with_type o inside) p ∙ e in absurd (cc)
-  is_var h Nil t u p e = let q : None ≡ Some u = ap (λ o. with_type o inside) p ∙ e in absurd (cc)
+  is_var : (h : Changes) (v : Value) (t u : Ty) → type_of kinds h v ≡ Some t → deref_ty t ≡ Some u → (r : Ref) × (v ≡ Var r) × (kind_of kinds h r ≡ Some u)
+  is_var h (Int n) t u p e = let q : None ≡ Some u = ap (λ o. with_type o deref_ty) p ∙ e in absurd (cc)
+  is_var h (Truth b) t u p e = let q : None ≡ Some u = ap (λ o. with_type o deref_ty) p ∙ e in absurd (cc)
+  is_var h Nil t u p e = let q : None ≡ Some u = ap (λ o. with_type o deref_ty) p ∙ e in absurd (cc)
   is_var h (Var r) t u p e =
       let m = mapped var_ty _ t p in
-      let q : Some m.0 ≡ Some u = ap inside m.2 ∙ e in
+      let q : Some m.0 ≡ Some u = ap deref_ty m.2 ∙ e in
       (r, refl, m.1 ∙ q)
 
-module _ (kinds : Kinds) (under : Variables) where
-  seen_fine : (h : Changes) → WellTyped kinds under h → (r : Ref) (u : Ty) → kind_of kinds h r ≡ Some u → (v : Value) × (seen under h r ≡ Some v) × (type_of kinds h v ≡ Some u)
+module _ (kinds : TypeEnv) (under : Variables) where
+  seen_fine : (h : Changes) → WellTyped kinds under h → (r : Ref) (u : Ty) → kind_of kinds h r ≡ Some u → (v : Value) × (view_at under h r ≡ Some v) × (type_of kinds h v ≡ Some u)
   seen_fine h w (Old i) u e =
       ⊎_elim
       (λ none. let s = w.store i u e in (s.0, ap (λ o. first_of o (under i)) none ∙ s.1, s.2))
@@ -273,26 +273,26 @@ module _ (kinds : Kinds) (under : Variables) where
   at_type h r q Retried f p = tt
   at_type h r q Stuck f p = p
 
-  from_left : (r s q : ActionType) → joined r s ≡ Some q → (k : Changes) (v : Value) → HasResult k r v → HasResult k q v
+  from_left : (r s q : ActionType) → join_types r s ≡ Some q → (k : Changes) (v : Value) → HasResult k r v → HasResult k q v
   from_left Any s q e k v p = absurd p
   from_left (Gives t) Any q e k v p = subst (λ x. HasResult k x v) (same_some _ _ e) p
   from_left (Gives t) (Gives u) q e k v p = subst (λ x. HasResult k x v) ((when_true _ (Gives t) q e).1) p
 
-  from_right : (r s q : ActionType) → joined r s ≡ Some q → (k : Changes) (v : Value) → HasResult k s v → HasResult k q v
+  from_right : (r s q : ActionType) → join_types r s ≡ Some q → (k : Changes) (v : Value) → HasResult k s v → HasResult k q v
   from_right Any s q e k v p = subst (λ x. HasResult k x v) (same_some _ _ e) p
   from_right (Gives t) Any q e k v p = absurd p
   from_right (Gives t) (Gives u) q e k v p =
       let b = when_true _ (Gives t) q e in
       subst (λ x. HasResult k x v) b.1 (p ∙ ap Some (sym (same_ty_equal t u b.0)))
 
-  read_fine : (h : Changes) (v : Value) (t u : Ty) → WellTyped kinds under h → type_of kinds h v ≡ Some t → inside t ≡ Some u → Fine h (Gives u) (read_at under h v)
+  read_fine : (h : Changes) (v : Value) (t u : Ty) → WellTyped kinds under h → type_of kinds h v ≡ Some t → deref_ty t ≡ Some u → Fine h (Gives u) (read_at under h v)
   read_fine h v t u w p e =
       let m = is_var kinds h v t u p e in
       let s = seen_fine h w m.0 u m.2 in
       subst (λ x. Fine h (Gives u) (read_at under h x)) (sym m.1)
       (subst (λ o. Fine h (Gives u) (returned_value o h)) (sym s.1) (s.2, w, λ i t q. q))
 
-  write_fine : (h : Changes) (v x : Value) (t u : Ty) → WellTyped kinds under h → type_of kinds h v ≡ Some t → inside t ≡ Some u → type_of kinds h x ≡ Some u → Fine h (Gives unit_ty) (write_at h v x)
+  write_fine : (h : Changes) (v x : Value) (t u : Ty) → WellTyped kinds under h → type_of kinds h v ≡ Some t → deref_ty t ≡ Some u → type_of kinds h x ≡ Some u → Fine h (Gives unit_ty) (write_at h v x)
   write_fine h v x t u w p e q =
       let m = is_var kinds h v t u p e in
       let s = written_fine h m.0 x u w m.2 q in
@@ -324,7 +324,7 @@ module _ (kinds : Kinds) (under : Variables) where
       let t = with_type_some _ _ r p in
       let u = with_type_some _ _ r t.2 in
       let b = when_true _ (Gives unit_ty) r u.2 in
-      let i : inside t.0 ≡ Some u.0 = ap inside (same_ty_equal t.0 (var_ty u.0) b.0) in
+      let i : deref_ty t.0 ≡ Some u.0 = ap deref_ty (same_ty_equal t.0 (var_ty u.0) b.0) in
       answer_fine h t.0 r _ _ (expr_fine kinds h a locals types t.0 l t.1)
       (λ v q. answer_fine h u.0 r _ _ (expr_fine kinds h e locals types u.0 l u.1)
       (λ x m. subst (λ y. Fine h y (write_at h v x)) b.1 (write_fine h v x t.0 u.0 w q i m)))
@@ -343,7 +343,7 @@ module _ (kinds : Kinds) (under : Variables) where
       let b = when_true _ Any r t.2 in
       answer_fine h t.0 r _ _ (expr_fine kinds h e locals types t.0 l t.1)
       (λ v q. throw_fine h r v (q ∙ ap Some (same_ty_equal t.0 int_ty b.0)))
-  run_fine (choose e a b) locals types h r w l p =
+  run_fine (if_else e a b) locals types h r w l p =
       let t = with_type_some _ _ r p in
       let c = if_some _ _ r t.2 in
       let s = with_result_some _ _ r c.1 in

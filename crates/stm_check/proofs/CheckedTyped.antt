@@ -5,13 +5,13 @@ use Rattle.std.specs.Str.{bytes_eq}
 use Rattle.stm_terms.specs.declared.kinds.Ty.{Ty}
 use Rattle.stm_terms.specs.declared.expr.Op.{Op}
 use Rattle.stm_terms.specs.declared.expr.Op.TheVariants.{Mul, Add, Sub, Eq, Lt, Le, And, Or}
-use Rattle.stm_terms.specs.Trees.{Term, bin, Act, return, read, write, make, throw, choose, or_else, bind, let_in, seq}
-use Rattle.stm_terms.specs.RawTrees as raw
-use Rattle.stm_terms.specs.Typing.{Kinds, int_ty, bool_ty, unit_ty, var_ty, inside, inside_at, same_ty, op_type, expr_type, ActionType, Gives, Any, joined, when, action_type}
+use Rattle.stm_terms.specs.Ast.{Term, bin, Act, return, read, write, make, throw, if_else, or_else, bind, let_in, seq}
+use Rattle.stm_terms.specs.ParsedAst as raw
+use Rattle.stm_terms.specs.Typing.{TypeEnv, int_ty, bool_ty, unit_ty, var_ty, deref_ty, deref_at, same_ty, op_type, expr_type, ActionType, Gives, Any, join_types, when, action_type}
 use Rattle.stm_check.proofs.SameTypes.{ty_same, ty_refl}
 use Rattle.stm_store.specs.Tables.{Declared, number_of}
 use Rattle.stm_check.specs.Scopes.{Locals, innermost, types_of}
-use Rattle.stm_check.specs.Checking.{table_kinds, with_kind, variable, wanted, given, as_wanted, wanted_right, on_ok, unless, on_some, on_type, declared_as, resolved, checked_expr, checked}
+use Rattle.stm_check.specs.CheckFunction.{table_kinds, with_kind, variable, wanted, given, as_wanted, wanted_right, on_ok, unless, on_some, on_type, declared_as, resolved, checked_expr, checked}
 use Rattle.stm_check.specs.declared.fault.TypeFault.{TypeFault}
 
 pub ok_then : {A B : Type 0} (o : Result A TypeFault) (go : A → Result B TypeFault) (Q : A → Type 0) (P : B → Type 0) → IfOk o Q → ((x : A) → Q x → IfOk (go x) P) → IfOk (on_ok o go) P
@@ -85,14 +85,14 @@ when_right true r e = refl
 when_right false r e = absurd (cc)
 
 -- a reference to cells of a type
-inside_var_at : (t : Ty) (n : ℕ) (c : Ty) → t.refs ≡ n → inside_at t.base n ≡ Some c → t ≡ var_ty c
+inside_var_at : (t : Ty) (n : ℕ) (c : Ty) → t.refs ≡ n → deref_at t.base n ≡ Some c → t ≡ var_ty c
 inside_var_at t zero c r e = absurd (cc)
 inside_var_at t (suc n) c r e =
     let mine : Ty = record { base = t.base; refs = n } in
     let p : mine ≡ c = cc in
     ap (λ (m : ℕ). let w : Ty = record { base = t.base; refs = m } in w) r ∙ ap var_ty p
 
-pub inside_var : (t c : Ty) → inside t ≡ Some c → t ≡ var_ty c
+pub inside_var : (t c : Ty) → deref_ty t ≡ Some c → t ≡ var_ty c
 inside_var t c e = inside_var_at t t.refs c refl e
 
 low_both : (t : Ty) → nat_le t.refs 8 ≡ true → (same_ty t t && nat_le t.refs 8) ≡ true
@@ -102,13 +102,13 @@ if_right : (b : Bool) (o : Option ActionType) (r : ActionType) → b ≡ true �
 if_right true o r p q = q
 if_right false o r p q = absurd (cc)
 
-kind_there : (kinds : Kinds) (i : ℕ) (o : Option Ty) (v : ℕ × Ty) → kinds i ≡ o → option_map (λ t. (i, t)) o ≡ Some v → kinds v.0 ≡ Some v.1
+kind_there : (kinds : TypeEnv) (i : ℕ) (o : Option Ty) (v : ℕ × Ty) → kinds i ≡ o → option_map (λ t. (i, t)) o ≡ Some v → kinds v.0 ≡ Some v.1
 kind_there kinds i (Some t) v e p =
     let q : (i, t) ≡ v = cc in
     subst (λ (w : ℕ × Ty). kinds w.0 ≡ Some w.1) q e
 kind_there kinds i None v e p = absurd (cc)
 
-number_kind : (kinds : Kinds) (o : Option ℕ) (v : ℕ × Ty) → with_kind kinds o ≡ Some v → kinds v.0 ≡ Some v.1
+number_kind : (kinds : TypeEnv) (o : Option ℕ) (v : ℕ × Ty) → with_kind kinds o ≡ Some v → kinds v.0 ≡ Some v.1
 number_kind kinds (Some i) v e = kind_there kinds i (kinds i) v refl e
 number_kind kinds None v e = absurd (cc)
 
@@ -130,7 +130,7 @@ module _ (table : List Declared) (text : List ℕ) where
   name_typed at ls name (Some l) e = local_type name ls l e
   name_typed at ls name None e = declared_typed at ls name (variable table name) refl
 
-  pub expr_typed : (e : raw.Term) (ls : Locals) → IfOk (checked_expr table text ls e) (λ x. expr_type (table_kinds table) (types_of ls) x.0 ≡ Some x.1)
+  pub expr_typed : (e : raw.RawTerm) (ls : Locals) → IfOk (checked_expr table text ls e) (λ x. expr_type (table_kinds table) (types_of ls) x.0 ≡ Some x.1)
   expr_typed (raw.int n at) ls = refl
   expr_typed (raw.truth b at) ls = refl
   expr_typed (raw.unit at) ls = refl
@@ -141,11 +141,11 @@ module _ (table : List Declared) (text : List ℕ) where
       ok_then _ _ (TypedExpr ls) (TypedExpr ls) (expr_typed b ls) (λ y q. unless_then _ _ _ (TypedExpr ls) (λ g.
       let r : TypedExpr ls (bin op x.0 y.0, given op) = rw (p, q) (op_right op x.1 y.1 f g) in r))))
 
-  pub typed : (a : raw.Act) (ls : Locals) → IfOk (checked table text ls a) (λ x. action_type (table_kinds table) (types_of ls) x.0 ≡ Some x.1)
+  pub typed : (a : raw.RawAct) (ls : Locals) → IfOk (checked table text ls a) (λ x. action_type (table_kinds table) (types_of ls) x.0 ≡ Some x.1)
   typed (raw.return e) ls = ok_then _ _ (TypedExpr ls) (TypedAct ls) (expr_typed e ls) (λ x p. let r : TypedAct ls (return x.0, Gives x.1) = rw p refl in r)
-  typed (raw.read e) ls = ok_then _ _ (TypedExpr ls) (TypedAct ls) (expr_typed e ls) (λ x p. some_then (inside x.1) _ _ (TypedAct ls) (λ t i. let r : TypedAct ls (read x.0, Gives t) = rw (p, i) refl in r))
+  typed (raw.read e) ls = ok_then _ _ (TypedExpr ls) (TypedAct ls) (expr_typed e ls) (λ x p. some_then (deref_ty x.1) _ _ (TypedAct ls) (λ t i. let r : TypedAct ls (read x.0, Gives t) = rw (p, i) refl in r))
   typed (raw.write r e) ls =
-      ok_then _ _ (TypedExpr ls) (TypedAct ls) (expr_typed r ls) (λ x p. some_then (inside x.1) _ _ (TypedAct ls) (λ t i.
+      ok_then _ _ (TypedExpr ls) (TypedAct ls) (expr_typed r ls) (λ x p. some_then (deref_ty x.1) _ _ (TypedAct ls) (λ t i.
       ok_then _ _ (TypedExpr ls) (TypedAct ls) (expr_typed e ls) (λ y q. unless_then (same_ty y.1 t) _ _ (TypedAct ls) (λ s.
       let d : TypedAct ls (write x.0 y.0, Gives unit_ty) =
       rw (p, q) (when_right (same_ty x.1 (var_ty y.1)) (Gives unit_ty)
@@ -157,12 +157,12 @@ module _ (table : List Declared) (text : List ℕ) where
   typed raw.retry ls = refl
   typed (raw.throw e) ls =
       ok_then _ _ (TypedExpr ls) (TypedAct ls) (expr_typed e ls) (λ x p. unless_then (same_ty x.1 int_ty) _ _ (TypedAct ls) (λ s. let r : TypedAct ls (throw x.0, Any) = rw p (when_right (same_ty x.1 int_ty) Any s) in r))
-  typed (raw.choose e a at b) ls =
+  typed (raw.if_else e a at b) ls =
       ok_then _ _ (TypedExpr ls) (TypedAct ls) (expr_typed e ls) (λ x p. unless_then (same_ty x.1 bool_ty) _ _ (TypedAct ls) (λ s.
-      ok_then _ _ (TypedAct ls) (TypedAct ls) (typed a ls) (λ y q. ok_then _ _ (TypedAct ls) (TypedAct ls) (typed b ls) (λ z r. some_then (joined y.1 z.1) _ _ (TypedAct ls) (λ w j.
-      let d : TypedAct ls (choose x.0 y.0 z.0, w) = rw (p, s, q, r) j in d)))))
+      ok_then _ _ (TypedAct ls) (TypedAct ls) (typed a ls) (λ y q. ok_then _ _ (TypedAct ls) (TypedAct ls) (typed b ls) (λ z r. some_then (join_types y.1 z.1) _ _ (TypedAct ls) (λ w j.
+      let d : TypedAct ls (if_else x.0 y.0 z.0, w) = rw (p, s, q, r) j in d)))))
   typed (raw.or_else a at b) ls =
-      ok_then _ _ (TypedAct ls) (TypedAct ls) (typed a ls) (λ y q. ok_then _ _ (TypedAct ls) (TypedAct ls) (typed b ls) (λ z r. some_then (joined y.1 z.1) _ _ (TypedAct ls) (λ w j. let d : TypedAct ls (or_else y.0 z.0, w) = rw (q, r) j in d)))
+      ok_then _ _ (TypedAct ls) (TypedAct ls) (typed a ls) (λ y q. ok_then _ _ (TypedAct ls) (TypedAct ls) (typed b ls) (λ z r. some_then (join_types y.1 z.1) _ _ (TypedAct ls) (λ w j. let d : TypedAct ls (or_else y.0 z.0, w) = rw (q, r) j in d)))
   typed (raw.bind from to at a b) ls =
       ok_then _ _ (TypedAct ls) (TypedAct ls) (typed a ls) (λ x p. type_then x.1 _ _ (TypedAct ls) (λ t g.
       ok_then _ _ (TypedAct ((slice_range text from to, t) ∷ ls)) (TypedAct ls) (typed b ((slice_range text from to, t) ∷ ls)) (λ y q. let d : TypedAct ls (bind x.0 y.0, y.1) = rw (p, g) q in d)))

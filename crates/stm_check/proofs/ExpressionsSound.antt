@@ -9,11 +9,11 @@ use Rattle.stm_terms.specs.declared.values.Value.{Value}
 use Rattle.stm_terms.specs.declared.values.Value.TheVariants.{Int, Bool as Truth, Unit as Nil, Var}
 use Rattle.stm_terms.specs.declared.expr.Op.{Op}
 use Rattle.stm_terms.specs.declared.expr.Op.TheVariants.{Mul, Add, Sub, Eq, Lt, Le, And, Or}
-use Rattle.stm_terms.specs.Trees.{Term, lit, local, global, bin}
+use Rattle.stm_terms.specs.Ast.{Term, lit, local, global, bin}
 use Rattle.stm_terms.specs.declared.values.Fault.TheVariants.{Overflow}
-use Rattle.stm_terms.specs.Value.{Answer, fits_i64, int_result, decides, applied, with_value, value}
-use Rattle.stm_terms.specs.Views.{Changes}
-use Rattle.stm_terms.specs.Typing.{Kinds, int_ty, bool_ty, var_ty, same_base, same_ty, type_of, literal_type, with_type, operands, op_type, expr_type, HaveTypes}
+use Rattle.stm_terms.specs.Value.{Answer, fits_i64, int_result, decides, apply_op, with_value, value}
+use Rattle.stm_terms.specs.Changes.{Changes}
+use Rattle.stm_terms.specs.Typing.{TypeEnv, int_ty, bool_ty, var_ty, same_base, same_ty, type_of, literal_type, with_type, operands, op_type, expr_type, HaveTypes}
 
 pub and_left : (a b : Bool) → (a && b) ≡ true → a ≡ true
 and_left true b e = refl
@@ -61,12 +61,12 @@ operands_given w g t u r e =
     (same_ty_equal t w (and_left _ _ b.0), same_ty_equal u w (and_right _ _ b.0), b.1)
 
 -- what is said of an answer at a type
-abbrev pub IsOf : Kinds → Changes → Ty → Answer → Type 0
+abbrev pub IsOf : TypeEnv → Changes → Ty → Answer → Type 0
 IsOf kinds h t (Some (Ok v)) = type_of kinds h v ≡ Some t
 IsOf kinds h t (Some (Err f)) = Unit {0}
 IsOf kinds h t None = ⊥
 
-module _ (kinds : Kinds) (h : Changes) where
+module _ (kinds : TypeEnv) (h : Changes) where
   pub is_int : (v : Value) → type_of kinds h v ≡ Some int_ty → (n : ℤ) × (v ≡ Int n)
   is_int (Int n) e = (n, refl)
   is_int (Truth b) e = let p : BoolBase ≡ IntBase = ap base_of e in absurd (cc)
@@ -83,25 +83,25 @@ module _ (kinds : Kinds) (h : Changes) where
   int_fine t z e =
       elim (fits_i64 z) as (λ b. IsOf kinds h t (Some (if b then Ok (Int z) else Err Overflow))) [ true ↦ ap Some e | false ↦ tt ]
 
-  of_ints : (op : Op) (f : ℤ → ℤ → Result Value _) (x y : Value) (g t u r : Ty) → ((m n : ℤ) → applied op (Int m) (Int n) ≡ Some (f m n)) → ((m n : ℤ) → g ≡ r → IsOf kinds h r (Some (f m n))) → type_of kinds h x ≡ Some t → type_of kinds h y ≡ Some u → operands int_ty g t u ≡ Some r → IsOf kinds h r (applied op x y)
+  of_ints : (op : Op) (f : ℤ → ℤ → Result Value _) (x y : Value) (g t u r : Ty) → ((m n : ℤ) → apply_op op (Int m) (Int n) ≡ Some (f m n)) → ((m n : ℤ) → g ≡ r → IsOf kinds h r (Some (f m n))) → type_of kinds h x ≡ Some t → type_of kinds h y ≡ Some u → operands int_ty g t u ≡ Some r → IsOf kinds h r (apply_op op x y)
   of_ints op f x y g t u r is fine p q e =
       let o = operands_given int_ty g t u r e in
       let m = is_int x (p ∙ ap Some o.0) in
       let n = is_int y (q ∙ ap Some o.1) in
-      subst (λ v. IsOf kinds h r (applied op v y)) (sym m.1)
-      (subst (λ w. IsOf kinds h r (applied op (Int m.0) w)) (sym n.1)
+      subst (λ v. IsOf kinds h r (apply_op op v y)) (sym m.1)
+      (subst (λ w. IsOf kinds h r (apply_op op (Int m.0) w)) (sym n.1)
       (subst (λ a. IsOf kinds h r a) (sym (is m.0 n.0)) (fine m.0 n.0 o.2)))
 
-  of_truths : (op : Op) (f : Bool → Bool → Bool) (x y : Value) (t u r : Ty) → ((a b : Bool) → applied op (Truth a) (Truth b) ≡ Some (Ok (Truth (f a b)))) → type_of kinds h x ≡ Some t → type_of kinds h y ≡ Some u → operands bool_ty bool_ty t u ≡ Some r → IsOf kinds h r (applied op x y)
+  of_truths : (op : Op) (f : Bool → Bool → Bool) (x y : Value) (t u r : Ty) → ((a b : Bool) → apply_op op (Truth a) (Truth b) ≡ Some (Ok (Truth (f a b)))) → type_of kinds h x ≡ Some t → type_of kinds h y ≡ Some u → operands bool_ty bool_ty t u ≡ Some r → IsOf kinds h r (apply_op op x y)
   of_truths op f x y t u r is p q e =
       let o = operands_given bool_ty bool_ty t u r e in
       let m = is_truth x (p ∙ ap Some o.0) in
       let n = is_truth y (q ∙ ap Some o.1) in
-      subst (λ v. IsOf kinds h r (applied op v y)) (sym m.1)
-      (subst (λ w. IsOf kinds h r (applied op (Truth m.0) w)) (sym n.1)
+      subst (λ v. IsOf kinds h r (apply_op op v y)) (sym m.1)
+      (subst (λ w. IsOf kinds h r (apply_op op (Truth m.0) w)) (sym n.1)
       (subst (λ a. IsOf kinds h r a) (sym (is m.0 n.0)) (ap Some o.2)))
 
-  applied_fine : (op : Op) (x y : Value) (t u r : Ty) → type_of kinds h x ≡ Some t → type_of kinds h y ≡ Some u → op_type op t u ≡ Some r → IsOf kinds h r (applied op x y)
+  applied_fine : (op : Op) (x y : Value) (t u r : Ty) → type_of kinds h x ≡ Some t → type_of kinds h y ≡ Some u → op_type op t u ≡ Some r → IsOf kinds h r (apply_op op x y)
   applied_fine Mul x y t u r p q e = of_ints Mul (λ m n. int_result (m *ℤ n)) x y int_ty t u r (λ m n. refl) (λ m n g. int_fine r (m *ℤ n) g) p q e
   applied_fine Add x y t u r p q e = of_ints Add (λ m n. int_result (m +ℤ n)) x y int_ty t u r (λ m n. refl) (λ m n g. int_fine r (m +ℤ n) g) p q e
   applied_fine Sub x y t u r p q e = of_ints Sub (λ m n. int_result (m -ℤ n)) x y int_ty t u r (λ m n. refl) (λ m n g. int_fine r (m -ℤ n) g) p q e

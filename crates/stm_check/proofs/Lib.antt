@@ -1,17 +1,17 @@
 pub mod ActionsSound
+pub mod BlockEquality
+pub mod CheckComplete
+pub mod CheckExact
+pub mod CheckTakesNoMemory
 pub mod CheckedResolved
 pub mod CheckedTyped
-pub mod Complete
-pub mod Covering
 pub mod Depth
-pub mod EnoughKinds
-pub mod Exactness
 pub mod ExpressionsSound
-pub mod Kept
-pub mod Memory
-pub mod Noted
-mod Sizes
-pub mod OneBlock
+pub mod RecordedUses
 pub mod SameTypes
-pub mod Soundness
+mod Sizes
+pub mod Strengthening
+pub mod TypedBlockInvariant
+pub mod TypingLaws
 pub mod UsesApart
+pub mod Weakening

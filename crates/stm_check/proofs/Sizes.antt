@@ -1,8 +1,8 @@
 -- How large an expression is.
 use Rattle.std.proofs.Common.{ℕ, ◌+◌}
-use Rattle.stm_terms.specs.RawTrees.{Term, bin}
+use Rattle.stm_terms.specs.ParsedAst.{RawTerm, bin}
 
 -- how many operators stand in an expression
-abbrev pub operators : Term → ℕ
+abbrev pub operators : RawTerm → ℕ
 operators (bin op a b) = 1 + operators a + operators b
 operators e = 0

@@ -3,8 +3,8 @@
 use Rattle.std.specs.Prelude.{◌≡◌, ℕ, List, [], ◌∷◌, length, Option, Some, None, slice_range, if◌then◌else◌}
 use Rattle.std.specs.Str.{bytes_eq}
 use Rattle.stm_terms.specs.declared.values.Value.TheVariants as value
-use Rattle.stm_terms.specs.Trees.{Term, lit, local, global, bin, Act, return, read, write, make, retry, throw, choose, or_else, bind, let_in, seq}
-use Rattle.stm_terms.specs.RawTrees as raw
+use Rattle.stm_terms.specs.Ast.{Term, lit, local, global, bin, Act, return, read, write, make, retry, throw, if_else, or_else, bind, let_in, seq}
+use Rattle.stm_terms.specs.ParsedAst as raw
 use Rattle.stm_store.specs.Tables.{Declared, number_of}
 
 -- the number of the innermost local of a name, counted from the outermost; the names are innermost first
@@ -19,7 +19,7 @@ module _ (table : List Declared) (text : List ℕ) where
   IsNamed ns name (global i) = (number_in name ns ≡ None) × (number_of name table ≡ Some i)
   IsNamed ns name x = ⊥
 
-  abbrev pub IsTerm : List (List ℕ) → raw.Term → Term → Type 0
+  abbrev pub IsTerm : List (List ℕ) → raw.RawTerm → Term → Type 0
   IsTerm ns (raw.int n at) x = x ≡ lit (value.Int n)
   IsTerm ns (raw.truth b at) x = x ≡ lit (value.Bool b)
   IsTerm ns (raw.unit at) x = x ≡ lit value.Unit
@@ -28,14 +28,14 @@ module _ (table : List Declared) (text : List ℕ) where
   IsTerm ns (raw.bin op a b) x = ⊥
 
   -- the type of a new variable is left open
-  abbrev pub IsAct : List (List ℕ) → raw.Act → Act → Type 0
+  abbrev pub IsAct : List (List ℕ) → raw.RawAct → Act → Type 0
   IsAct ns (raw.return e) (return x) = IsTerm ns e x
   IsAct ns (raw.read e) (read x) = IsTerm ns e x
   IsAct ns (raw.write r e) (write x y) = IsTerm ns r x × IsTerm ns e y
   IsAct ns (raw.make e) (make t x) = IsTerm ns e x
   IsAct ns raw.retry retry = Unit {0}
   IsAct ns (raw.throw e) (throw x) = IsTerm ns e x
-  IsAct ns (raw.choose e a at b) (choose x y z) = IsTerm ns e x × IsAct ns a y × IsAct ns b z
+  IsAct ns (raw.if_else e a at b) (if_else x y z) = IsTerm ns e x × IsAct ns a y × IsAct ns b z
   IsAct ns (raw.or_else a at b) (or_else y z) = IsAct ns a y × IsAct ns b z
   IsAct ns (raw.bind from to at a b) (bind y z) = IsAct ns a y × IsAct (slice_range text from to ∷ ns) b z
   IsAct ns (raw.let_in from to e b) (let_in x z) = IsTerm ns e x × IsAct (slice_range text from to ∷ ns) b z

@@ -29,6 +29,6 @@ names_of [] = []
 names_of (l ∷ outer) = l.0 ∷ names_of outer
 
 -- each type has at most 9 `TVar`
-abbrev pub ScopeIsLow : Locals → Type 0
-ScopeIsLow [] = Unit {0}
-ScopeIsLow (l ∷ outer) = (l.1.refs ≤ 9) × ScopeIsLow outer
+abbrev pub ScopeHasAtMost9Refs : Locals → Type 0
+ScopeHasAtMost9Refs [] = Unit {0}
+ScopeHasAtMost9Refs (l ∷ outer) = (l.1.refs ≤ 9) × ScopeHasAtMost9Refs outer

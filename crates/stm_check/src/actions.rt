@@ -1,12 +1,12 @@
 //! The check of actions.
 
 ghost use Rattle.std.specs.Prelude.{◌≡◌, IfOk};
-ghost use Rattle.stm_terms.specs.Trees.{act_of};
-ghost use Rattle.stm_terms.specs.RawTrees as raw;
-ghost use Rattle.stm_terms.specs.RawTrees.{raw_term_of, raw_act_of};
+ghost use Rattle.stm_terms.specs.Ast.{act_of};
+ghost use Rattle.stm_terms.specs.ParsedAst as raw;
+ghost use Rattle.stm_terms.specs.ParsedAst.{raw_term_of, raw_act_of};
 ghost use Rattle.stm_terms.specs.Typing.{result_type};
-ghost use Rattle.stm_check.specs.Checking.{Says};
-ghost use Rattle.stm_check.specs.Walk.{CanCheck, act_found, noted_act, IsLow};
+ghost use Rattle.stm_check.specs.CheckFunction.{ChecksAs};
+ghost use Rattle.stm_check.specs.CheckContext.{CanCheck, act_found, recorded_act, HasAtMost9Refs};
 
 use crate::expressions::{check_expr, name_at, place};
 use crate::fault::TypeFault;
@@ -22,9 +22,9 @@ type Checked = Result<(Action, Option<Ty>), TypeFault>;
 
 fn check_return(alloc: Global, names: &Names, uses: &mut Vec<(u32, Ty)>, value: &RawExpr) -> Checked
     requires { CanCheck names.now (raw.return (raw_term_of value.now)) }
-    ensures says { Says (λ r. (act_of r.0, result_type r.1)) result (act_found names.now (raw.return (raw_term_of value.now))) }
-    ensures uses { IfOk result (λ r. uses.new.items ≡ noted_act names.now (act_of r.0) uses.old.items) }
-    ensures low { IfOk result (λ r. IsLow r.1) }
+    ensures says { ChecksAs (λ r. (act_of r.0, result_type r.1)) result (act_found names.now (raw.return (raw_term_of value.now))) }
+    ensures uses { IfOk result (λ r. uses.new.items ≡ recorded_act names.now (act_of r.0) uses.old.items) }
+    ensures low { IfOk result (λ r. HasAtMost9Refs r.1) }
 {
     let (value, kind) = check_expr(alloc, names, uses, value)?;
     Ok((Action::Return(value), Some(kind)))
@@ -37,9 +37,9 @@ fn check_read(
     variable: &RawExpr,
 ) -> Checked
     requires { CanCheck names.now (raw.read (raw_term_of variable.now)) }
-    ensures says { Says (λ r. (act_of r.0, result_type r.1)) result (act_found names.now (raw.read (raw_term_of variable.now))) }
-    ensures uses { IfOk result (λ r. uses.new.items ≡ noted_act names.now (act_of r.0) uses.old.items) }
-    ensures low { IfOk result (λ r. IsLow r.1) }
+    ensures says { ChecksAs (λ r. (act_of r.0, result_type r.1)) result (act_found names.now (raw.read (raw_term_of variable.now))) }
+    ensures uses { IfOk result (λ r. uses.new.items ≡ recorded_act names.now (act_of r.0) uses.old.items) }
+    ensures low { IfOk result (λ r. HasAtMost9Refs r.1) }
 {
     let (reference, kind) = check_expr(alloc, names, uses, variable)?;
     match inside(kind) {
@@ -56,9 +56,9 @@ fn check_write(
     value: &RawExpr,
 ) -> Checked
     requires { CanCheck names.now (raw.write (raw_term_of variable.now) (raw_term_of value.now)) }
-    ensures says { Says (λ r. (act_of r.0, result_type r.1)) result (act_found names.now (raw.write (raw_term_of variable.now) (raw_term_of value.now))) }
-    ensures uses { IfOk result (λ r. uses.new.items ≡ noted_act names.now (act_of r.0) uses.old.items) }
-    ensures low { IfOk result (λ r. IsLow r.1) }
+    ensures says { ChecksAs (λ r. (act_of r.0, result_type r.1)) result (act_found names.now (raw.write (raw_term_of variable.now) (raw_term_of value.now))) }
+    ensures uses { IfOk result (λ r. uses.new.items ≡ recorded_act names.now (act_of r.0) uses.old.items) }
+    ensures low { IfOk result (λ r. HasAtMost9Refs r.1) }
 {
     let (reference, kind) = check_expr(alloc, names, uses, variable)?;
     let Some(cell) = inside(kind) else {
@@ -73,9 +73,9 @@ fn check_write(
 
 fn check_make(alloc: Global, names: &Names, uses: &mut Vec<(u32, Ty)>, value: &RawExpr) -> Checked
     requires { CanCheck names.now (raw.make (raw_term_of value.now)) }
-    ensures says { Says (λ r. (act_of r.0, result_type r.1)) result (act_found names.now (raw.make (raw_term_of value.now))) }
-    ensures uses { IfOk result (λ r. uses.new.items ≡ noted_act names.now (act_of r.0) uses.old.items) }
-    ensures low { IfOk result (λ r. IsLow r.1) }
+    ensures says { ChecksAs (λ r. (act_of r.0, result_type r.1)) result (act_found names.now (raw.make (raw_term_of value.now))) }
+    ensures uses { IfOk result (λ r. uses.new.items ≡ recorded_act names.now (act_of r.0) uses.old.items) }
+    ensures low { IfOk result (λ r. HasAtMost9Refs r.1) }
 {
     let (first, kind) = check_expr(alloc, names, uses, value)?;
     if kind.refs > 8 {
@@ -86,9 +86,9 @@ fn check_make(alloc: Global, names: &Names, uses: &mut Vec<(u32, Ty)>, value: &R
 
 fn check_throw(alloc: Global, names: &Names, uses: &mut Vec<(u32, Ty)>, number: &RawExpr) -> Checked
     requires { CanCheck names.now (raw.throw (raw_term_of number.now)) }
-    ensures says { Says (λ r. (act_of r.0, result_type r.1)) result (act_found names.now (raw.throw (raw_term_of number.now))) }
-    ensures uses { IfOk result (λ r. uses.new.items ≡ noted_act names.now (act_of r.0) uses.old.items) }
-    ensures low { IfOk result (λ r. IsLow r.1) }
+    ensures says { ChecksAs (λ r. (act_of r.0, result_type r.1)) result (act_found names.now (raw.throw (raw_term_of number.now))) }
+    ensures uses { IfOk result (λ r. uses.new.items ≡ recorded_act names.now (act_of r.0) uses.old.items) }
+    ensures low { IfOk result (λ r. HasAtMost9Refs r.1) }
 {
     let (thrown, kind) = check_expr(alloc, names, uses, number)?;
     if !same(kind, INT) {
@@ -107,10 +107,10 @@ fn check_if(
     at: usize,
     second: &RawAction,
 ) -> Checked
-    requires { CanCheck names.now (raw.choose (raw_term_of condition.now) (raw_act_of first.now) at (raw_act_of second.now)) }
-    ensures says { Says (λ r. (act_of r.0, result_type r.1)) result (act_found names.now (raw.choose (raw_term_of condition.now) (raw_act_of first.now) at (raw_act_of second.now))) }
-    ensures uses { IfOk result (λ r. uses.new.items ≡ noted_act names.now (act_of r.0) uses.old.items) }
-    ensures low { IfOk result (λ r. IsLow r.1) }
+    requires { CanCheck names.now (raw.if_else (raw_term_of condition.now) (raw_act_of first.now) at (raw_act_of second.now)) }
+    ensures says { ChecksAs (λ r. (act_of r.0, result_type r.1)) result (act_found names.now (raw.if_else (raw_term_of condition.now) (raw_act_of first.now) at (raw_act_of second.now))) }
+    ensures uses { IfOk result (λ r. uses.new.items ≡ recorded_act names.now (act_of r.0) uses.old.items) }
+    ensures low { IfOk result (λ r. HasAtMost9Refs r.1) }
 {
     let (test, kind) = check_expr(alloc, names, uses, condition)?;
     if !same(kind, BOOL) {
@@ -134,9 +134,9 @@ fn check_or_else(
     second: &RawAction,
 ) -> Checked
     requires { CanCheck names.now (raw.or_else (raw_act_of first.now) at (raw_act_of second.now)) }
-    ensures says { Says (λ r. (act_of r.0, result_type r.1)) result (act_found names.now (raw.or_else (raw_act_of first.now) at (raw_act_of second.now))) }
-    ensures uses { IfOk result (λ r. uses.new.items ≡ noted_act names.now (act_of r.0) uses.old.items) }
-    ensures low { IfOk result (λ r. IsLow r.1) }
+    ensures says { ChecksAs (λ r. (act_of r.0, result_type r.1)) result (act_found names.now (raw.or_else (raw_act_of first.now) at (raw_act_of second.now))) }
+    ensures uses { IfOk result (λ r. uses.new.items ≡ recorded_act names.now (act_of r.0) uses.old.items) }
+    ensures low { IfOk result (λ r. HasAtMost9Refs r.1) }
 {
     let (a, left) = check_part(alloc, names, uses, first)?;
     let (b, right) = check_part(alloc, names, uses, second)?;
@@ -157,9 +157,9 @@ fn check_bind(
     rest: &RawAction,
 ) -> Checked
     requires { CanCheck names.now (raw.bind local.0 local.1 at (raw_act_of bound.now) (raw_act_of rest.now)) }
-    ensures says { Says (λ r. (act_of r.0, result_type r.1)) result (act_found names.now (raw.bind local.0 local.1 at (raw_act_of bound.now) (raw_act_of rest.now))) }
-    ensures uses { IfOk result (λ r. uses.new.items ≡ noted_act names.now (act_of r.0) uses.old.items) }
-    ensures low { IfOk result (λ r. IsLow r.1) }
+    ensures says { ChecksAs (λ r. (act_of r.0, result_type r.1)) result (act_found names.now (raw.bind local.0 local.1 at (raw_act_of bound.now) (raw_act_of rest.now))) }
+    ensures uses { IfOk result (λ r. uses.new.items ≡ recorded_act names.now (act_of r.0) uses.old.items) }
+    ensures low { IfOk result (λ r. HasAtMost9Refs r.1) }
 {
     let (a, kind) = check_part(alloc, names, uses, bound)?;
     let Some(kind) = kind else {
@@ -185,9 +185,9 @@ fn check_let(
     rest: &RawAction,
 ) -> Checked
     requires { CanCheck names.now (raw.let_in local.0 local.1 (raw_term_of value.now) (raw_act_of rest.now)) }
-    ensures says { Says (λ r. (act_of r.0, result_type r.1)) result (act_found names.now (raw.let_in local.0 local.1 (raw_term_of value.now) (raw_act_of rest.now))) }
-    ensures uses { IfOk result (λ r. uses.new.items ≡ noted_act names.now (act_of r.0) uses.old.items) }
-    ensures low { IfOk result (λ r. IsLow r.1) }
+    ensures says { ChecksAs (λ r. (act_of r.0, result_type r.1)) result (act_found names.now (raw.let_in local.0 local.1 (raw_term_of value.now) (raw_act_of rest.now))) }
+    ensures uses { IfOk result (λ r. uses.new.items ≡ recorded_act names.now (act_of r.0) uses.old.items) }
+    ensures low { IfOk result (λ r. HasAtMost9Refs r.1) }
 {
     let (a, kind) = check_expr(alloc, names, uses, value)?;
     let name = name_at(names.text, local.0, local.1);
@@ -209,9 +209,9 @@ fn check_seq(
     rest: &RawAction,
 ) -> Checked
     requires { CanCheck names.now (raw.seq (raw_act_of statement.now) (raw_act_of rest.now)) }
-    ensures says { Says (λ r. (act_of r.0, result_type r.1)) result (act_found names.now (raw.seq (raw_act_of statement.now) (raw_act_of rest.now))) }
-    ensures uses { IfOk result (λ r. uses.new.items ≡ noted_act names.now (act_of r.0) uses.old.items) }
-    ensures low { IfOk result (λ r. IsLow r.1) }
+    ensures says { ChecksAs (λ r. (act_of r.0, result_type r.1)) result (act_found names.now (raw.seq (raw_act_of statement.now) (raw_act_of rest.now))) }
+    ensures uses { IfOk result (λ r. uses.new.items ≡ recorded_act names.now (act_of r.0) uses.old.items) }
+    ensures low { IfOk result (λ r. HasAtMost9Refs r.1) }
 {
     let (a, _) = check_part(alloc, names, uses, statement)?;
     let (b, kind) = check_part(alloc, names, uses, rest)?;
@@ -228,9 +228,9 @@ fn check_part(
     raw: &RawAction,
 ) -> Result<(Box<Action>, Option<Ty>), TypeFault>
     requires { CanCheck names.now (raw_act_of raw.now) }
-    ensures says { Says (λ r. (act_of r.0.value, result_type r.1)) result (act_found names.now (raw_act_of raw.now)) }
-    ensures uses { IfOk result (λ r. uses.new.items ≡ noted_act names.now (act_of r.0.value) uses.old.items) }
-    ensures low { IfOk result (λ r. IsLow r.1) }
+    ensures says { ChecksAs (λ r. (act_of r.0.value, result_type r.1)) result (act_found names.now (raw_act_of raw.now)) }
+    ensures uses { IfOk result (λ r. uses.new.items ≡ recorded_act names.now (act_of r.0.value) uses.old.items) }
+    ensures low { IfOk result (λ r. HasAtMost9Refs r.1) }
 {
     let (action, kind) = check_action(alloc, names, uses, raw)?;
     let part = Box::new(alloc, action)?;
@@ -246,9 +246,9 @@ pub(crate) fn check_action(
     raw: &RawAction,
 ) -> Checked
     requires { CanCheck names.now (raw_act_of raw.now) }
-    ensures says { Says (λ r. (act_of r.0, result_type r.1)) result (act_found names.now (raw_act_of raw.now)) }
-    ensures uses { IfOk result (λ r. uses.new.items ≡ noted_act names.now (act_of r.0) uses.old.items) }
-    ensures low { IfOk result (λ r. IsLow r.1) }
+    ensures says { ChecksAs (λ r. (act_of r.0, result_type r.1)) result (act_found names.now (raw_act_of raw.now)) }
+    ensures uses { IfOk result (λ r. uses.new.items ≡ recorded_act names.now (act_of r.0) uses.old.items) }
+    ensures low { IfOk result (λ r. HasAtMost9Refs r.1) }
 {
     match raw {
         RawAction::Return(value) => check_return(alloc, names, uses, value),

@@ -2,16 +2,16 @@
 
 ghost use Rattle.std.specs.Prelude.{◌≡◌, ◌≤◌, IfOk, length, slice_range};
 ghost use Rattle.std.specs.Str.{IsAscii};
-ghost use Rattle.stm_terms.specs.Trees.{term_of};
-ghost use Rattle.stm_terms.specs.RawTrees as raw;
-ghost use Rattle.stm_terms.specs.RawTrees.{raw_term_of, place};
-ghost use Rattle.stm_check.specs.Checking.{Says};
-ghost use Rattle.stm_check.specs.Walk.{CanLookUp, expr_found, noted_expr};
+ghost use Rattle.stm_terms.specs.Ast.{term_of};
+ghost use Rattle.stm_terms.specs.ParsedAst as raw;
+ghost use Rattle.stm_terms.specs.ParsedAst.{raw_term_of, place};
+ghost use Rattle.stm_check.specs.CheckFunction.{ChecksAs};
+ghost use Rattle.stm_check.specs.CheckContext.{CanLookUp, expr_found, recorded_expr};
 
 use crate::fault::TypeFault;
 use crate::scope::{Names, find_local, find_variable};
 use crate::types::{BOOL, INT, UNIT, as_wanted, given, reference_to, same, wanted};
-use crate::uses::note;
+use crate::uses::record_use;
 use std::alloc::Global;
 use stm_terms::expr::{Expr, Op};
 use stm_terms::kinds::Ty;
@@ -49,8 +49,8 @@ fn check_name(
     to: usize,
 ) -> Result<(Expr, Ty), TypeFault>
     requires { CanLookUp names.now (raw.name from to) }
-    ensures says { Says (λ r. (term_of r.0, r.1)) result (expr_found names.now (raw.name from to)) }
-    ensures uses { IfOk result (λ r. uses.new.items ≡ noted_expr names.now (term_of r.0) uses.old.items) }
+    ensures says { ChecksAs (λ r. (term_of r.0, r.1)) result (expr_found names.now (raw.name from to)) }
+    ensures uses { IfOk result (λ r. uses.new.items ≡ recorded_expr names.now (term_of r.0) uses.old.items) }
     ensures low { IfOk result (λ r. r.1.refs ≤ 9) }
 {
     let name = name_at(names.text, from, to);
@@ -59,7 +59,7 @@ fn check_name(
     }
     match find_variable(names.table, name) {
         Some((id, kind)) => {
-            note(uses, id, kind)?;
+            record_use(uses, id, kind)?;
             Ok((Expr::Global(id), reference_to(kind)))
         }
         None => Err(TypeFault::Unknown(from)),
@@ -75,8 +75,8 @@ fn check_operand(
     raw: &RawExpr,
 ) -> Result<(Box<Expr>, Ty), TypeFault>
     requires { CanLookUp names.now (raw_term_of raw.now) }
-    ensures says { Says (λ r. (term_of r.0.value, r.1)) result (expr_found names.now (raw_term_of raw.now)) }
-    ensures uses { IfOk result (λ r. uses.new.items ≡ noted_expr names.now (term_of r.0.value) uses.old.items) }
+    ensures says { ChecksAs (λ r. (term_of r.0.value, r.1)) result (expr_found names.now (raw_term_of raw.now)) }
+    ensures uses { IfOk result (λ r. uses.new.items ≡ recorded_expr names.now (term_of r.0.value) uses.old.items) }
     ensures low { IfOk result (λ r. r.1.refs ≤ 9) }
 {
     let (operand, kind) = check_expr(alloc, names, uses, raw)?;
@@ -95,8 +95,8 @@ fn check_operator(
     right: &RawExpr,
 ) -> Result<(Expr, Ty), TypeFault>
     requires { CanLookUp names.now (raw.bin op (raw_term_of left.now) (raw_term_of right.now)) }
-    ensures says { Says (λ r. (term_of r.0, r.1)) result (expr_found names.now (raw.bin op (raw_term_of left.now) (raw_term_of right.now))) }
-    ensures uses { IfOk result (λ r. uses.new.items ≡ noted_expr names.now (term_of r.0) uses.old.items) }
+    ensures says { ChecksAs (λ r. (term_of r.0, r.1)) result (expr_found names.now (raw.bin op (raw_term_of left.now) (raw_term_of right.now))) }
+    ensures uses { IfOk result (λ r. uses.new.items ≡ recorded_expr names.now (term_of r.0) uses.old.items) }
     ensures low { IfOk result (λ r. r.1.refs ≤ 9) }
 {
     let (a, first) = check_operand(alloc, names, uses, left)?;
@@ -119,8 +119,8 @@ pub(crate) fn check_expr(
     raw: &RawExpr,
 ) -> Result<(Expr, Ty), TypeFault>
     requires { CanLookUp names.now (raw_term_of raw.now) }
-    ensures says { Says (λ r. (term_of r.0, r.1)) result (expr_found names.now (raw_term_of raw.now)) }
-    ensures uses { IfOk result (λ r. uses.new.items ≡ noted_expr names.now (term_of r.0) uses.old.items) }
+    ensures says { ChecksAs (λ r. (term_of r.0, r.1)) result (expr_found names.now (raw_term_of raw.now)) }
+    ensures uses { IfOk result (λ r. uses.new.items ≡ recorded_expr names.now (term_of r.0) uses.old.items) }
     ensures low { IfOk result (λ r. r.1.refs ≤ 9) }
 {
     match raw {

@@ -1,20 +1,20 @@
 //! What typing promises, as laws of the definitions: each function's contract is one, and its body is empty.
 
-ghost use Rattle.stm_check.specs.Laws.{NeverStuck, KeepsTypes, KnowingMoreKeepsTypes, VerdictFits, AcceptsTheWellTyped, FaultsTheIllTyped, FaultsAreTheText, OwnVariablesAreEnough, UsesAreApart};
+ghost use Rattle.stm_check.specs.Laws.{Progress, Preservation, Weakening, VerdictFits, CheckIsExact, CheckErrsExactly, CheckNeverSaysNoMemory, Strengthening, UsesAreDistinct};
 
 /// A well typed action has an outcome in every well typed view that has its variables.
-pub fn never_stuck()
-    ensures { NeverStuck }
+pub fn progress()
+    ensures { Progress }
 {}
 
 /// What a well typed action returns has its type, and the view that it leaves is well typed.
-pub fn keeps_types()
-    ensures { KeepsTypes }
+pub fn preservation()
+    ensures { Preservation }
 {}
 
 /// Typing is kept when more variables are known.
-pub fn knowing_more_keeps_types()
-    ensures { KnowingMoreKeepsTypes }
+pub fn weakening()
+    ensures { Weakening }
 {}
 
 /// A well typed block has a verdict on every well typed store that covers its variables, and it fits that store.
@@ -23,26 +23,26 @@ pub fn verdict_fits()
 {}
 
 /// The check accepts a parsed tree exactly where it resolves to a tree that has a type, and gives that tree and type.
-pub fn accepts_the_well_typed()
-    ensures { AcceptsTheWellTyped }
+pub fn check_is_exact()
+    ensures { CheckIsExact }
 {}
 
-/// The check tells a fault exactly where no tree that the parsed one resolves to has a type.
-pub fn faults_the_ill_typed()
-    ensures { FaultsTheIllTyped }
+/// The check reports a fault exactly where no tree that the parsed one resolves to has a type.
+pub fn check_errs_exactly()
+    ensures { CheckErrsExactly }
 {}
 
 /// A block keeps its type where only the variables that it names are known.
-pub fn own_variables_are_enough()
-    ensures { OwnVariablesAreEnough }
+pub fn strengthening()
+    ensures { Strengthening }
 {}
 
 /// The variables that a block names, as `Typed::uses` lists them, are apart.
-pub fn uses_are_apart()
-    ensures { UsesAreApart }
+pub fn uses_are_distinct()
+    ensures { UsesAreDistinct }
 {}
 
-/// A fault that the definition of the check tells is one of the text, and never want of memory.
-pub fn faults_are_the_text()
-    ensures { FaultsAreTheText }
+/// A fault that the definition of the check reports is one of the text, and never an out-of-memory error.
+pub fn check_never_says_no_memory()
+    ensures { CheckNeverSaysNoMemory }
 {}

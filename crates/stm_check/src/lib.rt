@@ -1,20 +1,20 @@
-//! Typing: the check that makes a parsed block a typed one or tells its first fault, and typed blocks.
+//! Typing: the check that makes a parsed block a typed one or reports its first fault, and typed blocks.
 //!
-//! What typing is stands in stm_terms (`specs/Typing`). Here `specs/Checking` says what the check gives, with the order of
+//! What typing is stands in stm_terms (`specs/Typing`). Here `specs/CheckFunction` says what the check gives, with the order of
 //! the faults, `specs/Resolving` what a parsed tree is without its names, and `specs/Laws` ties both to typing, and typing
 //! to what a block does: a well typed block is never stuck, and its verdict fits the store.
 #![tactic(auto)]
 
 mod actions;
-pub mod block;
+pub mod check_block;
 mod expressions;
 pub mod fault;
 pub mod laws;
 mod scope;
+pub mod typed;
 mod types;
 mod uses;
-pub mod whole;
 
-pub use block::{Script, Typed};
+pub use check_block::check;
 pub use fault::TypeFault;
-pub use whole::check;
+pub use typed::{SharedBlock, Typed};

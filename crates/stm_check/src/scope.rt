@@ -1,8 +1,8 @@
 //! Where names are looked up.
 
 ghost use Rattle.std.specs.Prelude.{◌≡◌, ◌<◌, ◌≤◌, ◌^◌, length, IfSome, Some};
-ghost use Rattle.stm_check.specs.Scopes.{innermost, scope, ScopeIsLow};
-ghost use Rattle.stm_check.specs.Checking.{variable, table_kinds};
+ghost use Rattle.stm_check.specs.Scopes.{innermost, scope, ScopeHasAtMost9Refs};
+ghost use Rattle.stm_check.specs.CheckFunction.{variable, table_kinds};
 
 use stm_store::Table;
 use stm_terms::kinds::Ty;
@@ -35,7 +35,7 @@ fn depth(locals: &Scope) -> u32
 /// The innermost local of a name: its number, counted from the outermost, and its type.
 pub(crate) fn find_local(locals: &Scope, name: &str) -> Option<(u32, Ty)>
     requires room { length (scope locals.now) ≤ 2 ^ 32 }
-    requires shallow { ScopeIsLow (scope locals.now) }
+    requires shallow { ScopeHasAtMost9Refs (scope locals.now) }
     ensures found { result ≡ innermost name.now (scope locals.now) }
     ensures low { IfSome result (λ l. l.1.refs ≤ 9) }
 {

@@ -1,8 +1,8 @@
 //! Types of operators, references and branches.
 
 ghost use Rattle.std.specs.Prelude.{◌≡◌, ◌<◌, ◌≤◌, Some, None, IsTrue, option_map, IfSome};
-ghost use Rattle.stm_terms.specs.Typing.{int_ty, bool_ty, unit_ty, var_ty, inside, same_ty, joined, result_type};
-ghost use Rattle.stm_check.specs.Checking.{wanted, given, as_wanted};
+ghost use Rattle.stm_terms.specs.Typing.{int_ty, bool_ty, unit_ty, var_ty, deref_ty, same_ty, join_types, result_type};
+ghost use Rattle.stm_check.specs.CheckFunction.{wanted, given, as_wanted};
 
 use stm_terms::expr::Op;
 use stm_terms::kinds::{Base, Ty};
@@ -47,7 +47,7 @@ pub(crate) fn reference_to(t: Ty) -> Ty
 
 /// The type of the cells that references of a type stand for.
 pub(crate) fn inside(t: Ty) -> Option<Ty>
-    ensures { result ≡ inside t }
+    ensures { result ≡ deref_ty t }
 {
     if t.refs == 0 {
         None
@@ -92,7 +92,7 @@ pub(crate) fn as_wanted(wanted: Option<Ty>, t: Ty) -> bool
 
 /// What two branches have in common, with none for any type.
 pub(crate) fn join(first: Option<Ty>, second: Option<Ty>) -> Option<Option<Ty>>
-    ensures { option_map result_type result ≡ joined (result_type first) (result_type second) }
+    ensures { option_map result_type result ≡ join_types (result_type first) (result_type second) }
 {
     match (first, second) {
         (None, r) => Some(r),

@@ -1,7 +1,7 @@
 //! The variables that a block names.
 
 ghost use Rattle.std.specs.Prelude.{◌≡◌, OnOk, Some};
-ghost use Rattle.stm_terms.specs.Typing.{kinds_in, noted_as};
+ghost use Rattle.stm_terms.specs.Typing.{kinds_in, record_use_as};
 
 use std::alloc::AllocFailed;
 use stm_terms::kinds::Ty;
@@ -17,13 +17,13 @@ fn kind_in(uses: &[(u32, Ty)], id: u32) -> Option<Ty>
     None
 }
 
-/// Adds a variable behind those that were named before it, unless it is one of them.
-pub(crate) fn note(
+/// Adds a variable after those that were named before it, unless it is one of them.
+pub(crate) fn record_use(
     uses: &mut Vec<(u32, Ty)>,
     id: u32,
     kind: Ty,
 ) -> Result<(), AllocFailed<(u32, Ty)>>
-    ensures { OnOk result (uses.new.items ≡ noted_as (kinds_in uses.old.items id) (Some kind) id uses.old.items) }
+    ensures { OnOk result (uses.new.items ≡ record_use_as (kinds_in uses.old.items id) (Some kind) id uses.old.items) }
 {
     if kind_in(uses, id).is_none() {
         uses.push((id, kind))?;

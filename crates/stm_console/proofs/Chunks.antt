@@ -7,9 +7,9 @@ use Rattle.std.proofs.lemmas.List.Elements.{All-from_get_or}
 use Rattle.std.specs.Io.KnownBytes.{Appends}
 use Rattle.memchr.specs.Find.{IsFirstByte, is_byte}
 use Rattle.stm_terms.specs.Texts.{IsPrefixOf}
-use Rattle.stm_console.proofs.Feeding.{Continues-trans}
+use Rattle.stm_console.proofs.InputInParts.{Continues-trans}
 use Rattle.stm_console.specs.Commands.{ConsoleState}
-use Rattle.stm_console.specs.Continuing.{Continues, NoLineFeed, rest_text}
+use Rattle.stm_console.specs.Streaming.{Continues, NoLineFeed, rest_text}
 
 -- the search for a line feed found none
 pub NoLineFeed-all : (bytes : List ℕ) → IsFirstByte (is_byte 10) bytes None → NoLineFeed bytes
@@ -40,7 +40,7 @@ Fed-more a b c s t u begun left next chunk rest part others text f e g p = recor
   appended = Appends-trans a b c _ _ f.appended p;
 }
 
--- a front of what follows, behind what is written
+-- a front of what follows, after what is written
 pub Fed-front : (a b c : Option (List ℕ)) (s t : ConsoleState) (begun left chunk rest front : List ℕ) → Fed a b s t begun left chunk rest
     → ((more : List ℕ) → IsPrefixOf front (rest_text t left (rest ++ more))) → Appends b c front
     → (front : List ℕ) × ((more : List ℕ) → IsPrefixOf front (rest_text s begun (chunk ++ more))) × Appends a c front

@@ -4,22 +4,22 @@ use Rattle.std.proofs.Common.{◌≡◌, ◌≢◌, ℕ, Bool, true, false, cond
 use Rattle.std.specs.Prelude.{is_some, not, nat_lt, codes, decimal, ◌==◌}
 use Rattle.stm_terms.specs.declared.values.Value.{Value}
 use Rattle.stm_terms.specs.declared.verdicts.Verdict.{Verdict}
-use Rattle.stm_terms.specs.RawTrees as raw
-use Rattle.stm_terms.specs.Trees.{Act}
+use Rattle.stm_terms.specs.ParsedAst as raw
+use Rattle.stm_terms.specs.Ast.{Act}
 use Rattle.stm_terms.specs.Typing.{ActionType, action_type, uses_of}
 use Rattle.stm_terms.specs.Texts.{list_text, write_text, verdict_text}
-use Rattle.stm_terms.specs.Views.{cell_value}
+use Rattle.stm_terms.specs.Changes.{cell_value}
 use Rattle.stm_terms.specs.Verdict.{verdict}
-use Rattle.stm_terms.specs.Looks.{reads_of}
+use Rattle.stm_terms.specs.ReadSet.{reads_of}
 use Rattle.stm_parse.specs.declared.fault.ParseFault.{ParseFault}
 use Rattle.stm_parse.specs.declared.fault.ParseFault.TheVariants as parse
-use Rattle.stm_parse.specs.Declaring.{ParsedInit, literal, named, ParsedDeclaration}
-use Rattle.stm_parse.specs.Grammar.{IsBlock, Declared as Tree, IsDeclaration}
-use Rattle.stm_parse.specs.Parsed.{IsAnswer, parsed_block, declared_tree, said_of, parsed_declaration, BlockAnswersAreRight, DeclarationAnswersAreRight}
+use Rattle.stm_parse.specs.Declarations.{ParsedInit, literal, named, ParsedDeclaration}
+use Rattle.stm_parse.specs.Grammar.{IsBlock, DeclarationTree as Tree, IsDeclaration}
+use Rattle.stm_parse.specs.ParseFunction.{IsAnswer, parsed_block, declared_tree, declaration_result, parsed_declaration, BlockAnswersAreRight, DeclarationAnswersAreRight}
 use Rattle.stm_check.specs.declared.fault.TypeFault.{TypeFault}
 use Rattle.stm_check.specs.declared.fault.TypeFault.TheVariants as typed
-use Rattle.stm_check.specs.Checking.{table_kinds, checked}
-use Rattle.stm_check.specs.Laws.{AcceptsTheWellTyped, FaultsAreTheText, OwnVariablesAreEnough, VerdictFits}
+use Rattle.stm_check.specs.CheckFunction.{table_kinds, checked}
+use Rattle.stm_check.specs.Laws.{CheckIsExact, CheckNeverSaysNoMemory, Strengthening, VerdictFits}
 use Rattle.stm_store.specs.declared.cell.Cell.{Cell}
 use Rattle.stm_store.specs.declared.table.DeclareError.{DeclareError}
 use Rattle.stm_store.specs.declared.table.DeclareError.TheVariants as declare
@@ -29,13 +29,13 @@ use Rattle.stm_console.specs.declared.command.Command.{Command}
 use Rattle.stm_console.specs.declared.command.Command.TheVariants.{Tvar, Try, Looks, Store}
 use Rattle.stm_console.specs.declared.refusal.Refusal.{Refusal}
 use Rattle.stm_console.specs.declared.refusal.Refusal.TheVariants.{Parsing, Typing, Unknown, Declaring}
-use Rattle.stm_console.specs.Commands.{ConsoleState, present_store, present, with_desk, reference_to, initial, unless_refused, with_value, on_declaration, variable_of, tvar_line, declared_text, with_variable, tvar_answer, tvar_state, typed_block, on_block, block_of, verdict_line, tried_text, try_answer, reads_line, looked_text, looks_answer, store_text, cell_lines, store_answer}
-use Rattle.stm_console.specs.Console.{command_named, answer_to_command, state_after_command, answer_to_judged, state_after_judged, answer_to, state_after, start}
-use Rattle.stm_console.specs.Judged.{Judged, TooLong, Silent, NotAscii, Words, judged}
-use Rattle.stm_console.specs.Refusals.{refused, refused_at, refusal_text, is_told}
-use Rattle.stm_console.specs.Seen.{StandsOn}
+use Rattle.stm_console.specs.Commands.{ConsoleState, present_store, present, with_open_store, reference_to, initial, unless_refused, with_initial_value, on_declaration, variable_of, tvar_line, declared_text, with_variable, tvar_answer, tvar_state, typed_block, on_block, compiled_block, verdict_line, tried_text, try_answer, reads_line, looked_text, looks_answer, store_text, cell_lines, store_answer}
+use Rattle.stm_console.specs.Console.{command_named, answer_to_command, state_after_command, answer_to_class, state_after_class, answer_to, state_after, initial_console}
+use Rattle.stm_console.specs.LineClass.{LineClass, TooLong, Silent, NotAscii, Words, line_class}
+use Rattle.stm_console.specs.Refusals.{refused, refused_at, refusal_text, is_printed}
+use Rattle.stm_console.specs.Abstraction.{StandsOn}
 use Rattle.stm_console.specs.Laws.{EndsALine, state_after_lines, EachLineIsAnswered}
-use Rattle.stm_console.proofs.Covered.{plains_opened, opened_covers}
+use Rattle.stm_console.proofs.UsesAreCovered.{plains_opened, opened_covers}
 use Rattle.stm_console.proofs.TypedTable.{typed_more}
 
 -- what holds of a console that has taken some lines
@@ -51,7 +51,7 @@ refused_at_ends : (name : List ℕ) (place : ℕ) → EndsALine (refused_at name
 unfolding refused_at
 refused_at_ends name place = (codes "refused " ++ name ++ 32 ∷ decimal place, refl)
 
-refusal_ends : (e : Refusal) → is_told e ≡ true → EndsALine (refusal_text e)
+refusal_ends : (e : Refusal) → is_printed e ≡ true → EndsALine (refusal_text e)
 refusal_ends (Parsing (parse.BadByte n)) t = refused_at_ends (codes "BadByte") n
 refusal_ends (Parsing (parse.BadNumber n)) t = refused_at_ends (codes "BadNumber") n
 refusal_ends (Parsing (parse.NameTooLong n)) t = refused_at_ends (codes "NameTooLong") n
@@ -72,7 +72,7 @@ refusal_ends (Declaring declare.TypeOfValue) t = refused_ends (codes "TypeOfValu
 refusal_ends (Declaring declare.TableFull) t = refused_ends (codes "TableFull")
 refusal_ends (Declaring declare.NoMemory) t = absurd cc
 
-parsing_told : (f : ParseFault) → f ≢ parse.NoMemory → is_told (Parsing f) ≡ true
+parsing_told : (f : ParseFault) → f ≢ parse.NoMemory → is_printed (Parsing f) ≡ true
 parsing_told (parse.BadByte n) h = refl
 parsing_told (parse.BadNumber n) h = refl
 parsing_told (parse.NameTooLong n) h = refl
@@ -82,7 +82,7 @@ parsing_told parse.TooDeep h = refl
 parsing_told parse.TooLarge h = refl
 parsing_told parse.NoMemory h = absurd (h refl)
 
-typing_told : (f : TypeFault) → f ≢ typed.NoMemory → is_told (Typing f) ≡ true
+typing_told : (f : TypeFault) → f ≢ typed.NoMemory → is_printed (Typing f) ≡ true
 typing_told (typed.Unknown n) h = refl
 typing_told (typed.Mismatch n) h = refl
 typing_told (typed.NotAVariable n) h = refl
@@ -90,10 +90,10 @@ typing_told (typed.Untyped n) h = refl
 typing_told (typed.TypeTooDeep n) h = refl
 typing_told typed.NoMemory h = absurd (h refl)
 
--- where a variable is declared, its value is of its type; where it is refused, the refusal is told
+-- where a variable is declared, its value is of its type; where it is refused, the refusal is reported
 MayHoldOrTold : List Declared → Result Declared Refusal → Type 0
 MayHoldOrTold table (Ok d) = may_hold (declared_cells table) d.kind d.value ≡ true
-MayHoldOrTold table (Err e) = is_told e ≡ true
+MayHoldOrTold table (Err e) = is_printed e ≡ true
 
 abbrev judged_by : Bool → Bool → Bool → Option DeclareError
 judged_by twice holds room = cond twice (Some declare.Twice) (cond (not holds) (Some declare.TypeOfValue) (cond room None (Some declare.TableFull)))
@@ -108,21 +108,21 @@ declares_value table name d = by (is_some (number_of name table)) (may_hold (dec
     by false true e true = e
     by false true e false = refl
 
-declares_initial : (table : List Declared) (d : ParsedDeclaration) (r : Result Value Refusal) → initial table d.init ≡ r → MayHoldOrTold table (with_value table d.name d.kind r)
+declares_initial : (table : List Declared) (d : ParsedDeclaration) (r : Result Value Refusal) → initial table d.init ≡ r → MayHoldOrTold table (with_initial_value table d.name d.kind r)
 unfolding MayHoldOrTold
 declares_initial table d (Ok v) e = declares_value table d.name (record { name = d.name; kind = d.kind; value = v })
 declares_initial table d (Err x) e = of d.init e
   where
-    referred : (place : ℕ) (o : Option ℕ) → reference_to place o ≡ Err x → is_told x ≡ true
+    referred : (place : ℕ) (o : Option ℕ) → reference_to place o ≡ Err x → is_printed x ≡ true
     referred place (Some i) q = absurd cc
-    referred place None q = let p : Unknown place ≡ x = cc in subst (λ x. is_told x ≡ true) p refl
+    referred place None q = let p : Unknown place ≡ x = cc in subst (λ x. is_printed x ≡ true) p refl
 
-    of : (i : ParsedInit) → initial table i ≡ Err x → is_told x ≡ true
+    of : (i : ParsedInit) → initial table i ≡ Err x → is_printed x ≡ true
     of (literal v) q = absurd cc
     of (named name place) q = referred place (number_of name table) q
 
-module _ (blocks : BlockAnswersAreRight) (declarations : DeclarationAnswersAreRight) (accepts : AcceptsTheWellTyped) (faults : FaultsAreTheText) (enough : OwnVariablesAreEnough) (fits : VerdictFits) where
-  declares_tree : (table : List Declared) (text : List ℕ) (r : Result Tree ParseFault) → IsAnswer IsDeclaration text r → MayHoldOrTold table (on_declaration table (said_of text r))
+module _ (blocks : BlockAnswersAreRight) (declarations : DeclarationAnswersAreRight) (accepts : CheckIsExact) (faults : CheckNeverSaysNoMemory) (enough : Strengthening) (fits : VerdictFits) where
+  declares_tree : (table : List Declared) (text : List ℕ) (r : Result Tree ParseFault) → IsAnswer IsDeclaration text r → MayHoldOrTold table (on_declaration table (declaration_result text r))
   unfolding MayHoldOrTold
   declares_tree table text (Ok t) h = declares_initial table _ _ refl
   declares_tree table text (Err f) h = parsing_told f h.0
@@ -131,23 +131,23 @@ module _ (blocks : BlockAnswersAreRight) (declarations : DeclarationAnswersAreRi
   unfolding variable_of parsed_declaration
   declares table text = declares_tree table text (declared_tree text) (declarations text)
 
-  -- a block of a text is well typed; where there is none, the refusal is told
+  -- a block of a text is well typed; where there is none, the refusal is reported
   TypedOrTold : List Declared → Result Act Refusal → Type 0
   TypedOrTold table (Ok a) = (r : ActionType) × (action_type (table_kinds table) [] a ≡ Some r)
-  TypedOrTold table (Err e) = is_told e ≡ true
+  TypedOrTold table (Err e) = is_printed e ≡ true
 
-  blocks_checked : (table : List Declared) (text : List ℕ) (tree : raw.Act) (r : Result (Act × ActionType) TypeFault) → checked table text [] tree ≡ r → TypedOrTold table (typed_block r)
+  blocks_checked : (table : List Declared) (text : List ℕ) (tree : raw.RawAct) (r : Result (Act × ActionType) TypeFault) → checked table text [] tree ≡ r → TypedOrTold table (typed_block r)
   unfolding TypedOrTold
   blocks_checked table text tree (Ok x) e = (x.1, ((accepts table text tree [] x.0 x.1).0 e).1)
   blocks_checked table text tree (Err f) e = typing_told f (λ q. faults table text tree [] (e ∙ ap Err q))
 
-  blocks_parsed : (table : List Declared) (text : List ℕ) (r : Result raw.Act ParseFault) → IsAnswer IsBlock text r → TypedOrTold table (on_block table text r)
+  blocks_parsed : (table : List Declared) (text : List ℕ) (r : Result raw.RawAct ParseFault) → IsAnswer IsBlock text r → TypedOrTold table (on_block table text r)
   unfolding TypedOrTold
   blocks_parsed table text (Ok tree) h = blocks_checked table text tree (checked table text [] tree) refl
   blocks_parsed table text (Err f) h = parsing_told f h.0
 
-  blocks_of : (table : List Declared) (text : List ℕ) → TypedOrTold table (block_of table text)
-  unfolding block_of
+  blocks_of : (table : List Declared) (text : List ℕ) → TypedOrTold table (compiled_block table text)
+  unfolding compiled_block
   blocks_of table text = blocks_parsed table text (parsed_block text) (blocks text)
 
   -- a well typed block has a verdict on the store that opens on the table
@@ -206,18 +206,18 @@ module _ (blocks : BlockAnswersAreRight) (declarations : DeclarationAnswersAreRi
   unfolding try_answer looks_answer
   command_ends s h None argument = refused_ends (codes "Command")
   command_ends s h (Some Tvar) argument = tvar_ends s argument
-  command_ends s h (Some Try) argument = tried_ends s.declared h.table_typed (present s) (present_is s h) (block_of s.declared argument) (blocks_of s.declared argument)
-  command_ends s h (Some Looks) argument = looked_ends s.declared (present s) (block_of s.declared argument) (blocks_of s.declared argument)
+  command_ends s h (Some Try) argument = tried_ends s.declared h.table_typed (present s) (present_is s h) (compiled_block s.declared argument) (blocks_of s.declared argument)
+  command_ends s h (Some Looks) argument = looked_ends s.declared (present s) (compiled_block s.declared argument) (blocks_of s.declared argument)
   command_ends s h (Some Store) argument = store_ends s argument
 
-  judged_ends : (s : ConsoleState) → IsReached s → (j : Judged) → j ≢ Silent → EndsALine (answer_to_judged s j)
+  judged_ends : (s : ConsoleState) → IsReached s → (j : LineClass) → j ≢ Silent → EndsALine (answer_to_class s j)
   judged_ends s h TooLong n = refused_ends (codes "LineTooLong")
   judged_ends s h Silent n = absurd (n refl)
   judged_ends s h NotAscii n = refused_ends (codes "NotAscii")
   judged_ends s h (Words word argument) n = command_ends s h (command_named word) argument
 
-  reached_start : IsReached start
-  unfolding start
+  reached_start : IsReached initial_console
+  unfolding initial_console
   reached_start = record { table_typed = λ i c e. absurd cc; stands = tt }
 
   reached_tvar : (s : ConsoleState) → IsReached s → (argument : List ℕ) → IsReached (tvar_state s argument)
@@ -232,8 +232,8 @@ module _ (blocks : BlockAnswersAreRight) (declarations : DeclarationAnswersAreRi
       by (Some cells) k = record { table_typed = h.table_typed; stands = k }
       by None k = record { table_typed = more (variable_of s.declared argument) (declares s.declared argument); stands = tt }
 
-  reached_open : (s : ConsoleState) → IsReached s → IsReached (with_desk s)
-  unfolding with_desk
+  reached_open : (s : ConsoleState) → IsReached s → IsReached (with_open_store s)
+  unfolding with_open_store
   reached_open s h = record { table_typed = h.table_typed; stands = present_is s h }
 
   reached_command : (s : ConsoleState) → IsReached s → (c : Option Command) (argument : List ℕ) → IsReached (state_after_command s c argument)
@@ -243,7 +243,7 @@ module _ (blocks : BlockAnswersAreRight) (declarations : DeclarationAnswersAreRi
   reached_command s h (Some Looks) argument = reached_open s h
   reached_command s h (Some Store) argument = reached_open s h
 
-  reached_judged : (s : ConsoleState) → IsReached s → (j : Judged) → IsReached (state_after_judged s j)
+  reached_judged : (s : ConsoleState) → IsReached s → (j : LineClass) → IsReached (state_after_class s j)
   reached_judged s h TooLong = h
   reached_judged s h Silent = h
   reached_judged s h NotAscii = h
@@ -251,7 +251,7 @@ module _ (blocks : BlockAnswersAreRight) (declarations : DeclarationAnswersAreRi
 
   reached_line : (s : ConsoleState) → IsReached s → (line : List ℕ) → IsReached (state_after s line)
   unfolding state_after
-  reached_line s h line = reached_judged s h (judged line)
+  reached_line s h line = reached_judged s h (line_class line)
 
   reached_lines : (s : ConsoleState) → IsReached s → (lines : List (List ℕ)) → IsReached (state_after_lines s lines)
   reached_lines s h [] = h
@@ -259,4 +259,4 @@ module _ (blocks : BlockAnswersAreRight) (declarations : DeclarationAnswersAreRi
 
   pub each_line : EachLineIsAnswered
   unfolding answer_to
-  each_line before line n = judged_ends (state_after_lines start before) (reached_lines start reached_start before) (judged line) n
+  each_line before line n = judged_ends (state_after_lines initial_console before) (reached_lines initial_console reached_start before) (line_class line) n

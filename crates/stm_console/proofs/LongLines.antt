@@ -4,19 +4,19 @@ use Rattle.std.proofs.lemmas.Bool.{lt-ltb}
 use Rattle.std.proofs.lemmas.List.{length-take-le}
 use Rattle.std.specs.Io.BufRead.{ends_with_byte}
 use Rattle.std.specs.Prelude.{nat_eq}
-use Rattle.stm_console.specs.Judged.{TooLong, judged}
+use Rattle.stm_console.specs.LineClass.{TooLong, line_class}
 use Rattle.stm_console.specs.Lines.{drop_return, lines_from, whole_lines_from, last_lines}
 use Rattle.stm_console.specs.Commands.{ConsoleState}
-use Rattle.stm_console.specs.Console.{answer_to, state_after, answers_to, answer_to_judged, state_after_judged}
+use Rattle.stm_console.specs.Console.{answer_to, state_after, answers_to, answer_to_class, state_after_class}
 
 -- a line that is too long is judged so, whatever its bytes
-judged-too_long : (line : List ℕ) → 65536 < length line → judged line ≡ TooLong
-unfolding judged
+judged-too_long : (line : List ℕ) → 65536 < length line → line_class line ≡ TooLong
+unfolding line_class
 judged-too_long line h = rw (lt-ltb 65536 (length line) h) refl
 
 answers_to-too_long : (s : ConsoleState) (a b : List ℕ) (rest : List (List ℕ)) → 65536 < length a → 65536 < length b → answers_to s (a ∷ rest) ≡ answers_to s (b ∷ rest)
 unfolding answer_to state_after
-answers_to-too_long s a b rest h k = ap (λ j. answer_to_judged s j ++ answers_to (state_after_judged s j) rest) (judged-too_long a h ∙ sym (judged-too_long b k))
+answers_to-too_long s a b rest h k = ap (λ j. answer_to_class s j ++ answers_to (state_after_class s j) rest) (judged-too_long a h ∙ sym (judged-too_long b k))
 
 length-drop_return : (line : List ℕ) → length line ≤ length (drop_return line) + 1
 length-drop_return line = elim (ends_with_byte 13 line) as (λ t. length line ≤ length (cond t (take (length line - 1) line) line) + 1) [

@@ -2,36 +2,36 @@
 use Rattle.std.proofs.Common.{◌≡◌, ℕ, Option, Some, None, IfSome, List, [], ◌++◌, refl, sym, ap, ◌∙◌, subst, append_assoc, append-nil, take}
 use Rattle.std.specs.Io.KnownBytes.{Appends, Consumes, Keeps, IsAtEnd}
 use Rattle.std.proofs.KnownBytes.{Appends-trans, Appends-kept, Consumes-trans, Consumes-kept, Consumes-whole}
-use Rattle.stm_console.proofs.Feeding.{Continues-trans}
+use Rattle.stm_console.proofs.InputInParts.{Continues-trans}
 use Rattle.stm_terms.specs.Texts.{IsPrefixOf}
-use Rattle.stm_console.specs.Continuing.{Continues, rest_text, whole_rest_text}
+use Rattle.stm_console.specs.Streaming.{Continues, rest_text, whole_rest_text}
 use Rattle.stm_console.specs.Commands.{ConsoleState}
-use Rattle.stm_console.specs.Console.{start, console_text, whole_lines_text}
+use Rattle.stm_console.specs.Console.{initial_console, console_text, whole_lines_text}
 
-pub console_text-continues : (s : ConsoleState) (line taken written more : List ℕ) → Continues start [] s line taken written → console_text (taken ++ more) ≡ written ++ rest_text s line more
+pub console_text-continues : (s : ConsoleState) (line taken written more : List ℕ) → Continues initial_console [] s line taken written → console_text (taken ++ more) ≡ written ++ rest_text s line more
 unfolding console_text rest_text
 console_text-continues s line taken written more h = h.all more
 
-console_text-ends : (s : ConsoleState) (line taken written : List ℕ) → Continues start [] s line taken written → console_text taken ≡ written ++ rest_text s line []
+console_text-ends : (s : ConsoleState) (line taken written : List ℕ) → Continues initial_console [] s line taken written → console_text taken ≡ written ++ rest_text s line []
 console_text-ends s line taken written h = ap console_text (sym (append-nil taken)) ∙ console_text-continues s line taken written [] h
 
-whole_lines_text-ends : (s : ConsoleState) (line taken written : List ℕ) → Continues start [] s line taken written → whole_lines_text taken ≡ written
+whole_lines_text-ends : (s : ConsoleState) (line taken written : List ℕ) → Continues initial_console [] s line taken written → whole_lines_text taken ≡ written
 unfolding whole_lines_text whole_rest_text
 whole_lines_text-ends s line taken written h = ap whole_lines_text (sym (append-nil taken)) ∙ h.whole [] ∙ append-nil written
 
-pub answered : (a b x y z : Option (List ℕ)) (s : ConsoleState) (line taken written : List ℕ) → Consumes a b taken → IsAtEnd b → Continues start [] s line taken written
+pub answered : (a b x y z : Option (List ℕ)) (s : ConsoleState) (line taken written : List ℕ) → Consumes a b taken → IsAtEnd b → Continues initial_console [] s line taken written
     → Appends x y written → Appends y z (rest_text s line []) → IfSome a (λ input. Appends x z (console_text input))
 answered a b x y z s line taken written h at_end c p q =
     Consumes-whole a b taken (λ input. Appends x z (console_text input)) h at_end (subst (Appends x z) (sym (console_text-ends s line taken written c)) (Appends-trans x y z _ _ p q))
 
-pub ended_part : (a b x y z : Option (List ℕ)) (s : ConsoleState) (line taken written front : List ℕ) → Consumes a b taken → IsAtEnd b → Continues start [] s line taken written
+pub ended_part : (a b x y z : Option (List ℕ)) (s : ConsoleState) (line taken written front : List ℕ) → Consumes a b taken → IsAtEnd b → Continues initial_console [] s line taken written
     → Appends x y written → IsPrefixOf front (rest_text s line []) → Appends y z front
     → IfSome a (λ input. (front : List ℕ) × IsPrefixOf front (console_text input) × Appends x z front)
 ended_part a b x y z s line taken written front h at_end c p k q =
     Consumes-whole a b taken (λ input. (front : List ℕ) × IsPrefixOf front (console_text input) × Appends x z front) h at_end
     (written ++ front, (k.0, console_text-ends s line taken written c ∙ ap (λ r. written ++ r) k.1 ∙ sym (append_assoc written front k.0)), Appends-trans x y z _ _ p q)
 
-pub read_fault : (a b x y : Option (List ℕ)) (s : ConsoleState) (line taken written : List ℕ) → Consumes a b taken → Continues start [] s line taken written
+pub read_fault : (a b x y : Option (List ℕ)) (s : ConsoleState) (line taken written : List ℕ) → Consumes a b taken → Continues initial_console [] s line taken written
     → Appends x y written → IfSome a (λ input. (taken rest : List ℕ) × (input ≡ taken ++ rest) × (b ≡ Some rest) × Appends x y (whole_lines_text taken))
 read_fault None b x y s line taken written h c p = tt
 read_fault (Some i) None x y s line taken written h c p = absurd h
@@ -43,10 +43,10 @@ part None b x y taken front h k p = tt
 part (Some i) None x y taken front h k p = absurd h
 part (Some i) (Some rest) x y taken front h k p = (front, subst (λ (input : List ℕ). IsPrefixOf front (console_text input)) (sym h) (k rest), p)
 
-pub prefix-continues : (s : ConsoleState) (line taken written more : List ℕ) → Continues start [] s line taken written → IsPrefixOf written (console_text (taken ++ more))
+pub prefix-continues : (s : ConsoleState) (line taken written more : List ℕ) → Continues initial_console [] s line taken written → IsPrefixOf written (console_text (taken ++ more))
 prefix-continues s line taken written more c = (rest_text s line more, console_text-continues s line taken written more c)
 
-pub prefix-within : (s : ConsoleState) (line taken written bytes front more : List ℕ) → Continues start [] s line taken written → IsPrefixOf front (rest_text s line (bytes ++ more))
+pub prefix-within : (s : ConsoleState) (line taken written bytes front more : List ℕ) → Continues initial_console [] s line taken written → IsPrefixOf front (rest_text s line (bytes ++ more))
     → IsPrefixOf (written ++ front) (console_text ((taken ++ bytes) ++ more))
 prefix-within s line taken written bytes front more c k =
     (k.0, ap console_text (append_assoc taken bytes more) ∙ console_text-continues s line taken written (bytes ++ more) c ∙ ap (λ r. written ++ r) k.1 ∙ sym (append_assoc written front k.0))
@@ -60,7 +60,7 @@ pub record Kept (a b x y : Option (List ℕ)) (s : ConsoleState) (line : List �
   pub taken : List ℕ
   pub written : List ℕ
   pub consumed : Consumes a b taken
-  pub continues : Continues start [] s line taken written
+  pub continues : Continues initial_console [] s line taken written
   pub appended : Appends x y written
 
 pub Kept-next : (a b c x y z z' : Option (List ℕ)) (s t : ConsoleState) (line left chunk part : List ℕ) → Kept a b x y s line → Consumes b c chunk → Continues s line t left chunk part → Appends y z part → Keeps z z' → Kept a c x z' t left

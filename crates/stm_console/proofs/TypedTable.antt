@@ -9,10 +9,10 @@ use Rattle.stm_terms.specs.declared.kinds.Ty.{Ty}
 use Rattle.stm_terms.specs.declared.values.Ref.TheVariants.{Old, New}
 use Rattle.stm_terms.specs.declared.values.Value.{Value}
 use Rattle.stm_terms.specs.declared.values.Value.TheVariants.{Int, Bool as Truth, Unit as Nil, Var}
-use Rattle.stm_terms.specs.Views.{no_changes}
-use Rattle.stm_terms.specs.Typing.{Kinds, var_ty, type_of, same_base, same_ty}
+use Rattle.stm_terms.specs.Changes.{no_changes}
+use Rattle.stm_terms.specs.Typing.{TypeEnv, var_ty, type_of, same_base, same_ty}
 use Rattle.stm_store.specs.Cells.{kinds_of, StoreIsTyped}
-use Rattle.stm_store.specs.Tables.{Declared, declared_cell, declared_cells, is_kind, may_hold}
+use Rattle.stm_store.specs.Tables.{Declared, declared_cell, declared_cells, is_type, may_hold}
 
 -- an item of a list with one more is an item of the list, or that one
 one_more : {A : Type 0} (xs : List A) (y : A) (i : ℕ) (z : A) → slice_get (xs ++ y ∷ []) i ≡ Some z → (slice_get xs i ≡ Some z) ⊎ (y ≡ z)
@@ -21,7 +21,7 @@ one_more [] y (suc i) z e = absurd cc
 one_more (x ∷ xs) y zero z e = inl e
 one_more (x ∷ xs) y (suc i) z e = one_more xs y i z e
 
--- variables keep their types as others come behind them
+-- variables keep their types as others come after them
 kinds_kept : (cs ds : List (Ty × Value)) (i : ℕ) (t : Ty) → kinds_of cs i ≡ Some t → kinds_of (cs ++ ds) i ≡ Some t
 kinds_kept [] ds i t e = absurd cc
 kinds_kept (c ∷ cs) ds zero t e = e
@@ -32,7 +32,7 @@ referred (Some u) p t f e = ap (option_map var_ty) (f u refl) ∙ e
 referred None p t f e = absurd cc
 
 -- so do values that refer to them
-type_kept : (few more : Kinds) → ((i : ℕ) (t : Ty) → few i ≡ Some t → more i ≡ Some t) → (v : Value) (t : Ty) → type_of few no_changes v ≡ Some t → type_of more no_changes v ≡ Some t
+type_kept : (few more : TypeEnv) → ((i : ℕ) (t : Ty) → few i ≡ Some t → more i ≡ Some t) → (v : Value) (t : Ty) → type_of few no_changes v ≡ Some t → type_of more no_changes v ≡ Some t
 type_kept few more kept (Int z) t e = e
 type_kept few more kept (Truth b) t e = e
 type_kept few more kept Nil t e = e
@@ -66,7 +66,7 @@ same_types t u e =
     let q : t.refs ≡ u.refs = eqb-true t.refs u.refs h.1 in
     λ i. record { base = p i; refs = q i }
 
-same_kind : (o : Option Ty) (t : Ty) → is_kind o t ≡ true → o ≡ Some t
+same_kind : (o : Option Ty) (t : Ty) → is_type o t ≡ true → o ≡ Some t
 same_kind (Some u) t e = ap Some (same_types u t e)
 same_kind None t e = absurd (false≢true e)
 

@@ -9,7 +9,7 @@ use Rattle.clap.specs.declared.error.Error.{Error}
 use Rattle.clap.specs.declared.error.kind.ErrorKind.{ErrorKind}
 use Rattle.clap.proofs.OnLiterals.{clap_on_literals}
 use Rattle.std.specs.Prelude.{Result}
-use Rattle.stm_console.specs.Words.{answers_of, are_mistakes, asks_for_run, command_line, is_mistake}
+use Rattle.stm_console.specs.CommandLine.{answers_of, are_mistakes, asks_for_run, command_line, is_mistake}
 
 -- clap's answers to any words are exact
 exact : is_simple_and_free command_line ≡ true
@@ -49,7 +49,7 @@ both : (a b : Bool) → (a && b) ≡ true → (a ≡ true) × (b ≡ true)
 both true b e = (refl, e)
 both false b e = absurd (false≢true e)
 
--- what is told of mistakes is one
+-- what is reported of mistakes is one
 among : (k : ErrorKind) (kinds : Kinds) → IsAmong k kinds → list_all is_mistake kinds ≡ true → is_mistake k ≡ true
 among k [] h e = absurd h
 among k (x ∷ xs) (inl same) e = rw same (both _ _ e).0

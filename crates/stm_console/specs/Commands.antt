@@ -5,18 +5,18 @@ use Rattle.stm_terms.specs.declared.values.Ref.TheVariants.{Old}
 use Rattle.stm_terms.specs.declared.values.Value.{Value}
 use Rattle.stm_terms.specs.declared.values.Value.TheVariants.{Var}
 use Rattle.stm_terms.specs.declared.verdicts.Verdict.{Verdict}
-use Rattle.stm_terms.specs.RawTrees as raw
-use Rattle.stm_terms.specs.Trees.{Act}
+use Rattle.stm_terms.specs.ParsedAst as raw
+use Rattle.stm_terms.specs.Ast.{Act}
 use Rattle.stm_terms.specs.Typing.{ActionType}
 use Rattle.stm_terms.specs.Texts.{type_text, value_text, write_text, list_text, verdict_text}
-use Rattle.stm_terms.specs.Views.{cell_value}
+use Rattle.stm_terms.specs.Changes.{cell_value}
 use Rattle.stm_terms.specs.Verdict.{verdict}
-use Rattle.stm_terms.specs.Looks.{reads_of}
+use Rattle.stm_terms.specs.ReadSet.{reads_of}
 use Rattle.stm_parse.specs.declared.fault.ParseFault.{ParseFault}
-use Rattle.stm_parse.specs.Declaring.{ParsedInit, literal, named, ParsedDeclaration}
-use Rattle.stm_parse.specs.Parsed.{parsed_block, parsed_declaration}
+use Rattle.stm_parse.specs.Declarations.{ParsedInit, literal, named, ParsedDeclaration}
+use Rattle.stm_parse.specs.ParseFunction.{parsed_block, parsed_declaration}
 use Rattle.stm_check.specs.declared.fault.TypeFault.{TypeFault}
-use Rattle.stm_check.specs.Checking.{checked}
+use Rattle.stm_check.specs.CheckFunction.{checked}
 use Rattle.stm_store.specs.declared.cell.Cell.{Cell}
 use Rattle.stm_store.specs.declared.table.DeclareError.{DeclareError}
 use Rattle.stm_store.specs.Cells.{plains}
@@ -39,8 +39,8 @@ unfoldable pub present : ConsoleState → List Cell
 present s = present_store s.store s.declared
 
 -- the first line with a known word other than `tvar` opens the desk, also where it is then refused
-unfoldable pub with_desk : ConsoleState → ConsoleState
-with_desk s = record s { store = Some (present s) }
+unfoldable pub with_open_store : ConsoleState → ConsoleState
+with_open_store s = record s { store = Some (present s) }
 
 -- a name in place of a first value stands for a reference to its variable
 abbrev pub reference_to : ℕ → Option ℕ → Result Value Refusal
@@ -55,16 +55,16 @@ abbrev pub unless_refused : Declared → Option DeclareError → Result Declared
 unless_refused d None = Ok d
 unless_refused d (Some e) = Err (Declaring e)
 
-abbrev pub with_value : List Declared → List ℕ → Ty → Result Value Refusal → Result Declared Refusal
-with_value table name kind (Ok v) =
+abbrev pub with_initial_value : List Declared → List ℕ → Ty → Result Value Refusal → Result Declared Refusal
+with_initial_value table name kind (Ok v) =
     unless_refused (record { name = name; kind = kind; value = v }) (declare_refusal table name kind v)
-with_value table name kind (Err e) = Err e
+with_initial_value table name kind (Err e) = Err e
 
 abbrev pub on_declaration : List Declared → Result ParsedDeclaration ParseFault → Result Declared Refusal
-on_declaration table (Ok d) = with_value table d.name d.kind (initial table d.init)
+on_declaration table (Ok d) = with_initial_value table d.name d.kind (initial table d.init)
 on_declaration table (Err e) = Err (Parsing e)
 
--- the variable that a text declares behind the others; the first that holds of a fault of the grammar, an undeclared
+-- the variable that a text declares after the others; the first that holds of a fault of the grammar, an undeclared
 -- first value, and what the table refuses
 unfoldable pub variable_of : List Declared → List ℕ → Result Declared Refusal
 variable_of table text = on_declaration table (parsed_declaration text)
@@ -93,13 +93,13 @@ abbrev pub typed_block : Result (Act × ActionType) TypeFault → Result Act Ref
 typed_block (Ok x) = Ok x.0
 typed_block (Err e) = Err (Typing e)
 
-abbrev pub on_block : List Declared → List ℕ → Result raw.Act ParseFault → Result Act Refusal
+abbrev pub on_block : List Declared → List ℕ → Result raw.RawAct ParseFault → Result Act Refusal
 on_block table text (Ok tree) = typed_block (checked table text [] tree)
 on_block table text (Err e) = Err (Parsing e)
 
 -- the block of a text over these variables; a fault of the grammar comes before a fault of types
-unfoldable pub block_of : List Declared → List ℕ → Result Act Refusal
-block_of table text = on_block table text (parsed_block text)
+unfoldable pub compiled_block : List Declared → List ℕ → Result Act Refusal
+compiled_block table text = on_block table text (parsed_block text)
 
 -- a block that is well typed has a verdict
 unfoldable pub verdict_line : Option Verdict → List ℕ
@@ -112,7 +112,7 @@ tried_text cells (Err e) = refusal_text e
 
 -- `try`: the verdict of a block on the present store
 unfoldable pub try_answer : ConsoleState → List ℕ → List ℕ
-try_answer s argument = tried_text (present s) (block_of s.declared argument)
+try_answer s argument = tried_text (present s) (compiled_block s.declared argument)
 
 unfoldable pub reads_line : List (ℕ × Value) → List ℕ
 reads_line reads = codes "reads " ++ list_text write_text reads ++ 10 ∷ []
@@ -123,7 +123,7 @@ looked_text cells (Err e) = refusal_text e
 
 -- `looks`: what a block reads on the present store
 unfoldable pub looks_answer : ConsoleState → List ℕ → List ℕ
-looks_answer s argument = looked_text (present s) (block_of s.declared argument)
+looks_answer s argument = looked_text (present s) (compiled_block s.declared argument)
 
 -- a declared variable stands with its name
 abbrev pub name_text : Option Declared → List ℕ

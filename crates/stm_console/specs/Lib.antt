@@ -1,10 +1,10 @@
+pub mod Abstraction
+pub mod CommandLine
 pub mod Commands
 pub mod Console
-pub mod Continuing
-pub mod Judged
+pub mod ExitStatus
 pub mod Laws
+pub mod LineClass
 pub mod Lines
 pub mod Refusals
-pub mod Seen
-pub mod Statuses
-pub mod Words
+pub mod Streaming

@@ -17,45 +17,45 @@ refused name = codes "refused " ++ name ++ 10 ∷ []
 unfoldable pub refused_at : List ℕ → ℕ → List ℕ
 refused_at name place = codes "refused " ++ name ++ 32 ∷ decimal place ++ 10 ∷ []
 
-abbrev pub parse_text : ParseFault → List ℕ
-parse_text (parse.BadByte n) = refused_at (codes "BadByte") n
-parse_text (parse.BadNumber n) = refused_at (codes "BadNumber") n
-parse_text (parse.NameTooLong n) = refused_at (codes "NameTooLong") n
-parse_text (parse.Unexpected n) = refused_at (codes "Unexpected") n
-parse_text parse.EndOfText = refused (codes "EndOfText")
-parse_text parse.TooDeep = refused (codes "TooDeep")
-parse_text parse.TooLarge = refused (codes "TooLarge")
-parse_text parse.NoMemory = []
+abbrev pub parse_fault_text : ParseFault → List ℕ
+parse_fault_text (parse.BadByte n) = refused_at (codes "BadByte") n
+parse_fault_text (parse.BadNumber n) = refused_at (codes "BadNumber") n
+parse_fault_text (parse.NameTooLong n) = refused_at (codes "NameTooLong") n
+parse_fault_text (parse.Unexpected n) = refused_at (codes "Unexpected") n
+parse_fault_text parse.EndOfText = refused (codes "EndOfText")
+parse_fault_text parse.TooDeep = refused (codes "TooDeep")
+parse_fault_text parse.TooLarge = refused (codes "TooLarge")
+parse_fault_text parse.NoMemory = []
 
-abbrev pub type_text : TypeFault → List ℕ
-type_text (typed.Unknown n) = refused_at (codes "Unknown") n
-type_text (typed.Mismatch n) = refused_at (codes "Mismatch") n
-type_text (typed.NotAVariable n) = refused_at (codes "NotAVariable") n
-type_text (typed.Untyped n) = refused_at (codes "Untyped") n
-type_text (typed.TypeTooDeep n) = refused_at (codes "TypeTooDeep") n
-type_text typed.NoMemory = []
+abbrev pub type_fault_text : TypeFault → List ℕ
+type_fault_text (typed.Unknown n) = refused_at (codes "Unknown") n
+type_fault_text (typed.Mismatch n) = refused_at (codes "Mismatch") n
+type_fault_text (typed.NotAVariable n) = refused_at (codes "NotAVariable") n
+type_fault_text (typed.Untyped n) = refused_at (codes "Untyped") n
+type_fault_text (typed.TypeTooDeep n) = refused_at (codes "TypeTooDeep") n
+type_fault_text typed.NoMemory = []
 
-abbrev pub declare_text : DeclareError → List ℕ
-declare_text declare.Twice = refused (codes "Twice")
-declare_text declare.TypeOfValue = refused (codes "TypeOfValue")
-declare_text declare.TableFull = refused (codes "TableFull")
-declare_text declare.NoMemory = []
+abbrev pub declare_error_text : DeclareError → List ℕ
+declare_error_text declare.Twice = refused (codes "Twice")
+declare_error_text declare.TypeOfValue = refused (codes "TypeOfValue")
+declare_error_text declare.TableFull = refused (codes "TableFull")
+declare_error_text declare.NoMemory = []
 
 -- why a block or a declaration is refused
 abbrev pub refusal_text : Refusal → List ℕ
-refusal_text (Parsing fault) = parse_text fault
-refusal_text (Typing fault) = type_text fault
+refusal_text (Parsing fault) = parse_fault_text fault
+refusal_text (Typing fault) = type_fault_text fault
 refusal_text (Unknown n) = refused_at (codes "Unknown") n
-refusal_text (Declaring error) = declare_text error
+refusal_text (Declaring error) = declare_error_text error
 
--- want of memory is told by no line
-abbrev pub is_told : Refusal → Bool
-is_told (Parsing parse.NoMemory) = false
-is_told (Typing typed.NoMemory) = false
-is_told (Declaring declare.NoMemory) = false
-is_told refusal = true
+-- an out-of-memory error is reported by no line
+abbrev pub is_printed : Refusal → Bool
+is_printed (Parsing parse.NoMemory) = false
+is_printed (Typing typed.NoMemory) = false
+is_printed (Declaring declare.NoMemory) = false
+is_printed refusal = true
 
 -- a call gives what the definition does, unless memory ran out
-abbrev pub Gives : {X Y : Type 0} → (X → Y) → Result X Refusal → Result Y Refusal → Type 0
-Gives view (Ok x) answer = answer ≡ Ok (view x)
-Gives view (Err e) answer = IsTrue (is_told e) → answer ≡ Err e
+abbrev pub AnswersAs : {X Y : Type 0} → (X → Y) → Result X Refusal → Result Y Refusal → Type 0
+AnswersAs view (Ok x) answer = answer ≡ Ok (view x)
+AnswersAs view (Err e) answer = IsTrue (is_printed e) → answer ≡ Err e

@@ -2,7 +2,7 @@
 
 ghost use Rattle.std.specs.Prelude.{◌≡◌, IsTrue, IsOk, IfOk, map};
 ghost use Rattle.clap.specs.Words.{app_of, FailsBy};
-ghost use Rattle.stm_console.specs.Words.{answers_of, asks_for_run, command_line};
+ghost use Rattle.stm_console.specs.CommandLine.{answers_of, asks_for_run, command_line};
 
 use clap::{Command, Error};
 use std::alloc::{AllocError, Global};
@@ -45,7 +45,7 @@ fn command<'a>(alloc: Global) -> Result<Command<'a>, AllocError>
         .subcommand(run)
 }
 
-/// Reads the words, the program's name first: `Ok` where they ask for a run, else the help or the fault to be told.
+/// Reads the words, the program's name first: `Ok` where they ask for a run, else the help or the fault to be reported.
 pub fn read_words<'a, S: AsStr>(alloc: Global, words: &'a [S]) -> Result<(), Error>
     ensures run { IsTrue (asks_for_run (map S.text words.now)) → IsOk result }
     ensures answers { FailsBy (answers_of (map S.text words.now)) result }

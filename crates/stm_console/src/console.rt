@@ -1,13 +1,13 @@
 //! What the console knows, and its answer to a line.
 
 ghost use Rattle.std.specs.Prelude.{◌≡◌, ◌++◌, Some, is_some, IsTrue, string_bytes, OnOk};
-ghost use Rattle.stm_console.specs.Commands.{with_desk, tvar_answer, tvar_state};
-ghost use Rattle.stm_console.specs.Console.{start, command_named, answer_to_command, state_after_command, answer_to, state_after};
+ghost use Rattle.stm_console.specs.Commands.{with_open_store, tvar_answer, tvar_state};
+ghost use Rattle.stm_console.specs.Console.{initial_console, command_named, answer_to_command, state_after_command, answer_to, state_after};
 
 use crate::command::{Command, command_of};
 use crate::declaring::{declare, write_declared};
-use crate::desk::Desk;
 use crate::judging::{Judgement, judge};
+use crate::opened::OpenStore;
 use crate::refusal::{refuse, write_refusal};
 use crate::showing::answer_store;
 use crate::trying::{answer_looks, answer_try};
@@ -21,7 +21,7 @@ use stm_terms::NoMemory;
 #[derive(Drop)]
 pub struct Console {
     table: Table,
-    desk: Option<Desk>,
+    desk: Option<OpenStore>,
 }
 
 impl Model for Console {
@@ -29,7 +29,7 @@ impl Model for Console {
 
     ghost Value = { ConsoleState };
 
-    ghost use Rattle.stm_console.specs.Seen.{StandsOn};
+    ghost use Rattle.stm_console.specs.Abstraction.{StandsOn};
 
     ghost view = { λ c. record { declared = c.table; store = c.desk } };
 
@@ -38,9 +38,9 @@ impl Model for Console {
 
 impl Console {
     /// A console of no variables.
-    #[tactic(auto, unfolding(crate::specs::Console::start))]
+    #[tactic(auto, unfolding(crate::specs::Console::initial_console))]
     pub fn new(alloc: Global) -> Console
-        ensures { result ≡ start }
+        ensures { result ≡ initial_console }
     {
         Console {
             table: Table::empty(alloc),
@@ -49,12 +49,12 @@ impl Console {
     }
 
     /// Opens the desk, unless it is open.
-    #[tactic(auto, unfolding(crate::specs::Commands::with_desk, crate::specs::Commands::present))]
+    #[tactic(auto, unfolding(crate::specs::Commands::with_open_store, crate::specs::Commands::present))]
     fn open(&mut self, alloc: Global) -> Result<(), NoMemory>
-        ensures { OnOk result (self.new ≡ with_desk self.old) }
+        ensures { OnOk result (self.new ≡ with_open_store self.old) }
     {
         if self.desk.is_none() {
-            let desk = Desk::open(alloc, &self.table)?;
+            let desk = OpenStore::open(alloc, &self.table)?;
             self.desk = Some(desk);
         }
         Ok(())

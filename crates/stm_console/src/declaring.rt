@@ -1,10 +1,10 @@
 //! `tvar`: declarations.
 
 ghost use Rattle.std.specs.Prelude.{◌≡◌, ◌++◌, string_bytes, OnOk};
-ghost use Rattle.stm_parse.specs.Declaring.{seen_init};
+ghost use Rattle.stm_parse.specs.Declarations.{parsed_initial};
 ghost use Rattle.stm_console.specs.Commands.{initial as initial_of, variable_of, tvar_line};
-ghost use Rattle.stm_console.specs.Refusals.{Gives};
-ghost use Rattle.stm_console.specs.Seen.{Declares};
+ghost use Rattle.stm_console.specs.Refusals.{AnswersAs};
+ghost use Rattle.stm_console.specs.Abstraction.{Declares};
 
 use crate::refusal::Refusal;
 use std::alloc::Global;
@@ -15,7 +15,7 @@ use stm_terms::values::{Ref, Value};
 
 /// A first value: a literal, or a reference to the variable of a name.
 fn initial(table: &Table, init: &Init) -> Result<Value, Refusal>
-    ensures { Gives (λ v. v) result (initial_of table.now (seen_init init.now)) }
+    ensures { AnswersAs (λ v. v) result (initial_of table.now (parsed_initial init.now)) }
 {
     match init {
         Init::Literal(value) => Ok(*value),
@@ -26,7 +26,7 @@ fn initial(table: &Table, init: &Init) -> Result<Value, Refusal>
     }
 }
 
-/// Declares the variable of a text behind the others, and answers its number.
+/// Declares the variable of a text after the others, and answers its number.
 #[tactic(auto, unfolding(crate::specs::Commands::variable_of))]
 pub fn declare(alloc: Global, table: &mut Table, text: &str) -> Result<u32, Refusal>
     ensures { Declares table.old result table.new (variable_of table.old text.now) }

@@ -1,8 +1,8 @@
 //! The judgement of a line before a command sees it.
 
 ghost use Rattle.std.specs.Prelude.{◌≡◌, ◌≤◌, drop, length};
-ghost use Rattle.stm_console.specs.Judged.{is_blank as blank, blanks_len as blank_count, word_len as word_count, skip_blanks as skipped, judged_words as words_judged, has_high_byte as high_byte, judged};
-ghost use Rattle.stm_console.specs.Seen.{judgement_of};
+ghost use Rattle.stm_console.specs.LineClass.{is_line_blank as blank, blanks_len as blank_count, command_len as word_count, skip_blanks as skipped, class_of_words as words_judged, has_high_byte as high_byte, line_class};
+ghost use Rattle.stm_console.specs.Abstraction.{line_class_of};
 
 /// The most bytes that a line may have.
 const LONGEST_LINE: usize = 65_536;
@@ -48,7 +48,7 @@ fn word_len(text: &[u8]) -> usize
     text.len()
 }
 
-/// The rest of a text behind so many bytes.
+/// The rest of a text after the given number of bytes.
 pub fn after(text: &[u8], count: usize) -> &[u8]
     requires { count ≤ length text.now }
     ensures { result.now ≡ drop count text.now }
@@ -56,7 +56,7 @@ pub fn after(text: &[u8], count: usize) -> &[u8]
     &text[count..]
 }
 
-#[tactic(auto, unfolding(crate::specs::Judged::skip_blanks))]
+#[tactic(auto, unfolding(crate::specs::LineClass::skip_blanks))]
 fn skip_blanks(text: &[u8]) -> &[u8]
     ensures { result.now ≡ skipped text.now }
 {
@@ -70,18 +70,18 @@ fn has_high_byte(line: &[u8]) -> bool
 }
 
 /// The command word of a text and its argument.
-#[tactic(auto, unfolding(crate::specs::Judged::judged_words))]
+#[tactic(auto, unfolding(crate::specs::LineClass::class_of_words))]
 fn words_of(text: &[u8]) -> Judgement<'_>
-    ensures { judgement_of result ≡ words_judged text.now }
+    ensures { line_class_of result ≡ words_judged text.now }
 {
     let len = word_len(text);
     Judgement::Words(&text[..len], skip_blanks(after(text, len)))
 }
 
 /// The first judgement that holds.
-#[tactic(auto, unfolding(crate::specs::Judged::judged, crate::specs::Judged::starts_comment))]
+#[tactic(auto, unfolding(crate::specs::LineClass::line_class, crate::specs::LineClass::starts_comment))]
 pub fn judge(line: &[u8]) -> Judgement<'_>
-    ensures { judgement_of result ≡ judged line.now }
+    ensures { line_class_of result ≡ line_class line.now }
 {
     if line.len() > LONGEST_LINE {
         return Judgement::TooLong;

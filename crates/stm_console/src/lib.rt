@@ -7,17 +7,17 @@
 //! `looks`, `showing` has `store`. `laws` says what holds of the text that is written and of the program's words.
 #![tactic(auto)]
 
+mod block;
 mod calls;
 mod command;
 mod command_line;
 mod console;
 mod declaring;
-mod desk;
 mod judging;
 pub mod laws;
+mod opened;
 mod output;
 mod program;
-mod reading;
 mod refusal;
 mod session;
 mod showing;

@@ -5,8 +5,8 @@ ghost use Rattle.std.specs.Io.KnownBytes.{Appends, Keeps};
 ghost use Rattle.clap.specs.Values.{kind_of};
 ghost use Rattle.stm_terms.specs.Texts.{IsPrefixOf};
 ghost use Rattle.stm_console.specs.Console.{console_text};
-ghost use Rattle.stm_console.specs.Statuses.{status_of, IsStatus};
-ghost use Rattle.stm_console.specs.Words.{answers_of, asks_for_help, has_mistake, is_mistake};
+ghost use Rattle.stm_console.specs.ExitStatus.{status_of, IsStatus};
+ghost use Rattle.stm_console.specs.CommandLine.{answers_of, asks_for_help, has_mistake, is_mistake};
 
 use crate::command_line::read_words;
 use crate::streams::{RunFault, run};
@@ -65,7 +65,7 @@ fn tell_words<W: Write, E: Write>(error: &Error, writer: &mut W, errors: &mut E)
 }
 
 /// The whole program: reads its words, the program's name first; where they ask for a run, runs from the reader to the
-/// writer; tells a fault on `errors`, and answers the exit status.
+/// writer; reports a fault on `errors`, and answers the exit status.
 ///
 /// 0: the input was read to its end, or help was written. 1: a read or a write failed. 2: the words were refused. 4: memory
 /// ran out. That `errors` fails changes nothing.

@@ -1,7 +1,7 @@
 //! What the commands refuse, and how it is printed.
 
 ghost use Rattle.std.specs.Prelude.{◌≡◌, ◌++◌, string_bytes, OnOk, IsTrue};
-ghost use Rattle.stm_console.specs.Refusals.{refused, refused_at, parse_text, type_text, declare_text, refusal_text, is_told};
+ghost use Rattle.stm_console.specs.Refusals.{refused, refused_at, parse_fault_text, type_fault_text, declare_error_text, refusal_text, is_printed};
 
 use std::alloc::AllocError;
 use stm_check::TypeFault;
@@ -71,8 +71,8 @@ fn refuse_at(name: &str, place: usize, out: &mut String) -> Result<(), NoMemory>
 }
 
 fn refuse_parse(fault: ParseFault, out: &mut String) -> Result<(), NoMemory>
-    ensures text { OnOk result (string_bytes out.new ≡ string_bytes out.old ++ parse_text fault) }
-    ensures told { OnOk result (IsTrue (is_told (Refusal.Parsing fault))) }
+    ensures text { OnOk result (string_bytes out.new ≡ string_bytes out.old ++ parse_fault_text fault) }
+    ensures told { OnOk result (IsTrue (is_printed (Refusal.Parsing fault))) }
 {
     match fault {
         ParseFault::BadByte(place) => refuse_at("BadByte", place, out),
@@ -87,8 +87,8 @@ fn refuse_parse(fault: ParseFault, out: &mut String) -> Result<(), NoMemory>
 }
 
 fn refuse_type(fault: TypeFault, out: &mut String) -> Result<(), NoMemory>
-    ensures text { OnOk result (string_bytes out.new ≡ string_bytes out.old ++ type_text fault) }
-    ensures told { OnOk result (IsTrue (is_told (Refusal.Typing fault))) }
+    ensures text { OnOk result (string_bytes out.new ≡ string_bytes out.old ++ type_fault_text fault) }
+    ensures told { OnOk result (IsTrue (is_printed (Refusal.Typing fault))) }
 {
     match fault {
         TypeFault::Unknown(place) => refuse_at("Unknown", place, out),
@@ -101,8 +101,8 @@ fn refuse_type(fault: TypeFault, out: &mut String) -> Result<(), NoMemory>
 }
 
 fn refuse_declaration(error: DeclareError, out: &mut String) -> Result<(), NoMemory>
-    ensures text { OnOk result (string_bytes out.new ≡ string_bytes out.old ++ declare_text error) }
-    ensures told { OnOk result (IsTrue (is_told (Refusal.Declaring error))) }
+    ensures text { OnOk result (string_bytes out.new ≡ string_bytes out.old ++ declare_error_text error) }
+    ensures told { OnOk result (IsTrue (is_printed (Refusal.Declaring error))) }
 {
     match error {
         DeclareError::Twice => refuse("Twice", out),
@@ -112,10 +112,10 @@ fn refuse_declaration(error: DeclareError, out: &mut String) -> Result<(), NoMem
     }
 }
 
-/// Appends why a block or a declaration is refused. Want of memory is no line of text: it is handed on.
+/// Appends why a block or a declaration is refused. An out-of-memory error is no line of text: it is handed on.
 pub fn write_refusal(refusal: Refusal, out: &mut String) -> Result<(), NoMemory>
     ensures text { OnOk result (string_bytes out.new ≡ string_bytes out.old ++ refusal_text refusal) }
-    ensures told { OnOk result (IsTrue (is_told refusal)) }
+    ensures told { OnOk result (IsTrue (is_printed refusal)) }
 {
     match refusal {
         Refusal::Parsing(fault) => refuse_parse(fault, out),

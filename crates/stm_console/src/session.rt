@@ -4,8 +4,8 @@ ghost use Rattle.std.specs.Prelude.{◌≡◌, ◌≢◌, ◌++◌, ◌∷◌, [
 ghost use Rattle.std.specs.Io.KnownBytes.{Appends};
 ghost use Rattle.stm_terms.specs.Texts.{IsPrefixOf};
 ghost use Rattle.stm_console.specs.Lines.{drop_return as returnless};
-ghost use Rattle.stm_console.specs.Console.{start, answer_to, state_after};
-ghost use Rattle.stm_console.specs.Continuing.{Continues, NoLineFeed, rest_text};
+ghost use Rattle.stm_console.specs.Console.{initial_console, answer_to, state_after};
+ghost use Rattle.stm_console.specs.Streaming.{Continues, NoLineFeed, rest_text};
 
 use crate::console::Console;
 use crate::output::write_text;
@@ -37,7 +37,7 @@ pub struct Session {
 
 impl Session {
     pub fn new(alloc: Global) -> Session
-        ensures console { result.console ≡ start }
+        ensures console { result.console ≡ initial_console }
         ensures line { result.line.items ≡ [] }
     {
         Session {

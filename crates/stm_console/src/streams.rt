@@ -3,7 +3,7 @@
 ghost use Rattle.std.specs.Prelude.{◌≡◌, [], ◌++◌, ℕ, List, OnOk, OnErr, IfSome, IsErrOf, Some};
 ghost use Rattle.std.specs.Io.KnownBytes.{Appends};
 ghost use Rattle.stm_terms.specs.Texts.{IsPrefixOf};
-ghost use Rattle.stm_console.specs.Console.{start, console_text, whole_lines_text};
+ghost use Rattle.stm_console.specs.Console.{initial_console, console_text, whole_lines_text};
 
 use crate::calls::Calls;
 use crate::output::flush;
@@ -30,7 +30,7 @@ fn run_session<R: Read, W: Write>(
     calls: &mut Calls<R>,
     writer: &mut W,
 ) -> Result<(), RunFault>
-    requires console { session.old.console ≡ start }
+    requires console { session.old.console ≡ initial_console }
     requires line { session.old.line.items ≡ [] }
     ensures same_reader { calls.new.reader.ghost_name ≡ calls.old.reader.ghost_name }
     // The whole text of the input was written.

@@ -1,15 +1,15 @@
 //! `try` and `looks`: a block on the present store.
 
 ghost use Rattle.std.specs.Prelude.{◌≡◌, ◌++◌, Some, string_bytes, OnOk};
-ghost use Rattle.stm_terms.specs.Looks.{reads_of};
+ghost use Rattle.stm_terms.specs.ReadSet.{reads_of};
 ghost use Rattle.stm_terms.specs.Verdict.{verdict};
-ghost use Rattle.stm_terms.specs.Views.{cell_value};
+ghost use Rattle.stm_terms.specs.Changes.{cell_value};
 ghost use Rattle.stm_store.specs.Cells.{Covers, plains};
 ghost use Rattle.stm_store.specs.Tables.{opened};
 ghost use Rattle.stm_console.specs.Commands.{try_answer, looks_answer, verdict_line, reads_line};
 
-use crate::desk::Desk;
-use crate::reading::read_block;
+use crate::block::compile_block;
+use crate::opened::OpenStore;
 use crate::refusal::write_refusal;
 use std::alloc::Global;
 use stm_check::Typed;
@@ -39,7 +39,12 @@ fn write_reads_line(reads: &Reads, out: &mut String) -> Result<(), NoMemory>
 }
 
 /// Appends the verdict of a block on the present store.
-fn write_tried(alloc: Global, desk: &Desk, block: &Typed, out: &mut String) -> Result<(), NoMemory>
+fn write_tried(
+    alloc: Global,
+    desk: &OpenStore,
+    block: &Typed,
+    out: &mut String,
+) -> Result<(), NoMemory>
     requires { Covers (plains desk.now) block.now.uses }
     ensures { OnOk result (string_bytes out.new ≡ string_bytes out.old ++ verdict_line (verdict (cell_value (plains desk.now)) block.now.tree)) }
 {
@@ -48,7 +53,12 @@ fn write_tried(alloc: Global, desk: &Desk, block: &Typed, out: &mut String) -> R
 }
 
 /// Appends what a block reads on the present store.
-fn write_looked(alloc: Global, desk: &Desk, block: &Typed, out: &mut String) -> Result<(), NoMemory>
+fn write_looked(
+    alloc: Global,
+    desk: &OpenStore,
+    block: &Typed,
+    out: &mut String,
+) -> Result<(), NoMemory>
     requires { Covers (plains desk.now) block.now.uses }
     ensures { OnOk result (string_bytes out.new ≡ string_bytes out.old ++ reads_line (reads_of (cell_value (plains desk.now)) block.now.tree)) }
 {
@@ -61,14 +71,14 @@ fn write_looked(alloc: Global, desk: &Desk, block: &Typed, out: &mut String) -> 
 pub fn answer_try(
     alloc: Global,
     table: &Table,
-    desk: &Desk,
+    desk: &OpenStore,
     text: &str,
     out: &mut String,
 ) -> Result<(), NoMemory>
     requires { desk.now ≡ opened table.now }
     ensures { OnOk result (string_bytes out.new ≡ string_bytes out.old ++ try_answer (record { declared = table.now; store = Some desk.now }) text.now) }
 {
-    match read_block(alloc, table, text) {
+    match compile_block(alloc, table, text) {
         Ok(block) => write_tried(alloc, desk, &block, out),
         Err(refusal) => write_refusal(refusal, out),
     }
@@ -79,14 +89,14 @@ pub fn answer_try(
 pub fn answer_looks(
     alloc: Global,
     table: &Table,
-    desk: &Desk,
+    desk: &OpenStore,
     text: &str,
     out: &mut String,
 ) -> Result<(), NoMemory>
     requires { desk.now ≡ opened table.now }
     ensures { OnOk result (string_bytes out.new ≡ string_bytes out.old ++ looks_answer (record { declared = table.now; store = Some desk.now }) text.now) }
 {
-    match read_block(alloc, table, text) {
+    match compile_block(alloc, table, text) {
         Ok(block) => write_looked(alloc, desk, &block, out),
         Err(refusal) => write_refusal(refusal, out),
     }

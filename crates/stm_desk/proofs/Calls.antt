@@ -6,19 +6,19 @@ use Rattle.stm_terms.specs.declared.values.Value.{Value}
 use Rattle.stm_terms.specs.declared.verdicts.Verdict.{Verdict}
 use Rattle.stm_store.specs.declared.cell.Cell.{Cell}
 use Rattle.stm_store.specs.Tables.{Declared}
-use Rattle.stm_check.specs.Blocks.{Block}
+use Rattle.stm_check.specs.TypedBlock.{Block}
 use Rattle.stm_eval.specs.declared.message.Evaluated.{Evaluated}
-use Rattle.stm_eval.specs.Told.{told_ticket, told_block, told_reads}
+use Rattle.stm_eval.specs.EvaluatedFields.{message_ticket, message_block, message_reads}
 use Rattle.stm_history.specs.declared.errors.DeliverError.TheVariants as deliver
 use Rattle.stm_history.specs.declared.errors.FinishError.TheVariants as finish
 use Rattle.stm_history.specs.declared.event.Event.{Event}
 use Rattle.stm_history.specs.declared.event.What.{What}
-use Rattle.stm_history.specs.SlowDesk.{Waiter, Slow, is_new, is_current, verdict_on, waiter, state, max_events, max_clients}
+use Rattle.stm_history.specs.SlowDesk.{Waiter, Slow, is_new, is_current, verdict_on, find_waiter, state, max_events, max_clients}
 use Rattle.stm_history.specs.Machine.{Parts, StandsFor, MovesTo, CanWait, CanInstall, CanFinish, CanLeave, event}
 use Rattle.stm_history.specs.Plans.{IsPlan}
 use Rattle.stm_history.specs.Refusals.{submit_first, submit_refused, cancel_first, cancel_refused, blocks_there, overflows, finish_first, finish_refused, overtaken_first, install_first, DeliverTold, TellsDelivery as Tells}
 use Rattle.stm_desk.specs.Seen.{Seen, is_full}
-use Rattle.stm_desk.specs.Kept.{IsKept}
+use Rattle.stm_desk.specs.Kept.{DeskInvariant}
 
 -- ---- a call that nothing refuses has room in the history
 submit_room : (m : Option ℕ) (many full : Bool) → None ≡ submit_first m many full → full ≡ false
@@ -56,7 +56,7 @@ install_room store full (Some w) block reads d s = install_by (is_current w) _ f
 fits_in : (limit n : ℕ) → nat_le limit n ≡ false → n < limit
 fits_in limit n e = grind (arith, nat_tests)
 
-module _ (table : List Declared) (limit : ℕ) (history : List Event) (m : Parts) (k : IsKept table limit history m) where
+module _ (table : List Declared) (limit : ℕ) (history : List Event) (m : Parts) (k : DeskInvariant table limit history m) where
   abbrev full : Bool
   full = nat_le limit (length history)
 
@@ -75,22 +75,22 @@ module _ (table : List Declared) (limit : ℕ) (history : List Event) (m : Parts
 
   pub can_finish : (t : ℕ) (v : Verdict) (n : ℕ) (stale : List ℕ) → None ≡ finish_refused (state table history) full t → IsPlan (state table history) t v n stale → CanFinish table history m t v n stale
   can_finish t v n stale e p =
-      let r : full ≡ false = finish_room (state table history).store full (waiter t (state table history).waiters) e in
+      let r : full ≡ false = finish_room (state table history).store full (find_waiter t (state table history).waiters) e in
       record { stands = k.stands; room = has_room r; allowed = sym (e ∙ ap (λ (b : Bool). finish_refused (state table history) b t) r); plan = p }
 
-  pub can_install : (message : Evaluated) → Tells None (state table history) full (told_ticket message) (told_block message) (told_reads message)
-      → IsSomeAnd (waiter (told_ticket message) (state table history).waiters) (λ w. w.block.tree ≡ (told_block message).tree) → CanInstall table history m message
+  pub can_install : (message : Evaluated) → Tells None (state table history) full (message_ticket message) (message_block message) (message_reads message)
+      → IsSomeAnd (find_waiter (message_ticket message) (state table history).waiters) (λ w. w.block.tree ≡ (message_block message).tree) → CanInstall table history m message
   can_install message e s =
       let r : full ≡ false = install_room _ full _ _ _ e s in
       record {
         stands = k.stands;
         room = has_room r;
-        allowed = subst (λ (b : Bool). Tells None (state table history) b (told_ticket message) (told_block message) (told_reads message)) r e;
+        allowed = subst (λ (b : Bool). Tells None (state table history) b (message_ticket message) (message_block message) (message_reads message)) r e;
         same = s;
       }
 
   -- the machine moved, and the history has the event more
-  pub kept_move : (client : ℕ) (what : What) (new : Parts) → client < max_clients → full ≡ false → MovesTo table history what new → IsKept table limit (history ++ event client what ∷ []) new
+  pub kept_move : (client : ℕ) (what : What) (new : Parts) → client < max_clients → full ≡ false → MovesTo table history what new → DeskInvariant table limit (history ++ event client what ∷ []) new
   kept_move client what new low e move = record {
     stands = move client low;
     few = let a : length history < limit = fits_in limit (length history) e in omega (arith, length-append history (event client what ∷ []));
@@ -98,7 +98,7 @@ module _ (table : List Declared) (limit : ℕ) (history : List Event) (m : Parts
   }
 
   -- the machine stands for what it stood for
-  pub kept_still : (new : Parts) → (StandsFor table history m → StandsFor table history new) → IsKept table limit history new
+  pub kept_still : (new : Parts) → (StandsFor table history m → StandsFor table history new) → DeskInvariant table limit history new
   kept_still new f = record { stands = f k.stands; few = k.few; small = k.small }
 
   pub submit_full : (block : Block) → None ≡ submit_refused (state table history) full block → full ≡ false
@@ -108,8 +108,8 @@ module _ (table : List Declared) (limit : ℕ) (history : List Event) (m : Parts
   cancel_full t e = cancel_room _ full e
 
   pub finish_full : (t : ℕ) → None ≡ finish_refused (state table history) full t → full ≡ false
-  finish_full t e = finish_room (state table history).store full (waiter t (state table history).waiters) e
+  finish_full t e = finish_room (state table history).store full (find_waiter t (state table history).waiters) e
 
-  pub install_full : (message : Evaluated) → Tells None (state table history) full (told_ticket message) (told_block message) (told_reads message)
-      → IsSomeAnd (waiter (told_ticket message) (state table history).waiters) (λ w. w.block.tree ≡ (told_block message).tree) → full ≡ false
+  pub install_full : (message : Evaluated) → Tells None (state table history) full (message_ticket message) (message_block message) (message_reads message)
+      → IsSomeAnd (find_waiter (message_ticket message) (state table history).waiters) (λ w. w.block.tree ≡ (message_block message).tree) → full ≡ false
   install_full message e s = install_room _ full _ _ _ e s

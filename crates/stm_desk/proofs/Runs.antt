@@ -4,15 +4,15 @@ use Rattle.std.specs.Prelude.{nat_eq, is_some, IsSomeAnd, nat_le, option_map}
 use Rattle.std.proofs.lemmas.List.Elements.{filter-append}
 use Rattle.std.proofs.lemmas.Bool.Decides.{nat_tests}
 use Rattle.stm_terms.specs.declared.verdicts.Verdict.{Verdict}
-use Rattle.stm_terms.specs.Looks.{reads_of}
+use Rattle.stm_terms.specs.ReadSet.{reads_of}
 use Rattle.stm_store.specs.declared.cell.Cell.{Cell}
 use Rattle.stm_store.specs.Cells.{made_by}
 use Rattle.stm_eval.specs.declared.message.Evaluated.{Evaluated}
-use Rattle.stm_eval.specs.Told.{told_ticket, told_block, told_reads, told_verdict}
+use Rattle.stm_eval.specs.EvaluatedFields.{message_ticket, message_block, message_reads, message_verdict}
 use Rattle.stm_history.specs.declared.event.Event.{Event}
 use Rattle.stm_history.specs.declared.event.What.{What}
 use Rattle.stm_history.specs.declared.event.What.TheVariants.{Submitted, Installed, Finished, Cancelled}
-use Rattle.stm_history.specs.SlowDesk.{Since, Waiter, Slow, MayFinish, under, verdict_on, written_in, is_blocks, is_new_since, is_new, current_since, is_current, waiter, without, stale_after, after, start, state_from, IsLegal, max_cells}
+use Rattle.stm_history.specs.SlowDesk.{Since, Waiter, Slow, MayFinish, under, verdict_on, written_in, is_blocks, is_new_since, is_new, current_since, is_current, find_waiter, without_waiter, stale_after, after, initial_state, state_from, IsLegal, max_cells}
 use Rattle.stm_history.specs.SlowSettle.{lowest, is_due, ends, can_end, installing, ending, next_of, next_what, has_cells, settle_on, settling, Stop, NoRoom, NoCells, stop_on, settle_stop, is_finish, is_install, finishes, installs}
 use Rattle.stm_history.specs.Laws.{AreRising}
 use Rattle.stm_history.proofs.Folds.{state-push, IsLegalPush, legal_split}
@@ -23,12 +23,12 @@ use Rattle.stm_history.specs.declared.errors.DeliverError.{DeliverError}
 use Rattle.stm_history.specs.declared.errors.DeliverError.TheVariants as deliver
 use Rattle.stm_history.specs.declared.errors.FinishError.{FinishError}
 use Rattle.stm_history.specs.declared.errors.FinishError.TheVariants as finish
-use Rattle.stm_history.specs.Choices.{some_out, next_due, next_end}
+use Rattle.stm_history.specs.SettleChoices.{some_out, next_due, next_end}
 use Rattle.stm_history.specs.Machine.{event}
 use Rattle.stm_history.specs.Refusals.{differing, overtaken_first, install_first, deliver_error, blocks_there, overflows, finish_first, finish_told}
 use Rattle.stm_history.proofs.Heads.{lowest_waits, lowest_holds}
 use Rattle.stm_desk.specs.Seen.{Seen, now, with_event, is_full}
-use Rattle.stm_desk.specs.Refusals.{TellsDelivery, finish_refusal, left_by}
+use Rattle.stm_desk.specs.Refusals.{TellsDeskDelivery, finish_refusal, left_by}
 use Rattle.stm_desk.specs.Settling.{slow_settle, slow_stop, with_whats, called_back, HasSettled, HasBegun, IsFull, IsCrowded, StopTold, AllBlock}
 use Rattle.stm_desk.specs.Steps.{IsDueMessage, IsNextEvent, WhyTold, StopsDelivery, delivery_why, StopsFinish, finish_why}
 use Rattle.stm_desk.proofs.Settles.{out_after, out_recalled, reads_differ_nowhere}
@@ -82,13 +82,13 @@ count_more p xs ys = rw filter-append (length-append (filter p xs) (filter p ys)
 
 next_left : (client : ℕ) (d new : Seen) (x : What) → next_what (now d) ≡ Some x → has_cells (now d) x ≡ true → length d.history < d.limit → new ≡ with_event d (event client x) → x ∷ slow_settle new ≡ slow_settle d
 next_left client d new x n h room e =
-    let p : state_from (start d.table) (d.history ++ event client x ∷ []) ≡ after (now d) x = state-push (start d.table) d.history (event client x) in
+    let p : state_from (initial_state d.table) (d.history ++ event client x ∷ []) ≡ after (now d) x = state-push (initial_state d.table) d.history (event client x) in
     let left : d.limit - length d.history ≡ suc (d.limit - length (d.history ++ event client x ∷ [])) = omega (arith, length-append d.history (event client x ∷ [])) in
     sym (rw e (settling_more _ _ (now d) x left n h ∙ ap (λ (s : Slow). x ∷ settling (d.limit - length (d.history ++ event client x ∷ [])) s) (sym p)))
 
 stop_left : (client : ℕ) (d new : Seen) (x : What) → next_what (now d) ≡ Some x → has_cells (now d) x ≡ true → length d.history < d.limit → new ≡ with_event d (event client x) → slow_stop new ≡ slow_stop d
 stop_left client d new x n h room e =
-    let p : state_from (start d.table) (d.history ++ event client x ∷ []) ≡ after (now d) x = state-push (start d.table) d.history (event client x) in
+    let p : state_from (initial_state d.table) (d.history ++ event client x ∷ []) ≡ after (now d) x = state-push (initial_state d.table) d.history (event client x) in
     let left : d.limit - length d.history ≡ suc (d.limit - length (d.history ++ event client x ∷ [])) = omega (arith, length-append d.history (event client x ∷ [])) in
     rw e (ap (settle_stop (d.limit - length (d.history ++ event client x ∷ []))) p ∙ sym (stopping_more _ _ (now d) x left n h))
 
@@ -132,9 +132,11 @@ stop_told client f e old new HistoryFull b w =
     let none : new.limit - length new.history ≡ 0 = omega arith in
     (all_done client f e old new (Some NoRoom) b (settling_full (new.limit - length new.history) (now new) none) (stopping_full (new.limit - length new.history) (now new) none w.left), w)
 stop_told client f e old new CellsFull b w =
-    let some : 0 < new.limit - length new.history = (let r = w.room in omega arith) in
-    (all_done client f e old new (Some NoCells) b (settling_crowded (new.limit - length new.history) (now new) w.what w.left w.crowded)
-        (stopping_crowded (new.limit - length new.history) (now new) w.what some w.left w.crowded), w)
+    let some : 0 < new.limit - length new.history = (let r = w.room in omega arith) in (
+      all_done client f e old new (Some NoCells) b (settling_crowded (new.limit - length new.history) (now new) w.what w.left w.crowded)
+          (stopping_crowded (new.limit - length new.history) (now new) w.what some w.left w.crowded),
+      w,
+    )
 stop_told client f e old new NoMemory b w = b
 
 -- the counts fit
@@ -205,12 +207,12 @@ block_step true store w one o d e more f =
     subst (λ (x : Waiter). (is_current x ≡ true) × (ends (verdict_on store x.block) ≡ false)) i (unnot (is_current w) d, e)
 block_step false store w one o d e more f = more f
 
-block_each : (store : List Cell) (ws : List Waiter) (t : ℕ) (one : Waiter) → lowest is_due ws ≡ None → lowest (can_end store) ws ≡ None → waiter t ws ≡ Some one → (is_current one ≡ true) × (ends (verdict_on store one.block) ≡ false)
+block_each : (store : List Cell) (ws : List Waiter) (t : ℕ) (one : Waiter) → lowest is_due ws ≡ None → lowest (can_end store) ws ≡ None → find_waiter t ws ≡ Some one → (is_current one ≡ true) × (ends (verdict_on store one.block) ≡ false)
 block_each store [] t one d e f = cc
 block_each store (w ∷ ws) t one d e f =
     let a = not_found is_due (is_due w) w (lowest is_due ws) refl d in
     let b = not_found (can_end store) (can_end store w) w (lowest (can_end store) ws) refl e in
-    block_step (nat_eq t w.ticket) store w one (waiter t ws) a.0 b.0 (block_each store ws t one a.1 b.1) f
+    block_step (nat_eq t w.ticket) store w one (find_waiter t ws) a.0 b.0 (block_each store ws t one a.1 b.1) f
 
 pub all_block : (s : Slow) → lowest is_due s.waiters ≡ None → lowest (can_end s.store) s.waiters ≡ None → AllBlock s
 all_block s d e = λ t w f. block_each s.store s.waiters t w d e f

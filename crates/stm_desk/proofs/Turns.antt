@@ -4,15 +4,15 @@ use Rattle.std.specs.Prelude.{is_some, IsSomeAnd, nat_le, option_map}
 use Rattle.std.proofs.lemmas.List.Elements.{filter-append}
 use Rattle.std.proofs.lemmas.Bool.Decides.{nat_tests}
 use Rattle.stm_terms.specs.declared.verdicts.Verdict.{Verdict}
-use Rattle.stm_terms.specs.Looks.{reads_of}
+use Rattle.stm_terms.specs.ReadSet.{reads_of}
 use Rattle.stm_store.specs.declared.cell.Cell.{Cell}
 use Rattle.stm_store.specs.Cells.{made_by}
 use Rattle.stm_eval.specs.declared.message.Evaluated.{Evaluated}
-use Rattle.stm_eval.specs.Told.{told_ticket, told_block, told_reads, told_verdict}
+use Rattle.stm_eval.specs.EvaluatedFields.{message_ticket, message_block, message_reads, message_verdict}
 use Rattle.stm_history.specs.declared.event.Event.{Event}
 use Rattle.stm_history.specs.declared.event.What.{What}
 use Rattle.stm_history.specs.declared.event.What.TheVariants.{Submitted, Installed, Finished, Cancelled}
-use Rattle.stm_history.specs.SlowDesk.{Since, Waiter, Slow, MayFinish, under, verdict_on, written_in, is_blocks, is_new_since, is_new, current_since, is_current, waiter, without, stale_after, after, start, state_from, IsLegal, max_cells}
+use Rattle.stm_history.specs.SlowDesk.{Since, Waiter, Slow, MayFinish, under, verdict_on, written_in, is_blocks, is_new_since, is_new, current_since, is_current, find_waiter, without_waiter, stale_after, after, initial_state, state_from, IsLegal, max_cells}
 use Rattle.stm_history.specs.SlowSettle.{lowest, is_due, ends, can_end, installing, ending, next_of, next_what, has_cells, settle_on, settling, is_finish, is_install, finishes, installs}
 use Rattle.stm_history.specs.Laws.{AreRising}
 use Rattle.stm_history.proofs.Folds.{state-push, IsLegalPush, legal_split}
@@ -23,12 +23,12 @@ use Rattle.stm_history.specs.declared.errors.DeliverError.{DeliverError}
 use Rattle.stm_history.specs.declared.errors.DeliverError.TheVariants as deliver
 use Rattle.stm_history.specs.declared.errors.FinishError.{FinishError}
 use Rattle.stm_history.specs.declared.errors.FinishError.TheVariants as finish
-use Rattle.stm_history.specs.Choices.{some_out, next_due, next_end}
+use Rattle.stm_history.specs.SettleChoices.{some_out, next_due, next_end}
 use Rattle.stm_history.specs.Machine.{event}
 use Rattle.stm_history.specs.Refusals.{differing, overtaken_first, install_first, deliver_error, blocks_there, overflows, finish_first, finish_told}
 use Rattle.stm_history.proofs.Heads.{lowest_waits, lowest_holds}
 use Rattle.stm_desk.specs.Seen.{Seen, now, with_event, is_full}
-use Rattle.stm_desk.specs.Refusals.{TellsDelivery, finish_refusal, left_by}
+use Rattle.stm_desk.specs.Refusals.{TellsDeskDelivery, finish_refusal, left_by}
 use Rattle.stm_desk.specs.Settling.{slow_settle, with_whats, called_back, HasSettled, HasBegun, IsFull, IsCrowded, StopTold, AllBlock}
 use Rattle.stm_desk.specs.Steps.{IsDueMessage, IsNextEvent, WhyTold, StopsDelivery, delivery_why, StopsFinish, finish_why}
 use Rattle.stm_desk.proofs.Settles.{out_after, out_recalled, reads_differ_nowhere}
@@ -55,7 +55,7 @@ none_at p s h = by (lowest p s.waiters) h where
 pub rising_now : (d : Seen) → IsLegal d.table d.history → AreRising (now d).next 0 (now d).waiters
 rising_now d l = rising_state d.table d.history l
 
-pub found_waits : (p : Waiter → Bool) (d : Seen) (one : Waiter) → IsLegal d.table d.history → lowest p (now d).waiters ≡ Some one → waiter one.ticket (now d).waiters ≡ Some one
+pub found_waits : (p : Waiter → Bool) (d : Seen) (one : Waiter) → IsLegal d.table d.history → lowest p (now d).waiters ≡ Some one → find_waiter one.ticket (now d).waiters ≡ Some one
 found_waits p d one l f = lowest_waits p _ 0 (now d).waiters one (rising_now d l) f
 
 unnot : (b : Bool) → not b ≡ true → b ≡ false
@@ -73,20 +73,20 @@ full_of : (d : Seen) → length d.history ≤ d.limit → is_full d ≡ true →
 full_of d l e = let g : d.limit ≤ length d.history = grind (arith, nat_tests) in omega arith
 
 -- ---- a delivery
--- what a message of settling is told
+-- what a message of settling is reported
 due_told : (d : Seen) (t : ℕ) (m : Evaluated) (told : Option DeliverError) → IsLegal d.table d.history → IsDueMessage (now d) t m
-    → TellsDelivery told d (told_ticket m) (told_block m) (told_reads m) → told ≡ (cond (is_full d) (Some deliver.HistoryFull) None)
+    → TellsDeskDelivery told d (message_ticket m) (message_block m) (message_reads m) → told ≡ (cond (is_full d) (Some deliver.HistoryFull) None)
 due_told d t m told l f h =
     let s = now d in
-    let w : waiter (told_ticket m) s.waiters ≡ Some f.one = ap (λ (u : ℕ). waiter u s.waiters) f.ticket ∙ found_waits is_due d f.one l f.first in
+    let w : find_waiter (message_ticket m) s.waiters ≡ Some f.one = ap (λ (u : ℕ). find_waiter u s.waiters) f.ticket ∙ found_waits is_due d f.one l f.first in
     let g = rw w at h in
-    let tree : f.one.block.tree ≡ (told_block m).tree = ap (λ b. b.tree) (sym f.block) in
-    let a : told ≡ install_first s.store (is_full d) f.one (told_reads m) = g.1 tree in
+    let tree : f.one.block.tree ≡ (message_block m).tree = ap (λ b. b.tree) (sym f.block) in
+    let a : told ≡ install_first s.store (is_full d) f.one (message_reads m) = g.1 tree in
     let c : is_current f.one ≡ false = unnot (is_current f.one) (lowest_holds is_due s.waiters f.one f.first) in
-    let n : differing (under s.store) (told_reads m) ≡ None = ap (differing (under s.store)) f.reads ∙ reads_differ_nowhere (under s.store) f.one.block.tree in
+    let n : differing (under s.store) (message_reads m) ≡ None = ap (differing (under s.store)) f.reads ∙ reads_differ_nowhere (under s.store) f.one.block.tree in
     a ∙ rw (c, n) refl
 
-due_next : (d : Seen) (t : ℕ) (m : Evaluated) → IsDueMessage (now d) t m → next_what (now d) ≡ Some (Installed (told_ticket m) (told_verdict m))
+due_next : (d : Seen) (t : ℕ) (m : Evaluated) → IsDueMessage (now d) t m → next_what (now d) ≡ Some (Installed (message_ticket m) (message_verdict m))
 due_next d t m f = rw (f.first, f.verdict, f.ticket) refl
 
 is_full_by : (b : Bool) → None ≡ cond b (Some deliver.HistoryFull) None → b ≡ false
@@ -94,9 +94,9 @@ is_full_by true h = cc
 is_full_by false h = refl
 
 pub next_install : (d new : Seen) (client t : ℕ) (m : Evaluated) → IsLegal d.table d.history → IsDueMessage (now d) t m
-    → new ≡ with_event d (event client (Installed (told_ticket m) (told_verdict m))) → TellsDelivery None d (told_ticket m) (told_block m) (told_reads m) → IsNextEvent client 0 1 d new
+    → new ≡ with_event d (event client (Installed (message_ticket m) (message_verdict m))) → TellsDeskDelivery None d (message_ticket m) (message_block m) (message_reads m) → IsNextEvent client 0 1 d new
 next_install d new client t m l f e h = record {
-  what = Installed (told_ticket m) (told_verdict m);
+  what = Installed (message_ticket m) (message_verdict m);
   next = due_next d t m f;
   fits = refl;
   grown = e;
@@ -118,7 +118,7 @@ stops_by b deliver.HistoryFull h = tt
 stops_by b deliver.NoMemory h = tt
 
 pub stops_delivery : (d : Seen) (t : ℕ) (m : Evaluated) (e : DeliverError) → IsLegal d.table d.history → IsDueMessage (now d) t m
-    → TellsDelivery (deliver_error e) d (told_ticket m) (told_block m) (told_reads m) → StopsDelivery e
+    → TellsDeskDelivery (deliver_error e) d (message_ticket m) (message_block m) (message_reads m) → StopsDelivery e
 stops_delivery d t m e l f h = stops_by (is_full d) e (due_told d t m (deliver_error e) l f h)
 
 why_by : (d : Seen) (b : Bool) (e : DeliverError) → is_full d ≡ b → is_some (next_what (now d)) ≡ true → length d.history ≤ d.limit → StopsDelivery e → deliver_error e ≡ cond b (Some deliver.HistoryFull) None → WhyTold (delivery_why e) d
@@ -131,7 +131,7 @@ why_by d false deliver.HistoryFull q n k s h = cc
 why_by d b deliver.NoMemory q n k s h = tt
 
 pub why_delivery : (d : Seen) (t : ℕ) (m : Evaluated) (e : DeliverError) → IsLegal d.table d.history → length d.history ≤ d.limit → IsDueMessage (now d) t m
-    → TellsDelivery (deliver_error e) d (told_ticket m) (told_block m) (told_reads m) → WhyTold (delivery_why e) d
+    → TellsDeskDelivery (deliver_error e) d (message_ticket m) (message_block m) (message_reads m) → WhyTold (delivery_why e) d
 why_delivery d t m e l k f h =
     let g = due_told d t m (deliver_error e) l f h in
     why_by d (is_full d) e refl (ap is_some (due_next d t m f)) k (stops_by (is_full d) e g) g
@@ -146,7 +146,7 @@ left_same d t deliver.NoMemory s = refl
 
 -- the store stays
 pub store_install : (d new : Seen) (client t : ℕ) (v : Verdict) → new ≡ with_event d (event client (Installed t v)) → (now new).store ≡ (now d).store
-store_install d new client t v e = ap (λ (x : Seen). (now x).store) e ∙ ap (λ (s : Slow). s.store) (state-push (start d.table) d.history (event client (Installed t v)))
+store_install d new client t v e = ap (λ (x : Seen). (now x).store) e ∙ ap (λ (s : Slow). s.store) (state-push (initial_state d.table) d.history (event client (Installed t v)))
 
 -- ---- a finish
 pub record Ends (d : Seen) (t : ℕ) : Type 0 where
@@ -154,7 +154,7 @@ pub record Ends (d : Seen) (t : ℕ) : Type 0 where
   pub none : lowest is_due (now d).waiters ≡ None
   pub first : lowest (can_end (now d).store) (now d).waiters ≡ Some one
   pub ticket : one.ticket ≡ t
-  pub waits : waiter t (now d).waiters ≡ Some one
+  pub waits : find_waiter t (now d).waiters ≡ Some one
   pub current : is_current one ≡ true
   pub verdict : Verdict
   pub verdict_is : verdict_on (now d).store one.block ≡ Some verdict
@@ -168,11 +168,11 @@ first_none : (b : Bool) (w : Waiter) (o : Option Waiter) → cond b (Some w) o �
 first_none true w o e = cc
 first_none false w o e = (refl, e)
 
-pub all_current : (ws : List Waiter) (t : ℕ) (one : Waiter) → lowest is_due ws ≡ None → waiter t ws ≡ Some one → is_current one ≡ true
+pub all_current : (ws : List Waiter) (t : ℕ) (one : Waiter) → lowest is_due ws ≡ None → find_waiter t ws ≡ Some one → is_current one ≡ true
 all_current [] t one n f = cc
 all_current (w ∷ ws) t one n f =
     let a = first_none (is_due w) w (lowest is_due ws) n in
-    step _ (waiter t ws) (unnot_false (is_current w) a.0) (all_current ws t one a.1) f where
+    step _ (find_waiter t ws) (unnot_false (is_current w) a.0) (all_current ws t one a.1) f where
       step : (c : Bool) (o : Option Waiter) → is_current w ≡ true → (o ≡ Some one → is_current one ≡ true) → cond c (Some w) o ≡ Some one → is_current one ≡ true
       step true o e more g = let q : w ≡ one = cc in subst (λ (x : Waiter). is_current x ≡ true) q e
       step false o e more g = more g
@@ -182,7 +182,7 @@ ends_at d t l n e =
     let s = now d in
     let f = found_at (can_end s.store) s t e in
     let none : lowest is_due s.waiters ≡ None = none_at is_due s n in
-    let w : waiter t s.waiters ≡ Some f.one = subst (λ (u : ℕ). waiter u s.waiters ≡ Some f.one) f.ticket (found_waits (can_end s.store) d f.one l f.first) in
+    let w : find_waiter t s.waiters ≡ Some f.one = subst (λ (u : ℕ). find_waiter u s.waiters ≡ Some f.one) f.ticket (found_waits (can_end s.store) d f.one l f.first) in
     let v = verdict_by (verdict_on s.store f.one.block) (lowest_holds (can_end s.store) s.waiters f.one f.first) in
     record { one = f.one; none = none; first = f.first; ticket = f.ticket; waits = w; current = all_current s.waiters t f.one none w; verdict = v.0; verdict_is = v.1; ends = v.2 }
 
@@ -200,7 +200,7 @@ end_told d t f =
     let b : is_new f.one ≡ false = old_by f.one f.current in
     rw (f.waits, b, f.current, f.verdict_is, f.ends) refl
 
-end_next : (d : Seen) (t : ℕ) → (f : Ends d t) → next_what (now d) ≡ Some (Finished t f.verdict (length (now d).store) (stale_after (written_in f.verdict) (without t (now d).waiters)))
+end_next : (d : Seen) (t : ℕ) → (f : Ends d t) → next_what (now d) ≡ Some (Finished t f.verdict (length (now d).store) (stale_after (written_in f.verdict) (without_waiter t (now d).waiters)))
 end_next d t f = rw (f.none, f.first, f.verdict_is, f.ticket) refl
 
 not_full_by : (a b : Bool) → None ≡ last_refusal a b → a ≡ false
@@ -221,7 +221,7 @@ pub next_finish : (d new : Seen) (client t : ℕ) (v : Verdict) (n : ℕ) (stale
 next_finish d new client t v n stale l none some e m told =
     let s = now d in
     let f = ends_at d t l none some in
-    let p = legal_split (start d.table) d.history (event client (Finished t v n stale)) (subst (λ (x : Seen). IsLegal x.table x.history) e m).each in
+    let p = legal_split (initial_state d.table) d.history (event client (Finished t v n stale)) (subst (λ (x : Seen). IsLegal x.table x.history) e m).each in
     let a : MayFinish s t f.one v n stale = (let q = p.allowed.what in rw f.waits at q) in
     let q : f.verdict ≡ v = same_verdict f.verdict v (sym f.verdict_is ∙ a.verdict_is) in
     let g : next_what s ≡ Some (Finished t v n stale) = end_next d t f ∙ rw (a.first_new, a.listed, q) refl in
@@ -266,7 +266,7 @@ why_finish_by d t false true finish.HistoryFull f p q k s h = cc
 why_finish_by d t false false finish.HistoryFull f p q k s h = cc
 why_finish_by d t true b finish.CellsFull f p q k s h = cc
 why_finish_by d t false true finish.CellsFull f p q k s h = record {
-  what = Finished t f.verdict (length (now d).store) (stale_after (written_in f.verdict) (without t (now d).waiters));
+  what = Finished t f.verdict (length (now d).store) (stale_after (written_in f.verdict) (without_waiter t (now d).waiters));
   left = end_next d t f;
   room = room_of d p;
   crowded = unnot _ q;

@@ -2,7 +2,6 @@
 pub mod Refusals
 pub mod Seen
 pub mod Settling
-
 -- The words inside.
 pub mod Kept
 pub mod Steps

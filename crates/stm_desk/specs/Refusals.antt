@@ -1,7 +1,7 @@
--- Which refusal a call on a desk tells: the first one whose condition holds; want of memory is told only where none holds.
+-- Which refusal a call on a desk tells: the first one whose condition holds; an out-of-memory error is reported only where none holds.
 use Rattle.std.specs.Prelude.{ℕ, List, Option}
 use Rattle.stm_terms.specs.declared.values.Value.{Value}
-use Rattle.stm_check.specs.Blocks.{Block}
+use Rattle.stm_check.specs.TypedBlock.{Block}
 use Rattle.stm_history.specs.declared.errors.SubmitError.{SubmitError}
 use Rattle.stm_history.specs.declared.errors.CancelError.{CancelError}
 use Rattle.stm_history.specs.declared.errors.DeliverError.{DeliverError}
@@ -20,8 +20,8 @@ abbrev pub finish_refusal : Seen → ℕ → Option FinishError
 finish_refusal d t = finish_refused (now d) (is_full d) t
 
 -- a message's delivery
-abbrev pub TellsDelivery : Option DeliverError → Seen → ℕ → Block → List (ℕ × Value) → Type 0
-TellsDelivery told d t block reads = Tells told (now d) (is_full d) t block reads
+abbrev pub TellsDeskDelivery : Option DeliverError → Seen → ℕ → Block → List (ℕ × Value) → Type 0
+TellsDeskDelivery told d t block reads = Tells told (now d) (is_full d) t block reads
 
 -- the desk after a refused message: a ticket that was overtaken is queued
 abbrev pub left_by : DeliverError → ℕ → Seen → Seen

@@ -5,8 +5,8 @@ use Rattle.stm_queue.specs.Queue.{Entry, has_ticket, with_ticket, without_ticket
 use Rattle.stm_history.specs.declared.event.Event.{Event}
 use Rattle.stm_history.specs.declared.event.What.{What}
 use Rattle.stm_history.specs.declared.event.What.TheVariants.{Submitted, Installed, Finished, Cancelled}
-use Rattle.stm_history.specs.SlowDesk.{Slow, waiter, state}
-use Rattle.stm_history.specs.Marks.{due_of, with_tickets}
+use Rattle.stm_history.specs.SlowDesk.{Slow, find_waiter, state}
+use Rattle.stm_history.specs.QueueAndIndex.{due_of, with_tickets}
 
 -- the table that it was opened on, how many events it takes, its history, and the tickets that are queued or out
 pub record Seen : Type 0 where
@@ -35,5 +35,5 @@ abbrev pub is_full : Seen → Bool
 is_full d = nat_le d.limit (length d.history)
 
 -- each ticket of a new or stale block is queued or out, and no other is
-abbrev pub QueueIsRight : Seen → Type 0
-QueueIsRight d = (t : ℕ) → has_ticket t d.pending ≡ due_of (waiter t (now d).waiters)
+abbrev pub DeskQueueIsRight : Seen → Type 0
+DeskQueueIsRight d = (t : ℕ) → has_ticket t d.pending ≡ due_of (find_waiter t (now d).waiters)

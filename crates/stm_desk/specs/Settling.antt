@@ -2,7 +2,7 @@
 use Rattle.std.specs.Prelude.{◌≡◌, ℕ, ◌<◌, ◌-◌, true, false, List, [], ◌∷◌, ◌++◌, length, Option, Some, None, is_some}
 use Rattle.stm_queue.specs.Queue.{recalled}
 use Rattle.stm_history.specs.declared.event.What.{What}
-use Rattle.stm_history.specs.SlowDesk.{Waiter, Slow, is_current, verdict_on, waiter}
+use Rattle.stm_history.specs.SlowDesk.{Waiter, Slow, is_current, verdict_on, find_waiter}
 use Rattle.stm_history.specs.SlowSettle.{next_what, has_cells, settling, Stop, NoRoom, NoCells, settle_stop, finishes, installs, ends}
 use Rattle.stm_history.specs.Machine.{event}
 use Rattle.stm_desk.specs.declared.errors.SettleWhy.{SettleWhy}
@@ -66,4 +66,4 @@ StopTold NoMemory client old new f e = HasBegun client old new f e
 
 -- each waiting block is current and blocks on the present store
 abbrev pub AllBlock : Slow → Type 0
-AllBlock s = (t : ℕ) (w : Waiter) → waiter t s.waiters ≡ Some w → (is_current w ≡ true) × (ends (verdict_on s.store w.block) ≡ false)
+AllBlock s = (t : ℕ) (w : Waiter) → find_waiter t s.waiters ≡ Some w → (is_current w ≡ true) × (ends (verdict_on s.store w.block) ≡ false)

@@ -1,8 +1,8 @@
 -- One step of settling, and why it can't be made.
 use Rattle.std.specs.Prelude.{◌≡◌, ℕ, ◌<◌, true, [], ◌∷◌, length, Some}
-use Rattle.stm_terms.specs.Looks.{reads_of}
+use Rattle.stm_terms.specs.ReadSet.{reads_of}
 use Rattle.stm_eval.specs.declared.message.Evaluated.{Evaluated}
-use Rattle.stm_eval.specs.Told.{told_ticket, told_block, told_reads, told_verdict}
+use Rattle.stm_eval.specs.EvaluatedFields.{message_ticket, message_block, message_reads, message_verdict}
 use Rattle.stm_history.specs.declared.event.What.{What}
 use Rattle.stm_history.specs.SlowDesk.{Waiter, Slow, under, verdict_on}
 use Rattle.stm_history.specs.SlowSettle.{lowest, is_due, next_what, has_cells, finishes, installs}
@@ -21,10 +21,10 @@ pub record IsDueMessage (s : Slow) (t : ℕ) (m : Evaluated) : Type 0 where
   pub one : Waiter
   pub first : lowest is_due s.waiters ≡ Some one
   pub same : t ≡ one.ticket
-  pub ticket : told_ticket m ≡ one.ticket
-  pub block : told_block m ≡ one.block
-  pub verdict : verdict_on s.store one.block ≡ Some (told_verdict m)
-  pub reads : told_reads m ≡ reads_of (under s.store) one.block.tree
+  pub ticket : message_ticket m ≡ one.ticket
+  pub block : message_block m ≡ one.block
+  pub verdict : verdict_on s.store one.block ≡ Some (message_verdict m)
+  pub reads : message_reads m ≡ reads_of (under s.store) one.block.tree
 
 -- one event more, the next one of settling
 pub record IsNextEvent (client f e : ℕ) (old new : Seen) : Type 0 where

@@ -12,7 +12,7 @@ use crate::desk::Desk;
 use stm_history::{CancelError, Event, What};
 
 impl Desk {
-    /// Why the block can't be cancelled, want of memory aside.
+    /// Why the block can't be cancelled, an out-of-memory error aside.
     fn may_cancel(&self, ticket: u32) -> Result<(), CancelError>
         ensures { cancel_told result ≡ cancel_refusal self.now ticket }
     {

@@ -1,13 +1,13 @@
 //! A message of an evaluator.
 
 ghost use Rattle.std.specs.Prelude.{◌≡◌, ◌<◌, IfOk, OnOk, IfErr, OnErr, IsSomeAnd, vec_len, vec_capacity};
-ghost use Rattle.stm_history.specs.SlowDesk.{IsLegal, waiter, max_clients};
+ghost use Rattle.stm_history.specs.SlowDesk.{IsLegal, find_waiter, max_clients};
 ghost use Rattle.stm_history.specs.declared.event.What.{What as AnyWhat};
 ghost use Rattle.stm_history.specs.Machine.{event};
 ghost use Rattle.stm_history.specs.Refusals.{install_told, deliver_told};
-ghost use Rattle.stm_eval.specs.Told.{told_ticket, told_block, told_reads, told_verdict};
+ghost use Rattle.stm_eval.specs.EvaluatedFields.{message_ticket, message_block, message_reads, message_verdict};
 ghost use Rattle.stm_desk.specs.Seen.{now, with_event};
-ghost use Rattle.stm_desk.specs.Refusals.{TellsDelivery, left_by};
+ghost use Rattle.stm_desk.specs.Refusals.{TellsDeskDelivery, left_by};
 
 use crate::desk::Desk;
 use stm_eval::Evaluated;
@@ -17,7 +17,7 @@ use stm_terms::verdicts::Verdict;
 
 /// What the event of an installed message takes: a copy of its verdict, and room in the history.
 fn take_memory(history: &mut Vec<Event>, message: &Evaluated) -> Result<Verdict, NoMemory>
-    ensures told { IfOk result (λ v. v ≡ told_verdict message.now) }
+    ensures told { IfOk result (λ v. v ≡ message_verdict message.now) }
     ensures history { history.new.items ≡ history.old.items }
     ensures room { OnOk result (vec_len history.new < vec_capacity history.new) }
 {
@@ -27,10 +27,10 @@ fn take_memory(history: &mut Vec<Event>, message: &Evaluated) -> Result<Verdict,
 }
 
 impl Desk {
-    /// Why the message can't be installed, want of memory aside.
+    /// Why the message can't be installed, an out-of-memory error aside.
     fn may_install(&self, message: &Evaluated) -> Result<(), DeliverError>
-        ensures told { TellsDelivery (install_told result) self.now (told_ticket message.now) (told_block message.now) (told_reads message.now) }
-        ensures same { OnOk result (IsSomeAnd (waiter (told_ticket message.now) (now self.now).waiters) (λ w. w.block.tree ≡ (told_block message.now).tree)) }
+        ensures told { TellsDeskDelivery (install_told result) self.now (message_ticket message.now) (message_block message.now) (message_reads message.now) }
+        ensures same { OnOk result (IsSomeAnd (find_waiter (message_ticket message.now) (now self.now).waiters) (λ w. w.block.tree ≡ (message_block message.now).tree)) }
     {
         self.machine.may_install(message, self.is_full())
     }
@@ -43,10 +43,10 @@ impl Desk {
         message: Evaluated,
     ) -> Result<(), (Evaluated, DeliverError)>
         requires { client < max_clients }
-        ensures done { OnOk result (self.new ≡ with_event self.old (event client (AnyWhat.Installed (told_ticket message) (told_verdict message)))) }
-        ensures told { TellsDelivery (deliver_told result) self.old (told_ticket message) (told_block message) (told_reads message) }
+        ensures done { OnOk result (self.new ≡ with_event self.old (event client (AnyWhat.Installed (message_ticket message) (message_verdict message)))) }
+        ensures told { TellsDeskDelivery (deliver_told result) self.old (message_ticket message) (message_block message) (message_reads message) }
         ensures back { IfErr result (λ e. e.0 ≡ message) }
-        ensures err { IfErr result (λ e. self.new ≡ left_by e.1 (told_ticket message) self.old) }
+        ensures err { IfErr result (λ e. self.new ≡ left_by e.1 (message_ticket message) self.old) }
         ensures legal { IsLegal self.new.table self.new.history }
     {
         match self.may_install(&message) {

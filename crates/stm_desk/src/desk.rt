@@ -22,9 +22,9 @@ pub struct Desk {
 
 impl Model for Desk {
     ghost use Rattle.std.specs.Coded.{codes};
-    ghost use Rattle.stm_terms.specs.Codes.{act_code};
+    ghost use Rattle.stm_terms.specs.TreeEncoding.{act_code};
     ghost use Rattle.stm_desk.specs.Seen.{Seen};
-    ghost use Rattle.stm_desk.specs.Kept.{IsKept};
+    ghost use Rattle.stm_desk.specs.Kept.{DeskInvariant};
 
     ghost Value = { Seen };
 
@@ -32,7 +32,7 @@ impl Model for Desk {
 
     ghost view = { λ d. record { table = d.table; limit = d.limit; history = d.history.items; pending = d.machine.pending } };
 
-    ghost invariant = { λ d. IsKept d.table d.limit d.history.items d.machine };
+    ghost invariant = { λ d. DeskInvariant d.table d.limit d.history.items d.machine };
 }
 
 impl Desk {

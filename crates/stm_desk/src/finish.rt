@@ -1,7 +1,7 @@
 //! A block that is to take effect.
 
 ghost use Rattle.std.specs.Prelude.{◌≡◌, ◌++◌, ◌∷◌, [], ◌<◌, IfOk, OnOk, OnErr, vec_len, vec_capacity};
-ghost use Rattle.stm_store.specs.Cells.{told as told_of};
+ghost use Rattle.stm_store.specs.Cells.{applied_answer as told_of};
 ghost use Rattle.stm_history.specs.SlowDesk.{IsLegal, max_clients};
 ghost use Rattle.stm_history.specs.declared.event.What.{What as AnyWhat};
 ghost use Rattle.stm_history.specs.Machine.{event};

@@ -2,9 +2,9 @@
 
 ghost use Rattle.std.specs.Prelude.{◌≡◌, ℕ, List, ◌<◌, ◌≤◌, true, false, None, Some, length, IfOk, OnOk, IfErr, OnErr};
 ghost use Rattle.stm_store.specs.Cells.{plains};
-ghost use Rattle.stm_history.specs.SlowDesk.{IsLegal, is_blocks, is_current, Waiter, waiter, max_clients};
+ghost use Rattle.stm_history.specs.SlowDesk.{IsLegal, is_blocks, is_current, Waiter, find_waiter, max_clients};
 ghost use Rattle.stm_history.specs.SlowSettle.{can_end};
-ghost use Rattle.stm_history.specs.Choices.{some_out, next_due, next_end, ended_then, AreCandidates};
+ghost use Rattle.stm_history.specs.SettleChoices.{some_out, next_due, next_end, ended_then, AreCandidates};
 ghost use Rattle.stm_desk.specs.Seen.{now};
 ghost use Rattle.stm_desk.specs.Settling.{called_back, HasBegun, HasSettled, IsSettled, AllBlock, StopTold};
 ghost use Rattle.stm_desk.specs.Steps.{IsDueMessage, IsNextEvent, WhyTold, StopsDelivery, delivery_why, StopsFinish, finish_why};
@@ -178,8 +178,8 @@ impl Desk {
 
     /// Whether a block waits under the ticket whose last delivery brought a verdict that doesn't block.
     fn ends(&self, ticket: u32) -> bool
-        ensures then { result ≡ ended_then (waiter ticket (now self.now).waiters) }
-        ensures present { (w : Waiter) → waiter ticket (now self.now).waiters ≡ Some w → is_current w ≡ true → result ≡ can_end (now self.now).store w }
+        ensures then { result ≡ ended_then (find_waiter ticket (now self.now).waiters) }
+        ensures present { (w : Waiter) → find_waiter ticket (now self.now).waiters ≡ Some w → is_current w ≡ true → result ≡ can_end (now self.now).store w }
         ensures legal { IsLegal self.now.table self.now.history }
         ensures few { length self.now.history ≤ self.now.limit }
     {

@@ -3,14 +3,14 @@
 ghost use Rattle.std.specs.Prelude.{◌≡◌, ◌≤◌, nat_lt, true, Some, length, option_map};
 ghost use Rattle.std.specs.Option.{option_copied};
 ghost use Rattle.stm_store.specs.Tables.{opened};
-ghost use Rattle.stm_history.specs.SlowDesk.{Waiter, IsLegal, is_current, waiter, standing, start, serial, finished_from};
+ghost use Rattle.stm_history.specs.SlowDesk.{Waiter, IsLegal, is_current, find_waiter, standing, initial_state, serial, finished_from};
 ghost use Rattle.stm_history.specs.SlowSettle.{lowest};
-ghost use Rattle.stm_history.specs.Shown.{shown, read_then, read_now};
-ghost use Rattle.stm_history.specs.Taken.{block_at};
-ghost use Rattle.stm_desk.specs.Seen.{now, QueueIsRight};
+ghost use Rattle.stm_history.specs.BlockStatus.{shown, read_then, read_now};
+ghost use Rattle.stm_history.specs.JobsHandedOut.{block_at};
+ghost use Rattle.stm_desk.specs.Seen.{now, DeskQueueIsRight};
 
 use crate::desk::Desk;
-use stm_check::Script;
+use stm_check::SharedBlock;
 use stm_history::{Event, Status};
 use stm_store::{Store, Table};
 use stm_terms::values::Value;
@@ -19,7 +19,7 @@ impl Desk {
     /// How the block under a ticket stands; none where no block waits. A stale verdict is the one that the block had at its
     /// last delivery, and a current one is the one that running the block from scratch on the present store gives.
     pub fn status(&self, ticket: u32) -> Option<Status<'_>>
-        ensures { option_map shown result ≡ option_map (standing (now self.now).store) (waiter ticket (now self.now).waiters) }
+        ensures { option_map shown result ≡ option_map (standing (now self.now).store) (find_waiter ticket (now self.now).waiters) }
     {
         self.machine.status(ticket)
     }
@@ -27,14 +27,14 @@ impl Desk {
     /// What the block under a ticket read at its last delivery, rising; none where no block waits or it is new. Those of a
     /// current block have their values on the present store.
     pub fn reads(&self, ticket: u32) -> Option<&[(u32, Value)]>
-        ensures then { option_copied result ≡ read_then (waiter ticket (now self.now).waiters) }
-        ensures present { (w : Waiter) → waiter ticket (now self.now).waiters ≡ Some w → is_current w ≡ true → option_copied result ≡ Some (read_now (now self.now).store w) }
+        ensures then { option_copied result ≡ read_then (find_waiter ticket (now self.now).waiters) }
+        ensures present { (w : Waiter) → find_waiter ticket (now self.now).waiters ≡ Some w → is_current w ≡ true → option_copied result ≡ Some (read_now (now self.now).store w) }
     {
         self.machine.reads(ticket)
     }
 
     /// The block that waits under a ticket.
-    pub fn block(&self, ticket: u32) -> Option<&Script>
+    pub fn block(&self, ticket: u32) -> Option<&SharedBlock>
         ensures { option_copied result ≡ block_at (now self.now) ticket }
     {
         self.machine.block(ticket)
@@ -43,7 +43,7 @@ impl Desk {
     /// The present store: that of running the finished blocks alone, one after another.
     pub fn store(&self) -> &Store
         ensures store { result.now ≡ (now self.now).store }
-        ensures serial { result.now ≡ serial (opened self.now.table) (finished_from (start self.now.table) self.now.history) }
+        ensures serial { result.now ≡ serial (opened self.now.table) (finished_from (initial_state self.now.table) self.now.history) }
     {
         self.machine.store()
     }
@@ -60,7 +60,7 @@ impl Desk {
         ensures history { result.now ≡ self.now.history }
         ensures legal { IsLegal self.now.table self.now.history }
         ensures few { length self.now.history ≤ self.now.limit }
-        ensures queue { QueueIsRight self.now }
+        ensures queue { DeskQueueIsRight self.now }
     {
         let _queue = self.machine.waiting();
         self.history.as_slice()

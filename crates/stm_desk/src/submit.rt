@@ -9,19 +9,19 @@ ghost use Rattle.stm_desk.specs.Seen.{with_event};
 ghost use Rattle.stm_desk.specs.Refusals.{submit_refusal};
 
 use crate::desk::Desk;
-use stm_check::Script;
+use stm_check::SharedBlock;
 use stm_history::{Event, SubmitError, What};
 
 impl Desk {
-    /// Why the block can't be submitted, want of memory aside.
-    fn may_submit(&self, block: &Script) -> Result<(), SubmitError>
+    /// Why the block can't be submitted, an out-of-memory error aside.
+    fn may_submit(&self, block: &SharedBlock) -> Result<(), SubmitError>
         ensures { submit_told result ≡ submit_refusal self.now block.now }
     {
         self.machine.may_wait(block, self.is_full())
     }
 
     /// The block waits from now on, under the ticket that is answered, and is queued. The caller's number is below 128.
-    pub fn submit(&mut self, client: u32, block: Script) -> Result<u32, SubmitError>
+    pub fn submit(&mut self, client: u32, block: SharedBlock) -> Result<u32, SubmitError>
         requires { client < max_clients }
         ensures done { IfOk result (λ t. self.new ≡ with_event self.old (event client (AnyWhat.Submitted t block))) }
         ensures told { submit_told result ≡ submit_refusal self.old block }

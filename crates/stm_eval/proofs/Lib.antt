@@ -1,6 +1,6 @@
-pub mod Choices
-pub mod Independent
-pub mod Noted
-pub mod Noting
-pub mod Present
-pub mod Uses
+pub mod FragmentsAndStores
+pub mod InsertedReads
+pub mod OrElseLaws
+pub mod ReadSetIndependence
+pub mod ReadsArePresent
+pub mod ReadsLookedUp

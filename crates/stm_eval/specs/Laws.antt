@@ -2,13 +2,13 @@
 use Rattle.std.specs.Prelude.{◌≡◌, ◌↔◌, ◌⊎◌, ℕ, Some, IsSome, List, [], ◌∷◌}
 use Rattle.stm_terms.specs.declared.values.Value.{Value}
 use Rattle.stm_terms.specs.declared.verdicts.Verdict.{Verdict}
-use Rattle.stm_terms.specs.Trees.{Act, retry, or_else}
+use Rattle.stm_terms.specs.Ast.{Act, retry, or_else}
 use Rattle.stm_terms.specs.Typing.{Rising}
-use Rattle.stm_terms.specs.Views.{Variables, Changes, find}
-use Rattle.stm_terms.specs.Run.{run}
-use Rattle.stm_terms.specs.Looks.{looks, looks_of, reads_of}
+use Rattle.stm_terms.specs.Changes.{Variables, Changes, find}
+use Rattle.stm_terms.specs.Semantics.{run}
+use Rattle.stm_terms.specs.ReadSet.{looks, looks_of, reads_of}
 use Rattle.stm_terms.specs.Verdict.{verdict}
-use Rattle.stm_eval.specs.Messages.{Agrees, IsTrueMessage, Holds}
+use Rattle.stm_eval.specs.Messages.{Agrees, MessageIsValid, Holds}
 
 -- a variable is among those of a list
 abbrev pub In : ℕ → List ℕ → Type 0
@@ -21,12 +21,12 @@ AgreeOn variables S T = (i : ℕ) → In i variables → T i ≡ S i
 
 -- over the one and over the other, in a view with the same changes, the action ends the same way, returns the same view,
 -- and reads the same variables
-pub record RunsAlike (a : Act) (locals : List Value) (S T : Variables) (h : Changes) : Type 0 where
+pub record SameRun (a : Act) (locals : List Value) (S T : Variables) (h : Changes) : Type 0 where
   pub ends : run T a locals h ≡ run S a locals h
   pub reads : looks T a locals h ≡ looks S a locals h
 
 -- the two actions end the same way, return the same view, and read the same variables in the same order
-pub record AreOneAction (a b : Act) (locals : List Value) (S : Variables) (h : Changes) : Type 0 where
+pub record Equivalent (a b : Act) (locals : List Value) (S : Variables) (h : Changes) : Type 0 where
   pub ends : run S a locals h ≡ run S b locals h
   pub reads : looks S a locals h ≡ looks S b locals h
 
@@ -34,41 +34,41 @@ pub record AreOneAction (a b : Act) (locals : List Value) (S : Variables) (h : C
 abbrev pub ReadSetIndependence : Type 0
 ReadSetIndependence =
     (a : Act) (locals : List Value) (S T : Variables) (h : Changes) →
-    AgreeOn (looks S a locals h) S T → RunsAlike a locals S T h
+    AgreeOn (looks S a locals h) S T → SameRun a locals S T h
 
 -- what a block does on a store, it does on the fragment of what it read there, and it reads all of that fragment
 abbrev pub StoreToFragment : Type 0
-StoreToFragment = (block : Act) (S : Variables) (told : Verdict) → verdict S block ≡ Some told → IsTrueMessage block (reads_of S block) told
+StoreToFragment = (block : Act) (S : Variables) (told : Verdict) → verdict S block ≡ Some told → MessageIsValid block (reads_of S block) told
 
 -- what a block does on the fragment of what it read, it does on each store with these values
 abbrev pub FragmentToStore : Type 0
 FragmentToStore =
     (block : Act) (reads : List (ℕ × Value)) (told : Verdict) (S : Variables) →
-    IsTrueMessage block reads told → Agrees reads S → Holds block S reads told
+    MessageIsValid block reads told → Agrees reads S → Holds block S reads told
 
 -- what holds of a block on one store holds on each other one that has the values which it read
-abbrev pub HoldsAgain : Type 0
-HoldsAgain =
+abbrev pub VerdictIsStable : Type 0
+VerdictIsStable =
     (block : Act) (reads : List (ℕ × Value)) (told : Verdict) (S T : Variables) →
     Holds block S reads told → Agrees reads T → Holds block T reads told
 
 -- the reads of a block rise, and have the values of the store
-abbrev pub ReadsAreOfTheStore : Type 0
-ReadsAreOfTheStore = (block : Act) (S : Variables) → Rising (reads_of S block) × Agrees (reads_of S block) S
+abbrev pub ReadsAgreeWithStore : Type 0
+ReadsAgreeWithStore = (block : Act) (S : Variables) → Rising (reads_of S block) × Agrees (reads_of S block) S
 
 -- the reads of a block that has a verdict are of exactly the variables that it looks at
-abbrev pub ReadsAreLooks : Type 0
-ReadsAreLooks =
+abbrev pub ReadSetIsExact : Type 0
+ReadSetIsExact =
     (block : Act) (S : Variables) (told : Verdict) → verdict S block ≡ Some told →
     (i : ℕ) → In i (looks_of S block) ↔ IsSome (find i (reads_of S block))
 
 abbrev pub OrElseIsAssociative : Type 0
 OrElseIsAssociative =
     (a b c : Act) (locals : List Value) (S : Variables) (h : Changes) →
-    AreOneAction (or_else (or_else a b) c) (or_else a (or_else b c)) locals S h
+    Equivalent (or_else (or_else a b) c) (or_else a (or_else b c)) locals S h
 
 abbrev pub RetryIsLeftUnit : Type 0
-RetryIsLeftUnit = (a : Act) (locals : List Value) (S : Variables) (h : Changes) → AreOneAction (or_else retry a) a locals S h
+RetryIsLeftUnit = (a : Act) (locals : List Value) (S : Variables) (h : Changes) → Equivalent (or_else retry a) a locals S h
 
 abbrev pub RetryIsRightUnit : Type 0
-RetryIsRightUnit = (a : Act) (locals : List Value) (S : Variables) (h : Changes) → AreOneAction (or_else a retry) a locals S h
+RetryIsRightUnit = (a : Act) (locals : List Value) (S : Variables) (h : Changes) → Equivalent (or_else a retry) a locals S h

@@ -3,9 +3,9 @@
 use Rattle.std.specs.Prelude.{◌≡◌, ℕ, Some, List}
 use Rattle.stm_terms.specs.declared.values.Value.{Value}
 use Rattle.stm_terms.specs.declared.verdicts.Verdict.{Verdict}
-use Rattle.stm_terms.specs.Trees.{Act}
-use Rattle.stm_terms.specs.Views.{Variables, find, of_fragment}
-use Rattle.stm_terms.specs.Looks.{reads_of}
+use Rattle.stm_terms.specs.Ast.{Act}
+use Rattle.stm_terms.specs.Changes.{Variables, find, of_fragment}
+use Rattle.stm_terms.specs.ReadSet.{reads_of}
 use Rattle.stm_terms.specs.Verdict.{verdict}
 
 -- the variables underneath have the values that were read
@@ -13,7 +13,7 @@ abbrev pub Agrees : List (ℕ × Value) → Variables → Type 0
 Agrees reads under = (i : ℕ) (v : Value) → find i reads ≡ Some v → under i ≡ Some v
 
 -- on the fragment of what it read, alone, the block has this verdict, and it reads all of the fragment
-pub record IsTrueMessage (block : Act) (reads : List (ℕ × Value)) (told : Verdict) : Type 0 where
+pub record MessageIsValid (block : Act) (reads : List (ℕ × Value)) (told : Verdict) : Type 0 where
   pub defined : verdict (of_fragment reads) block ≡ Some told
   pub all_read : reads_of (of_fragment reads) block ≡ reads
 

@@ -1,6 +1,6 @@
 //! Laws of what blocks do and read: each function's contract is one, and its body is empty.
 
-ghost use Rattle.stm_eval.specs.Laws.{ReadSetIndependence, StoreToFragment, FragmentToStore, HoldsAgain, ReadsAreOfTheStore, ReadsAreLooks, OrElseIsAssociative, RetryIsLeftUnit, RetryIsRightUnit};
+ghost use Rattle.stm_eval.specs.Laws.{ReadSetIndependence, StoreToFragment, FragmentToStore, VerdictIsStable, ReadsAgreeWithStore, ReadSetIsExact, OrElseIsAssociative, RetryIsLeftUnit, RetryIsRightUnit};
 
 /// What an action does depends on the variables that it reads, and on no others. What a discarded left branch read is
 /// among them.
@@ -20,14 +20,14 @@ pub fn fragment_to_store()
 
 /// A block's verdict and reads on a store are those on each other store that has the values which it read. So a verdict
 /// stays right through every change of other variables.
-pub fn holds_again()
-    ensures { HoldsAgain }
+pub fn verdict_is_stable()
+    ensures { VerdictIsStable }
 {}
 
 /// The reads of a block are of exactly the variables that it looks at, with the values of the store.
-pub fn reads_are_looks()
-    ensures values { ReadsAreOfTheStore }
-    ensures variables { ReadsAreLooks }
+pub fn read_set_is_exact()
+    ensures values { ReadsAgreeWithStore }
+    ensures variables { ReadSetIsExact }
 {}
 
 /// `orElse` is associative, in outcome, returned view and reads.

@@ -1,21 +1,21 @@
 //! Evaluation of a block on an unchanging copy of a store.
 //!
-//! `running` gives a block's verdict and what it read, on the nested log of `stm_log`. `message` is what an evaluation
+//! `block` gives a block's verdict and what it read, on the nested log of `stm_log`. `message` is what an evaluation
 //! tells: its type keeps that the verdict holds wherever the values that were read are found again. `laws` states why:
 //! what a block does depends on what it reads alone, left branches that were discarded included.
 #![tactic(auto)]
 
-mod endings;
-pub mod evaluating;
-mod evaluator;
+pub mod block;
+pub mod evaluate_job;
+mod interpreter;
 pub mod job;
 pub mod laws;
 pub mod message;
-pub mod running;
-mod simple;
+mod outcome;
+mod primitives;
 
-pub use evaluating::evaluate;
+pub use block::{try_action, try_block};
+pub use evaluate_job::evaluate;
 pub use job::Job;
 pub use message::Evaluated;
-pub use running::{try_action, try_block};
 pub use stm_log::Reads;

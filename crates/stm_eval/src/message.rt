@@ -2,11 +2,11 @@
 
 ghost use Rattle.std.specs.Prelude.{◌≡◌, Some};
 ghost use Rattle.std.proofs.Props.{props};
-ghost use Rattle.stm_terms.specs.Looks.{reads_of};
+ghost use Rattle.stm_terms.specs.ReadSet.{reads_of};
 ghost use Rattle.stm_terms.specs.Verdict.{verdict as verdict_on};
-ghost use Rattle.stm_terms.specs.Views.{of_fragment};
+ghost use Rattle.stm_terms.specs.Changes.{of_fragment};
 
-use stm_check::Script;
+use stm_check::SharedBlock;
 use stm_log::Reads;
 use stm_terms::verdicts::Verdict;
 
@@ -17,7 +17,7 @@ use stm_terms::verdicts::Verdict;
 #[derive(Drop)]
 pub struct Evaluated {
     pub(crate) ticket: u32,
-    pub(crate) block: Script,
+    pub(crate) block: SharedBlock,
     pub(crate) reads: Reads,
     pub(crate) verdict: Verdict,
     pub ghost defined: { verdict_on (of_fragment reads) block.tree ≡ Some verdict } by { Prim.hlevel props },

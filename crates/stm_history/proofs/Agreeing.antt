@@ -7,12 +7,12 @@ use Rattle.stm_terms.specs.declared.values.Ref.TheVariants.{Old, New}
 use Rattle.stm_terms.specs.declared.values.Value.{Value}
 use Rattle.stm_terms.specs.declared.values.Value.TheVariants.{Int, Bool as Truth, Unit as Nil, Var}
 use Rattle.stm_terms.specs.Value.{same_value}
-use Rattle.stm_terms.specs.Trees.{Act}
+use Rattle.stm_terms.specs.Ast.{Act}
 use Rattle.stm_terms.specs.Typing.{AllAbove, Rising}
-use Rattle.stm_terms.specs.Views.{Variables, find}
-use Rattle.stm_terms.specs.Looks.{reads_of}
+use Rattle.stm_terms.specs.Changes.{Variables, find}
+use Rattle.stm_terms.specs.ReadSet.{reads_of}
 use Rattle.stm_eval.specs.Messages.{Agrees}
-use Rattle.stm_eval.proofs.Uses.{of_the_store}
+use Rattle.stm_eval.proofs.FragmentsAndStores.{of_the_store}
 use Rattle.stm_history.specs.Refusals.{has_value, differing}
 
 int_same : (x : ℤ) → int_eq x x ≡ true

@@ -10,14 +10,14 @@ use Rattle.stm_terms.specs.declared.verdicts.Verdict.{Verdict}
 use Rattle.stm_terms.specs.Typing.{same_base, same_ty}
 use Rattle.stm_store.specs.declared.cell.Cell.{Cell}
 use Rattle.stm_store.specs.Cells.{plains, Covers, kinds_of, made_by}
-use Rattle.stm_store.specs.Tables.{is_kind}
-use Rattle.stm_check.specs.Blocks.{Block}
+use Rattle.stm_store.specs.Tables.{is_type}
+use Rattle.stm_check.specs.TypedBlock.{Block}
 use Rattle.stm_eval.specs.declared.message.Evaluated.{Evaluated}
-use Rattle.stm_eval.specs.Told.{told_ticket, told_block, told_reads}
+use Rattle.stm_eval.specs.EvaluatedFields.{message_ticket, message_block, message_reads}
 use Rattle.stm_history.specs.declared.event.What.TheVariants.{Submitted, Installed, Finished, Cancelled}
-use Rattle.stm_history.specs.SlowDesk.{Since, Waiter, Slow, under, is_new_since, current_since, MayInstall, MayFinish, waiter, Allows, max_waiting, max_cells}
+use Rattle.stm_history.specs.SlowDesk.{Since, Waiter, Slow, under, is_new_since, current_since, MayInstall, MayFinish, find_waiter, Allows, max_waiting, max_cells}
 use Rattle.stm_history.specs.Refusals.{missing, submit_refused, cancel_first, cancel_refused, differing, DeliverTold, TellsDelivery, overflows, finish_first, finish_refused}
-use Rattle.stm_history.specs.Taken.{IsPresent}
+use Rattle.stm_history.specs.JobsHandedOut.{IsPresent}
 
 -- ---- a block that waits
 same_base_itself : (b : Base) → same_base b b ≡ true
@@ -31,8 +31,8 @@ number_itself n = grind (arith, nat_tests)
 same_ty_itself : (t : Ty) → same_ty t t ≡ true
 same_ty_itself t = rw (same_base_itself t.base) (number_itself t.refs)
 
-kind_there : (o : Option Ty) (t : Ty) → o ≡ Some t → is_kind o t ≡ true
-kind_there o t e = ap (λ (x : Option Ty). is_kind x t) e ∙ same_ty_itself t
+kind_there : (o : Option Ty) (t : Ty) → o ≡ Some t → is_type o t ≡ true
+kind_there o t e = ap (λ (x : Option Ty). is_type x t) e ∙ same_ty_itself t
 
 missing_none : (cells : List (Ty × Value)) (uses : List (ℕ × Ty)) → Covers cells uses → missing cells uses ≡ None
 missing_none cells [] c = refl
@@ -49,7 +49,7 @@ leave_by None a = absurd a
 leave_by (Some w) a = refl
 
 pub leave_allowed : (s : Slow) (t : ℕ) → Allows s (Cancelled t) → cancel_refused s false t ≡ None
-leave_allowed s t a = leave_by (waiter t s.waiters) a
+leave_allowed s t a = leave_by (find_waiter t s.waiters) a
 
 -- ---- a block that finishes
 current_old : (b : Block) (o : Option Since) → current_since b o ≡ true → is_new_since o ≡ false
@@ -64,18 +64,18 @@ finish_by s t v n stale None m = absurd m
 finish_by s t v n stale (Some w) m = rw (current_old w.block w.since m.current, m.current, m.verdict_is, m.ends, room_there s.store v m.room) refl
 
 pub finish_allowed : (s : Slow) (t : ℕ) (v : Verdict) (n : ℕ) (stale : List ℕ) → Allows s (Finished t v n stale) → finish_refused s false t ≡ None
-finish_allowed s t v n stale a = finish_by s t v n stale (waiter t s.waiters) a
+finish_allowed s t v n stale a = finish_by s t v n stale (find_waiter t s.waiters) a
 
 -- ---- a message of the present store
-install_by : (s : Slow) (w : Waiter) (v : Verdict) (m : Evaluated) (o : Option Waiter) → o ≡ Some w → IsSomeAnd o (λ x. MayInstall s x v) → told_block m ≡ w.block → differing (under s.store) (told_reads m) ≡ None
-    → DeliverTold None s.store false o (told_block m) (told_reads m)
+install_by : (s : Slow) (w : Waiter) (v : Verdict) (m : Evaluated) (o : Option Waiter) → o ≡ Some w → IsSomeAnd o (λ x. MayInstall s x v) → message_block m ≡ w.block → differing (under s.store) (message_reads m) ≡ None
+    → DeliverTold None s.store false o (message_block m) (message_reads m)
 install_by s w v m None e a b d = absurd a
 install_by s w v m (Some x) e a b d =
     let q : x ≡ w = cc in
-    let tree : x.block.tree ≡ (told_block m).tree = ap (λ (y : Waiter). y.block.tree) q ∙ sym (ap (λ (y : Block). y.tree) b) in
+    let tree : x.block.tree ≡ (message_block m).tree = ap (λ (y : Waiter). y.block.tree) q ∙ sym (ap (λ (y : Block). y.tree) b) in
     (λ n. absurd (n tree), λ i. rw (a.not_current, d) refl)
 
-pub install_allowed : (s : Slow) (t : ℕ) (v : Verdict) (m : Evaluated) → Allows s (Installed t v) → IsPresent s t m → TellsDelivery None s false (told_ticket m) (told_block m) (told_reads m)
+pub install_allowed : (s : Slow) (t : ℕ) (v : Verdict) (m : Evaluated) → Allows s (Installed t v) → IsPresent s t m → TellsDelivery None s false (message_ticket m) (message_block m) (message_reads m)
 install_allowed s t v m a p =
-    subst (λ (u : ℕ). TellsDelivery None s false u (told_block m) (told_reads m)) (sym p.ticket)
-    (install_by s p.one v m (waiter t s.waiters) p.found a p.block p.differs)
+    subst (λ (u : ℕ). TellsDelivery None s false u (message_block m) (message_reads m)) (sym p.ticket)
+    (install_by s p.one v m (find_waiter t s.waiters) p.found a p.block p.differs)

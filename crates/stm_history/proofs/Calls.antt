@@ -4,20 +4,20 @@ use Rattle.std.specs.Prelude.{nat_le}
 use Rattle.std.proofs.lemmas.Bool.Decides.{nat_tests}
 use Rattle.stm_terms.specs.declared.kinds.Ty.{Ty}
 use Rattle.stm_store.specs.Cells.{plains, kinds_of, Covers}
-use Rattle.stm_store.specs.Tables.{Declared, is_kind}
-use Rattle.stm_check.specs.Blocks.{Block}
+use Rattle.stm_store.specs.Tables.{Declared, is_type}
+use Rattle.stm_check.specs.TypedBlock.{Block}
 use Rattle.stm_check.proofs.ExpressionsSound.{same_ty_equal}
 use Rattle.stm_watch.specs.Pairs.{Pairs, WithoutReads}
 use Rattle.stm_queue.specs.Queue.{has_ticket, with_ticket, without_ticket}
 use Rattle.stm_history.specs.declared.event.Event.{Event}
 use Rattle.stm_history.specs.declared.event.What.TheVariants.{Submitted, Cancelled}
-use Rattle.stm_history.specs.SlowDesk.{Waiter, Slow, waiter, start, state, Allows, max_waiting}
+use Rattle.stm_history.specs.SlowDesk.{Waiter, Slow, find_waiter, initial_state, state, Allows, max_waiting}
 use Rattle.stm_history.specs.Laws.{AreRising}
 use Rattle.stm_history.proofs.Rising.{rising_state, next_le}
 use Rattle.stm_history.specs.declared.waiting.Waiting.{Waiting}
 use Rattle.stm_history.specs.Entries.{kept_at, lose, AllBelow, AreDue, kept_reads}
 use Rattle.stm_history.specs.Machine.{Parts, StandsFor, CanWait, CanLeave, MovesTo}
-use Rattle.stm_history.specs.Marks.{due_of}
+use Rattle.stm_history.specs.QueueAndIndex.{due_of}
 use Rattle.stm_history.specs.Refusals.{missing, submit_first, cancel_first}
 use Rattle.stm_history.proofs.Due.{IsSame, IsFound, found, below_due}
 use Rattle.stm_history.proofs.Points.{not_yet}
@@ -26,24 +26,24 @@ use Rattle.stm_history.proofs.Moves.{moves_to, stands_submit, stands_cancel}
 -- ---- what is kept under a ticket, and who waits under it
 pub record Waits (t : ℕ) (x : Waiting) (ws : List Waiter) : Type 0 where
   pub one : Waiter
-  pub found : waiter t ws ≡ Some one
+  pub found : find_waiter t ws ≡ Some one
   pub same : IsSame x one
 
-waits_by : (t : ℕ) (x : Waiting) (ws : List Waiter) (o : Option Waiting) (p : Option Waiter) → waiter t ws ≡ p → o ≡ Some x → IsFound o p → Waits t x ws
+waits_by : (t : ℕ) (x : Waiting) (ws : List Waiter) (o : Option Waiting) (p : Option Waiter) → find_waiter t ws ≡ p → o ≡ Some x → IsFound o p → Waits t x ws
 waits_by t x ws None p e h f = cc
 waits_by t x ws (Some y) None e h f = absurd f
 waits_by t x ws (Some y) (Some w) e h f = let q : y ≡ x = cc in record { one = w; found = e; same = subst (λ (z : Waiting). IsSame z w) q f }
 
 pub waits : (t : ℕ) (x : Waiting) (es : List (ℕ × Waiting)) (ws : List Waiter) → AreDue es ws → kept_at t es ≡ Some x → Waits t x ws
-waits t x es ws d e = waits_by t x ws (kept_at t es) (waiter t ws) refl e (found t es ws d)
+waits t x es ws d e = waits_by t x ws (kept_at t es) (find_waiter t ws) refl e (found t es ws d)
 
 lost_by : (o : Option Waiting) (p : Option Waiter) → IsFound o p → o ≡ None → p ≡ None
 lost_by None None f e = refl
 lost_by None (Some w) f e = absurd f
 lost_by (Some x) p f e = cc
 
-pub lost : (t : ℕ) (es : List (ℕ × Waiting)) (ws : List Waiter) → AreDue es ws → kept_at t es ≡ None → waiter t ws ≡ None
-lost t es ws d e = lost_by (kept_at t es) (waiter t ws) (found t es ws d) e
+pub lost : (t : ℕ) (es : List (ℕ × Waiting)) (ws : List Waiter) → AreDue es ws → kept_at t es ≡ None → find_waiter t ws ≡ None
+lost t es ws d e = lost_by (kept_at t es) (find_waiter t ws) (found t es ws d) e
 
 module _ (table : List Declared) (history : List Event) (m : Parts) (k : StandsFor table history m) where
   abbrev pub s : Slow
@@ -59,23 +59,23 @@ module _ (table : List Declared) (history : List Event) (m : Parts) (k : StandsF
   below_next = below_due m.next 0 m.entries s.waiters k.stands.entries_are rising_next
 
   pub ticket_small : m.next + 1 < 2 ^ 32
-  ticket_small = let a = k.legal.few in let c = k.stands.next_is in omega (arith, next_le (start table) history)
+  ticket_small = let a = k.legal.few in let c = k.stands.next_is in omega (arith, next_le (initial_state table) history)
 
   pub next_absent : has_ticket m.next m.pending ≡ false
   next_absent = k.stands.queue m.next ∙ ap due_of (not_yet m.next m.next 0 s.waiters (omega arith) rising_next)
 
 -- ---- submit
-kind_is_by : (o : Option Ty) (t : Ty) → is_kind o t ≡ true → o ≡ Some t
+kind_is_by : (o : Option Ty) (t : Ty) → is_type o t ≡ true → o ≡ Some t
 kind_is_by (Some u) t e = ap Some (same_ty_equal u t e)
 kind_is_by None t e = cc
 
-missing_step : (b : Bool) (cells : List (Ty × _)) (u : ℕ × Ty) (us : List (ℕ × Ty)) → is_kind (kinds_of cells u.0) u.1 ≡ b → (missing cells us ≡ None → Covers cells us) → cond b (missing cells us) (Some u.0) ≡ None → Covers cells (u ∷ us)
+missing_step : (b : Bool) (cells : List (Ty × _)) (u : ℕ × Ty) (us : List (ℕ × Ty)) → is_type (kinds_of cells u.0) u.1 ≡ b → (missing cells us ≡ None → Covers cells us) → cond b (missing cells us) (Some u.0) ≡ None → Covers cells (u ∷ us)
 missing_step true cells u us e more h = (kind_is_by (kinds_of cells u.0) u.1 e, more h)
 missing_step false cells u us e more h = cc
 
 pub none_missing : (cells : List (Ty × _)) (uses : List (ℕ × Ty)) → missing cells uses ≡ None → Covers cells uses
 none_missing cells [] h = tt
-none_missing cells (u ∷ us) h = missing_step (is_kind (kinds_of cells u.0) u.1) cells u us refl (none_missing cells us) h
+none_missing cells (u ∷ us) h = missing_step (is_type (kinds_of cells u.0) u.1) cells u us refl (none_missing cells us) h
 
 pub record MaySubmit (m : Option ℕ) (many full : Bool) : Type 0 where
   pub covers : m ≡ None
@@ -117,7 +117,7 @@ pub moves_leave : (table : List Declared) (history : List Event) (m : Parts) (wa
 moves_leave table history m watch' t c q =
     let s = state table history in
     let k = c.stands in
-    let p : MayCancel (waiter t s.waiters) false = may_cancel _ _ (sym c.allowed) in
+    let p : MayCancel (find_waiter t s.waiters) false = may_cancel _ _ (sym c.allowed) in
     let a : Allows s (Cancelled t) = rw p.found tt in
     moves_to table history m _ (Cancelled t) k c.room a
     (stands_cancel s m.store m.next m.entries m.pending m.watch watch' t (kept_rising table history m k) k.stands q)

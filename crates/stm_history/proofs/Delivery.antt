@@ -8,24 +8,24 @@ use Rattle.stm_terms.specs.declared.values.Ref.TheVariants.{Old, New}
 use Rattle.stm_terms.specs.declared.values.Value.{Value}
 use Rattle.stm_terms.specs.declared.values.Value.TheVariants.{Int, Bool as Truth, Unit as Nil, Var}
 use Rattle.stm_terms.specs.Value.{same_value, same_ref}
-use Rattle.stm_terms.specs.Views.{Variables, find}
+use Rattle.stm_terms.specs.Changes.{Variables, find}
 use Rattle.stm_store.specs.declared.cell.Cell.{Cell}
 use Rattle.stm_store.specs.Tables.{Declared}
-use Rattle.stm_check.specs.Blocks.{Block}
+use Rattle.stm_check.specs.TypedBlock.{Block}
 use Rattle.stm_eval.specs.declared.message.Evaluated.{Evaluated}
 use Rattle.stm_eval.specs.Messages.{Agrees, Holds}
-use Rattle.stm_eval.specs.Told.{told_ticket, told_block, told_reads, told_verdict}
+use Rattle.stm_eval.specs.EvaluatedFields.{message_ticket, message_block, message_reads, message_verdict}
 use Rattle.stm_watch.specs.Pairs.{Pairs, WithReads}
 use Rattle.stm_queue.specs.Queue.{Entry, has_ticket, without_ticket, marked, recalled}
 use Rattle.stm_history.specs.declared.event.Event.{Event}
 use Rattle.stm_history.specs.declared.event.What.TheVariants.{Installed}
-use Rattle.stm_history.specs.SlowDesk.{Waiter, Slow, under, is_current, waiter, state, Allows}
+use Rattle.stm_history.specs.SlowDesk.{Waiter, Slow, under, is_current, find_waiter, state, Allows}
 use Rattle.stm_history.specs.declared.waiting.Held.{Held}
 use Rattle.stm_history.specs.declared.errors.DeliverError.{DeliverError}
 use Rattle.stm_history.specs.declared.errors.DeliverError.TheVariants as deliver
 use Rattle.stm_history.specs.Entries.{with_held}
 use Rattle.stm_history.specs.Machine.{Parts, StandsFor, CanInstall, MovesTo}
-use Rattle.stm_history.specs.Marks.{due_of}
+use Rattle.stm_history.specs.QueueAndIndex.{due_of}
 use Rattle.stm_history.specs.Refusals.{has_value, differing, overtaken_first, install_first, DeliverTold, pending_left}
 use Rattle.stm_history.proofs.Moves.{moves_to, stands_install}
 
@@ -78,7 +78,7 @@ pub none_differs : (S : Variables) (reads : List (ℕ × Value)) → differing S
 none_differs S [] d i v e = cc
 none_differs S (r ∷ rs) d i v e = agrees_step (has_value (S r.0) r.1) (nat_eq r.0 i) S r rs i v refl refl (λ g. none_differs S rs g i v) d e
 
--- ---- what is told
+-- ---- what is reported
 pub told_gone : (store : List Cell) (full : Bool) (o : Option Waiter) (block : Block) (reads : List (ℕ × Value)) → o ≡ None → DeliverTold (Some deliver.Gone) store full o block reads
 told_gone store full o block reads e = rw e refl
 
@@ -129,30 +129,30 @@ accepted_by false None false e = (refl, refl, refl)
 
 pub record Accepted (s : Slow) (full : Bool) (t : ℕ) (block : Block) (reads : List (ℕ × Value)) : Type 0 where
   pub one : Waiter
-  pub found : waiter t s.waiters ≡ Some one
+  pub found : find_waiter t s.waiters ≡ Some one
   pub same : one.block.tree ≡ block.tree
   pub may : MayInstall s.store full one reads
 
-accepted_at : (s : Slow) (full : Bool) (t : ℕ) (block : Block) (reads : List (ℕ × Value)) (o : Option Waiter) → waiter t s.waiters ≡ o → DeliverTold None s.store full o block reads → IsSomeAnd o (λ w. w.block.tree ≡ block.tree) → Accepted s full t block reads
+accepted_at : (s : Slow) (full : Bool) (t : ℕ) (block : Block) (reads : List (ℕ × Value)) (o : Option Waiter) → find_waiter t s.waiters ≡ o → DeliverTold None s.store full o block reads → IsSomeAnd o (λ w. w.block.tree ≡ block.tree) → Accepted s full t block reads
 accepted_at s full t block reads None e d q = absurd q
 accepted_at s full t block reads (Some w) e d q =
     let a = accepted_by (is_current w) (differing (under s.store) reads) full (d.1 q) in
     record { one = w; found = e; same = q; may = record { stale = a.0; agrees = a.1; room = a.2 } }
 
-pub accepted : (s : Slow) (full : Bool) (t : ℕ) (block : Block) (reads : List (ℕ × Value)) → DeliverTold None s.store full (waiter t s.waiters) block reads → IsSomeAnd (waiter t s.waiters) (λ w. w.block.tree ≡ block.tree) → Accepted s full t block reads
-accepted s full t block reads d q = accepted_at s full t block reads (waiter t s.waiters) refl d q
+pub accepted : (s : Slow) (full : Bool) (t : ℕ) (block : Block) (reads : List (ℕ × Value)) → DeliverTold None s.store full (find_waiter t s.waiters) block reads → IsSomeAnd (find_waiter t s.waiters) (λ w. w.block.tree ≡ block.tree) → Accepted s full t block reads
+accepted s full t block reads d q = accepted_at s full t block reads (find_waiter t s.waiters) refl d q
 
 pub moves_install : (table : List Declared) (history : List Event) (m : Parts) (watch' : Pairs) (message : Evaluated) → CanInstall table history m message
-    → ((S : Variables) → Agrees (told_reads message) S → Holds (told_block message).tree S (told_reads message) (told_verdict message))
-    → WithReads m.watch (told_ticket message) (told_reads message) watch'
-    → MovesTo table history (Installed (told_ticket message) (told_verdict message))
-    (record { store = m.store; next = m.next; entries = with_held (told_ticket message) (record { reads = told_reads message; verdict = told_verdict message }) m.entries; pending = without_ticket (told_ticket message) m.pending; watch = watch' })
+    → ((S : Variables) → Agrees (message_reads message) S → Holds (message_block message).tree S (message_reads message) (message_verdict message))
+    → WithReads m.watch (message_ticket message) (message_reads message) watch'
+    → MovesTo table history (Installed (message_ticket message) (message_verdict message))
+    (record { store = m.store; next = m.next; entries = with_held (message_ticket message) (record { reads = message_reads message; verdict = message_verdict message }) m.entries; pending = without_ticket (message_ticket message) m.pending; watch = watch' })
 moves_install table history m watch' message c truth q =
     let s = state table history in
     let k = c.stands in
-    let t = told_ticket message in
-    let block = told_block message in
-    let h : Held = record { reads = told_reads message; verdict = told_verdict message } in
+    let t = message_ticket message in
+    let block = message_block message in
+    let h : Held = record { reads = message_reads message; verdict = message_verdict message } in
     let a : Accepted s false t block h.reads = accepted s false t block h.reads c.allowed c.same in
     let there : Holds block.tree (under s.store) h.reads h.verdict = truth (under s.store) (none_differs (under s.store) h.reads a.may.agrees) in
     let holds : Holds a.one.block.tree (under s.store) h.reads h.verdict = subst (λ x. Holds x (under s.store) h.reads h.verdict) (sym a.same) there in

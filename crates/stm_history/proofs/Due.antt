@@ -2,14 +2,14 @@
 use Rattle.std.proofs.Common.{◌≡◌, ℕ, Bool, true, false, cond, List, [], ◌∷◌, ◌++◌, map, length, Option, Some, None, refl, sym, ap, subst, arith}
 use Rattle.std.specs.Prelude.{nat_eq}
 use Rattle.stm_store.specs.declared.cell.Cell.{Cell}
-use Rattle.stm_check.specs.Blocks.{Block}
+use Rattle.stm_check.specs.TypedBlock.{Block}
 use Rattle.stm_eval.specs.Messages.{Holds}
-use Rattle.stm_history.specs.SlowDesk.{Since, Waiter, under, waiter, without, with_delivery, delivered, wrote_more, after_writes}
+use Rattle.stm_history.specs.SlowDesk.{Since, Waiter, under, find_waiter, without_waiter, with_delivery, delivered, wrote_more, after_writes}
 use Rattle.stm_history.specs.Laws.{AreRising}
 use Rattle.stm_history.specs.declared.waiting.Held.{Held}
 use Rattle.stm_history.specs.declared.waiting.Waiting.{Waiting}
 use Rattle.stm_history.specs.Entries.{kept_at, kept, lose, with_held, AllBelow, IsHeld, IsDue, AreDue, held_reads}
-use Rattle.stm_history.specs.Marks.{read_since}
+use Rattle.stm_history.specs.QueueAndIndex.{read_since}
 
 -- what is kept under a ticket is the block that waits under it
 pub record IsSame (x : Waiting) (w : Waiter) : Type 0 where
@@ -26,11 +26,11 @@ found_step : (b : Bool) (e : ℕ × Waiting) (w : Waiter) (o : Option Waiting) (
 found_step true e w o p d f = record { block = d.block; held = d.held }
 found_step false e w o p d f = f
 
-pub found : (t : ℕ) (es : List (ℕ × Waiting)) (ws : List Waiter) → AreDue es ws → IsFound (kept_at t es) (waiter t ws)
+pub found : (t : ℕ) (es : List (ℕ × Waiting)) (ws : List Waiter) → AreDue es ws → IsFound (kept_at t es) (find_waiter t ws)
 found t [] [] d = tt
 found t [] (w ∷ ws) d = absurd d
 found t (e ∷ es) [] d = absurd d
-found t (e ∷ es) (w ∷ ws) d = rw d.0.ticket (found_step (nat_eq t w.ticket) e w (kept_at t es) (waiter t ws) d.0 (found t es ws d.1))
+found t (e ∷ es) (w ∷ ws) d = rw d.0.ticket (found_step (nat_eq t w.ticket) e w (kept_at t es) (find_waiter t ws) d.0 (found t es ws d.1))
 
 pub length_due : (es : List (ℕ × Waiting)) (ws : List Waiter) → AreDue es ws → length es ≡ length ws
 length_due [] [] d = refl
@@ -55,13 +55,13 @@ lose_step : (b : Bool) (e : ℕ × Waiting) (w : Waiter) (es fs : List (ℕ × W
 lose_step true e w es fs ws vs d a c = a
 lose_step false e w es fs ws vs d a c = (d, c)
 
-pub due_lose : (t : ℕ) (es : List (ℕ × Waiting)) (ws : List Waiter) → AreDue es ws → AreDue (lose t es) (without t ws)
+pub due_lose : (t : ℕ) (es : List (ℕ × Waiting)) (ws : List Waiter) → AreDue es ws → AreDue (lose t es) (without_waiter t ws)
 due_lose t [] [] d = tt
 due_lose t [] (w ∷ ws) d = absurd d
 due_lose t (e ∷ es) [] d = absurd d
 due_lose t (e ∷ es) (w ∷ ws) d =
-    subst (λ (b : Bool). AreDue (cond b es (e ∷ lose t es)) (cond (nat_eq t w.ticket) ws (w ∷ without t ws))) (sym (ap (λ (n : ℕ). nat_eq t n) d.0.ticket))
-    (lose_step (nat_eq t w.ticket) e w es (lose t es) ws (without t ws) d.0 d.1 (due_lose t es ws d.1))
+    subst (λ (b : Bool). AreDue (cond b es (e ∷ lose t es)) (cond (nat_eq t w.ticket) ws (w ∷ without_waiter t ws))) (sym (ap (λ (n : ℕ). nat_eq t n) d.0.ticket))
+    (lose_step (nat_eq t w.ticket) e w es (lose t es) ws (without_waiter t ws) d.0 d.1 (due_lose t es ws d.1))
 
 held_more : (wrote : List ℕ) (b : Block) (h : Option Held) (o : Option Since) → IsHeld b h o → IsHeld b h (wrote_more wrote o)
 held_more wrote b None None i = i
@@ -81,12 +81,12 @@ HoldsAt t h store None = Unit {0}
 HoldsAt t h store (Some w) = Holds w.block.tree (under store) h.reads h.verdict
 
 held_step : (b : Bool) (t : ℕ) (h : Held) (store : List Cell) (e : ℕ × Waiting) (w : Waiter) (es fs : List (ℕ × Waiting)) (ws vs : List Waiter) → IsDue e w → AreDue es ws
-    → HoldsAt t h store (cond b (Some w) (waiter t ws)) → (HoldsAt t h store (waiter t ws) → AreDue fs vs)
+    → HoldsAt t h store (cond b (Some w) (find_waiter t ws)) → (HoldsAt t h store (find_waiter t ws) → AreDue fs vs)
     → AreDue (cond b ((e.0, kept h e.1) ∷ es) (e ∷ fs)) (cond b (with_delivery store w ∷ ws) (w ∷ vs))
 held_step true t h store e w es fs ws vs d a holds more = (record { ticket = d.ticket; block = d.block; held = holds }, a)
 held_step false t h store e w es fs ws vs d a holds more = (d, more holds)
 
-due_held_by : (t : ℕ) (h : Held) (store : List Cell) (es : List (ℕ × Waiting)) (ws : List Waiter) → AreDue es ws → HoldsAt t h store (waiter t ws) → AreDue (with_held t h es) (delivered t store ws)
+due_held_by : (t : ℕ) (h : Held) (store : List Cell) (es : List (ℕ × Waiting)) (ws : List Waiter) → AreDue es ws → HoldsAt t h store (find_waiter t ws) → AreDue (with_held t h es) (delivered t store ws)
 due_held_by t h store [] [] d holds = tt
 due_held_by t h store [] (w ∷ ws) d holds = absurd d
 due_held_by t h store (e ∷ es) [] d holds = absurd d
@@ -95,7 +95,7 @@ due_held_by t h store (e ∷ es) (w ∷ ws) d holds =
     (sym (ap (λ (n : ℕ). nat_eq t n) d.0.ticket))
     (held_step (nat_eq t w.ticket) t h store e w es (with_held t h es) ws (delivered t store ws) d.0 d.1 holds (due_held_by t h store es ws d.1))
 
-pub due_held : (t : ℕ) (h : Held) (store : List Cell) (es : List (ℕ × Waiting)) (ws : List Waiter) (w : Waiter) → AreDue es ws → waiter t ws ≡ Some w → Holds w.block.tree (under store) h.reads h.verdict
+pub due_held : (t : ℕ) (h : Held) (store : List Cell) (es : List (ℕ × Waiting)) (ws : List Waiter) (w : Waiter) → AreDue es ws → find_waiter t ws ≡ Some w → Holds w.block.tree (under store) h.reads h.verdict
     → AreDue (with_held t h es) (delivered t store ws)
 due_held t h store es ws w d e holds = due_held_by t h store es ws d (subst (HoldsAt t h store) (sym e) holds)
 

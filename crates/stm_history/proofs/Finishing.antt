@@ -4,20 +4,20 @@ use Rattle.std.specs.Prelude.{nat_le, nat_eq, if◌then◌else◌}
 use Rattle.std.specs.List.{list_any}
 use Rattle.std.proofs.lemmas.Bool.Decides.{nat_tests}
 use Rattle.stm_terms.specs.declared.verdicts.Verdict.{Verdict}
-use Rattle.stm_terms.specs.Looks.{reads_of}
+use Rattle.stm_terms.specs.ReadSet.{reads_of}
 use Rattle.stm_store.specs.declared.cell.Cell.{Cell}
 use Rattle.stm_store.specs.Cells.{plains, Covers, Fits, StoreIsTyped, applied, made_by}
 use Rattle.stm_store.specs.Tables.{Declared}
 use Rattle.stm_terms.specs.Typing.{ActionType, action_type, kinds_in}
-use Rattle.stm_check.specs.Blocks.{Block}
-use Rattle.stm_check.proofs.Covering.{verdict_fits}
+use Rattle.stm_check.specs.TypedBlock.{Block}
+use Rattle.stm_check.proofs.Weakening.{verdict_fits}
 use Rattle.stm_eval.specs.Messages.{Holds}
 use Rattle.stm_watch.specs.Pairs.{Pairs, watches}
 use Rattle.stm_queue.specs.Queue.{has_ticket}
-use Rattle.stm_queue.specs.Rising.{IsRising}
+use Rattle.stm_queue.specs.SortedTickets.{IsRising}
 use Rattle.stm_history.specs.declared.event.Event.{Event}
 use Rattle.stm_history.specs.declared.event.What.TheVariants.{Finished}
-use Rattle.stm_history.specs.SlowDesk.{Since, Waiter, under, verdict_on, written_in, is_blocks, is_new, is_current, is_stale_since, current_since, stale_after, waiter, without, state, Allows, max_cells}
+use Rattle.stm_history.specs.SlowDesk.{Since, Waiter, under, verdict_on, written_in, is_blocks, is_new, is_current, is_stale_since, current_since, stale_after, find_waiter, without_waiter, state, Allows, max_cells}
 use Rattle.stm_history.specs.Laws.{AreRising}
 use Rattle.stm_history.proofs.Rising.{waiter_without, rising_without}
 use Rattle.stm_history.proofs.Covered.{blocks_are_covered}
@@ -27,7 +27,7 @@ use Rattle.stm_history.specs.declared.waiting.Waiting.{Waiting}
 use Rattle.stm_history.specs.declared.errors.FinishError.TheVariants as finish
 use Rattle.stm_history.specs.Entries.{kept_at, lose, IsHeld}
 use Rattle.stm_history.specs.Machine.{Parts, StandsFor, CanFinish, MovesTo}
-use Rattle.stm_history.specs.Marks.{due_of, with_tickets}
+use Rattle.stm_history.specs.QueueAndIndex.{due_of, with_tickets}
 use Rattle.stm_history.specs.Plans.{IsPlan}
 use Rattle.stm_history.specs.Refusals.{overflows, finish_first}
 use Rattle.stm_history.proofs.Calls.{waits, kept_rising}
@@ -36,7 +36,7 @@ use Rattle.stm_history.proofs.Moves.{moves_to, IsUnwatched, stands_finish}
 use Rattle.stm_history.proofs.Points.{stale_of, has_stale}
 use Rattle.stm_history.proofs.Rises.{stale_is, stale_rising}
 
--- ---- what is told, by what is kept
+-- ---- what is reported, by what is kept
 pub no_ticket : (store : List Cell) (full : Bool) (o : Option Waiter) → o ≡ None → Some finish.NoTicket ≡ finish_first store full o
 no_ticket store full o e = rw e refl
 
@@ -81,7 +81,7 @@ module _ (table : List Declared) (history : List Event) (m : Parts) (k : StandsF
   -- a block that waits with a delivery
   pub record HasHeld (t : ℕ) (h : Held) (x : Waiting) : Type 0 where
     pub one : Waiter
-    pub found : waiter t (state table history).waiters ≡ Some one
+    pub found : find_waiter t (state table history).waiters ≡ Some one
     pub block : x.block ≡ one.block
     pub since : Since
     pub since_is : one.since ≡ Some since
@@ -94,17 +94,17 @@ module _ (table : List Declared) (history : List Event) (m : Parts) (k : StandsF
       let s = since_by p.one.block h p.one.since i in
       record { one = p.one; found = p.found; block = p.same.block; since = s.0; since_is = s.1; holds = s.2 }
 
-  pub no_held : (t : ℕ) (x : Waiting) → kept_at t m.entries ≡ Some x → x.held ≡ None → (w : Waiter) × (waiter t (state table history).waiters ≡ Some w) × (w.since ≡ None)
+  pub no_held : (t : ℕ) (x : Waiting) → kept_at t m.entries ≡ Some x → x.held ≡ None → (w : Waiter) × (find_waiter t (state table history).waiters ≡ Some w) × (w.since ≡ None)
   no_held t x e q =
       let p = waits t x m.entries (state table history).waiters k.stands.entries_are e in
       let i : IsHeld p.one.block None p.one.since = subst (λ (o : Option Held). IsHeld p.one.block o p.one.since) q p.same.held in
       (p.one, p.found, none_by p.one.block p.one.since i)
 
   pub is_stale : (t : ℕ) (h : Held) (x : Waiting) (b : Bool) → (p : HasHeld t h x) → b ≡ has_ticket t m.pending → b ≡ true → is_current p.one ≡ false
-  is_stale t h x b p e c = not_current (waiter t (state table history).waiters) p.one b p.found (e ∙ k.stands.queue t) c
+  is_stale t h x b p e c = not_current (find_waiter t (state table history).waiters) p.one b p.found (e ∙ k.stands.queue t) c
 
   pub is_fresh : (t : ℕ) (h : Held) (x : Waiting) (b : Bool) → (p : HasHeld t h x) → b ≡ has_ticket t m.pending → b ≡ false → is_current p.one ≡ true
-  is_fresh t h x b p e c = current (waiter t (state table history).waiters) p.one b p.found (e ∙ k.stands.queue t) c
+  is_fresh t h x b p e c = current (find_waiter t (state table history).waiters) p.one b p.found (e ∙ k.stands.queue t) c
 
   pub present : (t : ℕ) (h : Held) (x : Waiting) → (p : HasHeld t h x) → is_current p.one ≡ true → verdict_on (state table history).store p.one.block ≡ Some h.verdict
   present t h x p c =
@@ -147,7 +147,7 @@ is_plan table history m k t h x r p verdict n stale c typed action ends room ve 
             subst (λ (v : Verdict). length s.store + length (made_by v) ≤ max_cells) (sym ve) b;
         listed =
             stale_is m.watch m.entries s.waiters (written_in h.verdict) stale s.next t k.stands.entries_are k.stands.index (kept_rising table history m k) inc q
-            ∙ ap (λ (v : Verdict). stale_after (written_in v) (without t s.waiters)) (sym ve);
+            ∙ ap (λ (v : Verdict). stale_after (written_in v) (without_waiter t s.waiters)) (sym ve);
       };
       fits = subst (λ (v : Verdict). Fits (plains s.store) v) (sym ve) (fits table history m k t h x r p c typed action);
     }
@@ -168,14 +168,14 @@ plan_absent table history m k t verdict n stale p u e =
     let s = state table history in
     let W = written_in verdict in
     let r : AreRising s.next 0 s.waiters = kept_rising table history m k in
-    let q : stale_of W (cond (nat_eq u t) None (waiter u s.waiters)) ≡ true =
-    sym (ap (list_any (nat_eq u)) p.may.listed ∙ has_stale u s.next 0 W (without t s.waiters) (rising_without t s.next 0 s.waiters r) ∙ ap (stale_of W) (waiter_without t u s.next 0 s.waiters r)) ∙ e in
-    k.stands.queue u ∙ stale_due W (nat_eq u t) (waiter u s.waiters) q
+    let q : stale_of W (cond (nat_eq u t) None (find_waiter u s.waiters)) ≡ true =
+    sym (ap (list_any (nat_eq u)) p.may.listed ∙ has_stale u s.next 0 W (without_waiter t s.waiters) (rising_without t s.next 0 s.waiters r) ∙ ap (stale_of W) (waiter_without t u s.next 0 s.waiters r)) ∙ e in
+    k.stands.queue u ∙ stale_due W (nat_eq u t) (find_waiter u s.waiters) q
 
 pub plan_rising : (table : List Declared) (history : List Event) (m : Parts) → StandsFor table history m → (t : ℕ) (verdict : Verdict) (n : ℕ) (stale : List ℕ) → IsPlan (state table history) t verdict n stale → IsRising stale
 plan_rising table history m k t verdict n stale p =
     let s = state table history in
-    subst IsRising (sym p.may.listed) (stale_rising s.next 0 (written_in verdict) (without t s.waiters) (rising_without t s.next 0 s.waiters (kept_rising table history m k)))
+    subst IsRising (sym p.may.listed) (stale_rising s.next 0 (written_in verdict) (without_waiter t s.waiters) (rising_without t s.next 0 s.waiters (kept_rising table history m k)))
 
 -- the verdict of a plan fits what is held
 pub plan_fits : (table : List Declared) (history : List Event) (m : Parts) → StandsFor table history m → (t : ℕ) (verdict : Verdict) (n : ℕ) (stale : List ℕ) → IsPlan (state table history) t verdict n stale → Fits (plains m.store) verdict

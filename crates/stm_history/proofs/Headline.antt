@@ -1,13 +1,13 @@
 -- The promise of the scheduler, from what each waiting block waits since.
 use Rattle.std.proofs.Common.{◌≡◌, ℕ, Bool, true, false, not, cond, List, Option, Some, None, refl, sym, ap, subst, ◌∙◌}
-use Rattle.stm_terms.specs.Looks.{reads_of}
+use Rattle.stm_terms.specs.ReadSet.{reads_of}
 use Rattle.stm_store.specs.declared.cell.Cell.{Cell}
 use Rattle.stm_store.specs.Tables.{Declared}
 use Rattle.stm_history.specs.declared.event.Event.{Event}
-use Rattle.stm_history.specs.SlowDesk.{Since, Waiter, Standing, under, verdict_on, looked_on, meets, is_stale_since, is_new_since, current_since, is_current, waiter, state, standing_since, weak_since, IsLegal}
+use Rattle.stm_history.specs.SlowDesk.{Since, Waiter, Standing, under, verdict_on, looked_on, intersects, is_stale_since, is_new_since, current_since, is_current, find_waiter, state, standing_since, weak_since, IsLegal}
 use Rattle.stm_history.specs.SlowDesk.{Stale, Current}
 use Rattle.stm_history.specs.Laws.{WeakIsPresent}
-use Rattle.stm_history.specs.Headline.{written_by, Headline, IsKnown, Fresh, Evaluated, IsMarkedRightly}
+use Rattle.stm_history.specs.Headline.{written_in_events, Headline, IsKnown, Fresh, Evaluated, IsMarkedRightly}
 use Rattle.stm_history.proofs.Since.{IsSince, Tracks, tracked_state}
 use Rattle.stm_history.proofs.Serial.{store_is_serial}
 use Rattle.stm_history.proofs.Fresh.{current_holds}
@@ -20,7 +20,7 @@ from_current : (a : Bool) → not a ≡ true → a ≡ false
 from_current true e = cc
 from_current false e = refl
 
-marked_by : (table : List Declared) (history : List Event) (t : ℕ) (w : Waiter) (s : Since) → IsLegal table history → waiter t (state table history).waiters ≡ Some w → w.since ≡ Some s
+marked_by : (table : List Declared) (history : List Event) (t : ℕ) (w : Waiter) (s : Since) → IsLegal table history → find_waiter t (state table history).waiters ≡ Some w → w.since ≡ Some s
     → (k : IsSince table history t w.block s) → IsMarkedRightly table history t w k.delivery
 marked_by table history t w s l f e k =
     let c : is_current w ≡ not (is_stale_since w.block s) = ap (current_since w.block) e in
@@ -28,14 +28,14 @@ marked_by table history t w s l f e k =
       evaluated = subst (λ (x : List Cell). verdict_on x w.block ≡ Some k.delivery.verdict) k.store k.verdict;
       marked =
           ap not c ∙ twice (is_stale_since w.block s)
-          ∙ ap (λ (x : List ℕ). meets x (looked_on s.store_then w.block)) k.wrote
-          ∙ ap (λ (x : List Cell). meets (written_by k.delivery.later) (looked_on x w.block)) k.store;
+          ∙ ap (λ (x : List ℕ). intersects x (looked_on s.store_then w.block)) k.wrote
+          ∙ ap (λ (x : List Cell). intersects (written_in_events k.delivery.later) (looked_on x w.block)) k.store;
       present = λ p.
           (current_holds table history t w s (reads_of (under s.store_then) w.block.tree) k.delivery.verdict l f e (from_current (is_stale_since w.block s) (sym c ∙ p))
           (record { verdict_is = k.verdict; reads_are = refl })).verdict_is;
     }
 
-known_by : (table : List Declared) (history : List Event) (t : ℕ) (w : Waiter) (o : Option Since) → IsLegal table history → waiter t (state table history).waiters ≡ Some w → w.since ≡ o
+known_by : (table : List Declared) (history : List Event) (t : ℕ) (w : Waiter) (o : Option Since) → IsLegal table history → find_waiter t (state table history).waiters ≡ Some w → w.since ≡ o
     → Tracks table history t w.block o → IsKnown table history t w
 known_by table history t w None l f e k = Fresh (ap is_new_since e) k
 known_by table history t w (Some s) l f e k = Evaluated (ap is_new_since e) k.delivery (marked_by table history t w s l f e k)
@@ -51,7 +51,7 @@ stands_by : (a : Bool) (then now present : Standing) → (a ≡ false → now �
 stands_by true then now present e = refl
 stands_by false then now present e = e refl
 
-weak_by : (table : List Declared) (history : List Event) (t : ℕ) (w : Waiter) (o : Option Since) → IsLegal table history → waiter t (state table history).waiters ≡ Some w → w.since ≡ o → Tracks table history t w.block o
+weak_by : (table : List Declared) (history : List Event) (t : ℕ) (w : Waiter) (o : Option Since) → IsLegal table history → find_waiter t (state table history).waiters ≡ Some w → w.since ≡ o → Tracks table history t w.block o
     → standing_since (state table history).store w.block o ≡ weak_since w.block o
 weak_by table history t w None l f e k = refl
 weak_by table history t w (Some s) l f e k =

@@ -3,12 +3,12 @@ use Rattle.std.proofs.Common.{◌≡◌, ℕ, ◌<◌, ◌≤◌, Bool, true, fa
 use Rattle.std.specs.Prelude.{nat_eq, nat_lt, slice_get, option_map}
 use Rattle.std.proofs.lemmas.Bool.Decides.{nat_tests}
 use Rattle.stm_queue.specs.Queue.{Entry, has_ticket, tickets, queued}
-use Rattle.stm_queue.specs.Rising.{RisesAbove, IsRising}
-use Rattle.stm_history.specs.SlowDesk.{Waiter, waiter}
+use Rattle.stm_queue.specs.SortedTickets.{RisesAbove, IsRising}
+use Rattle.stm_history.specs.SlowDesk.{Waiter, find_waiter}
 use Rattle.stm_history.specs.SlowSettle.{lowest, is_due}
 use Rattle.stm_history.specs.Laws.{AreRising}
-use Rattle.stm_history.specs.Choices.{some_out}
-use Rattle.stm_history.specs.Marks.{due_of, AreQueued}
+use Rattle.stm_history.specs.SettleChoices.{some_out}
+use Rattle.stm_history.specs.QueueAndIndex.{due_of, AreQueued}
 use Rattle.stm_history.proofs.Points.{not_above}
 
 itself : (i : ℕ) → nat_eq i i ≡ true
@@ -31,11 +31,11 @@ lowest_above p n k (w ∷ ws) one r e = above_cons (p w) k w one (lowest p ws) r
 other : (t k : ℕ) → k < t → nat_eq t k ≡ false
 other t k h = grind (arith, nat_tests)
 
-waits_cons : (b : Bool) (w one : Waiter) (ws : List Waiter) (o : Option Waiter) → (o ≡ Some one → w.ticket < one.ticket) → (o ≡ Some one → waiter one.ticket ws ≡ Some one) → cond b (Some w) o ≡ Some one → waiter one.ticket (w ∷ ws) ≡ Some one
+waits_cons : (b : Bool) (w one : Waiter) (ws : List Waiter) (o : Option Waiter) → (o ≡ Some one → w.ticket < one.ticket) → (o ≡ Some one → find_waiter one.ticket ws ≡ Some one) → cond b (Some w) o ≡ Some one → find_waiter one.ticket (w ∷ ws) ≡ Some one
 waits_cons true w one ws o above more e = let q : w ≡ one = cc in rw (q, itself one.ticket)
 waits_cons false w one ws o above more e = rw (other one.ticket w.ticket (above e)) (more e)
 
-pub lowest_waits : (p : Waiter → Bool) (n k : ℕ) (ws : List Waiter) (one : Waiter) → AreRising n k ws → lowest p ws ≡ Some one → waiter one.ticket ws ≡ Some one
+pub lowest_waits : (p : Waiter → Bool) (n k : ℕ) (ws : List Waiter) (one : Waiter) → AreRising n k ws → lowest p ws ≡ Some one → find_waiter one.ticket ws ≡ Some one
 lowest_waits p n k [] one r e = cc
 lowest_waits p n k (w ∷ ws) one r e =
     waits_cons (p w) w one ws (lowest p ws) (lowest_above p n w.ticket ws one r.2) (lowest_waits p n w.ticket ws one r.2) e
@@ -49,17 +49,17 @@ lowest_holds p [] one e = cc
 lowest_holds p (w ∷ ws) one e = holds_cons p (p w) w one (lowest p ws) refl (lowest_holds p ws one) e
 
 -- ---- no ticket that is due is below the lowest one
-waits_above : (t n k : ℕ) (b : Bool) (ws : List Waiter) → AreRising n k ws → due_of (waiter t ws) ≡ true → k < t
+waits_above : (t n k : ℕ) (b : Bool) (ws : List Waiter) → AreRising n k ws → due_of (find_waiter t ws) ≡ true → k < t
 waits_above t n k b ws r d = by (nat_lt k t) refl where
   by : (c : Bool) → nat_lt k t ≡ c → k < t
   by true e = grind (arith, nat_tests)
   by false e =
       let l : t ≤ k = grind (arith, nat_tests) in
-      let m : due_of (waiter t ws) ≡ false = ap due_of (not_above t n k ws l r) in
+      let m : due_of (find_waiter t ws) ≡ false = ap due_of (not_above t n k ws l r) in
       cc
 
 due_step : (b d : Bool) (t n k : ℕ) (w one : Waiter) (ws : List Waiter) → is_due w ≡ b → nat_eq t w.ticket ≡ d → AreRising n k (w ∷ ws)
-    → (lowest is_due ws ≡ Some one → due_of (waiter t ws) ≡ true → one.ticket ≤ t) → cond b (Some w) (lowest is_due ws) ≡ Some one → due_of (cond d (Some w) (waiter t ws)) ≡ true → one.ticket ≤ t
+    → (lowest is_due ws ≡ Some one → due_of (find_waiter t ws) ≡ true → one.ticket ≤ t) → cond b (Some w) (lowest is_due ws) ≡ Some one → due_of (cond d (Some w) (find_waiter t ws)) ≡ true → one.ticket ≤ t
 due_step true true t n k w one ws h e r more f q = let i : w ≡ one = cc in subst (λ (x : Waiter). x.ticket ≤ t) i (grind (arith, nat_tests))
 due_step true false t n k w one ws h e r more f q =
     let i : w ≡ one = cc in
@@ -68,16 +68,16 @@ due_step true false t n k w one ws h e r more f q =
 due_step false true t n k w one ws h e r more f q = cc
 due_step false false t n k w one ws h e r more f q = more f q
 
-due_from : (t n k : ℕ) (ws : List Waiter) (one : Waiter) → AreRising n k ws → lowest is_due ws ≡ Some one → due_of (waiter t ws) ≡ true → one.ticket ≤ t
+due_from : (t n k : ℕ) (ws : List Waiter) (one : Waiter) → AreRising n k ws → lowest is_due ws ≡ Some one → due_of (find_waiter t ws) ≡ true → one.ticket ≤ t
 due_from t n k [] one r f q = cc
 due_from t n k (w ∷ ws) one r f q = due_step (is_due w) (nat_eq t w.ticket) t n k w one ws refl refl r (due_from t n w.ticket ws one r.2) f q
 
-none_step : (b d : Bool) (t : ℕ) (w : Waiter) (ws : List Waiter) → is_due w ≡ b → (lowest is_due ws ≡ None → due_of (waiter t ws) ≡ false) → cond b (Some w) (lowest is_due ws) ≡ None → due_of (cond d (Some w) (waiter t ws)) ≡ false
+none_step : (b d : Bool) (t : ℕ) (w : Waiter) (ws : List Waiter) → is_due w ≡ b → (lowest is_due ws ≡ None → due_of (find_waiter t ws) ≡ false) → cond b (Some w) (lowest is_due ws) ≡ None → due_of (cond d (Some w) (find_waiter t ws)) ≡ false
 none_step true d t w ws h more f = cc
 none_step false true t w ws h more f = h
 none_step false false t w ws h more f = more f
 
-pub none_due : (t : ℕ) (ws : List Waiter) → lowest is_due ws ≡ None → due_of (waiter t ws) ≡ false
+pub none_due : (t : ℕ) (ws : List Waiter) → lowest is_due ws ≡ None → due_of (find_waiter t ws) ≡ false
 none_due t [] f = refl
 none_due t (w ∷ ws) f = none_step (is_due w) (nat_eq t w.ticket) t w ws refl (none_due t ws) f
 
@@ -107,13 +107,13 @@ head_by (e ∷ es) ws n k None f r s q =
     let b : has_ticket e.0 (e ∷ es) ≡ false = q e.0 ∙ none_due e.0 ws f in
     cc
 head_by [] ws n k (Some w) f r s q =
-    let a : due_of (waiter w.ticket ws) ≡ true = ap due_of (lowest_waits is_due n k ws w s f) ∙ lowest_holds is_due ws w f in
-    let b : false ≡ due_of (waiter w.ticket ws) = q w.ticket in
+    let a : due_of (find_waiter w.ticket ws) ≡ true = ap due_of (lowest_waits is_due n k ws w s f) ∙ lowest_holds is_due ws w f in
+    let b : false ≡ due_of (find_waiter w.ticket ws) = q w.ticket in
     cc
 head_by (e ∷ es) ws n k (Some w) f r s q =
-    let a : due_of (waiter w.ticket ws) ≡ true = ap due_of (lowest_waits is_due n k ws w s f) ∙ lowest_holds is_due ws w f in
+    let a : due_of (find_waiter w.ticket ws) ≡ true = ap due_of (lowest_waits is_due n k ws w s f) ∙ lowest_holds is_due ws w f in
     let b : e.0 ≤ w.ticket = first_least w.ticket e es r (q w.ticket ∙ a) in
-    let c : due_of (waiter e.0 ws) ≡ true = sym (q e.0) ∙ true_or (nat_eq e.0 e.0) (has_ticket e.0 es) (itself e.0) in
+    let c : due_of (find_waiter e.0 ws) ≡ true = sym (q e.0) ∙ true_or (nat_eq e.0 e.0) (has_ticket e.0 es) (itself e.0) in
     let d : w.ticket ≤ e.0 = due_from e.0 n k ws w s f c in
     let i : e.0 ≡ w.ticket = omega arith in
     ap Some i

@@ -7,15 +7,15 @@ use Rattle.stm_terms.specs.declared.verdicts.Verdict.{Verdict}
 use Rattle.stm_store.specs.declared.cell.Cell.{Cell}
 use Rattle.stm_store.specs.Cells.{applied}
 use Rattle.stm_store.specs.Tables.{Declared}
-use Rattle.stm_check.specs.Blocks.{Block}
+use Rattle.stm_check.specs.TypedBlock.{Block}
 use Rattle.stm_eval.specs.Messages.{Holds}
-use Rattle.stm_watch.specs.Pairs.{Pairs, has, is_read, WithReads, WithoutReads}
+use Rattle.stm_watch.specs.Pairs.{Pairs, has_pair, is_read, WithReads, WithoutReads}
 use Rattle.stm_queue.specs.Queue.{Entry, has_ticket, with_ticket, without_ticket}
 use Rattle.stm_queue.proofs.Merging.{has_with}
 use Rattle.stm_history.specs.declared.event.Event.{Event}
 use Rattle.stm_history.specs.declared.event.What.{What}
 use Rattle.stm_history.specs.declared.event.What.TheVariants.{Submitted, Installed, Finished, Cancelled}
-use Rattle.stm_history.specs.SlowDesk.{Waiter, Slow, under, is_current, written_in, stale_after, after_writes, waiter, without, after, Allows, start, state, max_events}
+use Rattle.stm_history.specs.SlowDesk.{Waiter, Slow, under, is_current, written_in, stale_after, after_writes, find_waiter, without_waiter, after, Allows, initial_state, state, max_events}
 use Rattle.stm_history.specs.Laws.{AreRising}
 use Rattle.stm_history.proofs.Folds.{state-push, is_legal-push}
 use Rattle.stm_history.proofs.Rising.{rising_without, waiter_without, waiter_delivered, waiter_marks, waiter_push}
@@ -23,8 +23,8 @@ use Rattle.stm_history.specs.declared.waiting.Held.{Held}
 use Rattle.stm_history.specs.declared.waiting.Waiting.{Waiting}
 use Rattle.stm_history.specs.Entries.{kept_at, lose, with_held, AreDue, held_reads, kept_reads}
 use Rattle.stm_history.specs.Machine.{Parts, StandsFor, MovesTo, event}
-use Rattle.stm_history.specs.Marks.{with_tickets, due_of, watches_of, read_since}
-use Rattle.stm_history.specs.Stands.{Stands}
+use Rattle.stm_history.specs.QueueAndIndex.{with_tickets, due_of, watches_of, read_since}
+use Rattle.stm_history.specs.MachineInvariant.{Stands}
 use Rattle.stm_history.proofs.Due.{IsFound, found, due_push, due_lose, due_marks, due_held, held_are}
 use Rattle.stm_history.proofs.Points.{not_yet, has_without_ticket, has_with_tickets, queue_push, index_push, queue_delivered, index_delivered, queue_gone, index_gone, stale_of, queue_finished, index_finished, has_stale}
 
@@ -33,7 +33,7 @@ pub moves_to : (table : List Declared) (history : List Event) (m m' : Parts) (wh
     → Stands (after (state table history) what) m'.store m'.next m'.entries m'.pending m'.watch → MovesTo table history what m'
 moves_to table history m m' what k room a s client low = record {
   legal = is_legal-push table history (event client what) k.legal (omega (arith, room)) (record { client = low; what = a });
-  stands = subst (λ (x : Slow). Stands x m'.store m'.next m'.entries m'.pending m'.watch) (sym (state-push (start table) history (event client what))) s;
+  stands = subst (λ (x : Slow). Stands x m'.store m'.next m'.entries m'.pending m'.watch) (sym (state-push (initial_state table) history (event client what))) s;
 }
 
 same_number : (u t : ℕ) → nat_eq u t ≡ true → u ≡ t
@@ -50,15 +50,15 @@ stands_submit s store next es ps watch b r k =
       store_is = k.store_is;
       next_is = ap (λ n. n + 1) k.next_is;
       entries_are = due_push es s.waiters next b k.entries_are;
-      queue = λ u. has_with u (next, false) ps ∙ queue_push (nat_eq u next) (has_ticket u ps) next b (waiter u s.waiters) (k.queue u) ∙ sym (ap due_of (there u));
+      queue = λ u. has_with u (next, false) ps ∙ queue_push (nat_eq u next) (has_ticket u ps) next b (find_waiter u s.waiters) (k.queue u) ∙ sym (ap due_of (there u));
       index = λ v u.
-          index_push (nat_eq u next) (has watch v u) v next b (waiter u s.waiters) (k.index v u)
+          index_push (nat_eq u next) (has_pair watch v u) v next b (find_waiter u s.waiters) (k.index v u)
           (λ h. let l : u ≡ next = same_number u next h in not_yet u next 0 s.waiters (omega arith) low)
           ∙ sym (ap (λ (o : Option Waiter). watches_of o v) (there u));
     }
 
 pub stands_install : (s : Slow) (store : List Cell) (next : ℕ) (es : List (ℕ × Waiting)) (ps : List Entry) (watch watch' : Pairs) (t : ℕ) (w : Waiter) (h : Held)
-    → Stands s store next es ps watch → waiter t s.waiters ≡ Some w → is_current w ≡ false → Holds w.block.tree (under s.store) h.reads h.verdict
+    → Stands s store next es ps watch → find_waiter t s.waiters ≡ Some w → is_current w ≡ false → Holds w.block.tree (under s.store) h.reads h.verdict
     → WithReads watch t h.reads watch'
     → Stands (after s (Installed t h.verdict)) store next (with_held t h es) (without_ticket t ps) watch'
 stands_install s store next es ps watch watch' t w h k f n holds q =
@@ -67,17 +67,17 @@ stands_install s store next es ps watch watch' t w h k f n holds q =
       store_is = k.store_is;
       next_is = k.next_is;
       entries_are = due_held t h s.store es s.waiters w k.entries_are f holds;
-      queue = λ u. has_without_ticket u t ps ∙ queue_delivered (nat_eq u t) (has_ticket u ps) s.store (waiter u s.waiters) (k.queue u) ∙ sym (ap due_of (there u));
+      queue = λ u. has_without_ticket u t ps ∙ queue_delivered (nat_eq u t) (has_ticket u ps) s.store (find_waiter u s.waiters) (k.queue u) ∙ sym (ap due_of (there u));
       index = λ v u.
           q v u
-          ∙ index_delivered (nat_eq u t) (has watch v u) (is_read h.reads v) v s.store (waiter u s.waiters) w (k.index v u)
-          (λ e. subst (λ (x : ℕ). waiter x s.waiters ≡ Some w) (sym (same_number u t e)) f) n (ap (λ (rs : List (ℕ × Value)). is_read rs v) (sym holds.reads_are))
+          ∙ index_delivered (nat_eq u t) (has_pair watch v u) (is_read h.reads v) v s.store (find_waiter u s.waiters) w (k.index v u)
+          (λ e. subst (λ (x : ℕ). find_waiter x s.waiters ≡ Some w) (sym (same_number u t e)) f) n (ap (λ (rs : List (ℕ × Value)). is_read rs v) (sym holds.reads_are))
           ∙ sym (ap (λ (o : Option Waiter). watches_of o v) (there u));
     }
 
 -- what is kept of a ticket is what its block read
-reads_there : (u : ℕ) (es : List (ℕ × Waiting)) (ws : List Waiter) (w : Waiter) → AreDue es ws → waiter u ws ≡ Some w → kept_reads (kept_at u es) ≡ read_since w.block w.since
-reads_there u es ws w d e = same (kept_at u es) (waiter u ws) (found u es ws d) e where
+reads_there : (u : ℕ) (es : List (ℕ × Waiting)) (ws : List Waiter) (w : Waiter) → AreDue es ws → find_waiter u ws ≡ Some w → kept_reads (kept_at u es) ≡ read_since w.block w.since
+reads_there u es ws w d e = same (kept_at u es) (find_waiter u ws) (found u es ws d) e where
   same : (o : Option Waiting) (p : Option Waiter) → IsFound o p → p ≡ Some w → kept_reads o ≡ read_since w.block w.since
   same None p f h = absurd (none p f h) where
     none : (q : Option Waiter) → IsFound None q → q ≡ Some w → ⊥
@@ -97,32 +97,32 @@ stands_cancel s store next es ps watch watch' t r k q =
       store_is = k.store_is;
       next_is = k.next_is;
       entries_are = due_lose t es s.waiters k.entries_are;
-      queue = λ u. has_without_ticket u t ps ∙ queue_gone (nat_eq u t) (has_ticket u ps) (waiter u s.waiters) (k.queue u) ∙ sym (ap due_of (there u));
+      queue = λ u. has_without_ticket u t ps ∙ queue_gone (nat_eq u t) (has_ticket u ps) (find_waiter u s.waiters) (k.queue u) ∙ sym (ap due_of (there u));
       index = λ v u.
           q v u
-          ∙ index_gone (nat_eq u t) (has watch v u) (is_read (kept_reads (kept_at t es)) v) v (waiter u s.waiters) (kept_reads (kept_at t es)) (k.index v u)
-          (λ e w f. reads_there t es s.waiters w k.entries_are (subst (λ (x : ℕ). waiter x s.waiters ≡ Some w) (same_number u t e) f)) refl
+          ∙ index_gone (nat_eq u t) (has_pair watch v u) (is_read (kept_reads (kept_at t es)) v) v (find_waiter u s.waiters) (kept_reads (kept_at t es)) (k.index v u)
+          (λ e w f. reads_there t es s.waiters w k.entries_are (subst (λ (x : ℕ). find_waiter x s.waiters ≡ Some w) (same_number u t e) f)) refl
           ∙ sym (ap (λ (o : Option Waiter). watches_of o v) (there u));
     }
 
 -- the pairs of the tickets that become stale were taken away, then those of the one that finished
 pub record IsUnwatched (t : ℕ) (stale : List ℕ) (es : List (ℕ × Waiting)) (watch watch' : Pairs) : Type 0 where
   pub between : Pairs
-  pub others : (v u : ℕ) → has between v u ≡ (has watch v u && not (list_any (nat_eq u) stale && is_read (kept_reads (kept_at u es)) v))
+  pub others : (v u : ℕ) → has_pair between v u ≡ (has_pair watch v u && not (list_any (nat_eq u) stale && is_read (kept_reads (kept_at u es)) v))
   pub itself : WithoutReads between t (kept_reads (kept_at t es)) watch'
 
 current_not_due : (o : Option Waiter) (w : Waiter) → o ≡ Some w → is_current w ≡ true → due_of o ≡ false
 current_not_due o w e c = ap due_of e ∙ ap not c
 
 pub stands_finish : (s : Slow) (store store' : List Cell) (next : ℕ) (es : List (ℕ × Waiting)) (ps : List Entry) (watch watch' : Pairs) (t : ℕ) (w : Waiter) (v : Verdict) (n : ℕ) (stale : List ℕ)
-    → AreRising s.next 0 s.waiters → Stands s store next es ps watch → waiter t s.waiters ≡ Some w → is_current w ≡ true
-    → stale ≡ stale_after (written_in v) (without t s.waiters) → store' ≡ applied store v → IsUnwatched t stale es watch watch'
+    → AreRising s.next 0 s.waiters → Stands s store next es ps watch → find_waiter t s.waiters ≡ Some w → is_current w ≡ true
+    → stale ≡ stale_after (written_in v) (without_waiter t s.waiters) → store' ≡ applied store v → IsUnwatched t stale es watch watch'
     → Stands (after s (Finished t v n stale)) store' next (lose t es) (with_tickets stale ps) watch'
 stands_finish s store store' next es ps watch watch' t w v n stale r k f c listed store_is q =
     let W = written_in v in
-    let ws = without t s.waiters in
+    let ws = without_waiter t s.waiters in
     let there = λ (u : ℕ). waiter_marks u W ws ∙ ap (option_map (after_writes W)) (waiter_without t u s.next 0 s.waiters r) in
-    let has_listed : (u : ℕ) → list_any (nat_eq u) stale ≡ stale_of W (cond (nat_eq u t) None (waiter u s.waiters)) = λ u.
+    let has_listed : (u : ℕ) → list_any (nat_eq u) stale ≡ stale_of W (cond (nat_eq u t) None (find_waiter u s.waiters)) = λ u.
     ap (list_any (nat_eq u)) listed ∙ has_stale u s.next 0 W ws (rising_without t s.next 0 s.waiters r) ∙ ap (stale_of W) (waiter_without t u s.next 0 s.waiters r) in
     record {
       store_is = store_is ∙ ap (λ (x : List Cell). applied x v) k.store_is;
@@ -130,15 +130,15 @@ stands_finish s store store' next es ps watch watch' t w v n stale r k f c liste
       entries_are = due_marks W (lose t es) ws (due_lose t es s.waiters k.entries_are);
       queue = λ u.
           has_with_tickets u stale ps ∙ ap (λ (b : Bool). b || has_ticket u ps) (has_listed u)
-          ∙ queue_finished (nat_eq u t) (has_ticket u ps) W (waiter u s.waiters) (k.queue u)
-          (λ e. k.queue u ∙ current_not_due (waiter u s.waiters) w (subst (λ (x : ℕ). waiter x s.waiters ≡ Some w) (sym (same_number u t e)) f) c)
+          ∙ queue_finished (nat_eq u t) (has_ticket u ps) W (find_waiter u s.waiters) (k.queue u)
+          (λ e. k.queue u ∙ current_not_due (find_waiter u s.waiters) w (subst (λ (x : ℕ). find_waiter x s.waiters ≡ Some w) (sym (same_number u t e)) f) c)
           ∙ sym (ap due_of (there u));
       index = λ x u.
           q.itself x u
           ∙ ap (λ (b : Bool). b && not (nat_eq u t && is_read (kept_reads (kept_at t es)) x))
-          (q.others x u ∙ ap (λ (b : Bool). has watch x u && not (b && is_read (kept_reads (kept_at u es)) x)) (has_listed u))
-          ∙ index_finished (nat_eq u t) (has watch x u) (is_read (kept_reads (kept_at t es)) x) (is_read (kept_reads (kept_at u es)) x) x W (waiter u s.waiters) (k.index x u)
-          (λ e y g. ap (λ (rs : List (ℕ × Value)). is_read rs x) (reads_there t es s.waiters y k.entries_are (subst (λ (z : ℕ). waiter z s.waiters ≡ Some y) (same_number u t e) g)))
+          (q.others x u ∙ ap (λ (b : Bool). has_pair watch x u && not (b && is_read (kept_reads (kept_at u es)) x)) (has_listed u))
+          ∙ index_finished (nat_eq u t) (has_pair watch x u) (is_read (kept_reads (kept_at t es)) x) (is_read (kept_reads (kept_at u es)) x) x W (find_waiter u s.waiters) (k.index x u)
+          (λ e y g. ap (λ (rs : List (ℕ × Value)). is_read rs x) (reads_there t es s.waiters y k.entries_are (subst (λ (z : ℕ). find_waiter z s.waiters ≡ Some y) (same_number u t e) g)))
           (λ e y g. ap (λ (rs : List (ℕ × Value)). is_read rs x) (reads_there u es s.waiters y k.entries_are g))
           ∙ sym (ap (λ (o : Option Waiter). watches_of o x) (there u));
     }

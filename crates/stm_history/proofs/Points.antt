@@ -5,32 +5,32 @@ use Rattle.std.specs.List.{list_any}
 use Rattle.std.proofs.lemmas.List.Folds.{list_any-append}
 use Rattle.std.proofs.lemmas.Bool.Decides.{nat_tests}
 use Rattle.stm_terms.specs.declared.values.Value.{Value}
-use Rattle.stm_terms.specs.Looks.{reads_of}
+use Rattle.stm_terms.specs.ReadSet.{reads_of}
 use Rattle.stm_store.specs.declared.cell.Cell.{Cell}
-use Rattle.stm_check.specs.Blocks.{Block}
+use Rattle.stm_check.specs.TypedBlock.{Block}
 use Rattle.stm_watch.specs.Pairs.{is_read}
 use Rattle.stm_queue.specs.Queue.{Entry, has_ticket, with_ticket, without_ticket}
 use Rattle.stm_queue.proofs.Merging.{has_with}
-use Rattle.stm_history.specs.SlowDesk.{Since, Waiter, under, looked_on, meets, current_since, is_current, wrote_more, after_writes, becomes_stale, stale_after, waiter, with_delivery}
+use Rattle.stm_history.specs.SlowDesk.{Since, Waiter, under, looked_on, intersects, current_since, is_current, wrote_more, after_writes, becomes_stale, stale_after, find_waiter, with_delivery}
 use Rattle.stm_history.specs.Laws.{AreRising}
-use Rattle.stm_history.specs.Marks.{with_tickets, due_of, read_since, watches_of}
+use Rattle.stm_history.specs.QueueAndIndex.{with_tickets, due_of, read_since, watches_of}
 
 -- ---- nobody waits under a ticket that isn't given yet
-pub not_yet : (t n k : ℕ) (ws : List Waiter) → n ≤ t → AreRising n k ws → waiter t ws ≡ None
+pub not_yet : (t n k : ℕ) (ws : List Waiter) → n ≤ t → AreRising n k ws → find_waiter t ws ≡ None
 not_yet t n k [] h r = refl
 not_yet t n k (w ∷ ws) h r =
     let b : w.ticket < n = r.1 in
     let e : nat_eq t w.ticket ≡ false = grind (arith, nat_tests) in
     rw e (not_yet t n w.ticket ws h r.2)
 
-pub not_above : (t n k : ℕ) (ws : List Waiter) → t ≤ k → AreRising n k ws → waiter t ws ≡ None
+pub not_above : (t n k : ℕ) (ws : List Waiter) → t ≤ k → AreRising n k ws → find_waiter t ws ≡ None
 not_above t n k [] h r = refl
 not_above t n k (w ∷ ws) h r =
     let b : k < w.ticket = r.0 in
     let e : nat_eq t w.ticket ≡ false = grind (arith, nat_tests) in
     rw e (not_above t n w.ticket ws (omega arith) r.2)
 
-pub meets-nothing : (is : List ℕ) → meets [] is ≡ false
+pub meets-nothing : (is : List ℕ) → intersects [] is ≡ false
 meets-nothing [] = refl
 meets-nothing (i ∷ is) = meets-nothing is
 
@@ -40,10 +40,10 @@ swap_or false true true d = refl
 swap_or false true false d = refl
 swap_or false false c d = refl
 
-pub meets-append : (a b : List ℕ) (is : List ℕ) → meets (a ++ b) is ≡ (meets a is || meets b is)
+pub meets-append : (a b : List ℕ) (is : List ℕ) → intersects (a ++ b) is ≡ (intersects a is || intersects b is)
 meets-append a b [] = refl
 meets-append a b (i ∷ is) =
-    rw (list_any-append (nat_eq i) a b, meets-append a b is) (swap_or (list_any (nat_eq i) a) (list_any (nat_eq i) b) (meets a is) (meets b is))
+    rw (list_any-append (nat_eq i) a b, meets-append a b is) (swap_or (list_any (nat_eq i) a) (list_any (nat_eq i) b) (intersects a is) (intersects b is))
 
 -- ---- tickets of the queue
 gone_head : (u t x : ℕ) (h : Bool) → nat_eq t x ≡ true → (not (nat_eq u t) && h) ≡ (not (nat_eq u t) && (nat_eq u x || h))
@@ -145,7 +145,7 @@ still_bools false b h = refl
 pub still_current : (wrote : List ℕ) (b : Block) (o : Option Since) → current_since b (wrote_more wrote o) ≡ true → current_since b o ≡ true
 still_current wrote b None h = h
 still_current wrote b (Some s) h =
-    still_bools (meets s.wrote (looked_on s.store_then b)) (meets wrote (looked_on s.store_then b)) (ap not (sym (meets-append s.wrote wrote (looked_on s.store_then b))) ∙ h)
+    still_bools (intersects s.wrote (looked_on s.store_then b)) (intersects wrote (looked_on s.store_then b)) (ap not (sym (meets-append s.wrote wrote (looked_on s.store_then b))) ∙ h)
 
 due_bools : (a b : Bool) → (b ≡ true → a ≡ true) → ((a && not b) || not a) ≡ not b
 due_bools true true h = refl
@@ -191,16 +191,16 @@ index_finished false x q r v wrote o e same_q same_r = stay_bools (x && not (sta
 
 -- ---- which tickets become stale
 stale_step : (d c : Bool) (u n k : ℕ) (wrote : List ℕ) (w : Waiter) (ws : List Waiter) → nat_eq u w.ticket ≡ d → becomes_stale wrote w ≡ c → AreRising n k (w ∷ ws)
-    → list_any (nat_eq u) (stale_after wrote ws) ≡ stale_of wrote (waiter u ws)
-    → list_any (nat_eq u) (map (λ x. x.ticket) (cond c (w ∷ filter (becomes_stale wrote) ws) (filter (becomes_stale wrote) ws))) ≡ stale_of wrote (cond d (Some w) (waiter u ws))
+    → list_any (nat_eq u) (stale_after wrote ws) ≡ stale_of wrote (find_waiter u ws)
+    → list_any (nat_eq u) (map (λ x. x.ticket) (cond c (w ∷ filter (becomes_stale wrote) ws) (filter (becomes_stale wrote) ws))) ≡ stale_of wrote (cond d (Some w) (find_waiter u ws))
 stale_step true true u n k wrote w ws e s r more = rw (e, s) refl
 stale_step true false u n k wrote w ws e s r more =
     let l : u ≤ w.ticket = grind (arith, nat_tests) in
-    let m : waiter u ws ≡ None = not_above u n w.ticket ws l r.2 in
+    let m : find_waiter u ws ≡ None = not_above u n w.ticket ws l r.2 in
     more ∙ ap (stale_of wrote) m ∙ sym s
 stale_step false true u n k wrote w ws e s r more = rw e more
 stale_step false false u n k wrote w ws e s r more = more
 
-pub has_stale : (u n k : ℕ) (wrote : List ℕ) (ws : List Waiter) → AreRising n k ws → list_any (nat_eq u) (stale_after wrote ws) ≡ stale_of wrote (waiter u ws)
+pub has_stale : (u n k : ℕ) (wrote : List ℕ) (ws : List Waiter) → AreRising n k ws → list_any (nat_eq u) (stale_after wrote ws) ≡ stale_of wrote (find_waiter u ws)
 has_stale u n k wrote [] r = refl
 has_stale u n k wrote (w ∷ ws) r = stale_step (nat_eq u w.ticket) (becomes_stale wrote w) u n k wrote w ws refl refl r (has_stale u n w.ticket wrote ws r.2)

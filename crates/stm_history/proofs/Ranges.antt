@@ -18,21 +18,21 @@ use Rattle.stm_terms.specs.declared.verdicts.Verdict.{Verdict}
 use Rattle.stm_terms.specs.declared.verdicts.Verdict.TheVariants.{Commits, Throws, Blocks}
 use Rattle.stm_terms.specs.Names.{is_name_text, is_word_byte}
 use Rattle.stm_terms.specs.Texts.{refs_text, type_text}
-use Rattle.stm_terms.specs.RawTrees as raw
-use Rattle.stm_parse.specs.declared.cutting.Token.{Token}
+use Rattle.stm_terms.specs.ParsedAst as raw
+use Rattle.stm_parse.specs.declared.tokenizer.Token.{Token}
 use Rattle.stm_parse.specs.declared.fault.ParseFault.{ParseFault}
-use Rattle.stm_parse.specs.Parsed.{parsed_block, answered, of_tokens}
-use Rattle.stm_parse.specs.Parsing.{most_bytes}
-use Rattle.stm_parse.specs.Reading.{block_reader}
-use Rattle.stm_parse.specs.Tokens.{tokens_of}
-use Rattle.stm_parse.proofs.Ascii.{cut_ascii}
+use Rattle.stm_parse.specs.ParseFunction.{parsed_block, answered, of_tokens}
+use Rattle.stm_parse.specs.ParseResult.{most_bytes}
+use Rattle.stm_parse.specs.Descent.{block_reader}
+use Rattle.stm_parse.specs.Tokenizer.{tokens_of}
+use Rattle.stm_parse.proofs.TokenizedIsAscii.{cut_ascii}
 use Rattle.stm_store.specs.Tables.{Declared}
-use Rattle.stm_check.specs.Blocks.{Block}
+use Rattle.stm_check.specs.TypedBlock.{Block}
 use Rattle.stm_history.specs.declared.event.What.{What}
 use Rattle.stm_history.specs.declared.event.What.TheVariants.{Submitted, Installed, Finished, Cancelled}
-use Rattle.stm_terms.specs.Trees.{Act}
+use Rattle.stm_terms.specs.Ast.{Act}
 use Rattle.stm_terms.specs.Typing.{ActionType}
-use Rattle.stm_check.specs.Checking.{checked}
+use Rattle.stm_check.specs.CheckFunction.{checked}
 use Rattle.stm_check.specs.declared.fault.TypeFault.{TypeFault}
 use Rattle.stm_check.specs.WholeBlocks.{BlockFault, checked_block, block_if_parsed, block_if_typed}
 use Rattle.stm_history.specs.Fields.{unless_faulty, block_of_text}
@@ -95,19 +95,19 @@ ascii_tested : (xs : List ℕ) → IsAscii xs → is_ascii_text xs ≡ true
 ascii_tested [] h = refl
 ascii_tested (x ∷ xs) h = ascii_and (nat_lt x 128) (is_ascii_text xs) (let k = h zero in grind (arith, nat_tests)) (ascii_tested xs (λ i. h (suc i)))
 
-tokens_ascii : (text : List ℕ) (r : Result (List Token) ParseFault) (t : raw.Act) → tokens_of text ≡ r → of_tokens block_reader text r ≡ Ok t → IsAscii text
+tokens_ascii : (text : List ℕ) (r : Result (List Token) ParseFault) (t : raw.RawAct) → tokens_of text ≡ r → of_tokens block_reader text r ≡ Ok t → IsAscii text
 tokens_ascii text (Ok ts) t e f = cut_ascii text ts e
 tokens_ascii text (Err x) t e f = absurd cc
 
-short_ascii : (b : Bool) (text : List ℕ) (e : ParseFault) (t : raw.Act) → cond b (Err e) (of_tokens block_reader text (tokens_of text)) ≡ Ok t → IsAscii text
+short_ascii : (b : Bool) (text : List ℕ) (e : ParseFault) (t : raw.RawAct) → cond b (Err e) (of_tokens block_reader text (tokens_of text)) ≡ Ok t → IsAscii text
 short_ascii true text e t f = absurd cc
 short_ascii false text e t f = tokens_ascii text (tokens_of text) t refl f
 
-parsed_ascii : (text : List ℕ) (t : raw.Act) → parsed_block text ≡ Ok t → IsAscii text
+parsed_ascii : (text : List ℕ) (t : raw.RawAct) → parsed_block text ≡ Ok t → IsAscii text
 unfolding parsed_block answered
 parsed_ascii text t e = short_ascii (nat_lt most_bytes (length text)) text _ t e
 
-known_ascii : (table : List Declared) (text : List ℕ) (r : Result raw.Act ParseFault) (b : Block) → parsed_block text ≡ r → block_if_parsed table text r ≡ Ok b → IsAscii text
+known_ascii : (table : List Declared) (text : List ℕ) (r : Result raw.RawAct ParseFault) (b : Block) → parsed_block text ≡ r → block_if_parsed table text r ≡ Ok b → IsAscii text
 known_ascii table text (Ok t) b e f = parsed_ascii text t e
 known_ascii table text (Err x) b e f = absurd cc
 
@@ -162,7 +162,7 @@ checked_text : (table : List Declared) (text : List ℕ) (r : Result (Act × Act
 checked_text table text (Ok c) b e = cc
 checked_text table text (Err x) b e = absurd cc
 
-parsed_text : (table : List Declared) (text : List ℕ) (r : Result raw.Act ParseFault) (b : Block) → block_if_parsed table text r ≡ Ok b → b.text ≡ text
+parsed_text : (table : List Declared) (text : List ℕ) (r : Result raw.RawAct ParseFault) (b : Block) → block_if_parsed table text r ≡ Ok b → b.text ≡ text
 parsed_text table text (Ok t) b e = checked_text table text (checked table text [] t) b e
 parsed_text table text (Err x) b e = absurd cc
 

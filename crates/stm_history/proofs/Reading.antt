@@ -8,15 +8,15 @@ use Rattle.std.specs.declared.ops.Bound.{Bound}
 use Rattle.std.proofs.lemmas.Bool.Decides.{nat_tests}
 use Rattle.stm_terms.specs.declared.values.Value.{Value}
 use Rattle.stm_terms.specs.declared.verdicts.Verdict.{Verdict}
-use Rattle.stm_terms.specs.Looks.{reads_of}
+use Rattle.stm_terms.specs.ReadSet.{reads_of}
 use Rattle.stm_store.specs.declared.cell.Cell.{Cell}
-use Rattle.stm_check.specs.Blocks.{Block}
-use Rattle.stm_history.specs.SlowDesk.{Since, Waiter, under, verdict_on, is_current, is_stale_since, current_since, waiter, Standing, standing_since, standing}
+use Rattle.stm_check.specs.TypedBlock.{Block}
+use Rattle.stm_history.specs.SlowDesk.{Since, Waiter, under, verdict_on, is_current, is_stale_since, current_since, find_waiter, Standing, standing_since, standing}
 use Rattle.stm_history.specs.SlowDesk as slow
 use Rattle.stm_history.specs.SlowSettle.{lowest}
 use Rattle.stm_history.specs.declared.waiting.Waiting.{Waiting}
 use Rattle.stm_history.specs.Entries.{AreDue, first_above}
-use Rattle.stm_history.specs.Shown.{read_then, read_now}
+use Rattle.stm_history.specs.BlockStatus.{read_then, read_now}
 
 -- ---- the least ticket above one
 above : (a k : ℕ) → range_contains nat_cmp (Bound.Excluded a) Bound.Unbounded k ≡ nat_lt a k

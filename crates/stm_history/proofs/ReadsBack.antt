@@ -27,7 +27,7 @@ use Rattle.stm_history.specs.declared.event.What.{What}
 use Rattle.stm_history.specs.declared.event.What.TheVariants.{Submitted, Installed, Finished, Cancelled}
 use Rattle.stm_history.specs.Fits.{FitsTable, WhatFitsTable, FitsValue, FitsVerdict, FitWrites, FitNews, FitNumbers, FitsVariable, Is32Bit, IsOneLine}
 use Rattle.stm_history.specs.Lines.{number_data, value_data, write_data, new_data, verdict_data, what_data, event_data, header_data, variable_data, event_line, header_line, variable_line}
-use Rattle.stm_history.specs.Fields.{in_32_bits, u32_of, number_field, value_of, write_of, new_of, verdict_of, event_of, declared_of}
+use Rattle.stm_history.specs.Fields.{in_32_bits, u32_of, number_field, value_of, write_of, new_of, verdict_of, event_of, declared_from_json}
 use Rattle.stm_history.proofs.RoundTrips.{RoundTrips, what_round_trips, header_round_trips, variable_round_trips, AllBack, all_back}
 use Rattle.stm_history.proofs.OneLines.{IsInRange, one_line, is_ascii}
 use Rattle.stm_history.proofs.Ranges.{what_in_range, variable_in_range}
@@ -109,7 +109,7 @@ event_back table e f = what_back table e.client e.what f.0 f.1
 header_back : (format n : ℕ) → Is32Bit n → number_field (codes "vars") (header_data format n) ≡ Some n
 header_back format n h = in_32 n h
 
-variable_back : (d : Declared) → FitsVariable d → declared_of (variable_data d) ≡ Some d
+variable_back : (d : Declared) → FitsVariable d → declared_from_json (variable_data d) ≡ Some d
 variable_back d f = rw (type_back d.kind f.1, value_back d.value f.2)
 
 -- ---- what a line is that was read
@@ -134,7 +134,7 @@ pub header_is : (line : List ℕ) (format n : ℕ) (g : Data) → Is32Bit format
 unfolding header_line
 header_is line format n g k f l some = let same : g ≡ header_data format n = same_data line (header_data format n) g (header_reads format n k f) l some in rw same (header_back format n f)
 
-pub variable_is : (line : List ℕ) (d : Declared) (g : Data) → FitsVariable d → variable_line d ≡ line → read line ≡ Some g → declared_of g ≡ Some d
+pub variable_is : (line : List ℕ) (d : Declared) (g : Data) → FitsVariable d → variable_line d ≡ line → read line ≡ Some g → declared_from_json g ≡ Some d
 unfolding variable_line
 variable_is line d g f l some = let same : g ≡ variable_data d = same_data line (variable_data d) g (variable_reads d f) l some in rw same (variable_back d f)
 
@@ -182,6 +182,6 @@ header_same format m n k f g l =
 pub variable_same : (c d : Declared) → FitsVariable c → FitsVariable d → variable_line c ≡ variable_line d → c ≡ d
 unfolding variable_line
 variable_same c d f g l =
-    let a : declared_of (variable_data d) ≡ Some d = variable_back d g in
-    let b : declared_of (variable_data d) ≡ Some c = variable_is (variable_line d) c (variable_data d) f l (variable_reads d g).back in
+    let a : declared_from_json (variable_data d) ≡ Some d = variable_back d g in
+    let b : declared_from_json (variable_data d) ≡ Some c = variable_is (variable_line d) c (variable_data d) f l (variable_reads d g).back in
     cc

@@ -2,14 +2,14 @@
 use Rattle.std.proofs.Common.{◌≡◌, ℕ, Bool, true, false, not, ◌&&◌, ◌||◌, cond, List, [], ◌∷◌, Option, Some, None, refl, sym, ap, subst, ◌∙◌}
 use Rattle.std.specs.Prelude.{nat_eq, Result, Ok, Err, IfOk}
 use Rattle.stm_store.specs.Tables.{Declared}
-use Rattle.stm_check.specs.Blocks.{Block}
-use Rattle.stm_queue.specs.Rising.{has}
+use Rattle.stm_check.specs.TypedBlock.{Block}
+use Rattle.stm_queue.specs.SortedTickets.{member}
 use Rattle.stm_history.specs.declared.event.Event.{Event}
 use Rattle.stm_history.specs.declared.waiting.Held.{Held}
 use Rattle.stm_history.specs.declared.waiting.Waiting.{Waiting}
-use Rattle.stm_history.specs.SlowDesk.{Since, Waiter, Slow, is_stale_since, current_since, is_current, waiter, state}
+use Rattle.stm_history.specs.SlowDesk.{Since, Waiter, Slow, is_stale_since, current_since, is_current, find_waiter, state}
 use Rattle.stm_history.specs.SlowSettle.{ends, can_end}
-use Rattle.stm_history.specs.Choices.{ended_since, ended_then, is_ripe, AreCandidates}
+use Rattle.stm_history.specs.SettleChoices.{ended_since, ended_then, is_ripe, AreCandidates}
 use Rattle.stm_history.specs.Entries.{kept_at, AreDue, IsHeld, held_ends, kept_ends, ends_under}
 use Rattle.stm_history.specs.Machine.{Parts, StandsFor}
 use Rattle.stm_history.proofs.Due.{IsFound, found}
@@ -36,8 +36,8 @@ ripe_ended : (o : Option Waiter) → is_ripe o ≡ true → ended_then o ≡ tru
 ripe_ended None h = cc
 ripe_ended (Some w) h = and_right (is_current w) (ended_since w.block w.since) h
 
-pub ripe_kept : (t : ℕ) (es : List (ℕ × Waiting)) (ws : List Waiter) → AreDue es ws → is_ripe (waiter t ws) ≡ true → kept_ends (kept_at t es) ≡ true
-ripe_kept t es ws d h = kept_is (kept_at t es) (waiter t ws) (found t es ws d) ∙ ripe_ended (waiter t ws) h
+pub ripe_kept : (t : ℕ) (es : List (ℕ × Waiting)) (ws : List Waiter) → AreDue es ws → is_ripe (find_waiter t ws) ≡ true → kept_ends (kept_at t es) ≡ true
+ripe_kept t es ws d h = kept_is (kept_at t es) (find_waiter t ws) (found t es ws d) ∙ ripe_ended (find_waiter t ws) h
 
 under_step : (b a c : Bool) (x : Waiting) (o : Option Waiting) → a ≡ held_ends x.held → (kept_ends o ≡ true → c ≡ true) → kept_ends (cond b (Some x) o) ≡ true → ((b && a) || c) ≡ true
 under_step true true c x o q more h = refl
@@ -48,7 +48,7 @@ kept_under : (t : ℕ) (es : List (ℕ × Waiting)) → kept_ends (kept_at t es)
 kept_under t [] h = cc
 kept_under t (e ∷ es) h = under_step (nat_eq t e.0) (held_ends e.1.held) (ends_under t es) e.1 (kept_at t es) refl (kept_under t es) h
 
-pub begin_candidates : (s : Slow) (es : List (ℕ × Waiting)) (cs : List ℕ) → AreDue es s.waiters → ((t : ℕ) → ends_under t es ≡ true → has t cs ≡ true) → AreCandidates s cs
+pub begin_candidates : (s : Slow) (es : List (ℕ × Waiting)) (cs : List ℕ) → AreDue es s.waiters → ((t : ℕ) → ends_under t es ≡ true → member t cs ≡ true) → AreCandidates s cs
 begin_candidates s es cs d c = λ t h. c t (kept_under t es (ripe_kept t es s.waiters d h))
 
 -- ---- the kept verdict is that of the present store
@@ -64,7 +64,7 @@ module _ (table : List Declared) (history : List Event) (m : Parts) (k : StandsF
   no_since b None e c = cc
   no_since b (Some s) e c = cc
 
-  ends_by : (t : ℕ) (w : Waiter) → waiter t (state table history).waiters ≡ Some w → is_current w ≡ true → (h : Option Held) (o : Option Since) → w.since ≡ o → IsHeld w.block h o
+  ends_by : (t : ℕ) (w : Waiter) → find_waiter t (state table history).waiters ≡ Some w → is_current w ≡ true → (h : Option Held) (o : Option Since) → w.since ≡ o → IsHeld w.block h o
       → can_end (state table history).store w ≡ ended_since w.block o
   ends_by t w e c None None q i = absurd (no_since w.block w.since q c)
   ends_by t w e c None (Some s) q i = absurd i
@@ -73,22 +73,22 @@ module _ (table : List Declared) (history : List Event) (m : Parts) (k : StandsF
       let p = current_holds table history t w s h.reads h.verdict k.legal e q (not_stale w.block w.since s q c) i in
       ap ends (p.verdict_is ∙ sym i.verdict_is)
 
-  ends_found : (t : ℕ) (w : Waiter) (o : Option Waiting) → waiter t (state table history).waiters ≡ Some w → is_current w ≡ true → IsFound o (Some w) → can_end (state table history).store w ≡ ended_since w.block w.since
+  ends_found : (t : ℕ) (w : Waiter) (o : Option Waiting) → find_waiter t (state table history).waiters ≡ Some w → is_current w ≡ true → IsFound o (Some w) → can_end (state table history).store w ≡ ended_since w.block w.since
   ends_found t w None e c f = absurd f
   ends_found t w (Some x) e c f = ends_by t w e c x.held w.since refl f.held
 
-  pub same_ends : (t : ℕ) (w : Waiter) → waiter t (state table history).waiters ≡ Some w → is_current w ≡ true → can_end (state table history).store w ≡ ended_since w.block w.since
+  pub same_ends : (t : ℕ) (w : Waiter) → find_waiter t (state table history).waiters ≡ Some w → is_current w ≡ true → can_end (state table history).store w ≡ ended_since w.block w.since
   same_ends t w e c = ends_found t w (kept_at t m.entries) e c (subst (IsFound (kept_at t m.entries)) e (found t m.entries (state table history).waiters k.stands.entries_are))
 
 -- ---- what ends, as it is asked
-pub ends_then : (table : List Declared) (history : List Event) (m : Parts) → StandsFor table history m → (t : ℕ) → kept_ends (kept_at t m.entries) ≡ ended_then (waiter t (state table history).waiters)
-ends_then table history m k t = kept_is (kept_at t m.entries) (waiter t (state table history).waiters) (found t m.entries (state table history).waiters k.stands.entries_are)
+pub ends_then : (table : List Declared) (history : List Event) (m : Parts) → StandsFor table history m → (t : ℕ) → kept_ends (kept_at t m.entries) ≡ ended_then (find_waiter t (state table history).waiters)
+ends_then table history m k t = kept_is (kept_at t m.entries) (find_waiter t (state table history).waiters) (found t m.entries (state table history).waiters k.stands.entries_are)
 
-pub ends_now : (table : List Declared) (history : List Event) (m : Parts) → StandsFor table history m → (t : ℕ) (w : Waiter) → waiter t (state table history).waiters ≡ Some w → is_current w ≡ true
+pub ends_now : (table : List Declared) (history : List Event) (m : Parts) → StandsFor table history m → (t : ℕ) (w : Waiter) → find_waiter t (state table history).waiters ≡ Some w → is_current w ≡ true
     → kept_ends (kept_at t m.entries) ≡ can_end (state table history).store w
 ends_now table history m k t w e c = ends_then table history m k t ∙ ap ended_then e ∙ sym (same_ends table history m k t w e c)
 
 pub if_begin : {E : Type 0} (m : Parts) (es : List (ℕ × Waiting)) (r : Result (List ℕ) E) → ((table : List Declared) (history : List Event) → StandsFor table history m → AreDue es (state table history).waiters)
-    → IfOk r (λ cs. (t : ℕ) → ends_under t es ≡ true → has t cs ≡ true) → IfOk r (λ cs. (table : List Declared) (history : List Event) → StandsFor table history m → AreCandidates (state table history) cs)
+    → IfOk r (λ cs. (t : ℕ) → ends_under t es ≡ true → member t cs ≡ true) → IfOk r (λ cs. (table : List Declared) (history : List Event) → StandsFor table history m → AreCandidates (state table history) cs)
 if_begin m es (Ok cs) d h = λ table history k. begin_candidates (state table history) es cs (d table history k) h
 if_begin m es (Err e) d h = tt

@@ -4,17 +4,17 @@ use Rattle.std.specs.Prelude.{nat_eq, nat_lt}
 use Rattle.std.specs.List.{list_any}
 use Rattle.std.specs.List.Sorted.{IsStrictlyIncreasing}
 use Rattle.std.proofs.lemmas.Bool.Decides.{nat_tests}
-use Rattle.stm_queue.specs.Rising.{RisesAbove, IsRising, has}
-use Rattle.stm_queue.proofs.Placing.{absent_above}
+use Rattle.stm_queue.specs.SortedTickets.{RisesAbove, IsRising, member}
+use Rattle.stm_queue.proofs.SortedInsertion.{absent_above}
 use Rattle.stm_queue.specs.Queue.{Entry, has_ticket, with_ticket}
 use Rattle.stm_queue.proofs.Merging.{has_with}
 use Rattle.stm_watch.specs.Pairs.{Pairs, watches}
-use Rattle.stm_history.specs.SlowDesk.{Waiter, becomes_stale, stale_after, waiter, without}
+use Rattle.stm_history.specs.SlowDesk.{Waiter, becomes_stale, stale_after, find_waiter, without_waiter}
 use Rattle.stm_history.specs.Laws.{AreRising}
 use Rattle.stm_history.proofs.Rising.{rising_without, waiter_without}
 use Rattle.stm_history.specs.declared.waiting.Waiting.{Waiting}
 use Rattle.stm_history.specs.Entries.{AreDue}
-use Rattle.stm_history.specs.Stands.{AreWatched}
+use Rattle.stm_history.specs.MachineInvariant.{AreWatched}
 use Rattle.stm_history.proofs.Points.{stale_of, has_stale}
 use Rattle.stm_history.proofs.Stales.{watches_stale}
 
@@ -22,31 +22,31 @@ itself : (i : ℕ) → nat_eq i i ≡ true
 itself i = grind (arith, nat_tests)
 
 -- ---- the first is in the other list, and so they are the same
-not_lower : (x y : ℕ) (xs ys : List ℕ) → RisesAbove y ys → ((u : ℕ) → has u (x ∷ xs) ≡ has u (y ∷ ys)) → x < y → ⊥
+not_lower : (x y : ℕ) (xs ys : List ℕ) → RisesAbove y ys → ((u : ℕ) → member u (x ∷ xs) ≡ member u (y ∷ ys)) → x < y → ⊥
 not_lower x y xs ys s h l =
-    let a : has x (y ∷ ys) ≡ false = absent_above x x (y ∷ ys) (omega arith) (l, s) in
-    let b : (true || has x xs) ≡ has x (y ∷ ys) = ap (λ (b : Bool). b || has x xs) (sym (itself x)) ∙ h x in
+    let a : member x (y ∷ ys) ≡ false = absent_above x x (y ∷ ys) (omega arith) (l, s) in
+    let b : (true || member x xs) ≡ member x (y ∷ ys) = ap (λ (b : Bool). b || member x xs) (sym (itself x)) ∙ h x in
     cc
 
-first_same : (x y : ℕ) (xs ys : List ℕ) (a b : Bool) → nat_lt x y ≡ a → nat_lt y x ≡ b → RisesAbove x xs → RisesAbove y ys → ((u : ℕ) → has u (x ∷ xs) ≡ has u (y ∷ ys)) → x ≡ y
+first_same : (x y : ℕ) (xs ys : List ℕ) (a b : Bool) → nat_lt x y ≡ a → nat_lt y x ≡ b → RisesAbove x xs → RisesAbove y ys → ((u : ℕ) → member u (x ∷ xs) ≡ member u (y ∷ ys)) → x ≡ y
 first_same x y xs ys true b e f r s h = let l : x < y = grind (arith, nat_tests) in absurd (not_lower x y xs ys s h l)
 first_same x y xs ys false true e f r s h = let l : y < x = grind (arith, nat_tests) in absurd (not_lower y x ys xs r (λ u. sym (h u)) l)
 first_same x y xs ys false false e f r s h = grind (arith, nat_tests)
 
-rest_same : (x u : ℕ) (xs ys : List ℕ) (b : Bool) → nat_eq u x ≡ b → RisesAbove x xs → RisesAbove x ys → (b || has u xs) ≡ (b || has u ys) → has u xs ≡ has u ys
+rest_same : (x u : ℕ) (xs ys : List ℕ) (b : Bool) → nat_eq u x ≡ b → RisesAbove x xs → RisesAbove x ys → (b || member u xs) ≡ (b || member u ys) → member u xs ≡ member u ys
 rest_same x u xs ys true e r s h =
     let l : u ≤ x = grind (arith, nat_tests) in
     absent_above u x xs l r ∙ sym (absent_above u x ys l s)
 rest_same x u xs ys false e r s h = h
 
-pub rising_same : (xs ys : List ℕ) → IsRising xs → IsRising ys → ((u : ℕ) → has u xs ≡ has u ys) → xs ≡ ys
+pub rising_same : (xs ys : List ℕ) → IsRising xs → IsRising ys → ((u : ℕ) → member u xs ≡ member u ys) → xs ≡ ys
 rising_same [] [] r s h = refl
-rising_same [] (y ∷ ys) r s h = let k : (true || has y ys) ≡ false = ap (λ (b : Bool). b || has y ys) (sym (itself y)) ∙ sym (h y) in absurd (cc)
-rising_same (x ∷ xs) [] r s h = let k : (true || has x xs) ≡ false = ap (λ (b : Bool). b || has x xs) (sym (itself x)) ∙ h x in absurd (cc)
+rising_same [] (y ∷ ys) r s h = let k : (true || member y ys) ≡ false = ap (λ (b : Bool). b || member y ys) (sym (itself y)) ∙ sym (h y) in absurd (cc)
+rising_same (x ∷ xs) [] r s h = let k : (true || member x xs) ≡ false = ap (λ (b : Bool). b || member x xs) (sym (itself x)) ∙ h x in absurd (cc)
 rising_same (x ∷ xs) (y ∷ ys) r s h =
     let e : x ≡ y = first_same x y xs ys (nat_lt x y) (nat_lt y x) refl refl r s h in
     let q : RisesAbove x ys = subst (λ (n : ℕ). RisesAbove n ys) (sym e) s in
-    let g : (u : ℕ) → (nat_eq u x || has u xs) ≡ (nat_eq u x || has u ys) = λ u. h u ∙ ap (λ (n : ℕ). nat_eq u n || has u ys) (sym e) in
+    let g : (u : ℕ) → (nat_eq u x || member u xs) ≡ (nat_eq u x || member u ys) = λ u. h u ∙ ap (λ (n : ℕ). nat_eq u n || member u ys) (sym e) in
     ap₂ (λ (z : ℕ) (zs : List ℕ). z ∷ zs) e (rising_same xs ys (below x xs r) (below x ys q) (λ u. rest_same x u xs ys (nat_eq u x) refl r q (g u))) where
       below : (k : ℕ) (zs : List ℕ) → RisesAbove k zs → IsRising zs
       below k [] r = tt
@@ -87,15 +87,15 @@ without_bools false wrote o = refl
 
 pub stale_is : (watch : Pairs) (es : List (ℕ × Waiting)) (ws : List Waiter) (wrote ts : List ℕ) (n t : ℕ) → AreDue es ws → AreWatched watch ws → AreRising n 0 ws
     → IsRising ts → ((u : ℕ) → list_any (nat_eq u) ts ≡ (not (nat_eq u t) && watches watch wrote u))
-    → ts ≡ stale_after wrote (without t ws)
+    → ts ≡ stale_after wrote (without_waiter t ws)
 stale_is watch es ws wrote ts n t d i r inc h =
-    rising_same ts (stale_after wrote (without t ws)) inc (stale_rising n 0 wrote (without t ws) (rising_without t n 0 ws r))
-    (λ u. h u ∙ ap (λ (b : Bool). not (nat_eq u t) && b) (watches_stale watch es ws wrote u d i) ∙ without_bools (nat_eq u t) wrote (waiter u ws)
-    ∙ sym (has_stale u n 0 wrote (without t ws) (rising_without t n 0 ws r) ∙ ap (stale_of wrote) (waiter_without t u n 0 ws r)))
+    rising_same ts (stale_after wrote (without_waiter t ws)) inc (stale_rising n 0 wrote (without_waiter t ws) (rising_without t n 0 ws r))
+    (λ u. h u ∙ ap (λ (b : Bool). not (nat_eq u t) && b) (watches_stale watch es ws wrote u d i) ∙ without_bools (nat_eq u t) wrote (find_waiter u ws)
+    ∙ sym (has_stale u n 0 wrote (without_waiter t ws) (rising_without t n 0 ws r) ∙ ap (stale_of wrote) (waiter_without t u n 0 ws r)))
 
 -- ---- a ticket of a rising list is queued: the others are still to be queued
 above_other : (u x : ℕ) (rest : List ℕ) (b : Bool) → nat_eq u x ≡ b → RisesAbove x rest → list_any (nat_eq u) rest ≡ true → b ≡ false
-above_other u x rest true e r h = let l : u ≤ x = grind (arith, nat_tests) in let z : has u rest ≡ false = absent_above u x rest l r in cc
+above_other u x rest true e r h = let l : u ≤ x = grind (arith, nat_tests) in let z : member u rest ≡ false = absent_above u x rest l r in cc
 above_other u x rest false e r h = refl
 
 or_in : (a b : Bool) → b ≡ true → (a || b) ≡ true

@@ -7,7 +7,7 @@ use Rattle.stm_terms.specs.declared.verdicts.Verdict.{Verdict}
 use Rattle.stm_store.specs.declared.cell.Cell.{Cell}
 use Rattle.stm_history.specs.declared.event.What.{What}
 use Rattle.stm_history.specs.declared.event.What.TheVariants.{Installed}
-use Rattle.stm_history.specs.SlowDesk.{Slow, Waiter, verdict_on, looked_on, meets, with_delivery, delivered}
+use Rattle.stm_history.specs.SlowDesk.{Slow, Waiter, verdict_on, looked_on, intersects, with_delivery, delivered}
 use Rattle.stm_history.specs.SlowSettle.{lowest, is_due, installing, next_what, settling}
 use Rattle.stm_history.specs.Laws.{AreRising}
 use Rattle.stm_history.specs.Rounds.{if_some, round_installs, delivered_if_due, from_finish, HaveVerdicts, SettlingIsRounds}
@@ -25,7 +25,7 @@ weaker : (t u : ℕ) (ws : List Waiter) → t ≤ u → AreBefore t ws → AreBe
 weaker t u [] l b = tt
 weaker t u (w ∷ ws) l b = let m : w.ticket < t = b.1 in (b.0, omega arith, weaker t u ws l b.2)
 
--- the first that is due is behind them
+-- the first that is due is after them
 lowest_past : (t : ℕ) (xs ys : List Waiter) → AreBefore t xs → lowest is_due (xs ++ ys) ≡ lowest is_due ys
 lowest_past t [] ys b = refl
 lowest_past t (x ∷ xs) ys b = rw b.0 (lowest_past t xs ys b.2)
@@ -40,7 +40,7 @@ delivered_past : (store : List Cell) (xs ys : List Waiter) (y : Waiter) → AreB
 delivered_past store [] ys y b = rw (itself y.ticket) refl
 delivered_past store (x ∷ xs) ys y b = rw (unlike y.ticket x.ticket b.1) (ap (λ (ws : List Waiter). x ∷ ws) (delivered_past store xs ys y b.2))
 
-meets-nothing : (is : List ℕ) → meets [] is ≡ false
+meets-nothing : (is : List ℕ) → intersects [] is ≡ false
 meets-nothing [] = refl
 meets-nothing (i ∷ is) = meets-nothing is
 
@@ -105,7 +105,7 @@ round_step true room s xs ys y n e r l b v more =
           ∙ more k (with_delivery s.store y) refl (not_due s.store y)
           ∙ ap (λ (ws : List Waiter). take k (round_installs s.store ys) ++ from_finish (k - length (round_installs s.store ys)) (with_waiters s ws)) (append_assoc xs (with_delivery s.store y ∷ []) (map (delivered_if_due s.store) ys))))
 
--- the blocks before are past, those behind are still to be looked at
+-- the blocks before are past, those after are still to be looked at
 round_from : (room : ℕ) (s : Slow) (n t : ℕ) (xs ys : List Waiter) → AreBefore (suc t) xs → AreRising n t ys → HaveVerdicts s.store ys → settling room (with_waiters s (xs ++ ys)) ≡ rest_of room s xs ys
 round_from room s n t xs [] b r v =
     ap (λ (ws : List Waiter). settling room (with_waiters s ws)) (append-nil xs) ∙ ended_by room s (suc t) xs b

@@ -12,7 +12,7 @@ use Rattle.stm_terms.specs.declared.kinds.Base.TheVariants as base
 use Rattle.stm_terms.specs.declared.values.Value.{Value}
 use Rattle.stm_terms.specs.declared.values.Value.TheVariants as value
 use Rattle.stm_terms.specs.declared.values.Ref.TheVariants.{Old, New}
-use Rattle.stm_terms.specs.Names.{is_name_text, starts_small, is_word_byte, is_reserved}
+use Rattle.stm_terms.specs.Names.{is_name_text, starts_lower, is_word_byte, is_reserved}
 use Rattle.stm_terms.specs.Texts.{refs_text, type_text}
 use Rattle.stm_store.specs.Tables.{Declared}
 use Rattle.stm_history.specs.Fits.{FitsValue, FitsVariable}
@@ -77,7 +77,7 @@ last_of false b c d h = absurd cc
 
 name_short : (name : List ℕ) → IsTrue (is_name_text name) → length name ≤ 32
 unfolding is_name_text
-name_short name h = let e = last_of (starts_small name) (list_all is_word_byte name) (not (is_reserved name)) (nat_le (length name) 32) h in grind (arith, nat_tests)
+name_short name h = let e = last_of (starts_lower name) (list_all is_word_byte name) (not (is_reserved name)) (nat_le (length name) 32) h in grind (arith, nat_tests)
 
 pub variable_short : (d : Declared) → FitsVariable d → IsShort (variable_line d)
 unfolding variable_line escape_byte type_text

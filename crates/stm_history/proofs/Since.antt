@@ -6,13 +6,13 @@ use Rattle.std.proofs.lemmas.List.{append_assoc, append-nil}
 use Rattle.stm_terms.specs.declared.verdicts.Verdict.{Verdict}
 use Rattle.stm_store.specs.declared.cell.Cell.{Cell}
 use Rattle.stm_store.specs.Tables.{Declared}
-use Rattle.stm_check.specs.Blocks.{Block}
+use Rattle.stm_check.specs.TypedBlock.{Block}
 use Rattle.stm_history.specs.declared.event.Event.{Event}
 use Rattle.stm_history.specs.declared.event.What.{What}
 use Rattle.stm_history.specs.declared.event.What.TheVariants.{Submitted, Installed, Finished, Cancelled}
-use Rattle.stm_history.specs.SlowDesk.{Since, Waiter, Slow, verdict_on, written_in, MayInstall, waiter, without, with_delivery, wrote_more, after_writes, after, Allows, start, state_from, state, LegalFrom, IsLegal}
+use Rattle.stm_history.specs.SlowDesk.{Since, Waiter, Slow, verdict_on, written_in, MayInstall, find_waiter, without_waiter, with_delivery, wrote_more, after_writes, after, Allows, initial_state, state_from, state, LegalFrom, IsLegal}
 use Rattle.stm_history.specs.Laws.{AreRising}
-use Rattle.stm_history.specs.Headline.{installs_to, is_installed, written_at, written_by, LastDelivery}
+use Rattle.stm_history.specs.Headline.{installs_to, is_installed, written_at, written_in_events, LastDelivery}
 use Rattle.stm_history.proofs.Folds.{state-push}
 use Rattle.stm_history.proofs.Rising.{rising_after, next_after, waiter_without, waiter_delivered, waiter_marks, waiter_push}
 
@@ -20,7 +20,7 @@ use Rattle.stm_history.proofs.Rising.{rising_after, next_after, waiter_without, 
 pub record IsSince (table : List Declared) (history : List Event) (t : ℕ) (b : Block) (s : Since) : Type 0 where
   pub delivery : LastDelivery history t
   pub store : s.store_then ≡ (state table delivery.before).store
-  pub wrote : s.wrote ≡ written_by delivery.later
+  pub wrote : s.wrote ≡ written_in_events delivery.later
   pub verdict : verdict_on s.store_then b ≡ Some delivery.verdict
 
 abbrev pub Tracks : List Declared → List Event → ℕ → Block → Option Since → Type 0
@@ -38,9 +38,9 @@ installed-push t (d ∷ es) e = ap (λ (b : Bool). installs_to t d.what || b) (i
   turn true b c = refl
   turn false b c = refl
 
-written-push : (es : List Event) (e : Event) → written_by (es ++ e ∷ []) ≡ written_by es ++ written_at e.what
+written-push : (es : List Event) (e : Event) → written_in_events (es ++ e ∷ []) ≡ written_in_events es ++ written_at e.what
 written-push [] e = append-nil (written_at e.what)
-written-push (d ∷ es) e = ap (λ (xs : List ℕ). written_at d.what ++ xs) (written-push es e) ∙ sym (append_assoc (written_at d.what) (written_by es) (written_at e.what))
+written-push (d ∷ es) e = ap (λ (xs : List ℕ). written_at d.what ++ xs) (written-push es e) ∙ sym (append_assoc (written_at d.what) (written_in_events es) (written_at e.what))
 
 neither : (a b : Bool) → a ≡ false → b ≡ false → (a || b) ≡ false
 neither a b g h = rw (g, h)
@@ -80,7 +80,7 @@ pub record AreTracked (table : List Declared) (h : List Event) (s : Slow) : Type
   pub rising : AreRising s.next 0 s.waiters
   pub begun : 0 < s.next
   pub reached : s ≡ state table h
-  pub each : (t : ℕ) (w : Waiter) → waiter t s.waiters ≡ Some w → Tracks table h t w.block w.since
+  pub each : (t : ℕ) (w : Waiter) → find_waiter t s.waiters ≡ Some w → Tracks table h t w.block w.since
   pub none_yet : (t : ℕ) → s.next ≤ t → is_installed t h ≡ false
 
 abbrev by_client : ℕ → What → Event
@@ -118,13 +118,13 @@ delivered_one : (store : List Cell) (o : Option Waiter) (w one : Waiter) → o �
 delivered_one store None w one f k = cc
 delivered_one store (Some x) w one f k = let q : x ≡ one = cc in subst (λ (y : Waiter). with_delivery store y ≡ w) q cc
 
-deliver_by : (b : Bool) (table : List Declared) (h : List Event) (c t u : ℕ) (v : Verdict) (s : Slow) (w one : Waiter) → nat_eq u t ≡ b → s ≡ state table h → waiter t s.waiters ≡ Some one → MayInstall s one v
-    → ((x : Waiter) → waiter u s.waiters ≡ Some x → Tracks table h u x.block x.since) → cond b (option_map (with_delivery s.store) (waiter u s.waiters)) (waiter u s.waiters) ≡ Some w
+deliver_by : (b : Bool) (table : List Declared) (h : List Event) (c t u : ℕ) (v : Verdict) (s : Slow) (w one : Waiter) → nat_eq u t ≡ b → s ≡ state table h → find_waiter t s.waiters ≡ Some one → MayInstall s one v
+    → ((x : Waiter) → find_waiter u s.waiters ≡ Some x → Tracks table h u x.block x.since) → cond b (option_map (with_delivery s.store) (find_waiter u s.waiters)) (find_waiter u s.waiters) ≡ Some w
     → Tracks table (Pushed h c (Installed t v)) u w.block w.since
 deliver_by true table h c t u v s w one e r f m more k =
     let n : u ≡ t = eqb-true u t e in
-    let g : waiter u s.waiters ≡ Some one = subst (λ (x : ℕ). waiter x s.waiters ≡ Some one) (sym n) f in
-    let q : with_delivery s.store one ≡ w = delivered_one s.store (waiter u s.waiters) w one g k in
+    let g : find_waiter u s.waiters ≡ Some one = subst (λ (x : ℕ). find_waiter x s.waiters ≡ Some one) (sym n) f in
+    let q : with_delivery s.store one ≡ w = delivered_one s.store (find_waiter u s.waiters) w one g k in
     subst (λ (x : Waiter). Tracks table (Pushed h c (Installed t v)) u x.block x.since) q
     (subst (λ (x : ℕ). Tracks table (Pushed h c (Installed t v)) x one.block (Some (record { store_then = s.store; wrote = [] }))) (sym n) (deliver_here table h c t v s one r m.verdict_is))
 deliver_by false table h c t u v s w one e r f m more k = deliver_other table h c t u v w e (more w k)
@@ -149,9 +149,9 @@ low_step : (b : Bool) (t n : ℕ) (w one : Waiter) (o : Option Waiter) → nat_e
 low_step true t n w one o e l more k = let q : t ≡ w.ticket = eqb-true t w.ticket e in omega arith
 low_step false t n w one o e l more k = more k
 
-low : (t n k : ℕ) (ws : List Waiter) (one : Waiter) → AreRising n k ws → waiter t ws ≡ Some one → t < n
+low : (t n k : ℕ) (ws : List Waiter) (one : Waiter) → AreRising n k ws → find_waiter t ws ≡ Some one → t < n
 low t n k [] one r e = cc
-low t n k (w ∷ ws) one r e = low_step (nat_eq t w.ticket) t n w one (waiter t ws) refl r.1 (low t n w.ticket ws one r.2) e
+low t n k (w ∷ ws) one r e = low_step (nat_eq t w.ticket) t n w one (find_waiter t ws) refl r.1 (low t n w.ticket ws one r.2) e
 
 other_ticket : (t u n : ℕ) → t < n → n ≤ u → nat_eq u t ≡ false
 other_ticket t u n l m = grind (arith, nat_tests)
@@ -164,36 +164,36 @@ tracked_after : (table : List Declared) (h : List Event) (s : Slow) (c : ℕ) (d
 tracked_after table h s c (Submitted t block) k a = record {
   rising = rising_after s (Submitted t block) k.begun k.rising a;
   begun = next_after s (Submitted t block) k.begun;
-  reached = ap (λ (x : Slow). after x (Submitted t block)) k.reached ∙ sym (state-push (start table) h (by_client c (Submitted t block)));
+  reached = ap (λ (x : Slow). after x (Submitted t block)) k.reached ∙ sym (state-push (initial_state table) h (by_client c (Submitted t block)));
   each = λ u w e.
       let there = waiter_push u s.next 0 (record { ticket = t; block = block; since = None }) s.waiters a.0 k.rising in
-      submit_by (nat_eq u t) table h c t u block w (waiter u s.waiters) refl (k.none_yet t (let q = a.0 in omega arith)) (k.each u w) (sym there ∙ e);
+      submit_by (nat_eq u t) table h c t u block w (find_waiter u s.waiters) refl (k.none_yet t (let q = a.0 in omega arith)) (k.each u w) (sym there ∙ e);
   none_yet = λ u l. later_none h (by_client c (Submitted t block)) u refl (k.none_yet u (omega arith));
 }
 tracked_after table h s c (Installed t v) k a =
-    let p = some_of (waiter t s.waiters) (λ w. MayInstall s w v) a in
+    let p = some_of (find_waiter t s.waiters) (λ w. MayInstall s w v) a in
     record {
       rising = rising_after s (Installed t v) k.begun k.rising a;
       begun = k.begun;
-      reached = ap (λ (x : Slow). after x (Installed t v)) k.reached ∙ sym (state-push (start table) h (by_client c (Installed t v)));
+      reached = ap (λ (x : Slow). after x (Installed t v)) k.reached ∙ sym (state-push (initial_state table) h (by_client c (Installed t v)));
       each = λ u w e. deliver_by (nat_eq u t) table h c t u v s w p.0 refl k.reached p.1 p.2 (k.each u) (sym (waiter_delivered t u s.store s.waiters) ∙ e);
       none_yet = λ u l. later_none h (by_client c (Installed t v)) u (other_ticket t u s.next (low t s.next 0 s.waiters p.0 k.rising p.1) l) (k.none_yet u l);
     }
 tracked_after table h s c (Finished t v n stale) k a = record {
   rising = rising_after s (Finished t v n stale) k.begun k.rising a;
   begun = k.begun;
-  reached = ap (λ (x : Slow). after x (Finished t v n stale)) k.reached ∙ sym (state-push (start table) h (by_client c (Finished t v n stale)));
+  reached = ap (λ (x : Slow). after x (Finished t v n stale)) k.reached ∙ sym (state-push (initial_state table) h (by_client c (Finished t v n stale)));
   each = λ u w e.
-      marked_one (written_in v) table (Pushed h c (Finished t v n stale)) u (waiter u (without t s.waiters)) w (sym (waiter_marks u (written_in v) (without t s.waiters)) ∙ e)
-      (λ x f. tracks-push table h (by_client c (Finished t v n stale)) u x.block x.since refl (k.each u x (gone_by (nat_eq u t) (waiter u s.waiters) x (sym (waiter_without t u s.next 0 s.waiters k.rising) ∙ f))));
+      marked_one (written_in v) table (Pushed h c (Finished t v n stale)) u (find_waiter u (without_waiter t s.waiters)) w (sym (waiter_marks u (written_in v) (without_waiter t s.waiters)) ∙ e)
+      (λ x f. tracks-push table h (by_client c (Finished t v n stale)) u x.block x.since refl (k.each u x (gone_by (nat_eq u t) (find_waiter u s.waiters) x (sym (waiter_without t u s.next 0 s.waiters k.rising) ∙ f))));
   none_yet = λ u l. later_none h (by_client c (Finished t v n stale)) u refl (k.none_yet u l);
 }
 tracked_after table h s c (Cancelled t) k a = record {
   rising = rising_after s (Cancelled t) k.begun k.rising a;
   begun = k.begun;
-  reached = ap (λ (x : Slow). after x (Cancelled t)) k.reached ∙ sym (state-push (start table) h (by_client c (Cancelled t)));
+  reached = ap (λ (x : Slow). after x (Cancelled t)) k.reached ∙ sym (state-push (initial_state table) h (by_client c (Cancelled t)));
   each = λ u w e.
-      tracks-quiet table h (by_client c (Cancelled t)) u w.block w.since refl refl (k.each u w (gone_by (nat_eq u t) (waiter u s.waiters) w (sym (waiter_without t u s.next 0 s.waiters k.rising) ∙ e)));
+      tracks-quiet table h (by_client c (Cancelled t)) u w.block w.since refl refl (k.each u w (gone_by (nat_eq u t) (find_waiter u s.waiters) w (sym (waiter_without t u s.next 0 s.waiters k.rising) ∙ e)));
   none_yet = λ u l. later_none h (by_client c (Cancelled t)) u refl (k.none_yet u l);
 }
 
@@ -205,4 +205,4 @@ tracked_all table h s (e ∷ es) k l =
 
 pub tracked_state : (table : List Declared) (history : List Event) → IsLegal table history → AreTracked table history (state table history)
 tracked_state table history l =
-    tracked_all table [] (start table) history (record { rising = tt; begun = omega arith; reached = refl; each = λ t w e. cc; none_yet = λ t l. refl }) l.each
+    tracked_all table [] (initial_state table) history (record { rising = tt; begun = omega arith; reached = refl; each = λ t w e. cc; none_yet = λ t l. refl }) l.each

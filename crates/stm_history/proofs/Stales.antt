@@ -5,18 +5,18 @@ use Rattle.std.specs.List.{list_any}
 use Rattle.std.proofs.lemmas.Bool.Decides.{nat_tests}
 use Rattle.stm_terms.specs.declared.values.Value.{Value}
 use Rattle.stm_terms.specs.declared.verdicts.Verdict.{Verdict}
-use Rattle.stm_terms.specs.Views.{find}
-use Rattle.stm_terms.specs.Looks.{looks_of, reads_of}
-use Rattle.stm_check.specs.Blocks.{Block}
+use Rattle.stm_terms.specs.Changes.{find}
+use Rattle.stm_terms.specs.ReadSet.{looks_of, reads_of}
+use Rattle.stm_check.specs.TypedBlock.{Block}
 use Rattle.stm_eval.specs.Laws.{In}
 use Rattle.stm_eval.specs.Messages.{Holds}
-use Rattle.stm_eval.proofs.Uses.{looked}
+use Rattle.stm_eval.proofs.FragmentsAndStores.{looked}
 use Rattle.stm_watch.specs.Pairs.{Pairs, is_read, watches}
-use Rattle.stm_history.specs.SlowDesk.{Since, Waiter, under, looked_on, meets, is_stale_since, current_since, is_current, wrote_more, waiter}
+use Rattle.stm_history.specs.SlowDesk.{Since, Waiter, under, looked_on, intersects, is_stale_since, current_since, is_current, wrote_more, find_waiter}
 use Rattle.stm_history.specs.declared.waiting.Waiting.{Waiting}
 use Rattle.stm_history.specs.Entries.{kept_at, AreDue, IsHeld}
-use Rattle.stm_history.specs.Marks.{read_since, watches_of}
-use Rattle.stm_history.specs.Stands.{AreWatched}
+use Rattle.stm_history.specs.QueueAndIndex.{read_since, watches_of}
+use Rattle.stm_history.specs.MachineInvariant.{AreWatched}
 use Rattle.stm_history.proofs.Due.{IsSame, IsFound, found}
 use Rattle.stm_history.proofs.Points.{meets-append, stale_of}
 
@@ -58,20 +58,20 @@ any_in (j ∷ js) i p h q =
     ⊎_elim (λ (e : nat_eq i j ≡ true). or_first (p j) (list_any p js) (subst (λ (k : ℕ). p k ≡ true) (eqb-true i j e) q))
     (λ (e : list_any (nat_eq i) js ≡ true). or_second (p j) (list_any p js) (any_in js i p e q)) (either (nat_eq i j) (list_any (nat_eq i) js) h)
 
-meets_in : (wrote is : List ℕ) (i : ℕ) → list_any (nat_eq i) wrote ≡ true → In i is → meets wrote is ≡ true
+meets_in : (wrote is : List ℕ) (i : ℕ) → list_any (nat_eq i) wrote ≡ true → In i is → intersects wrote is ≡ true
 meets_in wrote [] i h m = absurd m
 meets_in wrote (j ∷ is) i h m =
-    ⊎_elim (λ (e : j ≡ i). or_first (list_any (nat_eq j) wrote) (meets wrote is) (subst (λ (k : ℕ). list_any (nat_eq k) wrote ≡ true) (sym e) h))
-    (λ (n : In i is). or_second (list_any (nat_eq j) wrote) (meets wrote is) (meets_in wrote is i h n)) m
+    ⊎_elim (λ (e : j ≡ i). or_first (list_any (nat_eq j) wrote) (intersects wrote is) (subst (λ (k : ℕ). list_any (nat_eq k) wrote ≡ true) (sym e) h))
+    (λ (n : In i is). or_second (list_any (nat_eq j) wrote) (intersects wrote is) (meets_in wrote is i h n)) m
 
 -- from a variable of the one list that is in the other
-to_read : (wrote is : List ℕ) (p : ℕ → Bool) → ((i : ℕ) → In i is → p i ≡ true) → meets wrote is ≡ true → list_any p wrote ≡ true
+to_read : (wrote is : List ℕ) (p : ℕ → Bool) → ((i : ℕ) → In i is → p i ≡ true) → intersects wrote is ≡ true → list_any p wrote ≡ true
 to_read wrote [] p f h = cc
 to_read wrote (i ∷ is) p f h =
     ⊎_elim (λ (e : list_any (nat_eq i) wrote ≡ true). any_in wrote i p e (f i (inl refl)))
-    (λ (e : meets wrote is ≡ true). to_read wrote is p (λ j m. f j (inr m)) e) (either (list_any (nat_eq i) wrote) (meets wrote is) h)
+    (λ (e : intersects wrote is ≡ true). to_read wrote is p (λ j m. f j (inr m)) e) (either (list_any (nat_eq i) wrote) (intersects wrote is) h)
 
-to_looked : (wrote all is : List ℕ) (p : ℕ → Bool) → ((i : ℕ) → p i ≡ true → In i is) → ((i : ℕ) → list_any (nat_eq i) wrote ≡ true → list_any (nat_eq i) all ≡ true) → list_any p wrote ≡ true → meets all is ≡ true
+to_looked : (wrote all is : List ℕ) (p : ℕ → Bool) → ((i : ℕ) → p i ≡ true → In i is) → ((i : ℕ) → list_any (nat_eq i) wrote ≡ true → list_any (nat_eq i) all ≡ true) → list_any p wrote ≡ true → intersects all is ≡ true
 to_looked [] all is p f sub h = cc
 to_looked (j ∷ js) all is p f sub h =
     ⊎_elim (λ (e : p j ≡ true). meets_in all is j (sub j (or_first (nat_eq j j) (list_any (nat_eq j) js) (itself j))) (f j e))
@@ -79,11 +79,11 @@ to_looked (j ∷ js) all is p f sub h =
 
 -- the written variables meet those looked at where some of them were read
 pub meets_read : (b : Block) (s : Since) (reads : List (ℕ × Value)) (v : Verdict) (wrote : List ℕ) → Holds b.tree (under s.store_then) reads v
-    → meets wrote (looked_on s.store_then b) ≡ list_any (is_read (read_since b (Some s))) wrote
+    → intersects wrote (looked_on s.store_then b) ≡ list_any (is_read (read_since b (Some s))) wrote
 meets_read b s reads v wrote holds =
     let S = under s.store_then in
     let rs = reads_of S b.tree in
-    same_bools (meets wrote (looks_of S b.tree)) (list_any (is_read rs) wrote)
+    same_bools (intersects wrote (looks_of S b.tree)) (list_any (is_read rs) wrote)
     (to_read wrote (looks_of S b.tree) (is_read rs) (λ i m. sym (is_read_find i rs) ∙ (looked b.tree S v holds.verdict_is i).0 m))
     (to_looked wrote wrote (looks_of S b.tree) (is_read rs) (λ i e. (looked b.tree S v holds.verdict_is i).1 (is_read_find i rs ∙ e)) (λ i m. m))
 
@@ -101,14 +101,14 @@ stale_bools true b c e = refl
 stale_bools false true c e = rw e
 stale_bools false false c e = rw e
 
-stale_held : (wrote : List ℕ) (w : Waiter) (o : Option Since) → (s : Since) → o ≡ Some s → meets wrote (looked_on s.store_then w.block) ≡ list_any (is_read (read_since w.block o)) wrote
+stale_held : (wrote : List ℕ) (w : Waiter) (o : Option Since) → (s : Since) → o ≡ Some s → intersects wrote (looked_on s.store_then w.block) ≡ list_any (is_read (read_since w.block o)) wrote
     → (current_since w.block o && list_any (is_read (read_since w.block o)) wrote) ≡ (current_since w.block o && not (current_since w.block (wrote_more wrote o)))
 stale_held wrote w None s e m = refl
 stale_held wrote w (Some z) s e m =
     let q : z ≡ s = cc in
-    let n : meets wrote (looked_on z.store_then w.block) ≡ list_any (is_read (read_since w.block (Some z))) wrote = subst (λ (x : Since). meets wrote (looked_on x.store_then w.block) ≡ list_any (is_read (read_since w.block (Some z))) wrote) (sym q) m in
+    let n : intersects wrote (looked_on z.store_then w.block) ≡ list_any (is_read (read_since w.block (Some z))) wrote = subst (λ (x : Since). intersects wrote (looked_on x.store_then w.block) ≡ list_any (is_read (read_since w.block (Some z))) wrote) (sym q) m in
     ap (λ (b : Bool). not (is_stale_since w.block z) && b) (sym n)
-    ∙ stale_bools (meets z.wrote (looked_on z.store_then w.block)) (meets wrote (looked_on z.store_then w.block)) (meets (z.wrote ++ wrote) (looked_on z.store_then w.block))
+    ∙ stale_bools (intersects z.wrote (looked_on z.store_then w.block)) (intersects wrote (looked_on z.store_then w.block)) (intersects (z.wrote ++ wrote) (looked_on z.store_then w.block))
     (meets-append z.wrote wrote (looked_on z.store_then w.block))
 
 watched_one : (wrote : List ℕ) (x : Waiting) (w : Waiter) → IsSame x w → list_any (λ v. watches_of (Some w) v) wrote ≡ stale_of wrote (Some w)
@@ -127,10 +127,10 @@ watched_of wrote None (Some w) f = absurd f
 watched_of wrote (Some x) None f = absurd f
 watched_of wrote (Some x) (Some w) f = watched_one wrote x w f
 
-by_index : (watch : Pairs) (ws : List Waiter) (wrote : List ℕ) (u : ℕ) → AreWatched watch ws → watches watch wrote u ≡ list_any (λ v. watches_of (waiter u ws) v) wrote
+by_index : (watch : Pairs) (ws : List Waiter) (wrote : List ℕ) (u : ℕ) → AreWatched watch ws → watches watch wrote u ≡ list_any (λ v. watches_of (find_waiter u ws) v) wrote
 by_index watch ws [] u i = refl
 by_index watch ws (v ∷ vs) u i = ap₂ (λ a b. a || b) (i v u) (by_index watch ws vs u i)
 
 -- a ticket watches some of the variables where it becomes stale by writes to them
-pub watches_stale : (watch : Pairs) (es : List (ℕ × Waiting)) (ws : List Waiter) (wrote : List ℕ) (u : ℕ) → AreDue es ws → AreWatched watch ws → watches watch wrote u ≡ stale_of wrote (waiter u ws)
-watches_stale watch es ws wrote u d i = by_index watch ws wrote u i ∙ watched_of wrote (kept_at u es) (waiter u ws) (found u es ws d)
+pub watches_stale : (watch : Pairs) (es : List (ℕ × Waiting)) (ws : List Waiter) (wrote : List ℕ) (u : ℕ) → AreDue es ws → AreWatched watch ws → watches watch wrote u ≡ stale_of wrote (find_waiter u ws)
+watches_stale watch es ws wrote u d i = by_index watch ws wrote u i ∙ watched_of wrote (kept_at u es) (find_waiter u ws) (found u es ws d)

@@ -9,7 +9,7 @@ use Rattle.stm_history.specs.Fits.{FitsTable}
 use Rattle.stm_history.specs.Lines.{format_1, event_line, header_line, variable_line}
 use Rattle.stm_history.specs.HistoryText.{head_text, history_text, variable_lines, event_lines}
 use Rattle.stm_history.specs.Judgement.{IsShort, MayDeclare, AreVariables, AreVariablesFrom, AreEvents}
-use Rattle.stm_history.specs.Checking.{Progress, at_header, at_variables, at_events, with_table, LeadsTo, LinesUpTo}
+use Rattle.stm_history.specs.Checking.{CheckerState, at_header, at_variables, at_events, with_table, LeadsTo, LinesUpTo}
 
 pub variable_lines-push : (ds : List Declared) (d : Declared) → variable_lines (ds ++ d ∷ []) ≡ variable_lines ds ++ (variable_line d ++ 10 ∷ [])
 variable_lines-push [] d = refl
@@ -41,19 +41,19 @@ with_table-lines : (n : ℕ) (text : List ℕ) (table : List Declared) → text 
 with_table-lines n text table e vs few small =
     lines_cases n text table e vs few small (nat_lt (length table) n) (λ h. grind (arith, nat_tests)) (λ h. grind (arith, nat_tests))
 
-pub LinesUpTo-line : (r t : Progress) (text line : List ℕ) → LinesUpTo r text → LeadsTo r line t → IsShort line → LinesUpTo t (text ++ (line ++ 10 ∷ []))
+pub LinesUpTo-line : (r t : CheckerState) (text line : List ℕ) → LinesUpTo r text → LeadsTo r line t → IsShort line → LinesUpTo t (text ++ (line ++ 10 ∷ []))
 LinesUpTo-line at_header t text line s k short =
-    subst (λ (r : Progress). LinesUpTo r (text ++ (line ++ 10 ∷ []))) (sym k.3)
+    subst (λ (r : CheckerState). LinesUpTo r (text ++ (line ++ 10 ∷ []))) (sym k.3)
     (with_table-lines k.0 (text ++ (line ++ 10 ∷ [])) [] (ap (λ x. x ++ (line ++ 10 ∷ [])) s ∙ ap (λ x. x ++ 10 ∷ []) (sym k.1)) tt (omega arith) k.2)
 LinesUpTo-line (at_variables n table) t text line s k short =
-    subst (λ (r : Progress). LinesUpTo r (text ++ (line ++ 10 ∷ []))) (sym k.3)
+    subst (λ (r : CheckerState). LinesUpTo r (text ++ (line ++ 10 ∷ []))) (sym k.3)
     (with_table-lines n (text ++ (line ++ 10 ∷ [])) (table ++ k.0 ∷ [])
     (ap (λ x. x ++ (line ++ 10 ∷ [])) s.0 ∙ ap (λ x. head_text format_1 n table ++ (x ++ 10 ∷ [])) (sym k.1) ∙ append_assoc (header_line format_1 n) (10 ∷ variable_lines table) (variable_line k.0 ++ 10 ∷ [])
     ∙ ap (λ x. header_line format_1 n ++ 10 ∷ x) (sym (variable_lines-push table k.0)))
     (variables_push [] table k.0 s.1 k.2)
     (let l : length (table ++ k.0 ∷ []) ≡ length table + 1 = length-append table (k.0 ∷ []) in omega (arith, l, s.2)) s.3)
 LinesUpTo-line (at_events table history) t text line s k short =
-    subst (λ (r : Progress). LinesUpTo r (text ++ (line ++ 10 ∷ []))) (sym k.4) (
+    subst (λ (r : CheckerState). LinesUpTo r (text ++ (line ++ 10 ∷ []))) (sym k.4) (
       ap (λ x. x ++ (line ++ 10 ∷ [])) s.0 ∙ ap (λ x. history_text format_1 table history ++ (x ++ 10 ∷ [])) (sym k.1) ∙ append_assoc (head_text format_1 (length table) table) (event_lines history) (event_line k.0 ++ 10 ∷ [])
           ∙ ap (λ x. head_text format_1 (length table) table ++ x) (sym (event_lines-push history k.0)),
       s.1,

@@ -4,23 +4,23 @@ use Rattle.std.specs.Prelude.{nat_eq, slice_get, option_map, IsSome}
 use Rattle.std.proofs.lemmas.Bool.Decides.{nat_tests}
 use Rattle.stm_terms.specs.declared.kinds.Ty.{Ty}
 use Rattle.stm_terms.specs.declared.values.Value.{Value}
-use Rattle.stm_terms.specs.Views.{cell_value}
-use Rattle.stm_terms.specs.Looks.{reads_of}
+use Rattle.stm_terms.specs.Changes.{cell_value}
+use Rattle.stm_terms.specs.ReadSet.{reads_of}
 use Rattle.stm_terms.specs.Verdict.{verdict}
 use Rattle.stm_store.specs.Cells.{plains, Covers}
 use Rattle.stm_store.specs.Tables.{Declared}
-use Rattle.stm_check.specs.Blocks.{Block}
+use Rattle.stm_check.specs.TypedBlock.{Block}
 use Rattle.stm_eval.specs.declared.job.Job.{Job}
 use Rattle.stm_eval.specs.declared.message.Evaluated.{Evaluated}
-use Rattle.stm_eval.specs.Told.{told_ticket, told_block, told_reads, told_verdict}
+use Rattle.stm_eval.specs.EvaluatedFields.{message_ticket, message_block, message_reads, message_verdict}
 use Rattle.stm_queue.specs.Queue.{Entry, has_ticket, queued, first_queued, sent_out}
 use Rattle.stm_history.specs.declared.event.Event.{Event}
-use Rattle.stm_history.specs.SlowDesk.{Waiter, Slow, under, waiter, state}
+use Rattle.stm_history.specs.SlowDesk.{Waiter, Slow, under, find_waiter, state}
 use Rattle.stm_history.specs.declared.waiting.Waiting.{Waiting}
 use Rattle.stm_history.specs.Entries.{kept_at, AreDue}
 use Rattle.stm_history.specs.Machine.{Parts, StandsFor}
-use Rattle.stm_history.specs.Marks.{due_of}
-use Rattle.stm_history.specs.Taken.{sent, block_at, AreJobs, IsKeptJob, AreKept, AreCovered, IsPresent}
+use Rattle.stm_history.specs.QueueAndIndex.{due_of}
+use Rattle.stm_history.specs.JobsHandedOut.{sent, block_at, AreJobs, IsKeptJob, AreKept, AreCovered, IsPresent}
 use Rattle.stm_history.specs.Refusals.{differing}
 use Rattle.stm_history.proofs.Agreeing.{reads_differ_nowhere}
 use Rattle.stm_history.proofs.Covered.{blocks_are_covered}
@@ -88,7 +88,7 @@ due_waits (Some x) (Some w) f d e = cc
 pub queued_wait : (table : List Declared) (history : List Event) (m : Parts) → StandsFor table history m → (t : ℕ) → has_ticket t m.pending ≡ true → kept_at t m.entries ≢ None
 queued_wait table history m k t h =
     let ws = (state table history).waiters in
-    due_waits (kept_at t m.entries) (waiter t ws) (found t m.entries ws k.stands.entries_are) (sym (k.stands.queue t) ∙ h)
+    due_waits (kept_at t m.entries) (find_waiter t ws) (found t m.entries ws k.stands.entries_are) (sym (k.stands.queue t) ∙ h)
 
 job_step : (o : Option Waiting) (p : Option Waiter) (b : Block) → IsFound o p → option_map (λ w. w.block) o ≡ Some b → option_map (λ w. w.block) p ≡ Some b
 job_step None None b f e = cc
@@ -98,15 +98,15 @@ job_step (Some x) (Some w) b f e = ap Some (sym f.block) ∙ e
 
 pub are_jobs : (s : Slow) (es : List (ℕ × Waiting)) (js : List Job) → AreDue es s.waiters → AreKept es js → AreJobs s js
 are_jobs s es [] d a = tt
-are_jobs s es (j ∷ js) d a = (job_step (kept_at j.ticket es) (waiter j.ticket s.waiters) j.block (found j.ticket es s.waiters d) a.0, are_jobs s es js d a.1)
+are_jobs s es (j ∷ js) d a = (job_step (kept_at j.ticket es) (find_waiter j.ticket s.waiters) j.block (found j.ticket es s.waiters d) a.0, are_jobs s es js d a.1)
 
 covered_step : (cells : List (Ty × Value)) (o : Option Waiter) (b : Block) → ((w : Waiter) → o ≡ Some w → Covers cells w.block.uses) → option_map (λ w. w.block) o ≡ Some b → Covers cells b.uses
 covered_step cells None b f e = cc
 covered_step cells (Some w) b f e = let q : w.block ≡ b = cc in subst (λ (x : Block). Covers cells x.uses) q (f w refl)
 
-pub are_covered : (s : Slow) (js : List Job) → ((t : ℕ) (w : Waiter) → waiter t s.waiters ≡ Some w → Covers (plains s.store) w.block.uses) → AreJobs s js → AreCovered (plains s.store) js
+pub are_covered : (s : Slow) (js : List Job) → ((t : ℕ) (w : Waiter) → find_waiter t s.waiters ≡ Some w → Covers (plains s.store) w.block.uses) → AreJobs s js → AreCovered (plains s.store) js
 are_covered s [] c a = tt
-are_covered s (j ∷ js) c a = (covered_step (plains s.store) (waiter j.ticket s.waiters) j.block (c j.ticket) a.0, are_covered s js c a.1)
+are_covered s (j ∷ js) c a = (covered_step (plains s.store) (find_waiter j.ticket s.waiters) j.block (c j.ticket) a.0, are_covered s js c a.1)
 
 -- ---- one block, on the present store
 some_kept : (o : Option Waiting) (p : Option Waiter) → IsFound o p → IsSome p → o ≡ None → ⊥
@@ -114,27 +114,27 @@ some_kept None None f s e = cc
 some_kept None (Some w) f s e = f
 some_kept (Some x) p f s e = cc
 
-pub kept_waits : (table : List Declared) (history : List Event) (m : Parts) → StandsFor table history m → (t : ℕ) → IsSome (waiter t (state table history).waiters) → kept_at t m.entries ≢ None
-kept_waits table history m k t s = let ws = (state table history).waiters in some_kept (kept_at t m.entries) (waiter t ws) (found t m.entries ws k.stands.entries_are) s
+pub kept_waits : (table : List Declared) (history : List Event) (m : Parts) → StandsFor table history m → (t : ℕ) → IsSome (find_waiter t (state table history).waiters) → kept_at t m.entries ≢ None
+kept_waits table history m k t s = let ws = (state table history).waiters in some_kept (kept_at t m.entries) (find_waiter t ws) (found t m.entries ws k.stands.entries_are) s
 
 pub job_covered : (table : List Declared) (history : List Event) (m : Parts) → StandsFor table history m → (j : Job) → IsKeptJob m.entries j → Covers (plains (state table history).store) j.block.uses
 job_covered table history m k j a =
     let s = state table history in
     (are_covered s (j ∷ []) (λ t w e. blocks_are_covered table history t w k.legal e) (are_jobs s m.entries (j ∷ []) k.stands.entries_are (a, tt))).0
 
-waits_at : (s : Slow) (t : ℕ) (b : Block) (o : Option Waiter) → waiter t s.waiters ≡ o → option_map (λ w. w.block) o ≡ Some b → (one : Waiter) × (waiter t s.waiters ≡ Some one) × (one.block ≡ b)
+waits_at : (s : Slow) (t : ℕ) (b : Block) (o : Option Waiter) → find_waiter t s.waiters ≡ o → option_map (λ w. w.block) o ≡ Some b → (one : Waiter) × (find_waiter t s.waiters ≡ Some one) × (one.block ≡ b)
 waits_at s t b None e h = cc
 waits_at s t b (Some w) e h = let q : w.block ≡ b = cc in (w, e, q)
 
 pub is_present : (table : List Declared) (history : List Event) (m : Parts) → StandsFor table history m → (t : ℕ) (j : Job) (message : Evaluated) (cells : List (Ty × Value))
-    → cells ≡ plains m.store → j.ticket ≡ t → IsKeptJob m.entries j → told_ticket message ≡ j.ticket → told_block message ≡ j.block
-    → verdict (cell_value cells) j.block.tree ≡ Some (told_verdict message) → told_reads message ≡ reads_of (cell_value cells) j.block.tree → IsPresent (state table history) t message
+    → cells ≡ plains m.store → j.ticket ≡ t → IsKeptJob m.entries j → message_ticket message ≡ j.ticket → message_block message ≡ j.block
+    → verdict (cell_value cells) j.block.tree ≡ Some (message_verdict message) → message_reads message ≡ reads_of (cell_value cells) j.block.tree → IsPresent (state table history) t message
 is_present table history m k t j message cells c i a mt mb mv mr =
     let s = state table history in
     let there : block_at s t ≡ Some j.block = subst (λ (u : ℕ). block_at s u ≡ Some j.block) i (are_jobs s m.entries (j ∷ []) k.stands.entries_are (a, tt)).0 in
-    let one = waits_at s t j.block (waiter t s.waiters) refl there in
+    let one = waits_at s t j.block (find_waiter t s.waiters) refl there in
     let same : cells ≡ plains s.store = c ∙ ap plains k.stands.store_is in
-    let reads : told_reads message ≡ reads_of (under s.store) one.0.block.tree = rw (← same, one.2) mr in
+    let reads : message_reads message ≡ reads_of (under s.store) one.0.block.tree = rw (← same, one.2) mr in
     record {
       one = one.0;
       found = one.1;

@@ -2,7 +2,7 @@
 use Rattle.std.proofs.Common.{◌≡◌, ℕ, ◌≤◌, ◌<◌, List, [], ◌∷◌, ◌++◌, length, refl, sym, ap, ◌∙◌, subst, arith, append_assoc, append-nil, length-append}
 use Rattle.stm_store.specs.Tables.{Declared}
 use Rattle.stm_history.specs.declared.event.Event.{Event}
-use Rattle.stm_history.specs.SlowDesk.{IsLegal, LegalFrom, Slow, max_events, start, after}
+use Rattle.stm_history.specs.SlowDesk.{IsLegal, LegalFrom, Slow, max_events, initial_state, after}
 use Rattle.stm_history.specs.Fits.{FitsTable}
 use Rattle.stm_history.specs.Lines.{format_1, event_line, header_line, variable_line}
 use Rattle.stm_history.proofs.ReadsBack.{event_one_line, header_one_line, variable_one_line, header_same, variable_same, event_same}
@@ -109,11 +109,11 @@ refused_by U H K e text (more n) fits legal illegal =
     let c = cut_unique (event_line e) text (event_line n.event) (event_lines n.later) (no_feed _ (event_one_line U e fits)) (no_feed _ (event_one_line U n.event n.fits)) n.text in
     let same : e ≡ n.event = event_same U e n.event fits n.fits c.line in
     let whole : H ≡ K ++ e ∷ n.later = n.whole ∙ ap (λ (z : Event). K ++ z ∷ n.later) (sym same) in
-    let h : LegalFrom (start U) (K ++ e ∷ n.later) = subst (λ (z : List Event). LegalFrom (start U) z) whole legal.each in
+    let h : LegalFrom (initial_state U) (K ++ e ∷ n.later) = subst (λ (z : List Event). LegalFrom (initial_state U) z) whole legal.each in
     let few : length (K ++ e ∷ n.later) ≤ max_events = subst (λ (z : List Event). length z ≤ max_events) whole legal.few in
     let l = length-append K (e ∷ n.later) in
     let m = length-append K (e ∷ []) in
-    illegal (record { each = front_legal (start U) K n.later e h; few = omega (arith, few, l, m) })
+    illegal (record { each = front_legal (initial_state U) K n.later e h; few = omega (arith, few, l, m) })
 
 -- the header and the variables of a history are those of a table
 header_by : (bytes : List ℕ) (T : List Declared) (H : List Event) → BeginsWithHistory format_1 bytes T H [] → TellsFault format_1 BadHeader bytes → ⊥

@@ -18,7 +18,7 @@ use Rattle.stm_store.specs.Tables.{Declared}
 use Rattle.stm_history.specs.declared.event.Event.{Event}
 use Rattle.stm_history.specs.declared.event.What.{What}
 use Rattle.stm_history.specs.declared.event.What.TheVariants.{Submitted, Installed, Finished, Cancelled}
-use Rattle.stm_check.specs.Blocks.{Block}
+use Rattle.stm_check.specs.TypedBlock.{Block}
 use Rattle.stm_check.specs.WholeBlocks.{BlockFault, checked_block}
 
 abbrev pub in_32_bits : ℕ → Option ℕ
@@ -125,7 +125,7 @@ event_of table d =
     option_and_then (λ kind. option_and_then (λ client. option_and_then (λ ticket. option_map (λ w. record { client = client; what = w }) (what_of table d kind ticket)) (number_field (codes "ticket") d)) (client_of d))
     (text_field (codes "event") d)
 
-abbrev pub declared_of : Data → Option Declared
-declared_of d =
+abbrev pub declared_from_json : Data → Option Declared
+declared_from_json d =
     option_and_then (λ name. option_and_then (λ kind. option_map (λ v. record { name = name; kind = kind; value = v }) (option_and_then value_of (get (codes "init") d))) (option_and_then type_in (text_field (codes "type") d)))
     (text_field (codes "name") d)

@@ -6,7 +6,7 @@ use Rattle.stm_store.specs.Tables.{Declared, opened}
 use Rattle.stm_history.specs.declared.event.Event.{Event}
 use Rattle.stm_history.specs.declared.event.What.{What}
 use Rattle.stm_history.specs.declared.event.What.TheVariants.{Submitted, Installed, Finished, Cancelled}
-use Rattle.stm_history.specs.SlowDesk.{Waiter, looked_on, verdict_on, written_in, meets, is_new, is_current, waiter, start, state, serial, finished_from, IsLegal}
+use Rattle.stm_history.specs.SlowDesk.{Waiter, looked_on, verdict_on, written_in, intersects, is_new, is_current, find_waiter, initial_state, state, serial, finished_from, IsLegal}
 
 -- the event is an accepted delivery to the ticket
 abbrev pub installs_to : ℕ → What → Bool
@@ -28,9 +28,9 @@ written_at (Finished t v n stale) = written_in v
 written_at (Cancelled t) = []
 
 -- the variables that the blocks wrote which finished in these events
-abbrev pub written_by : List Event → List ℕ
-written_by [] = []
-written_by (e ∷ es) = written_at e.what ++ written_by es
+abbrev pub written_in_events : List Event → List ℕ
+written_in_events [] = []
+written_in_events (e ∷ es) = written_at e.what ++ written_in_events es
 
 -- the last delivery to a ticket, with the verdict that it brought, the events before it and those after it
 pub record LastDelivery (history : List Event) (t : ℕ) : Type 0 where
@@ -46,7 +46,7 @@ pub record LastDelivery (history : List Event) (t : ℕ) : Type 0 where
 -- included; and where it isn't marked so, running the block from scratch on the present store gives that verdict
 pub record IsMarkedRightly (table : List Declared) (history : List Event) (t : ℕ) (w : Waiter) (d : LastDelivery history t) : Type 0 where
   pub evaluated : verdict_on (state table d.before).store w.block ≡ Some d.verdict
-  pub marked : not (is_current w) ≡ meets (written_by d.later) (looked_on (state table d.before).store w.block)
+  pub marked : not (is_current w) ≡ intersects (written_in_events d.later) (looked_on (state table d.before).store w.block)
   pub present : is_current w ≡ true → verdict_on (state table history).store w.block ≡ Some d.verdict
 
 -- a waiting block is new, and nothing was delivered to it, or its last delivery is marked rightly
@@ -56,8 +56,8 @@ pub data IsKnown (table : List Declared) (history : List Event) (t : ℕ) (w : W
 
 -- of every waiting block that, and the store is that of running the finished blocks alone, one after another
 pub record HeadlineHolds (table : List Declared) (history : List Event) : Type 0 where
-  pub blocks : (t : ℕ) (w : Waiter) → waiter t (state table history).waiters ≡ Some w → IsKnown table history t w
-  pub store : (state table history).store ≡ serial (opened table) (finished_from (start table) history)
+  pub blocks : (t : ℕ) (w : Waiter) → find_waiter t (state table history).waiters ≡ Some w → IsKnown table history t w
+  pub store : (state table history).store ≡ serial (opened table) (finished_from (initial_state table) history)
 
 abbrev pub Headline : Type 0
 Headline = (table : List Declared) (history : List Event) → IsLegal table history → HeadlineHolds table history

@@ -17,12 +17,12 @@ max_line = 1048576
 abbrev pub IsShort : List ℕ → Type 0
 IsShort line = length line ≤ max_line
 
--- the variable may be declared behind these
+-- the variable may be declared after these
 pub record MayDeclare (before : List Declared) (d : Declared) : Type 0 where
   pub fits : FitsVariable d
   pub may : declare_refusal before d.name d.kind d.value ≡ None
 
--- each variable may be declared behind those before it
+-- each variable may be declared after those before it
 abbrev pub AreVariablesFrom : List Declared → List Declared → Type 0
 AreVariablesFrom before [] = ⊤
 AreVariablesFrom before (d ∷ ds) = MayDeclare before d × AreVariablesFrom (before ++ d ∷ []) ds
@@ -63,7 +63,7 @@ NoEventNext table rest = (e : Event) → FitsTable table e → IsShort (event_li
 abbrev pub IsIllegal : List Declared → List Event → Event → Type 0
 IsIllegal table history e = IsLegal table (history ++ e ∷ []) → ⊥
 
--- What is told of bytes that are no legal history: the first fault. The first line and those of the variables are at fault
+-- What is reported of bytes that are no legal history: the first fault. The first line and those of the variables are at fault
 -- where the bytes begin with those of no table; a later line where a legal history stands before it.
 abbrev pub TellsFault : ℕ → HistoryFault → List ℕ → Type 0
 TellsFault format ReadFault bytes = ⊤

@@ -6,15 +6,15 @@ pub mod Rounds
 pub mod SlowDesk
 pub mod SlowSettle
 -- The words inside, for what the machine holds and hands out.
-pub mod Choices
-pub mod Codes
+pub mod BlockStatus
 pub mod Entries
+pub mod IndexEncoding
+pub mod JobsHandedOut
 pub mod Machine
-pub mod Marks
+pub mod MachineInvariant
 pub mod Plans
-pub mod Shown
-pub mod Stands
-pub mod Taken
+pub mod QueueAndIndex
+pub mod SettleChoices
 -- Histories as text: what a reader has to believe.
 pub mod FileLaws
 pub mod Fits

@@ -3,17 +3,17 @@ use Rattle.std.specs.Prelude.{◌≡◌, ℕ, Bool, false, ◌<◌, List, [], �
 use Rattle.stm_terms.specs.declared.verdicts.Verdict.{Verdict}
 use Rattle.stm_store.specs.declared.cell.Cell.{Cell}
 use Rattle.stm_store.specs.Tables.{Declared}
-use Rattle.stm_check.specs.Blocks.{Block}
+use Rattle.stm_check.specs.TypedBlock.{Block}
 use Rattle.stm_eval.specs.declared.message.Evaluated.{Evaluated}
-use Rattle.stm_eval.specs.Told.{told_ticket, told_block, told_reads}
+use Rattle.stm_eval.specs.EvaluatedFields.{message_ticket, message_block, message_reads}
 use Rattle.stm_watch.specs.Pairs.{Pairs}
 use Rattle.stm_history.specs.declared.event.Event.{Event}
 use Rattle.stm_history.specs.declared.event.What.{What}
 use Rattle.stm_history.specs.declared.waiting.Waiting.{Waiting}
-use Rattle.stm_history.specs.SlowDesk.{waiter, state, IsLegal, max_events, max_clients}
+use Rattle.stm_history.specs.SlowDesk.{find_waiter, state, IsLegal, max_events, max_clients}
 use Rattle.stm_history.specs.Plans.{IsPlan}
 use Rattle.stm_history.specs.Refusals.{submit_refused, cancel_refused, finish_refused, TellsDelivery}
-use Rattle.stm_history.specs.Stands.{Stands}
+use Rattle.stm_history.specs.MachineInvariant.{Stands}
 
 -- the store, the next ticket, the waiting blocks by their tickets, the tickets that are queued or out, and the index
 pub record Parts : Type 0 where
@@ -45,8 +45,8 @@ pub record CanWait (table : List Declared) (history : List Event) (m : Parts) (b
 pub record CanInstall (table : List Declared) (history : List Event) (m : Parts) (message : Evaluated) : Type 0 where
   pub stands : StandsFor table history m
   pub room : length history < max_events
-  pub allowed : TellsDelivery None (state table history) false (told_ticket message) (told_block message) (told_reads message)
-  pub same : IsSomeAnd (waiter (told_ticket message) (state table history).waiters) (λ w. w.block.tree ≡ (told_block message).tree)
+  pub allowed : TellsDelivery None (state table history) false (message_ticket message) (message_block message) (message_reads message)
+  pub same : IsSomeAnd (find_waiter (message_ticket message) (state table history).waiters) (λ w. w.block.tree ≡ (message_block message).tree)
 
 -- the block under the ticket may finish next, by this plan
 pub record CanFinish (table : List Declared) (history : List Event) (m : Parts) (t : ℕ) (verdict : Verdict) (first_new : ℕ) (stale : List ℕ) : Type 0 where

@@ -1,17 +1,17 @@
--- Which refusal a call tells: the first one whose condition holds; want of memory is told only where none holds. `full` says
+-- Which refusal a call tells: the first one whose condition holds; an out-of-memory error is reported only where none holds. `full` says
 -- that the history has no room for an event.
 use Rattle.std.specs.Prelude.{◌≡◌, ◌≢◌, ℕ, ◌+◌, Bool, false, not, nat_le, if◌then◌else◌, List, [], ◌∷◌, length, Option, Some, None, Result, Ok, Err}
 use Rattle.stm_terms.specs.declared.kinds.Ty.{Ty}
 use Rattle.stm_terms.specs.declared.values.Value.{Value}
 use Rattle.stm_terms.specs.declared.verdicts.Verdict.{Verdict}
 use Rattle.stm_terms.specs.Value.{same_value}
-use Rattle.stm_terms.specs.Views.{Variables}
+use Rattle.stm_terms.specs.Changes.{Variables}
 use Rattle.stm_store.specs.declared.cell.Cell.{Cell}
 use Rattle.stm_store.specs.Cells.{plains, kinds_of, made_by}
-use Rattle.stm_store.specs.Tables.{is_kind}
-use Rattle.stm_check.specs.Blocks.{Block}
+use Rattle.stm_store.specs.Tables.{is_type}
+use Rattle.stm_check.specs.TypedBlock.{Block}
 use Rattle.stm_queue.specs.Queue.{Entry, marked}
-use Rattle.stm_history.specs.SlowDesk.{Waiter, Slow, under, verdict_on, is_blocks, is_new, is_current, waiter, max_waiting, max_cells}
+use Rattle.stm_history.specs.SlowDesk.{Waiter, Slow, under, verdict_on, is_blocks, is_new, is_current, find_waiter, max_waiting, max_cells}
 use Rattle.stm_history.specs.declared.errors.SubmitError.{SubmitError}
 use Rattle.stm_history.specs.declared.errors.SubmitError.TheVariants as submit
 use Rattle.stm_history.specs.declared.errors.DeliverError.{DeliverError}
@@ -25,7 +25,7 @@ use Rattle.stm_history.specs.declared.errors.CancelError.TheVariants as cancel
 -- the first variable that is not there with its type
 abbrev pub missing : List (Ty × Value) → List (ℕ × Ty) → Option ℕ
 missing cells [] = None
-missing cells (u ∷ us) = if is_kind (kinds_of cells u.0) u.1 then missing cells us else Some u.0
+missing cells (u ∷ us) = if is_type (kinds_of cells u.0) u.1 then missing cells us else Some u.0
 
 abbrev pub submit_first : Option ℕ → Bool → Bool → Option SubmitError
 submit_first (Some i) many full = Some (submit.Foreign i)
@@ -47,7 +47,7 @@ cancel_first None full = Some cancel.NoTicket
 cancel_first (Some w) full = if full then Some cancel.HistoryFull else None
 
 abbrev pub cancel_refused : Slow → Bool → ℕ → Option CancelError
-cancel_refused s full t = cancel_first (waiter t s.waiters) full
+cancel_refused s full t = cancel_first (find_waiter t s.waiters) full
 
 abbrev pub cancel_told : {A : Type 0} → Result A CancelError → Option CancelError
 cancel_told (Ok x) = None
@@ -79,7 +79,7 @@ DeliverTold told store full (Some w) block reads =
     (w.block.tree ≢ block.tree → told ≡ Some deliver.OtherBlock) × (w.block.tree ≡ block.tree → told ≡ install_first store full w reads)
 
 abbrev pub TellsDelivery : Option DeliverError → Slow → Bool → ℕ → Block → List (ℕ × Value) → Type 0
-TellsDelivery told s full t block reads = DeliverTold told s.store full (waiter t s.waiters) block reads
+TellsDelivery told s full t block reads = DeliverTold told s.store full (find_waiter t s.waiters) block reads
 
 abbrev pub deliver_error : DeliverError → Option DeliverError
 deliver_error deliver.NoMemory = None
@@ -127,7 +127,7 @@ finish_first store full (Some w) =
     else if overflows store (verdict_on store w.block) then Some finish.CellsFull else None
 
 abbrev pub finish_refused : Slow → Bool → ℕ → Option FinishError
-finish_refused s full t = finish_first s.store full (waiter t s.waiters)
+finish_refused s full t = finish_first s.store full (find_waiter t s.waiters)
 
 abbrev pub finish_told : {A : Type 0} → Result A FinishError → Option FinishError
 finish_told (Ok x) = None

@@ -6,12 +6,12 @@ use Rattle.stm_history.specs.declared.files.check.Stage.{Stage}
 use Rattle.stm_history.specs.declared.files.check.Stage.TheVariants.{Before, Declaring, Running}
 use Rattle.stm_history.specs.declared.files.fault.HistoryFault.{HistoryFault}
 use Rattle.stm_history.specs.declared.files.fault.HistoryFault.TheVariants.{BadHeader, NoMemory}
-use Rattle.stm_history.specs.Checking.{Progress, at_header, at_variables, at_events, LeadsTo, HasTaken}
+use Rattle.stm_history.specs.Checking.{CheckerState, at_header, at_variables, at_events, LeadsTo, HasTaken}
 use Rattle.stm_history.specs.Following.{Follows}
 use Rattle.stm_history.specs.SlowDesk.{max_cells}
 
 -- the stage stands for the progress
-abbrev pub IsStage : Stage → Progress → Type 0
+abbrev pub IsStage : Stage → CheckerState → Type 0
 IsStage Before at_header = Unit {0}
 IsStage Before (at_variables n table) = ⊥
 IsStage Before (at_events table history) = ⊥
@@ -23,18 +23,18 @@ IsStage (Running names r) (at_variables n table) = ⊥
 IsStage (Running names r) (at_events table history) = (names ≡ table) × Follows table history r
 
 -- the line leads from this progress on to one that the stage stands for
-abbrev pub LeadsToStage : Progress → List ℕ → Stage → Type 0
-LeadsToStage p line s = (q : Progress) × LeadsTo p line q × IsStage s q
+abbrev pub LeadsToStage : CheckerState → List ℕ → Stage → Type 0
+LeadsToStage p line s = (q : CheckerState) × LeadsTo p line q × IsStage s q
 
 -- the numbers of a progress are as small as those of a history
-abbrev pub IsWithin : Progress → Type 0
-IsWithin at_header = Unit {0}
-IsWithin (at_variables n table) = (length table < n) × (n ≤ max_cells)
-IsWithin (at_events table history) = length table ≤ max_cells
+abbrev pub CountsWithinLimits : CheckerState → Type 0
+CountsWithinLimits at_header = Unit {0}
+CountsWithinLimits (at_variables n table) = (length table < n) × (n ≤ max_cells)
+CountsWithinLimits (at_events table history) = length table ≤ max_cells
 
 -- what was taken led to this stage, and to this line that has begun
 pub record Reached (s : Stage) (line taken : List ℕ) : Type 0 where
-  pub progress : Progress
+  pub progress : CheckerState
   pub stage : IsStage s progress
   pub held : HasTaken progress line taken
 

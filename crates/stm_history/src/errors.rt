@@ -1,4 +1,4 @@
-//! Why a call is refused. The first that holds is told.
+//! Why a call is refused. The first that holds is reported.
 
 use std::alloc::AllocError;
 use thiserror::Error;

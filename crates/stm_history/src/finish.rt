@@ -2,15 +2,15 @@
 
 ghost use Rattle.std.specs.Prelude.{◌≡◌, ℕ, List, ◌≤◌, not, ◌&&◌, nat_eq, Some, IfOk, OnOk, OnErr, length};
 ghost use Rattle.std.specs.List.{list_any};
-ghost use Rattle.stm_store.specs.Cells.{plains, Fits, applied, made_by, told as told_of};
+ghost use Rattle.stm_store.specs.Cells.{plains, Fits, applied, made_by, applied_answer as told_of};
 ghost use Rattle.stm_store.specs.Tables.{Declared};
 ghost use Rattle.stm_watch.specs.Pairs.{watches};
-ghost use Rattle.stm_queue.specs.Rising.{IsRising};
+ghost use Rattle.stm_queue.specs.SortedTickets.{IsRising};
 ghost use Rattle.stm_history.specs.declared.event.Event.{Event};
 ghost use Rattle.stm_history.specs.declared.event.What.{What as AnyWhat};
 ghost use Rattle.stm_history.specs.SlowDesk.{state, is_blocks, written_in};
 ghost use Rattle.stm_history.specs.Machine.{StandsFor, CanFinish, MovesTo};
-ghost use Rattle.stm_history.specs.Marks.{with_tickets};
+ghost use Rattle.stm_history.specs.QueueAndIndex.{with_tickets};
 ghost use Rattle.stm_history.specs.Plans.{IsPlan};
 ghost use Rattle.stm_history.specs.Refusals.{overflows, finish_refused, finish_told};
 

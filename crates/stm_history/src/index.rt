@@ -2,12 +2,12 @@
 
 ghost use Rattle.std.specs.Prelude.{◌≡◌, ℕ, ◌≤◌, true, false, not, ◌&&◌, nat_eq, length, IfOk, OnOk, OnErr, map, ◌++◌};
 ghost use Rattle.std.specs.List.{list_any};
-ghost use Rattle.stm_watch.specs.Pairs.{has, is_read, watches, WithoutReads};
+ghost use Rattle.stm_watch.specs.Pairs.{has_pair, is_read, watches, WithoutReads};
 ghost use Rattle.stm_queue.specs.Queue.{has_ticket};
-ghost use Rattle.stm_queue.specs.Rising.{IsRising, without};
+ghost use Rattle.stm_queue.specs.SortedTickets.{IsRising, delete};
 ghost use Rattle.stm_history.specs.SlowDesk.{written_in};
 ghost use Rattle.stm_history.specs.Entries.{kept_at, kept_reads, lose};
-ghost use Rattle.stm_history.specs.Marks.{with_tickets};
+ghost use Rattle.stm_history.specs.QueueAndIndex.{with_tickets};
 
 use crate::waiting::{Waiting, WaitingBlocks};
 use std::alloc::{AllocError as NoMemory, Global};
@@ -40,7 +40,7 @@ pub(crate) fn written_variables(alloc: Global, verdict: &Verdict) -> Result<Vec<
 }
 
 fn drop_ticket(tickets: &mut Vec<u32>, ticket: u32)
-    ensures { tickets.new.items ≡ without ticket tickets.old.items }
+    ensures { tickets.new.items ≡ delete ticket tickets.old.items }
 {
     tickets.retain(|other| ticket != *other);
 }
@@ -63,7 +63,7 @@ pub(crate) fn stale_tickets(
 
 /// These tickets watch nothing more.
 pub(crate) fn unwatch_all(watch: &mut Watch, waiting: &WaitingBlocks, tickets: &[u32])
-    ensures { (v u : ℕ) → has watch.new v u ≡ (has watch.old v u && not (list_any (nat_eq u) tickets.now && is_read (kept_reads (kept_at u waiting.now)) v)) }
+    ensures { (v u : ℕ) → has_pair watch.new v u ≡ (has_pair watch.old v u && not (list_any (nat_eq u) tickets.now && is_read (kept_reads (kept_at u waiting.now)) v)) }
 {
     for ticket in tickets {
         unwatch(watch, waiting, *ticket);
@@ -71,7 +71,7 @@ pub(crate) fn unwatch_all(watch: &mut Watch, waiting: &WaitingBlocks, tickets: &
 }
 
 fn unwatch(watch: &mut Watch, waiting: &WaitingBlocks, ticket: u32)
-    ensures { (v u : ℕ) → has watch.new v u ≡ (has watch.old v u && not (nat_eq u ticket && is_read (kept_reads (kept_at u waiting.now)) v)) }
+    ensures { (v u : ℕ) → has_pair watch.new v u ≡ (has_pair watch.old v u && not (nat_eq u ticket && is_read (kept_reads (kept_at u waiting.now)) v)) }
 {
     match waiting.get(ticket) {
         Some(block) => watch.remove(ticket, block.reads()),

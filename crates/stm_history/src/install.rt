@@ -5,10 +5,10 @@ ghost use Rattle.stm_terms.specs.Value.{same_value};
 ghost use Rattle.stm_store.specs.Tables.{Declared};
 ghost use Rattle.stm_watch.specs.Pairs.{WithReads};
 ghost use Rattle.stm_queue.specs.Queue.{without_ticket};
-ghost use Rattle.stm_eval.specs.Told.{told_ticket, told_block, told_reads, told_verdict};
+ghost use Rattle.stm_eval.specs.EvaluatedFields.{message_ticket, message_block, message_reads, message_verdict};
 ghost use Rattle.stm_history.specs.declared.event.Event.{Event};
 ghost use Rattle.stm_history.specs.declared.event.What.{What as AnyWhat};
-ghost use Rattle.stm_history.specs.SlowDesk.{under, waiter, state};
+ghost use Rattle.stm_history.specs.SlowDesk.{under, find_waiter, state};
 ghost use Rattle.stm_history.specs.Machine.{StandsFor, CanInstall, MovesTo};
 ghost use Rattle.stm_history.specs.Refusals.{differing, has_value, install_told, TellsDelivery};
 
@@ -23,14 +23,14 @@ use stm_watch::Watch;
 
 /// Whether the message is of the block that waits.
 fn is_of(waiting: &Waiting, message: &Evaluated) -> bool
-    ensures { IsTrue result ↔ (waiting.now.block.tree ≡ (told_block message.now).tree) }
+    ensures { IsTrue result ↔ (waiting.now.block.tree ≡ (message_block message.now).tree) }
 {
     waiting.block.block().same_tree(message.block().block())
 }
 
 /// The first of the variables read whose value differs now, or that isn't there.
 fn first_read_differing(store: &Store, message: &Evaluated) -> Option<u32>
-    ensures { result ≡ differing (under store.now) (told_reads message.now) }
+    ensures { result ≡ differing (under store.now) (message_reads message.now) }
 {
     first_differing(store, message.reads().as_slice())
 }
@@ -62,17 +62,17 @@ fn first_differing(store: &Store, reads: &[(u32, Value)]) -> Option<u32>
 
 /// The ticket of the message watches what its block read.
 fn watch_reads(watch: &mut Watch, message: &Evaluated) -> Result<(), NoMemory>
-    ensures ok { OnOk result (WithReads watch.old (told_ticket message.now) (told_reads message.now) watch.new) }
+    ensures ok { OnOk result (WithReads watch.old (message_ticket message.now) (message_reads message.now) watch.new) }
     ensures err { OnErr result (watch.new ≡ watch.old) }
 {
     watch.add(message.ticket(), message.reads().as_slice())
 }
 
 impl Machine {
-    /// Why the message can't be installed, want of memory aside. `full` says that the history has no room for an event.
+    /// Why the message can't be installed, an out-of-memory error aside. `full` says that the history has no room for an event.
     pub fn may_install(&self, message: &Evaluated, full: bool) -> Result<(), DeliverError>
-        ensures told { (T : List Declared) (H : List Event) → StandsFor T H self.now → TellsDelivery (install_told result) (state T H) full (told_ticket message.now) (told_block message.now) (told_reads message.now) }
-        ensures same { OnOk result ((T : List Declared) (H : List Event) → StandsFor T H self.now → IsSomeAnd (waiter (told_ticket message.now) (state T H).waiters) (λ w. w.block.tree ≡ (told_block message.now).tree)) }
+        ensures told { (T : List Declared) (H : List Event) → StandsFor T H self.now → TellsDelivery (install_told result) (state T H) full (message_ticket message.now) (message_block message.now) (message_reads message.now) }
+        ensures same { OnOk result ((T : List Declared) (H : List Event) → StandsFor T H self.now → IsSomeAnd (find_waiter (message_ticket message.now) (state T H).waiters) (λ w. w.block.tree ≡ (message_block message.now).tree)) }
     {
         let ticket = message.ticket();
         let waiting = match self.waiting.get(ticket) {
@@ -98,8 +98,8 @@ impl Machine {
     /// Installs a message: its block is current from then on, neither queued nor out. A refusal hands the message back.
     pub fn install(&mut self, message: Evaluated) -> Result<(), (Evaluated, NoMemory)>
         requires { (T : List Declared) × (H : List Event) × CanInstall T H self.old message }
-        ensures moved { OnOk result ((T : List Declared) (H : List Event) → CanInstall T H self.old message → MovesTo T H (AnyWhat.Installed (told_ticket message) (told_verdict message)) self.new) }
-        ensures pending { OnOk result (self.new.pending ≡ without_ticket (told_ticket message) self.old.pending) }
+        ensures moved { OnOk result ((T : List Declared) (H : List Event) → CanInstall T H self.old message → MovesTo T H (AnyWhat.Installed (message_ticket message) (message_verdict message)) self.new) }
+        ensures pending { OnOk result (self.new.pending ≡ without_ticket (message_ticket message) self.old.pending) }
         ensures back { IfErr result (λ e. e.0 ≡ message) }
         ensures err { OnErr result (self.new ≡ self.old) }
     {

@@ -14,7 +14,7 @@ use crate::index::forget;
 use crate::machine::Machine;
 
 impl Machine {
-    /// Why the block can't be cancelled, want of memory aside. `full` says that the history has no room for an event.
+    /// Why the block can't be cancelled, an out-of-memory error aside. `full` says that the history has no room for an event.
     pub fn may_leave(&self, ticket: u32, full: bool) -> Result<(), CancelError>
         ensures { (T : List Declared) (H : List Event) → StandsFor T H self.now → cancel_told result ≡ cancel_refused (state T H) full ticket }
     {

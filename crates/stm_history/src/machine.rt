@@ -25,8 +25,8 @@ pub struct Machine {
 
 impl Model for Machine {
     ghost use Rattle.std.specs.Coded.{codes};
-    ghost use Rattle.stm_terms.specs.Codes.{act_code};
-    ghost use Rattle.stm_history.specs.Codes.{pairs_code};
+    ghost use Rattle.stm_terms.specs.TreeEncoding.{act_code};
+    ghost use Rattle.stm_history.specs.IndexEncoding.{pairs_code};
     ghost use Rattle.stm_history.specs.Machine.{Parts};
 
     ghost Value = { Parts };

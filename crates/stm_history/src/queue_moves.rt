@@ -9,7 +9,7 @@ ghost use Rattle.stm_history.specs.SlowDesk.{state};
 ghost use Rattle.stm_history.specs.Entries.{kept_at};
 ghost use Rattle.stm_history.specs.Machine.{StandsFor};
 ghost use Rattle.stm_history.specs.Refusals.{pending_left};
-ghost use Rattle.stm_history.specs.Taken.{sent, AreJobs, AreCovered, AreKept, IsKeptJob};
+ghost use Rattle.stm_history.specs.JobsHandedOut.{sent, AreJobs, AreCovered, AreKept, IsKeptJob};
 
 use crate::errors::DeliverError;
 use crate::machine::Machine;

@@ -4,7 +4,7 @@ ghost use Rattle.std.specs.Prelude.{◌≡◌, ◌↔◌, ◌&&◌, IsTrue};
 
 use crate::event::{Event, What};
 use crate::tickets::Tickets;
-use stm_check::Script;
+use stm_check::SharedBlock;
 use stm_terms::verdicts::Verdict;
 
 pub(crate) fn same_numbers(one: &[u32], other: &[u32]) -> bool
@@ -19,7 +19,7 @@ fn same_tickets(one: &Tickets, other: &Tickets) -> bool
     same_numbers(one.as_slice(), other.as_slice())
 }
 
-fn same_block(one: &Script, other: &Script) -> bool
+fn same_block(one: &SharedBlock, other: &SharedBlock) -> bool
     ensures { IsTrue result ↔ (one.now ≡ other.now) }
 {
     one.block().same(other.block())

@@ -4,16 +4,16 @@ ghost use Rattle.std.specs.Prelude.{◌≡◌, ◌≤◌, List, nat_lt, true, So
 ghost use Rattle.std.specs.Option.{option_copied};
 ghost use Rattle.stm_store.specs.Tables.{Declared, opened};
 ghost use Rattle.stm_history.specs.declared.event.Event.{Event};
-ghost use Rattle.stm_history.specs.SlowDesk.{Waiter, is_current, waiter, standing, start, state, serial, finished_from, max_waiting};
+ghost use Rattle.stm_history.specs.SlowDesk.{Waiter, is_current, find_waiter, standing, initial_state, state, serial, finished_from, max_waiting};
 ghost use Rattle.stm_history.specs.SlowSettle.{lowest};
 ghost use Rattle.stm_history.specs.Machine.{StandsFor};
-ghost use Rattle.stm_history.specs.Marks.{QueueIsRight};
-ghost use Rattle.stm_history.specs.Shown.{shown, read_then, read_now};
-ghost use Rattle.stm_history.specs.Taken.{block_at};
+ghost use Rattle.stm_history.specs.QueueAndIndex.{QueueIsRight};
+ghost use Rattle.stm_history.specs.BlockStatus.{shown, read_then, read_now};
+ghost use Rattle.stm_history.specs.JobsHandedOut.{block_at};
 
 use crate::machine::Machine;
 use crate::status::Status;
-use stm_check::Script;
+use stm_check::SharedBlock;
 use stm_store::Store;
 use stm_terms::values::Value;
 
@@ -21,7 +21,7 @@ impl Machine {
     /// How the block under a ticket stands; none where no block waits. A stale verdict is the one that the block had at its
     /// last delivery, and a current one is the one that it has on the present store.
     pub fn status(&self, ticket: u32) -> Option<Status<'_>>
-        ensures { (T : List Declared) (H : List Event) → StandsFor T H self.now → option_map shown result ≡ option_map (standing (state T H).store) (waiter ticket (state T H).waiters) }
+        ensures { (T : List Declared) (H : List Event) → StandsFor T H self.now → option_map shown result ≡ option_map (standing (state T H).store) (find_waiter ticket (state T H).waiters) }
     {
         match self.waiting.get(ticket) {
             None => None,
@@ -41,8 +41,8 @@ impl Machine {
     /// What the block under a ticket read at its last delivery, rising; none where no block waits or it is new. Those of a
     /// current block have their values on the present store.
     pub fn reads(&self, ticket: u32) -> Option<&[(u32, Value)]>
-        ensures then { (T : List Declared) (H : List Event) → StandsFor T H self.now → option_copied result ≡ read_then (waiter ticket (state T H).waiters) }
-        ensures present { (T : List Declared) (H : List Event) (w : Waiter) → StandsFor T H self.now → waiter ticket (state T H).waiters ≡ Some w → is_current w ≡ true → option_copied result ≡ Some (read_now (state T H).store w) }
+        ensures then { (T : List Declared) (H : List Event) → StandsFor T H self.now → option_copied result ≡ read_then (find_waiter ticket (state T H).waiters) }
+        ensures present { (T : List Declared) (H : List Event) (w : Waiter) → StandsFor T H self.now → find_waiter ticket (state T H).waiters ≡ Some w → is_current w ≡ true → option_copied result ≡ Some (read_now (state T H).store w) }
     {
         match self.waiting.get(ticket) {
             None => None,
@@ -54,7 +54,7 @@ impl Machine {
     }
 
     /// The block that waits under a ticket.
-    pub fn block(&self, ticket: u32) -> Option<&Script>
+    pub fn block(&self, ticket: u32) -> Option<&SharedBlock>
         ensures { (T : List Declared) (H : List Event) → StandsFor T H self.now → option_copied result ≡ block_at (state T H) ticket }
     {
         match self.waiting.get(ticket) {
@@ -67,7 +67,7 @@ impl Machine {
     pub fn store(&self) -> &Store
         ensures parts { result.now ≡ self.now.store }
         ensures store { (T : List Declared) (H : List Event) → StandsFor T H self.now → result.now ≡ (state T H).store }
-        ensures serial { (T : List Declared) (H : List Event) → StandsFor T H self.now → result.now ≡ serial (opened T) (finished_from (start T) H) }
+        ensures serial { (T : List Declared) (H : List Event) → StandsFor T H self.now → result.now ≡ serial (opened T) (finished_from (initial_state T) H) }
     {
         &self.store
     }

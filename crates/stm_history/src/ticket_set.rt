@@ -1,7 +1,7 @@
 //! A set of tickets. Settling keeps in one the blocks that may be able to finish.
 
 ghost use Rattle.std.specs.Prelude.{◌≡◌, ℕ, ◌≤◌, ◌||◌, [], true, drop, nat_eq, slice_get, IfSome, OnOk, OnErr};
-ghost use Rattle.stm_queue.specs.Rising.{has};
+ghost use Rattle.stm_queue.specs.SortedTickets.{member};
 
 use std::alloc::{AllocError as NoMemory, Global};
 use std::collections::BTreeSet;
@@ -35,7 +35,7 @@ impl TicketSet {
     /// The lowest ticket.
     pub fn least(&self) -> Option<u32>
         ensures first { result ≡ slice_get self.now 0 }
-        ensures least { IfSome result (λ t. (u : ℕ) → has u self.now ≡ true → t ≤ u) }
+        ensures least { IfSome result (λ t. (u : ℕ) → member u self.now ≡ true → t ≤ u) }
     {
         match self.tickets.first() {
             Some(ticket) => Some(*ticket),
@@ -52,7 +52,7 @@ impl TicketSet {
 
     /// One ticket more.
     pub fn add(&mut self, ticket: u32) -> Result<(), NoMemory>
-        ensures ok { OnOk result ((u : ℕ) → has u self.new ≡ (nat_eq u ticket || has u self.old)) }
+        ensures ok { OnOk result ((u : ℕ) → member u self.new ≡ (nat_eq u ticket || member u self.old)) }
         ensures err { OnErr result (self.new ≡ self.old) }
     {
         self.tickets.insert(ticket)?;
@@ -61,8 +61,8 @@ impl TicketSet {
 
     /// One ticket more, if it is wanted.
     pub fn add_if(&mut self, wanted: bool, ticket: u32) -> Result<(), NoMemory>
-        ensures keeps { (u : ℕ) → has u self.old ≡ true → has u self.new ≡ true }
-        ensures added { OnOk result (wanted ≡ true → has ticket self.new ≡ true) }
+        ensures keeps { (u : ℕ) → member u self.old ≡ true → member u self.new ≡ true }
+        ensures added { OnOk result (wanted ≡ true → member ticket self.new ≡ true) }
     {
         if wanted { self.add(ticket) } else { Ok(()) }
     }

@@ -5,11 +5,11 @@ ghost use Rattle.stm_store.specs.Cells.{plains};
 ghost use Rattle.stm_store.specs.Tables.{Declared};
 ghost use Rattle.stm_queue.specs.Queue.{first_queued};
 ghost use Rattle.stm_history.specs.declared.event.Event.{Event};
-ghost use Rattle.stm_history.specs.SlowDesk.{Waiter, is_current, waiter, state};
+ghost use Rattle.stm_history.specs.SlowDesk.{Waiter, is_current, find_waiter, state};
 ghost use Rattle.stm_history.specs.SlowSettle.{can_end};
-ghost use Rattle.stm_history.specs.Choices.{some_out, next_due, ended_then, AreCandidates};
+ghost use Rattle.stm_history.specs.SettleChoices.{some_out, next_due, ended_then, AreCandidates};
 ghost use Rattle.stm_history.specs.Machine.{StandsFor};
-ghost use Rattle.stm_history.specs.Taken.{IsPresent};
+ghost use Rattle.stm_history.specs.JobsHandedOut.{IsPresent};
 
 use crate::machine::Machine;
 use crate::queue_moves::job_of;
@@ -37,7 +37,7 @@ impl Machine {
 
     /// What the block under a ticket does on the present store, of which an unchanging copy is given.
     pub fn evaluated(&self, frozen: &Frozen, ticket: u32) -> Result<Evaluated, NoMemory>
-        requires waits { (T : List Declared) × (H : List Event) × StandsFor T H self.now × IsSome (waiter ticket (state T H).waiters) }
+        requires waits { (T : List Declared) × (H : List Event) × StandsFor T H self.now × IsSome (find_waiter ticket (state T H).waiters) }
         requires store { frozen.now ≡ plains self.now.store }
         ensures { IfOk result (λ m. (T : List Declared) (H : List Event) → StandsFor T H self.now → IsPresent (state T H) ticket m) }
     {
@@ -50,8 +50,8 @@ impl Machine {
 
     /// Whether a block waits under the ticket whose last delivery brought a verdict that doesn't block.
     pub fn ends(&self, ticket: u32) -> bool
-        ensures then { (T : List Declared) (H : List Event) → StandsFor T H self.now → result ≡ ended_then (waiter ticket (state T H).waiters) }
-        ensures present { (T : List Declared) (H : List Event) (w : Waiter) → StandsFor T H self.now → waiter ticket (state T H).waiters ≡ Some w → is_current w ≡ true → result ≡ can_end (state T H).store w }
+        ensures then { (T : List Declared) (H : List Event) → StandsFor T H self.now → result ≡ ended_then (find_waiter ticket (state T H).waiters) }
+        ensures present { (T : List Declared) (H : List Event) (w : Waiter) → StandsFor T H self.now → find_waiter ticket (state T H).waiters ≡ Some w → is_current w ≡ true → result ≡ can_end (state T H).store w }
     {
         match self.waiting.get(ticket) {
             None => false,

@@ -2,7 +2,7 @@
 
 ghost use Rattle.std.specs.Prelude.{◌≡◌, List, IfOk, OnErr};
 ghost use Rattle.stm_store.specs.Cells.{plains, kinds_of};
-ghost use Rattle.stm_store.specs.Tables.{Declared, is_kind};
+ghost use Rattle.stm_store.specs.Tables.{Declared, is_type};
 ghost use Rattle.stm_queue.specs.Queue.{with_ticket};
 ghost use Rattle.stm_history.specs.declared.event.Event.{Event};
 ghost use Rattle.stm_history.specs.declared.event.What.{What as AnyWhat};
@@ -12,14 +12,14 @@ ghost use Rattle.stm_history.specs.Refusals.{missing, submit_refused, submit_tol
 
 use crate::errors::SubmitError;
 use crate::machine::Machine;
-use stm_check::Script;
+use stm_check::SharedBlock;
 use stm_store::Store;
 use stm_terms::NoMemory;
 use stm_terms::kinds::Ty;
 
 /// Whether the store has the variable with the type.
 fn has_variable(store: &Store, id: u32, kind: Ty) -> bool
-    ensures { result ≡ is_kind (kinds_of (plains store.now) id) kind }
+    ensures { result ≡ is_type (kinds_of (plains store.now) id) kind }
 {
     (id as usize) < store.len() && store.kind(id) == kind
 }
@@ -37,8 +37,8 @@ fn first_missing(store: &Store, uses: &[(u32, Ty)]) -> Option<u32>
 }
 
 impl Machine {
-    /// Why the block can't wait, want of memory aside. `full` says that the history has no room for an event.
-    pub fn may_wait(&self, block: &Script, full: bool) -> Result<(), SubmitError>
+    /// Why the block can't wait, an out-of-memory error aside. `full` says that the history has no room for an event.
+    pub fn may_wait(&self, block: &SharedBlock, full: bool) -> Result<(), SubmitError>
         ensures { (T : List Declared) (H : List Event) → StandsFor T H self.now → submit_told result ≡ submit_refused (state T H) full block.now }
     {
         match first_missing(&self.store, block.block().uses()) {
@@ -55,7 +55,7 @@ impl Machine {
     }
 
     /// The block waits from now on, under the ticket that is answered, and is queued.
-    pub fn wait(&mut self, block: Script) -> Result<u32, NoMemory>
+    pub fn wait(&mut self, block: SharedBlock) -> Result<u32, NoMemory>
         requires { (T : List Declared) × (H : List Event) × CanWait T H self.old block }
         ensures moved { IfOk result (λ t. (T : List Declared) (H : List Event) → CanWait T H self.old block → MovesTo T H (AnyWhat.Submitted t block) self.new) }
         ensures pending { IfOk result (λ t. self.new.pending ≡ with_ticket t self.old.pending) }

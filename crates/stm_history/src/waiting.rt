@@ -1,7 +1,7 @@
 //! The blocks that wait, by their tickets.
 
 ghost use Rattle.std.specs.Prelude.{◌≡◌, ◌≢◌, ℕ, ◌++◌, ◌∷◌, [], true, None, length, IfOk, OnOk, OnErr};
-ghost use Rattle.stm_queue.specs.Rising.{has};
+ghost use Rattle.stm_queue.specs.SortedTickets.{member};
 ghost use Rattle.std.specs.Option.{option_copied};
 ghost use Rattle.stm_history.specs.Entries.{kept_at, kept, lose, with_held, AllBelow, held_reads, held_ends, ends_under, first_above};
 
@@ -11,7 +11,7 @@ use std::alloc::{AllocError as NoMemory, Global};
 use std::collections::BTreeMap;
 use std::marker::Model;
 use std::ops::Bound;
-use stm_check::Script;
+use stm_check::SharedBlock;
 use stm_log::Reads;
 use stm_terms::values::Value;
 use stm_terms::verdicts::Verdict;
@@ -26,7 +26,7 @@ pub struct Held {
 /// A block that waits, with what its last accepted delivery brought.
 #[derive(Drop)]
 pub struct Waiting {
-    pub block: Script,
+    pub block: SharedBlock,
     pub held: Option<Held>,
 }
 
@@ -61,7 +61,7 @@ pub(crate) struct WaitingBlocks {
 impl Model for WaitingBlocks {
     ghost use Rattle.std.specs.Prelude.{List, ℕ};
     ghost use Rattle.std.specs.Coded.{codes};
-    ghost use Rattle.stm_terms.specs.Codes.{act_code};
+    ghost use Rattle.stm_terms.specs.TreeEncoding.{act_code};
     ghost use Rattle.stm_history.specs.declared.waiting.Waiting.{Waiting as AnyWaiting};
 
     ghost Value = { List (ℕ × AnyWaiting) };
@@ -111,7 +111,7 @@ impl WaitingBlocks {
 
     /// The tickets of the blocks whose last delivery brought a verdict that doesn't block.
     pub(crate) fn ending(&self, alloc: Global) -> Result<TicketSet, NoMemory>
-        ensures { IfOk result (λ cs. (t : ℕ) → ends_under t self.now ≡ true → has t cs ≡ true) }
+        ensures { IfOk result (λ cs. (t : ℕ) → ends_under t self.now ≡ true → member t cs ≡ true) }
     {
         let mut tickets = TicketSet::empty(alloc);
         for (ticket, waiting) in self.map.iter() {
@@ -122,8 +122,8 @@ impl WaitingBlocks {
         Ok(tickets)
     }
 
-    /// One block more, behind the others.
-    pub(crate) fn insert(&mut self, ticket: u32, block: Script) -> Result<(), NoMemory>
+    /// One block more, after the others.
+    pub(crate) fn insert(&mut self, ticket: u32, block: SharedBlock) -> Result<(), NoMemory>
         requires { AllBelow ticket self.old }
         ensures ok { OnOk result (self.new ≡ self.old ++ (ticket, record { block = block; held = None }) ∷ []) }
         ensures err { OnErr result (self.new ≡ self.old) }

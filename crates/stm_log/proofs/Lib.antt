@@ -1,2 +1,2 @@
-pub mod Places
-pub mod Rises
+pub mod LowerBoundSearch
+pub mod SortedAfterInsert

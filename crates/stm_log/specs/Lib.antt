@@ -1,2 +1,2 @@
-pub mod Logged
-pub mod Place
+pub mod LogModel
+pub mod LowerBound

@@ -1,9 +1,9 @@
 //! One frame of a log: what a branch sees as written and made.
 
 ghost use Rattle.std.specs.Prelude.{◌≡◌, ◌≢◌, ◌<◌, ◌^◌, length, IfOk, OnOk, OnErr, None, Some};
-ghost use Rattle.stm_terms.specs.Views.{no_changes, cell_value, find as value_at, written, made};
+ghost use Rattle.stm_terms.specs.Changes.{no_changes, cell_value, find as value_at, written, made};
 
-use crate::pairs::Pairs;
+use crate::value_map::ValueMap;
 use std::alloc::Global;
 use std::marker::Model;
 use stm_terms::NoMemory;
@@ -13,12 +13,12 @@ use stm_terms::values::{Ref, Value};
 /// All that the block has changed, as its branch sees it: the variables written, rising, and the cells made, in order.
 #[derive(Drop)]
 pub(crate) struct Frame {
-    pub(crate) writes: Pairs,
+    pub(crate) writes: ValueMap,
     pub(crate) news: Vec<(Ty, Value)>,
 }
 
 impl Model for Frame {
-    ghost use Rattle.stm_terms.specs.Views.{Changes};
+    ghost use Rattle.stm_terms.specs.Changes.{Changes};
 
     ghost Value = { Changes };
 
@@ -31,7 +31,7 @@ impl Frame {
         ensures { result ≡ no_changes }
     {
         Frame {
-            writes: Pairs::empty(alloc),
+            writes: ValueMap::empty(alloc),
             news: Vec::new(alloc),
         }
     }

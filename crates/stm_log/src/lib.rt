@@ -2,13 +2,13 @@
 //! frame owns.
 //!
 //! A frame is opened for a branch of `orElse` and then kept or discarded. What was read stays in either case, since it
-//! decided which branch ran. `specs/Logged` says what contracts see of a log.
+//! decided which branch ran. `specs/LogModel` says what contracts see of a log.
 #![tactic(auto)]
 
 mod frame;
 pub mod log;
-mod pairs;
 pub mod reads;
+mod value_map;
 
 pub use log::{Ends, Log};
 pub use reads::Reads;

@@ -1,13 +1,13 @@
 //! The log.
 
 ghost use Rattle.std.specs.Prelude.{◌≡◌, ◌≢◌, ◌∷◌, [], length, drop, ◌<◌, ◌^◌, OnOk, OnErr, IfOk, Ok, Some, None};
-ghost use Rattle.stm_terms.specs.Views.{no_changes, cell_value, seen, written, made};
-ghost use Rattle.stm_terms.specs.Looks.{looked_at, noted};
-ghost use Rattle.stm_log.specs.Logged.{joined};
+ghost use Rattle.stm_terms.specs.Changes.{no_changes, cell_value, view_at, written, made};
+ghost use Rattle.stm_terms.specs.ReadSet.{looked_at, insert_reads};
+ghost use Rattle.stm_log.specs.LogModel.{joined_reads};
 
 use crate::frame::{Frame, copy_frames};
-use crate::pairs::Pairs;
 use crate::reads::Reads;
+use crate::value_map::ValueMap;
 use std::alloc::Global;
 use std::marker::Model;
 use stm_store::Frozen;
@@ -23,12 +23,12 @@ use stm_terms::values::{Ref, Value};
 pub struct Log {
     top: Frame,
     below: Vec<Frame>,
-    reads: Pairs,
+    reads: ValueMap,
 }
 
 impl Model for Log {
     ghost use Rattle.std.specs.Prelude.{reverse};
-    ghost use Rattle.stm_log.specs.Logged.{Logged};
+    ghost use Rattle.stm_log.specs.LogModel.{Logged};
 
     ghost Value = { Logged };
 
@@ -51,7 +51,7 @@ impl Log {
         Log {
             top: Frame::empty(alloc),
             below: Vec::new(alloc),
-            reads: Pairs::empty(alloc),
+            reads: ValueMap::empty(alloc),
         }
     }
 
@@ -74,9 +74,9 @@ impl Log {
     ///
     /// All reads of a log are of one content.
     pub fn read(&mut self, frozen: &Frozen, at: Ref) -> Result<Value, NoMemory>
-        requires { seen (cell_value frozen.now) self.old.top at ≢ None }
-        ensures value { IfOk result (λ v. seen (cell_value frozen.now) self.old.top at ≡ Some v) }
-        ensures ok { OnOk result (self.new ≡ record self.old { reads = noted (cell_value frozen.now) (looked_at self.old.top at) self.old.reads }) }
+        requires { view_at (cell_value frozen.now) self.old.top at ≢ None }
+        ensures value { IfOk result (λ v. view_at (cell_value frozen.now) self.old.top at ≡ Some v) }
+        ensures ok { OnOk result (self.new ≡ record self.old { reads = insert_reads (cell_value frozen.now) (looked_at self.old.top at) self.old.reads }) }
         ensures err { OnErr result (self.new ≡ self.old) }
     {
         match at {
@@ -176,7 +176,7 @@ impl Log {
 
     /// Adds the reads of a log over the same content.
     pub fn join_reads(&mut self, other: &Log) -> Result<(), NoMemory>
-        ensures ok { OnOk result (self.new ≡ record self.old { reads = joined other.now.reads self.old.reads }) }
+        ensures ok { OnOk result (self.new ≡ record self.old { reads = joined_reads other.now.reads self.old.reads }) }
         ensures err { OnErr result (self.new ≡ self.old) }
     {
         let mut reads = self.reads.copy()?;

@@ -2,9 +2,9 @@
 
 ghost use Rattle.std.specs.Prelude.{◌≡◌, IfOk};
 ghost use Rattle.stm_terms.specs.Typing.{Rising};
-ghost use Rattle.stm_terms.specs.Views.{find};
+ghost use Rattle.stm_terms.specs.Changes.{find};
 
-use crate::pairs::Pairs;
+use crate::value_map::ValueMap;
 use std::marker::Model;
 use stm_terms::NoMemory;
 use stm_terms::values::Value;
@@ -12,7 +12,7 @@ use stm_terms::values::Value;
 /// The variables of the store that a block read, each once and rising, with the values that it found.
 #[derive(Drop)]
 pub struct Reads {
-    pairs: Pairs,
+    pairs: ValueMap,
 }
 
 impl Model for Reads {
@@ -26,7 +26,7 @@ impl Model for Reads {
 
 impl Reads {
     /// The reads of a log.
-    pub(crate) fn of(pairs: Pairs) -> Reads
+    pub(crate) fn of(pairs: ValueMap) -> Reads
         ensures { result ≡ pairs }
     {
         Reads { pairs }
@@ -40,7 +40,7 @@ impl Reads {
         self.pairs.as_slice()
     }
 
-    /// The value that was read of a variable, none where it wasn't read. Found by halves.
+    /// The value that was read of a variable, none where it wasn't read. Found by binary search.
     pub fn find(&self, variable: u32) -> Option<Value>
         ensures { result ≡ find variable self.now }
     {

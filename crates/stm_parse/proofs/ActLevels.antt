@@ -1,9 +1,9 @@
 -- The levels of actions that are left.
 use Rattle.std.proofs.Common.{◌≡◌, ℕ, zero, suc, ◌-◌, ◌<◌, ◌≤◌, List, refl, ap, arith, Some, None}
-use Rattle.stm_parse.specs.declared.lexeme.Lexeme.{Lexeme}
+use Rattle.stm_parse.specs.declared.token.Lexeme.{Lexeme}
 use Rattle.stm_parse.specs.Grammar.{deepest, widest}
-use Rattle.stm_parse.proofs.Actions as actions
-use Rattle.stm_parse.specs.Reading.{tier_at, inside_act, action_at, paren_at, body_at, level_at, body_turn}
+use Rattle.stm_parse.proofs.ActionReaders as actions
+use Rattle.stm_parse.specs.Descent.{tier_at, inside_act, action_at, paren_at, body_at, level_at, body_turn}
 
 pub inside_act_none : (n : ℕ) → n ≡ 0 → inside_act n ≡ None
 unfolding inside_act

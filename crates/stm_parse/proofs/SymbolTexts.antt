@@ -3,9 +3,9 @@ use Rattle.std.proofs.Common.{◌≡◌, ℕ, List, [], ◌∷◌, refl, ap, Boo
 use Rattle.std.specs.Str.{bytes_eq}
 use Rattle.std.proofs.lemmas.Bool.{eqb-true, or_from}
 use Rattle.stm_terms.specs.Names.{is_digit}
-use Rattle.stm_parse.specs.declared.lexeme.Mark.{Mark}
+use Rattle.stm_parse.specs.declared.token.Mark.{Mark}
 use Rattle.stm_parse.specs.Bytes.{is_letter, is_blank, pair_mark, single_mark, symbol_mark}
-use Rattle.stm_parse.specs.LongestTokens.{is_symbol}
+use Rattle.stm_parse.specs.MaximalMunch.{is_symbol}
 
 and_true : (b : Bool) → (b && true) ≡ b
 and_true true = refl

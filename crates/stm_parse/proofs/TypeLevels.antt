@@ -1,6 +1,6 @@
 -- The levels of types that are left.
 use Rattle.std.proofs.Common.{◌≡◌, ℕ, zero, suc, ◌-◌, ◌<◌, refl, ap, arith, Some, None}
-use Rattle.stm_parse.specs.Reading.{inside_type, type_at, bare_at}
+use Rattle.stm_parse.specs.Descent.{inside_type, type_at, bare_at}
 
 pub inside_type_none : (n k : ℕ) → n ≡ 0 → inside_type n k ≡ None
 unfolding inside_type

@@ -4,9 +4,9 @@ use Rattle.std.specs.List.{list_all, prefix_len}
 use Rattle.std.specs.Str.{bytes_eq}
 use Rattle.std.proofs.lemmas.Bool.Decides.{nat_tests}
 use Rattle.std.proofs.lemmas.List.Folds.{length-prefix_len}
-use Rattle.stm_terms.specs.Names.{is_word_byte, is_control_word, is_action_word, is_value_word, is_reserved, starts_small, is_name_text}
-use Rattle.stm_parse.specs.declared.lexeme.Mark.{Mark}
-use Rattle.stm_parse.specs.declared.lexeme.Mark.TheVariants as mark
+use Rattle.stm_terms.specs.Names.{is_word_byte, is_control_word, is_action_word, is_value_word, is_reserved, starts_lower, is_name_text}
+use Rattle.stm_parse.specs.declared.token.Mark.{Mark}
+use Rattle.stm_parse.specs.declared.token.Mark.TheVariants as mark
 use Rattle.stm_parse.specs.Bytes.{is_letter, is_blank, word_len}
 use Rattle.stm_parse.specs.Lexing.{control_mark, action_mark, value_mark, or_mark, word_mark}
 
@@ -28,7 +28,7 @@ all_before p (x ∷ xs) = by (all_before p xs) (p x) refl
 pub word_bytes : (bytes : List ℕ) → list_all is_word_byte (take (word_len bytes) bytes) ≡ true
 word_bytes bytes = ap (λ n. list_all is_word_byte (take n bytes)) (length-prefix_len is_word_byte bytes) ∙ all_before is_word_byte bytes
 
--- a word goes on behind its first letter
+-- a word goes on after its first letter
 pub word_len_more : (b : ℕ) (rest : List ℕ) → is_letter b ≡ true → word_len (b ∷ rest) ≡ 1 + word_len rest
 word_len_more b rest e =
     length-prefix_len is_word_byte (b ∷ rest) ∙ ap (λ t. cond t (1 + prefix_len is_word_byte rest) 0) (letter_is_of_word b e) ∙ ap (λ n. 1 + n) (sym (length-prefix_len is_word_byte rest))
@@ -61,14 +61,14 @@ unfolding control_mark is_control_word control
 no_control w e = none_in w control e
 
 action : Table
-action = (codes "return", mark.Return) ∷ (codes "readTVar", mark.Read) ∷ (codes "writeTVar", mark.Write) ∷ (codes "newTVar", mark.Make) ∷ (codes "retry", mark.Retry) ∷ (codes "orElse", mark.OrElse) ∷ (codes "throw", mark.Throw) ∷ (codes "catch", mark.Catch) ∷ []
+action = (codes "return", mark.Return) ∷ (codes "readTVar", mark.ReadTVar) ∷ (codes "writeTVar", mark.WriteTVar) ∷ (codes "newTVar", mark.NewTVar) ∷ (codes "retry", mark.Retry) ∷ (codes "orElse", mark.OrElse) ∷ (codes "throw", mark.Throw) ∷ (codes "catch", mark.Catch) ∷ []
 
 no_action : (w : List ℕ) → action_mark w ≡ None → is_action_word w ≡ false
 unfolding action_mark is_action_word action
 no_action w e = none_in w action e
 
 value : Table
-value = (codes "True", mark.True) ∷ (codes "False", mark.False) ∷ (codes "Int", mark.Int) ∷ (codes "Bool", mark.Bool) ∷ (codes "TVar", mark.Var) ∷ []
+value = (codes "True", mark.True) ∷ (codes "False", mark.False) ∷ (codes "Int", mark.Int) ∷ (codes "Bool", mark.Bool) ∷ (codes "TVar", mark.TVar) ∷ []
 
 no_value : (w : List ℕ) → value_mark w ≡ None → is_value_word w ≡ false
 unfolding value_mark is_value_word value
@@ -95,6 +95,6 @@ first_of : (s a r l : Bool) → a ≡ true → r ≡ false → l ≡ true → (s
 first_of true a r l p q t = ap (λ x. x && not r && l) p ∙ ap (λ x. not x && l) q ∙ t
 first_of false a r l p q t = refl
 
-pub is_name_by_first : (w : List ℕ) → word_mark w ≡ None → list_all is_word_byte w ≡ true → length w ≤ 32 → is_name_text w ≡ starts_small w
+pub is_name_by_first : (w : List ℕ) → word_mark w ≡ None → list_all is_word_byte w ≡ true → length w ≤ 32 → is_name_text w ≡ starts_lower w
 unfolding is_name_text
-is_name_by_first w e h l = first_of (starts_small w) _ _ _ h (not_reserved w e) (few (length w) l)
+is_name_by_first w e h l = first_of (starts_lower w) _ _ _ h (not_reserved w e) (few (length w) l)

@@ -1,12 +1,12 @@
 -- The bytes of tokens.
 use Rattle.std.specs.Prelude.{ℕ, ◌+◌, ◌-◌, ◌*◌, List, [], ◌∷◌, Bool, ◌&&◌, ◌||◌, nat_eq, nat_lt, if◌then◌else◌, length, Option, Some, None}
 use Rattle.std.specs.List.{take_while}
-use Rattle.stm_terms.specs.Names.{is_small, is_great, is_digit, is_word_byte}
-use Rattle.stm_parse.specs.declared.lexeme.Mark.{Mark}
-use Rattle.stm_parse.specs.declared.lexeme.Mark.TheVariants as mark
+use Rattle.stm_terms.specs.Names.{is_lower, is_upper, is_digit, is_word_byte}
+use Rattle.stm_parse.specs.declared.token.Mark.{Mark}
+use Rattle.stm_parse.specs.declared.token.Mark.TheVariants as mark
 
 abbrev pub is_letter : ℕ → Bool
-is_letter b = is_small b || is_great b
+is_letter b = is_lower b || is_upper b
 
 -- tab, line feed, carriage return, space
 abbrev pub is_blank : ℕ → Bool
@@ -16,22 +16,22 @@ is_blank b = nat_eq b 9 || nat_eq b 10 || nat_eq b 13 || nat_eq b 32
 unfoldable pub pair_mark : ℕ → ℕ → Option Mark
 pair_mark a b =
     if nat_eq a 60 && nat_eq b 45 then Some mark.Arrow
-    else (if nat_eq a 60 && nat_eq b 61 then Some mark.AtMost
-    else (if nat_eq a 61 && nat_eq b 61 then Some mark.Same
-    else (if nat_eq a 38 && nat_eq b 38 then Some mark.Both
-    else (if nat_eq a 124 && nat_eq b 124 then Some mark.Either
+    else (if nat_eq a 60 && nat_eq b 61 then Some mark.Le
+    else (if nat_eq a 61 && nat_eq b 61 then Some mark.EqEq
+    else (if nat_eq a 38 && nat_eq b 38 then Some mark.AndAnd
+    else (if nat_eq a 124 && nat_eq b 124 then Some mark.OrOr
     else None))))
 
 -- { } ( ) ; : < = + - *
 unfoldable pub single_mark : ℕ → Option Mark
 single_mark a =
-    if nat_eq a 123 then Some mark.BraceOpen
-    else (if nat_eq a 125 then Some mark.BraceClose
-    else (if nat_eq a 40 then Some mark.Open
-    else (if nat_eq a 41 then Some mark.Close
+    if nat_eq a 123 then Some mark.LBrace
+    else (if nat_eq a 125 then Some mark.RBrace
+    else (if nat_eq a 40 then Some mark.LParen
+    else (if nat_eq a 41 then Some mark.RParen
     else (if nat_eq a 59 then Some mark.Semicolon
     else (if nat_eq a 58 then Some mark.Colon
-    else (if nat_eq a 60 then Some mark.Below
+    else (if nat_eq a 60 then Some mark.Lt
     else (if nat_eq a 61 then Some mark.Equals
     else (if nat_eq a 43 then Some mark.Plus
     else (if nat_eq a 45 then Some mark.Minus
@@ -60,5 +60,5 @@ decimal n [] = n
 decimal n (b ∷ bytes) = decimal (n * 10 + digit_value b) bytes
 
 -- the number of these digits, if there are at most 19 and it is at most 2 ^ 63
-unfoldable pub number_of : List ℕ → Option ℕ
-number_of bytes = if nat_lt 19 (length bytes) then None else (if nat_lt 9223372036854775808 (decimal 0 bytes) then None else Some (decimal 0 bytes))
+unfoldable pub number_of_digits : List ℕ → Option ℕ
+number_of_digits bytes = if nat_lt 19 (length bytes) then None else (if nat_lt 9223372036854775808 (decimal 0 bytes) then None else Some (decimal 0 bytes))

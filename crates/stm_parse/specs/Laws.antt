@@ -2,31 +2,31 @@
 use Rattle.std.specs.Prelude.{◌≡◌, ◌≢◌, ℕ, List, [], ◌∷◌, ◌++◌, All}
 use Rattle.stm_terms.specs.declared.expr.Op.{Op}
 use Rattle.stm_terms.specs.declared.expr.Op.TheVariants as op
-use Rattle.stm_terms.specs.RawTrees.{name, bin, Act, return}
-use Rattle.stm_parse.specs.declared.lexeme.Mark.{Mark}
-use Rattle.stm_parse.specs.declared.lexeme.Mark.TheVariants as mark
-use Rattle.stm_parse.specs.declared.lexeme.Sym.{Sym}
-use Rattle.stm_parse.specs.declared.lexeme.Sym.TheVariants as tok
-use Rattle.stm_parse.specs.declared.lexeme.Lexeme.{Lexeme}
+use Rattle.stm_terms.specs.ParsedAst.{name, bin, RawAct, return}
+use Rattle.stm_parse.specs.declared.token.Mark.{Mark}
+use Rattle.stm_parse.specs.declared.token.Mark.TheVariants as mark
+use Rattle.stm_parse.specs.declared.token.TokenKind.{TokenKind}
+use Rattle.stm_parse.specs.declared.token.TokenKind.TheVariants as tok
+use Rattle.stm_parse.specs.declared.token.Lexeme.{Lexeme}
 use Rattle.stm_parse.specs.declared.fault.ParseFault.{ParseFault}
 use Rattle.stm_parse.specs.declared.fault.ParseFault.TheVariants.{NoMemory}
-use Rattle.stm_parse.specs.Grammar.{IsBlock, Declared, IsDeclaration}
+use Rattle.stm_parse.specs.Grammar.{IsBlock, DeclarationTree, IsDeclaration}
 use Rattle.stm_parse.specs.Faults.{Language, IsText}
-use Rattle.stm_parse.specs.Parsing.{IsTextOf, IsTold}
+use Rattle.stm_parse.specs.ParseResult.{IsTextOf, IsReported}
 
-abbrev pub EachBlockIsOne : Type 0
-EachBlockIsOne = (ls : List Lexeme) (t u : Act) → IsText IsBlock ls t → IsText IsBlock ls u → t ≡ u
+abbrev pub BlocksAreUnambiguous : Type 0
+BlocksAreUnambiguous = (ls : List Lexeme) (t u : RawAct) → IsText IsBlock ls t → IsText IsBlock ls u → t ≡ u
 
-abbrev pub EachDeclarationIsOne : Type 0
-EachDeclarationIsOne = (ls : List Lexeme) (t u : Declared) → IsText IsDeclaration ls t → IsText IsDeclaration ls u → t ≡ u
+abbrev pub DeclarationsAreUnambiguous : Type 0
+DeclarationsAreUnambiguous = (ls : List Lexeme) (t u : DeclarationTree) → IsText IsDeclaration ls t → IsText IsDeclaration ls u → t ≡ u
 
--- two faults that are told of a text, neither of them want of memory, are one
+-- two faults that are reported of a text, neither of them an out-of-memory error, are one
 abbrev pub OneFault : {A : Type 0} → Language A → Type 0
-OneFault L = (text : List ℕ) (e f : ParseFault) → e ≢ NoMemory → f ≢ NoMemory → IsTold L text e → IsTold L text f → e ≡ f
+OneFault L = (text : List ℕ) (e f : ParseFault) → e ≢ NoMemory → f ≢ NoMemory → IsReported L text e → IsReported L text f → e ≡ f
 
--- of a text that has a tree no fault is told but want of memory
+-- of a text that has a tree no fault is reported but an out-of-memory error
 abbrev pub TextOrFault : {A : Type 0} → Language A → Type 0
-TextOrFault {A} L = (text : List ℕ) (t : A) (e : ParseFault) → IsTextOf L text t → IsTold L text e → e ≡ NoMemory
+TextOrFault {A} L = (text : List ℕ) (t : A) (e : ParseFault) → IsTextOf L text t → IsReported L text e → e ≡ NoMemory
 
 abbrev pub EachBlockFaultIsOne : Type 0
 EachBlockFaultIsOne = OneFault IsBlock
@@ -54,28 +54,28 @@ sums = (mark.Plus, op.Add) ∷ (mark.Minus, op.Sub) ∷ []
 
 -- infix 4 ==, <, <=
 abbrev pub comparisons : List Signed
-comparisons = (mark.Same, op.Eq) ∷ (mark.Below, op.Lt) ∷ (mark.AtMost, op.Le) ∷ []
+comparisons = (mark.EqEq, op.Eq) ∷ (mark.Lt, op.Lt) ∷ (mark.Le, op.Le) ∷ []
 
 -- infixr 3 &&
 abbrev pub conjunctions : List Signed
-conjunctions = (mark.Both, op.And) ∷ []
+conjunctions = (mark.AndAnd, op.And) ∷ []
 
 -- infixr 2 ||
 abbrev pub disjunctions : List Signed
-disjunctions = (mark.Either, op.Or) ∷ []
+disjunctions = (mark.OrOr, op.Or) ∷ []
 
 -- this holds of each of these with each of those
 abbrev pub EachPair : (Signed → Signed → Type 0) → List Signed → List Signed → Type 0
 EachPair P xs ys = All (λ x. All (P x) ys) xs
 
 -- a token
-abbrev pub lexeme : Sym → ℕ → ℕ → Lexeme
+abbrev pub lexeme : TokenKind → ℕ → ℕ → Lexeme
 lexeme s from to = record { sym = s; start = from; end = to }
 
 -- return ( a o b p c ), wherever its tokens stand
 abbrev pub two_operators : Mark → Mark → ℕ → ℕ → ℕ → ℕ → ℕ → ℕ → ℕ → ℕ → ℕ → List Lexeme
 two_operators o p r a a' b b' c c' i j =
-    lexeme (tok.Mark mark.Return) r j ∷ lexeme (tok.Mark mark.Open) i j ∷ lexeme tok.Name a a' ∷ lexeme (tok.Mark o) i j ∷ lexeme tok.Name b b' ∷ lexeme (tok.Mark p) i j ∷ lexeme tok.Name c c' ∷ lexeme (tok.Mark mark.Close) i j ∷ []
+    lexeme (tok.Mark mark.Return) r j ∷ lexeme (tok.Mark mark.LParen) i j ∷ lexeme tok.Name a a' ∷ lexeme (tok.Mark o) i j ∷ lexeme tok.Name b b' ∷ lexeme (tok.Mark p) i j ∷ lexeme tok.Name c c' ∷ lexeme (tok.Mark mark.RParen) i j ∷ []
 
 -- a o b p c is (a o b) p c
 abbrev pub ToLeft : Signed → Signed → Type 0
@@ -87,7 +87,7 @@ ToRight o p = (r a a' b b' c c' i j : ℕ) → IsText IsBlock (two_operators o.0
 
 -- a o b p c is no text
 abbrev pub NotChained : Signed → Signed → Type 0
-NotChained o p = (r a a' b b' c c' i j : ℕ) (t : Act) → IsText IsBlock (two_operators o.0 p.0 r a a' b b' c c' i j) t → ⊥
+NotChained o p = (r a a' b b' c c' i j : ℕ) (t : RawAct) → IsText IsBlock (two_operators o.0 p.0 r a a' b b' c c' i j) t → ⊥
 
 -- a o b p c is (a o b) p c, and a p b o c is a p (b o c)
 abbrev pub Tighter : Signed → Signed → Type 0
@@ -108,7 +108,7 @@ ConjunctionsGroupToTheRight = EachPair ToRight conjunctions conjunctions
 abbrev pub DisjunctionsGroupToTheRight : Type 0
 DisjunctionsGroupToTheRight = EachPair ToRight disjunctions disjunctions
 
--- each operator binds tighter than all of the tiers behind its own
+-- each operator binds tighter than all of the tiers after its own
 abbrev pub ProductsBindTightest : Type 0
 ProductsBindTightest = EachPair Tighter products (sums ++ comparisons ++ conjunctions ++ disjunctions)
 

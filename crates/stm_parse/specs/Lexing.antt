@@ -2,15 +2,15 @@
 use Rattle.std.specs.Prelude.{ℕ, List, [], ◌∷◌, slice_range, codes, if◌then◌else◌, Option, Some, None}
 use Rattle.std.specs.Str.{bytes_eq}
 use Rattle.stm_terms.specs.Names.{is_name_text}
-use Rattle.stm_parse.specs.declared.lexeme.Mark.{Mark}
-use Rattle.stm_parse.specs.declared.lexeme.Mark.TheVariants as mark
-use Rattle.stm_parse.specs.declared.lexeme.Sym.{Sym}
-use Rattle.stm_parse.specs.declared.lexeme.Sym.TheVariants as tok
-use Rattle.stm_parse.specs.declared.lexeme.Lexeme.{Lexeme}
-use Rattle.stm_parse.specs.declared.cutting.Kind.{Kind}
-use Rattle.stm_parse.specs.declared.cutting.Kind.TheVariants as kind
-use Rattle.stm_parse.specs.declared.cutting.Token.{Token}
-use Rattle.stm_parse.specs.Bytes.{symbol_mark, number_of}
+use Rattle.stm_parse.specs.declared.token.Mark.{Mark}
+use Rattle.stm_parse.specs.declared.token.Mark.TheVariants as mark
+use Rattle.stm_parse.specs.declared.token.TokenKind.{TokenKind}
+use Rattle.stm_parse.specs.declared.token.TokenKind.TheVariants as tok
+use Rattle.stm_parse.specs.declared.token.Lexeme.{Lexeme}
+use Rattle.stm_parse.specs.declared.tokenizer.TokenClass.{TokenClass}
+use Rattle.stm_parse.specs.declared.tokenizer.TokenClass.TheVariants as kind
+use Rattle.stm_parse.specs.declared.tokenizer.Token.{Token}
+use Rattle.stm_parse.specs.Bytes.{symbol_mark, number_of_digits}
 
 -- the words of control
 unfoldable pub control_mark : List ℕ → Option Mark
@@ -26,9 +26,9 @@ control_mark word =
 unfoldable pub action_mark : List ℕ → Option Mark
 action_mark word =
     if bytes_eq word (codes "return") then Some mark.Return
-    else (if bytes_eq word (codes "readTVar") then Some mark.Read
-    else (if bytes_eq word (codes "writeTVar") then Some mark.Write
-    else (if bytes_eq word (codes "newTVar") then Some mark.Make
+    else (if bytes_eq word (codes "readTVar") then Some mark.ReadTVar
+    else (if bytes_eq word (codes "writeTVar") then Some mark.WriteTVar
+    else (if bytes_eq word (codes "newTVar") then Some mark.NewTVar
     else (if bytes_eq word (codes "retry") then Some mark.Retry
     else (if bytes_eq word (codes "orElse") then Some mark.OrElse
     else (if bytes_eq word (codes "throw") then Some mark.Throw
@@ -42,7 +42,7 @@ value_mark word =
     else (if bytes_eq word (codes "False") then Some mark.False
     else (if bytes_eq word (codes "Int") then Some mark.Int
     else (if bytes_eq word (codes "Bool") then Some mark.Bool
-    else (if bytes_eq word (codes "TVar") then Some mark.Var
+    else (if bytes_eq word (codes "TVar") then Some mark.TVar
     else None))))
 
 abbrev pub or_mark : Option Mark → Option Mark → Option Mark
@@ -53,22 +53,22 @@ or_mark (Some k) m = Some k
 abbrev pub word_mark : List ℕ → Option Mark
 word_mark word = or_mark (control_mark word) (or_mark (action_mark word) (value_mark word))
 
-abbrev pub mark_or : Option Mark → Sym → Sym
+abbrev pub mark_or : Option Mark → TokenKind → TokenKind
 mark_or None s = s
 mark_or (Some m) s = tok.Mark m
 
-abbrev pub number_or : Option ℕ → Sym
+abbrev pub number_or : Option ℕ → TokenKind
 number_or None = tok.Other
 number_or (Some n) = tok.Number n
 
-abbrev pub sym_of : Kind → List ℕ → Sym
-sym_of kind.Word bytes = mark_or (word_mark bytes) (if is_name_text bytes then tok.Name else tok.Other)
-sym_of kind.Number bytes = number_or (number_of bytes)
-sym_of kind.Symbol bytes = mark_or (symbol_mark bytes) tok.Other
+abbrev pub token_kind_of : TokenClass → List ℕ → TokenKind
+token_kind_of kind.Word bytes = mark_or (word_mark bytes) (if is_name_text bytes then tok.Name else tok.Other)
+token_kind_of kind.Number bytes = number_or (number_of_digits bytes)
+token_kind_of kind.Symbol bytes = mark_or (symbol_mark bytes) tok.Other
 
 -- a token of the text
 abbrev pub lexeme_of : List ℕ → Token → Lexeme
-lexeme_of text t = record { sym = sym_of t.kind (slice_range text t.start t.end); start = t.start; end = t.end }
+lexeme_of text t = record { sym = token_kind_of t.kind (slice_range text t.start t.end); start = t.start; end = t.end }
 
 abbrev pub lexemes_of : List ℕ → List Token → List Lexeme
 lexemes_of text [] = []

@@ -2,8 +2,8 @@
 use Rattle.std.specs.Prelude.{◌≡◌, ℕ, ◌≤◌, List, ◌++◌, codes, Ok}
 use Rattle.stm_terms.specs.declared.kinds.Ty.{Ty}
 use Rattle.stm_terms.specs.Texts.{type_text}
-use Rattle.stm_parse.specs.Declaring.{named}
-use Rattle.stm_parse.specs.Parsed.{parsed_declaration}
+use Rattle.stm_parse.specs.Declarations.{named}
+use Rattle.stm_parse.specs.ParseFunction.{parsed_declaration}
 
 -- `a : TYPE = a`
 abbrev pub declaring : Ty → List ℕ

@@ -1,14 +1,12 @@
 //! The descent through expressions. Each function reads a tree from the front of the tokens.
 
 ghost use Rattle.std.specs.Prelude.{◌≡◌, ◌+◌, ◌-◌, ◌<◌, ◌≤◌, ◌∷◌, length, IfOk, IfErr, pos, neg_ℤ};
-ghost use Rattle.stm_terms.specs.RawTrees.{raw_term_of, bin};
+ghost use Rattle.stm_terms.specs.ParsedAst.{raw_term_of, bin};
 ghost use Rattle.stm_parse.specs.Grammar.{deepest, widest, greatest};
-ghost use Rattle.stm_parse.specs.Reading.{Gives, in_reach, literal, bracketed, short_of, refuse, init, atom_at, tier_at, tail_at};
+ghost use Rattle.stm_parse.specs.Descent.{ReadsAs, in_reach, literal, bracketed, short_of, refuse, init, atom_at, tier_at, tail_at};
 
-use crate::descent::{
-    Grouping, bad_number, behind, expect, groups, operator, too_deep, unexpected,
-};
-use crate::lexeme::{Lexeme, Mark, Stop, Sym};
+use crate::cursor::{Grouping, accept, bad_number, expect, groups, operator, too_deep, unexpected};
+use crate::token::{Failure, Lexeme, Mark, TokenKind};
 use std::alloc::Global;
 use stm_terms::{Op, RawExpr};
 
@@ -38,21 +36,21 @@ fn negated(n: u64) -> i64
     if n == 0 { 0 } else { -1 - ((n - 1) as i64) }
 }
 
-// Behind the minus of a negative number.
-fn literal(at: usize, toks: &[Lexeme]) -> Result<(RawExpr, &[Lexeme]), Stop>
-    ensures gives { Gives (λ r. (raw_term_of r.0, r.1.now)) result (literal at toks.now) }
+// After the minus of a negative number.
+fn literal(at: usize, toks: &[Lexeme]) -> Result<(RawExpr, &[Lexeme]), Failure>
+    ensures gives { ReadsAs (λ r. (raw_term_of r.0, r.1.now)) result (literal at toks.now) }
     ensures shorter { IfOk result (λ r. length r.1.now ≤ length toks.now) }
 {
     let Some((first, rest)) = toks.split_first() else {
         return Err(unexpected(toks));
     };
-    let Sym::Number(n) = first.sym else {
+    let TokenKind::Number(n) = first.sym else {
         return Err(unexpected(toks));
     };
     if !in_reach(n.saturating_sub(1)) {
         return Err(bad_number(toks));
     }
-    let (_, after) = expect(Mark::Close, rest)?;
+    let (_, after) = expect(Mark::RParen, rest)?;
     Ok((RawExpr::Int(negated(n), at), after))
 }
 
@@ -61,22 +59,22 @@ fn short<'t>(
     first: &Lexeme,
     rest: &'t [Lexeme],
     toks: &'t [Lexeme],
-) -> Result<(RawExpr, &'t [Lexeme]), Stop>
+) -> Result<(RawExpr, &'t [Lexeme]), Failure>
     requires { toks.now ≡ first.now ∷ rest.now }
-    ensures gives { Gives (λ r. (raw_term_of r.0, r.1.now)) result (short_of first.now.sym first.now rest.now) }
+    ensures gives { ReadsAs (λ r. (raw_term_of r.0, r.1.now)) result (short_of first.now.sym first.now rest.now) }
     ensures shorter { IfOk result (λ r. length r.1.now ≤ length toks.now) }
 {
     match first.sym {
-        Sym::Number(n) => {
+        TokenKind::Number(n) => {
             if in_reach(n) {
                 Ok((RawExpr::Int(whole_number(n), first.start), rest))
             } else {
                 Err(bad_number(toks))
             }
         }
-        Sym::Name => Ok((RawExpr::Name(first.start, first.end), rest)),
-        Sym::Other => Err(unexpected(toks)),
-        Sym::Mark(mark) => match mark {
+        TokenKind::Name => Ok((RawExpr::Name(first.start, first.end), rest)),
+        TokenKind::Other => Err(unexpected(toks)),
+        TokenKind::Mark(mark) => match mark {
             Mark::True => Ok((RawExpr::Bool(true, first.start), rest)),
             Mark::False => Ok((RawExpr::Bool(false, first.start), rest)),
             _ => Err(unexpected(toks)),
@@ -84,45 +82,45 @@ fn short<'t>(
     }
 }
 
-// Behind "(".
+// After "(".
 #[cycle(expressions)]
 fn bracketed<'t>(
     alloc: Global,
     levels: u8,
     at: usize,
     toks: &'t [Lexeme],
-) -> Result<(RawExpr, &'t [Lexeme]), Stop>
+) -> Result<(RawExpr, &'t [Lexeme]), Failure>
     requires { levels ≤ deepest }
-    ensures gives { Gives (λ r. (raw_term_of r.0, r.1.now)) result (bracketed (tier_at widest levels) at toks.now) }
+    ensures gives { ReadsAs (λ r. (raw_term_of r.0, r.1.now)) result (bracketed (tier_at widest levels) at toks.now) }
     ensures shorter { IfOk result (λ r. length r.1.now ≤ length toks.now) }
 {
-    if let Some(rest) = behind(Mark::Close, toks) {
+    if let Some(rest) = accept(Mark::RParen, toks) {
         return Ok((RawExpr::Unit(at), rest));
     }
-    if let Some(rest) = behind(Mark::Minus, toks) {
+    if let Some(rest) = accept(Mark::Minus, toks) {
         return literal(at, rest);
     }
     let (inner, rest) = tier(alloc, levels, WIDEST, toks)?;
-    let (_, after) = expect(Mark::Close, rest)?;
+    let (_, after) = expect(Mark::RParen, rest)?;
     Ok((inner, after))
 }
 
 /// A literal, a name, or an expression in brackets.
 #[cycle(expressions)]
-#[tactic(auto, unfolding(crate::specs::Reading::atom_at))]
+#[tactic(auto, unfolding(crate::specs::Descent::atom_at))]
 pub fn atom<'t>(
     alloc: Global,
     levels: u8,
     toks: &'t [Lexeme],
-) -> Result<(RawExpr, &'t [Lexeme]), Stop>
+) -> Result<(RawExpr, &'t [Lexeme]), Failure>
     requires { levels ≤ deepest }
-    ensures gives { Gives (λ r. (raw_term_of r.0, r.1.now)) result (atom_at levels toks.now) }
+    ensures gives { ReadsAs (λ r. (raw_term_of r.0, r.1.now)) result (atom_at levels toks.now) }
     ensures shorter { IfOk result (λ r. length r.1.now ≤ length toks.now) }
 {
     let Some((first, rest)) = toks.split_first() else {
         return Err(unexpected(toks));
     };
-    if !first.sym.is(Mark::Open) {
+    if !first.sym.is(Mark::LParen) {
         return short(first, rest, toks);
     }
     if levels == 0 {
@@ -138,10 +136,10 @@ fn tier<'t>(
     levels: u8,
     width: u8,
     toks: &'t [Lexeme],
-) -> Result<(RawExpr, &'t [Lexeme]), Stop>
+) -> Result<(RawExpr, &'t [Lexeme]), Failure>
     requires low { levels ≤ deepest }
     requires width { width ≤ widest }
-    ensures gives { Gives (λ r. (raw_term_of r.0, r.1.now)) result (tier_at width levels toks.now) }
+    ensures gives { ReadsAs (λ r. (raw_term_of r.0, r.1.now)) result (tier_at width levels toks.now) }
     ensures shorter { IfOk result (λ r. length r.1.now ≤ length toks.now) }
 {
     if width == 0 {
@@ -152,9 +150,9 @@ fn tier<'t>(
 }
 
 // An operator with its operands.
-fn joined(alloc: Global, op: Op, left: RawExpr, right: RawExpr) -> Result<RawExpr, Stop>
+fn joined(alloc: Global, op: Op, left: RawExpr, right: RawExpr) -> Result<RawExpr, Failure>
     ensures value { IfOk result (λ e. raw_term_of e ≡ bin op (raw_term_of left) (raw_term_of right)) }
-    ensures refused { IfErr result (λ e. e ≡ Stop.Memory) }
+    ensures refused { IfErr result (λ e. e ≡ Failure.Memory) }
 {
     let left = Box::new(alloc, left)?;
     let right = Box::new(alloc, right)?;
@@ -169,10 +167,10 @@ fn tail<'t>(
     width: u8,
     left: RawExpr,
     toks: &'t [Lexeme],
-) -> Result<(RawExpr, &'t [Lexeme]), Stop>
+) -> Result<(RawExpr, &'t [Lexeme]), Failure>
     requires low { levels ≤ deepest }
     requires width { width < widest }
-    ensures gives { Gives (λ r. (raw_term_of r.0, r.1.now)) result (tail_at width levels (raw_term_of left) toks.now) }
+    ensures gives { ReadsAs (λ r. (raw_term_of r.0, r.1.now)) result (tail_at width levels (raw_term_of left) toks.now) }
     ensures shorter { IfOk result (λ r. length r.1.now ≤ length toks.now) }
 {
     let Some((op, rest)) = operator(width, toks) else {
@@ -202,35 +200,35 @@ pub fn expression<'t>(
     alloc: Global,
     levels: u8,
     toks: &'t [Lexeme],
-) -> Result<(RawExpr, &'t [Lexeme]), Stop>
+) -> Result<(RawExpr, &'t [Lexeme]), Failure>
     requires { levels ≤ deepest }
-    ensures gives { Gives (λ r. (raw_term_of r.0, r.1.now)) result (tier_at widest levels toks.now) }
+    ensures gives { ReadsAs (λ r. (raw_term_of r.0, r.1.now)) result (tier_at widest levels toks.now) }
     ensures shorter { IfOk result (λ r. length r.1.now ≤ length toks.now) }
 {
     tier(alloc, levels, WIDEST, toks)
 }
 
-// Behind "(" of what a declared variable holds at first.
-fn bracketed_init(at: usize, toks: &[Lexeme]) -> Result<(RawExpr, &[Lexeme]), Stop>
-    ensures gives { Gives (λ r. (raw_term_of r.0, r.1.now)) result (bracketed refuse at toks.now) }
+// After "(" of what a declared variable holds at first.
+fn bracketed_init(at: usize, toks: &[Lexeme]) -> Result<(RawExpr, &[Lexeme]), Failure>
+    ensures gives { ReadsAs (λ r. (raw_term_of r.0, r.1.now)) result (bracketed refuse at toks.now) }
 {
-    if let Some(rest) = behind(Mark::Close, toks) {
+    if let Some(rest) = accept(Mark::RParen, toks) {
         return Ok((RawExpr::Unit(at), rest));
     }
-    if let Some(rest) = behind(Mark::Minus, toks) {
+    if let Some(rest) = accept(Mark::Minus, toks) {
         return literal(at, rest);
     }
     Err(unexpected(toks))
 }
 
 /// What a declared variable holds at first: a literal or a name.
-pub fn init(toks: &[Lexeme]) -> Result<(RawExpr, &[Lexeme]), Stop>
-    ensures gives { Gives (λ r. (raw_term_of r.0, r.1.now)) result (init toks.now) }
+pub fn init(toks: &[Lexeme]) -> Result<(RawExpr, &[Lexeme]), Failure>
+    ensures gives { ReadsAs (λ r. (raw_term_of r.0, r.1.now)) result (init toks.now) }
 {
     let Some((first, rest)) = toks.split_first() else {
         return Err(unexpected(toks));
     };
-    if !first.sym.is(Mark::Open) {
+    if !first.sym.is(Mark::LParen) {
         return short(first, rest, toks);
     }
     bracketed_init(first.start, rest)

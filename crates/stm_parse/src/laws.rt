@@ -1,23 +1,23 @@
 //! What holds of the grammar. Each function is a law: its contract says it, and its body does nothing.
 
-ghost use Rattle.stm_parse.specs.Laws.{EachBlockIsOne, EachDeclarationIsOne, EachBlockFaultIsOne, EachDeclarationFaultIsOne, BlockOrFault, DeclarationOrFault};
+ghost use Rattle.stm_parse.specs.Laws.{BlocksAreUnambiguous, DeclarationsAreUnambiguous, EachBlockFaultIsOne, EachDeclarationFaultIsOne, BlockOrFault, DeclarationOrFault};
 ghost use Rattle.stm_parse.specs.Laws.{ProductsGroupToTheLeft, SumsGroupToTheLeft, ComparisonsAreNotChained, ConjunctionsGroupToTheRight, DisjunctionsGroupToTheRight, ProductsBindTightest, SumsBindTighter, ComparisonsBindTighter, ConjunctionsBindTighter};
-ghost use Rattle.stm_parse.specs.Parsed.{BlockAnswersAreRight, DeclarationAnswersAreRight};
+ghost use Rattle.stm_parse.specs.ParseFunction.{BlockAnswersAreRight, DeclarationAnswersAreRight};
 ghost use Rattle.stm_parse.specs.TypeTexts.{TypesAreReadBack};
 
 /// Each text has one tree.
-pub fn each_text_is_one_tree()
-    ensures block { EachBlockIsOne }
-    ensures declaration { EachDeclarationIsOne }
+pub fn texts_are_unambiguous()
+    ensures block { BlocksAreUnambiguous }
+    ensures declaration { DeclarationsAreUnambiguous }
 {}
 
-/// Of each text one fault is told, want of memory apart.
+/// Of each text one fault is reported, an out-of-memory error apart.
 pub fn each_fault_is_one()
     ensures block { EachBlockFaultIsOne }
     ensures declaration { EachDeclarationFaultIsOne }
 {}
 
-/// Of a text that has a tree no fault is told, want of memory apart.
+/// Of a text that has a tree no fault is reported, an out-of-memory error apart.
 pub fn tree_or_fault()
     ensures block { BlockOrFault }
     ensures declaration { DeclarationOrFault }

@@ -1,6 +1,6 @@
-pub mod Keeping
+pub mod BoolLemmas
+pub mod InvariantPreserved
 pub mod Merging
 pub mod Moves
-pub mod Placing
-pub mod Truths
 pub mod QueuedOnes
+pub mod SortedInsertion

@@ -3,8 +3,8 @@ use Rattle.std.proofs.Common.{◌≡◌, ℕ, zero, suc, ◌<◌, ◌≤◌, get
 use Rattle.std.specs.Prelude.{nat_lt, slice_get}
 use Rattle.std.proofs.lemmas.Bool.Decides.{nat_tests}
 use Rattle.stm_queue.specs.Queue.{Entry, with_ticket, first_queued, queued}
-use Rattle.stm_queue.specs.Rising.{RisesAbove, IsRising}
-use Rattle.stm_queue.specs.Merged.{outs, merged}
+use Rattle.stm_queue.specs.SortedTickets.{RisesAbove, IsRising}
+use Rattle.stm_queue.specs.QueueInvariant.{outs, merged}
 
 pick : (o : Bool) (f : Entry) (es : List Entry) → map (λ e. e.0) (cond (not o) (f ∷ es) es) ≡ cond (not o) (f.0 ∷ map (λ e. e.0) es) (map (λ e. e.0) es)
 pick true f es = refl

@@ -1,3 +1,3 @@
-pub mod Merged
 pub mod Queue
-pub mod Rising
+pub mod QueueInvariant
+pub mod SortedTickets

@@ -12,10 +12,10 @@ use Rattle.stm_terms.specs.declared.kinds.Ty.{Ty}
 use Rattle.stm_terms.specs.declared.values.Value.{Value}
 use Rattle.stm_terms.specs.Names.{is_name_text}
 use Rattle.stm_terms.specs.Typing.{type_of}
-use Rattle.stm_terms.specs.Views.{no_changes}
-use Rattle.stm_store.specs.Cells.{kinds_of, StoreIsTyped, StoreIsLow}
+use Rattle.stm_terms.specs.Changes.{no_changes}
+use Rattle.stm_store.specs.Cells.{kinds_of, StoreIsTyped, StoreHasAtMost8Refs}
 use Rattle.stm_store.specs.Tables.{Declared, declared_cell, declared_cells, number_from, number_of, may_hold, declare_refusal, NamesAreNames, NamesAreDistinct, AreDeclared, IsTable}
-use Rattle.stm_store.proofs.Decided.{and_left, and_right, le_true, kind_from}
+use Rattle.stm_store.proofs.TypeTestsDecide.{and_left, and_right, le_true, kind_from}
 use Rattle.stm_store.proofs.Typed.{added_cases, kinds-left, old_type}
 
 typed-added : (cells : List (Ty × Value)) (c : Ty × Value) → StoreIsTyped cells → type_of (kinds_of cells) no_changes c.1 ≡ Some c.0 → StoreIsTyped (cells ++ c ∷ [])
@@ -26,7 +26,7 @@ typed-added cells c typed e i d f =
       | inr p ↦ subst (λ (x : Ty × Value). type_of (kinds_of (cells ++ c ∷ [])) no_changes x.1 ≡ Some x.0) p.1 (wider c.1 c.0 e)
     ]
 
-low-added : (cells : List (Ty × Value)) (c : Ty × Value) → StoreIsLow cells → c.0.refs ≤ 8 → StoreIsLow (cells ++ c ∷ [])
+low-added : (cells : List (Ty × Value)) (c : Ty × Value) → StoreHasAtMost8Refs cells → c.0.refs ≤ 8 → StoreHasAtMost8Refs (cells ++ c ∷ [])
 low-added cells c low e i d f =
     elim (added_cases cells c i d f) [
       | inl p ↦ low i d p

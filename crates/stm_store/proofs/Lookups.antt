@@ -6,12 +6,12 @@ use Rattle.std.proofs.lemmas.Option.{slice_get-map, slice_get_past}
 use Rattle.stm_terms.specs.declared.values.Value.{Value}
 use Rattle.stm_terms.specs.declared.verdicts.Verdict.{Verdict}
 use Rattle.stm_terms.specs.declared.verdicts.Verdict.TheVariants.{Commits, Throws, Blocks}
-use Rattle.stm_terms.specs.Views.{find}
+use Rattle.stm_terms.specs.Changes.{find}
 use Rattle.stm_terms.specs.Typing.{AllAbove, Rising}
 use Rattle.stm_store.specs.declared.cell.Cell.{Cell}
 use Rattle.stm_store.specs.Cells.{plains, Fits, rewritten, with_write, with_writes, new_cell, applied, after_write, IsApplied}
 use Rattle.stm_store.proofs.Paged.{get_left, get_right}
-use Rattle.stm_store.proofs.Soundness.{length-writes}
+use Rattle.stm_store.proofs.ApplyPreservesTyping.{length-writes}
 
 get-set_same : (cs : List Cell) (i : ℕ) (c d : Cell) → slice_get cs i ≡ Some c → slice_get (set cs i d) i ≡ Some d
 get-set_same [] i c d e = absurd (cc)

@@ -7,8 +7,8 @@ use Rattle.stm_terms.specs.declared.values.Value.{Value}
 use Rattle.stm_terms.specs.declared.values.Value.TheVariants.{Int, Bool as Truth, Unit as Nil, Var}
 use Rattle.stm_terms.specs.declared.verdicts.Verdict.{Verdict}
 use Rattle.stm_terms.specs.declared.verdicts.Verdict.TheVariants.{Commits, Throws, Blocks}
-use Rattle.stm_terms.specs.Views.{no_changes, find}
-use Rattle.stm_terms.specs.Typing.{Kinds, type_of, Rising}
+use Rattle.stm_terms.specs.Changes.{no_changes, find}
+use Rattle.stm_terms.specs.Typing.{TypeEnv, type_of, Rising}
 use Rattle.stm_store.specs.declared.cell.Cell.{Cell}
 use Rattle.stm_store.specs.declared.ready.Applied.{Applied}
 
@@ -21,7 +21,7 @@ abbrev pub plains : List Cell → List (Ty × Value)
 plains cells = map plain cells
 
 -- the types of a store's variables
-abbrev pub kinds_of : List (Ty × Value) → Kinds
+abbrev pub kinds_of : List (Ty × Value) → TypeEnv
 kinds_of cells i = option_map (λ c. c.0) (slice_get cells i)
 
 -- each cell holds a value of its type
@@ -29,14 +29,14 @@ abbrev pub StoreIsTyped : List (Ty × Value) → Type 0
 StoreIsTyped cells = (i : ℕ) (c : Ty × Value) → slice_get cells i ≡ Some c → type_of (kinds_of cells) no_changes c.1 ≡ Some c.0
 
 -- each cell's type has at most 8 `TVar`
-abbrev pub StoreIsLow : List (Ty × Value) → Type 0
-StoreIsLow cells = (i : ℕ) (c : Ty × Value) → slice_get cells i ≡ Some c → c.0.refs ≤ 8
+abbrev pub StoreHasAtMost8Refs : List (Ty × Value) → Type 0
+StoreHasAtMost8Refs cells = (i : ℕ) (c : Ty × Value) → slice_get cells i ≡ Some c → c.0.refs ≤ 8
 
 -- what holds of every store, and of its copies
 pub record IsStore (cells : List (Ty × Value)) : Type 0 where
   pub small : length cells ≤ 1000000
   pub typed : StoreIsTyped cells
-  pub low : StoreIsLow cells
+  pub low : StoreHasAtMost8Refs cells
 
 -- these variables exist with these types
 abbrev pub Covers : List (Ty × Value) → List (ℕ × Ty) → Type 0
@@ -60,16 +60,16 @@ Fits cells (Throws f) = Unit {0}
 Fits cells Blocks = Unit {0}
 
 -- in a store that had n cells, the k-th new cell becomes variable n + k
-abbrev pub settled_ref : ℕ → Ref → Ref
-settled_ref n (Old i) = Old i
-settled_ref n (New k) = Old (n + k)
+abbrev pub renumbered_ref : ℕ → Ref → Ref
+renumbered_ref n (Old i) = Old i
+renumbered_ref n (New k) = Old (n + k)
 
 -- a value whose reference, if it is one, names its variable
-abbrev pub settled : ℕ → Value → Value
-settled n (Int z) = Int z
-settled n (Truth b) = Truth b
-settled n Nil = Nil
-settled n (Var r) = Var (settled_ref n r)
+abbrev pub renumbered : ℕ → Value → Value
+renumbered n (Int z) = Int z
+renumbered n (Truth b) = Truth b
+renumbered n Nil = Nil
+renumbered n (Var r) = Var (renumbered_ref n r)
 
 -- one more, unless it is the greatest
 abbrev pub counted : ℕ → ℕ
@@ -77,7 +77,7 @@ counted n = min (n + 1) (2 ^ 64 - 1)
 
 -- a cell that is written once more
 abbrev pub rewritten : ℕ → Value → Cell → Cell
-rewritten n v c = record { kind = c.kind; value = settled n v; count = counted c.count }
+rewritten n v c = record { kind = c.kind; value = renumbered n v; count = counted c.count }
 
 -- the cells with the i-th written, if it is there
 abbrev pub with_write : ℕ → List Cell → ℕ → Value → Option Cell → List Cell
@@ -91,7 +91,7 @@ with_writes n (w ∷ ws) cells = with_writes n ws (with_write n cells w.0 w.1 (s
 
 -- a new cell, which no block has written yet
 abbrev pub new_cell : ℕ → Ty × Value → Cell
-new_cell n c = record { kind = c.0; value = settled n c.1; count = 0 }
+new_cell n c = record { kind = c.0; value = renumbered n c.1; count = 0 }
 
 -- the cells after a verdict: its writes made and counted, its new cells at the end
 abbrev pub applied : List Cell → Verdict → List Cell
@@ -101,7 +101,7 @@ applied cells Blocks = cells
 
 -- the result that the verdict gives there
 abbrev pub result_there : List Cell → Verdict → Option Value
-result_there cells (Commits writes news result) = Some (settled (length cells) result)
+result_there cells (Commits writes news result) = Some (renumbered (length cells) result)
 result_there cells (Throws f) = None
 result_there cells Blocks = None
 
@@ -111,9 +111,9 @@ made_by (Commits writes news result) = news
 made_by (Throws f) = []
 made_by Blocks = []
 
--- what is told of a verdict that was applied
-abbrev pub told : List Cell → Verdict → Applied
-told cells verdict = record { first_new = length cells; result = result_there cells verdict }
+-- what is reported of a verdict that was applied
+abbrev pub applied_answer : List Cell → Verdict → Applied
+applied_answer cells verdict = record { first_new = length cells; result = result_there cells verdict }
 
 -- the value that a verdict writes to a variable
 abbrev pub written_by : Verdict → ℕ → Option Value
@@ -127,7 +127,7 @@ after_write n (Some v) c = rewritten n v c
 after_write n None c = c
 
 -- What applying a verdict means, variable by variable: one that the verdict writes has the value written and is counted
--- once more, any other is as it was; and the new cells come behind them, in order.
+-- once more, any other is as it was; and the new cells come after them, in order.
 pub record IsApplied (old : List Cell) (verdict : Verdict) (new : List Cell) : Type 0 where
   pub olds : (i : ℕ) → i < length old → slice_get new i ≡ option_map (after_write (length old) (written_by verdict i)) (slice_get old i)
   pub news : (k : ℕ) → slice_get new (length old + k) ≡ option_map (new_cell (length old)) (slice_get (made_by verdict) k)

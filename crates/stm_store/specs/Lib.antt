@@ -1,7 +1,7 @@
 pub mod Cells
-pub mod Changes
 pub mod Entries
+pub mod FitsDecision
+pub mod FreshReferences
 pub mod Pages
-pub mod Stretches
-pub mod Suits
+pub mod RangeWrites
 pub mod Tables

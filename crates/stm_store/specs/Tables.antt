@@ -5,11 +5,11 @@ use Rattle.stm_terms.specs.declared.kinds.Ty.{Ty}
 use Rattle.stm_terms.specs.declared.values.Value.{Value}
 use Rattle.stm_terms.specs.Names.{is_name_text}
 use Rattle.stm_terms.specs.Typing.{type_of, same_ty}
-use Rattle.stm_terms.specs.Views.{no_changes}
+use Rattle.stm_terms.specs.Changes.{no_changes}
 use Rattle.stm_store.specs.declared.cell.Cell.{Cell}
 use Rattle.stm_store.specs.declared.table.DeclareError.{DeclareError}
 use Rattle.stm_store.specs.declared.table.DeclareError.TheVariants.{Twice, TypeOfValue, TableFull, NoMemory}
-use Rattle.stm_store.specs.Cells.{kinds_of, StoreIsTyped, StoreIsLow}
+use Rattle.stm_store.specs.Cells.{kinds_of, StoreIsTyped, StoreHasAtMost8Refs}
 
 -- a variable's name, the type of its cell, and its first value
 pub record Declared : Type 0 where
@@ -43,13 +43,13 @@ abbrev pub opened : List Declared → List Cell
 opened table = map opened_cell table
 
 -- this type is there, and no other
-abbrev pub is_kind : Option Ty → Ty → Bool
-is_kind (Some u) t = same_ty u t
-is_kind None t = false
+abbrev pub is_type : Option Ty → Ty → Bool
+is_type (Some u) t = same_ty u t
+is_type None t = false
 
 -- whether a value is of a type, where these variables are declared
 abbrev pub is_of : List (Ty × Value) → Value → Ty → Bool
-is_of cells value kind = is_kind (type_of (kinds_of cells) no_changes value) kind
+is_of cells value kind = is_type (type_of (kinds_of cells) no_changes value) kind
 
 -- a variable may be declared with a type of at most 8 `TVar` and a value of it
 abbrev pub may_hold : List (Ty × Value) → Ty → Value → Bool
@@ -62,13 +62,13 @@ declare_refusal table name kind value =
     else if not (may_hold (declared_cells table) kind value) then Some TypeOfValue
     else if nat_lt (length table) 1000000 then None else Some TableFull
 
--- the refusal that an answer tells; want of memory is none
-abbrev pub refusal_told : Result ℕ DeclareError → Option DeclareError
-refusal_told (Ok id) = None
-refusal_told (Err Twice) = Some Twice
-refusal_told (Err TypeOfValue) = Some TypeOfValue
-refusal_told (Err TableFull) = Some TableFull
-refusal_told (Err NoMemory) = None
+-- the refusal that an answer reports; an out-of-memory error is none
+abbrev pub refusal_of : Result ℕ DeclareError → Option DeclareError
+refusal_of (Ok id) = None
+refusal_of (Err Twice) = Some Twice
+refusal_of (Err TypeOfValue) = Some TypeOfValue
+refusal_of (Err TableFull) = Some TableFull
+refusal_of (Err NoMemory) = None
 
 -- each name is one
 abbrev pub NamesAreNames : List Declared → Type 0
@@ -87,7 +87,7 @@ AreDeclared table = (i : ℕ) (d : Declared) → slice_get table i ≡ Some d �
 pub record IsTable (table : List Declared) : Type 0 where
   pub small : length table ≤ 1000000
   pub typed : StoreIsTyped (declared_cells table)
-  pub low : StoreIsLow (declared_cells table)
+  pub low : StoreHasAtMost8Refs (declared_cells table)
   pub named : NamesAreNames table
   pub distinct : NamesAreDistinct table
   pub declared : AreDeclared table

@@ -2,12 +2,12 @@
 
 ghost use Rattle.std.specs.Prelude.{◌≡◌, ◌+◌, ◌≤◌, ◌++◌, length, map, take, IfOk, OnOk, OnErr};
 ghost use Rattle.stm_terms.specs.Typing.{Rising};
-ghost use Rattle.stm_store.specs.Cells.{Fits, plains, new_cell, with_writes, applied, made_by, told};
-ghost use Rattle.stm_store.specs.Changes.{AreWritable, AreAddable};
+ghost use Rattle.stm_store.specs.Cells.{Fits, plains, new_cell, with_writes, applied, made_by, applied_answer};
+ghost use Rattle.stm_store.specs.FreshReferences.{AreWritable, AreAddable};
 
-use crate::list::CellList;
+use crate::cell_list::CellList;
 use crate::ready::Applied;
-use crate::settle::{make, settle};
+use crate::renumber::{make, renumber};
 use stm_terms::NoMemory;
 use stm_terms::kinds::Ty;
 use stm_terms::values::Value;
@@ -18,7 +18,7 @@ pub(crate) fn perform(cells: &mut CellList, verdict: &Verdict) -> Result<Applied
     requires fits { Fits (plains cells.old) verdict.now }
     requires room { length cells.old + length (made_by verdict.now) ≤ 1000000 }
     ensures applied { OnOk result (cells.new ≡ applied cells.old verdict.now) }
-    ensures told { IfOk result (λ a. a ≡ told cells.old verdict.now) }
+    ensures applied_answer { IfOk result (λ a. a ≡ applied_answer cells.old verdict.now) }
     ensures err { OnErr result (cells.new ≡ cells.old) }
 {
     let first_new = cells.len() as u32;
@@ -31,7 +31,7 @@ pub(crate) fn perform(cells: &mut CellList, verdict: &Verdict) -> Result<Applied
             change(cells, writes.as_slice(), news.as_slice())?;
             Ok(Applied {
                 first_new,
-                result: Some(settle(first_new, *result)),
+                result: Some(renumber(first_new, *result)),
             })
         }
         _ => Ok(Applied {

@@ -2,9 +2,9 @@
 
 ghost use Rattle.std.specs.Prelude.{◌≡◌};
 ghost use Rattle.stm_store.specs.Cells.{kinds_of, plains};
-ghost use Rattle.stm_store.specs.Suits.{covers_all};
+ghost use Rattle.stm_store.specs.FitsDecision.{covers_all};
 
-use crate::list::CellList;
+use crate::cell_list::CellList;
 use stm_terms::kinds::Ty;
 
 /// The type of a variable, if it is there.

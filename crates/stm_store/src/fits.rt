@@ -3,10 +3,10 @@
 ghost use Rattle.std.specs.Prelude.{◌≡◌, is_some};
 ghost use Rattle.stm_terms.specs.Typing.{type_of, kind_of};
 ghost use Rattle.stm_store.specs.Cells.{kinds_of, plains};
-ghost use Rattle.stm_store.specs.Suits.{has_type, rise_from, making, writes_suit, news_suit, suits};
+ghost use Rattle.stm_store.specs.FitsDecision.{has_type, rise_from, making, writes_fit, news_fit, fits_decision};
 
+use crate::cell_list::CellList;
 use crate::covers::kind_at;
-use crate::list::CellList;
 use crate::types::{plain_type, refers_to};
 use stm_terms::kinds::{Base, Ty};
 use stm_terms::values::{Ref, Value};
@@ -14,7 +14,7 @@ use stm_terms::verdicts::Verdict;
 
 /// Whether the verdict suits the cells.
 pub(crate) fn fits(cells: &CellList, verdict: &Verdict) -> bool
-    ensures { result ≡ suits (plains cells.now) verdict.now }
+    ensures { result ≡ fits_decision (plains cells.now) verdict.now }
 {
     match verdict {
         Verdict::Commits {
@@ -47,7 +47,7 @@ fn rise(writes: &[(u32, Value)]) -> bool
 
 /// Whether each variable written is there and has the type of its new value.
 fn writes_hold(cells: &CellList, news: &[(Ty, Value)], writes: &[(u32, Value)]) -> bool
-    ensures { result ≡ writes_suit (kinds_of (plains cells.now)) (making news.now) writes.now }
+    ensures { result ≡ writes_fit (kinds_of (plains cells.now)) (making news.now) writes.now }
 {
     for (id, value) in writes {
         match kind_at(cells, *id) {
@@ -60,7 +60,7 @@ fn writes_hold(cells: &CellList, news: &[(Ty, Value)], writes: &[(u32, Value)]) 
 
 /// Whether each new cell has a value of its type, which has at most 8 `TVar`.
 fn news_hold(cells: &CellList, news: &[(Ty, Value)]) -> bool
-    ensures { result ≡ news_suit (kinds_of (plains cells.now)) (making news.now) news.now }
+    ensures { result ≡ news_fit (kinds_of (plains cells.now)) (making news.now) news.now }
 {
     for (kind, value) in news {
         if !(kind.refs <= 8 && value_has(cells, news, *value, *kind)) {

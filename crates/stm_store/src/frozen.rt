@@ -1,11 +1,11 @@
 //! An unchanging copy of a store.
 
 ghost use Rattle.std.specs.Prelude.{◌≡◌, ◌<◌, ◌≤◌, ◌↔◌, Some, length, IsTrue, IfOk};
-ghost use Rattle.stm_terms.specs.Views.{cell_value};
-ghost use Rattle.stm_store.specs.Cells.{StoreIsTyped, StoreIsLow, IsStore, Covers, kinds_of, plains};
+ghost use Rattle.stm_terms.specs.Changes.{cell_value};
+ghost use Rattle.stm_store.specs.Cells.{StoreIsTyped, StoreHasAtMost8Refs, IsStore, Covers, kinds_of, plains};
 
+use crate::cell_list::CellList;
 use crate::covers::covers;
-use crate::list::CellList;
 use std::marker::Model;
 use stm_terms::NoMemory;
 use stm_terms::kinds::Ty;
@@ -43,7 +43,7 @@ impl Frozen {
         ensures len { result ≡ length self.now }
         ensures small { length self.now ≤ 1000000 }
         ensures typed { StoreIsTyped self.now }
-        ensures low { StoreIsLow self.now }
+        ensures low { StoreHasAtMost8Refs self.now }
     {
         self.cells.len()
     }
@@ -65,7 +65,7 @@ impl Frozen {
     }
 
     /// Whether these variables are there with these types.
-    #[tactic(auto, using(crate::proofs::Fitting::covers_from, crate::proofs::Fitting::covers_to))]
+    #[tactic(auto, using(crate::proofs::FitsDecided::covers_from, crate::proofs::FitsDecided::covers_to))]
     pub fn covers(&self, uses: &[(u32, Ty)]) -> bool
         ensures { IsTrue result ↔ Covers self.now uses.now }
     {

@@ -3,16 +3,16 @@
 //! A page that another list shares is copied before it is written, and the memory for that may be refused. So each page is
 //! made this list's own on the way down, where nothing is written, and its cells are written on the way back, where nothing
 //! can be refused: after a refusal no cell has been written. The writes rise by variable, so that each call hands on what
-//! stands behind its page. The stack grows with the pages that are written, and not with the writes.
+//! stands after its page. The stack grows with the pages that are written, and not with the writes.
 
 ghost use Rattle.std.specs.Prelude.{◌≡◌, ◌+◌, ◌-◌, ◌^◌, ◌<◌, ◌≤◌, nat_lt, ◌∷◌, ◌++◌, length, OnOk, OnErr};
 ghost use Rattle.std.specs.Arc.{arc_value};
 ghost use Rattle.std.specs.List.{prefix_len};
 ghost use Rattle.stm_store.specs.Pages.{contents, flatten, sizes, ArePages};
-ghost use Rattle.stm_store.specs.Stretches.{AreWithin, StartsBelow, with_writes_from};
+ghost use Rattle.stm_store.specs.RangeWrites.{AreWithin, StartsBelow, with_writes_from};
 
+use crate::chunk::Chunk;
 use crate::page::Page;
-use crate::part::Part;
 use std::alloc::AllocError;
 use std::sync::Arc;
 use stm_terms::values::Value;
@@ -21,7 +21,7 @@ use stm_terms::values::Value;
 #[cycle(write)]
 pub(crate) fn write_parts(
     first: usize,
-    parts: &mut [Arc<Part>],
+    parts: &mut [Arc<Chunk>],
     len: u32,
     writes: &[(u32, Value)],
 ) -> Result<(), AllocError>
@@ -34,11 +34,11 @@ pub(crate) fn write_parts(
     if writes.is_empty() {
         return Ok(());
     }
-    let skipped = (writes[0].0 as usize - first) / Part::SIZE;
+    let skipped = (writes[0].0 as usize - first) / Chunk::SIZE;
     let (_, others) = parts.split_at_mut(skipped);
     let (here, behind) = others.split_at_mut(1);
     write_part(
-        first + skipped * Part::SIZE,
+        first + skipped * Chunk::SIZE,
         &mut here[0],
         behind,
         len,
@@ -46,12 +46,12 @@ pub(crate) fn write_parts(
     )
 }
 
-/// Makes these writes in this part, to which the first of them goes, and in those behind it.
+/// Makes these writes in this part, to which the first of them goes, and in those after it.
 #[cycle(write)]
 fn write_part(
     first: usize,
-    part: &mut Arc<Part>,
-    parts: &mut [Arc<Part>],
+    part: &mut Arc<Chunk>,
+    parts: &mut [Arc<Chunk>],
     len: u32,
     writes: &[(u32, Value)],
 ) -> Result<(), AllocError>
@@ -77,7 +77,7 @@ fn write_pages(
     first: usize,
     end: usize,
     pages: &mut [Arc<Page>],
-    parts: &mut [Arc<Part>],
+    parts: &mut [Arc<Chunk>],
     len: u32,
     writes: &[(u32, Value)],
 ) -> Result<(), AllocError>
@@ -113,14 +113,14 @@ fn write_pages(
     )
 }
 
-/// Makes these writes in this page, to which the first of them goes, in the pages behind it, and in the parts behind these.
+/// Makes these writes in this page, to which the first of them goes, in the pages after it, and in the parts after these.
 #[cycle(write)]
 fn write_page(
     first: usize,
     end: usize,
     page: &mut Arc<Page>,
     pages: &mut [Arc<Page>],
-    parts: &mut [Arc<Part>],
+    parts: &mut [Arc<Chunk>],
     len: u32,
     writes: &[(u32, Value)],
 ) -> Result<(), AllocError>

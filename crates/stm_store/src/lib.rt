@@ -2,17 +2,17 @@
 #![tactic(auto)]
 
 pub mod cell;
+mod cell_list;
 mod change;
+mod chunk;
+mod chunks;
 mod covers;
 mod fits;
 pub mod frozen;
 mod in_place;
-mod list;
 mod page;
-mod part;
-mod parts;
 pub mod ready;
-mod settle;
+mod renumber;
 pub mod store;
 pub mod table;
 mod types;

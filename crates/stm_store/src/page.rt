@@ -1,10 +1,10 @@
 //! A page of cells.
 
 ghost use Rattle.std.specs.Prelude.{◌≡◌, ◌+◌, ◌<◌, [], ◌∷◌, ◌++◌, Some, length, slice_get, slice_set, IfOk, OnOk, OnErr};
-ghost use Rattle.stm_store.specs.Stretches.{AreWithin, with_writes_from};
+ghost use Rattle.stm_store.specs.RangeWrites.{AreWithin, with_writes_from};
 
 use crate::cell::Cell;
-use crate::settle::rewrite;
+use crate::renumber::rewrite;
 use std::alloc::{AllocError, Global};
 use std::marker::Model;
 use stm_terms::values::Value;

@@ -1,6 +1,6 @@
 //! A verdict that is ready to be applied.
 
-use crate::list::CellList;
+use crate::cell_list::CellList;
 use std::alloc::AllocError;
 use std::marker::Model;
 use stm_terms::values::Value;
@@ -14,7 +14,7 @@ pub struct Applied {
     pub result: Option<Value>,
 }
 
-/// Why a verdict wasn't applied. The first that holds is told.
+/// Why a verdict wasn't applied. The first that holds is reported.
 #[derive(Clone, Copy, Debug, PartialEq, Eq, Error)]
 pub enum ApplyError {
     /// There would be more than `Store::LIMIT` variables.
@@ -35,7 +35,7 @@ impl From<AllocError> for ApplyError {
     }
 }
 
-/// The cells that a store is to have, with what is told of them.
+/// The cells that a store is to have, with what is reported of them.
 ///
 /// All memory is taken before there is one, so that installing it can't fail.
 #[derive(Drop)]

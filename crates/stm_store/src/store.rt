@@ -1,16 +1,16 @@
 //! The store.
 
 ghost use Rattle.std.specs.Prelude.{◌≡◌, ◌+◌, ◌<◌, ◌≤◌, ◌↔◌, Some, length, slice_get, option_map, IsTrue, IfOk, IfErr, OnOk, OnErr, IsErrOf};
-ghost use Rattle.stm_terms.specs.Views.{cell_value};
-ghost use Rattle.stm_store.specs.Cells.{StoreIsTyped, StoreIsLow, Covers, Fits, IsApplied, kinds_of, plains, applied, result_there, made_by, told};
+ghost use Rattle.stm_terms.specs.Changes.{cell_value};
+ghost use Rattle.stm_store.specs.Cells.{StoreIsTyped, StoreHasAtMost8Refs, Covers, Fits, IsApplied, kinds_of, plains, applied, result_there, made_by, applied_answer};
 ghost use Rattle.stm_store.specs.Tables.{opened};
 
 use crate::cell::Cell;
+use crate::cell_list::CellList;
 use crate::change::perform;
 use crate::covers::covers;
 use crate::fits::fits;
 use crate::frozen::Frozen;
-use crate::list::CellList;
 use crate::ready::{Applied, ApplyError, Ready};
 use crate::table::Table;
 use std::alloc::Global;
@@ -63,7 +63,7 @@ impl Store {
         ensures len { result ≡ length self.now }
         ensures small { length self.now ≤ 1000000 }
         ensures typed { StoreIsTyped (plains self.now) }
-        ensures low { StoreIsLow (plains self.now) }
+        ensures low { StoreHasAtMost8Refs (plains self.now) }
     {
         self.cells.len()
     }
@@ -100,7 +100,7 @@ impl Store {
     }
 
     /// Whether these variables are there with these types.
-    #[tactic(auto, using(crate::proofs::Fitting::covers_from, crate::proofs::Fitting::covers_to))]
+    #[tactic(auto, using(crate::proofs::FitsDecided::covers_from, crate::proofs::FitsDecided::covers_to))]
     pub fn covers(&self, uses: &[(u32, Ty)]) -> bool
         ensures { IsTrue result ↔ Covers (plains self.now) uses.now }
     {
@@ -123,7 +123,7 @@ impl Store {
         requires { Fits (plains self.old) verdict.now }
         ensures applied { OnOk result (self.new ≡ applied self.old verdict.now) }
         ensures each { OnOk result (IsApplied self.old verdict.now self.new) }
-        ensures told { IfOk result (λ a. (a.first_new ≡ length self.old) × (a.result ≡ result_there self.old verdict.now)) }
+        ensures applied_answer { IfOk result (λ a. (a.first_new ≡ length self.old) × (a.result ≡ result_there self.old verdict.now)) }
         ensures room { OnOk result (length self.old + length (made_by verdict.now) ≤ 1000000) }
         ensures full { IsErrOf result ApplyError.CellsFull → 1000000 < length self.old + length (made_by verdict.now) }
         ensures no_memory { IsErrOf result ApplyError.NoMemory → length self.old + length (made_by verdict.now) ≤ 1000000 }
@@ -137,7 +137,7 @@ impl Store {
     /// all its memory before its first change.
     pub fn prepare(&self, verdict: &Verdict) -> Result<Ready, ApplyError>
         requires { Fits (plains self.now) verdict.now }
-        ensures ready { IfOk result (λ r. r ≡ (applied self.now verdict.now, told self.now verdict.now)) }
+        ensures ready { IfOk result (λ r. r ≡ (applied self.now verdict.now, applied_answer self.now verdict.now)) }
         ensures room { OnOk result (length self.now + length (made_by verdict.now) ≤ 1000000) }
         ensures full { IsErrOf result ApplyError.CellsFull → 1000000 < length self.now + length (made_by verdict.now) }
         ensures no_memory { IsErrOf result ApplyError.NoMemory → length self.now + length (made_by verdict.now) ≤ 1000000 }
@@ -151,7 +151,7 @@ impl Store {
     /// Puts in place what `prepare` made. It takes no memory.
     pub fn install(&mut self, ready: Ready) -> Applied
         ensures cells { self.new ≡ ready.0 }
-        ensures told { result ≡ ready.1 }
+        ensures applied_answer { result ≡ ready.1 }
     {
         self.cells = ready.cells;
         ready.applied

@@ -2,8 +2,8 @@
 
 ghost use Rattle.std.specs.Prelude.{◌≡◌, ◌<◌, ◌≤◌, ◌++◌, ◌∷◌, [], Some, length, IsTrue, IfOk, IfSome, OnOk, OnErr, slice_get, option_map};
 ghost use Rattle.stm_terms.specs.Names.{is_name_text};
-ghost use Rattle.stm_store.specs.Cells.{StoreIsTyped, StoreIsLow, kinds_of};
-ghost use Rattle.stm_store.specs.Tables.{Declared, declared_cells, number_of, is_of, may_hold, declare_refusal, refusal_told, NamesAreNames, NamesAreDistinct, AreDeclared};
+ghost use Rattle.stm_store.specs.Cells.{StoreIsTyped, StoreHasAtMost8Refs, kinds_of};
+ghost use Rattle.stm_store.specs.Tables.{Declared, declared_cells, number_of, is_of, may_hold, declare_refusal, refusal_of, NamesAreNames, NamesAreDistinct, AreDeclared};
 
 use crate::types::{plain_type, refers_to};
 use indexmap::IndexMap;
@@ -14,7 +14,7 @@ use stm_terms::kinds::{Base, Ty};
 use stm_terms::values::{Ref, Value};
 use thiserror::Error;
 
-/// Why a variable can't be declared. The first that holds is told.
+/// Why a variable can't be declared. The first that holds is reported.
 #[derive(Clone, Copy, Debug, PartialEq, Eq, Error)]
 pub enum DeclareError {
     /// The name is declared.
@@ -103,7 +103,7 @@ impl Table {
         ensures len { result ≡ length self.now }
         ensures small { length self.now ≤ 1000000 }
         ensures typed { StoreIsTyped (declared_cells self.now) }
-        ensures low { StoreIsLow (declared_cells self.now) }
+        ensures low { StoreHasAtMost8Refs (declared_cells self.now) }
         ensures named { NamesAreNames self.now }
         ensures distinct { NamesAreDistinct self.now }
         ensures declared { AreDeclared self.now }
@@ -187,12 +187,12 @@ impl Table {
         }
     }
 
-    /// Declares a variable behind the others and answers its number. The caller knows that the name is one.
+    /// Declares a variable after the others and answers its number. The caller knows that the name is one.
     pub fn declare(&mut self, name: &str, kind: Ty, value: Value) -> Result<u32, DeclareError>
         requires { IsTrue (is_name_text name.now) }
         ensures ok { IfOk result (λ id. (id ≡ length self.old) × (self.new ≡ self.old ++ record { name = name.now; kind = kind; value = value } ∷ [])) }
         ensures err { OnErr result (self.new ≡ self.old) }
-        ensures told { refusal_told result ≡ declare_refusal self.old name.now kind value }
+        ensures told { refusal_of result ≡ declare_refusal self.old name.now kind value }
     {
         if self.find(name).is_some() {
             return Err(DeclareError::Twice);

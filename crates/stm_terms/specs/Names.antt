@@ -4,12 +4,12 @@ use Rattle.std.specs.List.{list_all}
 use Rattle.std.specs.Str.{bytes_eq}
 
 -- a to z
-abbrev pub is_small : ℕ → Bool
-is_small b = nat_le 97 b && nat_le b 122
+abbrev pub is_lower : ℕ → Bool
+is_lower b = nat_le 97 b && nat_le b 122
 
 -- A to Z
-abbrev pub is_great : ℕ → Bool
-is_great b = nat_le 65 b && nat_le b 90
+abbrev pub is_upper : ℕ → Bool
+is_upper b = nat_le 65 b && nat_le b 90
 
 -- 0 to 9
 abbrev pub is_digit : ℕ → Bool
@@ -17,7 +17,7 @@ is_digit b = nat_le 48 b && nat_le b 57
 
 -- what may follow the first letter of a word: letters, digits, `_` and `'`
 abbrev pub is_word_byte : ℕ → Bool
-is_word_byte b = is_small b || is_great b || is_digit b || nat_eq b 95 || nat_eq b 39
+is_word_byte b = is_lower b || is_upper b || is_digit b || nat_eq b 95 || nat_eq b 39
 
 -- the words of control
 unfoldable pub is_control_word : List ℕ → Bool
@@ -42,10 +42,10 @@ is_value_word word =
 abbrev pub is_reserved : List ℕ → Bool
 is_reserved word = is_control_word word || is_action_word word || is_value_word word
 
-abbrev pub starts_small : List ℕ → Bool
-starts_small [] = false
-starts_small (b ∷ bs) = is_small b
+abbrev pub starts_lower : List ℕ → Bool
+starts_lower [] = false
+starts_lower (b ∷ bs) = is_lower b
 
 -- a word that begins with a small letter, isn't reserved, and has at most 32 bytes
 unfoldable pub is_name_text : List ℕ → Bool
-is_name_text word = starts_small word && list_all is_word_byte word && not (is_reserved word) && nat_le (length word) 32
+is_name_text word = starts_lower word && list_all is_word_byte word && not (is_reserved word) && nat_le (length word) 32

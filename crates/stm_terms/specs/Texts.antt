@@ -41,7 +41,7 @@ base_text IntType = codes "Int"
 base_text BoolType = codes "Bool"
 base_text UnitType = codes "()"
 
--- so many `TVar` around a base
+-- the given number of `TVar` around a base
 abbrev pub refs_text : Base → ℕ → List ℕ
 refs_text base zero = base_text base
 refs_text base (suc zero) = codes "TVar " ++ base_text base

@@ -9,12 +9,12 @@ use Rattle.stm_terms.specs.declared.values.Value.{Value}
 use Rattle.stm_terms.specs.declared.values.Value.TheVariants.{Int, Bool as Truth, Unit as Nil, Var}
 use Rattle.stm_terms.specs.declared.expr.Op.{Op}
 use Rattle.stm_terms.specs.declared.expr.Op.TheVariants.{Mul, Add, Sub, Eq, Lt, Le, And, Or}
-use Rattle.stm_terms.specs.Views.{Variables, Changes, find}
-use Rattle.stm_terms.specs.Trees.{Term, lit, local, global, bin, Act, return, read, write, make, retry, throw, choose, or_else, bind, let_in, seq}
+use Rattle.stm_terms.specs.Changes.{Variables, Changes, find}
+use Rattle.stm_terms.specs.Ast.{Term, lit, local, global, bin, Act, return, read, write, make, retry, throw, if_else, or_else, bind, let_in, seq}
 
 -- the types of the store's variables
-abbrev pub Kinds : Type 0
-Kinds = ℕ → Option Ty
+abbrev pub TypeEnv : Type 0
+TypeEnv = ℕ → Option Ty
 
 abbrev pub int_ty : Ty
 int_ty = record { base = IntBase; refs = 0 }
@@ -30,12 +30,12 @@ abbrev pub var_ty : Ty → Ty
 var_ty t = record { base = t.base; refs = suc t.refs }
 
 -- the type of the cell that a reference of the type stands for
-abbrev pub inside_at : BaseTy → ℕ → Option Ty
-inside_at b zero = None
-inside_at b (suc n) = Some (record { base = b; refs = n })
+abbrev pub deref_at : BaseTy → ℕ → Option Ty
+deref_at b zero = None
+deref_at b (suc n) = Some (record { base = b; refs = n })
 
-abbrev pub inside : Ty → Option Ty
-inside t = inside_at t.base t.refs
+abbrev pub deref_ty : Ty → Option Ty
+deref_ty t = deref_at t.base t.refs
 
 abbrev pub same_base : BaseTy → BaseTy → Bool
 same_base IntBase IntBase = true
@@ -47,12 +47,12 @@ abbrev pub same_ty : Ty → Ty → Bool
 same_ty t u = same_base t.base u.base && nat_eq t.refs u.refs
 
 -- the type of the cell at a reference: those of the store, and those that the block has made
-abbrev pub kind_of : Kinds → Changes → Ref → Option Ty
+abbrev pub kind_of : TypeEnv → Changes → Ref → Option Ty
 kind_of kinds h (Old i) = kinds i
 kind_of kinds h (New k) = option_map (λ c. c.0) (slice_get h.news k)
 
 -- the type of a value, where its reference exists
-abbrev pub type_of : Kinds → Changes → Value → Option Ty
+abbrev pub type_of : TypeEnv → Changes → Value → Option Ty
 type_of kinds h (Int n) = Some int_ty
 type_of kinds h (Truth b) = Some bool_ty
 type_of kinds h Nil = Some unit_ty
@@ -84,7 +84,7 @@ op_type Or t u = operands bool_ty bool_ty t u
 op_type Eq t u = if same_ty t u then Some bool_ty else None
 
 -- the type of an expression, from those of the variables and the locals
-abbrev pub expr_type : Kinds → List Ty → Term → Option Ty
+abbrev pub expr_type : TypeEnv → List Ty → Term → Option Ty
 expr_type kinds locals (lit v) = literal_type v
 expr_type kinds locals (local i) = slice_get locals i
 expr_type kinds locals (global i) = option_map var_ty (kinds i)
@@ -97,10 +97,10 @@ pub data ActionType : Type 0 where
   Any : ActionType
 
 -- what two branches have in common
-abbrev pub joined : ActionType → ActionType → Option ActionType
-joined Any r = Some r
-joined (Gives t) Any = Some (Gives t)
-joined (Gives t) (Gives u) = if same_ty t u then Some (Gives t) else None
+abbrev pub join_types : ActionType → ActionType → Option ActionType
+join_types Any r = Some r
+join_types (Gives t) Any = Some (Gives t)
+join_types (Gives t) (Gives u) = if same_ty t u then Some (Gives t) else None
 
 abbrev pub with_result : Option ActionType → (ActionType → Option ActionType) → Option ActionType
 with_result (Some r) go = go r
@@ -114,19 +114,19 @@ with_bound Any go = None
 abbrev pub when : Bool → ActionType → Option ActionType
 when b r = if b then Some r else None
 
-abbrev pub action_type : Kinds → List Ty → Act → Option ActionType
+abbrev pub action_type : TypeEnv → List Ty → Act → Option ActionType
 action_type kinds locals (return e) = with_type (expr_type kinds locals e) (λ t. Some (Gives t))
-action_type kinds locals (read e) = with_type (expr_type kinds locals e) (λ t. with_type (inside t) (λ u. Some (Gives u)))
+action_type kinds locals (read e) = with_type (expr_type kinds locals e) (λ t. with_type (deref_ty t) (λ u. Some (Gives u)))
 action_type kinds locals (write r e) =
     with_type (expr_type kinds locals r) (λ t. with_type (expr_type kinds locals e) (λ u. when (same_ty t (var_ty u)) (Gives unit_ty)))
 action_type kinds locals (make t e) =
     with_type (expr_type kinds locals e) (λ u. when (same_ty t u && nat_le t.refs 8) (Gives (var_ty t)))
 action_type kinds locals retry = Some Any
 action_type kinds locals (throw e) = with_type (expr_type kinds locals e) (λ t. when (same_ty t int_ty) Any)
-action_type kinds locals (choose e a b) =
-    with_type (expr_type kinds locals e) (λ t. if same_ty t bool_ty then with_result (action_type kinds locals a) (λ r. with_result (action_type kinds locals b) (joined r)) else None)
+action_type kinds locals (if_else e a b) =
+    with_type (expr_type kinds locals e) (λ t. if same_ty t bool_ty then with_result (action_type kinds locals a) (λ r. with_result (action_type kinds locals b) (join_types r)) else None)
 action_type kinds locals (or_else a b) =
-    with_result (action_type kinds locals a) (λ r. with_result (action_type kinds locals b) (joined r))
+    with_result (action_type kinds locals a) (λ r. with_result (action_type kinds locals b) (join_types r))
 action_type kinds locals (bind a b) =
     with_result (action_type kinds locals a) (λ r. with_bound r (λ t. action_type kinds (locals ++ t ∷ []) b))
 action_type kinds locals (let_in e b) = with_type (expr_type kinds locals e) (λ t. action_type kinds (locals ++ t ∷ []) b)
@@ -138,7 +138,7 @@ result_type (Some t) = Gives t
 result_type None = Any
 
 -- the types of the variables that a block names
-abbrev pub kinds_in : List (ℕ × Ty) → Kinds
+abbrev pub kinds_in : List (ℕ × Ty) → TypeEnv
 kinds_in [] i = None
 kinds_in (u ∷ us) i = if nat_eq u.0 i then Some u.1 else kinds_in us i
 
@@ -156,33 +156,33 @@ named (write r e) = named_in r ++ named_in e
 named (make t e) = named_in e
 named retry = []
 named (throw e) = named_in e
-named (choose e a b) = named_in e ++ named a ++ named b
+named (if_else e a b) = named_in e ++ named a ++ named b
 named (or_else a b) = named a ++ named b
 named (bind a b) = named a ++ named b
 named (let_in e b) = named_in e ++ named b
 named (seq a b) = named a ++ named b
 
-abbrev pub noted_as : Option Ty → Option Ty → ℕ → List (ℕ × Ty) → List (ℕ × Ty)
-noted_as (Some u) k i us = us
-noted_as None (Some t) i us = us ++ (i, t) ∷ []
-noted_as None None i us = us
+abbrev pub record_use_as : Option Ty → Option Ty → ℕ → List (ℕ × Ty) → List (ℕ × Ty)
+record_use_as (Some u) k i us = us
+record_use_as None (Some t) i us = us ++ (i, t) ∷ []
+record_use_as None None i us = us
 
--- adds a variable behind those that were named before it
-abbrev pub noted : Kinds → ℕ → List (ℕ × Ty) → List (ℕ × Ty)
-noted kinds i us = noted_as (kinds_in us i) (kinds i) i us
+-- adds a variable after those that were named before it
+abbrev pub record_use : TypeEnv → ℕ → List (ℕ × Ty) → List (ℕ × Ty)
+record_use kinds i us = record_use_as (kinds_in us i) (kinds i) i us
 
 -- each variable once, in order of first appearance, with its type
-abbrev pub note_all : Kinds → List ℕ → List (ℕ × Ty) → List (ℕ × Ty)
-note_all kinds [] us = us
-note_all kinds (i ∷ is) us = note_all kinds is (noted kinds i us)
+abbrev pub record_uses : TypeEnv → List ℕ → List (ℕ × Ty) → List (ℕ × Ty)
+record_uses kinds [] us = us
+record_uses kinds (i ∷ is) us = record_uses kinds is (record_use kinds i us)
 
-abbrev pub uses_of : Kinds → Act → List (ℕ × Ty)
-uses_of kinds a = note_all kinds (named a) []
+abbrev pub uses_of : TypeEnv → Act → List (ℕ × Ty)
+uses_of kinds a = record_uses kinds (named a) []
 
 -- how many times `newTVar` stands in an action
 abbrev pub makes : Act → ℕ
 makes (make t e) = 1
-makes (choose e a b) = makes a + makes b
+makes (if_else e a b) = makes a + makes b
 makes (or_else a b) = makes a + makes b
 makes (bind a b) = makes a + makes b
 makes (let_in e b) = makes b
@@ -200,14 +200,14 @@ Rising (e ∷ es) = AllAbove e.0 es × Rising es
 
 -- each variable underneath that has a type holds a value of it, and so does each variable that was written and each cell
 -- that was made
-pub record WellTyped (kinds : Kinds) (under : Variables) (h : Changes) : Type 0 where
+pub record WellTyped (kinds : TypeEnv) (under : Variables) (h : Changes) : Type 0 where
   pub store : (i : ℕ) (t : Ty) → kinds i ≡ Some t → (v : Value) × (under i ≡ Some v) × (type_of kinds h v ≡ Some t)
   pub writes : (i : ℕ) (v : Value) → find i h.writes ≡ Some v → (t : Ty) × (kinds i ≡ Some t) × (type_of kinds h v ≡ Some t)
   pub rising : Rising h.writes
   pub news : (k : ℕ) (c : Ty × Value) → slice_get h.news k ≡ Some c → (type_of kinds h c.1 ≡ Some c.0) × (c.0.refs ≤ 8)
 
 -- values of these types, in order
-abbrev pub HaveTypes : Kinds → Changes → List Value → List Ty → Type 0
+abbrev pub HaveTypes : TypeEnv → Changes → List Value → List Ty → Type 0
 HaveTypes kinds h [] [] = Unit {0}
 HaveTypes kinds h (v ∷ vs) (t ∷ ts) = (type_of kinds h v ≡ Some t) × HaveTypes kinds h vs ts
 HaveTypes kinds h vs ts = ⊥

@@ -9,7 +9,7 @@ use Rattle.stm_terms.specs.declared.values.Fault.{Fault}
 use Rattle.stm_terms.specs.declared.values.Fault.TheVariants.{Overflow}
 use Rattle.stm_terms.specs.declared.expr.Op.{Op}
 use Rattle.stm_terms.specs.declared.expr.Op.TheVariants.{Mul, Add, Sub, Eq, Lt, Le, And, Or}
-use Rattle.stm_terms.specs.Trees.{Term, lit, local, global, bin}
+use Rattle.stm_terms.specs.Ast.{Term, lit, local, global, bin}
 
 -- what an expression gives: a value, a fault, or none where it has no meaning
 abbrev pub Answer : Type 0
@@ -46,16 +46,16 @@ decides Or (Truth b) = b
 decides op v = false
 
 -- an operator at two values; none where it doesn't take them
-abbrev pub applied : Op → Value → Value → Answer
-applied Mul (Int x) (Int y) = Some (int_result (x *ℤ y))
-applied Add (Int x) (Int y) = Some (int_result (x +ℤ y))
-applied Sub (Int x) (Int y) = Some (int_result (x -ℤ y))
-applied Lt (Int x) (Int y) = Some (Ok (Truth (int_lt x y)))
-applied Le (Int x) (Int y) = Some (Ok (Truth (int_le x y)))
-applied And (Truth x) (Truth y) = Some (Ok (Truth (x && y)))
-applied Or (Truth x) (Truth y) = Some (Ok (Truth (x || y)))
-applied Eq x y = Some (Ok (Truth (same_value x y)))
-applied op x y = None
+abbrev pub apply_op : Op → Value → Value → Answer
+apply_op Mul (Int x) (Int y) = Some (int_result (x *ℤ y))
+apply_op Add (Int x) (Int y) = Some (int_result (x +ℤ y))
+apply_op Sub (Int x) (Int y) = Some (int_result (x -ℤ y))
+apply_op Lt (Int x) (Int y) = Some (Ok (Truth (int_lt x y)))
+apply_op Le (Int x) (Int y) = Some (Ok (Truth (int_le x y)))
+apply_op And (Truth x) (Truth y) = Some (Ok (Truth (x && y)))
+apply_op Or (Truth x) (Truth y) = Some (Ok (Truth (x || y)))
+apply_op Eq x y = Some (Ok (Truth (same_value x y)))
+apply_op op x y = None
 
 -- goes on with a value
 abbrev pub with_value : Answer → (Value → Answer) → Answer
@@ -70,4 +70,4 @@ value (lit v) locals = Some (Ok v)
 value (local i) locals = option_map Ok (slice_get locals i)
 value (global i) locals = Some (Ok (Var (Old i)))
 value (bin op a b) locals =
-    with_value (value a locals) (λ x. if decides op x then Some (Ok x) else with_value (value b locals) (applied op x))
+    with_value (value a locals) (λ x. if decides op x then Some (Ok x) else with_value (value b locals) (apply_op op x))

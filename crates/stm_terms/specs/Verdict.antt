@@ -2,9 +2,9 @@
 use Rattle.std.specs.Prelude.{[], Option, Some, None}
 use Rattle.stm_terms.specs.declared.verdicts.Verdict.{Verdict}
 use Rattle.stm_terms.specs.declared.verdicts.Verdict.TheVariants.{Commits, Throws, Blocks}
-use Rattle.stm_terms.specs.Trees.{Act}
-use Rattle.stm_terms.specs.Views.{Variables, no_changes}
-use Rattle.stm_terms.specs.Run.{Outcome, Returned, Threw, Retried, Stuck, run}
+use Rattle.stm_terms.specs.Ast.{Act}
+use Rattle.stm_terms.specs.Changes.{Variables, no_changes}
+use Rattle.stm_terms.specs.Semantics.{Outcome, Returned, Threw, Retried, Stuck, run}
 
 -- a return commits the marked variables and the new cells; a throw commits nothing; a retry blocks
 abbrev pub verdict_from : Outcome → Option Verdict

@@ -1,9 +1,9 @@
 //! The value of an expression.
 
 ghost use Rattle.std.specs.Prelude.{◌≡◌, ◌≢◌, Some, None};
-ghost use Rattle.stm_terms.specs.Trees.{term_of};
-ghost use Rattle.stm_terms.specs.Value.{value, decides, applied};
-ghost use Rattle.stm_terms.specs.Checked.{int_or_overflow};
+ghost use Rattle.stm_terms.specs.Ast.{term_of};
+ghost use Rattle.stm_terms.specs.Value.{value, decides, apply_op};
+ghost use Rattle.stm_terms.specs.OverflowArithmetic.{int_or_overflow};
 
 use crate::expr::{Expr, Op};
 use crate::values::{Fault, Ref, Value};
@@ -43,8 +43,8 @@ fn left_decides(op: Op, left: Value) -> bool
 
 /// The value of an operator at two values that it takes.
 fn apply(op: Op, left: Value, right: Value) -> Result<Value, Fault>
-    requires { applied op left right ≢ None }
-    ensures { applied op left right ≡ Some result }
+    requires { apply_op op left right ≢ None }
+    ensures { apply_op op left right ≡ Some result }
 {
     match (op, left, right) {
         (Op::Mul, Value::Int(x), Value::Int(y)) => whole(x.checked_mul(y)),

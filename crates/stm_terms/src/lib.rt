@@ -1,7 +1,7 @@
 //! The language of atomic blocks: types, values, trees and verdicts, the value of an expression, and printed texts.
 //!
-//! The meaning of a block, which everything above is proved against, stands in `specs/`: `Trees` (the trees that the
-//! definitions speak of), `Value` (the value of an expression), `Views` and `Run` (what an action does), `Looks` (what it
+//! The meaning of a block, which everything above is proved against, stands in `specs/`: `Ast` (the trees that the
+//! definitions speak of), `Value` (the value of an expression), `Changes` and `Semantics` (what an action does), `ReadSet` (what it
 //! reads), `Verdict`, `Typing` and `Texts`.
 #![tactic(auto)]
 

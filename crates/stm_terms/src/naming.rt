@@ -1,11 +1,11 @@
 //! Names of variables and locals.
 
 ghost use Rattle.std.specs.Prelude.{◌≡◌, string_bytes};
-ghost use Rattle.stm_terms.specs.Names.{is_name_text, is_reserved, is_control_word, is_action_word, is_value_word, is_word_byte, is_small, starts_small};
+ghost use Rattle.stm_terms.specs.Names.{is_name_text, is_reserved, is_control_word, is_action_word, is_value_word, is_word_byte, is_lower, starts_lower};
 ghost use Rattle.std.specs.List.{list_all};
 
 fn is_small_letter(byte: u8) -> bool
-    ensures { result ≡ is_small byte }
+    ensures { result ≡ is_lower byte }
 {
     97 <= byte && byte <= 122
 }
@@ -56,7 +56,7 @@ pub fn is_reserved_word(word: &str) -> bool
 }
 
 fn starts_with_small_letter(bytes: &[u8]) -> bool
-    ensures { result ≡ starts_small bytes.now }
+    ensures { result ≡ starts_lower bytes.now }
 {
     match bytes {
         [] => false,
@@ -72,7 +72,7 @@ fn all_may_follow(bytes: &[u8]) -> bool
 
 /// Whether a text is a name: a word of at most 32 bytes that begins with a small letter and isn't reserved.
 ///
-/// A word is a letter and then letters, digits, `_` and `'` (docs/LANGUAGE.md, "Names").
+/// A word is a letter and then letters, digits, `_` and `'` (docs/LANGUAGE.md, "Tokens").
 #[tactic(auto, unfolding(crate::specs::Names::is_name_text))]
 pub fn is_name(text: &str) -> bool
     ensures { result ≡ is_name_text text.now }

@@ -1,7 +1,7 @@
 //! Equality of trees, wherever their parts lie in memory.
 
 ghost use Rattle.std.specs.Prelude.{◌≡◌, ◌↔◌, IsTrue};
-ghost use Rattle.stm_terms.specs.Trees.{act_of, term_of};
+ghost use Rattle.stm_terms.specs.Ast.{act_of, term_of};
 
 use crate::action::Action;
 use crate::expr::Expr;

@@ -64,7 +64,7 @@ fn write_base(base: Base, out: &mut String) -> Result<(), NoMemory>
     }
 }
 
-/// Appends so many `TVar` around a base.
+/// Appends the given number of `TVar` around a base.
 fn write_refs(base: Base, refs: u8, out: &mut String) -> Result<(), NoMemory>
     ensures { AppendsText result (string_bytes out.old) (string_bytes out.new) (refs_text base refs) }
 {

@@ -7,7 +7,7 @@ use Rattle.std.proofs.lemmas.Bool.Decides.{nat_tests}
 use Rattle.std.proofs.lemmas.List.Folds.{list_any-append}
 use Rattle.stm_terms.specs.declared.values.Value.{Value}
 use Rattle.stm_watch.specs.Pairs.{pair_cmp, Pairs, is_read, is_pair_of, WithReads, WithoutReads, watches}
-use Rattle.stm_watch.specs.Readers.{is_watched, HasExactly, is_met}
+use Rattle.stm_watch.specs.IndexMatchesReaders.{is_watched, HasExactly, has_reader_of}
 
 abbrev Reader : Type 0
 Reader = ℕ × List (ℕ × Value)
@@ -78,7 +78,7 @@ any_both : (b : Bool) (p : ℕ → Bool) (vs : List ℕ) → list_any (λ v. b &
 any_both true p vs = refl
 any_both false p vs = any_none vs
 
-met_by : (readers : List Reader) (variables : List ℕ) (t : ℕ) → list_any (λ v. is_watched readers v t) variables ≡ is_met readers variables t
+met_by : (readers : List Reader) (variables : List ℕ) (t : ℕ) → list_any (λ v. is_watched readers v t) variables ≡ has_reader_of readers variables t
 met_by [] variables t = any_none variables
 met_by (r ∷ rs) variables t =
     any_either (λ v. is_pair_of r.0 r.1 v t) (λ v. is_watched rs v t) variables
@@ -88,5 +88,5 @@ watches_by : (pairs : Pairs) (readers : List Reader) (variables : List ℕ) (t :
 watches_by pairs readers [] t h = refl
 watches_by pairs readers (v ∷ vs) t h = ap₂ (λ a b. a || b) (h v t) (watches_by pairs readers vs t h)
 
-pub watches_met : (pairs : Pairs) (readers : List Reader) (variables : List ℕ) (t : ℕ) → HasExactly pairs readers → watches pairs variables t ≡ is_met readers variables t
+pub watches_met : (pairs : Pairs) (readers : List Reader) (variables : List ℕ) (t : ℕ) → HasExactly pairs readers → watches pairs variables t ≡ has_reader_of readers variables t
 watches_met pairs readers variables t h = watches_by pairs readers variables t h ∙ met_by readers variables t

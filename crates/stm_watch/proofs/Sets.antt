@@ -15,8 +15,8 @@ use Rattle.std.proofs.lemmas.Map.Views.{Contains-from_any, list_any-from_Contain
 use Rattle.std.proofs.lemmas.Bool.{false≢true}
 use Rattle.std.specs.BTreeMap.{is_at}
 use Rattle.std.proofs.lemmas.Bool.Decides.{nat_tests}
-use Rattle.stm_watch.specs.Pairs.{pair_cmp, Pairs, has, watches}
-use Rattle.stm_watch.specs.Keys.{lists, AreTickets}
+use Rattle.stm_watch.specs.Pairs.{pair_cmp, Pairs, has_pair, watches}
+use Rattle.stm_watch.specs.PairList.{lists, AreTickets}
 
 -- ---- the set and its list
 pair_cmp_total : IsTotalOrder pair_cmp
@@ -29,7 +29,7 @@ pub contains_lists : (ps : List (ℕ × ℕ)) (v t : ℕ) → list_any (is_at (p
 contains_lists [] v t = refl
 contains_lists (p ∷ ps) v t = ap₂ (λ a b. a || b) (same_pair v p.0 t p.1) (contains_lists ps v t)
 
-pub has_lists : (ps : List (ℕ × ℕ)) (v t : ℕ) → has (set.from_list ps) v t ≡ lists ps v t
+pub has_lists : (ps : List (ℕ × ℕ)) (v t : ℕ) → has_pair (set.from_list ps) v t ≡ lists ps v t
 has_lists ps v t = set.contains-from_list pair_cmp_total ps (v, t) ∙ contains_lists ps v t
 
 pub watches_lists : (ps : List (ℕ × ℕ)) (vs : List ℕ) (t : ℕ) → watches (set.from_list ps) vs t ≡ list_any (λ v. lists ps v t) vs
@@ -37,7 +37,7 @@ watches_lists ps [] t = refl
 watches_lists ps (v ∷ vs) t = ap₂ (λ a b. a || b) (has_lists ps v t) (watches_lists ps vs t)
 
 -- two sets of the same pairs are equal
-pub same_pairs : (ps qs : Pairs) → ((v t : ℕ) → has ps v t ≡ has qs v t) → ps ≡ qs
+pub same_pairs : (ps qs : Pairs) → ((v t : ℕ) → has_pair ps v t ≡ has_pair qs v t) → ps ≡ qs
 same_pairs ps qs h = set.same_set pair_cmp_total (exact_pairs nat_cmp nat_cmp exact_unsigned exact_unsigned) ps qs (λ p. h p.0 p.1)
 
 pub same_lists : (ps qs : List (ℕ × ℕ)) → ((v t : ℕ) → lists ps v t ≡ lists qs v t) → set.from_list {R = pair_cmp} ps ≡ set.from_list qs

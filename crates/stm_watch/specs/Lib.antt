@@ -1,3 +1,3 @@
-pub mod Keys
+pub mod IndexMatchesReaders
+pub mod PairList
 pub mod Pairs
-pub mod Readers

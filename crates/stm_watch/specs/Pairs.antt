@@ -15,8 +15,8 @@ abbrev pub Pairs : Type 0
 Pairs = set.FinSet pair_cmp
 
 -- the ticket watches the variable
-abbrev pub has : Pairs → ℕ → ℕ → Bool
-has pairs v t = set.contains pairs (v, t)
+abbrev pub has_pair : Pairs → ℕ → ℕ → Bool
+has_pair pairs v t = set.contains pairs (v, t)
 
 -- the variable is among those read
 abbrev pub is_read : List (ℕ × Value) → ℕ → Bool
@@ -28,12 +28,12 @@ is_pair_of ticket reads v t = nat_eq t ticket && is_read reads v
 
 -- the pairs that were there, and those of the variables read with the ticket
 abbrev pub WithReads : Pairs → ℕ → List (ℕ × Value) → Pairs → Type 0
-WithReads old ticket reads new = (v t : ℕ) → has new v t ≡ (has old v t || is_pair_of ticket reads v t)
+WithReads old ticket reads new = (v t : ℕ) → has_pair new v t ≡ (has_pair old v t || is_pair_of ticket reads v t)
 
 -- the pairs that were there, without those of the variables read with the ticket
 abbrev pub WithoutReads : Pairs → ℕ → List (ℕ × Value) → Pairs → Type 0
-WithoutReads old ticket reads new = (v t : ℕ) → has new v t ≡ (has old v t && not (is_pair_of ticket reads v t))
+WithoutReads old ticket reads new = (v t : ℕ) → has_pair new v t ≡ (has_pair old v t && not (is_pair_of ticket reads v t))
 
 -- the ticket watches some of these variables
 abbrev pub watches : Pairs → List ℕ → ℕ → Bool
-watches pairs variables t = list_any (λ v. has pairs v t) variables
+watches pairs variables t = list_any (λ v. has_pair pairs v t) variables

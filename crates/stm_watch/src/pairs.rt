@@ -3,7 +3,7 @@
 ghost use Rattle.std.specs.Prelude.{◌≡◌, ℕ, ◌&&◌, ◌||◌, not, nat_eq, IfOk, OnOk, OnErr};
 ghost use Rattle.std.specs.List.{list_any};
 ghost use Rattle.stm_watch.specs.Pairs.{is_read};
-ghost use Rattle.stm_watch.specs.Keys.{lists, AreTickets};
+ghost use Rattle.stm_watch.specs.PairList.{lists, AreTickets};
 
 use std::alloc::Global;
 use std::collections::BTreeSet;

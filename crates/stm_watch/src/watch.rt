@@ -22,7 +22,7 @@ pub struct Watch {
 impl Model for Watch {
     ghost use Rattle.std.specs.Coded.{coded_ℕ, coded×};
     ghost use Rattle.stm_watch.specs.Pairs.{Pairs};
-    ghost use Rattle.stm_watch.specs.Keys.{AreTickets};
+    ghost use Rattle.stm_watch.specs.PairList.{AreTickets};
     ghost use Rattle.std.specs.FinSet as set;
 
     ghost Value = { Pairs };

@@ -3,13 +3,13 @@
 ghost use Rattle.std.specs.Prelude.{◌≡◌, ◌++◌, ◌∷◌, [], ◌≤◌, ◌<◌, ℕ, List, OnOk, IfOk, IfErr, IfSome, length};
 ghost use Rattle.stm_store.specs.Tables.{Declared};
 ghost use Rattle.stm_history.specs.declared.event.Event.{Event as AnyEvent};
-ghost use Rattle.stm_history.specs.Checking.{Progress, at_header, at_variables, at_events, LeadsTo, MayRefuse, strange};
+ghost use Rattle.stm_history.specs.Checking.{CheckerState, at_header, at_variables, at_events, LeadsTo, MayRefuse, strange};
 ghost use Rattle.stm_history.specs.Fits.{FitsTable};
 ghost use Rattle.stm_history.specs.Following.{Follows};
 ghost use Rattle.stm_history.specs.Judgement.{IsHistory, TellsFault, next_line};
 ghost use Rattle.stm_history.specs.Lines.{format_1, event_line};
 ghost use Rattle.stm_history.specs.SlowDesk.{max_cells, max_events, IsLegal};
-ghost use Rattle.stm_history.specs.Stages.{IsStage, IsWithin, LeadsToStage, Reached, refused_by};
+ghost use Rattle.stm_history.specs.Stages.{IsStage, CountsWithinLimits, LeadsToStage, Reached, refused_by};
 ghost use Rattle.stm_history.specs.Checking.{with_table as progress_with};
 
 use crate::event::Event;
@@ -163,9 +163,9 @@ fn run_on(
 
 /// Takes a whole line.
 fn take_line(alloc: Global, stage: Stage, line: &[u8]) -> Result<Stage, HistoryFault>
-    requires { (p : Progress) × IsStage stage p × IsWithin p }
-    ensures leads { IfOk result (λ s. (p : Progress) → IsStage stage p → LeadsToStage p line.now s) }
-    ensures refused { IfErr result (λ e. (p : Progress) → IsStage stage p → MayRefuse p line.now e) }
+    requires { (p : CheckerState) × IsStage stage p × CountsWithinLimits p }
+    ensures leads { IfOk result (λ s. (p : CheckerState) → IsStage stage p → LeadsToStage p line.now s) }
+    ensures refused { IfErr result (λ e. (p : CheckerState) → IsStage stage p → MayRefuse p line.now e) }
 {
     match stage {
         Stage::Before => take_header(alloc, line),
@@ -176,8 +176,8 @@ fn take_line(alloc: Global, stage: Stage, line: &[u8]) -> Result<Stage, HistoryF
 
 /// The fault at a line that can't be one of this place.
 fn strange_fault(stage: &Stage) -> HistoryFault
-    requires { (p : Progress) × IsStage stage.now p × IsWithin p }
-    ensures { (p : Progress) → IsStage stage.now p → result ≡ strange p }
+    requires { (p : CheckerState) × IsStage stage.now p × CountsWithinLimits p }
+    ensures { (p : CheckerState) → IsStage stage.now p → result ≡ strange p }
 {
     match stage {
         Stage::Before => HistoryFault::BadHeader,
@@ -264,7 +264,7 @@ impl Checker {
 pub fn check_history<R: Read>(alloc: Global, reader: &mut R) -> Result<Legal, HistoryFault>
     // The bytes are the text of a legal history, and the numbers are its own.
     ensures ok { IfOk result (λ n. IfSome (R.remaining reader.old) (λ bytes. IsHistory format_1 bytes n)) }
-    // Otherwise the first fault of the bytes is told.
+    // Otherwise the first fault of the bytes is reported.
     ensures fault { IfErr result (λ e. IfSome (R.remaining reader.old) (λ bytes. TellsFault format_1 e bytes)) }
 {
     let mut checker = Checker::new(alloc);

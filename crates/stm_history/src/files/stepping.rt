@@ -3,7 +3,7 @@
 ghost use Rattle.std.specs.Prelude.{◌≡◌, ◌<◌, ◌↔◌, ◌++◌, ◌∷◌, [], ℕ, List, OnOk, IfSome, IsErrOf, IsTrue, Some, None, Err};
 ghost use Rattle.stm_store.specs.Cells.{plains};
 ghost use Rattle.stm_store.specs.Tables.{Declared};
-ghost use Rattle.stm_eval.specs.Told.{told_ticket, told_verdict};
+ghost use Rattle.stm_eval.specs.EvaluatedFields.{message_ticket, message_verdict};
 ghost use Rattle.stm_history.specs.declared.event.Event.{Event as AnyEvent};
 ghost use Rattle.stm_history.specs.declared.event.What.TheVariants.{Submitted, Installed, Finished, Cancelled};
 ghost use Rattle.stm_history.specs.declared.finish.Plan.{Plan as AnyPlan};
@@ -12,7 +12,7 @@ ghost use Rattle.stm_history.specs.Judgement.{IsIllegal};
 ghost use Rattle.stm_history.specs.Machine.{CanInstall, CanFinish, MovesTo};
 ghost use Rattle.stm_history.specs.Refusals.{submit_told, cancel_told, finish_told, deliver_error};
 ghost use Rattle.stm_history.specs.SlowDesk.{state, max_events};
-ghost use Rattle.stm_history.specs.Taken.{IsPresent};
+ghost use Rattle.stm_history.specs.JobsHandedOut.{IsPresent};
 
 use crate::errors::{CancelError, DeliverError, FinishError, SubmitError};
 use crate::event::{Event, What};
@@ -20,7 +20,7 @@ use crate::files::replayer::{MAX_EVENTS, Replayer};
 use crate::finish::Plan;
 use crate::machine::Machine;
 use crate::same::same_numbers;
-use stm_check::Script;
+use stm_check::SharedBlock;
 use stm_eval::Evaluated;
 use stm_store::Frozen;
 use stm_terms::NoMemory;
@@ -93,7 +93,7 @@ fn deliver_refused(error: DeliverError) -> StepError
 }
 
 /// The block is submitted, under the next ticket.
-fn submitted(machine: &mut Machine, ticket: u32, block: &Script) -> Result<(), StepError>
+fn submitted(machine: &mut Machine, ticket: u32, block: &SharedBlock) -> Result<(), StepError>
     requires { (T : List Declared) × (H : List AnyEvent) × HasRoom T H machine.old }
     ensures done { OnOk result ((T : List Declared) (H : List AnyEvent) → HasRoom T H machine.old → MovesTo T H (Submitted ticket block.now) machine.new) }
     ensures not_allowed { IsErrOf result StepError.NotAllowed → (T : List Declared) (H : List AnyEvent) → HasRoom T H machine.old → WhatIsIllegal T H (Submitted ticket block.now) }
@@ -179,10 +179,10 @@ fn finished(
 
 /// Whether the message may be installed, and brings this verdict.
 fn may_bring(machine: &Machine, message: &Evaluated, verdict: &Verdict) -> Result<(), StepError>
-    requires present { (T : List Declared) (H : List AnyEvent) → HasRoom T H machine.now → IsPresent (state T H) (told_ticket message.now) message.now }
+    requires present { (T : List Declared) (H : List AnyEvent) → HasRoom T H machine.now → IsPresent (state T H) (message_ticket message.now) message.now }
     ensures may { OnOk result ((T : List Declared) (H : List AnyEvent) → HasRoom T H machine.now → CanInstall T H machine.now message.now) }
-    ensures verdict { OnOk result (told_verdict message.now ≡ verdict.now) }
-    ensures not_allowed { IsErrOf result StepError.NotAllowed → (T : List Declared) (H : List AnyEvent) → HasRoom T H machine.now → WhatIsIllegal T H (Installed (told_ticket message.now) verdict.now) }
+    ensures verdict { OnOk result (message_verdict message.now ≡ verdict.now) }
+    ensures not_allowed { IsErrOf result StepError.NotAllowed → (T : List Declared) (H : List AnyEvent) → HasRoom T H machine.now → WhatIsIllegal T H (Installed (message_ticket message.now) verdict.now) }
 {
     if !message.verdict().same(verdict) {
         return Err(StepError::NotAllowed);
@@ -200,9 +200,9 @@ fn install_message(
     verdict: &Verdict,
 ) -> Result<(), StepError>
     requires room { (T : List Declared) × (H : List AnyEvent) × HasRoom T H machine.old }
-    requires present { (T : List Declared) (H : List AnyEvent) → HasRoom T H machine.old → IsPresent (state T H) (told_ticket message) message }
-    ensures done { OnOk result ((T : List Declared) (H : List AnyEvent) → HasRoom T H machine.old → MovesTo T H (Installed (told_ticket message) verdict.now) machine.new) }
-    ensures not_allowed { IsErrOf result StepError.NotAllowed → (T : List Declared) (H : List AnyEvent) → HasRoom T H machine.old → WhatIsIllegal T H (Installed (told_ticket message) verdict.now) }
+    requires present { (T : List Declared) (H : List AnyEvent) → HasRoom T H machine.old → IsPresent (state T H) (message_ticket message) message }
+    ensures done { OnOk result ((T : List Declared) (H : List AnyEvent) → HasRoom T H machine.old → MovesTo T H (Installed (message_ticket message) verdict.now) machine.new) }
+    ensures not_allowed { IsErrOf result StepError.NotAllowed → (T : List Declared) (H : List AnyEvent) → HasRoom T H machine.old → WhatIsIllegal T H (Installed (message_ticket message) verdict.now) }
 {
     match may_bring(machine, &message, verdict) {
         Ok(()) => match machine.install(message) {

@@ -5,7 +5,7 @@ ghost use Rattle.serde_json.specs.View.{view};
 ghost use Rattle.stm_history.specs.declared.event.Event.{Event as AnyEvent};
 ghost use Rattle.stm_store.specs.Tables.{Declared};
 ghost use Rattle.stm_history.specs.Fields.{block_of_text};
-ghost use Rattle.stm_history.specs.Fields.{event_of as event_meant, what_of as what_meant, client_of, submitted_of, installed_of, finished_of, number_field, declared_of as variable_meant, type_in as type_meant, text_field};
+ghost use Rattle.stm_history.specs.Fields.{event_of as event_meant, what_of as what_meant, client_of, submitted_of, installed_of, finished_of, number_field, declared_from_json as variable_meant, type_in as type_meant, text_field};
 ghost use Rattle.stm_history.specs.Fits.{Is32Bit, FitsTable, WhatFitsTable, FitsValue, FitsVariable};
 ghost use Rattle.stm_history.specs.Lines.{format_1, event_line, header_line, variable_line};
 ghost use Rattle.stm_history.specs.Variables.{declared};
@@ -19,7 +19,7 @@ use crate::lines::write::{event_text, header_text, variable_text};
 use crate::tickets::Tickets;
 use serde_json::Value as Json;
 use std::alloc::Global;
-use stm_check::{Script, TypeFault, check};
+use stm_check::{SharedBlock, TypeFault, check};
 use stm_parse::{ParseFault, parse_block};
 use stm_store::Table;
 use stm_terms::kinds::Ty;
@@ -45,7 +45,7 @@ impl From<NoMemory> for LineError {
 
 /// The block that a text is, by the table; none where it has a fault.
 #[tactic(auto, unfolding(stm_check::specs::WholeBlocks::checked_block))]
-fn block_of(alloc: Global, table: &Table, text: &str) -> Result<Option<Script>, NoMemory>
+fn block_of(alloc: Global, table: &Table, text: &str) -> Result<Option<SharedBlock>, NoMemory>
     ensures { IfOk result (λ o. o ≡ block_of_text table.now text.now) }
 {
     let raw = match parse_block(alloc, text) {
@@ -54,7 +54,7 @@ fn block_of(alloc: Global, table: &Table, text: &str) -> Result<Option<Script>, 
         Err(_) => return Ok(None),
     };
     match check(alloc, table, raw) {
-        Ok(block) => Ok(Some(Script::new(alloc, block)?)),
+        Ok(block) => Ok(Some(SharedBlock::new(alloc, block)?)),
         Err(TypeFault::NoMemory) => Err(NoMemory),
         Err(_) => Ok(None),
     }

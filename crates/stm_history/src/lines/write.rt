@@ -9,13 +9,18 @@ use crate::event::{Event, What};
 use crate::lines::build::{numbers_json, type_text, value_json, verdict_json};
 use serde_json::{Value as Json, json};
 use std::alloc::Global;
-use stm_check::Script;
+use stm_check::SharedBlock;
 use stm_terms::NoMemory;
 use stm_terms::kinds::Ty;
 use stm_terms::values::Value;
 use stm_terms::verdicts::Verdict;
 
-fn submitted_json(alloc: Global, client: u32, ticket: u32, block: &Script) -> Result<Json, NoMemory>
+fn submitted_json(
+    alloc: Global,
+    client: u32,
+    ticket: u32,
+    block: &SharedBlock,
+) -> Result<Json, NoMemory>
     ensures { IfOk result (λ v. view v ≡ what_data client (Submitted ticket block.now)) }
 {
     json!(in alloc; {"block": block.block().text(), "client": client, "event": "submitted", "ticket": ticket})

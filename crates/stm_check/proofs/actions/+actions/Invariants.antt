@@ -1,5 +1,5 @@
 use Rattle.std.proofs.Common.{◌+◌, ◌*◌}
-use Rattle.stm_terms.specs.RawTrees.{raw_act_of, actions}
+use Rattle.stm_terms.specs.ParsedAst.{raw_act_of, actions}
 use Rattle.stm_check.proofs.actions.+actions.Given as goal
 
 abbrev pub decreases-check_action : goal.decreases-check_action

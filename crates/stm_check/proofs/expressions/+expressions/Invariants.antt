@@ -1,6 +1,6 @@
 -- An operator stands between an expression and its operands.
 use Rattle.std.proofs.Common.{◌+◌, ◌*◌}
-use Rattle.stm_terms.specs.RawTrees.{raw_term_of}
+use Rattle.stm_terms.specs.ParsedAst.{raw_term_of}
 use Rattle.stm_check.proofs.Sizes.{operators}
 use Rattle.stm_check.proofs.expressions.+expressions.Given as goal
 

@@ -1,4 +1,4 @@
-use Rattle.stm_check.proofs.Soundness.{every_verdict_fits}
+use Rattle.stm_check.proofs.TypingLaws.{every_verdict_fits}
 use Rattle.stm_check.proofs.laws.verdict_fits.Goals as goal
 
 pub returns : goal.returns

@@ -1,5 +1,5 @@
 use Rattle.std.proofs.Common.{◌≡◌, ◌+◌, drop}
-use Rattle.stm_console.specs.Judged.{blanks_len}
+use Rattle.stm_console.specs.LineClass.{blanks_len}
 use Rattle.stm_console.proofs.judging.blanks_len.Given as goal
 
 abbrev pub invariant-loop-at : goal.invariant-loop-at

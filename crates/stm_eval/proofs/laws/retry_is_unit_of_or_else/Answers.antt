@@ -1,4 +1,4 @@
-use Rattle.stm_eval.proofs.Choices.{left_unit, right_unit}
+use Rattle.stm_eval.proofs.OrElseLaws.{left_unit, right_unit}
 use Rattle.stm_eval.proofs.laws.retry_is_unit_of_or_else.Goals as goal
 
 pub returns : goal.returns

@@ -1,4 +1,4 @@
-use Rattle.stm_eval.proofs.Uses.{from_store}
+use Rattle.stm_eval.proofs.FragmentsAndStores.{from_store}
 use Rattle.stm_eval.proofs.laws.store_to_fragment.Goals as goal
 
 pub returns : goal.returns

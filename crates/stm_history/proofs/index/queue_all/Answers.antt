@@ -2,8 +2,8 @@ use Rattle.std.proofs.Common.{ℕ, ◌≡◌, ◌+◌, ◌∙◌, List, ◌∷�
 use Rattle.std.specs.List.{list_any}
 use Rattle.std.proofs.lemmas.List.{at_drop_more}
 use Rattle.stm_queue.specs.Queue.{has_ticket}
-use Rattle.stm_queue.specs.Rising.{IsRising}
-use Rattle.stm_history.specs.Marks.{with_tickets}
+use Rattle.stm_queue.specs.SortedTickets.{IsRising}
+use Rattle.stm_history.specs.QueueAndIndex.{with_tickets}
 use Rattle.stm_history.proofs.Rises.{queue_next, next_rising}
 use Rattle.stm_history.proofs.index.queue_all.Goals as goal
 

@@ -2,8 +2,8 @@ use Rattle.std.proofs.Common.{◌≡◌, ℕ, ◌+◌, ◌≤◌, true, false, l
 use Rattle.std.specs.Prelude.{nat_eq}
 use Rattle.std.specs.List.{list_any}
 use Rattle.stm_queue.specs.Queue.{has_ticket}
-use Rattle.stm_queue.specs.Rising.{IsRising}
-use Rattle.stm_history.specs.Marks.{with_tickets}
+use Rattle.stm_queue.specs.SortedTickets.{IsRising}
+use Rattle.stm_history.specs.QueueAndIndex.{with_tickets}
 use Rattle.stm_history.proofs.index.queue_all.Given as goal
 
 abbrev pub invariant-loop-ticket : goal.invariant-loop-ticket

@@ -1,6 +1,6 @@
 use Rattle.std.proofs.Common.{◌≡◌, map, take}
 use Rattle.stm_queue.specs.Queue.{queued}
-use Rattle.stm_history.specs.Taken.{AreKept}
+use Rattle.stm_history.specs.JobsHandedOut.{AreKept}
 use Rattle.stm_history.proofs.queue_moves.jobs_of.Given as goal
 
 abbrev pub invariant-loop-i : goal.invariant-loop-i

@@ -1,6 +1,6 @@
 use Rattle.std.proofs.Common.{◌∙◌, ◌-◌, ◌+◌, ap, Option, ℕ}
 use Rattle.stm_queue.specs.Queue.{sent_out}
-use Rattle.stm_history.specs.Taken.{sent}
+use Rattle.stm_history.specs.JobsHandedOut.{sent}
 use Rattle.stm_history.proofs.Taking.{sent_more}
 use Rattle.stm_history.proofs.queue_moves.send_out.Goals as goal
 

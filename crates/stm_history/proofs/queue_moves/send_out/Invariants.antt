@@ -1,5 +1,5 @@
 use Rattle.std.proofs.Common.{◌≡◌, ◌-◌}
-use Rattle.stm_history.specs.Taken.{sent}
+use Rattle.stm_history.specs.JobsHandedOut.{sent}
 use Rattle.stm_history.proofs.queue_moves.send_out.Given as goal
 
 abbrev pub invariant-loop : goal.invariant-loop

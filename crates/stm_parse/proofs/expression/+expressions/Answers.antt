@@ -1,7 +1,7 @@
 -- One level or tier deeper, and one operator after another.
 use Rattle.std.proofs.Common.{arith}
-use Rattle.stm_parse.specs.Reading.{atom_at}
-use Rattle.stm_parse.proofs.Levels.{inside_none, inside_some, tier_zero, tier_more, tail_more}
+use Rattle.stm_parse.specs.Descent.{atom_at}
+use Rattle.stm_parse.proofs.DepthLevels.{inside_none, inside_some, tier_zero, tier_more, tail_more}
 use Rattle.stm_parse.proofs.expression.+expressions.Goals as goal
 
 pub atom-returns-then-levels-eq0-clause-gives : goal.atom-returns-then-levels-eq0-clause-gives

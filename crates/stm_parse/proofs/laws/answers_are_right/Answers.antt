@@ -1,4 +1,4 @@
-use Rattle.stm_parse.proofs.Exactly.{blocks_are_right, declarations_are_right}
+use Rattle.stm_parse.proofs.CallsExact.{blocks_are_right, declarations_are_right}
 use Rattle.stm_parse.proofs.laws.answers_are_right.Goals as goal
 
 pub returns-clause-blocks : goal.returns-clause-blocks

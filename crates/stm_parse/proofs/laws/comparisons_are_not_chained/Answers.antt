@@ -1,4 +1,4 @@
-use Rattle.stm_parse.proofs.Lawful.{comparisons_apart}
+use Rattle.stm_parse.proofs.GrammarLaws.{comparisons_apart}
 use Rattle.stm_parse.proofs.laws.comparisons_are_not_chained.Goals as goal
 
 pub returns : goal.returns

@@ -1,4 +1,4 @@
-use Rattle.stm_parse.proofs.Lawful.{conjunctions_right, disjunctions_right}
+use Rattle.stm_parse.proofs.GrammarLaws.{conjunctions_right, disjunctions_right}
 use Rattle.stm_parse.proofs.laws.conditions_group_to_the_right.Goals as goal
 
 pub returns-clause-both : goal.returns-clause-both

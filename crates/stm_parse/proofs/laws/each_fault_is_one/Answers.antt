@@ -1,8 +1,8 @@
 use Rattle.stm_parse.specs.Grammar.{IsBlock, IsDeclaration}
-use Rattle.stm_parse.specs.Reading.{block_reader, declaration_reader}
+use Rattle.stm_parse.specs.Descent.{block_reader, declaration_reader}
 use Rattle.stm_parse.proofs.OneFault.{one_fault}
-use Rattle.stm_parse.proofs.Types.{good_declaration}
-use Rattle.stm_parse.proofs.Whole.{good_block}
+use Rattle.stm_parse.proofs.TypeReaders.{good_declaration}
+use Rattle.stm_parse.proofs.WholeTextRead.{good_block}
 use Rattle.stm_parse.proofs.laws.each_fault_is_one.Goals as goal
 
 pub returns-clause-block : goal.returns-clause-block

@@ -1,4 +1,4 @@
-use Rattle.stm_parse.proofs.Lawful.{products_tightest, sums_tighter, comparisons_tighter, conjunctions_tighter}
+use Rattle.stm_parse.proofs.GrammarLaws.{products_tightest, sums_tighter, comparisons_tighter, conjunctions_tighter}
 use Rattle.stm_parse.proofs.laws.each_tier_binds_tighter_than_the_next.Goals as goal
 
 pub returns-clause-products : goal.returns-clause-products

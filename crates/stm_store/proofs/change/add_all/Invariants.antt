@@ -1,6 +1,6 @@
 use Rattle.std.proofs.Common.{◌≡◌, ◌+◌, ◌≤◌, ◌++◌, map, take, drop, length}
 use Rattle.stm_store.specs.Cells.{new_cell}
-use Rattle.stm_store.specs.Changes.{AreAddable}
+use Rattle.stm_store.specs.FreshReferences.{AreAddable}
 use Rattle.stm_store.proofs.change.add_all.Given as goal
 
 abbrev pub invariant-loop-kind : goal.invariant-loop-kind

@@ -1,7 +1,7 @@
 use Rattle.std.proofs.Common.{length, map, ap, ◌∙◌, arith}
 use Rattle.stm_store.specs.Cells.{new_cell, with_writes}
-use Rattle.stm_store.proofs.Soundness.{length-writes}
-use Rattle.stm_store.proofs.Stretched.{writes_here}
+use Rattle.stm_store.proofs.ApplyPreservesTyping.{length-writes}
+use Rattle.stm_store.proofs.RangeWriteLemmas.{writes_here}
 use Rattle.stm_store.proofs.change.add_and_write.Goals as goal
 
 pub returns-clause-ok : goal.returns-clause-ok

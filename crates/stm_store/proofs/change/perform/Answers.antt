@@ -1,4 +1,4 @@
-use Rattle.stm_store.proofs.Numbers.{writable, rising, addable, result_number}
+use Rattle.stm_store.proofs.FreshNumbersInRange.{writable, rising, addable, result_number}
 use Rattle.stm_store.proofs.change.perform.Goals as goal
 
 pub change-requires-clause-writable : goal.change-requires-clause-writable
@@ -18,8 +18,8 @@ change-requires-clause-addable c =
     let room = rw c.in-Commits.is at c.requires.room in
     rw c.as_slice-in-Commits.ensures (addable c.args.cells.now c.in-Commits.writes c.in-Commits.news c.in-Commits.result f room)
 
-pub settle-requires : goal.settle-requires
-settle-requires c =
+pub renumber-requires : goal.renumber-requires
+renumber-requires c =
     let f = rw c.in-Commits.is at c.requires.fits in
     let room = rw c.in-Commits.is at c.requires.room in
     rw c.len-first_new.ensures (result_number c.args.cells.now c.in-Commits.writes c.in-Commits.news c.in-Commits.result f room)

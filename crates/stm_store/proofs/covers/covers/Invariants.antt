@@ -1,6 +1,6 @@
 use Rattle.std.proofs.Common.{◌≡◌, drop}
 use Rattle.stm_store.specs.Cells.{plains}
-use Rattle.stm_store.specs.Suits.{covers_all}
+use Rattle.stm_store.specs.FitsDecision.{covers_all}
 use Rattle.stm_store.proofs.covers.covers.Given as goal
 
 abbrev pub invariant-loop-id : goal.invariant-loop-id

@@ -1,5 +1,5 @@
 use Rattle.std.proofs.Common.{◌≡◌, drop}
-use Rattle.stm_store.specs.Suits.{rise_from}
+use Rattle.stm_store.specs.FitsDecision.{rise_from}
 use Rattle.stm_store.proofs.fits.rise.Given as goal
 
 abbrev pub invariant-loop-id : goal.invariant-loop-id

@@ -5,10 +5,10 @@ use Rattle.stm_terms.specs.declared.values.Value.{Value}
 use Rattle.stm_terms.specs.declared.values.Value.TheVariants.{Int}
 use Rattle.stm_store.specs.declared.cell.Cell.{Cell}
 use Rattle.stm_store.specs.Pages.{contents, flatten}
-use Rattle.stm_store.specs.Stretches.{with_writes_from}
+use Rattle.stm_store.specs.RangeWrites.{with_writes_from}
 use Rattle.stm_store.proofs.Paged.{on_ok, on_err_of, length-flatten, within, vec-sizes}
-use Rattle.stm_store.proofs.Parted.{cut, parted-set, grouped}
-use Rattle.stm_store.proofs.Stretched.{before, from_first_write, first_write, starts_below, before_few, some_before, first_within, others_within, length-writes_from, writes_both, written_behind}
+use Rattle.stm_store.proofs.PageListSplit.{cut, parted-set, grouped}
+use Rattle.stm_store.proofs.RangeWriteLemmas.{before, from_first_write, first_write, starts_below, before_few, some_before, first_within, others_within, length-writes_from, writes_both, written_behind}
 use Rattle.stm_store.proofs.in_place.+write.Goals as goal
 
 either : {P : Type 0} → P ⊎ P → P

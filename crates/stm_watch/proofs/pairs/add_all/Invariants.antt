@@ -1,7 +1,7 @@
 use Rattle.std.proofs.Common.{◌≡◌, ℕ, drop}
 use Rattle.std.specs.Prelude.{◌&&◌, ◌||◌, not, nat_eq}
 use Rattle.std.specs.List.{list_any}
-use Rattle.stm_watch.specs.Keys.{lists}
+use Rattle.stm_watch.specs.PairList.{lists}
 use Rattle.stm_watch.proofs.pairs.add_all.Given as goal
 
 abbrev pub invariant-loop-variable : goal.invariant-loop-variable

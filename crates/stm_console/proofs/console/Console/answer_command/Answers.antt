@@ -1,5 +1,5 @@
 use Rattle.std.proofs.Common.{rules, string_bytes}
-use Rattle.stm_console.proofs.Opened.{is_open, answered_open, changed_open}
+use Rattle.stm_console.proofs.OpeningDoesNotMatter.{is_open, answered_open, changed_open}
 use Rattle.stm_console.proofs.console.Console.answer_command.Goals as goal
 
 pub answer_open-requires : goal.answer_open-requires

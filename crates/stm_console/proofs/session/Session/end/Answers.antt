@@ -3,7 +3,7 @@ use Rattle.std.proofs.KnownBytes.{Appends-nil}
 use Rattle.std.proofs.lemmas.Result.{err_from_is_err_and}
 use Rattle.std.specs.Io.KnownBytes.{Appends}
 use Rattle.stm_terms.specs.Texts.{IsPrefixOf}
-use Rattle.stm_console.proofs.Feeding.{rest_text-none, rest_text-last, no_bytes}
+use Rattle.stm_console.proofs.InputInParts.{rest_text-none, rest_text-last, no_bytes}
 use Rattle.stm_console.proofs.session.Session.end.Goals as goal
 
 pub returns-in_err-answer_line-clause-part : goal.returns-in_err-answer_line-clause-part

@@ -1,6 +1,6 @@
 use Rattle.std.proofs.lemmas.Result.{err_from_is_err_and}
 use Rattle.stm_console.specs.Console.{answer_to}
-use Rattle.stm_console.proofs.Feeding.{Continues-answered, IsPrefixOf-answer}
+use Rattle.stm_console.proofs.InputInParts.{Continues-answered, IsPrefixOf-answer}
 use Rattle.stm_console.proofs.session.Session.take_line_feed.Goals as goal
 
 pub returns-in_err-answer_line-clause-part : goal.returns-in_err-answer_line-clause-part

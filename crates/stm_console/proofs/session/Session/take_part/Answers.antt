@@ -1,5 +1,5 @@
 use Rattle.std.proofs.Common.{rules}
-use Rattle.stm_console.proofs.Feeding.{Continues-kept}
+use Rattle.stm_console.proofs.InputInParts.{Continues-kept}
 use Rattle.stm_console.proofs.session.Session.take_part.Goals as goal
 
 pub returns-in-Ok-clause-done : goal.returns-in-Ok-clause-done

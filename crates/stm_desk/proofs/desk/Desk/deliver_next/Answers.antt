@@ -1,7 +1,7 @@
 use Rattle.std.proofs.Common.{◌≡◌, ◌∙◌, ℕ, true, refl, sym, ap, subst}
-use Rattle.stm_queue.specs.Rising.{has}
+use Rattle.stm_queue.specs.SortedTickets.{member}
 use Rattle.stm_desk.specs.Seen.{Seen, now}
-use Rattle.stm_history.specs.Choices.{AreCandidates}
+use Rattle.stm_history.specs.SettleChoices.{AreCandidates}
 use Rattle.stm_desk.proofs.Turns.{stops_delivery, why_delivery, left_same, next_install, store_install}
 use Rattle.stm_desk.proofs.Ripe.{installed_candidates}
 use Rattle.stm_desk.proofs.desk.Desk.deliver_next.Goals as goal

@@ -1,6 +1,6 @@
 use Rattle.std.proofs.Common.{◌≡◌, Some, sym, subst}
 use Rattle.std.specs.Prelude.{IfOk}
-use Rattle.stm_history.specs.Choices.{next_due}
+use Rattle.stm_history.specs.SettleChoices.{next_due}
 use Rattle.stm_desk.specs.Seen.{Seen, now}
 use Rattle.stm_desk.specs.Steps.{IsDueMessage}
 use Rattle.stm_desk.proofs.Ripe.{due_waits, if_due}

@@ -2,7 +2,7 @@ use Rattle.std.proofs.Common.{◌≡◌, ◌∙◌, None, arith, sym, subst}
 use Rattle.stm_history.specs.SlowDesk.{Slow}
 use Rattle.stm_history.specs.SlowSettle.{lowest, is_due, can_end, next_what}
 use Rattle.stm_desk.specs.Seen.{Seen, now}
-use Rattle.stm_history.specs.Choices.{AreCandidates}
+use Rattle.stm_history.specs.SettleChoices.{AreCandidates}
 use Rattle.stm_desk.specs.Settling.{called_back, HasBegun, StopTold}
 use Rattle.stm_desk.specs.Steps.{WhyTold}
 use Rattle.stm_desk.proofs.Turns.{none_at}

@@ -14,7 +14,7 @@ invariant_of-self-2 c =
     let e = subst (λ (d : Seen). None ≡ submit_refusal d c.args.block) (sym c.self.view_is) c.in-Ok.ensures in
     rw (c.push_reserved.ensures.items, c.in_ok-reserve.ensures.items, c.in_ok-told.ensures)
     (kept_move _ _ _ _ c.self.invariant c.args.client _ _ c.requires (submit_full _ _ _ _ c.self.invariant c.args.block e)
-        (c.in_ok-ticket.ensures.moved c.self.inside.table c.self.inside.history.items (can_wait _ _ _ _ c.self.invariant c.args.block e)))
+    (c.in_ok-ticket.ensures.moved c.self.inside.table c.self.inside.history.items (can_wait _ _ _ _ c.self.invariant c.args.block e)))
 
 pub returns-clause-legal : goal.returns-clause-legal
 returns-clause-legal c = (invariant_of-self-2 c).stands.legal

@@ -1,4 +1,4 @@
-use Rattle.stm_eval.proofs.Uses.{to_store}
+use Rattle.stm_eval.proofs.FragmentsAndStores.{to_store}
 use Rattle.stm_eval.proofs.message.Evaluated.reads.Goals as goal
 
 pub returns-clause-holds : goal.returns-clause-holds

@@ -1,5 +1,5 @@
 use Rattle.std.proofs.Common.{◌≡◌, ◌∙◌, false, subst, sym}
-use Rattle.stm_history.specs.Choices.{some_out}
+use Rattle.stm_history.specs.SettleChoices.{some_out}
 use Rattle.stm_history.specs.Machine.{Parts, StandsFor}
 use Rattle.stm_history.proofs.Calls.{kept_rising}
 use Rattle.stm_history.proofs.Heads.{head_due, head_queued}

@@ -1,8 +1,8 @@
 use Rattle.std.proofs.Common.{◌≡◌, None, sym, subst}
 use Rattle.std.specs.Prelude.{IsSomeAnd}
-use Rattle.stm_eval.specs.Told.{told_ticket, told_block, told_reads, told_verdict}
-use Rattle.stm_eval.proofs.Uses.{to_store}
-use Rattle.stm_history.specs.SlowDesk.{waiter, state}
+use Rattle.stm_eval.specs.EvaluatedFields.{message_ticket, message_block, message_reads, message_verdict}
+use Rattle.stm_eval.proofs.FragmentsAndStores.{to_store}
+use Rattle.stm_history.specs.SlowDesk.{find_waiter, state}
 use Rattle.stm_history.specs.Entries.{kept_at}
 use Rattle.stm_history.specs.Machine.{Parts, CanInstall}
 use Rattle.stm_history.proofs.Calls.{lost}
@@ -14,9 +14,9 @@ hold-requires c = λ e.
     let T = c.requires.0 in let H = c.requires.1 in
     let m = c.args.message in
     let k = subst (λ (z : Parts). CanInstall T H z m) (sym c.self.view_is) c.requires.2 in
-    let f : kept_at (told_ticket m) c.self.inside.waiting ≡ None = rw (← c.ticket-ticket.ensures) e in
-    let n = lost (told_ticket m) c.self.inside.waiting _ k.stands.stands.entries_are f in
-    let s : IsSomeAnd (waiter (told_ticket m) (state T H).waiters) (λ w. w.block.tree ≡ (told_block m).tree) = k.same in
+    let f : kept_at (message_ticket m) c.self.inside.waiting ≡ None = rw (← c.ticket-ticket.ensures) e in
+    let n = lost (message_ticket m) c.self.inside.waiting _ k.stands.stands.entries_are f in
+    let s : IsSomeAnd (find_waiter (message_ticket m) (state T H).waiters) (λ w. w.block.tree ≡ (message_block m).tree) = k.same in
     rw n at s
 
 pub returns-in-Ok-clause-moved : goal.returns-in-Ok-clause-moved
@@ -24,4 +24,4 @@ returns-in-Ok-clause-moved c = λ T H h.
     let m = c.args.message in
     let k = subst (λ (z : Parts). CanInstall T H z m) (sym c.self.view_is) h in
     rw (c.hold.ensures, c.remove.ensures.gone, c.ticket-ticket.ensures, c.into_parts-reads.ensures.reads, c.into_parts-reads.ensures.verdict)
-    (moves_install T H _ _ m k (λ S a. to_store (told_block m).tree (told_reads m) (told_verdict m) S (record { defined = m.defined; all_read = m.all_read }) a) c.in-Ok.ensures.ok)
+    (moves_install T H _ _ m k (λ S a. to_store (message_block m).tree (message_reads m) (message_verdict m) S (record { defined = m.defined; all_read = m.all_read }) a) c.in-Ok.ensures.ok)

@@ -2,7 +2,7 @@ use Rattle.std.proofs.Common.{◌≡◌, ◌∙◌, true, false, List, [], Some,
 use Rattle.std.specs.Option.{option_copied}
 use Rattle.stm_store.specs.declared.cell.Cell.{Cell}
 use Rattle.stm_terms.specs.Typing.{action_type, kinds_in, result_type}
-use Rattle.stm_check.specs.Blocks.{Block}
+use Rattle.stm_check.specs.TypedBlock.{Block}
 use Rattle.stm_history.specs.SlowDesk.{state}
 use Rattle.stm_history.specs.Entries.{kept_at}
 use Rattle.stm_history.specs.Machine.{StandsFor}
@@ -94,8 +94,8 @@ returns-in-Ok-clause-plan c = λ T H h.
     let e : kept_at c.args.ticket c.self.inside.waiting ≡ Some c.in-Some.waiting.now = sym c.get.ensures ∙ ap option_copied c.in-Some.is in
     let p = has_held T H _ k c.args.ticket c.in-Some.waiting.now c.in-Some-held.held e c.in-Some-held.is in
     let q = is_fresh T H _ k c.args.ticket c.in-Some-held.held c.in-Some.waiting.now c.has.result p c.has.ensures c.if-has.false in
-    let a : action_type (kinds_in c.in-Some.waiting.now.block.uses) [] c.in-Some.waiting.now.block.tree ≡ Some (result_type c.in-Some.waiting.now.block.gives) =
-    subst (λ (b : Block). action_type (kinds_in b.uses) [] b.tree ≡ Some (result_type b.gives)) c.block.ensures c.action-action.ensures.typed in
+    let a : action_type (kinds_in c.in-Some.waiting.now.block.uses) [] c.in-Some.waiting.now.block.tree ≡ Some (result_type c.in-Some.waiting.now.block.result_type) =
+    subst (λ (b : Block). action_type (kinds_in b.uses) [] b.tree ≡ Some (result_type b.result_type)) c.block.ensures c.action-action.ensures.typed in
     is_plan T H _ k c.args.ticket c.in-Some-held.held c.in-Some.waiting.now _ p c.in-Ok.plan.verdict c.in-Ok.plan.first_new c.in-Ok.plan.stale
     q c.len-cells.ensures.typed a (sym c.blocks-2.ensures ∙ c.if-blocks.false) (sym c.overflows_store.ensures ∙ c.if-overflows_store.false)
     c.in-Ok.ensures.verdict c.in-Ok.ensures.first_new c.in-Ok.ensures.rising c.in-Ok.ensures.watchers

@@ -2,7 +2,7 @@ use Rattle.std.proofs.Common.{◌≡◌, ◌∙◌, Some, None, refl, sym, ap, s
 use Rattle.std.specs.Option.{option_copied}
 use Rattle.stm_history.specs.Entries.{kept_at}
 use Rattle.stm_history.specs.Machine.{StandsFor}
-use Rattle.stm_history.specs.SlowDesk.{waiter, state}
+use Rattle.stm_history.specs.SlowDesk.{find_waiter, state}
 use Rattle.stm_history.proofs.Calls.{lost}
 use Rattle.stm_history.proofs.Finishing.{has_held, no_held, present_reads}
 use Rattle.stm_history.proofs.Reading.{reads_are, reads_new, none_current, reads_now}
@@ -19,7 +19,7 @@ pub returns-in-None-clause-present : goal.returns-in-None-clause-present
 returns-in-None-clause-present c = λ T H w h f d.
     let k = subst (StandsFor T H) (sym c.self.view_is) h in
     let e : kept_at c.args.ticket c.self.inside.waiting ≡ None = sym c.get.ensures ∙ ap option_copied c.in-None.is in
-    let n : waiter c.args.ticket (state T H).waiters ≡ None = lost c.args.ticket c.self.inside.waiting _ k.stands.entries_are e in
+    let n : find_waiter c.args.ticket (state T H).waiters ≡ None = lost c.args.ticket c.self.inside.waiting _ k.stands.entries_are e in
     cc (n, f)
 
 pub returns-in-None-held-clause-then : goal.returns-in-None-held-clause-then

@@ -2,7 +2,7 @@ use Rattle.std.proofs.Common.{sym, subst}
 use Rattle.stm_history.proofs.Covered.{blocks_are_covered}
 use Rattle.stm_history.specs.SlowDesk.{state}
 use Rattle.stm_history.specs.Machine.{StandsFor}
-use Rattle.stm_history.specs.Taken.{AreJobs}
+use Rattle.stm_history.specs.JobsHandedOut.{AreJobs}
 use Rattle.stm_history.proofs.Delivery.{requeued}
 use Rattle.stm_history.proofs.Taking.{queued_wait, has_sent, are_jobs, are_covered}
 use Rattle.stm_history.proofs.machine.Machine.take.Goals as goal

@@ -1,7 +1,7 @@
 use Rattle.std.proofs.Common.{ℕ, ◌∙◌, pos, arith, length-set}
 use Rattle.stm_terms.specs.declared.values.Value.{Value}
 use Rattle.stm_terms.specs.declared.values.Value.TheVariants.{Int}
-use Rattle.stm_store.proofs.Stretched.{at_within, rest_within, write_step}
+use Rattle.stm_store.proofs.RangeWriteLemmas.{at_within, rest_within, write_step}
 use Rattle.stm_store.proofs.page.Page.write.Goals as goal
 
 pub loop-id-preserved : goal.loop-id-preserved

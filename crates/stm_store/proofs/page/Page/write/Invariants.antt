@@ -1,5 +1,5 @@
 use Rattle.std.proofs.Common.{◌≡◌, ◌+◌, drop, length}
-use Rattle.stm_store.specs.Stretches.{AreWithin, with_writes_from}
+use Rattle.stm_store.specs.RangeWrites.{AreWithin, with_writes_from}
 use Rattle.stm_store.proofs.page.Page.write.Given as goal
 
 abbrev pub invariant-loop-id : goal.invariant-loop-id

@@ -1,4 +1,4 @@
-use Rattle.stm_store.proofs.Soundness.{kept_store}
+use Rattle.stm_store.proofs.ApplyPreservesTyping.{kept_store}
 use Rattle.stm_store.proofs.store.Store.apply.Goals as goal
 
 pub invariant_of-self-2 : goal.invariant_of-self-2

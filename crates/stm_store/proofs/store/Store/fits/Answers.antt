@@ -1,6 +1,6 @@
 use Rattle.std.proofs.Common.{sym, ◌∙◌}
 use Rattle.stm_store.specs.Cells.{plains}
-use Rattle.stm_store.proofs.Fitting.{fits_from, fits_to}
+use Rattle.stm_store.proofs.FitsDecided.{fits_from, fits_to}
 use Rattle.stm_store.proofs.store.Store.fits.Goals as goal
 
 pub returns : goal.returns

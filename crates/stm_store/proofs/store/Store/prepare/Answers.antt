@@ -1,4 +1,4 @@
-use Rattle.stm_store.proofs.Soundness.{kept_store}
+use Rattle.stm_store.proofs.ApplyPreservesTyping.{kept_store}
 use Rattle.stm_store.proofs.store.Store.prepare.Goals as goal
 
 pub invariant_of-result : goal.invariant_of-result

@@ -1,0 +1,74 @@
+//! The check of a whole block.
+
+ghost use Rattle.std.specs.Prelude.{◌≡◌, ◌≤◌, ◌^◌, [], IfOk, string_bytes, length};
+ghost use Rattle.std.specs.Str.{IsAscii};
+ghost use Rattle.stm_terms.specs.ParsedAst.{raw_act_of, SpansWithin, actions};
+ghost use Rattle.stm_terms.specs.Ast.{act_of};
+ghost use Rattle.stm_terms.specs.Typing.{result_type, uses_of};
+ghost use Rattle.stm_check.specs.CheckFunction.{ChecksAs, checked, table_kinds};
+
+use crate::actions::check_action;
+use crate::fault::TypeFault;
+use crate::scope::{Names, Scope};
+use crate::typed::Typed;
+use std::alloc::Global;
+use stm_parse::Raw;
+use stm_store::Table;
+use stm_terms::action::Action;
+use stm_terms::kinds::Ty;
+use stm_terms::raw::RawAction;
+
+/// The check of the tree of a text: the tree, the type of its result, and the variables that it names.
+fn check_tree(
+    alloc: Global,
+    table: &Table,
+    text: &str,
+    raw: &RawAction,
+) -> Result<(Action, Option<Ty>, Vec<(u32, Ty)>), TypeFault>
+    requires ascii { IsAscii text.now }
+    requires spans { SpansWithin (length text.now) (raw_act_of raw.now) }
+    requires small { actions (raw_act_of raw.now) ≤ 2 ^ 32 }
+    ensures says { ChecksAs (λ r. (act_of r.0, result_type r.1)) result (checked table.now text.now [] (raw_act_of raw.now)) }
+    ensures uses { IfOk result (λ r. r.2.items ≡ uses_of (table_kinds table.now) (act_of r.0)) }
+{
+    let mut uses = Vec::new(alloc);
+    let names = Names {
+        table,
+        text,
+        locals: &Scope::Empty,
+    };
+    let (action, kind) = check_action(alloc, &names, &mut uses, raw)?;
+    Ok((action, kind, uses))
+}
+
+/// The check of a text, which the block keeps, and its tree.
+pub(crate) fn check_raw(
+    alloc: Global,
+    table: &Table,
+    text: String,
+    raw: &RawAction,
+) -> Result<Typed, TypeFault>
+    requires ascii { IsAscii (string_bytes text) }
+    requires spans { SpansWithin (length (string_bytes text)) (raw_act_of raw.now) }
+    requires small { actions (raw_act_of raw.now) ≤ 2 ^ 32 }
+    ensures says { ChecksAs (λ t. (t.tree, result_type t.result_type)) result (checked table.now (string_bytes text) [] (raw_act_of raw.now)) }
+    ensures uses { IfOk result (λ t. t.uses ≡ uses_of (table_kinds table.now) t.tree) }
+    ensures text { IfOk result (λ t. t.text ≡ string_bytes text) }
+{
+    let (action, kind, uses) = check_tree(alloc, table, text.as_str(), raw)?;
+    Ok(Typed::of_checked(action, text, kind, uses))
+}
+
+/// The block of a parsed text, well typed, or the first fault from left to right.
+///
+/// Names are resolved: a local has its number, counted from 0 and from the outermost, and a declared variable its number
+/// in the table. Where locals have one name, the innermost is meant; a local hides a declared variable (docs/LANGUAGE.md,
+/// "Types"). The fault is the one of docs/LANGUAGE.md, "Type faults"; `NoMemory` stands where memory ran out.
+pub fn check(alloc: Global, table: &Table, raw: Raw) -> Result<Typed, TypeFault>
+    ensures says { ChecksAs (λ t. (t.tree, result_type t.result_type)) result (checked table.now raw.text [] raw.tree) }
+    ensures uses { IfOk result (λ t. t.uses ≡ uses_of (table_kinds table.now) t.tree) }
+    ensures text { IfOk result (λ t. t.text ≡ raw.text) }
+{
+    let (text, action) = raw.into_parts();
+    check_raw(alloc, table, text, &action)
+}

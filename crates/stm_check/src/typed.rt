@@ -1,0 +1,183 @@
+//! Blocks that are well typed.
+
+ghost use Rattle.std.specs.Prelude.{◌≡◌, ◌≤◌, ◌^◌, ◌↔◌, ◌&&◌, [], Some, IfOk, IsTrue, string_bytes};
+ghost use Rattle.stm_terms.specs.Ast.{act_of};
+ghost use Rattle.stm_terms.specs.Typing.{action_type, result_type as type_of_result, kinds_in, makes};
+
+use std::alloc::Global;
+use std::marker::Model;
+use std::sync::Arc;
+use stm_terms::NoMemory;
+use stm_terms::action::Action;
+use stm_terms::kinds::Ty;
+
+fn same_text(one: &str, other: &str) -> bool
+    ensures { IsTrue result ↔ (one.now ≡ other.now) }
+{
+    one == other
+}
+
+fn same_result(one: Option<Ty>, other: Option<Ty>) -> bool
+    ensures { IsTrue result ↔ (one ≡ other) }
+{
+    one == other
+}
+
+fn same_uses(one: &[(u32, Ty)], other: &[(u32, Ty)]) -> bool
+    ensures { IsTrue result ↔ (one.now ≡ other.now) }
+{
+    match (one, other) {
+        ([], []) => true,
+        ([(i, kind), rest @ ..], [(j, other_kind), others @ ..]) => {
+            *i == *j && *kind == *other_kind && same_uses(rest, others)
+        }
+        _ => false,
+    }
+}
+
+fn all(first: bool, second: bool, third: bool, fourth: bool) -> bool
+    ensures { result ≡ (first && second) && (third && fourth) }
+{
+    (first && second) && (third && fourth)
+}
+
+/// A well typed block, with its text, the type of its result, none for any, and the variables that it names with their
+/// types, in order of first appearance.
+#[derive(Drop)]
+pub struct Typed {
+    action: Action,
+    text: String,
+    result_type: Option<Ty>,
+    uses: Vec<(u32, Ty)>,
+}
+
+impl Model for Typed {
+    ghost use Rattle.std.specs.Prelude.{◌≡◌, ◌≤◌, ◌^◌, [], Some, string_bytes};
+    ghost use Rattle.std.specs.Coded.{codes};
+    ghost use Rattle.stm_terms.specs.TreeEncoding.{act_code};
+    ghost use Rattle.stm_terms.specs.Ast.{act_of};
+    ghost use Rattle.stm_terms.specs.Typing.{action_type, kinds_in, makes, result_type as type_of_result};
+    ghost use Rattle.stm_check.specs.TypedBlock.{Block};
+
+    ghost Value = { Block };
+
+    ghost coded = { Prim.hlevel (codes, act_code) };
+
+    ghost view = { λ b. record { tree = act_of b.action; text = string_bytes b.text; result_type = b.result_type; uses = b.uses.items } };
+
+    ghost invariant = { λ b. (action_type (kinds_in b.uses.items) [] (act_of b.action) ≡ Some (type_of_result b.result_type)) × (makes (act_of b.action) ≤ 2 ^ 32) };
+}
+
+impl Typed {
+    /// A block that has been checked.
+    pub(crate) fn of_checked(
+        action: Action,
+        text: String,
+        result_type: Option<Ty>,
+        uses: Vec<(u32, Ty)>,
+    ) -> Typed
+        requires typed { action_type (kinds_in uses.items) [] (act_of action) ≡ Some (type_of_result result_type) }
+        requires small { makes (act_of action) ≤ 2 ^ 32 }
+        ensures { result ≡ record { tree = act_of action; text = string_bytes text; result_type = result_type; uses = uses.items } }
+    {
+        Typed {
+            action,
+            text,
+            result_type,
+            uses,
+        }
+    }
+
+    /// What the block does.
+    pub fn action(&self) -> &Action
+        ensures action { act_of result.now ≡ self.now.tree }
+        ensures typed { action_type (kinds_in self.now.uses) [] self.now.tree ≡ Some (type_of_result self.now.result_type) }
+        ensures small { makes self.now.tree ≤ 2 ^ 32 }
+    {
+        &self.action
+    }
+
+    /// The text that it was written in.
+    pub fn text(&self) -> &str
+        ensures { result.now ≡ self.now.text }
+    {
+        self.text.as_str()
+    }
+
+    /// The type of its result; none where it never returns.
+    pub fn result(&self) -> Option<Ty>
+        ensures { result ≡ self.now.result_type }
+    {
+        self.result_type
+    }
+
+    /// The variables that it names, with their types, in order of first appearance.
+    pub fn uses(&self) -> &[(u32, Ty)]
+        ensures { result.now ≡ self.now.uses }
+    {
+        self.uses.as_slice()
+    }
+
+    /// Whether two blocks are one: in tree, text, type of the result, and variables.
+    pub fn same(&self, other: &Typed) -> bool
+        ensures { IsTrue result ↔ (self.now ≡ other.now) }
+    {
+        let trees = self.action.same(&other.action);
+        let texts = same_text(&self.text, &other.text);
+        let results = same_result(self.result_type, other.result_type);
+        let uses = same_uses(&self.uses, &other.uses);
+        all(trees, texts, results, uses)
+    }
+
+    /// Whether two blocks have one tree.
+    pub fn same_tree(&self, other: &Typed) -> bool
+        ensures { IsTrue result ↔ (self.now.tree ≡ other.now.tree) }
+    {
+        self.action.same(&other.action)
+    }
+}
+
+/// A block that many may hold. Contracts see the block.
+#[derive(Drop)]
+pub struct SharedBlock {
+    block: Arc<Typed, Global>,
+}
+
+impl Model for SharedBlock {
+    ghost use Rattle.std.specs.Coded.{codes};
+    ghost use Rattle.stm_terms.specs.TreeEncoding.{act_code};
+    ghost use Rattle.stm_check.specs.TypedBlock.{Block};
+
+    ghost Value = { Block };
+
+    ghost coded = { Prim.hlevel (codes, act_code) };
+
+    ghost view = { λ s. s.block.value };
+}
+
+impl SharedBlock {
+    /// Puts a block where many may hold it.
+    pub fn new(alloc: Global, block: Typed) -> Result<SharedBlock, NoMemory>
+        ensures { IfOk result (λ s. s ≡ block) }
+    {
+        Ok(SharedBlock {
+            block: Arc::new(alloc, block)?,
+        })
+    }
+
+    /// One more hold on the same block.
+    pub fn share(&self) -> Result<SharedBlock, NoMemory>
+        ensures { IfOk result (λ s. s ≡ self.now) }
+    {
+        Ok(SharedBlock {
+            block: Arc::try_clone(&self.block)?,
+        })
+    }
+
+    /// The block.
+    pub fn block(&self) -> &Typed
+        ensures { result.now ≡ self.now }
+    {
+        &*self.block
+    }
+}

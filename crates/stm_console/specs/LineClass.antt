@@ -1,0 +1,49 @@
+-- How a line is judged before a command sees it.
+use Rattle.std.specs.Prelude.{ℕ, Bool, List, [], ◌∷◌, ◌==◌, ◌||◌, nat_lt, nat_eq, if◌then◌else◌, codes, length, take, drop, ◌+◌}
+use Rattle.std.specs.List.{list_any, starts_with}
+
+-- tab, line feed, carriage return and space
+abbrev pub is_line_blank : ℕ → Bool
+is_line_blank b = nat_eq b 32 || nat_eq b 9 || nat_eq b 10 || nat_eq b 13
+
+-- how many blanks a text begins with
+abbrev pub blanks_len : List ℕ → ℕ
+blanks_len [] = 0
+blanks_len (b ∷ bs) = if is_line_blank b then blanks_len bs + 1 else 0
+
+-- how many bytes stand before the first blank
+abbrev pub command_len : List ℕ → ℕ
+command_len [] = 0
+command_len (b ∷ bs) = if is_line_blank b then 0 else command_len bs + 1
+
+-- the text after the blanks that it begins with
+unfoldable pub skip_blanks : List ℕ → List ℕ
+skip_blanks text = drop (blanks_len text) text
+
+-- a comment begins with two dashes
+unfoldable pub starts_comment : List ℕ → Bool
+starts_comment text = starts_with nat_eq text (codes "--")
+
+-- a byte that is no ASCII character
+abbrev pub has_high_byte : List ℕ → Bool
+has_high_byte line = list_any (λ b. nat_lt 127 b) line
+
+-- a line is too long, prints nothing, has a byte that isn't ASCII, or is a command word with its argument
+pub data LineClass : Type 0 where
+  TooLong : LineClass
+  Silent : LineClass
+  NotAscii : LineClass
+  Words : List ℕ → List ℕ → LineClass
+
+-- the command word, up to the next blank or the end, and the argument after the blanks that follow it
+unfoldable pub class_of_words : List ℕ → LineClass
+class_of_words text = Words (take (command_len text) text) (skip_blanks (drop (command_len text) text))
+
+-- the first that holds: more than 65,536 bytes; a comment, or blanks alone; a byte over 127; and else two words
+unfoldable pub line_class : List ℕ → LineClass
+line_class line =
+    if nat_lt 65536 (length line) then TooLong
+    else if starts_comment line then Silent
+    else if length (skip_blanks line) == 0 then Silent
+    else if has_high_byte line then NotAscii
+    else class_of_words (skip_blanks line)

@@ -1,0 +1,24 @@
+//! Blocks from their texts.
+
+ghost use Rattle.std.specs.Prelude.{◌≡◌, IfOk};
+ghost use Rattle.stm_store.specs.Cells.{Covers, plains};
+ghost use Rattle.stm_store.specs.Tables.{opened};
+ghost use Rattle.stm_console.specs.Commands.{compiled_block};
+ghost use Rattle.stm_console.specs.Refusals.{AnswersAs};
+
+use crate::refusal::Refusal;
+use std::alloc::Global;
+use stm_check::{Typed, check};
+use stm_parse::parse_block;
+use stm_store::Table;
+
+/// The block of a text. The store that opens on the table has the variables that it names.
+#[tactic(auto, using(crate::proofs::UsesAreCovered::opened_covers), unfolding(crate::specs::Commands::compiled_block))]
+pub fn compile_block(alloc: Global, table: &Table, text: &str) -> Result<Typed, Refusal>
+    ensures block { AnswersAs (λ b. b.tree) result (compiled_block table.now text.now) }
+    ensures covered { IfOk result (λ b. Covers (plains (opened table.now)) b.uses) }
+{
+    let raw = parse_block(alloc, text)?;
+    let block = check(alloc, table, raw)?;
+    Ok(block)
+}

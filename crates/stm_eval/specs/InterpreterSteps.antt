@@ -1,0 +1,46 @@
+-- The evaluator's answers by the definitions.
+use Rattle.std.specs.Prelude.{ℕ, ◌+◌, suc, List, []}
+use Rattle.stm_terms.specs.declared.values.Value.{Value}
+use Rattle.stm_terms.specs.Ast.{Act, if_else, or_else, bind, let_in, seq, act_of}
+use Rattle.stm_terms.specs.Typing.{makes}
+use Rattle.stm_terms.specs.Changes.{Variables, Changes}
+use Rattle.stm_terms.specs.Semantics as meaning
+use Rattle.stm_terms.specs.ReadSet.{looks}
+use Rattle.stm_eval.specs.declared.outcome.Outcome.{Outcome}
+use Rattle.stm_eval.specs.declared.outcome.Outcome.TheVariants.{Returned, Threw, Retried}
+use Rattle.stm_eval.specs.declared.outcome.Step.{Step}
+use Rattle.stm_eval.specs.declared.outcome.Step.TheVariants.{On, Ended}
+
+-- only a return keeps what the log's top frame has
+abbrev pub outcome : Outcome → Changes → meaning.Outcome
+outcome (Returned v) h = meaning.Returned v h
+outcome (Threw f) h = meaning.Threw f
+outcome Retried h = meaning.Retried
+
+-- how what is left ends
+abbrev pub outcome_left : Variables → Step → List Value → Changes → meaning.Outcome
+outcome_left under (On rest) locals h = meaning.run under (act_of rest.now) locals h
+outcome_left under (Ended e) locals h = outcome e h
+
+-- what is left to be read
+abbrev pub looks_left : Variables → Step → List Value → Changes → List ℕ
+looks_left under (On rest) locals h = looks under (act_of rest.now) locals h
+looks_left under (Ended e) locals h = []
+
+-- how many cells what is left may make
+abbrev pub makes_left : Step → ℕ
+makes_left (On rest) = makes (act_of rest.now)
+makes_left (Ended e) = 0
+
+-- how many actions stand in an action
+abbrev pub size : Act → ℕ
+size (if_else e a b) = suc (size a + size b)
+size (or_else a b) = suc (size a + size b)
+size (bind a b) = suc (size a + size b)
+size (let_in e b) = suc (size b)
+size (seq a b) = suc (size a + size b)
+size a = 1
+
+abbrev pub size_left : Step → ℕ
+size_left (On rest) = size (act_of rest.now)
+size_left (Ended e) = 0

@@ -1,0 +1,89 @@
+//! Messages made and read.
+
+ghost use Rattle.std.specs.Prelude.{◌≡◌, Some, IfOk, IfErr};
+ghost use Rattle.stm_terms.specs.ReadSet.{reads_of};
+ghost use Rattle.stm_terms.specs.Verdict.{verdict};
+ghost use Rattle.stm_terms.specs.Changes.{Variables, cell_value};
+ghost use Rattle.stm_store.specs.Cells.{Covers};
+ghost use Rattle.stm_eval.specs.Messages.{Agrees, Holds};
+ghost use Rattle.stm_eval.specs.EvaluatedFields.{message_ticket, message_block, message_reads, message_verdict};
+
+use crate::block::try_block;
+use crate::job::Job;
+use crate::message::Evaluated;
+use std::alloc::Global;
+use stm_check::SharedBlock;
+use stm_log::Reads;
+use stm_store::Frozen;
+use stm_terms::NoMemory;
+use stm_terms::verdicts::Verdict;
+
+/// Evaluates a block on a store that has the variables which it names. After `NoMemory` the job is as it was.
+pub fn evaluate(alloc: Global, job: Job, frozen: &Frozen) -> Result<Evaluated, (Job, NoMemory)>
+    requires { Covers frozen.now job.block.uses }
+    ensures job { IfOk result (λ m. (message_ticket m ≡ job.ticket) × (message_block m ≡ job.block)) }
+    ensures verdict { IfOk result (λ m. verdict (cell_value frozen.now) job.block.tree ≡ Some (message_verdict m)) }
+    ensures reads { IfOk result (λ m. message_reads m ≡ reads_of (cell_value frozen.now) job.block.tree) }
+    ensures refused { IfErr result (λ e. e.0 ≡ job) }
+{
+    match try_block(alloc, frozen, job.block.block()) {
+        Ok((verdict, reads)) => {
+            let Job { ticket, block } = job;
+            Ok(Evaluated {
+                ticket,
+                block,
+                reads,
+                verdict,
+            })
+        }
+        Err(refused) => Err((job, refused)),
+    }
+}
+
+impl Evaluated {
+    /// The ticket that was evaluated.
+    pub fn ticket(&self) -> u32
+        ensures { result ≡ message_ticket self.now }
+    {
+        self.ticket
+    }
+
+    /// The block that was evaluated.
+    pub fn block(&self) -> &SharedBlock
+        ensures { result.now ≡ message_block self.now }
+    {
+        &self.block
+    }
+
+    /// The variables that the block read, rising, with the values that they had. On variables with these values the block
+    /// reads the same, and its verdict is the message's.
+    pub fn reads(&self) -> &Reads
+        ensures value { result.now ≡ message_reads self.now }
+        ensures holds { (S : Variables) → Agrees (message_reads self.now) S → Holds (message_block self.now).tree S (message_reads self.now) (message_verdict self.now) }
+    {
+        &self.reads
+    }
+
+    /// The verdict, which is the block's on all variables that have the values which it read.
+    pub fn verdict(&self) -> &Verdict
+        ensures value { result.now ≡ message_verdict self.now }
+        ensures holds { (S : Variables) → Agrees (message_reads self.now) S → Holds (message_block self.now).tree S (message_reads self.now) (message_verdict self.now) }
+    {
+        &self.verdict
+    }
+
+    /// What the block read, and its verdict.
+    pub fn into_parts(self) -> (Reads, Verdict)
+        ensures reads { result.0 ≡ message_reads self }
+        ensures verdict { result.1 ≡ message_verdict self }
+    {
+        (self.reads, self.verdict)
+    }
+
+    /// The verdict alone.
+    pub fn into_verdict(self) -> Verdict
+        ensures { result ≡ message_verdict self }
+    {
+        self.verdict
+    }
+}

@@ -1,0 +1,158 @@
+-- What a good reader answers for a text is right.
+use Rattle.std.proofs.Common.{◌≡◌, ◌≢◌, ℕ, zero, suc, ◌+◌, ◌-◌, ◌<◌, ◌≤◌, List, [], ◌∷◌, length, slice_get, refl, sym, ap, ◌∙◌, subst, arith, Bool, true, false, cond, nat_lt, Option, Some, None, Result, Ok, Err, inl, inr}
+use Rattle.std.proofs.lemmas.Bool.Decides.{nat_tests}
+use Rattle.stm_parse.specs.declared.token.Lexeme.{Lexeme}
+use Rattle.stm_parse.specs.declared.token.ErrorKind.{ErrorKind}
+use Rattle.stm_parse.specs.declared.token.ErrorKind.TheVariants as cause
+use Rattle.stm_parse.specs.declared.token.Fault.{Fault}
+use Rattle.stm_parse.specs.declared.token.Failure.{Failure}
+use Rattle.stm_parse.specs.declared.token.Failure.TheVariants as stop
+use Rattle.stm_parse.specs.declared.tokenizer.Token.{Token}
+use Rattle.stm_parse.specs.declared.tokenizer.Front.{Front}
+use Rattle.stm_parse.specs.declared.tokenizer.Front.TheVariants as front
+use Rattle.stm_parse.specs.declared.fault.ParseFault.{ParseFault}
+use Rattle.stm_parse.specs.declared.fault.ParseFault.TheVariants as fault
+use Rattle.stm_parse.specs.Tokenizer.{cut, front_of, next, with_front, tokens_of, IsOfTokens}
+use Rattle.stm_parse.specs.UnlessNoMemory.{FailsAs}
+use Rattle.stm_parse.specs.Lexing.{lexemes_of}
+use Rattle.stm_parse.specs.Faults.{Language}
+use Rattle.stm_parse.specs.ParseResult.{most_bytes, most_tokens, LexesWithinLimits, IsEarly, fault_of_cause, fault_of_failure}
+use Rattle.stm_parse.specs.Descent.{Reader, StopsAs, whole}
+use Rattle.stm_parse.specs.ParseFunction.{IsAnswer, located, of_tokens, answered}
+use Rattle.stm_parse.proofs.ReaderCorrect.{Good, Any}
+use Rattle.stm_parse.proofs.FaultReported.{tells_early, early_told, lexemes_count, too_many, they_fit, ok_text, stop_told}
+
+more : (m n : ℕ) → nat_lt m n ≡ true → m < n
+more m n e = grind (arith, nat_tests)
+
+less : (m n : ℕ) → nat_lt m n ≡ false → n ≤ m
+less m n e = grind (arith, nat_tests)
+
+is_more : (m n : ℕ) → m < n → nat_lt m n ≡ true
+is_more m n l = by (nat_lt m n) refl
+  where
+    by : (b : Bool) → nat_lt m n ≡ b → b ≡ true
+    by true e = refl
+    by false e = let k = less m n e in absurd (omega arith)
+
+is_less : (m n : ℕ) → n ≤ m → nat_lt m n ≡ false
+is_less m n l = by (nat_lt m n) refl
+  where
+    by : (b : Bool) → nat_lt m n ≡ b → b ≡ false
+    by true e = let k = more m n e in absurd (omega arith)
+    by false e = refl
+
+-- a fault of a text's tokens
+abbrev IsCutting : ParseFault → Type 0
+IsCutting e = IsOfTokens e × (e ≢ fault.NoMemory)
+
+cut_fault : (k place : ℕ) (bytes : List ℕ) (e : ParseFault) → cut k place bytes ≡ Err e → IsCutting e
+unfolding cut
+cut_fault k place [] e q = absurd cc
+cut_fault (suc k) place (b ∷ bytes) e q = cut_fault k (place + 1) bytes e q
+cut_fault zero place (b ∷ bytes) e q = of (λ k q. cut_fault k (place + 1) bytes e q) (front_of (b ∷ bytes)) q
+  where
+    is : (x : ParseFault) → (let r : Result (List Token) ParseFault = Err x in r ≡ Err e) → IsCutting x → IsCutting e
+    is x q h = let p : x ≡ e = cc in subst IsCutting p h
+
+    of : ((k : ℕ) → cut k (place + 1) bytes ≡ Err e → IsCutting e) → (f : Front) → next f place (λ k. cut k (place + 1) bytes) ≡ Err e → IsCutting e
+    of rec front.Blank q = rec 0 q
+    of rec (front.Found kind n) q = found (cut (n - 1) (place + 1) bytes) refl q
+      where
+        found : (r : Result (List Token) ParseFault) → cut (n - 1) (place + 1) bytes ≡ r → with_front (record { kind = kind; start = place; end = place + n } ∷ []) r ≡ Err e → IsCutting e
+        found (Ok us) p q = absurd cc
+        found (Err x) p q = rec (n - 1) (p ∙ q)
+    of rec front.BadByte q = is (fault.BadByte place) q (tt, λ p. cc)
+    of rec front.LongName q = is (fault.NameTooLong place) q (tt, λ p. cc)
+    of rec front.BadNumber q = is (fault.BadNumber place) q (tt, λ p. cc)
+
+told_some : (c : ErrorKind) (o : Option Lexeme) → fault_of_cause c o ≢ fault.NoMemory
+told_some cause.Unexpected None e = cc
+told_some cause.TooDeep None e = cc
+told_some cause.BadNumber None e = cc
+told_some cause.Unexpected (Some x) e = cc
+told_some cause.TooDeep (Some x) e = cc
+told_some cause.BadNumber (Some x) e = cc
+
+tells_own : (text : List ℕ) (e : ParseFault) → tokens_of text ≡ Err e → FailsAs e (tokens_of text)
+tells_own text (fault.BadByte n) q = q
+tells_own text (fault.BadNumber n) q = q
+tells_own text (fault.NameTooLong n) q = q
+tells_own text (fault.Unexpected n) q = q
+tells_own text fault.EndOfText q = q
+tells_own text fault.TooDeep q = q
+tells_own text fault.TooLarge q = q
+tells_own text fault.NoMemory q = tt
+
+module _ {A : Type 0} (r : Reader A) (L : Language A) (good : (n : ℕ) → Good n r L Any) (text : List ℕ) where
+  of_lexemes : (ls : List Lexeme) → LexesWithinLimits text ls → IsAnswer L text (located ls (whole r ls))
+  of_lexemes ls f = by (whole r ls) refl
+    where
+      by : (y : Result A Fault) → whole r ls ≡ y → IsAnswer L text (located ls y)
+      by (Ok t) e = ok_text r L good text ls f t e
+      by (Err x) e = (told_some x.cause (slice_get ls (length ls - x.left)), stop_told r L good text ls f (stop.At x) e)
+
+  of_cut : length text ≤ most_bytes → (y : Result (List Token) ParseFault) → tokens_of text ≡ y → IsAnswer L text (of_tokens r text y)
+  of_cut l (Err e) q = let k = cut_fault 0 0 text e q in (k.1, early_told L text e (tells_early text e l (tells_own text e q) k.0))
+  of_cut l (Ok ts) q = by (nat_lt most_tokens (length ts)) refl
+    where
+      by : (b : Bool) → nat_lt most_tokens (length ts) ≡ b → IsAnswer L text (cond b (Err fault.TooLarge) (located (lexemes_of text ts) (whole r (lexemes_of text ts))))
+      by true e = (λ p. cc, too_many text ts l q (more most_tokens (length ts) e))
+      by false e = of_lexemes (lexemes_of text ts) (they_fit text ts (lexemes_of text ts) l q (less most_tokens (length ts) e) refl)
+
+  pub answer_right : IsAnswer L text (answered r text)
+  unfolding answered
+  answer_right = by (nat_lt most_bytes (length text)) refl
+    where
+      by : (b : Bool) → nat_lt most_bytes (length text) ≡ b → IsAnswer L text (cond b (Err fault.TooLarge) (of_tokens r text (tokens_of text)))
+      by true e = (λ p. cc, inl (more most_bytes (length text) e))
+      by false e = of_cut (less most_bytes (length text) e) (tokens_of text) refl
+
+module _ {A : Type 0} (r : Reader A) (text : List ℕ) where
+  small : length text ≤ most_bytes → answered r text ≡ of_tokens r text (tokens_of text)
+  unfolding answered
+  small l = ap (λ b. cond b (Err fault.TooLarge) (of_tokens r text (tokens_of text))) (is_less most_bytes (length text) l)
+
+  pub fits_answer : (ls : List Lexeme) → LexesWithinLimits text ls → answered r text ≡ located ls (whole r ls)
+  fits_answer ls f =
+      let ts = f.1.0 in
+      let e = ap length f.1.2 in
+      let k = lexemes_count text ts in
+      let m = f.2 in
+      let n : length ts ≤ most_tokens = omega arith in
+      small f.0 ∙ ap (of_tokens r text) f.1.1 ∙ ap (λ b. cond b (Err fault.TooLarge) (located (lexemes_of text ts) (whole r (lexemes_of text ts)))) (is_less most_tokens (length ts) n) ∙ ap (λ l. located l (whole r l)) (sym f.1.2)
+
+  pub ok_answer : (ls : List Lexeme) → LexesWithinLimits text ls → (t : A) → whole r ls ≡ Ok t → answered r text ≡ Ok t
+  ok_answer ls f t e = fits_answer ls f ∙ ap (located ls) e
+
+  tells_same : (e : ParseFault) → answered r text ≡ Err e → FailsAs e (answered r text)
+  tells_same (fault.BadByte n) q = q
+  tells_same (fault.BadNumber n) q = q
+  tells_same (fault.NameTooLong n) q = q
+  tells_same (fault.Unexpected n) q = q
+  tells_same fault.EndOfText q = q
+  tells_same fault.TooDeep q = q
+  tells_same fault.TooLarge q = q
+  tells_same fault.NoMemory q = tt
+
+  pub stop_answer : (ls : List Lexeme) → LexesWithinLimits text ls → (e : Failure) → StopsAs e (whole r ls) → FailsAs (fault_of_failure ls e) (answered r text)
+  stop_answer ls f stop.Memory h = tt
+  stop_answer ls f (stop.At x) h = tells_same (fault_of_cause x.cause (slice_get ls (length ls - x.left))) (fits_answer ls f ∙ ap (located ls) h)
+
+  pub early_answer : (e : ParseFault) → IsEarly text e → FailsAs e (answered r text)
+  unfolding answered
+  early_answer fault.TooLarge (inl l) = ap (λ b. cond b (Err fault.TooLarge) (of_tokens r text (tokens_of text))) (is_more most_bytes (length text) l)
+  early_answer fault.TooLarge (inr h) =
+      let ts = h.2.0 in
+      let e = ap length h.2.2 in
+      let k = lexemes_count text ts in
+      let m = h.3 in
+      let n : most_tokens < length ts = omega arith in
+      small h.1 ∙ ap (of_tokens r text) h.2.1 ∙ ap (λ b. cond b (Err fault.TooLarge) (located (lexemes_of text ts) (whole r (lexemes_of text ts)))) (is_more most_tokens (length ts) n)
+  early_answer (fault.BadByte n) h = small h.0 ∙ ap (of_tokens r text) h.1
+  early_answer (fault.BadNumber n) h = small h.0 ∙ ap (of_tokens r text) h.1
+  early_answer (fault.NameTooLong n) h = small h.0 ∙ ap (of_tokens r text) h.1
+  early_answer (fault.Unexpected n) h = absurd h
+  early_answer fault.EndOfText h = absurd h
+  early_answer fault.TooDeep h = absurd h
+  early_answer fault.NoMemory h = tt

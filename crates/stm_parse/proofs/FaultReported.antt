@@ -1,0 +1,116 @@
+-- From the tokens to the text: which fault is reported.
+use Rattle.std.proofs.Common.{◌≡◌, ℕ, suc, ◌-◌, ◌<◌, ◌≤◌, List, [], ◌∷◌, ◌++◌, length, length-append, append-nil, slice_get, refl, sym, ap, ◌∙◌, subst, arith, Some, None, Result, Ok, Err, inl, inr}
+use Rattle.stm_parse.specs.declared.token.Lexeme.{Lexeme}
+use Rattle.stm_parse.specs.declared.token.ErrorKind.{ErrorKind}
+use Rattle.stm_parse.specs.declared.token.ErrorKind.TheVariants as cause
+use Rattle.stm_parse.specs.declared.token.Failure.{Failure}
+use Rattle.stm_parse.specs.declared.token.Failure.TheVariants as stop
+use Rattle.stm_parse.specs.declared.tokenizer.Token.{Token}
+use Rattle.stm_parse.specs.declared.fault.ParseFault.{ParseFault}
+use Rattle.stm_parse.specs.declared.fault.ParseFault.TheVariants as fault
+use Rattle.stm_parse.specs.Tokenizer.{tokens_of, IsOfTokens}
+use Rattle.stm_parse.specs.UnlessNoMemory.{FailsAs}
+use Rattle.stm_parse.specs.Lexing.{lexemes_of}
+use Rattle.stm_parse.specs.Faults.{Language, IsText, Begins, AtFault}
+use Rattle.stm_parse.specs.ParseResult.{most_bytes, most_tokens, Lexes, LexesWithinLimits, IsTextOf, IsEarly, IsReported, fault_of_cause, fault_of_failure, OrNoMemory}
+use Rattle.stm_parse.specs.Descent.{Reader, StopsAs, whole}
+use Rattle.stm_parse.proofs.ReaderCorrect.{Good, Any}
+use Rattle.stm_parse.proofs.WholeTextRead.{Right, right, only}
+
+pub get_end : (q : List Lexeme) → slice_get (q ++ []) (length q) ≡ None
+get_end [] = refl
+get_end (x ∷ q) = get_end q
+
+pub get_next : (q s : List Lexeme) (x : Lexeme) → slice_get (q ++ (x ∷ s)) (length q) ≡ Some x
+get_next [] s x = refl
+get_next (y ∷ q) s x = get_next q s x
+
+pub place_is : (ls q s : List Lexeme) (n : ℕ) → ls ≡ q ++ s → n ≡ length s → slice_get ls (length ls - n) ≡ slice_get (q ++ s) (length q)
+place_is ls q s n e l =
+    let p : length ls - n ≡ length q = omega (arith, ap length e, length-append q s) in
+    ap (λ l. slice_get l (length ls - n)) e ∙ ap (λ i. slice_get (q ++ s) i) p
+
+same_ok : (a b : List Token) → (let r : Result (List Token) ParseFault = Ok a in r ≡ Ok b) → a ≡ b
+same_ok a b e = cc
+
+pub lexemes_count : (text : List ℕ) (ts : List Token) → length (lexemes_of text ts) ≡ length ts
+lexemes_count text [] = refl
+lexemes_count text (t ∷ ts) = ap suc (lexemes_count text ts)
+
+pub tells_early : (text : List ℕ) (e : ParseFault) → length text ≤ most_bytes → FailsAs e (tokens_of text) → IsOfTokens e → IsEarly text e
+tells_early text (fault.BadByte n) l h k = (l, h)
+tells_early text (fault.BadNumber n) l h k = (l, h)
+tells_early text (fault.NameTooLong n) l h k = (l, h)
+tells_early text (fault.Unexpected n) l h k = absurd k
+tells_early text fault.EndOfText l h k = absurd k
+tells_early text fault.TooDeep l h k = absurd k
+tells_early text fault.TooLarge l h k = absurd k
+tells_early text fault.NoMemory l h k = tt
+
+pub too_many : (text : List ℕ) (ts : List Token) → length text ≤ most_bytes → tokens_of text ≡ Ok ts → most_tokens < length ts → IsEarly text fault.TooLarge
+too_many text ts l e m = let n = lexemes_count text ts in inr (lexemes_of text ts, l, (ts, e, refl), omega arith)
+
+pub they_fit : (text : List ℕ) (ts : List Token) (ls : List Lexeme) → length text ≤ most_bytes → tokens_of text ≡ Ok ts → length ts ≤ most_tokens → ls ≡ lexemes_of text ts → LexesWithinLimits text ls
+they_fit text ts ls l e m q = let n = lexemes_count text ts in let k = ap length q in (l, (ts, e, q), omega arith)
+
+pub lexes_same : (text : List ℕ) (ls ms : List Lexeme) → Lexes text ls → Lexes text ms → ls ≡ ms
+lexes_same text ls ms h k = let e : h.0 ≡ k.0 = same_ok h.0 k.0 (sym h.1 ∙ k.1) in h.2 ∙ ap (lexemes_of text) e ∙ sym k.2
+
+pub early_told : {A : Type 0} (L : Language A) (text : List ℕ) (e : ParseFault) → IsEarly text e → IsReported L text e
+early_told L text fault.TooLarge h = h
+early_told L text (fault.BadByte n) h = h
+early_told L text (fault.BadNumber n) h = inl h
+early_told L text (fault.NameTooLong n) h = h
+early_told L text (fault.Unexpected n) h = absurd h
+early_told L text fault.EndOfText h = absurd h
+early_told L text fault.TooDeep h = absurd h
+early_told L text fault.NoMemory h = tt
+
+-- where the tokens are those of a text that fits, nothing is reported early
+pub early_none : {B : Type 0} (P : B → Type 0) (text : List ℕ) (ls : List Lexeme) → LexesWithinLimits text ls → (e : ParseFault) → IsEarly text e → OrNoMemory (Err e) P
+early_none P text ls f fault.TooLarge (inl h) = let l = f.0 in absurd (omega arith)
+early_none P text ls f fault.TooLarge (inr h) = let e = lexes_same text ls h.0 f.1 h.2 in let l = f.2 in let m = h.3 in absurd (omega (arith, ap length e))
+early_none P text ls f (fault.BadByte n) h = let e = f.1.1 in let g = h.1 in absurd cc
+early_none P text ls f (fault.BadNumber n) h = let e = f.1.1 in let g = h.1 in absurd cc
+early_none P text ls f (fault.NameTooLong n) h = let e = f.1.1 in let g = h.1 in absurd cc
+early_none P text ls f (fault.Unexpected n) h = absurd h
+early_none P text ls f fault.EndOfText h = absurd h
+early_none P text ls f fault.TooDeep h = absurd h
+early_none P text ls f fault.NoMemory h = tt
+
+module _ {A : Type 0} (r : Reader A) (L : Language A) (good : (n : ℕ) → Good n r L Any) (text : List ℕ) (ls : List Lexeme) (fits : LexesWithinLimits text ls) where
+  pub text_of : (t : A) → whole r ls ≡ Ok t → IsText L ls t
+  text_of t e = subst (Right L ls) e (right r L good ls)
+
+  pub ok_text : (t : A) → whole r ls ≡ Ok t → IsTextOf L text t
+  ok_text t e = (ls, fits, subst (Right L ls) e (right r L good ls))
+
+  first_told : (c : ErrorKind) (q s : List Lexeme) → ls ≡ q ++ s → Begins L q → AtFault L c q s → IsReported L text (fault_of_cause c (slice_get (q ++ s) (length q)))
+  first_told cause.Unexpected q [] e b a =
+      let f : ls ≡ q = e ∙ append-nil q in
+      subst (λ o. IsReported L text (fault_of_cause cause.Unexpected o)) (sym (get_end q)) (ls, fits, subst (Begins L) (sym f) b, λ t h. a t (h.0, h.1, h.2, sym f ∙ h.3))
+  first_told cause.TooDeep q [] e b a = absurd a
+  first_told cause.BadNumber q [] e b a = absurd a
+  first_told cause.Unexpected q (x ∷ s) e b a = subst (λ o. IsReported L text (fault_of_cause cause.Unexpected o)) (sym (get_next q s x)) (ls, q, s, x, fits, e, refl, b, a)
+  first_told cause.TooDeep q (x ∷ s) e b a = subst (λ o. IsReported L text (fault_of_cause cause.TooDeep o)) (sym (get_next q s x)) (x.start, (ls, q, s, x, fits, e, refl, b, a))
+  first_told cause.BadNumber q (x ∷ s) e b a = subst (λ o. IsReported L text (fault_of_cause cause.BadNumber o)) (sym (get_next q s x)) (inr (ls, q, s, x, fits, e, refl, b, a))
+
+  pub stop_told : (e : Failure) → StopsAs e (whole r ls) → IsReported L text (fault_of_failure ls e)
+  stop_told stop.Memory h = tt
+  stop_told (stop.At f) h =
+      let k = subst (Right L ls) h (right r L good ls) in
+      subst (λ o. IsReported L text (fault_of_cause f.cause o)) (sym (place_is ls k.0 k.1 f.left k.2 k.3)) (first_told f.cause k.0 k.1 k.2 k.4 k.5)
+
+  reads : (t : A) → IsTextOf L text t → whole r ls ≡ Ok t
+  reads t h = only r L good ls t (subst (λ l. IsText L l t) (lexes_same text h.0 ls h.1.1 fits.1) h.2)
+
+  pub only_this : (t u : A) → IsTextOf L text t → whole r ls ≡ Ok u → u ≡ t
+  only_this t u h e = let f = reads t h in cc
+
+  pub stop_none : {B : Type 0} (P : B → Type 0) (t : A) → IsTextOf L text t → (e : Failure) → StopsAs e (whole r ls) → OrNoMemory (Err (fault_of_failure ls e)) P
+  stop_none P t h stop.Memory k = tt
+  stop_none P t h (stop.At f) k = let g = reads t h in absurd cc
+
+-- each text has one tree
+pub one_tree : {A : Type 0} (r : Reader A) (L : Language A) → ((n : ℕ) → Good n r L Any) → (ls : List Lexeme) (t u : A) → IsText L ls t → IsText L ls u → t ≡ u
+one_tree r L good ls t u h k = let e = only r L good ls t h in let f = only r L good ls u k in cc

@@ -1,0 +1,34 @@
+use Rattle.std.proofs.Common.{arith, inl, inr}
+use Rattle.stm_parse.specs.ParseResult.{most_bytes, most_tokens}
+use Rattle.stm_parse.specs.declared.fault.ParseFault.TheVariants as fault
+use Rattle.stm_parse.proofs.CallsExact.{early_block, early_declaration}
+use Rattle.stm_parse.proofs.FaultReported.{tells_early}
+use Rattle.stm_parse.proofs.block.lexed.Goals as goal
+
+pub returns-in-Err-clause-right : goal.returns-in-Err-clause-right
+unfolding most_bytes
+returns-in-Err-clause-right c = tells_early c.args.text.now c.in-Err.fault (omega arith) c.in-Err.ensures.cuts c.in-Err.ensures.faults
+
+pub returns-then-text-gt65536-clause-block : goal.returns-then-text-gt65536-clause-block
+unfolding most_bytes
+returns-then-text-gt65536-clause-block c = early_block c.args.text.now fault.TooLarge (inl (omega arith))
+
+pub returns-in-Err-clause-block : goal.returns-in-Err-clause-block
+unfolding most_bytes
+returns-in-Err-clause-block c = early_block c.args.text.now c.in-Err.fault (tells_early c.args.text.now c.in-Err.fault (omega arith) c.in-Err.ensures.cuts c.in-Err.ensures.faults)
+
+pub returns-then-len-gt4096-clause-block : goal.returns-then-len-gt4096-clause-block
+unfolding most_bytes most_tokens
+returns-then-len-gt4096-clause-block c = early_block c.args.text.now fault.TooLarge (inr (c.in-Ok.toks.items, omega arith, c.in-Ok.ensures.cuts, omega arith))
+
+pub returns-then-text-gt65536-clause-declaration : goal.returns-then-text-gt65536-clause-declaration
+unfolding most_bytes
+returns-then-text-gt65536-clause-declaration c = early_declaration c.args.text.now fault.TooLarge (inl (omega arith))
+
+pub returns-in-Err-clause-declaration : goal.returns-in-Err-clause-declaration
+unfolding most_bytes
+returns-in-Err-clause-declaration c = early_declaration c.args.text.now c.in-Err.fault (tells_early c.args.text.now c.in-Err.fault (omega arith) c.in-Err.ensures.cuts c.in-Err.ensures.faults)
+
+pub returns-then-len-gt4096-clause-declaration : goal.returns-then-len-gt4096-clause-declaration
+unfolding most_bytes most_tokens
+returns-then-len-gt4096-clause-declaration c = early_declaration c.args.text.now fault.TooLarge (inr (c.in-Ok.toks.items, omega arith, c.in-Ok.ensures.cuts, omega arith))

@@ -1,0 +1,64 @@
+use Rattle.std.proofs.Common.{◌≡◌, length, sym, ap, ◌∙◌, subst, Ok}
+use Rattle.stm_terms.specs.ParsedAst.{raw_act_of, SpansWithin}
+use Rattle.stm_parse.specs.Grammar.{IsBlock}
+use Rattle.stm_parse.specs.ParseResult.{IsTextOf, IsReported}
+use Rattle.stm_parse.specs.ParsedBlock.{NamesAre}
+use Rattle.stm_parse.specs.Descent.{block_reader}
+use Rattle.stm_parse.specs.ParseFunction.{parsed_block}
+use Rattle.stm_parse.specs.UnlessNoMemory.{FailsAs}
+use Rattle.stm_parse.proofs.CallsExact.{ok_block, stop_block}
+use Rattle.stm_parse.proofs.TreeNamesAndSize.{kept_block}
+use Rattle.stm_parse.proofs.FaultReported.{text_of, ok_text, only_this, stop_told, stop_none}
+use Rattle.stm_parse.proofs.WholeTextRead.{good_block}
+use Rattle.stm_parse.proofs.block.parse_block.Goals as goal
+
+pub of_parts-requires-clause-spans : goal.of_parts-requires-clause-spans
+of_parts-requires-clause-spans c =
+    let e = rw c.deref.ensures.value at c.in-Ok.ensures in
+    let fits = c.in_ok-toks.ensures.right in
+    let k = kept_block c.args.text.now c.in_ok-toks.toks.items (raw_act_of c.in-Ok.action) (text_of block_reader IsBlock good_block c.args.text.now c.in_ok-toks.toks.items fits (raw_act_of c.in-Ok.action) e) c.in_ok-toks.ensures.names fits.2 in
+    subst (λ t. SpansWithin (length t) (raw_act_of c.in-Ok.action)) (sym c.in_ok-own-in-Ok.ensures.ok) k.0
+
+pub of_parts-requires-clause-names : goal.of_parts-requires-clause-names
+of_parts-requires-clause-names c =
+    let e = rw c.deref.ensures.value at c.in-Ok.ensures in
+    let fits = c.in_ok-toks.ensures.right in
+    let k = kept_block c.args.text.now c.in_ok-toks.toks.items (raw_act_of c.in-Ok.action) (text_of block_reader IsBlock good_block c.args.text.now c.in_ok-toks.toks.items fits (raw_act_of c.in-Ok.action) e) c.in_ok-toks.ensures.names fits.2 in
+    subst (λ t. NamesAre t (raw_act_of c.in-Ok.action)) (sym c.in_ok-own-in-Ok.ensures.ok) k.1
+
+pub of_parts-requires-clause-few : goal.of_parts-requires-clause-few
+of_parts-requires-clause-few c =
+    let e = rw c.deref.ensures.value at c.in-Ok.ensures in
+    let fits = c.in_ok-toks.ensures.right in
+    let k = kept_block c.args.text.now c.in_ok-toks.toks.items (raw_act_of c.in-Ok.action) (text_of block_reader IsBlock good_block c.args.text.now c.in_ok-toks.toks.items fits (raw_act_of c.in-Ok.action) e) c.in_ok-toks.ensures.names fits.2 in
+    k.2
+
+pub returns-in-Ok-clause-right : goal.returns-in-Ok-clause-right
+returns-in-Ok-clause-right c =
+    let e = rw c.deref.ensures.value at c.in-Ok.ensures in
+    subst (IsTextOf IsBlock c.args.text.now) (sym c.of_parts.ensures.tree) (ok_text block_reader IsBlock good_block c.args.text.now c.in_ok-toks.toks.items c.in_ok-toks.ensures.right (raw_act_of c.in-Ok.action) e)
+
+pub returns-in-Ok-clause-only : goal.returns-in-Ok-clause-only
+returns-in-Ok-clause-only c =
+    let e = rw c.deref.ensures.value at c.in-Ok.ensures in
+    λ t h. c.of_parts.ensures.tree ∙ only_this block_reader IsBlock good_block c.args.text.now c.in_ok-toks.toks.items c.in_ok-toks.ensures.right t (raw_act_of c.in-Ok.action) h e
+
+pub returns-clause-right : goal.returns-clause-right
+returns-clause-right c =
+    let e = rw c.deref.ensures.value at c.in-Err.ensures in
+    subst (IsReported IsBlock c.args.text.now) (sym (rw c.deref-in-Err.ensures.value at c.fault_of_failure.ensures)) (stop_told block_reader IsBlock good_block c.args.text.now c.in_ok-toks.toks.items c.in_ok-toks.ensures.right c.in-Err.stop e)
+
+pub returns-clause-only : goal.returns-clause-only
+returns-clause-only c =
+    let e = rw c.deref.ensures.value at c.in-Err.ensures in
+    λ t h. rw (rw c.deref-in-Err.ensures.value at c.fault_of_failure.ensures) (stop_none block_reader IsBlock good_block c.args.text.now c.in_ok-toks.toks.items c.in_ok-toks.ensures.right (λ r. r.tree ≡ t) t h c.in-Err.stop e)
+
+pub returns-in-Ok-clause-answer : goal.returns-in-Ok-clause-answer
+returns-in-Ok-clause-answer c =
+    let e = rw c.deref.ensures.value at c.in-Ok.ensures in
+    ok_block c.args.text.now c.in_ok-toks.toks.items c.in_ok-toks.ensures.right (raw_act_of c.in-Ok.action) e ∙ ap Ok (sym c.of_parts.ensures.tree)
+
+pub returns-clause-answer : goal.returns-clause-answer
+returns-clause-answer c =
+    let e = rw c.deref.ensures.value at c.in-Err.ensures in
+    subst (λ x. FailsAs x (parsed_block c.args.text.now)) (sym (rw c.deref-in-Err.ensures.value at c.fault_of_failure.ensures)) (stop_block c.args.text.now c.in_ok-toks.toks.items c.in_ok-toks.ensures.right c.in-Err.stop e)

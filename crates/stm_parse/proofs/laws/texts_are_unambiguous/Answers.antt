@@ -1,0 +1,12 @@
+use Rattle.stm_parse.specs.Grammar.{IsBlock, IsDeclaration}
+use Rattle.stm_parse.specs.Descent.{block_reader, declaration_reader}
+use Rattle.stm_parse.proofs.FaultReported.{one_tree}
+use Rattle.stm_parse.proofs.TypeReaders.{good_declaration}
+use Rattle.stm_parse.proofs.WholeTextRead.{good_block}
+use Rattle.stm_parse.proofs.laws.texts_are_unambiguous.Goals as goal
+
+pub returns-clause-block : goal.returns-clause-block
+returns-clause-block c = one_tree block_reader IsBlock good_block
+
+pub returns-clause-declaration : goal.returns-clause-declaration
+returns-clause-declaration c = one_tree declaration_reader IsDeclaration good_declaration

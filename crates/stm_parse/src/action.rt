@@ -1,0 +1,315 @@
+//! The descent through actions. An action comes with the place of its first word.
+//!
+//! An action is boxed as soon as it is whole, so no memory is asked for while its parts wait to be put together.
+
+ghost use Rattle.std.specs.Prelude.{◌≡◌, ◌+◌, ◌-◌, ◌<◌, ◌≤◌, length, List, IfOk, Ok};
+ghost use Rattle.stm_terms.specs.ParsedAst.{RawAct, raw_act_of, return, read, make, throw};
+ghost use Rattle.stm_parse.specs.Grammar.{Placed, deepest, widest};
+ghost use Rattle.stm_parse.specs.declared.token.Lexeme.{Lexeme};
+ghost use Rattle.stm_parse.specs.Descent.{ReadsAs, atom_at, tier_at, action_at, paren_at, body_at, closed, block, if_of, or_else_of, bound, let_bound, sequence, two_operands};
+
+use crate::cursor::{accept, expect, expect_name, is_name_kind, too_deep, unexpected};
+use crate::expression::{atom, expression};
+use crate::token::{Failure, Lexeme, Mark, TokenKind};
+use std::alloc::Global;
+use stm_terms::RawAction;
+
+// An action that is whole.
+fn whole<'t>(
+    alloc: Global,
+    action: RawAction,
+    toks: &'t [Lexeme],
+) -> Result<(Box<RawAction>, &'t [Lexeme]), Failure>
+    ensures gives { ReadsAs {Y = RawAct × List Lexeme} (λ r. (raw_act_of r.0.value, r.1.now)) result (Ok (raw_act_of action, toks.now)) }
+    ensures shorter { IfOk result (λ r. length r.1.now ≤ length toks.now) }
+{
+    let action = Box::new(alloc, action)?;
+    Ok((action, toks))
+}
+
+// An action that is whole, with its place.
+fn placed<'t>(
+    alloc: Global,
+    action: RawAction,
+    place: usize,
+    toks: &'t [Lexeme],
+) -> Result<((Box<RawAction>, usize), &'t [Lexeme]), Failure>
+    ensures gives { ReadsAs {Y = Placed × List Lexeme} (λ r. ((raw_act_of r.0.0.value, r.0.1), r.1.now)) result (Ok ((raw_act_of action, place), toks.now)) }
+    ensures shorter { IfOk result (λ r. length r.1.now ≤ length toks.now) }
+{
+    let action = Box::new(alloc, action)?;
+    Ok(((action, place), toks))
+}
+
+/// An action.
+pub fn action<'t>(
+    alloc: Global,
+    levels: u8,
+    toks: &'t [Lexeme],
+) -> Result<((RawAction, usize), &'t [Lexeme]), Failure>
+    requires { levels ≤ deepest }
+    ensures gives { ReadsAs (λ r. ((raw_act_of r.0.0, r.0.1), r.1.now)) result (action_at levels toks.now) }
+    ensures shorter { IfOk result (λ r. length r.1.now ≤ length toks.now) }
+{
+    let ((action, place), rest) = boxed_action(alloc, levels, toks)?;
+    Ok(((Box::into_inner(action), place), rest))
+}
+
+// An action.
+#[cycle(actions)]
+#[tactic(auto, unfolding(crate::specs::Descent::action_at))]
+fn boxed_action<'t>(
+    alloc: Global,
+    levels: u8,
+    toks: &'t [Lexeme],
+) -> Result<((Box<RawAction>, usize), &'t [Lexeme]), Failure>
+    requires { levels ≤ deepest }
+    ensures gives { ReadsAs (λ r. ((raw_act_of r.0.0.value, r.0.1), r.1.now)) result (action_at levels toks.now) }
+    ensures shorter { IfOk result (λ r. length r.1.now ≤ length toks.now) }
+{
+    let Some((first, rest)) = toks.split_first() else {
+        return Err(unexpected(toks));
+    };
+    let TokenKind::Mark(word) = first.sym else {
+        return Err(unexpected(toks));
+    };
+    match word {
+        Mark::Do => {
+            if levels == 0 {
+                return Err(too_deep(toks));
+            }
+            block(alloc, levels - 1, first.start, rest)
+        }
+        Mark::If => {
+            if levels == 0 {
+                return Err(too_deep(toks));
+            }
+            if_then_else(alloc, levels - 1, first.start, rest)
+        }
+        Mark::OrElse => {
+            if levels == 0 {
+                return Err(too_deep(toks));
+            }
+            or_else(alloc, levels - 1, first.start, rest)
+        }
+        Mark::LParen => {
+            if levels == 0 {
+                return Err(too_deep(toks));
+            }
+            closed(alloc, levels - 1, rest)
+        }
+        Mark::Return => {
+            let (value, rest) = atom(alloc, levels, rest)?;
+            placed(alloc, RawAction::Return(value), first.start, rest)
+        }
+        Mark::ReadTVar => {
+            let (variable, rest) = atom(alloc, levels, rest)?;
+            placed(alloc, RawAction::Read(variable), first.start, rest)
+        }
+        Mark::NewTVar => {
+            let (value, rest) = atom(alloc, levels, rest)?;
+            placed(alloc, RawAction::Make(value), first.start, rest)
+        }
+        Mark::Throw => {
+            let (number, rest) = atom(alloc, levels, rest)?;
+            placed(alloc, RawAction::Throw(number), first.start, rest)
+        }
+        Mark::WriteTVar => write(alloc, levels, first.start, rest),
+        Mark::Retry => placed(alloc, RawAction::Retry, first.start, rest),
+        _ => Err(unexpected(toks)),
+    }
+}
+
+// After writeTVar.
+fn write<'t>(
+    alloc: Global,
+    levels: u8,
+    place: usize,
+    toks: &'t [Lexeme],
+) -> Result<((Box<RawAction>, usize), &'t [Lexeme]), Failure>
+    requires { levels ≤ deepest }
+    ensures gives { ReadsAs (λ r. ((raw_act_of r.0.0.value, r.0.1), r.1.now)) result (two_operands (atom_at levels) place toks.now) }
+    ensures shorter { IfOk result (λ r. length r.1.now ≤ length toks.now) }
+{
+    let (variable, rest) = atom(alloc, levels, toks)?;
+    let (value, rest) = atom(alloc, levels, rest)?;
+    placed(alloc, RawAction::Write(variable, value), place, rest)
+}
+
+// After "(".
+#[cycle(actions)]
+fn closed<'t>(
+    alloc: Global,
+    levels: u8,
+    toks: &'t [Lexeme],
+) -> Result<((Box<RawAction>, usize), &'t [Lexeme]), Failure>
+    requires { levels ≤ deepest }
+    ensures gives { ReadsAs (λ r. ((raw_act_of r.0.0.value, r.0.1), r.1.now)) result (closed (action_at levels) toks.now) }
+    ensures shorter { IfOk result (λ r. length r.1.now ≤ length toks.now) }
+{
+    let (inner, rest) = boxed_action(alloc, levels, toks)?;
+    let (_, rest) = expect(Mark::RParen, rest)?;
+    Ok((inner, rest))
+}
+
+// "(" action ")"
+#[cycle(actions)]
+#[tactic(auto, unfolding(crate::specs::Descent::paren_at))]
+fn paren<'t>(
+    alloc: Global,
+    levels: u8,
+    toks: &'t [Lexeme],
+) -> Result<((Box<RawAction>, usize), &'t [Lexeme]), Failure>
+    requires { levels ≤ deepest }
+    ensures gives { ReadsAs (λ r. ((raw_act_of r.0.0.value, r.0.1), r.1.now)) result (paren_at levels toks.now) }
+    ensures shorter { IfOk result (λ r. length r.1.now ≤ length toks.now) }
+{
+    let Some((first, rest)) = toks.split_first() else {
+        return Err(unexpected(toks));
+    };
+    if !first.sym.is(Mark::LParen) {
+        return Err(unexpected(toks));
+    }
+    if levels == 0 {
+        return Err(too_deep(toks));
+    }
+    closed(alloc, levels - 1, rest)
+}
+
+// After orElse.
+#[cycle(actions)]
+fn or_else<'t>(
+    alloc: Global,
+    levels: u8,
+    place: usize,
+    toks: &'t [Lexeme],
+) -> Result<((Box<RawAction>, usize), &'t [Lexeme]), Failure>
+    requires { levels ≤ deepest }
+    ensures gives { ReadsAs (λ r. ((raw_act_of r.0.0.value, r.0.1), r.1.now)) result (or_else_of (paren_at levels) place toks.now) }
+    ensures shorter { IfOk result (λ r. length r.1.now ≤ length toks.now) }
+{
+    let ((first, _), rest) = paren(alloc, levels, toks)?;
+    let ((second, at), rest) = paren(alloc, levels, rest)?;
+    placed(alloc, RawAction::OrElse(first, at, second), place, rest)
+}
+
+// After if.
+#[cycle(actions)]
+fn if_then_else<'t>(
+    alloc: Global,
+    levels: u8,
+    place: usize,
+    toks: &'t [Lexeme],
+) -> Result<((Box<RawAction>, usize), &'t [Lexeme]), Failure>
+    requires { levels ≤ deepest }
+    ensures gives { ReadsAs (λ r. ((raw_act_of r.0.0.value, r.0.1), r.1.now)) result (if_of (tier_at widest levels) (action_at levels) place toks.now) }
+    ensures shorter { IfOk result (λ r. length r.1.now ≤ length toks.now) }
+{
+    let (condition, rest) = expression(alloc, levels, toks)?;
+    let (_, rest) = expect(Mark::Then, rest)?;
+    let ((first, _), rest) = boxed_action(alloc, levels, rest)?;
+    let (_, rest) = expect(Mark::Else, rest)?;
+    let ((second, at), rest) = boxed_action(alloc, levels, rest)?;
+    let choice = RawAction::If(condition, first, at, second);
+    placed(alloc, choice, place, rest)
+}
+
+// After "do".
+#[cycle(actions)]
+fn block<'t>(
+    alloc: Global,
+    levels: u8,
+    place: usize,
+    toks: &'t [Lexeme],
+) -> Result<((Box<RawAction>, usize), &'t [Lexeme]), Failure>
+    requires { levels ≤ deepest }
+    ensures gives { ReadsAs (λ r. ((raw_act_of r.0.0.value, r.0.1), r.1.now)) result (block (body_at levels) place toks.now) }
+    ensures shorter { IfOk result (λ r. length r.1.now ≤ length toks.now) }
+{
+    let (_, rest) = expect(Mark::LBrace, toks)?;
+    let (inner, rest) = body(alloc, levels, rest)?;
+    let (_, rest) = expect(Mark::RBrace, rest)?;
+    Ok(((inner, place), rest))
+}
+
+// Statements and the last action.
+#[cycle(actions)]
+fn body<'t>(
+    alloc: Global,
+    levels: u8,
+    toks: &'t [Lexeme],
+) -> Result<(Box<RawAction>, &'t [Lexeme]), Failure>
+    requires { levels ≤ deepest }
+    ensures gives { ReadsAs (λ r. (raw_act_of r.0.value, r.1.now)) result (body_at levels toks.now) }
+    ensures shorter { IfOk result (λ r. length r.1.now ≤ length toks.now) }
+{
+    let Some((first, rest)) = toks.split_first() else {
+        return Err(unexpected(toks));
+    };
+    if is_name_kind(first.sym) {
+        return bound(alloc, levels, first.start, first.end, rest);
+    }
+    if first.sym.is(Mark::Let) {
+        return let_bound(alloc, levels, rest);
+    }
+    sequence(alloc, levels, toks)
+}
+
+// After a name that a statement binds.
+#[cycle(actions)]
+fn bound<'t>(
+    alloc: Global,
+    levels: u8,
+    start: usize,
+    end: usize,
+    toks: &'t [Lexeme],
+) -> Result<(Box<RawAction>, &'t [Lexeme]), Failure>
+    requires { levels ≤ deepest }
+    ensures gives { ReadsAs (λ r. (raw_act_of r.0.value, r.1.now)) result (bound (action_at levels) (body_at levels) start end toks.now) }
+    ensures shorter { IfOk result (λ r. length r.1.now ≤ length toks.now) }
+{
+    let (_, rest) = expect(Mark::Arrow, toks)?;
+    let ((first, at), rest) = boxed_action(alloc, levels, rest)?;
+    let (_, rest) = expect(Mark::Semicolon, rest)?;
+    let (then, rest) = body(alloc, levels, rest)?;
+    whole(alloc, RawAction::Bind(start, end, at, first, then), rest)
+}
+
+// After let.
+#[cycle(actions)]
+fn let_bound<'t>(
+    alloc: Global,
+    levels: u8,
+    toks: &'t [Lexeme],
+) -> Result<(Box<RawAction>, &'t [Lexeme]), Failure>
+    requires { levels ≤ deepest }
+    ensures gives { ReadsAs (λ r. (raw_act_of r.0.value, r.1.now)) result (let_bound (tier_at widest levels) (body_at levels) toks.now) }
+    ensures shorter { IfOk result (λ r. length r.1.now ≤ length toks.now) }
+{
+    let (name, rest) = expect_name(toks)?;
+    let (_, rest) = expect(Mark::Equals, rest)?;
+    let (value, rest) = expression(alloc, levels, rest)?;
+    let (_, rest) = expect(Mark::Semicolon, rest)?;
+    let (then, rest) = body(alloc, levels, rest)?;
+    let all = RawAction::Let(name.start, name.end, value, then);
+    whole(alloc, all, rest)
+}
+
+// An action, and the rest of the body after a semicolon.
+#[cycle(actions)]
+fn sequence<'t>(
+    alloc: Global,
+    levels: u8,
+    toks: &'t [Lexeme],
+) -> Result<(Box<RawAction>, &'t [Lexeme]), Failure>
+    requires { levels ≤ deepest }
+    ensures gives { ReadsAs (λ r. (raw_act_of r.0.value, r.1.now)) result (sequence (action_at levels) (body_at levels) toks.now) }
+    ensures shorter { IfOk result (λ r. length r.1.now ≤ length toks.now) }
+{
+    let ((first, _), rest) = boxed_action(alloc, levels, toks)?;
+    let Some(rest) = accept(Mark::Semicolon, rest) else {
+        return Ok((first, rest));
+    };
+    let (then, rest) = body(alloc, levels, rest)?;
+    whole(alloc, RawAction::Seq(first, then), rest)
+}

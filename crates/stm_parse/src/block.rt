@@ -1,0 +1,93 @@
+//! A text as a block.
+
+ghost use Rattle.std.specs.Prelude.{◌≡◌, MatchResult, IfOk, IfErr};
+ghost use Rattle.std.specs.Str.{IsAscii};
+ghost use Rattle.stm_terms.specs.ParsedAst.{RawAct, raw_act_of};
+ghost use Rattle.stm_parse.specs.Grammar.{IsBlock};
+ghost use Rattle.stm_parse.specs.ParseFunction.{parsed_block, parsed_declaration};
+ghost use Rattle.stm_parse.specs.UnlessNoMemory.{ParsesAs, FailsAs};
+ghost use Rattle.stm_parse.specs.ParseResult.{LexesWithinLimits, IsTextOf, IsEarly, IsReported, OrNoMemory, fault_of_failure};
+ghost use Rattle.stm_parse.specs.ParsedBlock.{NamesOf};
+ghost use Rattle.stm_parse.specs.Descent.{ReadsAs, block_reader, whole};
+
+use crate::action::action;
+use crate::cursor::unexpected;
+use crate::fault::ParseFault;
+use crate::lexer::lexemes;
+use crate::raw::Raw;
+use crate::token::{ErrorKind, Failure, Lexeme};
+use std::alloc::Global;
+use stm_terms::RawAction;
+
+// The tokens of a text that is not too large.
+#[tactic(auto, unfolding(crate::specs::ParseResult::most_bytes, crate::specs::ParseResult::most_tokens))]
+pub(crate) fn lexed(alloc: Global, text: &str) -> Result<Vec<Lexeme>, ParseFault>
+    ensures right { MatchResult result (λ v. LexesWithinLimits text.now v.items) (λ e. IsEarly text.now e) }
+    ensures ascii { IfOk result (λ v. IsAscii text.now) }
+    ensures names { IfOk result (λ v. NamesOf text.now v.items) }
+    ensures block { IfErr result (λ e. FailsAs e (parsed_block text.now)) }
+    ensures declaration { IfErr result (λ e. FailsAs e (parsed_declaration text.now)) }
+{
+    if text.len() > 65536 {
+        return Err(ParseFault::TooLarge);
+    }
+    let toks = match lexemes(alloc, text) {
+        Ok(toks) => toks,
+        Err(fault) => return Err(fault),
+    };
+    if toks.len() > 4096 {
+        return Err(ParseFault::TooLarge);
+    }
+    Ok(toks)
+}
+
+// What is reported of the place where the descent stopped.
+pub(crate) fn fault_of_failure(toks: &[Lexeme], stop: Failure) -> ParseFault
+    ensures { result ≡ fault_of_failure toks.now stop }
+{
+    let fault = match stop {
+        Failure::Memory => return ParseFault::NoMemory,
+        Failure::At(fault) => fault,
+    };
+    match toks.get(toks.len().saturating_sub(fault.left)) {
+        None => ParseFault::EndOfText,
+        Some(first) => match fault.cause {
+            ErrorKind::Unexpected => ParseFault::Unexpected(first.start),
+            ErrorKind::TooDeep => ParseFault::TooDeep,
+            ErrorKind::BadNumber => ParseFault::BadNumber(first.start),
+        },
+    }
+}
+
+fn whole_block(alloc: Global, toks: &[Lexeme]) -> Result<RawAction, Failure>
+    ensures { ReadsAs raw_act_of result (whole block_reader toks.now) }
+{
+    let ((tree, _), rest) = action(alloc, 64, toks)?;
+    if rest.is_empty() {
+        Ok(tree)
+    } else {
+        Err(unexpected(rest))
+    }
+}
+
+/// The block that a text writes.
+///
+/// docs/LANGUAGE.md, "Grammar", has the productions, and "Which fault of the grammar is told" the order of the faults.
+pub fn parse_block(alloc: Global, text: &str) -> Result<Raw, ParseFault>
+    // What is read is a text of the tree, and a fault is the one to be reported.
+    ensures right { MatchResult result (λ r. IsTextOf IsBlock text.now r.tree) (λ e. IsReported IsBlock text.now e) }
+    // Each text is read, with its one tree, unless memory runs out.
+    ensures only { (t : RawAct) → IsTextOf IsBlock text.now t → OrNoMemory result (λ r. r.tree ≡ t) }
+    ensures text { IfOk result (λ r. r.text ≡ text.now) }
+    // The answer is a function of the text.
+    ensures answer { ParsesAs (λ r. r.tree) result (parsed_block text.now) }
+{
+    let toks = lexed(alloc, text)?;
+    match whole_block(alloc, &toks) {
+        Ok(action) => {
+            let own = String::from_str(alloc, text)?;
+            Ok(Raw::of_parts(own, action))
+        }
+        Err(stop) => Err(fault_of_failure(&toks, stop)),
+    }
+}

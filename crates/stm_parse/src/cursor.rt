@@ -1,0 +1,159 @@
+//! What the descent is made of: one token of lookahead, and what is asked of the next token.
+
+ghost use Rattle.std.specs.Prelude.{◌≡◌, ◌<◌, ◌≤◌, length, IfOk, IfSome, MatchOption, None, Some};
+ghost use Rattle.stm_parse.specs.Grammar.{operator_of, operator_mark, grouping_of};
+ghost use Rattle.stm_parse.specs.Descent.{ReadsAs, begins, accept, expect, expect_name, is_name_kind, op_next, unexpected, too_deep, bad_number};
+
+use crate::token::{ErrorKind, Failure, Fault, Lexeme, Mark, TokenKind};
+use stm_terms::Op;
+
+/// How the operators of a tier group.
+#[derive(Clone, Copy)]
+pub enum Grouping {
+    ToLeft,
+    NotChained,
+    ToRight,
+}
+
+/// No text goes on with the next token.
+pub fn unexpected(toks: &[Lexeme]) -> Failure
+    ensures { result ≡ Failure.At (unexpected toks.now) }
+{
+    Failure::At(Fault {
+        cause: ErrorKind::Unexpected,
+        left: toks.len(),
+    })
+}
+
+/// The next token is past a limit of depth.
+pub fn too_deep(toks: &[Lexeme]) -> Failure
+    ensures { result ≡ Failure.At (too_deep toks.now) }
+{
+    Failure::At(Fault {
+        cause: ErrorKind::TooDeep,
+        left: toks.len(),
+    })
+}
+
+/// The next token is a number that is no `Int`.
+pub fn bad_number(toks: &[Lexeme]) -> Failure
+    ensures { result ≡ Failure.At (bad_number toks.now) }
+{
+    Failure::At(Fault {
+        cause: ErrorKind::BadNumber,
+        left: toks.len(),
+    })
+}
+
+fn begins(mark: Mark, toks: &[Lexeme]) -> bool
+    ensures { result ≡ begins mark toks.now }
+{
+    match toks.split_first() {
+        Some((first, _)) => first.sym.is(mark),
+        None => false,
+    }
+}
+
+/// The tokens after this mark, where it is the next.
+pub fn accept(mark: Mark, toks: &[Lexeme]) -> Option<&[Lexeme]>
+    ensures value { MatchOption result (accept mark toks.now ≡ None) (λ rest. accept mark toks.now ≡ Some rest.now) }
+    ensures shorter { IfSome result (λ rest. length rest.now < length toks.now) }
+{
+    match toks.split_first() {
+        Some((_, rest)) if begins(mark, toks) => Some(rest),
+        _ => None,
+    }
+}
+
+/// The token that is this mark.
+pub fn expect(mark: Mark, toks: &[Lexeme]) -> Result<(Lexeme, &[Lexeme]), Failure>
+    ensures gives { ReadsAs (λ r. (r.0, r.1.now)) result (expect mark toks.now) }
+    ensures shorter { IfOk result (λ r. length r.1.now ≤ length toks.now) }
+{
+    match toks.split_first() {
+        Some((first, rest)) if begins(mark, toks) => Ok((*first, rest)),
+        _ => Err(unexpected(toks)),
+    }
+}
+
+/// Whether a token is a name.
+pub fn is_name_kind(sym: TokenKind) -> bool
+    ensures { result ≡ is_name_kind sym }
+{
+    match sym {
+        TokenKind::Name => true,
+        TokenKind::Mark(_) => false,
+        TokenKind::Number(_) => false,
+        TokenKind::Other => false,
+    }
+}
+
+/// The token that is a name.
+pub fn expect_name(toks: &[Lexeme]) -> Result<(Lexeme, &[Lexeme]), Failure>
+    ensures gives { ReadsAs (λ r. (r.0, r.1.now)) result (expect_name toks.now) }
+    ensures shorter { IfOk result (λ r. length r.1.now ≤ length toks.now) }
+{
+    match toks.split_first() {
+        Some((first, rest)) => {
+            if is_name_kind(first.sym) {
+                Ok((*first, rest))
+            } else {
+                Err(unexpected(toks))
+            }
+        }
+        None => Err(unexpected(toks)),
+    }
+}
+
+fn operator_mark(mark: Mark) -> Option<(u8, Op)>
+    ensures { result ≡ operator_mark mark }
+{
+    match mark {
+        Mark::Star => Some((0, Op::Mul)),
+        Mark::Plus => Some((1, Op::Add)),
+        Mark::Minus => Some((1, Op::Sub)),
+        Mark::EqEq => Some((2, Op::Eq)),
+        Mark::Lt => Some((2, Op::Lt)),
+        Mark::Le => Some((2, Op::Le)),
+        Mark::AndAnd => Some((3, Op::And)),
+        Mark::OrOr => Some((4, Op::Or)),
+        _ => None,
+    }
+}
+
+fn operator_of(sym: TokenKind) -> Option<(u8, Op)>
+    ensures { result ≡ operator_of sym }
+{
+    match sym {
+        TokenKind::Mark(mark) => operator_mark(mark),
+        TokenKind::Number(_) => None,
+        TokenKind::Name => None,
+        TokenKind::Other => None,
+    }
+}
+
+/// An operator of this tier and the tokens after it, where it is the next.
+pub fn operator(tier: u8, toks: &[Lexeme]) -> Option<(Op, &[Lexeme])>
+    ensures value { MatchOption result (op_next tier toks.now ≡ None) (λ r. op_next tier toks.now ≡ Some (r.0, r.1.now)) }
+    ensures shorter { IfSome result (λ r. length r.1.now < length toks.now) }
+{
+    let Some((first, rest)) = toks.split_first() else {
+        return None;
+    };
+    let Some((own, op)) = operator_of(first.sym) else {
+        return None;
+    };
+    if own == tier { Some((op, rest)) } else { None }
+}
+
+/// How the operators of a tier group.
+pub fn groups(tier: u8) -> Grouping
+    ensures { result ≡ grouping_of tier }
+{
+    match tier {
+        0 => Grouping::ToLeft,
+        1 => Grouping::ToLeft,
+        2 => Grouping::NotChained,
+        _ => Grouping::ToRight,
+    }
+}

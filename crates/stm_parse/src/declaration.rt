@@ -1,0 +1,97 @@
+//! A text as the declaration of a variable.
+
+ghost use Rattle.std.specs.Prelude.{◌≡◌, ◌≤◌, length, true, MatchResult, IfOk, string_bytes};
+ghost use Rattle.std.specs.Str.{IsAscii};
+ghost use Rattle.stm_terms.specs.Names.{is_name_text};
+ghost use Rattle.stm_terms.specs.ParsedAst.{IsSpan, NamesWithin, raw_term_of};
+ghost use Rattle.stm_parse.specs.Declarations.{declaration_tree_of, init_of, declaration_in, declaration_of, parsed_initial};
+ghost use Rattle.stm_parse.specs.Grammar.{DeclarationTree, IsDeclaration, most_refs};
+ghost use Rattle.stm_parse.specs.ParseFunction.{parsed_declaration};
+ghost use Rattle.stm_parse.specs.UnlessNoMemory.{ParsesAs};
+ghost use Rattle.stm_parse.specs.ParseResult.{IsTextOf, IsReported, OrNoMemory};
+ghost use Rattle.stm_parse.specs.Descent.{ReadsAs, declaration_reader, whole};
+
+use crate::block::{fault_of_failure, lexed};
+use crate::cursor::unexpected;
+use crate::fault::ParseFault;
+use crate::token::{Failure, Lexeme};
+use crate::types::{RawDeclaration, declaration};
+use std::alloc::Global;
+use stm_terms::{NoMemory, RawExpr, Ty, Value};
+
+/// What a declared variable holds at first: a value, or a reference to the variable of a name, with the place of the name.
+#[derive(Drop)]
+pub enum Init {
+    Literal(Value),
+    Name(String, usize),
+}
+
+/// The declaration of a variable.
+#[derive(Drop)]
+pub struct Declaration {
+    pub name: String,
+    pub ty: Ty,
+    pub init: Init,
+}
+
+fn init_of(alloc: Global, text: &str, raw: RawExpr) -> Result<Init, NoMemory>
+    requires ascii { IsAscii text.now }
+    requires spans { NamesWithin (length text.now) (raw_term_of raw) }
+    ensures { IfOk result (λ i. parsed_initial i ≡ init_of text.now (raw_term_of raw)) }
+{
+    match raw {
+        RawExpr::Int(n, _) => Ok(Init::Literal(Value::Int(n))),
+        RawExpr::Bool(b, _) => Ok(Init::Literal(Value::Bool(b))),
+        RawExpr::Unit(_) => Ok(Init::Literal(Value::Unit)),
+        RawExpr::Name(from, to) => Ok(Init::Name(String::from_str(alloc, &text[from..to])?, from)),
+        // No declaration has an operator.
+        RawExpr::Bin(_, _, _) => Ok(Init::Literal(Value::Unit)),
+    }
+}
+
+fn owned(alloc: Global, text: &str, raw: RawDeclaration) -> Result<Declaration, NoMemory>
+    requires ascii { IsAscii text.now }
+    requires name { IsSpan (length text.now) raw.from raw.to }
+    requires spans { NamesWithin (length text.now) (raw_term_of raw.init) }
+    ensures { IfOk result (λ d. declaration_of d ≡ declaration_in text.now (declaration_tree_of raw)) }
+{
+    let name = String::from_str(alloc, &text[raw.from..raw.to])?;
+    let init = init_of(alloc, text, raw.init)?;
+    Ok(Declaration {
+        name,
+        ty: raw.ty,
+        init,
+    })
+}
+
+fn whole_declaration(toks: &[Lexeme]) -> Result<RawDeclaration, Failure>
+    ensures gives { ReadsAs declaration_tree_of result (whole declaration_reader toks.now) }
+    ensures few { IfOk result (λ d. d.ty.refs ≤ most_refs) }
+{
+    let (declared, rest) = declaration(toks)?;
+    if rest.is_empty() {
+        Ok(declared)
+    } else {
+        Err(unexpected(rest))
+    }
+}
+
+/// The declaration that a text writes.
+///
+/// docs/LANGUAGE.md, "Grammar", has the productions, and "Which fault of the grammar is told" the order of the faults.
+pub fn parse_declare(alloc: Global, text: &str) -> Result<Declaration, ParseFault>
+    // What is read is a text of the declaration, and a fault is the one to be reported.
+    ensures right { MatchResult result (λ d. (t : DeclarationTree) × IsTextOf IsDeclaration text.now t × (declaration_of d ≡ declaration_in text.now t)) (λ e. IsReported IsDeclaration text.now e) }
+    // Each text is read, with its one tree, unless memory runs out.
+    ensures only { (t : DeclarationTree) → IsTextOf IsDeclaration text.now t → OrNoMemory result (λ d. declaration_of d ≡ declaration_in text.now t) }
+    // The answer is a function of the text.
+    ensures answer { ParsesAs declaration_of result (parsed_declaration text.now) }
+    ensures name { IfOk result (λ d. is_name_text (string_bytes d.name) ≡ true) }
+    ensures few { IfOk result (λ d. d.ty.refs ≤ most_refs) }
+{
+    let toks = lexed(alloc, text)?;
+    match whole_declaration(&toks) {
+        Ok(raw) => Ok(owned(alloc, text, raw)?),
+        Err(stop) => Err(fault_of_failure(&toks, stop)),
+    }
+}

@@ -1,0 +1,243 @@
+//! The tokens of a text as the grammar sees them, in one pass over its bytes.
+
+ghost use Rattle.std.specs.Prelude.{◌≡◌, ◌-◌, ◌<◌, ◌≤◌, ◌∷◌, length, take, drop, true, MatchResult, IfOk, IfErr};
+ghost use Rattle.std.specs.List.{list_all};
+ghost use Rattle.std.specs.Str.{IsAscii};
+ghost use Rattle.stm_terms.specs.Names.{is_word_byte, starts_lower};
+ghost use Rattle.stm_parse.specs.declared.tokenizer.TokenClass.TheVariants as kind;
+ghost use Rattle.stm_parse.specs.Bytes.{is_letter, word_len, number_len, number_of_digits};
+ghost use Rattle.stm_parse.specs.Lexing.{control_mark, action_mark, value_mark, word_mark, token_kind_of};
+ghost use Rattle.stm_parse.specs.ParseResult.{Lexes};
+ghost use Rattle.stm_parse.specs.LexerStep.{front_seen, IsSeen};
+ghost use Rattle.stm_parse.specs.ParsedBlock.{NamesOf};
+ghost use Rattle.stm_parse.specs.UnlessNoMemory.{FailsAs};
+ghost use Rattle.stm_parse.specs.Tokenizer.{symbol_front, word_front, number_front, front_of, tokens_of, IsOfTokens, IsWithin};
+
+use crate::fault::ParseFault;
+use crate::token::{Lexeme, Mark, TokenKind};
+use crate::tokenizer::{
+    TokenClass, is_blank, is_digit, is_letter, number_len, number_of, pair_mark, single_mark,
+    word_len,
+};
+use std::alloc::Global;
+
+/// What stands at the front of some bytes, a token with what the grammar sees in it and its length.
+#[derive(Clone, Copy)]
+pub enum Piece {
+    Blank,
+    Found(TokenClass, TokenKind, usize),
+    BadByte,
+    LongName,
+    BadNumber,
+}
+
+// A word of control.
+#[tactic(auto, unfolding(crate::specs::Lexing::control_mark))]
+fn control_mark(word: &[u8]) -> Option<Mark>
+    ensures { result ≡ control_mark word.now }
+{
+    match word {
+        b"do" => Some(Mark::Do),
+        b"let" => Some(Mark::Let),
+        b"if" => Some(Mark::If),
+        b"then" => Some(Mark::Then),
+        b"else" => Some(Mark::Else),
+        _ => None,
+    }
+}
+
+// A word that begins an action.
+#[tactic(auto, unfolding(crate::specs::Lexing::action_mark))]
+fn action_mark(word: &[u8]) -> Option<Mark>
+    ensures { result ≡ action_mark word.now }
+{
+    match word {
+        b"return" => Some(Mark::Return),
+        b"readTVar" => Some(Mark::ReadTVar),
+        b"writeTVar" => Some(Mark::WriteTVar),
+        b"newTVar" => Some(Mark::NewTVar),
+        b"retry" => Some(Mark::Retry),
+        b"orElse" => Some(Mark::OrElse),
+        b"throw" => Some(Mark::Throw),
+        b"catch" => Some(Mark::Catch),
+        _ => None,
+    }
+}
+
+// A word for a value or a type.
+#[tactic(auto, unfolding(crate::specs::Lexing::value_mark))]
+fn value_mark(word: &[u8]) -> Option<Mark>
+    ensures { result ≡ value_mark word.now }
+{
+    match word {
+        b"True" => Some(Mark::True),
+        b"False" => Some(Mark::False),
+        b"Int" => Some(Mark::Int),
+        b"Bool" => Some(Mark::Bool),
+        b"TVar" => Some(Mark::TVar),
+        _ => None,
+    }
+}
+
+// A reserved word.
+fn word_mark(word: &[u8]) -> Option<Mark>
+    ensures { result ≡ word_mark word.now }
+{
+    if let Some(mark) = control_mark(word) {
+        return Some(mark);
+    }
+    if let Some(mark) = action_mark(word) {
+        return Some(mark);
+    }
+    value_mark(word)
+}
+
+fn starts_small(word: &[u8]) -> bool
+    ensures { result ≡ starts_lower word.now }
+{
+    match word {
+        [] => false,
+        [first, ..] => 97 <= *first && *first <= 122,
+    }
+}
+
+// A word that isn't reserved is a name by its first letter alone.
+#[tactic(auto, using(crate::proofs::Words::is_name_by_first))]
+fn word_kind(word: &[u8]) -> TokenKind
+    requires bytes { list_all is_word_byte word.now ≡ true }
+    requires short { length word.now ≤ 32 }
+    ensures { result ≡ token_kind_of kind.Word word.now }
+{
+    match word_mark(word) {
+        Some(mark) => TokenKind::Mark(mark),
+        None => {
+            if starts_small(word) {
+                TokenKind::Name
+            } else {
+                TokenKind::Other
+            }
+        }
+    }
+}
+
+fn symbol_piece(bytes: &[u8]) -> Piece
+    ensures front { front_seen result ≡ symbol_front bytes.now }
+    ensures sym { IsSeen bytes.now result }
+    ensures within { IsWithin (front_seen result) (length bytes.now) }
+{
+    match bytes {
+        [] => Piece::BadByte,
+        [a] => match single_mark(*a) {
+            Some(mark) => Piece::Found(TokenClass::Symbol, TokenKind::Mark(mark), 1),
+            None => Piece::BadByte,
+        },
+        [a, b, ..] => match pair_mark(*a, *b) {
+            Some(mark) => Piece::Found(TokenClass::Symbol, TokenKind::Mark(mark), 2),
+            None => match single_mark(*a) {
+                Some(mark) => Piece::Found(TokenClass::Symbol, TokenKind::Mark(mark), 1),
+                None => Piece::BadByte,
+            },
+        },
+    }
+}
+
+// A word, of which the first letter is given.
+#[tactic(auto, using(crate::proofs::Words::word_bytes, crate::proofs::Words::word_len_more))]
+fn word_piece(first: u8, rest: &[u8], bytes: &[u8]) -> Piece
+    requires bytes { bytes.now ≡ first ∷ rest.now }
+    requires letter { is_letter first ≡ true }
+    ensures front { front_seen result ≡ word_front (word_len bytes.now) }
+    ensures sym { IsSeen bytes.now result }
+    ensures within { IsWithin (front_seen result) (length bytes.now) }
+{
+    let n = 1 + word_len(rest);
+    if n > 32 {
+        Piece::LongName
+    } else {
+        Piece::Found(TokenClass::Word, word_kind(&bytes[..n]), n)
+    }
+}
+
+// A number, which has a digit.
+fn number_piece(bytes: &[u8]) -> Piece
+    requires { 0 < number_len bytes.now }
+    ensures front { front_seen result ≡ number_front (number_len bytes.now) (number_of_digits (take (number_len bytes.now) bytes.now)) }
+    ensures sym { IsSeen bytes.now result }
+    ensures within { IsWithin (front_seen result) (length bytes.now) }
+{
+    let n = number_len(bytes);
+    match number_of(&bytes[..n]) {
+        Some(value) => Piece::Found(TokenClass::Number, TokenKind::Number(value), n),
+        None => Piece::BadNumber,
+    }
+}
+
+/// What stands at the front of some bytes.
+#[tactic(auto, unfolding(crate::specs::Tokenizer::front_of), using(crate::proofs::Words::letter_not_blank))]
+pub(crate) fn first_piece(bytes: &[u8]) -> Piece
+    ensures front { front_seen result ≡ front_of bytes.now }
+    ensures sym { IsSeen bytes.now result }
+    ensures within { IsWithin (front_seen result) (length bytes.now) }
+{
+    let Some((first, rest)) = bytes.split_first() else {
+        return Piece::BadByte;
+    };
+    if is_letter(*first) {
+        word_piece(*first, rest, bytes)
+    } else if is_blank(*first) {
+        Piece::Blank
+    } else if is_digit(*first) {
+        number_piece(bytes)
+    } else {
+        symbol_piece(bytes)
+    }
+}
+
+fn piece_at(bytes: &[u8], place: usize) -> Piece
+    requires { place < length bytes.now }
+    ensures front { front_seen result ≡ front_of (drop place bytes.now) }
+    ensures sym { IsSeen (drop place bytes.now) result }
+    ensures within { IsWithin (front_seen result) (length bytes.now - place) }
+{
+    first_piece(&bytes[place..])
+}
+
+/// The tokens of a text, each with what it is, or the first fault by place.
+///
+/// The faults are `BadByte`, `BadNumber` and `NameTooLong`.
+pub fn lexemes(alloc: Global, text: &str) -> Result<Vec<Lexeme>, ParseFault>
+    ensures cuts { MatchResult result (λ v. Lexes text.now v.items) (λ e. FailsAs e (tokens_of text.now)) }
+    // So each place of the text is between characters.
+    ensures ascii { IfOk result (λ v. IsAscii text.now) }
+    ensures names { IfOk result (λ v. NamesOf text.now v.items) }
+    ensures faults { IfErr result IsOfTokens }
+{
+    cut_lexemes(alloc, text.as_bytes())
+}
+
+fn cut_lexemes(alloc: Global, bytes: &[u8]) -> Result<Vec<Lexeme>, ParseFault>
+    ensures cuts { MatchResult result (λ v. Lexes bytes.now v.items) (λ e. FailsAs e (tokens_of bytes.now)) }
+    ensures names { IfOk result (λ v. NamesOf bytes.now v.items) }
+    ensures faults { IfErr result IsOfTokens }
+{
+    // Few texts have more tokens than half their bytes, and long ones grow as they need.
+    let mut out = Vec::with_capacity(alloc, (bytes.len() / 2).min(64))?;
+    let mut place = 0;
+    while place < bytes.len() {
+        match piece_at(bytes, place) {
+            Piece::Blank => place += 1,
+            Piece::Found(_, sym, n) => {
+                out.push(Lexeme {
+                    sym,
+                    start: place,
+                    end: place + n,
+                })?;
+                place += n;
+            }
+            Piece::BadByte => return Err(ParseFault::BadByte(place)),
+            Piece::LongName => return Err(ParseFault::NameTooLong(place)),
+            Piece::BadNumber => return Err(ParseFault::BadNumber(place)),
+        }
+    }
+    Ok(out)
+}

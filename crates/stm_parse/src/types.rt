@@ -1,0 +1,128 @@
+//! The descent through types and declarations.
+
+ghost use Rattle.std.specs.Prelude.{◌≡◌, ◌+◌, ◌-◌, ◌<◌, ◌≤◌, suc, length, IfOk};
+ghost use Rattle.stm_terms.specs.ParsedAst.{raw_term_of};
+ghost use Rattle.stm_parse.specs.Grammar.{deepest, most_refs};
+ghost use Rattle.stm_parse.specs.Declarations.{declaration_tree_of};
+ghost use Rattle.stm_parse.specs.Descent.{ReadsAs, type_at, bare_at, bracketed_type, declaration_reader};
+
+use crate::cursor::{accept, expect, expect_name, too_deep, unexpected};
+use crate::expression::init;
+use crate::token::{Failure, Lexeme, Mark, TokenKind};
+use stm_terms::{Base, RawExpr, Ty};
+
+// A type with the given number of `TVar` around it.
+#[cycle(types)]
+#[tactic(auto, unfolding(crate::specs::Descent::type_at))]
+fn type_within(levels: u8, refs: u8, toks: &[Lexeme]) -> Result<(Ty, &[Lexeme]), Failure>
+    requires low { levels ≤ deepest }
+    requires few { refs ≤ most_refs }
+    ensures gives { ReadsAs (λ r. (r.0, r.1.now)) result (type_at levels refs toks.now) }
+    ensures shorter { IfOk result (λ r. length r.1.now ≤ length toks.now) }
+    ensures few { IfOk result (λ r. r.0.refs + refs ≤ most_refs) }
+{
+    let Some(rest) = accept(Mark::TVar, toks) else {
+        return bare_type(levels, refs, toks);
+    };
+    if refs >= 8 {
+        return Err(too_deep(toks));
+    }
+    let (inner, rest) = bare_type(levels, refs + 1, rest)?;
+    let outer = Ty {
+        base: inner.base,
+        refs: inner.refs + 1,
+    };
+    Ok((outer, rest))
+}
+
+// A type that needs no brackets after `TVar`.
+#[cycle(types)]
+#[tactic(auto, using(crate::proofs::TypeLevels::inside_type_none, crate::proofs::TypeLevels::inside_type_some), unfolding(crate::specs::Descent::bare_at))]
+fn bare_type(levels: u8, refs: u8, toks: &[Lexeme]) -> Result<(Ty, &[Lexeme]), Failure>
+    requires low { levels ≤ deepest }
+    requires few { refs ≤ most_refs }
+    ensures gives { ReadsAs (λ r. (r.0, r.1.now)) result (bare_at levels refs toks.now) }
+    ensures shorter { IfOk result (λ r. length r.1.now ≤ length toks.now) }
+    ensures few { IfOk result (λ r. r.0.refs + refs ≤ most_refs) }
+{
+    let Some((first, rest)) = toks.split_first() else {
+        return Err(unexpected(toks));
+    };
+    let TokenKind::Mark(word) = first.sym else {
+        return Err(unexpected(toks));
+    };
+    match word {
+        Mark::Int => Ok((
+            Ty {
+                base: Base::Int,
+                refs: 0,
+            },
+            rest,
+        )),
+        Mark::Bool => Ok((
+            Ty {
+                base: Base::Bool,
+                refs: 0,
+            },
+            rest,
+        )),
+        Mark::LParen => {
+            if levels == 0 {
+                return Err(too_deep(toks));
+            }
+            bracketed_type(levels - 1, refs, rest)
+        }
+        _ => Err(unexpected(toks)),
+    }
+}
+
+// After "(" in a type.
+#[cycle(types)]
+fn bracketed_type(levels: u8, refs: u8, toks: &[Lexeme]) -> Result<(Ty, &[Lexeme]), Failure>
+    requires low { levels ≤ deepest }
+    requires few { refs ≤ most_refs }
+    ensures gives { ReadsAs (λ r. (r.0, r.1.now)) result (bracketed_type (type_at levels refs) toks.now) }
+    ensures shorter { IfOk result (λ r. length r.1.now ≤ length toks.now) }
+    ensures few { IfOk result (λ r. r.0.refs + refs ≤ most_refs) }
+{
+    if let Some(rest) = accept(Mark::RParen, toks) {
+        return Ok((
+            Ty {
+                base: Base::Unit,
+                refs: 0,
+            },
+            rest,
+        ));
+    }
+    let (inner, rest) = type_within(levels, refs, toks)?;
+    let (_, rest) = expect(Mark::RParen, rest)?;
+    Ok((inner, rest))
+}
+
+/// A declared name by its span, its type, and what it holds at first.
+#[derive(Drop)]
+pub struct RawDeclaration {
+    pub from: usize,
+    pub to: usize,
+    pub ty: Ty,
+    pub init: RawExpr,
+}
+
+/// A declaration.
+pub fn declaration(toks: &[Lexeme]) -> Result<(RawDeclaration, &[Lexeme]), Failure>
+    ensures gives { ReadsAs (λ r. (declaration_tree_of r.0, r.1.now)) result (declaration_reader toks.now) }
+    ensures few { IfOk result (λ r. r.0.ty.refs ≤ most_refs) }
+{
+    let (name, rest) = expect_name(toks)?;
+    let (_, rest) = expect(Mark::Colon, rest)?;
+    let (ty, rest) = type_within(64, 0, rest)?;
+    let (_, rest) = expect(Mark::Equals, rest)?;
+    let (init, rest) = init(rest)?;
+    let declared = RawDeclaration {
+        from: name.start,
+        to: name.end,
+        ty,
+        init,
+    };
+    Ok((declared, rest))
+}
