@@ -37,17 +37,48 @@ impl Write for Gathered {
     }
 }
 
-/// A reader that gives so many bytes a call at most.
+/// A reader that gives so many bytes a call at most, and fails after so many calls.
 #[derive(Drop)]
 struct Slow<'a> {
     left: &'a [u8],
     most: usize,
+    calls: usize,
 }
 
 impl Read for Slow<'_> {
     fn read(&mut self, buf: &mut [u8]) -> io::Result<usize> {
+        if self.calls == 0 {
+            return Err(ErrorKind::Other.into());
+        }
+        self.calls -= 1;
         let end = buf.len().min(self.most);
         self.left.read(&mut buf[..end])
+    }
+}
+
+/// A writer that takes so many bytes a call at most, and fails after so many calls.
+#[derive(Drop)]
+struct Short {
+    taken: Gathered,
+    most: usize,
+    calls: usize,
+    is_refused_memory: bool,
+}
+
+impl Write for Short {
+    fn write(&mut self, buf: &[u8]) -> io::Result<usize> {
+        if self.calls == 0 {
+            return Err(ErrorKind::Other.into());
+        }
+        self.calls -= 1;
+        let end = buf.len().min(self.most);
+        let taken = self.taken.write(&buf[..end]);
+        self.is_refused_memory = self.is_refused_memory || taken.is_err();
+        taken
+    }
+
+    fn flush(&mut self) -> io::Result<()> {
+        Ok(())
     }
 }
 
@@ -80,8 +111,68 @@ fn judge(
     let mut reader = Slow {
         left: gathered.bytes.as_slice(),
         most: if most == 0 { usize::MAX } else { most },
+        calls: usize::MAX,
     };
     say_judgement(check_history(alloc, &mut reader), out)
+}
+
+/// Judges what was gathered, by a reader of sixteen bytes a call that fails after so many.
+fn judge_failing(
+    gathered: &Gathered,
+    alloc: Global,
+    calls: usize,
+    out: &mut String,
+) -> Result<(), AllocError> {
+    let mut reader = Slow {
+        left: gathered.bytes.as_slice(),
+        most: 16,
+        calls,
+    };
+    say_judgement(check_history(alloc, &mut reader), out)
+}
+
+/// Writes the history of the desk to a writer of sixteen bytes a call that fails after so many. Answers whether all was
+/// written, and whether what was written is a part of what was gathered, from its front.
+fn write_failing(
+    gathered: &Gathered,
+    desk: &Desk,
+    alloc: Global,
+    calls: usize,
+    out: &mut String,
+) -> Result<(), AllocError> {
+    let mut writer = Short {
+        taken: Gathered::new(alloc),
+        most: 16,
+        calls,
+        is_refused_memory: false,
+    };
+    let written = write_history(alloc, &mut writer, desk.table(), desk.history());
+    say_written(written, &writer, gathered, out)
+}
+
+fn say_written(
+    written: Result<(), WriteFault>,
+    writer: &Short,
+    gathered: &Gathered,
+    out: &mut String,
+) -> Result<(), AllocError> {
+    if writer.is_refused_memory {
+        return Err(AllocError);
+    }
+    let front = if gathered
+        .bytes
+        .as_slice()
+        .starts_with(writer.taken.bytes.as_slice())
+    {
+        "from its front"
+    } else {
+        "another text"
+    };
+    match written {
+        Ok(()) => writeln!(out, "whole, {front}"),
+        Err(WriteFault::Write) => writeln!(out, "write fault, {front}"),
+        Err(WriteFault::NoMemory) => Err(AllocError),
+    }
 }
 
 /// One line more, or a part of one.
@@ -127,11 +218,13 @@ fn answer_desk(
     gathered: &mut Gathered,
     desks: &Desks,
     call: &str,
+    calls: usize,
     alloc: Global,
     out: &mut String,
 ) -> Result<(), AllocError> {
     match (call, desks.desk()) {
         ("write", Some(desk)) => write(gathered, desk, alloc, out),
+        ("write_failing", Some(desk)) => write_failing(gathered, desk, alloc, calls, out),
         ("replay", Some(desk)) => say_judgement(replay(alloc, desk.table(), desk.history()), out),
         (_, None) => say("refused no desk", out),
         _ => say("no such call", out),
@@ -156,6 +249,7 @@ pub fn answer(
         "part" => gather(gathered, rest, "", out),
         "show" => show(gathered, out),
         "check" => judge(gathered, alloc, number(rest) as usize, out),
-        _ => answer_desk(gathered, desks, call, alloc, out),
+        "check_failing" => judge_failing(gathered, alloc, number(rest) as usize, out),
+        _ => answer_desk(gathered, desks, call, number(rest) as usize, alloc, out),
     }
 }
