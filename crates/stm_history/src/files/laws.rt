@@ -8,7 +8,7 @@ pub fn each_line_is_one_event()
     ensures lines { EventsAreLines }
 {}
 
-/// Bytes are the text of one history at most.
+/// The numbers of a text are fixed: bytes are the text of legal histories with the same numbers only.
 pub fn numbers_are_fixed()
     ensures { NumbersAreFixed }
 {}
