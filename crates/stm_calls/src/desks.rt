@@ -47,6 +47,13 @@ impl Desks {
     }
 }
 
+impl Desks {
+    /// The desk that is there.
+    pub fn desk(&self) -> Option<&Desk> {
+        self.desk.as_ref()
+    }
+}
+
 /// Opens a desk on the declared variables.
 fn open(
     desks: &mut Desks,

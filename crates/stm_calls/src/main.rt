@@ -14,6 +14,7 @@ mod desk_work;
 mod desks;
 mod evaluating;
 mod frozen;
+mod histories;
 mod input;
 mod log;
 mod log_calls;
@@ -26,6 +27,7 @@ mod words;
 
 use crate::desks::Desks;
 use crate::evaluating::Evaluating;
+use crate::histories::Gathered;
 use crate::input::Lines;
 use crate::log::Logging;
 use crate::words::{first_word, say};
@@ -59,6 +61,7 @@ struct Objects {
     log: Option<Logging>,
     evaluating: Evaluating,
     desks: Desks,
+    gathered: Gathered,
     calls_once: bool,
 }
 
@@ -74,6 +77,7 @@ fn new_objects(alloc: Global) -> Objects {
         log: None,
         evaluating: Evaluating::new(),
         desks: Desks::new(alloc),
+        gathered: Gathered::new(alloc),
         calls_once: false,
     }
 }
@@ -134,6 +138,7 @@ fn answer(
         "watch" => watch::answer(&mut objects.watch, alloc, call, out),
         "log" => log_calls::answer(&mut objects.log, &objects.frozen, alloc, call, out),
         "desk" => desks::answer(&mut objects.desks, &objects.table, alloc, call, out),
+        "history" => histories::answer(&mut objects.gathered, &objects.desks, alloc, call, out),
         "text" => blocks::answer(&objects.table, alloc, call, out),
         "block" => evaluating::answer_block(
             &mut objects.evaluating,

@@ -8,8 +8,7 @@ use Rattle.stm_history.specs.SlowDesk.{Waiter, find_waiter}
 use Rattle.stm_history.specs.SlowSettle.{lowest, is_due}
 use Rattle.stm_history.specs.Laws.{AreRising}
 use Rattle.stm_history.specs.SettleChoices.{some_out}
-use Rattle.stm_history.specs.QueueAndIndex.{due_of}
-use Rattle.stm_history.specs.MachineInvariant.{AreQueued}
+use Rattle.stm_history.specs.QueueAndIndex.{due_of, AreQueued}
 use Rattle.stm_history.proofs.Points.{not_above}
 
 itself : (i : ℕ) → nat_eq i i ≡ true

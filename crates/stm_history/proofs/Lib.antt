@@ -27,3 +27,21 @@ pub mod Moves
 pub mod Reading
 pub mod Ripe
 pub mod Taking
+-- Histories as text.
+pub mod Cuts
+pub mod Exact
+pub mod FitsPushed
+pub mod OneLines
+pub mod Parts
+pub mod Ranges
+pub mod ReadsBack
+pub mod Refusing
+pub mod RoundTrips
+pub mod Shortness
+pub mod Standing
+pub mod Steps
+pub mod Telling
+pub mod Types
+pub mod Unique
+pub mod Variables
+pub mod Written

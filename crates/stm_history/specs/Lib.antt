@@ -15,3 +15,15 @@ pub mod MachineInvariant
 pub mod Plans
 pub mod QueueAndIndex
 pub mod SettleChoices
+-- Histories as text: what a reader has to believe.
+pub mod FileLaws
+pub mod Fits
+pub mod HistoryText
+pub mod Judgement
+pub mod Lines
+-- And the words inside.
+pub mod Checking
+pub mod Fields
+pub mod Following
+pub mod Stages
+pub mod Variables

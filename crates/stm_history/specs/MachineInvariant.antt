@@ -2,15 +2,11 @@
 use Rattle.std.specs.Prelude.{◌≡◌, ℕ, List}
 use Rattle.stm_store.specs.declared.cell.Cell.{Cell}
 use Rattle.stm_watch.specs.Pairs.{Pairs, has_pair}
-use Rattle.stm_queue.specs.Queue.{Entry, has_ticket}
+use Rattle.stm_queue.specs.Queue.{Entry}
 use Rattle.stm_history.specs.SlowDesk.{Waiter, Slow, find_waiter}
 use Rattle.stm_history.specs.declared.waiting.Waiting.{Waiting}
 use Rattle.stm_history.specs.Entries.{AreDue}
-use Rattle.stm_history.specs.QueueAndIndex.{due_of, watches_of}
-
--- the tickets that are queued or out are those of the new and the stale blocks
-abbrev pub AreQueued : List Entry → List Waiter → Type 0
-AreQueued pending ws = (t : ℕ) → has_ticket t pending ≡ due_of (find_waiter t ws)
+use Rattle.stm_history.specs.QueueAndIndex.{AreQueued, watches_of}
 
 -- the index has a pair of each current block's ticket with each variable that it read, and no other pair
 abbrev pub AreWatched : Pairs → List Waiter → Type 0

@@ -93,6 +93,7 @@ abbrev pub install_told : {A : Type 0} → Result A DeliverError → Option Deli
 install_told (Ok x) = None
 install_told (Err e) = deliver_error e
 
+-- the same, where the message is handed back beside the error
 abbrev pub deliver_told : {A B : Type 0} → Result A (B × DeliverError) → Option DeliverError
 deliver_told (Ok x) = None
 deliver_told (Err e) = deliver_error e.1

@@ -21,5 +21,6 @@ pub mod TokenizerTurn
 pub mod TreeNamesAndSize
 pub mod TypeLevels
 pub mod TypeReaders
+pub mod TypesBack
 pub mod WholeTextRead
 pub mod Words

@@ -12,4 +12,5 @@ pub mod ParseResult
 pub mod ParsedBlock
 pub mod Terminals
 pub mod Tokenizer
+pub mod TypeTexts
 pub mod UnlessNoMemory

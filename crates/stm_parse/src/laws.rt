@@ -3,6 +3,7 @@
 ghost use Rattle.stm_parse.specs.Laws.{BlocksAreUnambiguous, DeclarationsAreUnambiguous, EachBlockFaultIsOne, EachDeclarationFaultIsOne, BlockOrFault, DeclarationOrFault};
 ghost use Rattle.stm_parse.specs.Laws.{ProductsGroupToTheLeft, SumsGroupToTheLeft, ComparisonsAreNotChained, ConjunctionsGroupToTheRight, DisjunctionsGroupToTheRight, ProductsBindTightest, SumsBindTighter, ComparisonsBindTighter, ConjunctionsBindTighter};
 ghost use Rattle.stm_parse.specs.ParseFunction.{BlockAnswersAreRight, DeclarationAnswersAreRight};
+ghost use Rattle.stm_parse.specs.TypeTexts.{TypesAreReadBack};
 
 /// Each text has one tree.
 pub fn texts_are_unambiguous()
@@ -52,4 +53,9 @@ pub fn each_tier_binds_tighter_than_the_next()
 pub fn answers_are_right()
     ensures blocks { BlockAnswersAreRight }
     ensures declarations { DeclarationAnswersAreRight }
+{}
+
+/// A declaration that is written with the text of a type, of at most 8 `TVar`, has that type.
+pub fn types_are_read_back()
+    ensures { TypesAreReadBack }
 {}

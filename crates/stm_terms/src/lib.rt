@@ -13,6 +13,7 @@ pub mod lists;
 pub mod naming;
 pub mod raw;
 pub mod same;
+pub mod same_verdict;
 pub mod text;
 pub mod values;
 pub mod verdicts;

@@ -1,0 +1,34 @@
+-- The block of a text: parsed, and checked against the declared variables; or its first fault.
+use Rattle.std.specs.Prelude.{ℕ, List, [], Option, Some, None, Result, Ok, Err}
+use Rattle.stm_terms.specs.declared.kinds.Ty.{Ty}
+use Rattle.stm_terms.specs.ParsedAst as raw
+use Rattle.stm_terms.specs.Ast.{Act}
+use Rattle.stm_terms.specs.Typing.{ActionType, Gives, Any, uses_of}
+use Rattle.stm_parse.specs.declared.fault.ParseFault.{ParseFault}
+use Rattle.stm_parse.specs.ParseFunction.{parsed_block}
+use Rattle.stm_store.specs.Tables.{Declared}
+use Rattle.stm_check.specs.TypedBlock.{Block}
+use Rattle.stm_check.specs.CheckFunction.{checked, table_kinds}
+use Rattle.stm_check.specs.declared.fault.TypeFault.{TypeFault}
+
+-- why a text is no block: a fault of the grammar, or one of types
+pub data BlockFault : Type 0 where
+  NotParsed : ParseFault → BlockFault
+  NotTyped : TypeFault → BlockFault
+
+-- the type of a result, none for any
+abbrev pub given_type : ActionType → Option Ty
+given_type (Gives t) = Some t
+given_type Any = None
+
+abbrev pub block_if_typed : List Declared → List ℕ → Result (Act × ActionType) TypeFault → Result Block BlockFault
+block_if_typed table text (Ok c) = Ok (record { tree = c.0; text = text; result_type = given_type c.1; uses = uses_of (table_kinds table) c.0 })
+block_if_typed table text (Err e) = Err (NotTyped e)
+
+abbrev pub block_if_parsed : List Declared → List ℕ → Result raw.RawAct ParseFault → Result Block BlockFault
+block_if_parsed table text (Ok t) = block_if_typed table text (checked table text [] t)
+block_if_parsed table text (Err e) = Err (NotParsed e)
+
+-- the block of a text over a table, or the first fault of the text
+unfoldable pub checked_block : List Declared → List ℕ → Result Block BlockFault
+checked_block table text = block_if_parsed table text (parsed_block text)

@@ -1,0 +1,91 @@
+-- The lines of headers and of variables are short.
+use Rattle.std.proofs.Common.{◌≡◌, ℕ, zero, suc, ◌+◌, ◌*◌, ◌/◌, ◌%◌, ◌≤◌, Bool, true, false, cond, List, [], ◌∷◌, ◌++◌, length, refl, arith, length-append, codes, pos, negsuc, IsTrue}
+use Rattle.std.specs.Prelude.{◌&&◌, nat_lt, nat_le, not}
+use Rattle.std.specs.Char.{digit_char}
+use Rattle.std.specs.List.{list_all}
+use Rattle.std.proofs.lemmas.Bool.Decides.{nat_tests}
+use Rattle.std.proofs.lemmas.Fmt.{length-decimal-le}
+use Rattle.json.specs.Print.{escape_letter, escape_byte, escape}
+use Rattle.serde_json.specs.Written.{compact_text}
+use Rattle.stm_terms.specs.declared.kinds.Base.{Base}
+use Rattle.stm_terms.specs.declared.kinds.Base.TheVariants as base
+use Rattle.stm_terms.specs.declared.values.Value.{Value}
+use Rattle.stm_terms.specs.declared.values.Value.TheVariants as value
+use Rattle.stm_terms.specs.declared.values.Ref.TheVariants.{Old, New}
+use Rattle.stm_terms.specs.Names.{is_name_text, starts_lower, is_word_byte, is_reserved}
+use Rattle.stm_terms.specs.Texts.{refs_text, type_text}
+use Rattle.stm_store.specs.Tables.{Declared}
+use Rattle.stm_history.specs.Fits.{FitsValue, FitsVariable}
+use Rattle.stm_history.specs.Judgement.{IsShort}
+use Rattle.stm_history.specs.Lines.{format_1, header_line, variable_line, value_data}
+use Rattle.stm_history.specs.SlowDesk.{max_cells}
+
+pub header_short : (n : ℕ) → n ≤ max_cells → IsShort (header_line format_1 n)
+unfolding header_line escape_byte
+header_short n h =
+    let d = length-decimal-le 7 n (omega arith) (omega arith) (omega arith) in
+    let one = length-decimal-le 1 1 (omega arith) (omega arith) (omega arith) in
+    simp length-append (omega (arith, d, one))
+
+-- ---- a string in quotes is at most six times as long
+
+byte_cases : (b c : Bool) (x : ℕ) → length (cond b (92 ∷ escape_letter x ∷ []) (cond c (92 ∷ 117 ∷ 48 ∷ 48 ∷ digit_char (x / 16) ∷ digit_char (x % 16) ∷ []) (x ∷ []))) ≤ 6
+byte_cases true c x = omega arith
+byte_cases false true x = omega arith
+byte_cases false false x = omega arith
+
+byte_short : (x : ℕ) → length (escape_byte x) ≤ 6
+unfolding escape_byte
+byte_short x = byte_cases (nat_lt 0 (escape_letter x)) (nat_lt x 32) x
+
+escape_short : (s : List ℕ) → length (escape s) ≤ 6 * length s
+escape_short [] = omega arith
+escape_short (x ∷ s) = let b = byte_short x in let i = escape_short s in let l = length-append (escape_byte x) (escape s) in omega (arith, b, i, l)
+
+-- ---- types, values, names
+
+base_short : (b : Base) → length (refs_text b zero) ≤ 4
+base_short base.Int = omega arith
+base_short base.Bool = omega arith
+base_short base.Unit = omega arith
+
+refs_short : (b : Base) (n : ℕ) → length (refs_text b n) ≤ 7 * n + 4
+refs_short b zero = let h = base_short b in omega (arith, h)
+refs_short b (suc zero) = let h = base_short b in let l = length-append (codes "TVar ") (refs_text b zero) in omega (arith, h, l)
+refs_short b (suc (suc n)) =
+    let h = refs_short b (suc n) in
+    let l = length-append (codes "TVar (") (refs_text b (suc n) ++ codes ")") in
+    let m = length-append (refs_text b (suc n)) (codes ")") in
+    omega (arith, h, l, m)
+
+value_short : (v : Value) → FitsValue v → length (compact_text (value_data v)) ≤ 64
+unfolding escape_byte
+value_short (value.Int (pos n)) h = let d = length-decimal-le 20 n (omega arith) (omega arith) (omega arith) in omega (arith, d)
+value_short (value.Int (negsuc n)) h = let d = length-decimal-le 20 (suc n) (omega arith) (omega arith) (omega arith) in omega (arith, d)
+value_short (value.Bool true) h = omega arith
+value_short (value.Bool false) h = omega arith
+value_short value.Unit h = omega arith
+value_short (value.Var (Old i)) h = let d = length-decimal-le 20 i (omega arith) (omega arith) (omega arith) in simp length-append (omega (arith, d))
+value_short (value.Var (New k)) h = let d = length-decimal-le 20 k (omega arith) (omega arith) (omega arith) in simp length-append (omega (arith, d))
+
+last_of : (a b c d : Bool) → IsTrue (a && b && c && d) → d ≡ true
+last_of true true true true h = refl
+last_of true true true false h = absurd cc
+last_of true true false d h = absurd cc
+last_of true false c d h = absurd cc
+last_of false b c d h = absurd cc
+
+name_short : (name : List ℕ) → IsTrue (is_name_text name) → length name ≤ 32
+unfolding is_name_text
+name_short name h = let e = last_of (starts_lower name) (list_all is_word_byte name) (not (is_reserved name)) (nat_le (length name) 32) h in grind (arith, nat_tests)
+
+pub variable_short : (d : Declared) → FitsVariable d → IsShort (variable_line d)
+unfolding variable_line escape_byte type_text
+variable_short d f =
+    let v = value_short d.value f.2 in
+    let n = name_short d.name f.0 in
+    let e = escape_short d.name in
+    let r = refs_short d.kind.base d.kind.refs in
+    let t = escape_short (refs_text d.kind.base d.kind.refs) in
+    let few : d.kind.refs ≤ 8 = f.1 in
+    simp length-append (omega (arith, v, n, e, r, t, few))

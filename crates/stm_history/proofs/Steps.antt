@@ -1,0 +1,156 @@
+-- What a legal event says of the slow desk before it: no question is refused, and its fields are the answers.
+use Rattle.std.proofs.Common.{◌≡◌, ◌≢◌, ℕ, ◌<◌, false, List, [], ◌∷◌, ◌++◌, length, Option, Some, None, Result, Ok, Err, OnOk, is_some, refl, sym, ap, ◌∙◌, subst, arith, length-append}
+use Rattle.std.specs.Prelude.{IsSomeAnd, IfSome, option_map}
+use Rattle.stm_terms.specs.declared.kinds.Ty.{Ty}
+use Rattle.stm_terms.specs.declared.values.Value.{Value}
+use Rattle.stm_terms.specs.declared.verdicts.Verdict.{Verdict}
+use Rattle.stm_store.specs.Cells.{plains}
+use Rattle.stm_store.specs.Tables.{Declared}
+use Rattle.stm_check.specs.TypedBlock.{Block}
+use Rattle.stm_eval.specs.declared.message.Evaluated.{Evaluated}
+use Rattle.stm_eval.specs.EvaluatedFields.{message_ticket, message_block, message_reads, message_verdict}
+use Rattle.stm_history.specs.declared.errors.DeliverError.{DeliverError}
+use Rattle.stm_history.specs.declared.event.Event.{Event}
+use Rattle.stm_history.specs.declared.event.What.{What}
+use Rattle.stm_history.specs.declared.event.What.TheVariants.{Submitted, Installed, Finished, Cancelled}
+use Rattle.stm_history.specs.Following.{HasRoom}
+use Rattle.stm_history.specs.Machine.{Parts, MovesTo, event}
+use Rattle.stm_history.specs.Plans.{IsPlan}
+use Rattle.stm_history.specs.Refusals.{submit_refused, cancel_refused, differing, DeliverTold, TellsDelivery, finish_refused}
+use Rattle.stm_history.specs.SlowDesk.{Waiter, Slow, under, verdict_on, find_waiter, without_waiter, stale_after, written_in, MayInstall, MayFinish, Allows, initial_state, state, IsLegal, max_events, max_clients, after}
+use Rattle.stm_history.specs.JobsHandedOut.{IsPresent, block_at}
+use Rattle.stm_history.proofs.Allowed.{wait_allowed, leave_allowed, finish_allowed}
+use Rattle.stm_history.proofs.Folds.{legal_split, state-push}
+
+module _ (table : List Declared) (history : List Event) (client : ℕ) (what : What) (a : IsLegal table (history ++ event client what ∷ [])) where
+  -- the slow desk allows it
+  pub allowed : Allows (state table history) what
+  allowed = (legal_split (initial_state table) history (event client what) a.each).allowed.what
+
+  pub client_low : client < max_clients
+  client_low = (legal_split (initial_state table) history (event client what) a.each).allowed.client
+
+  pub before_full : length history < max_events
+  before_full = let l = length-append history (event client what ∷ []) in omega (arith, a.few, l)
+
+-- ---- submit
+
+pub no_submit : (table : List Declared) (history : List Event) (client t : ℕ) (b : Block) → IsLegal table (history ++ event client (Submitted t b) ∷ []) → submit_refused (state table history) false b ≡ None
+no_submit table history client t b a = wait_allowed (state table history) t b (allowed table history client (Submitted t b) a)
+
+pub submit_same : (table : List Declared) (history : List Event) (client other t u : ℕ) (b c : Block) → IsLegal table (history ++ event client (Submitted t b) ∷ []) → IsLegal table (history ++ event other (Submitted u c) ∷ []) → t ≡ u
+submit_same table history client other t u b c k l = (allowed table history client (Submitted t b) k).0 ∙ sym (allowed table history other (Submitted u c) l).0
+
+-- ---- cancel
+
+pub no_cancel : (table : List Declared) (history : List Event) (client t : ℕ) → IsLegal table (history ++ event client (Cancelled t) ∷ []) → cancel_refused (state table history) false t ≡ None
+no_cancel table history client t a = leave_allowed (state table history) t (allowed table history client (Cancelled t) a)
+
+-- ---- finish
+
+pub no_finish : (table : List Declared) (history : List Event) (client t : ℕ) (v : Verdict) (n : ℕ) (stale : List ℕ) → IsLegal table (history ++ event client (Finished t v n stale) ∷ []) → finish_refused (state table history) false t ≡ None
+no_finish table history client t v n stale a = finish_allowed (state table history) t v n stale (allowed table history client (Finished t v n stale) a)
+
+-- the fields are those of the block
+pub record AreSame (v u : Verdict) (n m : ℕ) (k l : List ℕ) : Type 0 where
+  pub verdicts : v ≡ u
+  pub firsts : n ≡ m
+  pub tickets : k ≡ l
+
+some_same : {A : Type 0} (x y : A) (o : Option A) → o ≡ Some x → o ≡ Some y → x ≡ y
+some_same x y o e f = cc
+
+finish_same_by : (s : Slow) (t : ℕ) (v u : Verdict) (n m : ℕ) (k l : List ℕ) (o : Option Waiter) → IsSomeAnd o (λ w. MayFinish s t w v n k) → IsSomeAnd o (λ w. MayFinish s t w u m l) → AreSame v u n m k l
+finish_same_by s t v u n m k l None f g = absurd f
+finish_same_by s t v u n m k l (Some w) f g =
+    let e : v ≡ u = some_same v u (verdict_on s.store w.block) f.verdict_is g.verdict_is in
+    record {
+      verdicts = e;
+      firsts = f.first_new ∙ sym g.first_new;
+      tickets = f.listed ∙ ap (λ (x : Verdict). stale_after (written_in x) (without_waiter t s.waiters)) e ∙ sym g.listed;
+    }
+
+plan_may : (s : Slow) (t : ℕ) (v : Verdict) (n : ℕ) (stale : List ℕ) → IsPlan s t v n stale → IsSomeAnd (find_waiter t s.waiters) (λ w. MayFinish s t w v n stale)
+plan_may s t v n stale p = subst (λ (o : Option Waiter). IsSomeAnd o (λ w. MayFinish s t w v n stale)) (sym p.found) p.may
+
+-- a legal finish has the fields of the plan
+pub finish_same : (table : List Declared) (history : List Event) (client t : ℕ) (v u : Verdict) (n m : ℕ) (k l : List ℕ)
+    → IsPlan (state table history) t v n k → IsLegal table (history ++ event client (Finished t u m l) ∷ []) → AreSame v u n m k l
+finish_same table history client t v u n m k l p g =
+    finish_same_by (state table history) t v u n m k l (find_waiter t (state table history).waiters) (plan_may (state table history) t v n k p) (allowed table history client (Finished t u m l) g)
+
+-- ---- install
+
+-- a message of the present store is not refused where its verdict may be installed
+install_by : (s : Slow) (v : Verdict) (told : Option DeliverError) (w : Waiter) (o : Option Waiter) (m : Evaluated) → o ≡ Some w → IsSomeAnd o (λ w. MayInstall s w v) → message_block m ≡ w.block
+    → differing (under s.store) (message_reads m) ≡ None → DeliverTold told s.store false o (message_block m) (message_reads m) → told ≡ None
+install_by s v told w None m f a e d k = absurd a
+install_by s v told w (Some x) m f a e d k =
+    let q : x ≡ w = cc in
+    let trees : x.block.tree ≡ (message_block m).tree = ap (λ (y : Waiter). y.block.tree) q ∙ ap (λ (y : Block). y.tree) (sym e) in
+    k.1 trees ∙ rw (a.not_current, d) refl
+
+pub no_install : (table : List Declared) (history : List Event) (client : ℕ) (v : Verdict) (told : Option DeliverError) (m : Evaluated) → IsLegal table (history ++ event client (Installed (message_ticket m) v) ∷ [])
+    → IsPresent (state table history) (message_ticket m) m → TellsDelivery told (state table history) false (message_ticket m) (message_block m) (message_reads m) → told ≡ None
+no_install table history client v told m a p k =
+    install_by (state table history) v told p.one (find_waiter (message_ticket m) (state table history).waiters) m p.found (allowed table history client (Installed (message_ticket m) v) a) p.block p.differs k
+
+install_same_by : (s : Slow) (v u : Verdict) (w : Waiter) (o : Option Waiter) → o ≡ Some w → IsSomeAnd o (λ w. MayInstall s w v) → verdict_on s.store w.block ≡ Some u → u ≡ v
+install_same_by s v u w None f m e = absurd m
+install_same_by s v u w (Some x) f m e =
+    let q : x ≡ w = cc in
+    some_same u v (verdict_on s.store w.block) e (ap (λ (y : Waiter). verdict_on s.store y.block) (sym q) ∙ m.verdict_is)
+
+-- a legal verdict is the one that the message brings
+pub install_same : (table : List Declared) (history : List Event) (client : ℕ) (v : Verdict) (m : Evaluated) → IsLegal table (history ++ event client (Installed (message_ticket m) v) ∷ []) → IsPresent (state table history) (message_ticket m) m → message_verdict m ≡ v
+install_same table history client v m a p =
+    install_same_by (state table history) v (message_verdict m) p.one (find_waiter (message_ticket m) (state table history).waiters) p.found (allowed table history client (Installed (message_ticket m) v) a) p.verdict
+
+none_waits : (s : Slow) (v : Verdict) (o : Option Waiter) → IsSomeAnd o (λ w. MayInstall s w v) → option_map (λ w. w.block) o ≢ None
+none_waits s v None m e = m
+none_waits s v (Some w) m e = cc
+
+pub no_block : (table : List Declared) (history : List Event) (client t : ℕ) (v : Verdict) → IsLegal table (history ++ event client (Installed t v) ∷ []) → block_at (state table history) t ≢ None
+no_block table history client t v a = none_waits (state table history) v (find_waiter t (state table history).waiters) (allowed table history client (Installed t v) a)
+
+-- ---- the store stays, but for a finish
+
+abbrev pub KeepsStore : What → Type 0
+KeepsStore (Submitted t b) = Unit {0}
+KeepsStore (Installed t v) = Unit {0}
+KeepsStore (Finished t v n stale) = ⊥
+KeepsStore (Cancelled t) = Unit {0}
+
+after_keeps : (s : Slow) (what : What) → KeepsStore what → (after s what).store ≡ s.store
+after_keeps s (Submitted t b) k = refl
+after_keeps s (Installed t v) k = refl
+after_keeps s (Finished t v n stale) k = absurd k
+after_keeps s (Cancelled t) k = refl
+
+pub store_kept : (table : List Declared) (history : List Event) (what : What) (m n : Parts) → KeepsStore what → HasRoom table history m → MovesTo table history what n → n.store ≡ m.store
+store_kept table history what m n k h moved =
+    let after_it = moved 0 (omega arith) in
+    after_it.stands.store_is ∙ ap (λ (s : Slow). s.store) (state-push (initial_state table) history (event 0 what)) ∙ after_keeps (state table history) what k ∙ sym h.stands.stands.store_is
+
+-- a call that may be refused keeps the store where it is not
+pub copy_kept : {E : Type 0} (r : Result Unit E) (table : List Declared) (history : List Event) (what : What) (m n : Parts) (copy : Option (List (Ty × Value))) → KeepsStore what → HasRoom table history m
+    → OnOk r ((T : List Declared) (H : List Event) → HasRoom T H m → MovesTo T H what n) → IfSome copy (λ cells. cells ≡ plains m.store) → OnOk r (IfSome copy (λ cells. cells ≡ plains n.store))
+copy_kept (Ok x) table history what m n None k h moved c = tt
+copy_kept (Ok x) table history what m n (Some cells) k h moved c = c ∙ ap plains (sym (store_kept table history what m n k h (moved table history h)))
+copy_kept (Err e) table history what m n copy k h moved c = tt
+
+made_by_copy : (table : List Declared) (history : List Event) (what : What) (m n : Parts) (copy : Option (List (Ty × Value))) → KeepsStore what → HasRoom table history m → MovesTo table history what n → copy ≡ Some (plains m.store)
+    → IfSome copy (λ cells. cells ≡ plains n.store)
+made_by_copy table history what m n None k h moved c = tt
+made_by_copy table history what m n (Some cells) k h moved c =
+    let same : cells ≡ plains m.store = cc in
+    same ∙ ap plains (sym (store_kept table history what m n k h moved))
+
+pub copy_made : {E : Type 0} (r : Result Unit E) (table : List Declared) (history : List Event) (what : What) (m n : Parts) (copy : Option (List (Ty × Value))) → KeepsStore what → HasRoom table history m
+    → OnOk r ((T : List Declared) (H : List Event) → HasRoom T H m → MovesTo T H what n) → OnOk r (copy ≡ Some (plains m.store)) → OnOk r (IfSome copy (λ cells. cells ≡ plains n.store))
+copy_made (Ok x) table history what m n copy k h moved c = made_by_copy table history what m n copy k h (moved table history h) c
+copy_made (Err e) table history what m n copy k h moved c = tt
+
+pub map_none : {A B : Type 0} (f : A → B) (o : Option A) → is_some o ≡ false → option_map f o ≡ None
+map_none f None e = refl
+map_none f (Some x) e = cc

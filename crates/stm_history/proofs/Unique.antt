@@ -1,0 +1,130 @@
+-- Two readings of the same bytes are one.
+use Rattle.std.proofs.Common.{◌≡◌, ℕ, ◌≤◌, ◌<◌, List, [], ◌∷◌, ◌++◌, length, refl, sym, ap, ◌∙◌, subst, arith, append_assoc, append-nil, length-append}
+use Rattle.stm_store.specs.Tables.{Declared}
+use Rattle.stm_history.specs.declared.event.Event.{Event}
+use Rattle.stm_history.specs.SlowDesk.{IsLegal, LegalFrom, Slow, max_events, initial_state, after}
+use Rattle.stm_history.specs.Fits.{FitsTable}
+use Rattle.stm_history.specs.Lines.{format_1, event_line, header_line, variable_line}
+use Rattle.stm_history.proofs.ReadsBack.{event_one_line, header_one_line, variable_one_line, header_same, variable_same, event_same}
+use Rattle.stm_history.specs.declared.files.fault.HistoryFault.TheVariants.{BadHeader}
+use Rattle.stm_history.specs.HistoryText.{head_text, history_text, variable_lines, event_lines}
+use Rattle.stm_history.specs.Judgement.{IsShort, AreVariablesFrom, AreEvents, BeginsWithHistory, NoEventNext, IsIllegal, TellsFault, numbers}
+use Rattle.stm_history.specs.FileLaws.{NumbersAreFixed, HistoriesAreTaken}
+use Rattle.stm_history.proofs.Cuts.{IsCut, cut_unique, no_feed}
+
+-- ---- the tables
+pub record IsOneTable (xs ys : List Declared) (a b : List ℕ) : Type 0 where
+  pub tables : xs ≡ ys
+  pub rest : a ≡ b
+
+tables : (prior xs ys : List Declared) (a b : List ℕ) → AreVariablesFrom prior xs → AreVariablesFrom prior ys → length xs ≡ length ys → variable_lines xs ++ a ≡ variable_lines ys ++ b → IsOneTable xs ys a b
+tables prior [] [] a b h k l e = record { tables = refl; rest = e }
+tables prior [] (y ∷ ys) a b h k l e = absurd (omega (arith, l))
+tables prior (x ∷ xs) [] a b h k l e = absurd (omega (arith, l))
+tables prior (x ∷ xs) (y ∷ ys) a b h k l e =
+    let c : IsCut (variable_line x) (variable_lines xs ++ a) (variable_line y) (variable_lines ys ++ b) =
+    cut_unique (variable_line x) _ (variable_line y) _ (no_feed _ (variable_one_line x (h.0).fits)) (no_feed _ (variable_one_line y (k.0).fits))
+    (sym (append_assoc (variable_line x) (10 ∷ variable_lines xs) a) ∙ e ∙ append_assoc (variable_line y) (10 ∷ variable_lines ys) b) in
+    let same : y ≡ x = variable_same y x (k.0).fits (h.0).fits (sym c.line) in
+    let r = tables (prior ++ x ∷ []) xs ys a b h.1 (subst (λ (z : Declared). AreVariablesFrom (prior ++ z ∷ []) ys) same k.1) (omega (arith, l)) c.rest in
+    record { tables = ap (λ (z : List Declared). x ∷ z) r.tables ∙ ap (λ (z : Declared). z ∷ ys) (sym same); rest = r.rest }
+
+one_table : (bytes : List ℕ) (T U : List Declared) (H K : List Event) (a b : List ℕ) → BeginsWithHistory format_1 bytes T H a → BeginsWithHistory format_1 bytes U K b → IsOneTable T U (event_lines H ++ a) (event_lines K ++ b)
+one_table bytes T U H K a b f g =
+    let flat : (V : List Declared) (J : List Event) (r : List ℕ) → history_text format_1 V J ++ r ≡ header_line format_1 (length V) ++ 10 ∷ (variable_lines V ++ (event_lines J ++ r)) = λ V J r.
+    ap (λ x. x ++ r) (append_assoc (header_line format_1 (length V)) (10 ∷ variable_lines V) (event_lines J)) ∙ append_assoc (header_line format_1 (length V)) (10 ∷ (variable_lines V ++ event_lines J)) r
+    ∙ ap (λ x. header_line format_1 (length V) ++ 10 ∷ x) (append_assoc (variable_lines V) (event_lines J) r) in
+    let few = f.few in
+    let many = g.few in
+    let c = cut_unique (header_line format_1 (length T)) _ (header_line format_1 (length U)) _ (no_feed _ (header_one_line format_1 (length T) (omega arith) (omega (arith, few)))) (no_feed _ (header_one_line format_1 (length U) (omega arith) (omega (arith, many))))
+    (sym (flat T H a) ∙ sym f.text ∙ g.text ∙ flat U K b) in
+    let same : length T ≡ length U = header_same format_1 (length T) (length U) (omega arith) (omega (arith, few)) (omega (arith, many)) c.line in
+    tables [] T U _ _ f.variables g.variables same c.rest
+
+-- ---- the events
+-- a whole history, and another reading of its bytes that has come less far: an event of the history comes next
+pub record IsNext (T : List Declared) (H K : List Event) (rest : List ℕ) : Type 0 where
+  pub event : Event
+  pub later : List Event
+  pub whole : H ≡ K ++ event ∷ later
+  pub fits : FitsTable T event
+  pub short : IsShort (event_line event)
+  pub text : rest ≡ event_line event ++ 10 ∷ event_lines later
+
+-- either the same events and nothing left, or an event next
+data Compared (T : List Declared) (H K : List Event) (rest : List ℕ) : Type 0 where
+  all : H ≡ K → rest ≡ [] → Compared T H K rest
+  more : IsNext T H K rest → Compared T H K rest
+
+cons_compared : (T : List Declared) (x : Event) (H K : List Event) (rest : List ℕ) → Compared T H K rest → Compared T (x ∷ H) (x ∷ K) rest
+cons_compared T x H K rest (all e f) = all (ap (λ (z : List Event). x ∷ z) e) f
+cons_compared T x H K rest (more n) = more (record { event = n.event; later = n.later; whole = ap (λ (z : List Event). x ∷ z) n.whole; fits = n.fits; short = n.short; text = n.text })
+
+compared : (T : List Declared) (H K : List Event) (rest : List ℕ) → AreEvents T H → AreEvents T K → event_lines H ++ [] ≡ event_lines K ++ rest → Compared T H K rest
+compared T [] [] rest h k e = all refl (sym e)
+compared T (x ∷ H) [] rest h k e = more (record { event = x; later = H; whole = refl; fits = h.0; short = h.1; text = sym e ∙ append-nil _ })
+compared T [] (y ∷ K) rest h k e =
+    let l : 0 ≡ length ((event_line y ++ 10 ∷ event_lines K) ++ rest) = ap length e in
+    let m = length-append (event_line y ++ 10 ∷ event_lines K) rest in
+    let n = length-append (event_line y) (10 ∷ event_lines K) in
+    absurd (omega (arith, l, m, n))
+compared T (x ∷ H) (y ∷ K) rest h k e =
+    let c : IsCut (event_line x) (event_lines H ++ []) (event_line y) (event_lines K ++ rest) =
+    cut_unique (event_line x) _ (event_line y) _ (no_feed _ (event_one_line T x h.0)) (no_feed _ (event_one_line T y k.0))
+    (sym (append_assoc (event_line x) (10 ∷ event_lines H) []) ∙ e ∙ append_assoc (event_line y) (10 ∷ event_lines K) rest) in
+    let same : x ≡ y = event_same T x y h.0 k.0 c.line in
+    subst (λ (z : Event). Compared T (x ∷ H) (z ∷ K) rest) same (cons_compared T x H K rest (compared T H K rest h.2 k.2 c.rest))
+
+-- two readings of the bytes of a history
+both : (bytes : List ℕ) (T U : List Declared) (H K : List Event) (rest : List ℕ) → BeginsWithHistory format_1 bytes T H [] → BeginsWithHistory format_1 bytes U K rest → (T ≡ U) × Compared U H K rest
+both bytes T U H K rest f g =
+    let t = one_table bytes T U H K [] rest f g in
+    (t.tables, compared U H K rest (subst (λ (z : List Declared). AreEvents z H) t.tables f.events) g.events t.rest)
+
+numbers_fixed_by : (T U : List Declared) (H K : List Event) → (T ≡ U) → Compared U H K [] → numbers T H ≡ numbers U K
+numbers_fixed_by T U H K t (all e f) = ap (λ (z : List Declared). numbers z H) t ∙ ap (numbers U) e
+numbers_fixed_by T U H K t (more n) =
+    let l : 0 ≡ length (event_line n.event ++ 10 ∷ event_lines n.later) = ap length n.text in
+    let m = length-append (event_line n.event) (10 ∷ event_lines n.later) in
+    absurd (omega (arith, l, m))
+
+pub numbers_are_fixed : NumbersAreFixed
+numbers_are_fixed bytes m n a c = let b = both bytes a.0 c.0 a.1 c.1 [] a.2 c.2 in a.3 ∙ numbers_fixed_by a.0 c.0 a.1 c.1 b.0 b.1 ∙ sym c.3
+
+-- a legal history goes on legally: each front of it is legal
+front_legal : (s : Slow) (K later : List Event) (e : Event) → LegalFrom s (K ++ e ∷ later) → LegalFrom s (K ++ e ∷ [])
+front_legal s [] later e l = (l.0, tt)
+front_legal s (x ∷ K) later e l = (l.0, front_legal (after s x.what) K later e l.1)
+
+bad_by : (U : List Declared) (H K : List Event) (rest : List ℕ) → Compared U H K rest → 0 < length rest → NoEventNext U rest → ⊥
+bad_by U H K rest (all e f) some never = let l : length rest ≡ 0 = ap length f in absurd (omega (arith, l, some))
+bad_by U H K rest (more n) some never = never n.event n.fits n.short (event_lines n.later) n.text
+
+refused_by : (U : List Declared) (H K : List Event) (e : Event) (text : List ℕ) → Compared U H K (event_line e ++ 10 ∷ text) → FitsTable U e → IsLegal U H → IsIllegal U K e → ⊥
+refused_by U H K e text (all q f) fits legal illegal =
+    let l : length (event_line e ++ 10 ∷ text) ≡ 0 = ap length f in
+    let m = length-append (event_line e) (10 ∷ text) in
+    omega (arith, l, m)
+refused_by U H K e text (more n) fits legal illegal =
+    let c = cut_unique (event_line e) text (event_line n.event) (event_lines n.later) (no_feed _ (event_one_line U e fits)) (no_feed _ (event_one_line U n.event n.fits)) n.text in
+    let same : e ≡ n.event = event_same U e n.event fits n.fits c.line in
+    let whole : H ≡ K ++ e ∷ n.later = n.whole ∙ ap (λ (z : Event). K ++ z ∷ n.later) (sym same) in
+    let h : LegalFrom (initial_state U) (K ++ e ∷ n.later) = subst (λ (z : List Event). LegalFrom (initial_state U) z) whole legal.each in
+    let few : length (K ++ e ∷ n.later) ≤ max_events = subst (λ (z : List Event). length z ≤ max_events) whole legal.few in
+    let l = length-append K (e ∷ n.later) in
+    let m = length-append K (e ∷ []) in
+    illegal (record { each = front_legal (initial_state U) K n.later e h; few = omega (arith, few, l, m) })
+
+-- the header and the variables of a history are those of a table
+header_by : (bytes : List ℕ) (T : List Declared) (H : List Event) → BeginsWithHistory format_1 bytes T H [] → TellsFault format_1 BadHeader bytes → ⊥
+header_by bytes T H f t =
+    t T f.few f.variables (event_lines H ++ []) (f.text ∙ append_assoc (head_text format_1 (length T) T) (event_lines H) [])
+
+pub histories_are_taken : HistoriesAreTaken
+histories_are_taken bytes n k a = (
+  header_by bytes a.0 a.1 a.2,
+  (λ t. bad_by t.0 a.1 t.1 t.2 (both bytes a.0 t.0 a.1 t.1 t.2 a.2 t.3).1 t.5 t.6),
+  (λ t.
+      let b = both bytes a.0 t.0 a.1 t.1 (event_line t.2 ++ 10 ∷ t.3) a.2 t.4 in
+      refused_by t.0 a.1 t.1 t.2 t.3 b.1 t.6 (subst (λ (z : List Declared). IsLegal z a.1) b.0 (a.2).legal) t.7),
+)

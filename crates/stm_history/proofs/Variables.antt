@@ -1,0 +1,23 @@
+-- A variable that a table refuses.
+use Rattle.std.proofs.Common.{◌≡◌, ℕ, List, Some, None, Err, refl, sym, ◌∙◌, subst, inl, inr}
+use Rattle.stm_store.specs.declared.table.DeclareError.{DeclareError}
+use Rattle.stm_store.specs.declared.table.DeclareError.TheVariants as declare
+use Rattle.stm_store.specs.Tables.{Declared, declare_refusal, refusal_of}
+use Rattle.stm_history.specs.Fits.{FitsVariable}
+use Rattle.stm_history.specs.Lines.{variable_line}
+use Rattle.stm_history.proofs.ReadsBack.{variable_same}
+use Rattle.stm_history.specs.Checking.{at_variables, IsStrange, MayRefuse}
+use Rattle.stm_history.specs.Stages.{refused_by}
+
+-- a line of a variable that the table refuses is none of one that it takes
+pub undeclared : (n : ℕ) (table : List Declared) (c : Declared) (line : List ℕ) (e : DeclareError) → variable_line c ≡ line → FitsVariable c → Some e ≡ declare_refusal table c.name c.kind c.value → IsStrange (at_variables n table) line
+undeclared n table c line e l f told = λ d may k.
+    let same : d ≡ c = variable_same d c may.fits f (k ∙ sym l) in
+    let none : declare_refusal table c.name c.kind c.value ≡ None = subst (λ (x : Declared). declare_refusal table x.name x.kind x.value ≡ None) same may.may in
+    cc
+
+pub declare_fault : (n : ℕ) (table : List Declared) (c : Declared) (line : List ℕ) (e : DeclareError) → variable_line c ≡ line → FitsVariable c → refusal_of (Err e) ≡ declare_refusal table c.name c.kind c.value → MayRefuse (at_variables n table) line (refused_by e)
+declare_fault n table c line declare.NoMemory l f told = inl refl
+declare_fault n table c line declare.Twice l f told = inr (inl (refl, undeclared n table c line declare.Twice l f told))
+declare_fault n table c line declare.TypeOfValue l f told = inr (inl (refl, undeclared n table c line declare.TypeOfValue l f told))
+declare_fault n table c line declare.TableFull l f told = inr (inl (refl, undeclared n table c line declare.TableFull l f told))

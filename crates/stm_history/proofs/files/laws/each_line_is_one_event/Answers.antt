@@ -1,0 +1,5 @@
+use Rattle.stm_history.proofs.ReadsBack.{event_same, event_one_line}
+use Rattle.stm_history.proofs.files.laws.each_line_is_one_event.Goals as goal
+
+pub returns : goal.returns
+returns c = record { one = event_same; lines = event_one_line }

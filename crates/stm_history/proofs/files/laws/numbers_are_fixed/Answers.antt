@@ -1,0 +1,5 @@
+use Rattle.stm_history.proofs.Unique.{numbers_are_fixed}
+use Rattle.stm_history.proofs.files.laws.numbers_are_fixed.Goals as goal
+
+pub returns : goal.returns
+returns c = numbers_are_fixed

@@ -1,0 +1,36 @@
+-- Laws of histories as text. The clauses of the checker fix its answer: bytes are the text of one history at most, and then no
+-- fault can be told of them. What is written is taken.
+use Rattle.std.specs.Prelude.{◌≡◌, ℕ, List}
+use Rattle.stm_store.specs.Tables.{Declared, AreDeclared}
+use Rattle.stm_history.specs.declared.event.Event.{Event}
+use Rattle.stm_history.specs.declared.files.fault.HistoryFault.TheVariants.{BadHeader, BadLine, NotLegal}
+use Rattle.stm_history.specs.declared.files.fault.Legal.{Legal}
+use Rattle.stm_history.specs.Fits.{FitsTable, AreInRange, IsOneLine}
+use Rattle.stm_history.specs.HistoryText.{history_text}
+use Rattle.stm_history.specs.Judgement.{IsHistory, TellsFault, AreEvents, numbers}
+use Rattle.stm_history.specs.Lines.{format_1, event_line}
+use Rattle.stm_history.specs.SlowDesk.{IsLegal}
+
+-- different events have different lines, without a line feed
+abbrev pub EachLineIsOneEvent : Type 0
+EachLineIsOneEvent = (table : List Declared) (d e : Event) → FitsTable table d → FitsTable table e → event_line d ≡ event_line e → d ≡ e
+
+abbrev pub EventsAreLines : Type 0
+EventsAreLines = (table : List Declared) (e : Event) → FitsTable table e → IsOneLine (event_line e)
+
+-- the numbers of a history are fixed by its text
+abbrev pub NumbersAreFixed : Type 0
+NumbersAreFixed = (bytes : List ℕ) (m n : Legal) → IsHistory format_1 bytes m → IsHistory format_1 bytes n → m ≡ n
+
+-- no fault can be told of the text of a legal history
+abbrev pub HistoriesAreTaken : Type 0
+HistoriesAreTaken =
+    (bytes : List ℕ) (n : Legal) (k : ℕ) → IsHistory format_1 bytes n
+    → (TellsFault format_1 BadHeader bytes → ⊥) × (TellsFault format_1 (BadLine k) bytes → ⊥) × (TellsFault format_1 (NotLegal k) bytes → ⊥)
+
+-- The text of a legal history is one of its numbers. The table is one that declarations make, and its values are in the range of
+-- the program's types; each event fits the table, and its line is short.
+abbrev pub WhatIsWrittenIsTaken : Type 0
+WhatIsWrittenIsTaken =
+    (table : List Declared) (history : List Event) → AreDeclared table → AreInRange table → AreEvents table history → IsLegal table history
+    → IsHistory format_1 (history_text format_1 table history) (numbers table history)

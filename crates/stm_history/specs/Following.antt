@@ -1,0 +1,25 @@
+-- What goes through a history, event by event.
+use Rattle.std.specs.Prelude.{◌≡◌, ℕ, ◌<◌, List, length, IfSome}
+use Rattle.stm_store.specs.Cells.{plains}
+use Rattle.stm_store.specs.Tables.{Declared}
+use Rattle.stm_history.specs.declared.event.Event.{Event}
+use Rattle.stm_history.specs.declared.event.What.{What}
+use Rattle.stm_history.specs.declared.files.replayer.Replayer.{Replayer}
+use Rattle.stm_history.specs.Judgement.{IsIllegal}
+use Rattle.stm_history.specs.Machine.{Parts, StandsFor, event}
+use Rattle.stm_history.specs.SlowDesk.{max_events}
+
+-- the machine stands for the history, which has room for an event more
+pub record HasRoom (table : List Declared) (history : List Event) (m : Parts) : Type 0 where
+  pub stands : StandsFor table history m
+  pub room : length history < max_events
+
+-- this can't happen next, whichever client's it is
+abbrev pub WhatIsIllegal : List Declared → List Event → What → Type 0
+WhatIsIllegal table history what = (client : ℕ) → IsIllegal table history (event client what)
+
+-- the events so far are this history; a copy, where there is one, is of the present store
+pub record Follows (table : List Declared) (history : List Event) (r : Replayer) : Type 0 where
+  pub stands : StandsFor table history r.machine
+  pub counted : r.events ≡ length history
+  pub copied : IfSome r.copy (λ cells. cells ≡ plains r.machine.store)

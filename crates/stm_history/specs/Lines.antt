@@ -1,0 +1,96 @@
+-- The lines of a history, without their line feeds: each is the compact text of a JSON value.
+use Rattle.std.specs.Prelude.{ℕ, List, map, codes}
+use Rattle.serde_json.specs.Data.{Data, null, boolean, number, unsigned, string, array, object, item, no_items, member, no_members}
+use Rattle.serde_json.specs.Find.{of_integer}
+use Rattle.serde_json.specs.View.{items_of}
+use Rattle.serde_json.specs.Written.{compact_text}
+use Rattle.stm_terms.specs.declared.kinds.Ty.{Ty}
+use Rattle.stm_terms.specs.declared.values.Value.{Value}
+use Rattle.stm_terms.specs.declared.values.Value.TheVariants as value
+use Rattle.stm_terms.specs.declared.values.Ref.TheVariants.{Old, New}
+use Rattle.stm_terms.specs.declared.values.Fault.TheVariants.{Thrown, Overflow}
+use Rattle.stm_terms.specs.declared.verdicts.Verdict.{Verdict}
+use Rattle.stm_terms.specs.declared.verdicts.Verdict.TheVariants.{Commits, Throws, Blocks}
+use Rattle.stm_terms.specs.Texts.{type_text}
+use Rattle.stm_store.specs.Tables.{Declared}
+use Rattle.stm_history.specs.declared.event.Event.{Event}
+use Rattle.stm_history.specs.declared.event.What.{What}
+use Rattle.stm_history.specs.declared.event.What.TheVariants.{Submitted, Installed, Finished, Cancelled}
+
+-- the format of histories that is written and read
+abbrev pub format_1 : ℕ
+format_1 = 1
+
+abbrev pub number_data : ℕ → Data
+number_data n = number (unsigned n)
+
+abbrev pub value_data : Value → Data
+value_data (value.Int n) = number (of_integer n)
+value_data (value.Bool b) = boolean b
+value_data value.Unit = null
+value_data (value.Var (Old i)) = object (member (codes "old") (number_data i) no_members)
+value_data (value.Var (New k)) = object (member (codes "new") (number_data k) no_members)
+
+abbrev pub write_data : ℕ × Value → Data
+write_data w = array (item (number_data w.0) (item (value_data w.1) no_items))
+
+abbrev pub new_data : Ty × Value → Data
+new_data n = array (item (string (type_text n.0)) (item (value_data n.1) no_items))
+
+abbrev pub verdict_data : Verdict → Data
+verdict_data (Commits writes news result) =
+    object (member (codes "commits") (object
+    (member (codes "news") (array (items_of (map new_data news)))
+    (member (codes "result") (value_data result)
+    (member (codes "writes") (array (items_of (map write_data writes))) no_members)))) no_members)
+verdict_data (Throws (Thrown n)) = object (member (codes "throws") (number (of_integer n)) no_members)
+verdict_data (Throws Overflow) = object (member (codes "throws") (string (codes "overflow")) no_members)
+verdict_data Blocks = string (codes "blocks")
+
+-- the JSON value of an event, with its keys in byte order
+abbrev pub what_data : ℕ → What → Data
+what_data client (Submitted ticket block) =
+    object (member (codes "block") (string block.text)
+    (member (codes "client") (number_data client)
+    (member (codes "event") (string (codes "submitted"))
+    (member (codes "ticket") (number_data ticket) no_members))))
+what_data client (Installed ticket v) =
+    object (member (codes "client") (number_data client)
+    (member (codes "event") (string (codes "installed"))
+    (member (codes "ticket") (number_data ticket)
+    (member (codes "verdict") (verdict_data v) no_members))))
+what_data client (Finished ticket v first_new stale) =
+    object (member (codes "client") (number_data client)
+    (member (codes "event") (string (codes "finished"))
+    (member (codes "first_new") (number_data first_new)
+    (member (codes "stale") (array (items_of (map number_data stale)))
+    (member (codes "ticket") (number_data ticket)
+    (member (codes "verdict") (verdict_data v) no_members))))))
+what_data client (Cancelled ticket) =
+    object (member (codes "client") (number_data client)
+    (member (codes "event") (string (codes "cancelled"))
+    (member (codes "ticket") (number_data ticket) no_members)))
+
+abbrev pub event_data : Event → Data
+event_data e = what_data e.client e.what
+
+abbrev pub header_data : ℕ → ℕ → Data
+header_data format n = object (member (codes "format") (number_data format) (member (codes "vars") (number_data n) no_members))
+
+abbrev pub variable_data : Declared → Data
+variable_data d =
+    object (member (codes "init") (value_data d.value)
+    (member (codes "name") (string d.name)
+    (member (codes "type") (string (type_text d.kind)) no_members)))
+
+-- the line of an event
+unfoldable pub event_line : Event → List ℕ
+event_line e = compact_text (event_data e)
+
+-- the first line: the format, and how many variables' lines follow
+unfoldable pub header_line : ℕ → ℕ → List ℕ
+header_line format n = compact_text (header_data format n)
+
+-- the line of a declared variable
+unfoldable pub variable_line : Declared → List ℕ
+variable_line d = compact_text (variable_data d)

@@ -1,0 +1,285 @@
+//! Whole files, judged line by line.
+
+ghost use Rattle.std.specs.Prelude.{◌≡◌, ◌++◌, ◌∷◌, [], ◌≤◌, ◌<◌, ℕ, List, OnOk, IfOk, IfErr, IfSome, length};
+ghost use Rattle.stm_store.specs.Tables.{Declared};
+ghost use Rattle.stm_history.specs.declared.event.Event.{Event as AnyEvent};
+ghost use Rattle.stm_history.specs.Checking.{CheckerState, at_header, at_variables, at_events, LeadsTo, MayRefuse, strange};
+ghost use Rattle.stm_history.specs.Fits.{FitsTable};
+ghost use Rattle.stm_history.specs.Following.{Follows};
+ghost use Rattle.stm_history.specs.Judgement.{IsHistory, TellsFault, next_line};
+ghost use Rattle.stm_history.specs.Lines.{format_1, event_line};
+ghost use Rattle.stm_history.specs.SlowDesk.{max_cells, max_events, IsLegal};
+ghost use Rattle.stm_history.specs.Stages.{IsStage, CountsWithinLimits, LeadsToStage, Reached, refused_by};
+ghost use Rattle.stm_history.specs.Checking.{with_table as progress_with};
+
+use crate::event::Event;
+use crate::files::fault::{HistoryFault, Legal};
+use crate::files::replayer::Replayer;
+use crate::files::stepping::StepError;
+use crate::lines::read::{LineError, read_event, read_header, read_variable};
+use crate::lines::variable::Variable;
+use std::alloc::Global;
+use std::io::{ErrorKind, Read};
+use std::mem;
+use stm_store::{DeclareError, Table};
+
+/// The most bytes of a line.
+const MAX_LINE: usize = 1_048_576;
+
+const MAX_CELLS: u32 = 1_000_000;
+
+/// How far the lines have come: before the first; among the variables, of which so many were promised; among the events.
+#[derive(Drop)]
+pub(crate) enum Stage {
+    Before,
+    Declaring { vars: u32, table: Table },
+    Running { table: Table, replayer: Replayer },
+}
+
+/// The stage where so many variables were promised and these are there.
+fn with_table(alloc: Global, vars: u32, table: Table) -> Result<Stage, HistoryFault>
+    requires { length table ≤ vars }
+    ensures stage { IfOk result (λ s. IsStage s (progress_with vars table)) }
+    ensures err { IfErr result (λ e. e ≡ HistoryFault.NoMemory) }
+{
+    if table.len() < vars as usize {
+        return Ok(Stage::Declaring { vars, table });
+    }
+    match Replayer::open(alloc, &table) {
+        Ok(replayer) => Ok(Stage::Running { table, replayer }),
+        Err(_) => Err(HistoryFault::NoMemory),
+    }
+}
+
+/// Takes the first line.
+fn take_header(alloc: Global, line: &[u8]) -> Result<Stage, HistoryFault>
+    ensures leads { IfOk result (λ s. LeadsToStage at_header line.now s) }
+    ensures refused { IfErr result (λ e. MayRefuse at_header line.now e) }
+{
+    match read_header(alloc, line) {
+        Ok(vars) => {
+            if vars <= MAX_CELLS {
+                with_table(alloc, vars, Table::empty(alloc))
+            } else {
+                Err(HistoryFault::BadHeader)
+            }
+        }
+        Err(LineError::Bad) => Err(HistoryFault::BadHeader),
+        Err(LineError::NoMemory) => Err(HistoryFault::NoMemory),
+    }
+}
+
+fn declare_refused(error: DeclareError) -> HistoryFault
+    ensures { result ≡ refused_by error }
+{
+    match error {
+        DeclareError::NoMemory => HistoryFault::NoMemory,
+        DeclareError::Twice => HistoryFault::BadHeader,
+        DeclareError::TypeOfValue => HistoryFault::BadHeader,
+        DeclareError::TableFull => HistoryFault::BadHeader,
+    }
+}
+
+/// Takes a variable's line.
+fn take_variable(
+    alloc: Global,
+    vars: u32,
+    mut table: Table,
+    line: &[u8],
+) -> Result<Stage, HistoryFault>
+    requires { length table < vars }
+    ensures leads { IfOk result (λ s. LeadsToStage (at_variables vars table) line.now s) }
+    ensures refused { IfErr result (λ e. MayRefuse (at_variables vars table) line.now e) }
+{
+    match read_variable(alloc, line) {
+        Ok(variable) => {
+            match table.declare(&variable.name, variable.kind, variable.value) {
+                Ok(_) => with_table(alloc, vars, table),
+                Err(error) => Err(declare_refused(error)),
+            }
+        }
+        Err(LineError::Bad) => Err(HistoryFault::BadHeader),
+        Err(LineError::NoMemory) => Err(HistoryFault::NoMemory),
+    }
+}
+
+/// The number of the line that comes next.
+fn line_number(table: &Table, replayer: &Replayer) -> u32
+    requires { (H : List AnyEvent) × Follows table.now H replayer.now }
+    ensures { (H : List AnyEvent) → Follows table.now H replayer.now → result ≡ next_line table.now H }
+{
+    table.len() as u32 + replayer.events + 2
+}
+
+/// Takes an event that was read from the line of this number.
+fn take_event(replayer: &mut Replayer, event: &Event, number: u32) -> Result<(), HistoryFault>
+    requires { (T : List Declared) × (H : List AnyEvent) × Follows T H replayer.old }
+    ensures done { OnOk result ((T : List Declared) (H : List AnyEvent) → Follows T H replayer.old → Follows T (H ++ event.now ∷ []) replayer.new) }
+    ensures refused { IfErr result (λ e. (T : List Declared) (H : List AnyEvent) → Follows T H replayer.old → FitsTable T event.now → number ≡ next_line T H → MayRefuse (at_events T H) (event_line event.now) e) }
+{
+    match replayer.step(event) {
+        Ok(()) => Ok(()),
+        Err(StepError::NotAllowed) => Err(HistoryFault::NotLegal(number)),
+        Err(StepError::NoMemory) => Err(HistoryFault::NoMemory),
+    }
+}
+
+/// Takes an event's line.
+fn take_event_line(
+    alloc: Global,
+    table: &Table,
+    replayer: &mut Replayer,
+    line: &[u8],
+) -> Result<(), HistoryFault>
+    requires { (H : List AnyEvent) × Follows table.now H replayer.old }
+    ensures leads { OnOk result ((H : List AnyEvent) → Follows table.now H replayer.old
+        → (e : AnyEvent) × LeadsTo (at_events table.now H) line.now (at_events table.now (H ++ e ∷ [])) × Follows table.now (H ++ e ∷ []) replayer.new) }
+    ensures refused { IfErr result (λ e. (H : List AnyEvent) → Follows table.now H replayer.old → MayRefuse (at_events table.now H) line.now e) }
+{
+    let number = line_number(table, replayer);
+    match read_event(alloc, table, line) {
+        Ok(event) => take_event(replayer, &event, number),
+        Err(LineError::Bad) => Err(HistoryFault::BadLine(number)),
+        Err(LineError::NoMemory) => Err(HistoryFault::NoMemory),
+    }
+}
+
+/// Takes a line among the events.
+fn run_on(
+    alloc: Global,
+    table: Table,
+    mut replayer: Replayer,
+    line: &[u8],
+) -> Result<Stage, HistoryFault>
+    requires { (H : List AnyEvent) × Follows table H replayer }
+    ensures leads { IfOk result (λ s. (H : List AnyEvent) → Follows table H replayer → LeadsToStage (at_events table H) line.now s) }
+    ensures refused { IfErr result (λ e. (H : List AnyEvent) → Follows table H replayer → MayRefuse (at_events table H) line.now e) }
+{
+    match take_event_line(alloc, &table, &mut replayer, line) {
+        Ok(()) => Ok(Stage::Running { table, replayer }),
+        Err(error) => Err(error),
+    }
+}
+
+/// Takes a whole line.
+fn take_line(alloc: Global, stage: Stage, line: &[u8]) -> Result<Stage, HistoryFault>
+    requires { (p : CheckerState) × IsStage stage p × CountsWithinLimits p }
+    ensures leads { IfOk result (λ s. (p : CheckerState) → IsStage stage p → LeadsToStage p line.now s) }
+    ensures refused { IfErr result (λ e. (p : CheckerState) → IsStage stage p → MayRefuse p line.now e) }
+{
+    match stage {
+        Stage::Before => take_header(alloc, line),
+        Stage::Declaring { vars, table } => take_variable(alloc, vars, table, line),
+        Stage::Running { table, replayer } => run_on(alloc, table, replayer, line),
+    }
+}
+
+/// The fault at a line that can't be one of this place.
+fn strange_fault(stage: &Stage) -> HistoryFault
+    requires { (p : CheckerState) × IsStage stage.now p × CountsWithinLimits p }
+    ensures { (p : CheckerState) → IsStage stage.now p → result ≡ strange p }
+{
+    match stage {
+        Stage::Before => HistoryFault::BadHeader,
+        Stage::Declaring { .. } => HistoryFault::BadHeader,
+        Stage::Running { table, replayer } => HistoryFault::BadLine(line_number(table, replayer)),
+    }
+}
+
+/// A check under way: the stage, and the bytes of a line that has begun.
+#[derive(Drop)]
+struct Checker {
+    alloc: Global,
+    stage: Stage,
+    line: Vec<u8>,
+}
+
+impl Checker {
+    fn new(alloc: Global) -> Checker
+        ensures { Reached result.stage result.line.items [] }
+    {
+        Checker {
+            alloc,
+            stage: Stage::Before,
+            line: Vec::new(alloc),
+        }
+    }
+
+    /// Takes one more byte.
+    fn take_byte(&mut self, byte: u8) -> Result<(), HistoryFault>
+        requires { (taken : List ℕ) × Reached self.old.stage self.old.line.items taken }
+        ensures done { OnOk result ((taken : List ℕ) → Reached self.old.stage self.old.line.items taken
+            → Reached self.new.stage self.new.line.items (taken ++ byte ∷ [])) }
+        ensures fault { IfErr result (λ e. (taken more : List ℕ) → Reached self.old.stage self.old.line.items taken
+            → TellsFault format_1 e (taken ++ byte ∷ more)) }
+    {
+        if byte == b'\n' {
+            let stage = mem::replace(&mut self.stage, Stage::Before);
+            self.stage = take_line(self.alloc, stage, &self.line)?;
+            self.line.clear();
+            return Ok(());
+        }
+        if self.line.len() >= MAX_LINE {
+            return Err(strange_fault(&self.stage));
+        }
+        match self.line.push(byte) {
+            Ok(()) => Ok(()),
+            Err(_) => Err(HistoryFault::NoMemory),
+        }
+    }
+
+    /// Takes the next bytes.
+    fn take_bytes(&mut self, bytes: &[u8]) -> Result<(), HistoryFault>
+        requires { (taken : List ℕ) × Reached self.old.stage self.old.line.items taken }
+        ensures done { OnOk result ((taken : List ℕ) → Reached self.old.stage self.old.line.items taken
+            → Reached self.new.stage self.new.line.items (taken ++ bytes.now)) }
+        ensures fault { IfErr result (λ e. (taken more : List ℕ) → Reached self.old.stage self.old.line.items taken
+            → TellsFault format_1 e (taken ++ (bytes.now ++ more))) }
+    {
+        for byte in bytes {
+            self.take_byte(*byte)?;
+        }
+        Ok(())
+    }
+
+    /// Judges where the bytes end.
+    fn end(&self) -> Result<Legal, HistoryFault>
+        requires { (taken : List ℕ) × Reached self.now.stage self.now.line.items taken }
+        ensures ok { IfOk result (λ n. (taken : List ℕ) → Reached self.now.stage self.now.line.items taken → IsHistory format_1 taken n) }
+        ensures fault { IfErr result (λ e. (taken : List ℕ) → Reached self.now.stage self.now.line.items taken → TellsFault format_1 e taken) }
+    {
+        if !self.line.is_empty() {
+            return Err(strange_fault(&self.stage));
+        }
+        match &self.stage {
+            Stage::Before => Err(HistoryFault::BadHeader),
+            Stage::Declaring { .. } => Err(HistoryFault::BadHeader),
+            Stage::Running { replayer, .. } => Ok(replayer.numbers()),
+        }
+    }
+}
+
+/// Judges the bytes of a reader as a history of format 1, line by line; docs/HISTORY.md has the format. A line is never kept
+/// beyond 1,048,576 bytes, and the reader is called 4,294,967,295 times at most. `ReadFault` where the reader fails.
+pub fn check_history<R: Read>(alloc: Global, reader: &mut R) -> Result<Legal, HistoryFault>
+    // The bytes are the text of a legal history, and the numbers are its own.
+    ensures ok { IfOk result (λ n. IfSome (R.remaining reader.old) (λ bytes. IsHistory format_1 bytes n)) }
+    // Otherwise the first fault of the bytes is reported.
+    ensures fault { IfErr result (λ e. IfSome (R.remaining reader.old) (λ bytes. TellsFault format_1 e bytes)) }
+{
+    let mut checker = Checker::new(alloc);
+    let mut buffer = [0u8; 8_192];
+    'reads: for _ in 0..u32::MAX {
+        match reader.read(&mut buffer) {
+            Ok(count) => {
+                if count == 0 {
+                    return checker.end();
+                }
+                checker.take_bytes(&buffer[..count])?;
+            }
+            Err(fault) if fault.kind() == ErrorKind::Interrupted => {}
+            Err(_) => return Err(HistoryFault::ReadFault),
+        }
+    }
+    Err(HistoryFault::ReadFault)
+}

@@ -1,0 +1,24 @@
+//! What holds of histories as text: each function's contract is a law of the definitions, and its body is empty.
+
+ghost use Rattle.stm_history.specs.FileLaws.{EachLineIsOneEvent, EventsAreLines, NumbersAreFixed, HistoriesAreTaken, WhatIsWrittenIsTaken};
+
+/// Different events have different lines, and none has a line feed.
+pub fn each_line_is_one_event()
+    ensures one { EachLineIsOneEvent }
+    ensures lines { EventsAreLines }
+{}
+
+/// The numbers of a text are fixed: bytes are the text of legal histories with the same numbers only.
+pub fn numbers_are_fixed()
+    ensures { NumbersAreFixed }
+{}
+
+/// No fault can be told of the text of a legal history: the clauses of `check_history` fix its answer.
+pub fn histories_are_taken()
+    ensures { HistoriesAreTaken }
+{}
+
+/// What `write_history` writes of a legal history, `check_history` takes.
+pub fn what_is_written_is_taken()
+    ensures { WhatIsWrittenIsTaken }
+{}

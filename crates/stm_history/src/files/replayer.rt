@@ -1,0 +1,51 @@
+//! What goes through a history: the machine that the events so far lead to. It keeps no list of them.
+
+ghost use Rattle.std.specs.Prelude.{◌≡◌, List, [], IfOk};
+
+use crate::files::fault::Legal;
+use crate::machine::Machine;
+use std::alloc::Global;
+use stm_store::{Frozen, Table};
+use stm_terms::NoMemory;
+
+/// The most events of a history.
+pub(crate) const MAX_EVENTS: u32 = 1_048_576;
+
+/// The machine that the events so far lead to, how many they are, and an unchanging copy of the present store, where one was
+/// made after the last finish.
+#[derive(Drop)]
+pub(crate) struct Replayer {
+    pub machine: Machine,
+    pub events: u32,
+    pub copy: Option<Frozen>,
+}
+
+impl Replayer {
+    ghost use Rattle.stm_store.specs.Tables.{Declared};
+    ghost use Rattle.stm_history.specs.declared.event.Event.{Event};
+    ghost use Rattle.stm_history.specs.Following.{Follows};
+    ghost use Rattle.stm_history.specs.Judgement.{numbers};
+
+    /// The variables of a table, and no event.
+    pub(crate) fn open(alloc: Global, table: &Table) -> Result<Replayer, NoMemory>
+        ensures { IfOk result (λ r. Follows table.now [] r) }
+    {
+        Ok(Replayer {
+            machine: Machine::open(alloc, table)?,
+            events: 0,
+            copy: None,
+        })
+    }
+
+    /// The numbers of the history so far.
+    pub(crate) fn numbers(&self) -> Legal
+        requires { (T : List Declared) × (H : List Event) × Follows T H self.now }
+        ensures { (T : List Declared) (H : List Event) → Follows T H self.now → result ≡ numbers T H }
+    {
+        Legal {
+            events: self.events,
+            waiting: self.machine.waiting() as u32,
+            cells: self.machine.store().len() as u32,
+        }
+    }
+}

@@ -1,0 +1,34 @@
+//! Lists of events, judged.
+
+ghost use Rattle.std.specs.Prelude.{◌≡◌, IfOk, IfErr};
+ghost use Rattle.stm_history.specs.Judgement.{numbers, Refuses};
+ghost use Rattle.stm_history.specs.SlowDesk.{IsLegal};
+
+use crate::event::Event;
+use crate::files::fault::{HistoryFault, Legal};
+use crate::files::replayer::Replayer;
+use crate::files::stepping::StepError;
+use std::alloc::Global;
+use stm_store::Table;
+
+/// Judges a list of events over a table. `NotLegal` counts the events from 1.
+pub fn replay(alloc: Global, table: &Table, history: &[Event]) -> Result<Legal, HistoryFault>
+    // The list is legal, and the numbers are its own.
+    ensures ok { IfOk result (λ n. IsLegal table.now history.now × (n ≡ numbers table.now history.now)) }
+    // Otherwise the first event that isn't allowed is reported.
+    ensures fault { IfErr result (λ e. Refuses e table.now history.now) }
+{
+    let mut replayer = match Replayer::open(alloc, table) {
+        Ok(replayer) => replayer,
+        Err(_) => return Err(HistoryFault::NoMemory),
+    };
+    for event in history {
+        let number = replayer.events + 1;
+        match replayer.step(event) {
+            Ok(()) => {}
+            Err(StepError::NotAllowed) => return Err(HistoryFault::NotLegal(number)),
+            Err(StepError::NoMemory) => return Err(HistoryFault::NoMemory),
+        }
+    }
+    Ok(replayer.numbers())
+}

@@ -1,0 +1,313 @@
+//! One event more: the machine is asked whether it may follow, its fields are compared, and then the machine is moved.
+
+ghost use Rattle.std.specs.Prelude.{◌≡◌, ◌<◌, ◌↔◌, ◌++◌, ◌∷◌, [], ℕ, List, OnOk, IfSome, IsErrOf, IsTrue, Some, None, Err};
+ghost use Rattle.stm_store.specs.Cells.{plains};
+ghost use Rattle.stm_store.specs.Tables.{Declared};
+ghost use Rattle.stm_eval.specs.EvaluatedFields.{message_ticket, message_verdict};
+ghost use Rattle.stm_history.specs.declared.event.Event.{Event as AnyEvent};
+ghost use Rattle.stm_history.specs.declared.event.What.TheVariants.{Submitted, Installed, Finished, Cancelled};
+ghost use Rattle.stm_history.specs.declared.finish.Plan.{Plan as AnyPlan};
+ghost use Rattle.stm_history.specs.Following.{HasRoom, WhatIsIllegal, Follows};
+ghost use Rattle.stm_history.specs.Judgement.{IsIllegal};
+ghost use Rattle.stm_history.specs.Machine.{CanInstall, CanFinish, MovesTo};
+ghost use Rattle.stm_history.specs.Refusals.{submit_told, cancel_told, finish_told, deliver_error};
+ghost use Rattle.stm_history.specs.SlowDesk.{state, max_events};
+ghost use Rattle.stm_history.specs.JobsHandedOut.{IsPresent};
+
+use crate::errors::{CancelError, DeliverError, FinishError, SubmitError};
+use crate::event::{Event, What};
+use crate::files::replayer::{MAX_EVENTS, Replayer};
+use crate::finish::Plan;
+use crate::machine::Machine;
+use crate::same::same_numbers;
+use stm_check::SharedBlock;
+use stm_eval::Evaluated;
+use stm_store::Frozen;
+use stm_terms::NoMemory;
+use stm_terms::verdicts::Verdict;
+
+/// Why an event doesn't follow.
+#[derive(Clone, Copy, Debug, PartialEq, Eq, Drop)]
+pub(crate) enum StepError {
+    NotAllowed,
+    NoMemory,
+}
+
+impl From<NoMemory> for StepError {
+    ghost use Rattle.std.specs.Prelude.{◌≡◌};
+    ghost use Rattle.stm_history.specs.declared.files.stepping.StepError.TheVariants.{NoMemory};
+
+    ghost from_gives = { λ _ e. e ≡ NoMemory };
+
+    fn from(_refused: NoMemory) -> StepError {
+        StepError::NoMemory
+    }
+}
+
+fn submit_refused(error: SubmitError) -> StepError
+    ensures { submit_told {A = Unit {0}} (Err error) ≡ None → result ≡ StepError.NoMemory }
+{
+    match error {
+        SubmitError::NoMemory => StepError::NoMemory,
+        SubmitError::Foreign(_) => StepError::NotAllowed,
+        SubmitError::WaitingFull => StepError::NotAllowed,
+        SubmitError::HistoryFull => StepError::NotAllowed,
+    }
+}
+
+fn cancel_refused(error: CancelError) -> StepError
+    ensures { cancel_told {A = Unit {0}} (Err error) ≡ None → result ≡ StepError.NoMemory }
+{
+    match error {
+        CancelError::NoMemory => StepError::NoMemory,
+        CancelError::NoTicket => StepError::NotAllowed,
+        CancelError::HistoryFull => StepError::NotAllowed,
+    }
+}
+
+fn finish_refused(error: FinishError) -> StepError
+    ensures { finish_told {A = AnyPlan} (Err error) ≡ None → result ≡ StepError.NoMemory }
+{
+    match error {
+        FinishError::NoMemory => StepError::NoMemory,
+        FinishError::NoTicket => StepError::NotAllowed,
+        FinishError::NotEvaluated => StepError::NotAllowed,
+        FinishError::Stale => StepError::NotAllowed,
+        FinishError::Blocks => StepError::NotAllowed,
+        FinishError::HistoryFull => StepError::NotAllowed,
+        FinishError::CellsFull => StepError::NotAllowed,
+    }
+}
+
+fn deliver_refused(error: DeliverError) -> StepError
+    ensures { deliver_error error ≡ None → result ≡ StepError.NoMemory }
+{
+    match error {
+        DeliverError::NoMemory => StepError::NoMemory,
+        DeliverError::Gone => StepError::NotAllowed,
+        DeliverError::OtherBlock => StepError::NotAllowed,
+        DeliverError::Already => StepError::NotAllowed,
+        DeliverError::Overtaken(_) => StepError::NotAllowed,
+        DeliverError::HistoryFull => StepError::NotAllowed,
+    }
+}
+
+/// The block is submitted, under the next ticket.
+fn submitted(machine: &mut Machine, ticket: u32, block: &SharedBlock) -> Result<(), StepError>
+    requires { (T : List Declared) × (H : List AnyEvent) × HasRoom T H machine.old }
+    ensures done { OnOk result ((T : List Declared) (H : List AnyEvent) → HasRoom T H machine.old → MovesTo T H (Submitted ticket block.now) machine.new) }
+    ensures not_allowed { IsErrOf result StepError.NotAllowed → (T : List Declared) (H : List AnyEvent) → HasRoom T H machine.old → WhatIsIllegal T H (Submitted ticket block.now) }
+{
+    match machine.may_wait(block, false) {
+        Ok(()) => {}
+        Err(error) => return Err(submit_refused(error)),
+    }
+    let block = block.share()?;
+    let given = machine.wait(block)?;
+    if given == ticket {
+        Ok(())
+    } else {
+        Err(StepError::NotAllowed)
+    }
+}
+
+/// The block is cancelled.
+fn cancelled(machine: &mut Machine, ticket: u32) -> Result<(), StepError>
+    requires { (T : List Declared) × (H : List AnyEvent) × HasRoom T H machine.old }
+    ensures done { OnOk result ((T : List Declared) (H : List AnyEvent) → HasRoom T H machine.old → MovesTo T H (Cancelled ticket) machine.new) }
+    ensures not_allowed { IsErrOf result StepError.NotAllowed → (T : List Declared) (H : List AnyEvent) → HasRoom T H machine.old → WhatIsIllegal T H (Cancelled ticket) }
+{
+    match machine.may_leave(ticket, false) {
+        Ok(()) => {
+            machine.leave(ticket);
+            Ok(())
+        }
+        Err(error) => Err(cancel_refused(error)),
+    }
+}
+
+/// Whether the fields of a finish are those of the plan.
+fn is_plan(plan: &Plan, verdict: &Verdict, first_new: u32, stale: &[u32]) -> bool
+    ensures same { IsTrue result → (plan.now.verdict ≡ verdict.now) × (plan.now.first_new ≡ first_new) × (plan.now.stale ≡ stale.now) }
+    ensures found { (plan.now.verdict ≡ verdict.now) × (plan.now.first_new ≡ first_new) × (plan.now.stale ≡ stale.now) → IsTrue result }
+{
+    let verdicts = plan.verdict.same(verdict);
+    let tickets = same_numbers(plan.stale.as_slice(), stale);
+    verdicts && plan.first_new == first_new && tickets
+}
+
+/// The block finishes, where the plan is the event's.
+fn finish_by(
+    machine: &mut Machine,
+    ticket: u32,
+    plan: &Plan,
+    verdict: &Verdict,
+    first_new: u32,
+    stale: &[u32],
+) -> Result<(), StepError>
+    requires room { (T : List Declared) × (H : List AnyEvent) × HasRoom T H machine.old }
+    requires may { (T : List Declared) (H : List AnyEvent) → HasRoom T H machine.old → CanFinish T H machine.old ticket plan.now.verdict plan.now.first_new plan.now.stale }
+    ensures done { OnOk result ((T : List Declared) (H : List AnyEvent) → HasRoom T H machine.old → MovesTo T H (Finished ticket verdict.now first_new stale.now) machine.new) }
+    ensures not_allowed { IsErrOf result StepError.NotAllowed → (T : List Declared) (H : List AnyEvent) → HasRoom T H machine.old → WhatIsIllegal T H (Finished ticket verdict.now first_new stale.now) }
+{
+    if !is_plan(plan, verdict, first_new, stale) {
+        return Err(StepError::NotAllowed);
+    }
+    match machine.finish(ticket, plan) {
+        Ok(_) => Ok(()),
+        Err(_) => Err(StepError::NoMemory),
+    }
+}
+
+/// The block finishes, with these fields.
+fn finished(
+    machine: &mut Machine,
+    ticket: u32,
+    verdict: &Verdict,
+    first_new: u32,
+    stale: &[u32],
+) -> Result<(), StepError>
+    requires { (T : List Declared) × (H : List AnyEvent) × HasRoom T H machine.old }
+    ensures done { OnOk result ((T : List Declared) (H : List AnyEvent) → HasRoom T H machine.old → MovesTo T H (Finished ticket verdict.now first_new stale.now) machine.new) }
+    ensures not_allowed { IsErrOf result StepError.NotAllowed → (T : List Declared) (H : List AnyEvent) → HasRoom T H machine.old → WhatIsIllegal T H (Finished ticket verdict.now first_new stale.now) }
+{
+    match machine.plan(ticket, false) {
+        Ok(plan) => finish_by(machine, ticket, &plan, verdict, first_new, stale),
+        Err(error) => Err(finish_refused(error)),
+    }
+}
+
+/// Whether the message may be installed, and brings this verdict.
+fn may_bring(machine: &Machine, message: &Evaluated, verdict: &Verdict) -> Result<(), StepError>
+    requires present { (T : List Declared) (H : List AnyEvent) → HasRoom T H machine.now → IsPresent (state T H) (message_ticket message.now) message.now }
+    ensures may { OnOk result ((T : List Declared) (H : List AnyEvent) → HasRoom T H machine.now → CanInstall T H machine.now message.now) }
+    ensures verdict { OnOk result (message_verdict message.now ≡ verdict.now) }
+    ensures not_allowed { IsErrOf result StepError.NotAllowed → (T : List Declared) (H : List AnyEvent) → HasRoom T H machine.now → WhatIsIllegal T H (Installed (message_ticket message.now) verdict.now) }
+{
+    if !message.verdict().same(verdict) {
+        return Err(StepError::NotAllowed);
+    }
+    match machine.may_install(message, false) {
+        Ok(()) => Ok(()),
+        Err(error) => Err(deliver_refused(error)),
+    }
+}
+
+/// The message is installed, where it brings this verdict.
+fn install_message(
+    machine: &mut Machine,
+    message: Evaluated,
+    verdict: &Verdict,
+) -> Result<(), StepError>
+    requires room { (T : List Declared) × (H : List AnyEvent) × HasRoom T H machine.old }
+    requires present { (T : List Declared) (H : List AnyEvent) → HasRoom T H machine.old → IsPresent (state T H) (message_ticket message) message }
+    ensures done { OnOk result ((T : List Declared) (H : List AnyEvent) → HasRoom T H machine.old → MovesTo T H (Installed (message_ticket message) verdict.now) machine.new) }
+    ensures not_allowed { IsErrOf result StepError.NotAllowed → (T : List Declared) (H : List AnyEvent) → HasRoom T H machine.old → WhatIsIllegal T H (Installed (message_ticket message) verdict.now) }
+{
+    match may_bring(machine, &message, verdict) {
+        Ok(()) => match machine.install(message) {
+            Ok(()) => Ok(()),
+            Err(_) => Err(StepError::NoMemory),
+        },
+        Err(error) => Err(error),
+    }
+}
+
+/// A verdict is installed: that of the block on the present store, of which a copy is given.
+fn installed(
+    machine: &mut Machine,
+    copy: &Frozen,
+    ticket: u32,
+    verdict: &Verdict,
+) -> Result<(), StepError>
+    requires room { (T : List Declared) × (H : List AnyEvent) × HasRoom T H machine.old }
+    requires copied { copy.now ≡ plains machine.old.store }
+    ensures done { OnOk result ((T : List Declared) (H : List AnyEvent) → HasRoom T H machine.old → MovesTo T H (Installed ticket verdict.now) machine.new) }
+    ensures not_allowed { IsErrOf result StepError.NotAllowed → (T : List Declared) (H : List AnyEvent) → HasRoom T H machine.old → WhatIsIllegal T H (Installed ticket verdict.now) }
+{
+    if machine.block(ticket).is_none() {
+        return Err(StepError::NotAllowed);
+    }
+    match machine.evaluated(copy, ticket) {
+        Ok(message) => install_message(machine, message, verdict),
+        Err(_) => Err(StepError::NoMemory),
+    }
+}
+
+/// Sees to a copy of the present store.
+fn keep_copy(machine: &Machine, copy: &mut Option<Frozen>) -> Result<(), NoMemory>
+    requires { IfSome copy.old (λ cells. cells ≡ plains machine.now.store) }
+    ensures { OnOk result (copy.new ≡ Some (plains machine.now.store)) }
+{
+    if copy.is_none() {
+        *copy = Some(machine.store().freeze()?);
+    }
+    Ok(())
+}
+
+impl Replayer {
+    /// A verdict is installed.
+    fn install(&mut self, ticket: u32, verdict: &Verdict) -> Result<(), StepError>
+        requires room { (T : List Declared) × (H : List AnyEvent) × HasRoom T H self.old.machine }
+        requires copied { IfSome self.old.copy (λ cells. cells ≡ plains self.old.machine.store) }
+        ensures done { OnOk result ((T : List Declared) (H : List AnyEvent) → HasRoom T H self.old.machine → MovesTo T H (Installed ticket verdict.now) self.new.machine) }
+        ensures not_allowed { IsErrOf result StepError.NotAllowed → (T : List Declared) (H : List AnyEvent) → HasRoom T H self.old.machine → WhatIsIllegal T H (Installed ticket verdict.now) }
+        ensures copied { OnOk result (self.new.copy ≡ Some (plains self.old.machine.store)) }
+        ensures events { self.new.events ≡ self.old.events }
+    {
+        keep_copy(&self.machine, &mut self.copy)?;
+        match &self.copy {
+            Some(copy) => installed(&mut self.machine, copy, ticket, verdict),
+            None => unreachable!(),
+        }
+    }
+
+    /// What happens next. A finish lets go of the copy first, so that the store changes in place.
+    fn act(&mut self, what: &What) -> Result<(), StepError>
+        requires room { (T : List Declared) × (H : List AnyEvent) × HasRoom T H self.old.machine }
+        requires copied { IfSome self.old.copy (λ cells. cells ≡ plains self.old.machine.store) }
+        ensures done { OnOk result ((T : List Declared) (H : List AnyEvent) → HasRoom T H self.old.machine → MovesTo T H what.now self.new.machine) }
+        ensures not_allowed { IsErrOf result StepError.NotAllowed → (T : List Declared) (H : List AnyEvent) → HasRoom T H self.old.machine → WhatIsIllegal T H what.now }
+        ensures copied { OnOk result (IfSome self.new.copy (λ cells. cells ≡ plains self.new.machine.store)) }
+        ensures events { self.new.events ≡ self.old.events }
+    {
+        match what {
+            What::Submitted { ticket, block } => submitted(&mut self.machine, *ticket, block),
+            What::Installed { ticket, verdict } => self.install(*ticket, verdict),
+            What::Finished {
+                ticket,
+                verdict,
+                first_new,
+                stale,
+            } => {
+                self.copy = None;
+                finished(
+                    &mut self.machine,
+                    *ticket,
+                    verdict,
+                    *first_new,
+                    stale.as_slice(),
+                )
+            }
+            What::Cancelled { ticket } => cancelled(&mut self.machine, *ticket),
+        }
+    }
+
+    /// One event more, exactly where it may follow. After an error nothing is promised.
+    pub(crate) fn step(&mut self, event: &Event) -> Result<(), StepError>
+        requires { (T : List Declared) × (H : List AnyEvent) × Follows T H self.old }
+        ensures done { OnOk result ((T : List Declared) (H : List AnyEvent) → Follows T H self.old → Follows T (H ++ event.now ∷ []) self.new) }
+        ensures not_allowed { IsErrOf result StepError.NotAllowed → (T : List Declared) (H : List AnyEvent) → Follows T H self.old → IsIllegal T H event.now }
+    {
+        if event.client >= 128 || self.events >= MAX_EVENTS {
+            return Err(StepError::NotAllowed);
+        }
+        match self.act(&event.what) {
+            Ok(()) => {
+                self.events += 1;
+                Ok(())
+            }
+            Err(error) => Err(error),
+        }
+    }
+}

@@ -1,0 +1,128 @@
+//! Histories, written.
+
+ghost use Rattle.std.specs.Prelude.{◌≡◌, ◌<◌, ◌++◌, ◌∷◌, [], ◌≤◌, ℕ, List, OnOk, OnErr, IfSome, slice_get, length, string_bytes};
+ghost use Rattle.stm_history.specs.Lines.{format_1, header_line};
+ghost use Rattle.stm_history.specs.HistoryText.{variable_lines, event_lines, history_text, WritesText};
+
+use crate::event::Event;
+use crate::lines::write::{event_text, header_text, variable_text};
+use std::alloc::Global;
+use std::io::Write;
+use stm_store::Table;
+
+/// Why a history wasn't written.
+#[derive(Clone, Copy, Debug, PartialEq, Eq, Drop)]
+pub enum WriteFault {
+    Write,
+    NoMemory,
+}
+
+/// Writes all of a text, or a part from its front.
+fn write_text<W: Write>(writer: &mut W, text: &[u8]) -> Result<(), WriteFault>
+    ensures { WritesText result (W.contents writer.old) (W.contents writer.new) text.now }
+{
+    let mut at = 0;
+    while at < text.len() {
+        match writer.write(&text[at..]) {
+            Ok(0) => return Err(WriteFault::Write),
+            Ok(n) => at += n,
+            Err(_) => return Err(WriteFault::Write),
+        }
+    }
+    Ok(())
+}
+
+/// Writes a line and its line feed.
+fn write_line<W: Write>(writer: &mut W, mut line: String) -> Result<(), WriteFault>
+    ensures { WritesText result (W.contents writer.old) (W.contents writer.new) (string_bytes line ++ 10 ∷ []) }
+{
+    if line.push('\n').is_err() {
+        return Err(WriteFault::NoMemory);
+    }
+    write_text(writer, line.as_bytes())
+}
+
+fn write_variable<W: Write>(
+    alloc: Global,
+    writer: &mut W,
+    table: &Table,
+    id: u32,
+) -> Result<(), WriteFault>
+    requires { id < length table.now }
+    ensures { IfSome (slice_get table.now id) (λ d. WritesText result (W.contents writer.old) (W.contents writer.new) (variable_lines (d ∷ []))) }
+{
+    match variable_text(alloc, table.name(id), table.kind(id), table.value(id)) {
+        Ok(line) => write_line(writer, line),
+        Err(_) => Err(WriteFault::NoMemory),
+    }
+}
+
+fn write_event<W: Write>(alloc: Global, writer: &mut W, event: &Event) -> Result<(), WriteFault>
+    ensures { WritesText result (W.contents writer.old) (W.contents writer.new) (event_lines (event.now ∷ [])) }
+{
+    match event_text(alloc, event) {
+        Ok(line) => write_line(writer, line),
+        Err(_) => Err(WriteFault::NoMemory),
+    }
+}
+
+fn write_header<W: Write>(alloc: Global, writer: &mut W, vars: u32) -> Result<(), WriteFault>
+    ensures { WritesText result (W.contents writer.old) (W.contents writer.new) (header_line format_1 vars ++ 10 ∷ []) }
+{
+    match header_text(alloc, vars) {
+        Ok(line) => write_line(writer, line),
+        Err(_) => Err(WriteFault::NoMemory),
+    }
+}
+
+fn write_variables<W: Write>(alloc: Global, writer: &mut W, table: &Table) -> Result<(), WriteFault>
+    ensures { WritesText result (W.contents writer.old) (W.contents writer.new) (variable_lines table.now) }
+{
+    for id in 0..table.len() {
+        match write_variable(alloc, writer, table, id as u32) {
+            Ok(()) => {}
+            Err(fault) => return Err(fault),
+        }
+    }
+    Ok(())
+}
+
+fn write_events<W: Write>(
+    alloc: Global,
+    writer: &mut W,
+    history: &[Event],
+) -> Result<(), WriteFault>
+    ensures { WritesText result (W.contents writer.old) (W.contents writer.new) (event_lines history.now) }
+{
+    for event in history {
+        match write_event(alloc, writer, event) {
+            Ok(()) => {}
+            Err(fault) => return Err(fault),
+        }
+    }
+    Ok(())
+}
+
+/// Writes a whole history.
+pub fn write_history<W: Write>(
+    alloc: Global,
+    writer: &mut W,
+    table: &Table,
+    history: &[Event],
+) -> Result<(), WriteFault>
+    // The whole text was written, or after a fault a part from its front.
+    ensures { WritesText result (W.contents writer.old) (W.contents writer.new) (history_text format_1 table.now history.now) }
+{
+    match write_header(alloc, writer, table.len() as u32) {
+        Ok(()) => {}
+        Err(fault) => return Err(fault),
+    }
+    match write_variables(alloc, writer, table) {
+        Ok(()) => {}
+        Err(fault) => return Err(fault),
+    }
+    match write_events(alloc, writer, history) {
+        Ok(()) => Ok(()),
+        Err(fault) => Err(fault),
+    }
+}

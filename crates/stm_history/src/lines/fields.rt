@@ -1,0 +1,135 @@
+//! The fields of a JSON value: numbers, texts, types and values.
+
+ghost use Rattle.std.specs.Prelude.{◌≡◌, ◌<◌, ◌^◌, ◌≤◌, Some, None, IfSome, option_map, option_and_then, length};
+ghost use Rattle.std.specs.List.{list_any};
+ghost use Rattle.serde_json.specs.View.{view, items_view};
+ghost use Rattle.serde_json.specs.Find.{get, at, as_array};
+ghost use Rattle.stm_history.specs.Fields.{u32_of, text_field, number_field, count_of, stands_in, base_in, type_in as type_meant, reference_of, value_of};
+ghost use Rattle.stm_history.specs.Fits.{Is32Bit, FitsValue};
+
+use serde_json::Value as Json;
+use stm_terms::kinds::{Base, Ty};
+use stm_terms::values::{Ref, Value};
+
+pub(crate) fn number(json: &Json) -> Option<u32>
+    ensures value { result ≡ u32_of (view json.now) }
+    ensures fits { IfSome result (λ n. Is32Bit n) }
+{
+    let n = json.as_u64()?;
+    if n <= u32::MAX as u64 {
+        Some(n as u32)
+    } else {
+        None
+    }
+}
+
+pub(crate) fn text_at<'a>(json: &'a Json, key: &str) -> Option<&'a str>
+    ensures { option_map (λ s. s.now) result ≡ text_field key.now (view json.now) }
+{
+    json.get(key)?.as_str()
+}
+
+pub(crate) fn number_at(json: &Json, key: &str) -> Option<u32>
+    ensures value { result ≡ number_field key.now (view json.now) }
+    ensures fits { IfSome result (λ n. Is32Bit n) }
+{
+    number(json.get(key)?)
+}
+
+fn count(byte: u8, bytes: &[u8]) -> usize
+    ensures value { result ≡ count_of byte bytes.now }
+    ensures few { result ≤ length bytes.now }
+{
+    let mut found = 0;
+    for other in bytes {
+        if *other == byte {
+            found += 1;
+        }
+    }
+    found
+}
+
+fn has(byte: u8, bytes: &[u8]) -> bool
+    ensures { result ≡ stands_in byte bytes.now }
+{
+    for other in bytes {
+        if *other == byte {
+            return true;
+        }
+    }
+    false
+}
+
+fn base_of(bytes: &[u8]) -> Base
+    ensures { result ≡ base_in bytes.now }
+{
+    if has(b'I', bytes) {
+        Base::Int
+    } else if has(b'B', bytes) {
+        Base::Bool
+    } else {
+        Base::Unit
+    }
+}
+
+pub(crate) fn type_of(text: &str) -> Option<Ty>
+    ensures value { result ≡ type_meant text.now }
+    ensures fits { IfSome result (λ t. t.refs ≤ 8) }
+{
+    let bytes = text.as_bytes();
+    let refs = count(b'V', bytes);
+    let base = base_of(bytes);
+    if refs <= 8 {
+        Some(Ty {
+            base,
+            refs: refs as u8,
+        })
+    } else {
+        None
+    }
+}
+
+fn reference(json: &Json) -> Option<Value>
+    ensures value { result ≡ reference_of (view json.now) }
+    ensures fits { IfSome result (λ v. FitsValue v) }
+{
+    match number_at(json, "old") {
+        Some(i) => Some(Value::Var(Ref::Old(i))),
+        None => match number_at(json, "new") {
+            Some(k) => Some(Value::Var(Ref::New(k))),
+            None => None,
+        },
+    }
+}
+
+pub(crate) fn value(json: &Json) -> Option<Value>
+    ensures value { result ≡ value_of (view json.now) }
+    ensures fits { IfSome result (λ v. FitsValue v) }
+{
+    if json.is_null() {
+        return Some(Value::Unit);
+    }
+    match json.as_bool() {
+        Some(b) => Some(Value::Bool(b)),
+        None => match json.as_i64() {
+            Some(n) => Some(Value::Int(n)),
+            None => reference(json),
+        },
+    }
+}
+
+pub(crate) fn value_at(json: &Json, key: &str) -> Option<Value>
+    ensures value { result ≡ option_and_then value_of (get key.now (view json.now)) }
+    ensures fits { IfSome result (λ v. FitsValue v) }
+{
+    value(json.get(key)?)
+}
+
+pub(crate) fn array_at<'a>(json: &'a Json, key: &str) -> Option<&'a [Json]>
+    ensures { option_map (λ v. items_view v.now) result ≡ option_and_then as_array (get key.now (view json.now)) }
+{
+    match json.get(key)?.as_array() {
+        Some(list) => Some(list.as_slice()),
+        None => None,
+    }
+}

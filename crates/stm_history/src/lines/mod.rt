@@ -1,0 +1,9 @@
+//! The lines of a history: its events and its declared variables as JSON, written exactly and read back exactly.
+
+mod build;
+mod fields;
+mod parts;
+pub mod read;
+pub mod variable;
+mod verdicts;
+pub mod write;

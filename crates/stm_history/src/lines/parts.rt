@@ -1,0 +1,115 @@
+//! The lists of a JSON value: writes, new variables, numbers.
+
+ghost use Rattle.std.specs.Prelude.{◌≡◌, ◌≤◌, Some, None, IfOk, IfSome, option_map, option_and_then};
+ghost use Rattle.serde_json.specs.View.{view, items_view};
+ghost use Rattle.stm_history.specs.Fields.{u32_of, write_of, new_of, all_of, list_field};
+ghost use Rattle.stm_history.specs.Fits.{Is32Bit, FitsValue, FitWrites, FitNews, FitNumbers};
+
+use crate::lines::fields::{array_at, number, type_of, value};
+use serde_json::Value as Json;
+use std::alloc::Global;
+use stm_terms::NoMemory;
+use stm_terms::kinds::Ty;
+use stm_terms::values::Value;
+
+fn write(json: &Json) -> Option<(u32, Value)>
+    ensures value { result ≡ write_of (view json.now) }
+    ensures fits { IfSome result (λ w. Is32Bit w.0 × FitsValue w.1) }
+{
+    let id = number(json.get(0usize)?)?;
+    let value = value(json.get(1usize)?)?;
+    Some((id, value))
+}
+
+fn new(json: &Json) -> Option<(Ty, Value)>
+    ensures value { result ≡ new_of (view json.now) }
+    ensures fits { IfSome result (λ n. (n.0.refs ≤ 8) × FitsValue n.1) }
+{
+    let ty = type_of(json.get(0usize)?.as_str()?)?;
+    let value = value(json.get(1usize)?)?;
+    Some((ty, value))
+}
+
+fn writes(alloc: Global, list: &[Json]) -> Result<Option<Vec<(u32, Value)>>, NoMemory>
+    ensures value { IfOk result (λ o. option_map (λ v. v.items) o ≡ all_of write_of (items_view list.now)) }
+    ensures fits { IfOk result (λ o. IfSome o (λ v. FitWrites v.items)) }
+{
+    let mut found = Vec::new(alloc);
+    for json in list {
+        match write(json) {
+            Some(w) => found.push(w)?,
+            None => return Ok(None),
+        }
+    }
+    Ok(Some(found))
+}
+
+fn news(alloc: Global, list: &[Json]) -> Result<Option<Vec<(Ty, Value)>>, NoMemory>
+    ensures value { IfOk result (λ o. option_map (λ v. v.items) o ≡ all_of new_of (items_view list.now)) }
+    ensures fits { IfOk result (λ o. IfSome o (λ v. FitNews v.items)) }
+{
+    let mut found = Vec::new(alloc);
+    for json in list {
+        match new(json) {
+            Some(n) => found.push(n)?,
+            None => return Ok(None),
+        }
+    }
+    Ok(Some(found))
+}
+
+fn numbers(alloc: Global, list: &[Json]) -> Result<Option<Vec<u32>>, NoMemory>
+    ensures value { IfOk result (λ o. option_map (λ v. v.items) o ≡ all_of u32_of (items_view list.now)) }
+    ensures fits { IfOk result (λ o. IfSome o (λ v. FitNumbers v.items)) }
+{
+    let mut found = Vec::new(alloc);
+    for json in list {
+        match number(json) {
+            Some(n) => found.push(n)?,
+            None => return Ok(None),
+        }
+    }
+    Ok(Some(found))
+}
+
+pub(crate) fn writes_at(
+    alloc: Global,
+    json: &Json,
+    key: &str,
+) -> Result<Option<Vec<(u32, Value)>>, NoMemory>
+    ensures value { IfOk result (λ o. option_map (λ v. v.items) o ≡ list_field write_of key.now (view json.now)) }
+    ensures fits { IfOk result (λ o. IfSome o (λ v. FitWrites v.items)) }
+{
+    match array_at(json, key) {
+        Some(list) => writes(alloc, list),
+        None => Ok(None),
+    }
+}
+
+pub(crate) fn news_at(
+    alloc: Global,
+    json: &Json,
+    key: &str,
+) -> Result<Option<Vec<(Ty, Value)>>, NoMemory>
+    ensures value { IfOk result (λ o. option_map (λ v. v.items) o ≡ list_field new_of key.now (view json.now)) }
+    ensures fits { IfOk result (λ o. IfSome o (λ v. FitNews v.items)) }
+{
+    match array_at(json, key) {
+        Some(list) => news(alloc, list),
+        None => Ok(None),
+    }
+}
+
+pub(crate) fn numbers_at(
+    alloc: Global,
+    json: &Json,
+    key: &str,
+) -> Result<Option<Vec<u32>>, NoMemory>
+    ensures value { IfOk result (λ o. option_map (λ v. v.items) o ≡ list_field u32_of key.now (view json.now)) }
+    ensures fits { IfOk result (λ o. IfSome o (λ v. FitNumbers v.items)) }
+{
+    match array_at(json, key) {
+        Some(list) => numbers(alloc, list),
+        None => Ok(None),
+    }
+}

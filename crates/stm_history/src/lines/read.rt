@@ -1,0 +1,258 @@
+//! Lines read back.
+
+ghost use Rattle.std.specs.Prelude.{◌≡◌, ◌≢◌, ◌<◌, ◌^◌, ◌≤◌, ℕ, List, IfOk, IfSome, IsErrOf, codes, option_map, option_and_then, string_bytes};
+ghost use Rattle.serde_json.specs.View.{view};
+ghost use Rattle.stm_history.specs.declared.event.Event.{Event as AnyEvent};
+ghost use Rattle.stm_store.specs.Tables.{Declared};
+ghost use Rattle.stm_history.specs.Fields.{block_of_text};
+ghost use Rattle.stm_history.specs.Fields.{event_of as event_meant, what_of as what_meant, client_of, submitted_of, installed_of, finished_of, number_field, declared_from_json as variable_meant, type_in as type_meant, text_field};
+ghost use Rattle.stm_history.specs.Fits.{Is32Bit, FitsTable, WhatFitsTable, FitsValue, FitsVariable};
+ghost use Rattle.stm_history.specs.Lines.{format_1, event_line, header_line, variable_line};
+ghost use Rattle.stm_history.specs.Variables.{declared};
+
+use crate::event::{Event, What};
+use crate::lines::fields::{number_at, text_at, type_of, value_at};
+use crate::lines::parts::numbers_at;
+use crate::lines::variable::Variable;
+use crate::lines::verdicts::verdict_at;
+use crate::lines::write::{event_text, header_text, variable_text};
+use crate::tickets::Tickets;
+use serde_json::Value as Json;
+use std::alloc::Global;
+use stm_check::{SharedBlock, TypeFault, check};
+use stm_parse::{ParseFault, parse_block};
+use stm_store::Table;
+use stm_terms::kinds::Ty;
+use stm_terms::{NoMemory, is_name};
+
+/// Why a line is refused.
+#[derive(Clone, Copy, Debug, PartialEq, Eq, Drop)]
+pub enum LineError {
+    Bad,
+    NoMemory,
+}
+
+impl From<NoMemory> for LineError {
+    ghost use Rattle.std.specs.Prelude.{◌≡◌};
+    ghost use Rattle.stm_history.specs.declared.lines.read.LineError.TheVariants.{NoMemory};
+
+    ghost from_gives = { λ _ e. e ≡ NoMemory };
+
+    fn from(_refused: NoMemory) -> LineError {
+        LineError::NoMemory
+    }
+}
+
+/// The block that a text is, by the table; none where it has a fault.
+#[tactic(auto, unfolding(stm_check::specs::WholeBlocks::checked_block))]
+fn block_of(alloc: Global, table: &Table, text: &str) -> Result<Option<SharedBlock>, NoMemory>
+    ensures { IfOk result (λ o. o ≡ block_of_text table.now text.now) }
+{
+    let raw = match parse_block(alloc, text) {
+        Ok(raw) => raw,
+        Err(ParseFault::NoMemory) => return Err(NoMemory),
+        Err(_) => return Ok(None),
+    };
+    match check(alloc, table, raw) {
+        Ok(block) => Ok(Some(SharedBlock::new(alloc, block)?)),
+        Err(TypeFault::NoMemory) => Err(NoMemory),
+        Err(_) => Ok(None),
+    }
+}
+
+fn client_at(json: &Json) -> Option<u32>
+    ensures value { result ≡ client_of (view json.now) }
+    ensures fits { IfSome result (λ n. n < 128) }
+{
+    let client = number_at(json, "client")?;
+    if client < 128 { Some(client) } else { None }
+}
+
+fn submitted(
+    alloc: Global,
+    table: &Table,
+    json: &Json,
+    ticket: u32,
+) -> Result<Option<What>, NoMemory>
+    ensures value { IfOk result (λ o. o ≡ submitted_of table.now (view json.now) ticket) }
+    ensures fits { IfOk result (λ o. IfSome o (λ w. WhatFitsTable table.now w)) }
+{
+    let Some(text) = text_at(json, "block") else {
+        return Ok(None);
+    };
+    match block_of(alloc, table, text)? {
+        Some(block) => Ok(Some(What::Submitted { ticket, block })),
+        None => Ok(None),
+    }
+}
+
+fn installed(alloc: Global, json: &Json, ticket: u32) -> Result<Option<What>, NoMemory>
+    ensures value { IfOk result (λ o. o ≡ installed_of (view json.now) ticket) }
+    ensures fits { IfOk result (λ o. IfSome o (λ w. (t : List Declared) → WhatFitsTable t w)) }
+{
+    match verdict_at(alloc, json, "verdict")? {
+        Some(verdict) => Ok(Some(What::Installed { ticket, verdict })),
+        None => Ok(None),
+    }
+}
+
+fn finished(alloc: Global, json: &Json, ticket: u32) -> Result<Option<What>, NoMemory>
+    ensures value { IfOk result (λ o. o ≡ finished_of (view json.now) ticket) }
+    ensures fits { IfOk result (λ o. IfSome o (λ w. (t : List Declared) → WhatFitsTable t w)) }
+{
+    let Some(verdict) = verdict_at(alloc, json, "verdict")? else {
+        return Ok(None);
+    };
+    let Some(first_new) = number_at(json, "first_new") else {
+        return Ok(None);
+    };
+    let Some(stale) = numbers_at(alloc, json, "stale")? else {
+        return Ok(None);
+    };
+    Ok(Some(What::Finished {
+        ticket,
+        verdict,
+        first_new,
+        stale: Tickets::from_vec(stale),
+    }))
+}
+
+fn what_of(
+    alloc: Global,
+    table: &Table,
+    json: &Json,
+    kind: &str,
+    ticket: u32,
+) -> Result<Option<What>, NoMemory>
+    ensures value { IfOk result (λ o. o ≡ what_meant table.now (view json.now) kind.now ticket) }
+    ensures fits { IfOk result (λ o. IfSome o (λ w. WhatFitsTable table.now w)) }
+{
+    if kind == "submitted" {
+        submitted(alloc, table, json, ticket)
+    } else if kind == "installed" {
+        installed(alloc, json, ticket)
+    } else if kind == "finished" {
+        finished(alloc, json, ticket)
+    } else if kind == "cancelled" {
+        Ok(Some(What::Cancelled { ticket }))
+    } else {
+        Ok(None)
+    }
+}
+
+/// The event that the value stands for, if it does.
+fn event_of(alloc: Global, table: &Table, json: &Json) -> Result<Option<Event>, NoMemory>
+    ensures value { IfOk result (λ o. o ≡ event_meant table.now (view json.now)) }
+    ensures fits { IfOk result (λ o. IfSome o (λ e. FitsTable table.now e)) }
+{
+    let Some(kind) = text_at(json, "event") else {
+        return Ok(None);
+    };
+    let Some(client) = client_at(json) else {
+        return Ok(None);
+    };
+    let Some(ticket) = number_at(json, "ticket") else {
+        return Ok(None);
+    };
+    match what_of(alloc, table, json, kind, ticket)? {
+        Some(what) => Ok(Some(Event { client, what })),
+        None => Ok(None),
+    }
+}
+
+/// Reads a line, exactly where it is the text of an event that fits the table.
+pub fn read_event(alloc: Global, table: &Table, line: &[u8]) -> Result<Event, LineError>
+    ensures ok { IfOk result (λ e. event_line e ≡ line.now) }
+    ensures fits { IfOk result (λ e. FitsTable table.now e) }
+    ensures bad { IsErrOf result LineError.Bad → (e : AnyEvent) → FitsTable table.now e → event_line e ≢ line.now }
+{
+    let json = match Json::from_slice(alloc, line) {
+        Ok(json) => json,
+        Err(e) if e.is_memory() => return Err(LineError::NoMemory),
+        Err(_) => return Err(LineError::Bad),
+    };
+    let Some(event) = event_of(alloc, table, &json)? else {
+        return Err(LineError::Bad);
+    };
+    let again = event_text(alloc, &event)?;
+    if again.as_bytes() == line {
+        Ok(event)
+    } else {
+        Err(LineError::Bad)
+    }
+}
+
+/// Reads the first line, exactly where it is one: the number of variables that it promises.
+pub fn read_header(alloc: Global, line: &[u8]) -> Result<u32, LineError>
+    ensures ok { IfOk result (λ n. header_line format_1 n ≡ line.now) }
+    ensures small { IfOk result (λ n. Is32Bit n) }
+    ensures bad { IsErrOf result LineError.Bad → (n : ℕ) → Is32Bit n → header_line format_1 n ≢ line.now }
+{
+    let json = match Json::from_slice(alloc, line) {
+        Ok(json) => json,
+        Err(e) if e.is_memory() => return Err(LineError::NoMemory),
+        Err(_) => return Err(LineError::Bad),
+    };
+    let Some(vars) = number_at(&json, "vars") else {
+        return Err(LineError::Bad);
+    };
+    let again = header_text(alloc, vars)?;
+    if again.as_bytes() == line {
+        Ok(vars)
+    } else {
+        Err(LineError::Bad)
+    }
+}
+
+/// The declared variable that the value stands for, if it does.
+fn variable_of(alloc: Global, json: &Json) -> Result<Option<Variable>, NoMemory>
+    ensures value { IfOk result (λ o. option_map declared o ≡ variable_meant (view json.now)) }
+    ensures fits { IfOk result (λ o. IfSome o (λ v. (v.kind.refs ≤ 8) × FitsValue v.value)) }
+{
+    let Some(name) = text_at(json, "name") else {
+        return Ok(None);
+    };
+    let Some(kind) = kind_at(json) else {
+        return Ok(None);
+    };
+    let Some(value) = value_at(json, "init") else {
+        return Ok(None);
+    };
+    Ok(Some(Variable {
+        name: String::from_str(alloc, name)?,
+        kind,
+        value,
+    }))
+}
+
+fn kind_at(json: &Json) -> Option<Ty>
+    ensures value { result ≡ option_and_then type_meant (text_field (codes "type") (view json.now)) }
+    ensures fits { IfSome result (λ t. t.refs ≤ 8) }
+{
+    type_of(text_at(json, "type")?)
+}
+
+/// Reads a variable's line, exactly where it is one.
+pub fn read_variable(alloc: Global, line: &[u8]) -> Result<Variable, LineError>
+    ensures ok { IfOk result (λ v. variable_line (declared v) ≡ line.now) }
+    ensures fits { IfOk result (λ v. FitsVariable (declared v)) }
+    ensures bad { IsErrOf result LineError.Bad → (d : Declared) → FitsVariable d → variable_line d ≢ line.now }
+{
+    let json = match Json::from_slice(alloc, line) {
+        Ok(json) => json,
+        Err(e) if e.is_memory() => return Err(LineError::NoMemory),
+        Err(_) => return Err(LineError::Bad),
+    };
+    let Some(variable) = variable_of(alloc, &json)? else {
+        return Err(LineError::Bad);
+    };
+    if !is_name(&variable.name) {
+        return Err(LineError::Bad);
+    }
+    let again = variable_text(alloc, &variable.name, variable.kind, variable.value)?;
+    if again.as_bytes() == line {
+        Ok(variable)
+    } else {
+        Err(LineError::Bad)
+    }
+}
