@@ -186,7 +186,7 @@ impl Desk {
         self.machine.ends(ticket)
     }
 
-    /// The lowest ticket of a block that doesn't block, where none is new or stale. TicketSet below it are dropped.
+    /// The lowest ticket of a block that doesn't block, where none is new or stale. Candidates below it are dropped.
     fn next_end(&self, candidates: &mut TicketSet) -> Option<u32>
         requires legal { IsLegal self.now.table self.now.history }
         requires none_due { next_due (now self.now) ≡ None }
