@@ -10,10 +10,12 @@ use std::alloc::Global;
 use std::io::Write;
 use stm_store::Table;
 
-/// Why a history wasn't written.
+/// Why a history wasn't written whole. What was written is a part of it from its front.
 #[derive(Clone, Copy, Debug, PartialEq, Eq, Drop)]
 pub enum WriteFault {
+    /// The writer failed, or took nothing.
     Write,
+    /// Memory was refused.
     NoMemory,
 }
 
