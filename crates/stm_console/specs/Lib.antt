@@ -1,10 +1,19 @@
-pub mod Abstraction
+-- What a reader has to believe: what the console writes for an input, command by command.
+pub mod Arguments
+pub mod Blocks
 pub mod CommandLine
-pub mod Commands
 pub mod Console
+pub mod ConsoleState
+pub mod Declaring
+pub mod Delivering
 pub mod ExitStatus
+pub mod Finishing
 pub mod Laws
 pub mod LineClass
 pub mod Lines
+pub mod Options
 pub mod Refusals
+pub mod Showing
+-- The words inside.
+pub mod Abstraction
 pub mod Streaming

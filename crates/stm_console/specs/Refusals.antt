@@ -6,6 +6,14 @@ use Rattle.stm_check.specs.declared.fault.TypeFault.{TypeFault}
 use Rattle.stm_check.specs.declared.fault.TypeFault.TheVariants as typed
 use Rattle.stm_store.specs.declared.table.DeclareError.{DeclareError}
 use Rattle.stm_store.specs.declared.table.DeclareError.TheVariants as declare
+use Rattle.stm_history.specs.declared.errors.SubmitError.{SubmitError}
+use Rattle.stm_history.specs.declared.errors.SubmitError.TheVariants as submit
+use Rattle.stm_history.specs.declared.errors.DeliverError.{DeliverError}
+use Rattle.stm_history.specs.declared.errors.DeliverError.TheVariants as deliver
+use Rattle.stm_history.specs.declared.errors.FinishError.{FinishError}
+use Rattle.stm_history.specs.declared.errors.FinishError.TheVariants as finish
+use Rattle.stm_history.specs.declared.errors.CancelError.{CancelError}
+use Rattle.stm_history.specs.declared.errors.CancelError.TheVariants as cancel
 use Rattle.stm_console.specs.declared.refusal.Refusal.{Refusal}
 use Rattle.stm_console.specs.declared.refusal.Refusal.TheVariants.{Parsing, Typing, Unknown, Declaring}
 
@@ -16,6 +24,10 @@ refused name = codes "refused " ++ name ++ 10 ∷ []
 -- a refusal by its name, with the place of its cause, in bytes from 0 in the argument
 unfoldable pub refused_at : List ℕ → ℕ → List ℕ
 refused_at name place = codes "refused " ++ name ++ 32 ∷ decimal place ++ 10 ∷ []
+
+-- a refusal by its name, with the number of its variable
+unfoldable pub refused_variable : List ℕ → ℕ → List ℕ
+refused_variable name number = codes "refused " ++ name ++ codes " #" ++ decimal number ++ 10 ∷ []
 
 abbrev pub parse_fault_text : ParseFault → List ℕ
 parse_fault_text (parse.BadByte n) = refused_at (codes "BadByte") n
@@ -40,6 +52,34 @@ declare_error_text declare.Twice = refused (codes "Twice")
 declare_error_text declare.TypeOfValue = refused (codes "TypeOfValue")
 declare_error_text declare.TableFull = refused (codes "TableFull")
 declare_error_text declare.NoMemory = []
+
+abbrev pub submit_error_text : SubmitError → List ℕ
+submit_error_text (submit.Foreign i) = refused_variable (codes "Foreign") i
+submit_error_text submit.WaitingFull = refused (codes "WaitingFull")
+submit_error_text submit.HistoryFull = refused (codes "HistoryFull")
+submit_error_text submit.NoMemory = []
+
+abbrev pub deliver_error_text : DeliverError → List ℕ
+deliver_error_text deliver.Gone = refused (codes "Gone")
+deliver_error_text deliver.OtherBlock = refused (codes "OtherBlock")
+deliver_error_text deliver.Already = refused (codes "Already")
+deliver_error_text (deliver.Overtaken i) = refused_variable (codes "Overtaken") i
+deliver_error_text deliver.HistoryFull = refused (codes "HistoryFull")
+deliver_error_text deliver.NoMemory = []
+
+abbrev pub finish_error_text : FinishError → List ℕ
+finish_error_text finish.NoTicket = refused (codes "NoTicket")
+finish_error_text finish.NotEvaluated = refused (codes "NotEvaluated")
+finish_error_text finish.Stale = refused (codes "Stale")
+finish_error_text finish.Blocks = refused (codes "Blocks")
+finish_error_text finish.HistoryFull = refused (codes "HistoryFull")
+finish_error_text finish.CellsFull = refused (codes "CellsFull")
+finish_error_text finish.NoMemory = []
+
+abbrev pub cancel_error_text : CancelError → List ℕ
+cancel_error_text cancel.NoTicket = refused (codes "NoTicket")
+cancel_error_text cancel.HistoryFull = refused (codes "HistoryFull")
+cancel_error_text cancel.NoMemory = []
 
 -- why a block or a declaration is refused
 abbrev pub refusal_text : Refusal → List ℕ

@@ -3,7 +3,7 @@
 ghost use Rattle.std.specs.Prelude.{◌≡◌, IfOk};
 ghost use Rattle.stm_store.specs.Cells.{Covers, plains};
 ghost use Rattle.stm_store.specs.Tables.{opened};
-ghost use Rattle.stm_console.specs.Commands.{compiled_block};
+ghost use Rattle.stm_console.specs.Blocks.{compiled_block};
 ghost use Rattle.stm_console.specs.Refusals.{AnswersAs};
 
 use crate::refusal::Refusal;
@@ -13,9 +13,9 @@ use stm_parse::parse_block;
 use stm_store::Table;
 
 /// The block of a text. The store that opens on the table has the variables that it names.
-#[tactic(auto, using(crate::proofs::UsesAreCovered::opened_covers), unfolding(crate::specs::Commands::compiled_block))]
+#[tactic(auto, using(crate::proofs::UsesAreCovered::opened_covers), unfolding(crate::specs::Blocks::compiled_block, stm_check::specs::WholeBlocks::checked_block))]
 pub fn compile_block(alloc: Global, table: &Table, text: &str) -> Result<Typed, Refusal>
-    ensures block { AnswersAs (λ b. b.tree) result (compiled_block table.now text.now) }
+    ensures block { AnswersAs (λ b. b) result (compiled_block table.now text.now) }
     ensures covered { IfOk result (λ b. Covers (plains (opened table.now)) b.uses) }
 {
     let raw = parse_block(alloc, text)?;

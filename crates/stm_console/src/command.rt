@@ -9,7 +9,18 @@ pub enum Command {
     Tvar,
     Try,
     Looks,
+    Submit,
+    Take,
+    Deliver,
+    Handback,
+    Eval,
+    Finish,
+    Cancel,
+    Show,
+    Reads,
     Store,
+    Settle,
+    History,
 }
 
 /// The command of a word, if it is one.
@@ -26,8 +37,41 @@ pub fn command_of(word: &[u8]) -> Option<Command>
     if word == b"looks".as_slice() {
         return Some(Command::Looks);
     }
+    if word == b"submit".as_slice() {
+        return Some(Command::Submit);
+    }
+    if word == b"take".as_slice() {
+        return Some(Command::Take);
+    }
+    if word == b"deliver".as_slice() {
+        return Some(Command::Deliver);
+    }
+    if word == b"handback".as_slice() {
+        return Some(Command::Handback);
+    }
+    if word == b"eval".as_slice() {
+        return Some(Command::Eval);
+    }
+    if word == b"finish".as_slice() {
+        return Some(Command::Finish);
+    }
+    if word == b"cancel".as_slice() {
+        return Some(Command::Cancel);
+    }
+    if word == b"show".as_slice() {
+        return Some(Command::Show);
+    }
+    if word == b"reads".as_slice() {
+        return Some(Command::Reads);
+    }
     if word == b"store".as_slice() {
         return Some(Command::Store);
+    }
+    if word == b"settle".as_slice() {
+        return Some(Command::Settle);
+    }
+    if word == b"history".as_slice() {
+        return Some(Command::History);
     }
     None
 }

@@ -1,67 +1,155 @@
 //! What the console knows, and its answer to a line.
 
-ghost use Rattle.std.specs.Prelude.{◌≡◌, ◌++◌, Some, is_some, IsTrue, string_bytes, OnOk};
-ghost use Rattle.stm_console.specs.Commands.{with_open_store, tvar_answer, tvar_state};
-ghost use Rattle.stm_console.specs.Console.{initial_console, command_named, answer_to_command, state_after_command, answer_to, state_after};
+ghost use Rattle.std.specs.Prelude.{◌≡◌, ◌≤◌, ◌++◌, Some, string_bytes, OnOk, IfOk};
+ghost use Rattle.stm_history.specs.SlowDesk.{max_events};
+ghost use Rattle.stm_history.specs.HistoryText.{WritesText};
+ghost use Rattle.stm_console.specs.Abstraction.{IsAnswer, text_answer, history_of};
+ghost use Rattle.stm_console.specs.Console.{initial_console, command_named, desk_answer, desk_after, command_answer, command_state, answer_to_command, state_after_command, answer_to, state_after};
+ghost use Rattle.stm_console.specs.ConsoleState.{present_desk};
+ghost use Rattle.stm_console.specs.Declaring.{tvar_answer, tvar_state};
+ghost use Rattle.stm_console.specs.declared.console.Console.TheVariants.{Open as IsOpen};
 
 use crate::command::{Command, command_of};
 use crate::declaring::{declare, write_declared};
 use crate::judging::{Judgement, judge};
-use crate::opened::OpenStore;
+use crate::limit::EventLimit;
+use crate::opened::OpenDesk;
 use crate::refusal::{refuse, write_refusal};
-use crate::showing::answer_store;
-use crate::trying::{answer_looks, answer_try};
+use crate::reply::Reply;
 use std::alloc::Global;
-use std::marker::Model;
+use std::io::Write;
 use std::str;
+use stm_history::WriteFault;
 use stm_store::Table;
 use stm_terms::NoMemory;
 
-/// The declared variables, and the desk once it is open.
+/// The declared variables, and how many events the desk will take; or the desk once it is open.
 #[derive(Drop)]
-pub struct Console {
-    table: Table,
-    desk: Option<OpenStore>,
+pub enum Console {
+    Declaring { table: Table, limit: EventLimit },
+    Open(OpenDesk),
 }
 
-impl Model for Console {
-    ghost use Rattle.stm_console.specs.Commands.{ConsoleState};
+impl OpenDesk {
+    /// Answers a command whose answer is a text.
+    fn answer_text(
+        &mut self,
+        alloc: Global,
+        command: Command,
+        argument: &str,
+        out: &mut String,
+    ) -> Result<(), NoMemory>
+        ensures text { OnOk result (string_bytes out.new ≡ string_bytes out.old ++ text_answer self.old command argument.now) }
+        ensures state { OnOk result (self.new ≡ desk_after self.old command argument.now) }
+    {
+        match command {
+            Command::Tvar => {
+                refuse("Late", out)?;
+                Ok(())
+            }
+            Command::Try => {
+                self.answer_try(alloc, argument, out)?;
+                Ok(())
+            }
+            Command::Looks => {
+                self.answer_looks(alloc, argument, out)?;
+                Ok(())
+            }
+            Command::Submit => {
+                self.answer_submit(alloc, argument, out)?;
+                Ok(())
+            }
+            Command::Take => {
+                self.answer_take(alloc, argument, out)?;
+                Ok(())
+            }
+            Command::Deliver => {
+                self.answer_deliver(alloc, argument, out)?;
+                Ok(())
+            }
+            Command::Handback => {
+                self.answer_handback(argument, out)?;
+                Ok(())
+            }
+            Command::Eval => {
+                self.answer_eval(alloc, argument, out)?;
+                Ok(())
+            }
+            Command::Finish => {
+                self.answer_finish(argument, out)?;
+                Ok(())
+            }
+            Command::Cancel => {
+                self.answer_cancel(argument, out)?;
+                Ok(())
+            }
+            Command::Show => {
+                self.answer_show(argument, out)?;
+                Ok(())
+            }
+            Command::Reads => {
+                self.answer_reads(argument, out)?;
+                Ok(())
+            }
+            Command::Store => {
+                self.answer_store(argument, out)?;
+                Ok(())
+            }
+            Command::Settle => {
+                self.answer_settle(argument, out)?;
+                Ok(())
+            }
+            Command::History => {
+                refuse("Argument", out)?;
+                Ok(())
+            }
+        }
+    }
 
-    ghost Value = { ConsoleState };
-
-    ghost use Rattle.stm_console.specs.Abstraction.{StandsOn};
-
-    ghost view = { λ c. record { declared = c.table; store = c.desk } };
-
-    ghost invariant = { λ c. StandsOn c.table c.desk };
+    /// Answers a command.
+    fn answer(
+        &mut self,
+        alloc: Global,
+        command: Command,
+        argument: &str,
+        out: &mut String,
+    ) -> Result<Reply, NoMemory>
+        ensures text { IfOk result (λ r. IsAnswer r (string_bytes out.old) (string_bytes out.new) (IsOpen self.new) (desk_answer self.old command argument.now)) }
+        ensures state { OnOk result (self.new ≡ desk_after self.old command argument.now) }
+    {
+        if command == Command::History && argument.is_empty() {
+            return Ok(Reply::History);
+        }
+        self.answer_text(alloc, command, argument, out)?;
+        Ok(Reply::Text)
+    }
 }
 
 impl Console {
-    /// A console of no variables.
+    /// A console of no variables, whose desk will take so many events.
     #[tactic(auto, unfolding(crate::specs::Console::initial_console))]
-    pub fn new(alloc: Global) -> Console
-        ensures { result ≡ initial_console }
+    pub fn new(alloc: Global, limit: EventLimit) -> Console
+        ensures { result ≡ initial_console limit }
     {
-        Console {
+        Console::Declaring {
             table: Table::empty(alloc),
-            desk: None,
+            limit,
         }
     }
 
     /// Opens the desk, unless it is open.
-    #[tactic(auto, unfolding(crate::specs::Commands::with_open_store, crate::specs::Commands::present))]
     fn open(&mut self, alloc: Global) -> Result<(), NoMemory>
-        ensures { OnOk result (self.new ≡ with_open_store self.old) }
+        ensures { OnOk result (self.new ≡ IsOpen (present_desk self.old)) }
     {
-        if self.desk.is_none() {
-            let desk = OpenStore::open(alloc, &self.table)?;
-            self.desk = Some(desk);
-        }
+        let desk = match self {
+            Console::Open(_) => return Ok(()),
+            Console::Declaring { table, limit } => OpenDesk::open(alloc, table, limit.events())?,
+        };
+        *self = Console::Open(desk);
         Ok(())
     }
 
     /// Answers `tvar`.
-    #[tactic(auto, unfolding(crate::specs::Commands::tvar_answer, crate::specs::Commands::tvar_state))]
     fn answer_tvar(
         &mut self,
         alloc: Global,
@@ -71,13 +159,13 @@ impl Console {
         ensures text { OnOk result (string_bytes out.new ≡ string_bytes out.old ++ tvar_answer self.old argument.now) }
         ensures state { OnOk result (self.new ≡ tvar_state self.old argument.now) }
     {
-        if self.desk.is_some() {
+        let Console::Declaring { table, .. } = self else {
             refuse("Late", out)?;
             return Ok(());
-        }
-        match declare(alloc, &mut self.table, argument) {
+        };
+        match declare(alloc, table, argument) {
             Ok(number) => {
-                write_declared(number, self.table.name(number), out)?;
+                write_declared(number, table.name(number), out)?;
                 Ok(())
             }
             Err(refusal) => {
@@ -87,26 +175,24 @@ impl Console {
         }
     }
 
-    /// Answers a command once the desk is open.
-    #[tactic(auto, unfolding(crate::specs::Commands::tvar_answer))]
+    /// Answers a command other than `tvar`, which opens the desk.
     fn answer_open(
-        &self,
+        &mut self,
         alloc: Global,
         command: Command,
         argument: &str,
         out: &mut String,
-    ) -> Result<(), NoMemory>
-        requires { IsTrue (is_some self.now.store) }
-        ensures { OnOk result (string_bytes out.new ≡ string_bytes out.old ++ answer_to_command self.now (Some command) argument.now) }
+    ) -> Result<Reply, NoMemory>
+        ensures text { IfOk result (λ r. IsAnswer r (string_bytes out.old) (string_bytes out.new) self.new (desk_answer (present_desk self.old) command argument.now)) }
+        ensures state { OnOk result (self.new ≡ IsOpen (desk_after (present_desk self.old) command argument.now)) }
     {
-        let Some(desk) = &self.desk else {
-            unreachable!()
-        };
-        match command {
-            Command::Tvar => refuse("Late", out),
-            Command::Try => answer_try(alloc, &self.table, desk, argument, out),
-            Command::Looks => answer_looks(alloc, &self.table, desk, argument, out),
-            Command::Store => answer_store(&self.table, desk, argument, out),
+        self.open(alloc)?;
+        match self {
+            Console::Open(desk) => {
+                let reply = desk.answer(alloc, command, argument, out)?;
+                Ok(reply)
+            }
+            Console::Declaring { .. } => unreachable!(),
         }
     }
 
@@ -117,50 +203,59 @@ impl Console {
         word: &[u8],
         argument: &str,
         out: &mut String,
-    ) -> Result<(), NoMemory>
-        ensures text { OnOk result (string_bytes out.new ≡ string_bytes out.old ++ answer_to_command self.old (command_named word.now) argument.now) }
+    ) -> Result<Reply, NoMemory>
+        ensures text { IfOk result (λ r. IsAnswer r (string_bytes out.old) (string_bytes out.new) self.new (answer_to_command self.old (command_named word.now) argument.now)) }
         ensures state { OnOk result (self.new ≡ state_after_command self.old (command_named word.now) argument.now) }
     {
         let Some(command) = command_of(word) else {
             refuse("Command", out)?;
-            return Ok(());
+            return Ok(Reply::Text);
         };
         match command {
             Command::Tvar => {
                 self.answer_tvar(alloc, argument, out)?;
-                Ok(())
+                Ok(Reply::Text)
             }
             _ => {
-                self.open(alloc)?;
-                self.answer_open(alloc, command, argument, out)?;
-                Ok(())
+                let reply = self.answer_open(alloc, command, argument, out)?;
+                Ok(reply)
             }
         }
     }
 
-    /// Appends the answer to a line.
+    /// Appends the answer to a line, or says that it is the history.
     #[tactic(auto, unfolding(crate::specs::Console::answer_to, crate::specs::Console::state_after))]
-    pub fn answer(&mut self, alloc: Global, line: &[u8], out: &mut String) -> Result<(), NoMemory>
-        ensures text { OnOk result (string_bytes out.new ≡ string_bytes out.old ++ answer_to self.old line.now) }
+    pub fn answer(&mut self, alloc: Global, line: &[u8], out: &mut String) -> Result<Reply, NoMemory>
+        ensures text { IfOk result (λ r. IsAnswer r (string_bytes out.old) (string_bytes out.new) self.new (answer_to self.old line.now)) }
         ensures state { OnOk result (self.new ≡ state_after self.old line.now) }
     {
         match judge(line) {
             Judgement::TooLong => {
                 refuse("LineTooLong", out)?;
-                Ok(())
+                Ok(Reply::Text)
             }
-            Judgement::Silent => Ok(()),
+            Judgement::Silent => Ok(Reply::Text),
             Judgement::NotAscii => {
                 refuse("NotAscii", out)?;
-                Ok(())
+                Ok(Reply::Text)
             }
             Judgement::Words(word, argument) => match str::from_utf8(argument) {
                 Ok(argument) => {
-                    self.answer_command(alloc, word, argument, out)?;
-                    Ok(())
+                    let reply = self.answer_command(alloc, word, argument, out)?;
+                    Ok(reply)
                 }
                 Err(_) => unreachable!(),
             },
+        }
+    }
+
+    /// Writes the history, where the desk is open.
+    pub fn write_history<W: Write>(&self, alloc: Global, writer: &mut W) -> Result<(), WriteFault>
+        ensures { WritesText result (W.contents writer.old) (W.contents writer.new) (history_of self.now) }
+    {
+        match self {
+            Console::Open(desk) => desk.write_history(alloc, writer),
+            Console::Declaring { .. } => Ok(()),
         }
     }
 }

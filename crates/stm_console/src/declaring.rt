@@ -2,7 +2,7 @@
 
 ghost use Rattle.std.specs.Prelude.{◌≡◌, ◌++◌, string_bytes, OnOk};
 ghost use Rattle.stm_parse.specs.Declarations.{parsed_initial};
-ghost use Rattle.stm_console.specs.Commands.{initial as initial_of, variable_of, tvar_line};
+ghost use Rattle.stm_console.specs.Declaring.{initial as initial_of, variable_of, tvar_line};
 ghost use Rattle.stm_console.specs.Refusals.{AnswersAs};
 ghost use Rattle.stm_console.specs.Abstraction.{Declares};
 
@@ -27,7 +27,7 @@ fn initial(table: &Table, init: &Init) -> Result<Value, Refusal>
 }
 
 /// Declares the variable of a text after the others, and answers its number.
-#[tactic(auto, unfolding(crate::specs::Commands::variable_of))]
+#[tactic(auto, unfolding(crate::specs::Declaring::variable_of))]
 pub fn declare(alloc: Global, table: &mut Table, text: &str) -> Result<u32, Refusal>
     ensures { Declares table.old result table.new (variable_of table.old text.now) }
 {
@@ -38,7 +38,7 @@ pub fn declare(alloc: Global, table: &mut Table, text: &str) -> Result<u32, Refu
 }
 
 /// Appends the answer to a declaration.
-#[tactic(auto, unfolding(crate::specs::Commands::tvar_line))]
+#[tactic(auto, unfolding(crate::specs::Declaring::tvar_line))]
 pub fn write_declared(number: u32, name: &str, out: &mut String) -> Result<(), NoMemory>
     ensures { OnOk result (string_bytes out.new ≡ string_bytes out.old ++ tvar_line number name.now) }
 {

@@ -7,22 +7,30 @@
 //! `looks`, `showing` has `store`. `laws` says what holds of the text that is written and of the program's words.
 #![tactic(auto)]
 
+mod arguments;
 mod block;
 mod calls;
 mod command;
 mod command_line;
 mod console;
 mod declaring;
+mod delivering;
+mod finishing;
+mod jobs;
 mod judging;
 pub mod laws;
+mod limit;
 mod opened;
+pub mod options;
 mod output;
 mod program;
 mod refusal;
+mod reply;
 mod session;
 mod showing;
 mod streams;
 mod trying;
 
+pub use options::Options;
 pub use program::start;
 pub use streams::{RunFault, run};

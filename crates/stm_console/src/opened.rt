@@ -1,54 +1,78 @@
 //! The desk of a console that has opened.
 
-ghost use Rattle.std.specs.Prelude.{◌≡◌, IfOk};
+ghost use Rattle.std.specs.Prelude.{◌≡◌, ◌≤◌, ◌++◌, IfOk, OnOk, string_bytes};
 ghost use Rattle.stm_store.specs.Cells.{plains};
-ghost use Rattle.stm_store.specs.Tables.{opened};
+ghost use Rattle.stm_history.specs.SlowDesk.{max_events};
+ghost use Rattle.stm_history.specs.HistoryText.{WritesText};
+ghost use Rattle.stm_desk.specs.Seen.{now};
+ghost use Rattle.stm_console.specs.ConsoleState.{opened_desk, present};
+ghost use Rattle.stm_console.specs.Showing.{events_text};
 
+use crate::jobs::HandedOut;
 use std::alloc::Global;
+use std::io::Write;
 use std::marker::Model;
-use stm_store::{Frozen, Store, Table};
+use stm_desk::Desk;
+use stm_history::{WriteFault, write_history};
+use stm_store::{Frozen, Table};
 use stm_terms::NoMemory;
 
-/// The store, with the unchanging copy of it on which blocks are run: it is made once and kept, so that running a block
-/// copies nothing. Contracts see the store.
+/// The desk, the jobs that were handed out, and a copy of the present store on which `try` and `looks` run blocks: it is
+/// made where it is asked for, and kept until the store may change. Contracts see the desk and the jobs.
 #[derive(Drop)]
-pub struct OpenStore {
-    store: Store,
-    frozen: Frozen,
+pub struct OpenDesk {
+    pub(crate) desk: Desk,
+    pub(crate) copy: Option<Frozen>,
+    pub(crate) jobs: Vec<HandedOut>,
 }
 
-impl Model for OpenStore {
-    ghost use Rattle.std.specs.Prelude.{◌≡◌, List};
-    ghost use Rattle.stm_store.specs.declared.cell.Cell.{Cell};
-    ghost use Rattle.stm_store.specs.Cells.{plains};
+impl Model for OpenDesk {
+    ghost use Rattle.std.specs.Coded.{codes};
+    ghost use Rattle.stm_terms.specs.TreeEncoding.{act_code};
+    ghost use Rattle.stm_console.specs.ConsoleState.{OpenDesk as State};
+    ghost use Rattle.stm_console.specs.Abstraction.{OpenInvariant};
 
-    ghost Value = { List Cell };
+    ghost Value = { State };
 
-    ghost view = { λ d. d.store };
+    ghost coded = { Prim.hlevel (codes, act_code) };
 
-    ghost invariant = { λ d. d.frozen ≡ plains d.store };
+    ghost view = { λ d. record { desk = d.desk; jobs = d.jobs.items } };
+
+    ghost invariant = { λ d. OpenInvariant d.desk d.copy d.jobs.items };
 }
 
-impl OpenStore {
-    /// Opens a desk on the declared variables.
-    pub fn open(alloc: Global, table: &Table) -> Result<OpenStore, NoMemory>
-        ensures { IfOk result (λ d. d ≡ opened table.now) }
+impl OpenDesk {
+    /// Opens a desk on the declared variables, with room for so many events.
+    pub fn open(alloc: Global, table: &Table, limit: u32) -> Result<OpenDesk, NoMemory>
+        requires { limit ≤ max_events }
+        ensures { IfOk result (λ d. d ≡ opened_desk table.now limit) }
     {
-        let store = Store::open(alloc, table)?;
-        let frozen = store.freeze()?;
-        Ok(OpenStore { store, frozen })
-    }
-
-    pub fn store(&self) -> &Store
-        ensures { result.now ≡ self.now }
-    {
-        &self.store
+        Ok(OpenDesk {
+            desk: Desk::open(alloc, table, limit)?,
+            copy: None,
+            jobs: Vec::new(alloc),
+        })
     }
 
     /// The present store, as blocks are run on it.
-    pub fn frozen(&self) -> &Frozen
-        ensures { result.now ≡ plains self.now }
+    pub fn frozen(&mut self) -> Result<&Frozen, NoMemory>
+        ensures same { self.new ≡ self.old }
+        ensures store { IfOk result (λ f. f.now ≡ plains (present self.old)) }
     {
-        &self.frozen
+        if self.copy.is_none() {
+            let copy = self.desk.store().freeze()?;
+            self.copy = Some(copy);
+        }
+        match &self.copy {
+            Some(copy) => Ok(copy),
+            None => unreachable!(),
+        }
+    }
+
+    /// Writes the history.
+    pub fn write_history<W: Write>(&self, alloc: Global, writer: &mut W) -> Result<(), WriteFault>
+        ensures { WritesText result (W.contents writer.old) (W.contents writer.new) (events_text self.now) }
+    {
+        write_history(alloc, writer, self.desk.table(), self.desk.history())
     }
 }

@@ -4,11 +4,13 @@ ghost use Rattle.std.specs.Prelude.{◌≡◌, ◌≢◌, ◌⊎◌, ℕ, List, 
 ghost use Rattle.std.specs.Io.KnownBytes.{Appends, Keeps};
 ghost use Rattle.clap.specs.Values.{kind_of};
 ghost use Rattle.stm_terms.specs.Texts.{IsPrefixOf};
+ghost use Rattle.stm_history.specs.SlowDesk.{max_events};
 ghost use Rattle.stm_console.specs.Console.{console_text};
 ghost use Rattle.stm_console.specs.ExitStatus.{status_of, IsStatus};
 ghost use Rattle.stm_console.specs.CommandLine.{answers_of, asks_for_help, has_mistake, is_mistake};
 
 use crate::command_line::read_words;
+use crate::options::Options;
 use crate::streams::{RunFault, run};
 use clap::Error;
 use clap::error::ErrorKind;
@@ -82,11 +84,11 @@ pub fn start<'a, S: AsStr, R: Read, W: Write, E: Write>(
     // With status 0 the whole text of the input was written.
     ensures answered { answers_of (map S.text words.now) ≡ [] → result ≡ 0 →
         IfSome (R.remaining reader.old) (λ input.
-        Appends (W.contents writer.old) (W.contents writer.new) (console_text input)) }
+        Appends (W.contents writer.old) (W.contents writer.new) (console_text max_events input)) }
     // With any other it is a prefix of the text.
     ensures part { answers_of (map S.text words.now) ≡ [] → result ≢ 0 →
         IfSome (R.remaining reader.old) (λ input.
-        (front : List ℕ) × IsPrefixOf front (console_text input)
+        (front : List ℕ) × IsPrefixOf front (console_text max_events input)
         × Appends (W.contents writer.old) (W.contents writer.new) front) }
     // Where words are refused, nothing is read and nothing written.
     ensures refused { result ≡ 2 → Keeps (R.remaining reader.old) (R.remaining reader.new)
@@ -102,7 +104,7 @@ pub fn start<'a, S: AsStr, R: Read, W: Write, E: Write>(
     if let Err(error) = read_words(alloc, words) {
         return tell_words(&error, writer, errors);
     }
-    match run(alloc, reader, writer) {
+    match run(alloc, reader, writer, Options::standard()) {
         Ok(()) => 0,
         Err(fault) => tell_fault(fault, errors),
     }

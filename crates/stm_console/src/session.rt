@@ -8,7 +8,9 @@ ghost use Rattle.stm_console.specs.Console.{initial_console, answer_to, state_af
 ghost use Rattle.stm_console.specs.Streaming.{Continues, NoLineFeed, rest_text};
 
 use crate::console::Console;
+use crate::limit::EventLimit;
 use crate::output::write_text;
+use crate::reply::Reply;
 use crate::streams::RunFault;
 use memchr::memchr;
 use std::alloc::Global;
@@ -36,12 +38,12 @@ pub struct Session {
 }
 
 impl Session {
-    pub fn new(alloc: Global) -> Session
-        ensures console { result.console ≡ initial_console }
+    pub fn new(alloc: Global, limit: EventLimit) -> Session
+        ensures console { result.console ≡ initial_console limit }
         ensures line { result.line.items ≡ [] }
     {
         Session {
-            console: Console::new(alloc),
+            console: Console::new(alloc, limit),
             line: Vec::new(alloc),
             answer: String::new(alloc),
         }
@@ -59,14 +61,17 @@ impl Session {
         ensures fault { IfErr result (λ e. e ≢ RunFault.Read) }
     {
         self.answer.clear();
-        if self
-            .console
-            .answer(alloc, &self.line, &mut self.answer)
-            .is_err()
-        {
-            return Err(RunFault::NoMemory);
+        let reply = match self.console.answer(alloc, &self.line, &mut self.answer) {
+            Ok(reply) => reply,
+            Err(_) => return Err(RunFault::NoMemory),
+        };
+        match reply {
+            Reply::Text => write_text(writer, self.answer.as_bytes())?,
+            Reply::History => match self.console.write_history(alloc, writer) {
+                Ok(()) => {}
+                Err(fault) => return Err(RunFault::from(fault)),
+            },
         }
-        write_text(writer, self.answer.as_bytes())?;
         self.line.clear();
         Ok(())
     }

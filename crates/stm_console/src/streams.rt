@@ -3,13 +3,18 @@
 ghost use Rattle.std.specs.Prelude.{◌≡◌, [], ◌++◌, ℕ, List, OnOk, OnErr, IfSome, IsErrOf, Some};
 ghost use Rattle.std.specs.Io.KnownBytes.{Appends};
 ghost use Rattle.stm_terms.specs.Texts.{IsPrefixOf};
-ghost use Rattle.stm_console.specs.Console.{initial_console, console_text, whole_lines_text};
+ghost use Rattle.stm_console.specs.Console.{console_text, whole_lines_text};
+ghost use Rattle.stm_console.specs.Options.{AreInRange};
+ghost use Rattle.stm_console.specs.Streaming.{rest_text, whole_rest_text};
 
 use crate::calls::Calls;
+use crate::limit::EventLimit;
+use crate::options::Options;
 use crate::output::flush;
 use crate::session::Session;
 use std::alloc::Global;
 use std::io::{ErrorKind, Read, Write};
+use stm_history::WriteFault;
 use thiserror::Error;
 
 /// Why a run ended before its input did.
@@ -23,26 +28,40 @@ pub enum RunFault {
     NoMemory,
 }
 
-/// A run in a session that begins. `run` owns the session, so that this function, with a loop and many ends, owns nothing.
+impl From<WriteFault> for RunFault {
+    ghost use Rattle.std.specs.Prelude.{◌≢◌};
+    ghost use Rattle.stm_console.specs.declared.streams.RunFault.TheVariants.{Read};
+
+    ghost from_gives = { λ f e. e ≢ Read };
+
+    fn from(fault: WriteFault) -> RunFault {
+        match fault {
+            WriteFault::Write => RunFault::Write,
+            WriteFault::NoMemory => RunFault::NoMemory,
+        }
+    }
+}
+
+/// A run in a session in which no line has begun. `run` owns the session, so that this function, with a loop and many ends,
+/// owns nothing.
 fn run_session<R: Read, W: Write>(
     alloc: Global,
     session: &mut Session,
     calls: &mut Calls<R>,
     writer: &mut W,
 ) -> Result<(), RunFault>
-    requires console { session.old.console ≡ initial_console }
     requires line { session.old.line.items ≡ [] }
     ensures same_reader { calls.new.reader.ghost_name ≡ calls.old.reader.ghost_name }
     // The whole text of the input was written.
     ensures answered { OnOk result (IfSome (R.remaining calls.old.reader.now) (λ input.
-        Appends (W.contents writer.old) (W.contents writer.new) (console_text input))) }
+        Appends (W.contents writer.old) (W.contents writer.new) (rest_text session.old.console [] input))) }
     // After a read fault it is the text of the lines that were whole before.
     ensures read_fault { IsErrOf result RunFault.Read → IfSome (R.remaining calls.old.reader.now) (λ input.
         (taken rest : List ℕ) × (input ≡ taken ++ rest) × (R.remaining calls.new.reader.now ≡ Some rest)
-        × Appends (W.contents writer.old) (W.contents writer.new) (whole_lines_text taken)) }
+        × Appends (W.contents writer.old) (W.contents writer.new) (whole_rest_text session.old.console [] taken)) }
     // After any fault it is a prefix of the text.
     ensures part { OnErr result (IfSome (R.remaining calls.old.reader.now) (λ input.
-        (front : List ℕ) × IsPrefixOf front (console_text input)
+        (front : List ℕ) × IsPrefixOf front (rest_text session.old.console [] input)
         × Appends (W.contents writer.old) (W.contents writer.new) front)) }
 {
     let mut buffer = [0u8; 8_192];
@@ -69,20 +88,27 @@ fn run_session<R: Read, W: Write>(
 /// What each command answers is said in docs/CONSOLE.md. An interrupted read is tried again. After 4,294,967,295 calls of
 /// the reader a run ends as it does after a read that fails. The writer is flushed before each read and at the end, so it
 /// may keep a buffer. Of a line that is too long no more than its first 65,538 bytes are kept.
-pub fn run<R: Read, W: Write>(alloc: Global, reader: &mut R, writer: &mut W) -> Result<(), RunFault>
+#[tactic(auto, unfolding(crate::specs::Console::console_text, crate::specs::Console::whole_lines_text, crate::specs::Streaming::rest_text, crate::specs::Streaming::whole_rest_text))]
+pub fn run<R: Read, W: Write>(
+    alloc: Global,
+    reader: &mut R,
+    writer: &mut W,
+    options: Options,
+) -> Result<(), RunFault>
+    requires { AreInRange options }
     // The whole text of the input was written.
     ensures answered { OnOk result (IfSome (R.remaining reader.old) (λ input.
-        Appends (W.contents writer.old) (W.contents writer.new) (console_text input))) }
+        Appends (W.contents writer.old) (W.contents writer.new) (console_text options.max_events input))) }
     // After a read fault it is the text of the lines that were whole before.
     ensures read_fault { IsErrOf result RunFault.Read → IfSome (R.remaining reader.old) (λ input.
         (taken rest : List ℕ) × (input ≡ taken ++ rest) × (R.remaining reader.new ≡ Some rest)
-        × Appends (W.contents writer.old) (W.contents writer.new) (whole_lines_text taken)) }
+        × Appends (W.contents writer.old) (W.contents writer.new) (whole_lines_text options.max_events taken)) }
     // After any fault it is a prefix of the text.
     ensures part { OnErr result (IfSome (R.remaining reader.old) (λ input.
-        (front : List ℕ) × IsPrefixOf front (console_text input)
+        (front : List ℕ) × IsPrefixOf front (console_text options.max_events input)
         × Appends (W.contents writer.old) (W.contents writer.new) front)) }
 {
-    let mut session = Session::new(alloc);
+    let mut session = Session::new(alloc, EventLimit::new(options.max_events));
     let mut calls = Calls::new(reader);
     run_session(alloc, &mut session, &mut calls, writer)
 }

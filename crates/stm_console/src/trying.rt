@@ -1,26 +1,27 @@
-//! `try` and `looks`: a block on the present store.
+//! `try`, `looks` and `submit`: commands whose argument is a block.
 
 ghost use Rattle.std.specs.Prelude.{◌≡◌, ◌++◌, Some, string_bytes, OnOk};
 ghost use Rattle.stm_terms.specs.ReadSet.{reads_of};
-ghost use Rattle.stm_terms.specs.Verdict.{verdict};
-ghost use Rattle.stm_terms.specs.Changes.{cell_value};
+ghost use Rattle.stm_history.specs.SlowDesk.{under, verdict_on};
 ghost use Rattle.stm_store.specs.Cells.{Covers, plains};
 ghost use Rattle.stm_store.specs.Tables.{opened};
-ghost use Rattle.stm_console.specs.Commands.{try_answer, looks_answer, verdict_line, reads_line};
+ghost use Rattle.stm_desk.specs.Refusals.{submit_refusal};
+ghost use Rattle.stm_console.specs.ConsoleState.{present};
+ghost use Rattle.stm_console.specs.Blocks.{try_answer, looks_answer, verdict_line, reads_line, ticket_line, submit_answer, submit_state, submitted_text, submitted};
 
 use crate::block::compile_block;
-use crate::opened::OpenStore;
-use crate::refusal::write_refusal;
+use crate::opened::OpenDesk;
+use crate::refusal::{refuse_submit, write_refusal};
 use std::alloc::Global;
-use stm_check::Typed;
-use stm_eval::{Reads, try_block};
-use stm_store::Table;
+use stm_check::{SharedBlock, Typed};
+use stm_eval::try_block;
 use stm_terms::NoMemory;
 use stm_terms::text::{write_verdict, write_writes};
+use stm_terms::values::Value;
 use stm_terms::verdicts::Verdict;
 
 /// Appends a verdict as a line.
-#[tactic(auto, unfolding(crate::specs::Commands::verdict_line))]
+#[tactic(auto, unfolding(crate::specs::Blocks::verdict_line))]
 fn write_verdict_line(verdict: &Verdict, out: &mut String) -> Result<(), NoMemory>
     ensures { OnOk result (string_bytes out.new ≡ string_bytes out.old ++ verdict_line (Some verdict.now)) }
 {
@@ -29,75 +30,134 @@ fn write_verdict_line(verdict: &Verdict, out: &mut String) -> Result<(), NoMemor
 }
 
 /// Appends reads as a line.
-#[tactic(auto, unfolding(crate::specs::Commands::reads_line))]
-fn write_reads_line(reads: &Reads, out: &mut String) -> Result<(), NoMemory>
+#[tactic(auto, unfolding(crate::specs::Blocks::reads_line))]
+pub fn write_reads_line(reads: &[(u32, Value)], out: &mut String) -> Result<(), NoMemory>
     ensures { OnOk result (string_bytes out.new ≡ string_bytes out.old ++ reads_line reads.now) }
 {
     out.push_str("reads ")?;
-    write_writes(reads.as_slice(), out)?;
+    write_writes(reads, out)?;
     out.push_str("\n")
 }
 
-/// Appends the verdict of a block on the present store.
-fn write_tried(
-    alloc: Global,
-    desk: &OpenStore,
-    block: &Typed,
-    out: &mut String,
-) -> Result<(), NoMemory>
-    requires { Covers (plains desk.now) block.now.uses }
-    ensures { OnOk result (string_bytes out.new ≡ string_bytes out.old ++ verdict_line (verdict (cell_value (plains desk.now)) block.now.tree)) }
+#[tactic(auto, unfolding(crate::specs::Blocks::ticket_line))]
+fn write_ticket_line(ticket: u32, out: &mut String) -> Result<(), NoMemory>
+    ensures { OnOk result (string_bytes out.new ≡ string_bytes out.old ++ ticket_line ticket) }
 {
-    let (verdict, _reads) = try_block(alloc, desk.frozen(), block)?;
-    write_verdict_line(&verdict, out)
+    write!(out, "ticket {ticket}\n")
 }
 
-/// Appends what a block reads on the present store.
-fn write_looked(
-    alloc: Global,
-    desk: &OpenStore,
-    block: &Typed,
-    out: &mut String,
-) -> Result<(), NoMemory>
-    requires { Covers (plains desk.now) block.now.uses }
-    ensures { OnOk result (string_bytes out.new ≡ string_bytes out.old ++ reads_line (reads_of (cell_value (plains desk.now)) block.now.tree)) }
-{
-    let (_verdict, reads) = try_block(alloc, desk.frozen(), block)?;
-    write_reads_line(&reads, out)
-}
-
-/// Answers `try`: the verdict of a block.
-#[tactic(auto, unfolding(crate::specs::Commands::try_answer, crate::specs::Commands::present))]
-pub fn answer_try(
-    alloc: Global,
-    table: &Table,
-    desk: &OpenStore,
-    text: &str,
-    out: &mut String,
-) -> Result<(), NoMemory>
-    requires { desk.now ≡ opened table.now }
-    ensures { OnOk result (string_bytes out.new ≡ string_bytes out.old ++ try_answer (record { declared = table.now; store = Some desk.now }) text.now) }
-{
-    match compile_block(alloc, table, text) {
-        Ok(block) => write_tried(alloc, desk, &block, out),
-        Err(refusal) => write_refusal(refusal, out),
+impl OpenDesk {
+    /// Appends the verdict of a block on the present store.
+    fn write_tried(&mut self, alloc: Global, block: &Typed, out: &mut String) -> Result<(), NoMemory>
+        requires { Covers (plains (opened self.old.desk.table)) block.now.uses }
+        ensures text { OnOk result (string_bytes out.new ≡ string_bytes out.old ++ verdict_line (verdict_on (present self.old) block.now)) }
+        ensures same { self.new ≡ self.old }
+    {
+        let (verdict, _reads) = try_block(alloc, self.frozen()?, block)?;
+        write_verdict_line(&verdict, out)?;
+        Ok(())
     }
-}
 
-/// Answers `looks`: what a block reads.
-#[tactic(auto, unfolding(crate::specs::Commands::looks_answer, crate::specs::Commands::present))]
-pub fn answer_looks(
-    alloc: Global,
-    table: &Table,
-    desk: &OpenStore,
-    text: &str,
-    out: &mut String,
-) -> Result<(), NoMemory>
-    requires { desk.now ≡ opened table.now }
-    ensures { OnOk result (string_bytes out.new ≡ string_bytes out.old ++ looks_answer (record { declared = table.now; store = Some desk.now }) text.now) }
-{
-    match compile_block(alloc, table, text) {
-        Ok(block) => write_looked(alloc, desk, &block, out),
-        Err(refusal) => write_refusal(refusal, out),
+    /// Appends what a block reads on the present store.
+    fn write_looked(
+        &mut self,
+        alloc: Global,
+        block: &Typed,
+        out: &mut String,
+    ) -> Result<(), NoMemory>
+        requires { Covers (plains (opened self.old.desk.table)) block.now.uses }
+        ensures text { OnOk result (string_bytes out.new ≡ string_bytes out.old ++ reads_line (reads_of (under (present self.old)) block.now.tree)) }
+        ensures same { self.new ≡ self.old }
+    {
+        let (_verdict, reads) = try_block(alloc, self.frozen()?, block)?;
+        write_reads_line(reads.as_slice(), out)?;
+        Ok(())
+    }
+
+    /// Answers `try`: the verdict of a block.
+    #[tactic(auto, unfolding(crate::specs::Blocks::try_answer))]
+    pub fn answer_try(
+        &mut self,
+        alloc: Global,
+        text: &str,
+        out: &mut String,
+    ) -> Result<(), NoMemory>
+        ensures text { OnOk result (string_bytes out.new ≡ string_bytes out.old ++ try_answer self.old text.now) }
+        ensures same { self.new ≡ self.old }
+    {
+        match compile_block(alloc, self.desk.table(), text) {
+            Ok(block) => {
+                self.write_tried(alloc, &block, out)?;
+                Ok(())
+            }
+            Err(refusal) => {
+                write_refusal(refusal, out)?;
+                Ok(())
+            }
+        }
+    }
+
+    /// Answers `looks`: what a block reads.
+    #[tactic(auto, unfolding(crate::specs::Blocks::looks_answer))]
+    pub fn answer_looks(
+        &mut self,
+        alloc: Global,
+        text: &str,
+        out: &mut String,
+    ) -> Result<(), NoMemory>
+        ensures text { OnOk result (string_bytes out.new ≡ string_bytes out.old ++ looks_answer self.old text.now) }
+        ensures same { self.new ≡ self.old }
+    {
+        match compile_block(alloc, self.desk.table(), text) {
+            Ok(block) => {
+                self.write_looked(alloc, &block, out)?;
+                Ok(())
+            }
+            Err(refusal) => {
+                write_refusal(refusal, out)?;
+                Ok(())
+            }
+        }
+    }
+
+    /// Submits a block.
+    fn submit(&mut self, block: SharedBlock, out: &mut String) -> Result<(), NoMemory>
+        ensures text { OnOk result (string_bytes out.new ≡ string_bytes out.old ++ submitted_text self.old.desk (submit_refusal self.old.desk block)) }
+        ensures state { OnOk result (self.new ≡ record self.old { desk = submitted self.old.desk block (submit_refusal self.old.desk block) }) }
+    {
+        match self.desk.submit(0, block) {
+            Ok(ticket) => {
+                write_ticket_line(ticket, out)?;
+                Ok(())
+            }
+            Err(refusal) => {
+                refuse_submit(refusal, out)?;
+                Ok(())
+            }
+        }
+    }
+
+    /// Answers `submit`: the ticket under which a block waits.
+    #[tactic(auto, unfolding(crate::specs::Blocks::submit_answer, crate::specs::Blocks::submit_state))]
+    pub fn answer_submit(
+        &mut self,
+        alloc: Global,
+        text: &str,
+        out: &mut String,
+    ) -> Result<(), NoMemory>
+        ensures text { OnOk result (string_bytes out.new ≡ string_bytes out.old ++ submit_answer self.old text.now) }
+        ensures state { OnOk result (self.new ≡ submit_state self.old text.now) }
+    {
+        match compile_block(alloc, self.desk.table(), text) {
+            Ok(block) => {
+                let block = SharedBlock::new(alloc, block)?;
+                self.submit(block, out)?;
+                Ok(())
+            }
+            Err(refusal) => {
+                write_refusal(refusal, out)?;
+                Ok(())
+            }
+        }
     }
 }

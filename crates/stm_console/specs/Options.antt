@@ -1,0 +1,15 @@
+-- The options of a run.
+use Rattle.std.specs.Prelude.{ℕ, ◌≤◌, ◌<◌}
+use Rattle.stm_history.specs.SlowDesk.{max_events}
+use Rattle.stm_console.specs.declared.options.Options.{Options}
+
+-- each is in its range
+pub record AreInRange (o : Options) : Type 0 where
+  pub some_worker : 0 < o.workers
+  pub few_workers : o.workers ≤ 64
+  pub few_levels : o.levels ≤ 8
+  pub few_events : o.max_events ≤ max_events
+
+-- the options where nothing is said
+abbrev pub default_options : Options
+default_options = record { workers = 2; levels = 0; max_events = max_events }

@@ -1,0 +1,143 @@
+//! Jobs that were handed out, and what becomes of them.
+
+ghost use Rattle.std.specs.Prelude.{◌≡◌, ◌≤◌, ◌<◌, ◌++◌, map, None, IfOk, OnOk, vec_len, length};
+ghost use Rattle.stm_store.specs.Cells.{Covers};
+ghost use Rattle.stm_history.specs.SlowDesk.{max_waiting};
+ghost use Rattle.stm_desk.specs.Seen.{now};
+ghost use Rattle.stm_console.specs.Abstraction.{handed_out, JobStands, JobsStand, HasGrown};
+ghost use Rattle.stm_console.specs.Delivering.{delivery_refusal, after_delivery, delivered_next, delivered_all};
+
+use std::alloc::{AllocError, Global};
+use stm_check::SharedBlock;
+use stm_desk::{DeliverError, Desk};
+use stm_eval::{Job, evaluate};
+use stm_store::Frozen;
+use stm_terms::NoMemory;
+
+/// A block that was handed out under its ticket, with the store at its `take`.
+#[derive(Drop)]
+pub struct HandedOut {
+    pub ticket: u32,
+    pub block: SharedBlock,
+    pub store: Frozen,
+}
+
+impl HandedOut {
+    /// The job once more.
+    pub fn job(&self) -> Result<Job, NoMemory>
+        ensures { IfOk result (λ j. handed_out self.now.store j ≡ self.now) }
+    {
+        Ok(Job {
+            ticket: self.ticket,
+            block: self.block.share()?,
+        })
+    }
+}
+
+/// Jobs, each with the store at its `take`.
+pub fn with_store(alloc: Global, store: &Frozen, jobs: Vec<Job>) -> Result<Vec<HandedOut>, NoMemory>
+    ensures { IfOk result (λ made. made.items ≡ map (handed_out store.now) jobs.items) }
+{
+    let mut made = Vec::new(alloc);
+    for job in jobs {
+        let Job { ticket, block } = job;
+        let store = store.share()?;
+        made.push(HandedOut {
+            ticket,
+            block,
+            store,
+        })?;
+    }
+    Ok(made)
+}
+
+/// Delivers what a job's block does on a store. The answer is why it is refused, if it is.
+pub fn deliver_job(
+    desk: &mut Desk,
+    alloc: Global,
+    store: &Frozen,
+    job: Job,
+) -> Result<Option<DeliverError>, NoMemory>
+    requires stands { JobStands desk.old (handed_out store.now job) }
+    ensures told { IfOk result (λ r. r ≡ delivery_refusal desk.old (handed_out store.now job)) }
+    ensures done { OnOk result (desk.new ≡ after_delivery desk.old (handed_out store.now job)) }
+    ensures grown { HasGrown desk.old desk.new }
+    ensures store { (now desk.new).store ≡ (now desk.old).store }
+{
+    let message = match evaluate(alloc, job, store) {
+        Ok(message) => message,
+        Err((_, refused)) => return Err(refused),
+    };
+    match desk.deliver(0, message) {
+        Ok(()) => Ok(None),
+        Err((_, DeliverError::NoMemory)) => Err(AllocError),
+        Err((_, refusal)) => Ok(Some(refusal)),
+    }
+}
+
+/// How far the delivery of a list of jobs came: how many were taken, and the first refusal.
+#[derive(Clone, Copy, Drop)]
+pub struct Progress {
+    pub count: u32,
+    pub stop: Option<DeliverError>,
+}
+
+/// Delivers the next job, unless one was refused before: then its ticket is queued again.
+fn deliver_next(
+    desk: &mut Desk,
+    alloc: Global,
+    store: &Frozen,
+    job: Job,
+    so_far: Progress,
+) -> Result<Progress, NoMemory>
+    requires few { so_far.count < max_waiting }
+    requires stands { JobStands desk.old (handed_out store.now job) }
+    ensures done { IfOk result (λ p. record { desk = desk.new; count = p.count; stop = p.stop }
+        ≡ delivered_next (record { desk = desk.old; count = so_far.count; stop = so_far.stop }) (handed_out store.now job) so_far.stop) }
+    ensures few { IfOk result (λ p. p.count ≤ so_far.count + 1) }
+    ensures grown { HasGrown desk.old desk.new }
+    ensures store { (now desk.new).store ≡ (now desk.old).store }
+{
+    let ticket = job.ticket;
+    if so_far.stop.is_some() {
+        desk.hand_back(ticket);
+        return Ok(so_far);
+    }
+    let refusal = deliver_job(desk, alloc, store, job)?;
+    if refusal.is_some() {
+        desk.hand_back(ticket);
+        return Ok(Progress {
+            count: so_far.count,
+            stop: refusal,
+        });
+    }
+    Ok(Progress {
+        count: so_far.count + 1,
+        stop: None,
+    })
+}
+
+/// Delivers what the blocks of jobs do on a store, one after another, until one is refused. That one and those after it are
+/// queued again.
+pub fn deliver_jobs(
+    desk: &mut Desk,
+    alloc: Global,
+    store: &Frozen,
+    jobs: Vec<Job>,
+) -> Result<Progress, NoMemory>
+    requires few { vec_len jobs ≤ max_waiting }
+    requires stand { JobsStand desk.old (map (handed_out store.now) jobs.items) }
+    ensures done { IfOk result (λ p. record { desk = desk.new; count = p.count; stop = p.stop }
+        ≡ delivered_all (record { desk = desk.old; count = 0; stop = None }) (map (handed_out store.now) jobs.items)) }
+    ensures grown { HasGrown desk.old desk.new }
+    ensures store { (now desk.new).store ≡ (now desk.old).store }
+{
+    let mut so_far = Progress {
+        count: 0,
+        stop: None,
+    };
+    for job in jobs {
+        so_far = deliver_next(desk, alloc, store, job, so_far)?;
+    }
+    Ok(so_far)
+}

@@ -1,0 +1,10 @@
+//! How a line is answered.
+
+/// Where the answer to a line is.
+#[derive(Clone, Copy, PartialEq, Eq, Debug)]
+pub enum Reply {
+    /// In the text that was appended.
+    Text,
+    /// It is the history, which is still to be written: it can be longer than memory holds.
+    History,
+}
