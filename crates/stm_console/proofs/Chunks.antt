@@ -8,7 +8,7 @@ use Rattle.std.specs.Io.KnownBytes.{Appends}
 use Rattle.memchr.specs.Find.{IsFirstByte, is_byte}
 use Rattle.stm_terms.specs.Texts.{IsPrefixOf}
 use Rattle.stm_console.proofs.InputInParts.{Continues-trans}
-use Rattle.stm_console.specs.Commands.{ConsoleState}
+use Rattle.stm_console.specs.declared.console.Console.{Console}
 use Rattle.stm_console.specs.Streaming.{Continues, NoLineFeed, rest_text}
 
 -- the search for a line feed found none
@@ -22,7 +22,7 @@ split-at bytes at h =
     sym (take-append-drop at bytes) ∙ ap (λ l. take at bytes ++ l) (next ∙ ap (λ b. b ∷ drop (at + 1) bytes) (eqb-true _ _ h.1))
 
 -- of a chunk these bytes are taken and those are left
-pub record Fed (a b : Option (List ℕ)) (s t : ConsoleState) (begun left chunk rest : List ℕ) : Type 0 where
+pub record Fed (a b : Option (List ℕ)) (s t : Console) (begun left chunk rest : List ℕ) : Type 0 where
   pub taken : List ℕ
   pub written : List ℕ
   pub cut : chunk ≡ taken ++ rest
@@ -30,7 +30,7 @@ pub record Fed (a b : Option (List ℕ)) (s t : ConsoleState) (begun left chunk 
   pub appended : Appends a b written
 
 -- one part more
-pub Fed-more : (a b c : Option (List ℕ)) (s t u : ConsoleState) (begun left next chunk rest part others text : List ℕ) → Fed a b s t begun left chunk rest → rest ≡ part ++ others
+pub Fed-more : (a b c : Option (List ℕ)) (s t u : Console) (begun left next chunk rest part others text : List ℕ) → Fed a b s t begun left chunk rest → rest ≡ part ++ others
     → Continues t left u next part text → Appends b c text → Fed a c s u begun next chunk others
 Fed-more a b c s t u begun left next chunk rest part others text f e g p = record {
   taken = f.taken ++ part;
@@ -41,7 +41,7 @@ Fed-more a b c s t u begun left next chunk rest part others text f e g p = recor
 }
 
 -- a front of what follows, after what is written
-pub Fed-front : (a b c : Option (List ℕ)) (s t : ConsoleState) (begun left chunk rest front : List ℕ) → Fed a b s t begun left chunk rest
+pub Fed-front : (a b c : Option (List ℕ)) (s t : Console) (begun left chunk rest front : List ℕ) → Fed a b s t begun left chunk rest
     → ((more : List ℕ) → IsPrefixOf front (rest_text t left (rest ++ more))) → Appends b c front
     → (front : List ℕ) × ((more : List ℕ) → IsPrefixOf front (rest_text s begun (chunk ++ more))) × Appends a c front
 Fed-front a b c s t begun left chunk rest front f h p = (

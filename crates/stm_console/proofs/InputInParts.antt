@@ -9,38 +9,38 @@ use Rattle.stm_console.proofs.LongLines.{Long, rest-long, whole-long}
 use Rattle.stm_terms.specs.Texts.{IsPrefixOf}
 use Rattle.stm_console.specs.Streaming.{Continues, NoLineFeed, rest_text, whole_rest_text}
 use Rattle.stm_console.specs.Lines.{drop_return, lines_from, whole_lines_from, last_lines}
-use Rattle.stm_console.specs.Commands.{ConsoleState}
+use Rattle.stm_console.specs.declared.console.Console.{Console}
 use Rattle.stm_console.specs.Console.{answer_to, state_after, answers_to}
 
 same_test : (b : ℕ) → (b ≡ 10 → ⊥) → nat_eq b 10 ≡ false
 same_test b h = grind (arith, nat_tests)
 
-pub Continues-nil : (s : ConsoleState) (begun : List ℕ) → Continues s begun s begun [] []
+pub Continues-nil : (s : Console) (begun : List ℕ) → Continues s begun s begun [] []
 Continues-nil s begun = record { all = λ more. refl; whole = λ more. refl }
 
-Continues-line_feed : (s : ConsoleState) (begun : List ℕ) → Continues s begun (state_after s (drop_return begun)) [] (10 ∷ []) (answer_to s (drop_return begun))
+Continues-line_feed : (s : Console) (begun : List ℕ) → Continues s begun (state_after s (drop_return begun)) [] (10 ∷ []) (answer_to s (drop_return begun))
 unfolding rest_text whole_rest_text
 Continues-line_feed s begun = record { all = λ more. refl; whole = λ more. refl }
 
 -- the same, as the code has it
-pub Continues-answered : (s t : ConsoleState) (begun line left : List ℕ) → line ≡ drop_return begun → t ≡ state_after s line → left ≡ [] → Continues s begun t left (10 ∷ []) (answer_to s line)
+pub Continues-answered : (s t : Console) (begun line left : List ℕ) → line ≡ drop_return begun → t ≡ state_after s line → left ≡ [] → Continues s begun t left (10 ∷ []) (answer_to s line)
 Continues-answered s t begun line left e1 e2 e3 = rw (e2, e1, e3) (Continues-line_feed s begun)
 
-Continues-byte : (s : ConsoleState) (begun : List ℕ) (b : ℕ) → (b ≡ 10 → ⊥) → Continues s begun s (begun ++ b ∷ []) (b ∷ []) []
+Continues-byte : (s : Console) (begun : List ℕ) (b : ℕ) → (b ≡ 10 → ⊥) → Continues s begun s (begun ++ b ∷ []) (b ∷ []) []
 unfolding rest_text whole_rest_text
 Continues-byte s begun b h = record {
   all = λ more. ap (λ test. answers_to s (cond test (drop_return begun ∷ lines_from [] more) (lines_from (begun ++ b ∷ []) more))) (same_test b h);
   whole = λ more. ap (λ test. answers_to s (cond test (drop_return begun ∷ whole_lines_from [] more) (whole_lines_from (begun ++ b ∷ []) more))) (same_test b h);
 }
 
-pub Continues-trans : (s t u : ConsoleState) (l m n : List ℕ) (x y p q : List ℕ) → Continues s l t m x p → Continues t m u n y q → Continues s l u n (x ++ y) (p ++ q)
+pub Continues-trans : (s t u : Console) (l m n : List ℕ) (x y p q : List ℕ) → Continues s l t m x p → Continues t m u n y q → Continues s l u n (x ++ y) (p ++ q)
 Continues-trans s t u l m n x y p q f g = record {
   all = λ more. ap (rest_text s l) (append_assoc x y more) ∙ f.all (y ++ more) ∙ ap (λ r. p ++ r) (g.all more) ∙ sym (append_assoc p q (rest_text u n more));
   whole = λ more. ap (whole_rest_text s l) (append_assoc x y more) ∙ f.whole (y ++ more) ∙ ap (λ r. p ++ r) (g.whole more) ∙ sym (append_assoc p q (whole_rest_text u n more));
 }
 
 -- a part of a line joins what has begun of it
-Continues-part : (s : ConsoleState) (begun part : List ℕ) → NoLineFeed part → Continues s begun s (begun ++ part) part []
+Continues-part : (s : Console) (begun part : List ℕ) → NoLineFeed part → Continues s begun s (begun ++ part) part []
 Continues-part s begun [] h = subst (λ (l : List ℕ). Continues s begun s l [] []) (sym (append-nil begun)) (Continues-nil s begun)
 Continues-part s begun (b ∷ part) h =
     let first : b ≢ 10 = All-head (λ b. b ≢ 10) b part h in
@@ -49,7 +49,7 @@ Continues-part s begun (b ∷ part) h =
     (Continues-trans s s s begun (begun ++ b ∷ []) _ (b ∷ []) part [] [] (Continues-byte s begun b first) (Continues-part s (begun ++ b ∷ []) part others))
 
 -- of a line that is too long no further bytes need be kept
-Continues-long : (s : ConsoleState) (begun kept part : List ℕ) → NoLineFeed part → Long (begun ++ part) → Long kept → Continues s begun s kept part []
+Continues-long : (s : Console) (begun kept part : List ℕ) → NoLineFeed part → Long (begun ++ part) → Long kept → Continues s begun s kept part []
 unfolding rest_text whole_rest_text
 Continues-long s begun kept part h a b = record {
   all = λ more. (Continues-part s begun part h).all more ∙ rest-long s more (begun ++ part) kept a b;
@@ -57,7 +57,7 @@ Continues-long s begun kept part h a b = record {
 }
 
 -- as much of the part as a line may need
-pub Continues-kept : (s : ConsoleState) (begun part : List ℕ) (n : ℕ) → NoLineFeed part → n ≡ min (length part) (65538 - length begun) → Continues s begun s (begun ++ take n part) part []
+pub Continues-kept : (s : Console) (begun part : List ℕ) (n : ℕ) → NoLineFeed part → n ≡ min (length part) (65538 - length begun) → Continues s begun s (begun ++ take n part) part []
 Continues-kept s begun part n h e = ⊎_elim
     (λ (cut : n < length part).
     Continues-long s begun (begun ++ take n part) part h
@@ -66,20 +66,20 @@ Continues-kept s begun part n h e = ⊎_elim
     (λ (whole : length part ≤ n). subst (λ (l : List ℕ). Continues s begun s (begun ++ l) part []) (sym (take_all n part whole)) (Continues-part s begun part h))
     (cases_lt n (length part))
 
-IsPrefixOf-line_feed : (s : ConsoleState) (begun : List ℕ) (front more : List ℕ) → IsPrefixOf front (answer_to s (drop_return begun)) → IsPrefixOf front (rest_text s begun (10 ∷ more))
+IsPrefixOf-line_feed : (s : Console) (begun : List ℕ) (front more : List ℕ) → IsPrefixOf front (answer_to s (drop_return begun)) → IsPrefixOf front (rest_text s begun (10 ∷ more))
 unfolding rest_text
 IsPrefixOf-line_feed s begun front more h =
     (h.0 ++ answers_to (state_after s (drop_return begun)) (lines_from [] more), ap (λ t. t ++ answers_to (state_after s (drop_return begun)) (lines_from [] more)) h.1 ∙ append_assoc front h.0 _)
 
 -- the front of an answer is a prefix of all that follows
-pub IsPrefixOf-answer : (s : ConsoleState) (begun line front more : List ℕ) → line ≡ drop_return begun → IsPrefixOf front (answer_to s line) → IsPrefixOf front (rest_text s begun (10 ∷ more))
+pub IsPrefixOf-answer : (s : Console) (begun line front more : List ℕ) → line ≡ drop_return begun → IsPrefixOf front (answer_to s line) → IsPrefixOf front (rest_text s begun (10 ∷ more))
 IsPrefixOf-answer s begun line front more e h = IsPrefixOf-line_feed s begun front more (rw e at h)
 
-pub rest_text-none : (s : ConsoleState) (begun : List ℕ) → begun ≡ [] → rest_text s begun [] ≡ []
+pub rest_text-none : (s : Console) (begun : List ℕ) → begun ≡ [] → rest_text s begun [] ≡ []
 unfolding rest_text
 rest_text-none s begun e = ap (λ l. answers_to s (last_lines l)) e
 
-pub rest_text-last : (s : ConsoleState) (begun : List ℕ) → 0 < length begun → rest_text s begun [] ≡ answer_to s begun
+pub rest_text-last : (s : Console) (begun : List ℕ) → 0 < length begun → rest_text s begun [] ≡ answer_to s begun
 unfolding rest_text
 rest_text-last s [] h = absurd (omega arith)
 rest_text-last s (b ∷ begun) h = append-nil (answer_to s (b ∷ begun))

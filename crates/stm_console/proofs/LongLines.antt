@@ -6,7 +6,7 @@ use Rattle.std.specs.Io.BufRead.{ends_with_byte}
 use Rattle.std.specs.Prelude.{nat_eq}
 use Rattle.stm_console.specs.LineClass.{TooLong, line_class}
 use Rattle.stm_console.specs.Lines.{drop_return, lines_from, whole_lines_from, last_lines}
-use Rattle.stm_console.specs.Commands.{ConsoleState}
+use Rattle.stm_console.specs.declared.console.Console.{Console}
 use Rattle.stm_console.specs.Console.{answer_to, state_after, answers_to, answer_to_class, state_after_class}
 
 -- a line that is too long is judged so, whatever its bytes
@@ -14,7 +14,7 @@ judged-too_long : (line : List ℕ) → 65536 < length line → line_class line 
 unfolding line_class
 judged-too_long line h = rw (lt-ltb 65536 (length line) h) refl
 
-answers_to-too_long : (s : ConsoleState) (a b : List ℕ) (rest : List (List ℕ)) → 65536 < length a → 65536 < length b → answers_to s (a ∷ rest) ≡ answers_to s (b ∷ rest)
+answers_to-too_long : (s : Console) (a b : List ℕ) (rest : List (List ℕ)) → 65536 < length a → 65536 < length b → answers_to s (a ∷ rest) ≡ answers_to s (b ∷ rest)
 unfolding answer_to state_after
 answers_to-too_long s a b rest h k = ap (λ j. answer_to_class s j ++ answers_to (state_after_class s j) rest) (judged-too_long a h ∙ sym (judged-too_long b k))
 
@@ -31,7 +31,7 @@ Long line = 65538 ≤ length line
 drop_return-long : (line : List ℕ) → Long line → 65536 < length (drop_return line)
 drop_return-long line h = omega (arith, length-drop_return line)
 
-last_lines-long : (s : ConsoleState) (a b : List ℕ) → Long a → Long b → answers_to s (last_lines a) ≡ answers_to s (last_lines b)
+last_lines-long : (s : Console) (a b : List ℕ) → Long a → Long b → answers_to s (last_lines a) ≡ answers_to s (last_lines b)
 last_lines-long s [] b h k = absurd (omega arith)
 last_lines-long s (x ∷ a) [] h k = absurd (omega arith)
 last_lines-long s (x ∷ a) (y ∷ b) h k = answers_to-too_long s (x ∷ a) (y ∷ b) [] (omega arith) (omega arith)
@@ -39,14 +39,14 @@ last_lines-long s (x ∷ a) (y ∷ b) h k = answers_to-too_long s (x ∷ a) (y �
 more-long : (a : List ℕ) (x : ℕ) → Long a → Long (a ++ x ∷ [])
 more-long a x h = omega (arith, length-append a (x ∷ []))
 
-pub rest-long : (s : ConsoleState) (more a b : List ℕ) → Long a → Long b → answers_to s (lines_from a more) ≡ answers_to s (lines_from b more)
+pub rest-long : (s : Console) (more a b : List ℕ) → Long a → Long b → answers_to s (lines_from a more) ≡ answers_to s (lines_from b more)
 rest-long s [] a b h k = last_lines-long s a b h k
 rest-long s (x ∷ more) a b h k = elim (nat_eq x 10) as (λ t. answers_to s (cond t (drop_return a ∷ lines_from [] more) (lines_from (a ++ x ∷ []) more)) ≡ answers_to s (cond t (drop_return b ∷ lines_from [] more) (lines_from (b ++ x ∷ []) more))) [
   | true ↦ answers_to-too_long s (drop_return a) (drop_return b) (lines_from [] more) (drop_return-long a h) (drop_return-long b k)
   | false ↦ rest-long s more (a ++ x ∷ []) (b ++ x ∷ []) (more-long a x h) (more-long b x k)
 ]
 
-pub whole-long : (s : ConsoleState) (more a b : List ℕ) → Long a → Long b → answers_to s (whole_lines_from a more) ≡ answers_to s (whole_lines_from b more)
+pub whole-long : (s : Console) (more a b : List ℕ) → Long a → Long b → answers_to s (whole_lines_from a more) ≡ answers_to s (whole_lines_from b more)
 whole-long s [] a b h k = refl
 whole-long s (x ∷ more) a b h k = elim (nat_eq x 10) as (λ t. answers_to s (cond t (drop_return a ∷ whole_lines_from [] more) (whole_lines_from (a ++ x ∷ []) more)) ≡ answers_to s (cond t (drop_return b ∷ whole_lines_from [] more) (whole_lines_from (b ++ x ∷ []) more))) [
   | true ↦ answers_to-too_long s (drop_return a) (drop_return b) (whole_lines_from [] more) (drop_return-long a h) (drop_return-long b k)

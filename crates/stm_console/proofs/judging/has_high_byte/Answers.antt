@@ -1,4 +1,4 @@
-use Rattle.stm_console.proofs.Arguments.{high_byte_told}
+use Rattle.stm_console.proofs.AsciiArguments.{high_byte_told}
 use Rattle.stm_console.proofs.judging.has_high_byte.Goals as goal
 
 pub returns : goal.returns

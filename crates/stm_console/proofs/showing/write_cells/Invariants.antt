@@ -1,5 +1,5 @@
 use Rattle.std.proofs.Common.{◌≡◌, ◌++◌, drop, string_bytes}
-use Rattle.stm_console.specs.Commands.{cell_lines}
+use Rattle.stm_console.specs.Showing.{cell_lines}
 use Rattle.stm_console.proofs.showing.write_cells.Given as goal
 
 abbrev pub invariant-loop-number : goal.invariant-loop-number

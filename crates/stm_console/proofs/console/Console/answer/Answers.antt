@@ -1,4 +1,4 @@
-use Rattle.stm_console.proofs.Arguments.{argument_text}
+use Rattle.stm_console.proofs.AsciiArguments.{argument_text}
 use Rattle.stm_console.proofs.console.Console.answer.Goals as goal
 
 pub unreachable-requires : goal.unreachable-requires
