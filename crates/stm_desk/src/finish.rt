@@ -98,6 +98,7 @@ impl Desk {
         requires { client < max_clients }
         ensures done { IfOk result (λ f. self.new ≡ with_event self.old (event client (AnyWhat.Finished ticket f.verdict f.applied.first_new f.stale))) }
         ensures noted { IfOk result (λ f. own.new.items ≡ own.old.items ++ event client (AnyWhat.Finished ticket f.verdict f.applied.first_new f.stale) ∷ []) }
+        ensures plan { IfOk result (λ f. IsPlan (now self.old) ticket f.verdict f.applied.first_new f.stale) }
         ensures applied { IfOk result (λ f. f.applied ≡ told_of (now self.old).store f.verdict) }
         ensures told { finish_told result ≡ finish_refusal self.old ticket }
         ensures err { OnErr result ((self.new ≡ self.old) × (own.new.items ≡ own.old.items)) }
@@ -124,6 +125,7 @@ impl Desk {
     pub fn finish(&mut self, client: u32, ticket: u32) -> Result<Finish, FinishError>
         requires { client < max_clients }
         ensures done { IfOk result (λ f. self.new ≡ with_event self.old (event client (AnyWhat.Finished ticket f.verdict f.applied.first_new f.stale))) }
+        ensures plan { IfOk result (λ f. IsPlan (now self.old) ticket f.verdict f.applied.first_new f.stale) }
         ensures applied { IfOk result (λ f. f.applied ≡ told_of (now self.old).store f.verdict) }
         ensures told { finish_told result ≡ finish_refusal self.old ticket }
         ensures err { OnErr result (self.new ≡ self.old) }

@@ -5,7 +5,7 @@ ghost use Rattle.stm_history.specs.SlowDesk.{IsLegal, max_clients};
 ghost use Rattle.stm_history.specs.declared.event.What.{What as AnyWhat};
 ghost use Rattle.stm_history.specs.Machine.{event};
 ghost use Rattle.stm_history.specs.Refusals.{submit_told};
-ghost use Rattle.stm_desk.specs.Seen.{with_event};
+ghost use Rattle.stm_desk.specs.Seen.{now, with_event};
 ghost use Rattle.stm_desk.specs.Refusals.{submit_refusal};
 
 use crate::desk::Desk;
@@ -24,6 +24,7 @@ impl Desk {
     pub fn submit(&mut self, client: u32, block: SharedBlock) -> Result<u32, SubmitError>
         requires { client < max_clients }
         ensures done { IfOk result (λ t. self.new ≡ with_event self.old (event client (AnyWhat.Submitted t block))) }
+        ensures ticket { IfOk result (λ t. t ≡ (now self.old).next) }
         ensures told { submit_told result ≡ submit_refusal self.old block }
         ensures err { OnErr result (self.new ≡ self.old) }
         ensures legal { IsLegal self.new.table self.new.history }

@@ -4,11 +4,13 @@ pub mod Few
 pub mod Folds
 pub mod Fresh
 pub mod Headline
+pub mod Kept
 pub mod Rising
 pub mod Rounds
 pub mod Serial
 pub mod Since
 pub mod Stores
+pub mod TypedStores
 -- What the machine keeps.
 pub mod Due
 pub mod Keys

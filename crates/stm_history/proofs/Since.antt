@@ -149,7 +149,7 @@ low_step : (b : Bool) (t n : ℕ) (w one : Waiter) (o : Option Waiter) → nat_e
 low_step true t n w one o e l more k = let q : t ≡ w.ticket = eqb-true t w.ticket e in omega arith
 low_step false t n w one o e l more k = more k
 
-low : (t n k : ℕ) (ws : List Waiter) (one : Waiter) → AreRising n k ws → find_waiter t ws ≡ Some one → t < n
+pub low : (t n k : ℕ) (ws : List Waiter) (one : Waiter) → AreRising n k ws → find_waiter t ws ≡ Some one → t < n
 low t n k [] one r e = cc
 low t n k (w ∷ ws) one r e = low_step (nat_eq t w.ticket) t n w one (find_waiter t ws) refl r.1 (low t n w.ticket ws one r.2) e
 

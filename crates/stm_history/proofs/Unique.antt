@@ -2,15 +2,16 @@
 use Rattle.std.proofs.Common.{◌≡◌, ℕ, ◌≤◌, ◌<◌, List, [], ◌∷◌, ◌++◌, length, refl, sym, ap, ◌∙◌, subst, arith, append_assoc, append-nil, length-append}
 use Rattle.stm_store.specs.Tables.{Declared}
 use Rattle.stm_history.specs.declared.event.Event.{Event}
-use Rattle.stm_history.specs.SlowDesk.{IsLegal, LegalFrom, Slow, max_events, initial_state, after}
+use Rattle.stm_history.specs.SlowDesk.{IsLegal, LegalFrom, Slow, max_cells, max_events, initial_state, after}
 use Rattle.stm_history.specs.Fits.{FitsTable}
 use Rattle.stm_history.specs.Lines.{format_1, event_line, header_line, variable_line}
 use Rattle.stm_history.proofs.ReadsBack.{event_one_line, header_one_line, variable_one_line, header_same, variable_same, event_same}
 use Rattle.stm_history.specs.declared.files.fault.HistoryFault.TheVariants.{BadHeader}
 use Rattle.stm_history.specs.HistoryText.{head_text, history_text, variable_lines, event_lines}
-use Rattle.stm_history.specs.Judgement.{IsShort, AreVariablesFrom, AreEvents, BeginsWithHistory, NoEventNext, IsIllegal, TellsFault, numbers}
-use Rattle.stm_history.specs.FileLaws.{NumbersAreFixed, HistoriesAreTaken}
+use Rattle.stm_history.specs.Judgement.{IsShort, AreVariables, AreVariablesFrom, AreEvents, BeginsWithHistory, NoEventNext, IsIllegal, TellsFault, numbers}
+use Rattle.stm_history.specs.FileLaws.{NumbersAreFixed, TextsAreOfOneHistory, HistoriesAreTaken}
 use Rattle.stm_history.proofs.Cuts.{IsCut, cut_unique, no_feed}
+use Rattle.stm_history.proofs.Written.{few_variables}
 
 -- ---- the tables
 pub record IsOneTable (xs ys : List Declared) (a b : List ℕ) : Type 0 where
@@ -29,17 +30,17 @@ tables prior (x ∷ xs) (y ∷ ys) a b h k l e =
     let r = tables (prior ++ x ∷ []) xs ys a b h.1 (subst (λ (z : Declared). AreVariablesFrom (prior ++ z ∷ []) ys) same k.1) (omega (arith, l)) c.rest in
     record { tables = ap (λ (z : List Declared). x ∷ z) r.tables ∙ ap (λ (z : Declared). z ∷ ys) (sym same); rest = r.rest }
 
-one_table : (bytes : List ℕ) (T U : List Declared) (H K : List Event) (a b : List ℕ) → BeginsWithHistory format_1 bytes T H a → BeginsWithHistory format_1 bytes U K b → IsOneTable T U (event_lines H ++ a) (event_lines K ++ b)
-one_table bytes T U H K a b f g =
+one_table : (T U : List Declared) (H K : List Event) (a b : List ℕ) → AreVariables T → AreVariables U → history_text format_1 T H ++ a ≡ history_text format_1 U K ++ b → IsOneTable T U (event_lines H ++ a) (event_lines K ++ b)
+one_table T U H K a b f g e =
     let flat : (V : List Declared) (J : List Event) (r : List ℕ) → history_text format_1 V J ++ r ≡ header_line format_1 (length V) ++ 10 ∷ (variable_lines V ++ (event_lines J ++ r)) = λ V J r.
     ap (λ x. x ++ r) (append_assoc (header_line format_1 (length V)) (10 ∷ variable_lines V) (event_lines J)) ∙ append_assoc (header_line format_1 (length V)) (10 ∷ (variable_lines V ++ event_lines J)) r
     ∙ ap (λ x. header_line format_1 (length V) ++ 10 ∷ x) (append_assoc (variable_lines V) (event_lines J) r) in
-    let few = f.few in
-    let many = g.few in
+    let few : length T ≤ max_cells = few_variables T f in
+    let many : length U ≤ max_cells = few_variables U g in
     let c = cut_unique (header_line format_1 (length T)) _ (header_line format_1 (length U)) _ (no_feed _ (header_one_line format_1 (length T) (omega arith) (omega (arith, few)))) (no_feed _ (header_one_line format_1 (length U) (omega arith) (omega (arith, many))))
-    (sym (flat T H a) ∙ sym f.text ∙ g.text ∙ flat U K b) in
+    (sym (flat T H a) ∙ e ∙ flat U K b) in
     let same : length T ≡ length U = header_same format_1 (length T) (length U) (omega arith) (omega (arith, few)) (omega (arith, many)) c.line in
-    tables [] T U _ _ f.variables g.variables same c.rest
+    tables [] T U _ _ f g same c.rest
 
 -- ---- the events
 -- a whole history, and another reading of its bytes that has come less far: an event of the history comes next
@@ -78,18 +79,26 @@ compared T (x ∷ H) (y ∷ K) rest h k e =
 -- two readings of the bytes of a history
 both : (bytes : List ℕ) (T U : List Declared) (H K : List Event) (rest : List ℕ) → BeginsWithHistory format_1 bytes T H [] → BeginsWithHistory format_1 bytes U K rest → (T ≡ U) × Compared U H K rest
 both bytes T U H K rest f g =
-    let t = one_table bytes T U H K [] rest f g in
+    let t = one_table T U H K [] rest f.variables g.variables (sym f.text ∙ g.text) in
     (t.tables, compared U H K rest (subst (λ (z : List Declared). AreEvents z H) t.tables f.events) g.events t.rest)
 
-numbers_fixed_by : (T U : List Declared) (H K : List Event) → (T ≡ U) → Compared U H K [] → numbers T H ≡ numbers U K
-numbers_fixed_by T U H K t (all e f) = ap (λ (z : List Declared). numbers z H) t ∙ ap (numbers U) e
-numbers_fixed_by T U H K t (more n) =
+-- ---- whole texts
+same_events : (U : List Declared) (H K : List Event) → Compared U H K [] → H ≡ K
+same_events U H K (all e f) = e
+same_events U H K (more n) =
     let l : 0 ≡ length (event_line n.event ++ 10 ∷ event_lines n.later) = ap length n.text in
     let m = length-append (event_line n.event) (10 ∷ event_lines n.later) in
     absurd (omega (arith, l, m))
 
+pub texts_are_of_one_history : TextsAreOfOneHistory
+texts_are_of_one_history T U H K f g h k e =
+    let t = one_table T U H K [] [] f g (ap (λ (x : List ℕ). x ++ []) e) in
+    (t.tables, same_events U H K (compared U H K [] (subst (λ (z : List Declared). AreEvents z H) t.tables h) k t.rest))
+
 pub numbers_are_fixed : NumbersAreFixed
-numbers_are_fixed bytes m n a c = let b = both bytes a.0 c.0 a.1 c.1 [] a.2 c.2 in a.3 ∙ numbers_fixed_by a.0 c.0 a.1 c.1 b.0 b.1 ∙ sym c.3
+numbers_are_fixed bytes m n a c =
+    let b = both bytes a.0 c.0 a.1 c.1 [] a.2 c.2 in
+    a.3 ∙ ap (λ (z : List Declared). numbers z a.1) b.0 ∙ ap (numbers c.0) (same_events c.0 a.1 c.1 b.1) ∙ sym c.3
 
 -- a legal history goes on legally: each front of it is legal
 front_legal : (s : Slow) (K later : List Event) (e : Event) → LegalFrom s (K ++ e ∷ later) → LegalFrom s (K ++ e ∷ [])

@@ -54,8 +54,10 @@ few_from prior (d ∷ ds) a h =
     let k = few_from (prior ++ d ∷ []) ds a.1 (omega (arith, room, l)) in
     omega (arith, k, l)
 
+pub few_variables : (table : List Declared) → AreVariables table → length table ≤ max_cells
+few_variables table a = let few = few_from [] table a (omega arith) in omega (arith, few)
+
 pub what_is_written_is_taken : WhatIsWrittenIsTaken
 what_is_written_is_taken table history declared range events legal =
     let variables : AreVariables table = variables_from [] table declared range in
-    let few = few_from [] table variables (omega arith) in
-    (table, history, record { text = sym (append-nil (history_text format_1 table history)); few = omega (arith, few); variables = variables; events = events; legal = legal }, refl)
+    (table, history, record { text = sym (append-nil (history_text format_1 table history)); few = few_variables table variables; variables = variables; events = events; legal = legal }, refl)

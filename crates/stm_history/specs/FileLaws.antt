@@ -7,7 +7,7 @@ use Rattle.stm_history.specs.declared.files.fault.HistoryFault.TheVariants.{BadH
 use Rattle.stm_history.specs.declared.files.fault.Legal.{Legal}
 use Rattle.stm_history.specs.Fits.{FitsTable, AreInRange, IsOneLine}
 use Rattle.stm_history.specs.HistoryText.{history_text}
-use Rattle.stm_history.specs.Judgement.{IsHistory, TellsFault, AreEvents, numbers}
+use Rattle.stm_history.specs.Judgement.{IsHistory, TellsFault, AreVariables, AreEvents, numbers}
 use Rattle.stm_history.specs.Lines.{format_1, event_line}
 use Rattle.stm_history.specs.SlowDesk.{IsLegal}
 
@@ -21,6 +21,14 @@ EventsAreLines = (table : List Declared) (e : Event) → FitsTable table e → I
 -- the numbers of a history are fixed by its text
 abbrev pub NumbersAreFixed : Type 0
 NumbersAreFixed = (bytes : List ℕ) (m n : Legal) → IsHistory format_1 bytes m → IsHistory format_1 bytes n → m ≡ n
+
+-- No two histories over tables have one text, be they legal or not. The variables of each table may be declared in turn, and
+-- each event fits its table and has a short line.
+abbrev pub TextsAreOfOneHistory : Type 0
+TextsAreOfOneHistory =
+    (table table' : List Declared) (history history' : List Event) → AreVariables table → AreVariables table'
+    → AreEvents table history → AreEvents table' history'
+    → history_text format_1 table history ≡ history_text format_1 table' history' → (table ≡ table') × (history ≡ history')
 
 -- no fault can be told of the text of a legal history
 abbrev pub HistoriesAreTaken : Type 0

@@ -58,6 +58,7 @@ impl Machine {
     pub fn wait(&mut self, block: SharedBlock) -> Result<u32, NoMemory>
         requires { (T : List Declared) × (H : List Event) × CanWait T H self.old block }
         ensures moved { IfOk result (λ t. (T : List Declared) (H : List Event) → CanWait T H self.old block → MovesTo T H (AnyWhat.Submitted t block) self.new) }
+        ensures ticket { IfOk result (λ t. t ≡ self.old.next) }
         ensures pending { IfOk result (λ t. self.new.pending ≡ with_ticket t self.old.pending) }
         ensures err { OnErr result (self.new ≡ self.old) }
     {

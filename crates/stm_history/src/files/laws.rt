@@ -1,6 +1,6 @@
 //! What holds of histories as text: each function's contract is a law of the definitions, and its body is empty.
 
-ghost use Rattle.stm_history.specs.FileLaws.{EachLineIsOneEvent, EventsAreLines, NumbersAreFixed, HistoriesAreTaken, WhatIsWrittenIsTaken};
+ghost use Rattle.stm_history.specs.FileLaws.{EachLineIsOneEvent, EventsAreLines, NumbersAreFixed, TextsAreOfOneHistory, HistoriesAreTaken, WhatIsWrittenIsTaken};
 
 /// Different events have different lines, and none has a line feed.
 pub fn each_line_is_one_event()
@@ -11,6 +11,11 @@ pub fn each_line_is_one_event()
 /// The numbers of a text are fixed: bytes are the text of legal histories with the same numbers only.
 pub fn numbers_are_fixed()
     ensures { NumbersAreFixed }
+{}
+
+/// No two histories over tables have one text.
+pub fn texts_are_of_one_history()
+    ensures { TextsAreOfOneHistory }
 {}
 
 /// No fault can be told of the text of a legal history: the clauses of `check_history` fix its answer.
