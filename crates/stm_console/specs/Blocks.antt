@@ -16,7 +16,7 @@ use Rattle.stm_desk.specs.Seen.{Seen, now, with_event}
 use Rattle.stm_desk.specs.Refusals.{submit_refusal}
 use Rattle.stm_console.specs.declared.refusal.Refusal.{Refusal}
 use Rattle.stm_console.specs.declared.refusal.Refusal.TheVariants.{Parsing, Typing}
-use Rattle.stm_console.specs.ConsoleState.{OpenDesk, present}
+use Rattle.stm_console.specs.OpenDesk.{OpenDesk, present}
 use Rattle.stm_console.specs.Refusals.{refusal_text, submit_error_text}
 
 abbrev pub block_or_refusal : Result Block BlockFault → Result Block Refusal

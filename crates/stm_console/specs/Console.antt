@@ -6,7 +6,8 @@ use Rattle.stm_console.specs.declared.command.Command.TheVariants.{Tvar, Try, Lo
 use Rattle.stm_console.specs.declared.console.Console.{Console}
 use Rattle.stm_console.specs.declared.console.Console.TheVariants.{Declaring, Open}
 use Rattle.stm_console.specs.Blocks.{try_answer, looks_answer, submit_answer, submit_state}
-use Rattle.stm_console.specs.ConsoleState.{OpenDesk, present_desk}
+use Rattle.stm_console.specs.ConsoleState.{present_desk}
+use Rattle.stm_console.specs.OpenDesk.{OpenDesk}
 use Rattle.stm_console.specs.Declaring.{tvar_answer, tvar_state}
 use Rattle.stm_console.specs.Delivering.{take_answer, take_state, deliver_answer, deliver_state, handback_answer, handback_state, eval_answer, eval_state}
 use Rattle.stm_console.specs.Finishing.{finish_answer, finish_state, cancel_answer, cancel_state, settle_answer, settle_state}

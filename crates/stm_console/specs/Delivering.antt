@@ -1,5 +1,5 @@
 -- `take`, `deliver`, `handback` and `eval`: blocks are handed out, evaluated, and their verdicts delivered.
-use Rattle.std.specs.Prelude.{ℕ, zero, suc, ◌+◌, List, [], ◌∷◌, ◌++◌, Option, Some, None, codes, decimal, length, take, map, nat_lt, slice_get, if◌then◌else◌}
+use Rattle.std.specs.Prelude.{ℕ, zero, suc, ◌+◌, List, [], ◌∷◌, ◌++◌, Option, Some, None, codes, decimal, length, take, map, nat_lt, slice_get, false, if◌then◌else◌}
 use Rattle.stm_terms.specs.declared.kinds.Ty.{Ty}
 use Rattle.stm_terms.specs.declared.values.Value.{Value}
 use Rattle.stm_terms.specs.declared.verdicts.Verdict.{Verdict}
@@ -22,7 +22,7 @@ use Rattle.stm_desk.specs.Refusals.{left_by}
 use Rattle.stm_desk.specs.Seen.{Seen, now, is_full, with_event}
 use Rattle.stm_console.specs.declared.jobs.HandedOut.{HandedOut}
 use Rattle.stm_console.specs.Arguments.{number_argument, with_number, after_number, with_nothing, after_nothing}
-use Rattle.stm_console.specs.ConsoleState.{OpenDesk}
+use Rattle.stm_console.specs.OpenDesk.{OpenDesk}
 use Rattle.stm_console.specs.Refusals.{refused, deliver_error_text}
 
 -- ---- take

@@ -18,7 +18,7 @@ use Rattle.stm_desk.specs.Refusals.{finish_refusal, cancel_refusal}
 use Rattle.stm_desk.specs.Seen.{Seen, now, with_event}
 use Rattle.stm_desk.specs.Settling.{slow_settle, slow_stop, called_back, with_whats}
 use Rattle.stm_console.specs.Arguments.{number_argument, with_number, after_number, with_nothing, after_nothing}
-use Rattle.stm_console.specs.ConsoleState.{OpenDesk}
+use Rattle.stm_console.specs.OpenDesk.{OpenDesk}
 use Rattle.stm_console.specs.Refusals.{finish_error_text, cancel_error_text}
 
 -- ---- finish

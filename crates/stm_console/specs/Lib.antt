@@ -11,9 +11,11 @@ pub mod Finishing
 pub mod Laws
 pub mod LineClass
 pub mod Lines
+pub mod OpenDesk
 pub mod Options
 pub mod Refusals
 pub mod Showing
 -- The words inside.
 pub mod Abstraction
+pub mod Kept
 pub mod Streaming

@@ -12,7 +12,7 @@ use Rattle.stm_history.specs.SlowDesk.{Since, Waiter, Slow, Standing, New, Stale
 use Rattle.stm_desk.specs.Seen.{Seen, now}
 use Rattle.stm_console.specs.Arguments.{number_argument, with_number, with_nothing}
 use Rattle.stm_console.specs.Blocks.{reads_line}
-use Rattle.stm_console.specs.ConsoleState.{OpenDesk, present}
+use Rattle.stm_console.specs.OpenDesk.{OpenDesk, present}
 use Rattle.stm_console.specs.Refusals.{refused}
 
 -- ---- show

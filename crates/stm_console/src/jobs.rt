@@ -1,10 +1,10 @@
 //! Jobs that were handed out, and what becomes of them.
 
-ghost use Rattle.std.specs.Prelude.{◌≡◌, ◌≤◌, ◌<◌, ◌++◌, map, None, IfOk, OnOk, vec_len, length};
+ghost use Rattle.std.specs.Prelude.{◌≡◌, ◌≤◌, ◌<◌, ◌+◌, ◌++◌, map, None, IfOk, OnOk, vec_len, length};
 ghost use Rattle.stm_store.specs.Cells.{Covers};
 ghost use Rattle.stm_history.specs.SlowDesk.{max_waiting};
 ghost use Rattle.stm_desk.specs.Seen.{now};
-ghost use Rattle.stm_console.specs.Abstraction.{handed_out, JobStands, JobsStand, HasGrown};
+ghost use Rattle.stm_console.specs.Kept.{handed_out, JobStands, JobsStand, HasGrown};
 ghost use Rattle.stm_console.specs.Delivering.{delivery_refusal, after_delivery, delivered_next, delivered_all};
 
 use std::alloc::{AllocError, Global};

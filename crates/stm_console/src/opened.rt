@@ -5,7 +5,7 @@ ghost use Rattle.stm_store.specs.Cells.{plains};
 ghost use Rattle.stm_history.specs.SlowDesk.{max_events};
 ghost use Rattle.stm_history.specs.HistoryText.{WritesText};
 ghost use Rattle.stm_desk.specs.Seen.{now};
-ghost use Rattle.stm_console.specs.ConsoleState.{opened_desk, present};
+ghost use Rattle.stm_console.specs.OpenDesk.{opened_desk, present};
 ghost use Rattle.stm_console.specs.Showing.{events_text};
 
 use crate::jobs::HandedOut;
@@ -29,8 +29,8 @@ pub struct OpenDesk {
 impl Model for OpenDesk {
     ghost use Rattle.std.specs.Coded.{codes};
     ghost use Rattle.stm_terms.specs.TreeEncoding.{act_code};
-    ghost use Rattle.stm_console.specs.ConsoleState.{OpenDesk as State};
-    ghost use Rattle.stm_console.specs.Abstraction.{OpenInvariant};
+    ghost use Rattle.stm_console.specs.OpenDesk.{OpenDesk as State};
+    ghost use Rattle.stm_console.specs.Kept.{OpenInvariant};
 
     ghost Value = { State };
 
@@ -54,19 +54,23 @@ impl OpenDesk {
         })
     }
 
-    /// The present store, as blocks are run on it.
-    pub fn frozen(&mut self) -> Result<&Frozen, NoMemory>
+    /// The copy of the present store, as blocks are run on it: the one that is kept, or a new one.
+    pub fn take_copy(&mut self) -> Result<Frozen, NoMemory>
         ensures same { self.new ≡ self.old }
-        ensures store { IfOk result (λ f. f.now ≡ plains (present self.old)) }
+        ensures store { IfOk result (λ f. f ≡ plains (present self.old)) }
     {
-        if self.copy.is_none() {
-            let copy = self.desk.store().freeze()?;
-            self.copy = Some(copy);
-        }
-        match &self.copy {
+        match self.copy.take() {
             Some(copy) => Ok(copy),
-            None => unreachable!(),
+            None => self.desk.store().freeze(),
         }
+    }
+
+    /// Keeps the copy of the present store.
+    pub fn keep_copy(&mut self, copy: Frozen)
+        requires { copy ≡ plains (present self.old) }
+        ensures { self.new ≡ self.old }
+    {
+        self.copy = Some(copy);
     }
 
     /// Writes the history.

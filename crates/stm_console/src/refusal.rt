@@ -139,7 +139,7 @@ pub fn write_refusal(refusal: Refusal, out: &mut String) -> Result<(), NoMemory>
 /// Appends why a block isn't submitted; an out-of-memory error is handed on.
 pub fn refuse_submit(error: SubmitError, out: &mut String) -> Result<(), NoMemory>
     ensures text { OnOk result (string_bytes out.new ≡ string_bytes out.old ++ submit_error_text error) }
-    ensures told { OnOk result (submit_told {ℕ} (Err error) ≡ Some error) }
+    ensures told { OnOk result (submit_told {A = ℕ} (Err error) ≡ Some error) }
 {
     match error {
         SubmitError::Foreign(number) => refuse_variable("Foreign", number, out),
@@ -167,7 +167,7 @@ pub fn refuse_delivery(error: DeliverError, out: &mut String) -> Result<(), NoMe
 /// Appends why a block isn't finished; an out-of-memory error is handed on.
 pub fn refuse_finish(error: FinishError, out: &mut String) -> Result<(), NoMemory>
     ensures text { OnOk result (string_bytes out.new ≡ string_bytes out.old ++ finish_error_text error) }
-    ensures told { OnOk result (finish_told {Finish} (Err error) ≡ Some error) }
+    ensures told { OnOk result (finish_told {A = Finish} (Err error) ≡ Some error) }
 {
     match error {
         FinishError::NoTicket => refuse("NoTicket", out),
@@ -183,7 +183,7 @@ pub fn refuse_finish(error: FinishError, out: &mut String) -> Result<(), NoMemor
 /// Appends why a block isn't cancelled; an out-of-memory error is handed on.
 pub fn refuse_cancel(error: CancelError, out: &mut String) -> Result<(), NoMemory>
     ensures text { OnOk result (string_bytes out.new ≡ string_bytes out.old ++ cancel_error_text error) }
-    ensures told { OnOk result (cancel_told {Unit {0}} (Err error) ≡ Some error) }
+    ensures told { OnOk result (cancel_told {A = Unit {0}} (Err error) ≡ Some error) }
 {
     match error {
         CancelError::NoTicket => refuse("NoTicket", out),

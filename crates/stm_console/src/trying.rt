@@ -6,7 +6,7 @@ ghost use Rattle.stm_history.specs.SlowDesk.{under, verdict_on};
 ghost use Rattle.stm_store.specs.Cells.{Covers, plains};
 ghost use Rattle.stm_store.specs.Tables.{opened};
 ghost use Rattle.stm_desk.specs.Refusals.{submit_refusal};
-ghost use Rattle.stm_console.specs.ConsoleState.{present};
+ghost use Rattle.stm_console.specs.OpenDesk.{present};
 ghost use Rattle.stm_console.specs.Blocks.{try_answer, looks_answer, verdict_line, reads_line, ticket_line, submit_answer, submit_state, submitted_text, submitted};
 
 use crate::block::compile_block;
@@ -53,7 +53,9 @@ impl OpenDesk {
         ensures text { OnOk result (string_bytes out.new ≡ string_bytes out.old ++ verdict_line (verdict_on (present self.old) block.now)) }
         ensures same { self.new ≡ self.old }
     {
-        let (verdict, _reads) = try_block(alloc, self.frozen()?, block)?;
+        let copy = self.take_copy()?;
+        let (verdict, _reads) = try_block(alloc, &copy, block)?;
+        self.keep_copy(copy);
         write_verdict_line(&verdict, out)?;
         Ok(())
     }
@@ -69,7 +71,9 @@ impl OpenDesk {
         ensures text { OnOk result (string_bytes out.new ≡ string_bytes out.old ++ reads_line (reads_of (under (present self.old)) block.now.tree)) }
         ensures same { self.new ≡ self.old }
     {
-        let (_verdict, reads) = try_block(alloc, self.frozen()?, block)?;
+        let copy = self.take_copy()?;
+        let (_verdict, reads) = try_block(alloc, &copy, block)?;
+        self.keep_copy(copy);
         write_reads_line(reads.as_slice(), out)?;
         Ok(())
     }

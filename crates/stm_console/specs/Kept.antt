@@ -1,0 +1,47 @@
+-- What the type of an open desk keeps.
+use Rattle.std.specs.Prelude.{◌≡◌, List, ◌++◌, Option, Some, None}
+use Rattle.std.specs.List.{All}
+use Rattle.stm_terms.specs.declared.kinds.Ty.{Ty}
+use Rattle.stm_terms.specs.declared.values.Value.{Value}
+use Rattle.stm_store.specs.Cells.{Covers, plains}
+use Rattle.stm_eval.specs.declared.job.Job.{Job}
+use Rattle.stm_history.specs.declared.event.Event.{Event}
+use Rattle.stm_history.specs.JobsHandedOut.{block_at}
+use Rattle.stm_history.specs.SlowDesk.{IsLegal, state}
+use Rattle.stm_desk.specs.Seen.{Seen, now}
+use Rattle.stm_console.specs.declared.jobs.HandedOut.{HandedOut}
+
+-- a job that is kept with the store at its `take`
+abbrev pub handed_out : List (Ty × Value) → Job → HandedOut
+handed_out store j = record { ticket = j.ticket; block = j.block; store = store }
+
+-- a kept job is of a block that waited under its ticket when some of the events had happened, and its store has the
+-- variables that the block names
+pub record JobStands (d : Seen) (j : HandedOut) : Type 0 where
+  pub covered : Covers j.store j.block.uses
+  pub before : List Event
+  pub more : List Event
+  pub history : d.history ≡ before ++ more
+  pub waited : block_at (state d.table before) j.ticket ≡ Some j.block
+
+abbrev pub JobsStand : Seen → List HandedOut → Type 0
+JobsStand d jobs = All (JobStands d) jobs
+
+-- the copy of the present store, if there is one
+abbrev pub IsPresentCopy : Seen → Option (List (Ty × Value)) → Type 0
+IsPresentCopy d None = Unit {0}
+IsPresentCopy d (Some cells) = cells ≡ plains (now d).store
+
+-- what the type of an open desk keeps
+pub record OpenInvariant (d : Seen) (copy : Option (List (Ty × Value))) (jobs : List HandedOut) : Type 0 where
+  pub legal : IsLegal d.table d.history
+  pub copied : IsPresentCopy d copy
+  pub jobs_stand : JobsStand d jobs
+
+-- the desk has the same table and limit, and maybe more events
+pub record HasGrown (old new : Seen) : Type 0 where
+  pub table : new.table ≡ old.table
+  pub limit : new.limit ≡ old.limit
+  pub more : List Event
+  pub history : new.history ≡ old.history ++ more
+  pub legal : IsLegal new.table new.history

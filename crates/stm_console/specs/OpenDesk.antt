@@ -1,0 +1,20 @@
+-- An open desk, as the console has it.
+use Rattle.std.specs.Prelude.{ℕ, List, []}
+use Rattle.stm_store.specs.declared.cell.Cell.{Cell}
+use Rattle.stm_store.specs.Tables.{Declared}
+use Rattle.stm_desk.specs.Seen.{Seen, now}
+use Rattle.stm_console.specs.declared.jobs.HandedOut.{HandedOut}
+
+-- the desk, and the jobs that were handed out on it, in the order of their numbers: each a ticket, its block, and the store
+-- at its `take`
+pub record OpenDesk : Type 0 where
+  pub desk : Seen
+  pub jobs : List HandedOut
+
+-- the desk on which nothing has happened, with these variables and room for so many events
+abbrev pub opened_desk : List Declared → ℕ → OpenDesk
+opened_desk table limit = record { desk = record { table = table; limit = limit; history = []; pending = [] }; jobs = [] }
+
+-- the present store
+abbrev pub present : OpenDesk → List Cell
+present d = (now d.desk).store
