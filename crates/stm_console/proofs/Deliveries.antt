@@ -1,6 +1,6 @@
 -- What a delivery of a job's message does: the block under a ticket stays the same, so it is the job's.
-use Rattle.std.proofs.Common.{◌≡◌, ℕ, Bool, List, [], ◌∷◌, ◌++◌, Option, Some, None, Result, Ok, Err, IfOk, IfErr, OnOk, refl, sym, ap, ◌∙◌, subst, append-nil}
-use Rattle.std.specs.Prelude.{option_map}
+use Rattle.std.proofs.Common.{◌≡◌, ℕ, zero, suc, Bool, List, [], ◌∷◌, ◌++◌, Option, Some, None, Result, Ok, Err, IfOk, IfErr, OnOk, refl, sym, ap, ◌∙◌, subst, append-nil}
+use Rattle.std.specs.Prelude.{option_map, slice_get, length, map}
 use Rattle.stm_terms.specs.declared.kinds.Ty.{Ty}
 use Rattle.stm_terms.specs.declared.values.Value.{Value}
 use Rattle.stm_terms.specs.declared.verdicts.Verdict.{Verdict}
@@ -14,15 +14,20 @@ use Rattle.stm_eval.specs.EvaluatedFields.{message_ticket, message_block, messag
 use Rattle.stm_history.specs.declared.errors.DeliverError.{DeliverError}
 use Rattle.stm_history.specs.declared.event.Event.{Event}
 use Rattle.stm_history.specs.declared.event.What.TheVariants.{Installed}
+use Rattle.stm_queue.specs.Queue.{Entry}
+use Rattle.stm_store.specs.Cells.{plains}
+use Rattle.stm_history.specs.JobsHandedOut.{AreJobs, AreCovered, sent}
 use Rattle.stm_history.specs.Laws.{BlocksStay}
 use Rattle.stm_history.specs.Machine.{event}
 use Rattle.stm_history.specs.Refusals.{DeliverTold}
 use Rattle.stm_history.specs.SlowDesk.{Waiter, IsLegal, state, find_waiter}
 use Rattle.stm_desk.specs.Refusals.{TellsDeskDelivery, left_by}
 use Rattle.stm_desk.specs.Seen.{Seen, now, is_full, with_event}
-use Rattle.stm_console.specs.Delivering.{delivery_first, delivery_refusal, after_delivery, after_refusal, installed}
-use Rattle.stm_console.specs.Kept.{handed_out, JobStands, HasGrown, after_message}
-use Rattle.stm_console.proofs.Growing.{now_next, grown_next}
+use Rattle.stm_console.specs.declared.jobs.HandedOut.{HandedOut}
+use Rattle.stm_console.specs.declared.jobs.Progress.{Progress}
+use Rattle.stm_console.specs.Delivering.{Delivered, delivered_all, all_queued, jobs_of, evaluated, job_at, delivery_first, delivery_refusal, after_delivery, after_refusal, installed}
+use Rattle.stm_console.specs.Kept.{handed_out, JobStands, JobsStand, HasGrown, after_message}
+use Rattle.stm_console.proofs.Growing.{now_next, grown_next, given_are, given_stand, queued_stand}
 
 -- the block that waits is the job's
 same_block : (o : Option Waiter) (b : Block) → option_map (λ w. w.block) o ≡ Some b → (v : Waiter) × (o ≡ Some v) × (v.block ≡ b)
@@ -80,3 +85,43 @@ pub done_if_ok : {E : Type 0} → (d e : Seen) (cells : List (Ty × Value)) (j :
     → IfOk r (λ r. r ≡ delivery_refusal d (handed_out cells j)) → IfOk r (λ r. e ≡ after_message d m r) → OnOk r (e ≡ after_delivery d (handed_out cells j))
 done_if_ok d e cells j m (Ok r) t v p q = done_of_job d e cells j m r t v p q
 done_if_ok d e cells j m (Err x) t v p q = tt
+
+-- the job of a number stands
+stands_get : (d : Seen) (js : List HandedOut) (n : ℕ) (j : HandedOut) → JobsStand d js → Some j ≡ slice_get js n → JobStands d j
+stands_get d [] n j s e = absurd cc
+stands_get d (k ∷ js) zero j s e = let p : j ≡ k = cc in subst (JobStands d) (sym p) s.0
+stands_get d (k ∷ js) (suc n) j s e = stands_get d js n j s.1 e
+
+pub stands_at : (d : Seen) (js : List HandedOut) (n : ℕ) (j : HandedOut) → JobsStand d js → Some j ≡ job_at n js → JobStands d j
+stands_at d js zero j s e = absurd cc
+stands_at d js (suc n) j s e = stands_get d js n j s e
+
+-- ---- all that is queued
+ticket_count : (js : List Job) → length js ≡ length (map (λ (j : Job). j.ticket) js)
+ticket_count [] = refl
+ticket_count (j ∷ js) = ap suc (ticket_count js)
+
+begun : Seen → List Entry → Delivered
+begun d p = record { desk = record d { pending = p }; count = 0; stop = None }
+
+taken_all : (d e : Seen) (cells : List (Ty × Value)) (js : List Job) → e ≡ record d { pending = sent (length js) d.pending } → map (λ (j : Job). j.ticket) js ≡ all_queued d → cells ≡ plains (now d).store → AreJobs (now d) js
+    → delivered_all (record { desk = e; count = 0; stop = None }) (map (handed_out cells) js) ≡ evaluated d
+unfolding begun
+taken_all d e cells js q t s a =
+    ap (λ (x : Seen). delivered_all (record { desk = x; count = 0; stop = None }) (map (handed_out cells) js)) q
+    ∙ ap (λ (n : ℕ). delivered_all (begun d (sent n d.pending)) (map (handed_out cells) js)) (ticket_count js ∙ ap (λ (ts : List ℕ). length ts) t)
+    ∙ ap (delivered_all (begun d (sent (length (all_queued d)) d.pending))) (given_are d cells js s a ∙ ap (jobs_of (now d)) t)
+
+progress_is : {E : Type 0} → (e : Seen) (x y : Delivered) (r : Result Progress E) → x ≡ y → IfOk r (λ p. record { desk = e; count = p.count; stop = p.stop } ≡ x) → IfOk r (λ p. record { desk = e; count = p.count; stop = p.stop } ≡ y)
+progress_is e x y (Ok p) q h = h ∙ q
+progress_is e x y (Err z) q h = tt
+
+pub evaluated_all : {E : Type 0} → (d e f : Seen) (cells : List (Ty × Value)) (js : List Job) (r : Result Progress E) → e ≡ record d { pending = sent (length js) d.pending } → map (λ (j : Job). j.ticket) js ≡ all_queued d
+    → cells ≡ plains (now d).store → AreJobs (now d) js
+    → IfOk r (λ p. record { desk = f; count = p.count; stop = p.stop } ≡ delivered_all (record { desk = e; count = 0; stop = None }) (map (handed_out cells) js))
+    → IfOk r (λ p. record { desk = f; count = p.count; stop = p.stop } ≡ evaluated d)
+evaluated_all d e f cells js r q t s a h = progress_is f _ _ r (taken_all d e cells js q t s a) h
+
+pub given_queued : (d e : Seen) (cells : List (Ty × Value)) (js : List Job) → e ≡ record d { pending = sent (length js) d.pending } → AreJobs (now d) js → AreCovered cells js → JobsStand e (map (handed_out cells) js)
+given_queued d e cells js q a c =
+    subst (λ (f : Seen). JobsStand f (map (handed_out cells) js)) (sym q) (queued_stand d (sent (length js) d.pending) (map (handed_out cells) js) (given_stand d cells js a c))

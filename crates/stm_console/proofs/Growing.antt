@@ -110,7 +110,7 @@ given_are d cells (j ∷ js) e a = by (block_at (now d) j.ticket) a.0 (given_are
     by None p q = absurd cc
 
 -- a desk that differs in its queue alone
-queued_stand : (d : Seen) (p : List (ℕ × Bool)) (js : List HandedOut) → JobsStand d js → JobsStand (record d { pending = p }) js
+pub queued_stand : (d : Seen) (p : List (ℕ × Bool)) (js : List HandedOut) → JobsStand d js → JobsStand (record d { pending = p }) js
 queued_stand d p [] s = tt
 queued_stand d p (j ∷ js) s = (record { covered = s.0.covered; before = s.0.before; more = s.0.more; history = s.0.history; waited = s.0.waited }, queued_stand d p js s.1)
 

@@ -9,7 +9,7 @@ ghost use Rattle.stm_console.specs.Kept.{JobsStand};
 ghost use Rattle.stm_console.specs.Delivering.{taken, jobs_of, job_text, numbered, jobs_line, take_text, after_take, take_answer, take_state, job_at, deliver_text, after_deliver, deliver_answer, deliver_state, handback_text, handed_back, handback_answer, handback_state, delivered_line, queued_line, evaluated_line, evaluated_text, delivery_text, eval_answer, eval_state};
 
 use crate::arguments::number_of;
-use crate::jobs::{HandedOut, deliver_job, deliver_jobs, with_store};
+use crate::jobs::{HandedOut, deliver_job, evaluate_queued, with_store};
 use crate::opened::OpenDesk;
 use crate::refusal::{refuse, refuse_delivery};
 use std::alloc::Global;
@@ -273,8 +273,7 @@ impl OpenDesk {
             refuse("Argument", out)?;
             return Ok(());
         }
-        let (store, jobs) = self.desk.take(Desk::MAX_WAITING)?;
-        let progress = deliver_jobs(&mut self.desk, alloc, &store, jobs)?;
+        let progress = evaluate_queued(&mut self.desk, alloc)?;
         write_evaluation(progress.count, progress.stop, out)?;
         Ok(())
     }

@@ -8,7 +8,7 @@ ghost use Rattle.stm_history.specs.SlowDesk.{IsLegal, max_waiting};
 ghost use Rattle.stm_desk.specs.Refusals.{TellsDeskDelivery};
 ghost use Rattle.stm_desk.specs.Seen.{now};
 ghost use Rattle.stm_console.specs.Kept.{handed_out, JobStands, JobsStand, HasGrown, after_message};
-ghost use Rattle.stm_console.specs.Delivering.{delivery_refusal, after_delivery, delivered_next, delivered_all};
+ghost use Rattle.stm_console.specs.Delivering.{delivery_refusal, after_delivery, delivered_next, delivered_all, evaluated};
 
 use std::alloc::{AllocError, Global};
 use stm_check::SharedBlock;
@@ -151,7 +151,7 @@ fn deliver_next(
 
 /// Delivers what the blocks of jobs do on a store, one after another, until one is refused. That one and those after it are
 /// queued again.
-pub fn deliver_jobs(
+fn deliver_jobs(
     desk: &mut Desk,
     alloc: Global,
     store: &Frozen,
@@ -173,4 +173,17 @@ pub fn deliver_jobs(
         so_far = deliver_next(desk, alloc, store, job, so_far)?;
     }
     Ok(so_far)
+}
+
+/// Evaluates and delivers all that is queued, in rising order of the tickets.
+pub fn evaluate_queued(desk: &mut Desk, alloc: Global) -> Result<Progress, NoMemory>
+    requires { IsLegal desk.old.table desk.old.history }
+    ensures done { IfOk result (λ p. record { desk = desk.new; count = p.count; stop = p.stop } ≡ evaluated desk.old) }
+    ensures grown { HasGrown desk.old desk.new }
+    ensures store { (now desk.new).store ≡ (now desk.old).store }
+{
+    match desk.take(Desk::MAX_WAITING) {
+        Ok((store, jobs)) => deliver_jobs(desk, alloc, &store, jobs),
+        Err(refused) => Err(refused),
+    }
 }
