@@ -1,5 +1,5 @@
--- What `take`, `deliver`, `handback` and `eval` do keeps the desk standing: what a job's block does on the job's store it does
--- on the present one where nothing that it read differs, and it is the block that waits.
+-- What `take`, `deliver`, `handback` and `eval` do keeps the desk standing: what a job's block does on the job's store it
+-- does on the present one where nothing that it read differs, and it is the block that waits.
 use Rattle.std.proofs.Common.{◌≡◌, ℕ, zero, suc, ◌+◌, Bool, true, false, cond, List, [], ◌∷◌, ◌++◌, Option, Some, None, refl, ap, sym, subst, ◌∙◌, append-nil}
 use Rattle.std.specs.Prelude.{IsSomeAnd, option_map, nat_lt, length}
 use Rattle.stm_terms.specs.declared.values.Value.{Value}

@@ -22,10 +22,10 @@ record IsLowest (p : Waiter → Bool) (k : ℕ) (ws : List Waiter) (w : Waiter) 
   pub holds : p w ≡ true
   pub found : find_waiter w.ticket ws ≡ Some w
 
-itself : (n : ℕ) → nat_eq n n ≡ true
+pub itself : (n : ℕ) → nat_eq n n ≡ true
 itself n = grind (arith, nat_tests)
 
-apart : (m n : ℕ) → n < m → nat_eq m n ≡ false
+pub apart : (m n : ℕ) → n < m → nat_eq m n ≡ false
 apart m n h = grind (arith, nat_tests)
 
 lowest_first : (p : Waiter → Bool) (k : ℕ) (x : Waiter) (xs : List Waiter) (w : Waiter) (b : Bool) → p x ≡ b → k < x.ticket

@@ -1,5 +1,5 @@
--- What an open desk of the console stands on: its table is well typed, its history is legal, each block that was submitted is
--- well typed, and each job is of a block that waited. Each event that the desk allows keeps it.
+-- What an open desk of the console stands on: its table is well typed, its history is legal, each block that was submitted
+-- is well typed, and each job is of a block that waited. Each event that the desk allows keeps it.
 use Rattle.std.proofs.Common.{◌≡◌, ℕ, zero, suc, ◌<◌, ◌≤◌, false, List, [], ◌∷◌, ◌++◌, length, Some, refl, ap, ◌∙◌, subst, append_assoc, arith, length-append}
 use Rattle.std.specs.Prelude.{nat_le, slice_get}
 use Rattle.std.proofs.lemmas.Bool.Decides.{nat_tests}
