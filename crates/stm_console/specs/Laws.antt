@@ -38,7 +38,8 @@ HasVerdict (slow.Current v) = IsSome v
 abbrev pub VerdictsAreShown : Type 0
 VerdictsAreShown =
     (max_events : ℕ) → max_events ≤ slow.max_events → (before : List (List ℕ)) (i : ℕ) (w : slow.Waiter)
-    → slice_get (desk_after_lines max_events before).waiters i ≡ Some w → HasVerdict (slow.standing (desk_after_lines max_events before).store w)
+    → slice_get (desk_after_lines max_events before).waiters i ≡ Some w
+    → HasVerdict (slow.standing (desk_after_lines max_events before).store w)
 
 -- of the program's name alone, and of the word `run` after it, there is nothing to tell, so they ask for a run
 abbrev pub RunsAreAccepted : Type 0
