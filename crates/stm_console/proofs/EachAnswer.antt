@@ -1,4 +1,5 @@
--- Each line that says something is answered: a console that has taken some lines stands, and there no command prints nothing.
+-- Each line that says something is answered: a console that has taken some lines stands, and there no command prints
+-- nothing.
 use Rattle.std.proofs.Common.{◌≢◌, ℕ, List, ◌∷◌, ◌++◌, length, Option, Some, None, Result, Ok, Err, refl}
 use Rattle.std.specs.Prelude.{codes, decimal}
 use Rattle.stm_check.specs.Laws.{CheckNeverSaysNoMemory, VerdictFits}

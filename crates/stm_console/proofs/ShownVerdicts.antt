@@ -1,5 +1,5 @@
--- Each waiting block that isn't new stands with a verdict: it had one on the store of its delivery, and how it stands is said
--- by that one.
+-- Each waiting block that isn't new stands with a verdict: it had one on the store of its delivery, and how it stands is
+-- said by that one.
 use Rattle.std.proofs.Common.{◌≡◌, ℕ, zero, suc, ◌<◌, Bool, true, false, cond, List, [], ◌∷◌, ◌++◌, map, Option, Some, None, refl, ap, sym, subst, arith}
 use Rattle.std.specs.Prelude.{nat_eq, slice_get, is_some, IsSome, IsSomeAnd}
 use Rattle.stm_terms.specs.declared.verdicts.Verdict.{Verdict}
