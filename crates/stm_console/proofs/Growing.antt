@@ -122,6 +122,10 @@ pub kept_queued : (d e : Seen) (copy : Option (List (Ty × Value))) (js : List H
 kept_queued d e copy js q k =
     subst (λ (f : Seen). OpenInvariant f copy js) (sym q) (record { legal = k.legal; copied = queued_copied d e.pending copy k.copied; jobs_stand = queued_stand d e.pending js k.jobs_stand })
 
+pub kept_pending : (d e : Seen) (p : List (ℕ × Bool)) (copy : Option (List (Ty × Value))) (js : List HandedOut) → e ≡ record d { pending = p } → OpenInvariant d copy js → OpenInvariant e copy js
+kept_pending d e p copy js q k =
+    subst (λ (f : Seen). OpenInvariant f copy js) (sym q) (record { legal = k.legal; copied = queued_copied d p copy k.copied; jobs_stand = queued_stand d p js k.jobs_stand })
+
 -- with more jobs that stand
 pub kept_more : (d e : Seen) (copy : Option (List (Ty × Value))) (js ks : List HandedOut) → e ≡ record d { pending = e.pending } → JobsStand d ks → OpenInvariant d copy js → OpenInvariant e copy (js ++ ks)
 kept_more d e copy js ks q s k = kept_queued d e copy (js ++ ks) q (record { legal = k.legal; copied = k.copied; jobs_stand = stand_append d js ks k.jobs_stand s })
