@@ -5,6 +5,7 @@ import pathlib
 import transcript
 
 HERE = pathlib.Path(__file__).resolve().parent
+HEADER = b'{"format":1,"vars":'  # how the text of a history begins
 EXAMPLE = "the_example_of_a_history.case"  # it stands in docs/HISTORY.md; its variable has line 2, its events lines 3 to 8
 
 # Of the example: the line, what stands there, what takes its place (all of it, where nothing is named), and the answer.
@@ -120,8 +121,11 @@ def judge_history(program, case):
     asking = transcript.Case(case.name, case.words)
     asking.text = case.text + (b"" if case.text.endswith(b"\n") else b"\n") + b"history\n"
     printed = transcript.run(program, asking).stdout
-    text = printed[printed.rindex(b'{"format":1,"vars":') :]
-    variables = int(text[len(b'{"format":1,"vars":') :].split(b"}")[0])
+    begun = printed.rfind(HEADER)
+    if begun < 0:
+        return f"no history is printed, but {printed[-200:]!r}"
+    text = printed[begun:]
+    variables = int(text[len(HEADER) :].split(b"}")[0])
     events = text.count(b"\n") - 1 - variables
     return transcript.judged(program, asked(text, f"legal {events} events"))
 
