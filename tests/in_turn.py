@@ -1,8 +1,10 @@
 """Each answer is written before the next line is read: over pipes, a line is written only when the answer to the one before
 it has come. Where only the end of the input is answered, the pipe is closed behind the last line. Nothing rests on time;
-what waits for ever is ended after a minute, and that is a failure."""
+what waits for ever is ended after a minute, and that is a failure. And each answer that a case says ends where
+docs/CONSOLE.md tells clients that it does."""
 
 import os
+import re
 import subprocess
 import threading
 
@@ -78,7 +80,32 @@ def judge(program, case):
     return said or (f"status {status}, not {case.status}" if status != case.status else None)
 
 
+def length(lines):
+    """How many lines the answer has with which these lines begin, by the rule that docs/CONSOLE.md gives to clients."""
+    for front, last in (rb"#|cells ", b"cells "), (rb"\d|waiting ", b"waiting "):
+        if re.match(front, lines[0]):
+            return next(n for n, line in enumerate(lines, 1) if line.startswith(last))
+    if lines[0].startswith(b"{"):
+        return next((n for n, line in enumerate(lines) if not line.startswith(b"{")), len(lines))
+    return 1
+
+
+def judge_ends(case):
+    """None, or the line whose answer doesn't end where the rule says."""
+    left = case.printed.splitlines(keepends=True)
+    for number, (line, answer) in enumerate(case.steps, 1):
+        line = re.sub(rb"\r?\n$", b"", line)
+        is_silent = len(line) <= 65536 and (line.startswith(b"--") or not line.strip(b"\t\r "))
+        taken = 0 if is_silent else length(left)
+        if b"".join(left[:taken]) != answer:
+            return f"the answer to line {number} doesn't end where docs/CONSOLE.md says"
+        left = left[taken:]
+    return None
+
+
 def judged(program, cases):
     for case in cases:
         if case.steps and case.status == 0:
             yield f"{case.name}, line by line", judge(program, case)
+        if case.is_small_run() and case.goes_by_lines():
+            yield f"{case.name}, where each answer ends", judge_ends(case)
