@@ -4,24 +4,15 @@ import re
 
 import transcript
 
-COMMANDS = [
-    r"  tvar NAME : TYPE = INIT( .*)?",
-    r"  try BLOCK( .*)?",
-    r"  looks BLOCK( .*)?",
-    r"  submit BLOCK( .*)?",
-    r"  take N( .*)?",
-    r"  deliver J( .*)?",
-    r"  handback T( .*)?",
-    r"  eval( .*)?",
-    r"  finish T( .*)?",
-    r"  cancel T( .*)?",
-    r"  show( .*)?",
-    r"  reads T( .*)?",
-    r"  store( .*)?",
-    r"  settle( .*)?",
-    r"  history( .*)?",
-]
+ARGUMENTS = {  # of each command of the console
+    **{"tvar": "NAME : TYPE = INIT", "try": "BLOCK", "looks": "BLOCK", "submit": "BLOCK", "take": "N", "deliver": "J"},
+    **{"handback": "T", "eval": "", "finish": "T", "cancel": "T", "show": "", "reads": "T", "store": "", "settle": ""},
+    "history": "",
+}
+COMMANDS = [rf"  {word} ?{argument}( .*)?" for word, argument in ARGUMENTS.items()]
 HELP = [r"Usage: stmdesk \[COMMAND\]", r"Commands:", r"  run +.*", r"  check +.*", r"  help +.*", r"  -h, --help +.*"]
+EXAMPLE_IN_HELP = rf" {{4,}}(({'|'.join(ARGUMENTS)})( .*)?)"
+REFUSED_ALONE = ["NotOut", "NotEvaluated", "Stale", "Blocks", "NoTicket", "NoJob", "Already"]  # what an example may be
 HELP_OF_RUN = [r"Usage: stmdesk run .*", r" +--workers .*", r" +--levels .*", r" +--max-events .*", *COMMANDS]
 HELP_OF_CHECK = [r"Usage: stmdesk check.*", r".*histor.*"]
 FORMS_OF_HELP = [["--help"], ["-h"], ["help"]]
@@ -80,6 +71,20 @@ def judge_help(program, words, patterns):
     return lacks(patterns, done.stdout)
 
 
+def judge_examples(program, words):
+    """The help has an example of each command, and the program knows what each of them asks for."""
+    printed = transcript.run(program, of(words)).stdout.decode()
+    examples = [found for found in (re.fullmatch(EXAMPLE_IN_HELP, line) for line in printed.splitlines()) if found]
+    missing = set(ARGUMENTS) - {found[2] for found in examples}
+    if missing:
+        return f"no example of {missing}"
+    case = transcript.Case(f"words {words}")
+    case.text = "".join(found[1] + "\n" for found in examples).encode()
+    answers = transcript.run(program, case).stdout.decode().splitlines()
+    refused = [answer for answer in answers if answer.startswith("refused") and answer[8:] not in REFUSED_ALONE]
+    return f"an example is {refused[0]}" if refused else None
+
+
 def judge_refused(program, words):
     done = transcript.run(program, of(words))
     if (done.returncode, done.stdout, done.taken) != (2, b"", 0) or not done.stderr.startswith(b"error: "):
@@ -106,12 +111,13 @@ def judged(program, cases):
     for words in REFUSED:
         yield f"words {words}", judge_refused(program, words)
     for forms, patterns in (
-        (FORMS_OF_HELP, HELP + COMMANDS),
+        (FORMS_OF_HELP, HELP),
         (FORMS_OF_HELP_OF_RUN, HELP_OF_RUN),
         (FORMS_OF_HELP_OF_CHECK, HELP_OF_CHECK),
     ):
         for words in forms:
             yield f"words {words}", judge_help(program, words, patterns)
+    yield f"words {FORMS_OF_HELP_OF_RUN[0]}, the examples", judge_examples(program, FORMS_OF_HELP_OF_RUN[0])
     for case in cases:
         if case.is_small_run():
             for options in VARIED:
