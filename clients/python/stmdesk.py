@@ -214,7 +214,7 @@ class BadAnswer(DeskError):
         return f"{self.line[:80]!r} was answered {self.answer[:200]!r}"
 
 
-# How the texts of docs/CONSOLE.md are read. Each of these raises ValueError or IndexError on other texts.
+# How the texts of docs/CONSOLE.md are read: on other texts each of these raises ValueError or IndexError.
 
 
 def value_of(text: str) -> Value:
@@ -278,8 +278,12 @@ def finish_of(words: Sequence[str]) -> Finished | FinishedThrows:
 
 
 def settled_of(words: Sequence[str]) -> Settled:
-    """The counts of the words `settled 1 evaluations 2`."""
-    return Settled(int(words[words.index("settled") + 1]), int(words[words.index("evaluations") + 1]))
+    """The counts of the words `settled 1 evaluations 2`. Raises `Stopped` where they stand behind `stopped HistoryFull`."""
+    if words[0] == "stopped":
+        raise Stopped(words[1], settled_of(words[2:]))
+    if [words[0], words[2]] != ["settled", "evaluations"]:
+        raise ValueError("no counts")
+    return Settled(int(words[1]), int(words[3]))
 
 
 CELL = re.compile(r"#(\d+) (?:(\S+) )?: (.+) = (\S+) count (\d+)")
@@ -325,6 +329,11 @@ def refusal_of(words: Sequence[str]) -> Refused:
     if words[2].startswith("#"):
         return Refused(words[1], variable=Ref(int(words[2][1:])))
     return Refused(words[1], place=int(words[2]))
+
+
+def decimal(number: int) -> str:
+    """The text of a number as an argument. Raises TypeError where it is none."""
+    return str(index(number))
 
 
 def second(words: Sequence[str]) -> int:
@@ -375,7 +384,7 @@ class Desk:
         first call raises `Ended`.
         """
         given = {"--workers": workers, "--levels": levels, "--max-events": max_events}
-        options = [word for name, value in given.items() if value is not None for word in (name, str(index(value)))]
+        options = [word for name, value in given.items() if value is not None for word in (name, decimal(value))]
         self._patience = patience
         self._calls = threading.Lock()
         self._is_closed = False
@@ -397,43 +406,43 @@ class Desk:
 
     def tvar(self, declaration: str) -> Ref:
         """Declares a variable, as `x : Int = 1`; before all other commands."""
-        return self._one("tvar", declaration, tvar_of)
+        return self._one("tvar", "tvar", tvar_of, declaration)
 
     def try_(self, block: str) -> Verdict:
         """What the block would do on the present store, which stays as it is. (`try` is a word of Python.)"""
-        return self._one("try", block, verdict_of)
+        return self._one("try", None, verdict_of, block)
 
     def looks(self, block: str) -> dict[Ref, Value]:
         """What the block would read of the present store, rising, with the values."""
-        return self._one("looks", block, reads_of)
+        return self._one("looks", "reads", reads_of, block)
 
     def submit(self, block: str) -> int:
         """Lets the block wait. Returns its ticket."""
-        return self._one("submit", block, second)
+        return self._one("submit", "ticket", second, block)
 
     def take(self, count: int) -> list[Job]:
         """Takes the `count` lowest queued tickets, or all there are, to be evaluated on the present store."""
-        return self._one("take", index(count), jobs_of)
+        return self._one("take", "jobs", jobs_of, decimal(count))
 
     def deliver(self, job: Job | int) -> int:
         """Evaluates a job, or that of this number, on the store of its `take`, and delivers it. Returns its ticket."""
-        return self._one("deliver", job.number if isinstance(job, Job) else index(job), second)
+        return self._one("deliver", "delivered", second, decimal(job.number if isinstance(job, Job) else job))
 
     def handback(self, ticket: int) -> None:
         """Queues a ticket that was taken."""
-        self._one("handback", index(ticket), second)
+        self._one("handback", "queued", second, decimal(ticket))
 
     def eval(self) -> int:
         """Evaluates and delivers all queued tickets. Returns how many there were."""
-        return self._one("eval", None, second)
+        return self._one("eval", "evaluated", second)
 
     def finish(self, ticket: int) -> Finished | FinishedThrows:
         """Finishes a block that is current and doesn't block: what it was found to do is done."""
-        return self._one("finish", index(ticket), finish_of)
+        return self._one("finish", "finished", finish_of, decimal(ticket))
 
     def cancel(self, ticket: int) -> None:
         """Takes a waiting block away."""
-        self._one("cancel", index(ticket), second)
+        self._one("cancel", "cancelled", second, decimal(ticket))
 
     def show(self) -> list[Status]:
         """How each waiting block stands, rising by ticket."""
@@ -441,7 +450,7 @@ class Desk:
 
     def reads(self, ticket: int) -> dict[Ref, Value]:
         """What the last evaluation of a waiting block read, rising, with the values of then."""
-        return self._one("reads", index(ticket), reads_of)
+        return self._one("reads", "reads", reads_of, decimal(ticket))
 
     def store(self) -> list[Cell]:
         """All variables, rising."""
@@ -489,11 +498,14 @@ class Desk:
 
     def _await_end(self) -> Ended:
         """Ends the program's input, and the program where it doesn't end by itself. Returns how it ended."""
-        with suppress(OSError):
-            self._pipe_in.close()
-        with suppress(subprocess.TimeoutExpired):
-            self._process.wait(self._patience)
-        return self._kill()
+        try:
+            with suppress(OSError):
+                self._pipe_in.close()
+            with suppress(subprocess.TimeoutExpired):
+                self._process.wait(self._patience)
+        finally:
+            end = self._kill()
+        return end
 
     def _kill(self) -> Ended:
         """Ends the program where it still runs, waits for it and closes its files. Returns how it ended."""
@@ -522,24 +534,29 @@ class Desk:
         assert self._process.stdout
         return self._process.stdout
 
-    def _one(self, word: str, argument: str | int | None, read: Callable[[list[str]], Answer]) -> Answer:
-        """Gives a command that is answered by one line. `read` gets its words."""
-        line = word if argument is None else f"{word} {argument}"
+    def _one(self, word: str, told: str | None, read: Callable[[list[str]], Answer], *argument: str) -> Answer:
+        """Gives a command that is answered by one line, which begins with `told`. `read` gets its words."""
+        line = " ".join([word, *argument])  # raises TypeError where the argument is no text
         if "\n" in line or "\r" in line:
             raise ValueError(f"no single line: {line[:80]!r}")
-        return self._ask(line, lambda: [self._line()], lambda lines: read(lines[-1].split(" ")))
+
+        def read_words(lines: list[str]) -> Answer:
+            words = lines[0].split(" ")
+            if told not in (None, words[0]):
+                raise ValueError("the answer to another command")
+            return read(words)
+
+        return self._ask(line, lambda: [self._line()], read_words)
 
     def _ask(self, line: str, take: Callable[[], list[str]], read: Callable[[list[str]], Answer]) -> Answer:
         """Writes a line, takes all lines of its answer, and returns what they say."""
         text = (line + "\n").encode()
         with self._calls:
             lines = self._exchange(text, take)
-        words = lines[0].split(" ") if lines else [""]
+        words = lines[0].split(" ")
         try:
             if words[0] == "refused":
                 raise refusal_of(words)
-            if words[0] == "stopped":
-                raise Stopped(words[1], settled_of(words))
             return read(lines)
         except (ValueError, LookupError):
             self._kill()

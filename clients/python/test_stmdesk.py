@@ -22,8 +22,8 @@ sys.dont_write_bytecode = True
 
 import stmdesk
 from stmdesk import (
-    BadAnswer, Blocks, Cell, Commits, Current, Desk, Ended, Finished, FinishedThrows, Job, New, NewRef, Ref, Refused, Settled,
-    Stale, Stopped, Throws,
+    BadAnswer, Blocks, Cell, Commits, Current, Desk, Ended, Finished, FinishedThrows, Job, New, NewRef, Ref, Refused,
+    Settled, Stale, Stopped, Throws,
 )  # fmt: skip
 
 HERE = pathlib.Path(__file__).resolve().parent
@@ -110,7 +110,8 @@ class Answers(OnProgram):
         self.assert_is(desk.try_("return (1 == 1)"), Commits({}, [], True))
         self.assert_is(desk.try_("return (-7)"), Commits({}, [], -7))
         self.assert_is(desk.try_("return x"), Commits({}, [], X))
-        self.assert_is(desk.try_("do { r <- newTVar True; s <- newTVar r; return s }"), Commits({}, [True, NewRef(0)], NewRef(1)))
+        makes_two = "do { r <- newTVar True; s <- newTVar r; return s }"
+        self.assert_is(desk.try_(makes_two), Commits({}, [True, NewRef(0)], NewRef(1)))
         self.assert_is(desk.try_("do { writeTVar x 5; throw (-4) }"), Throws(-4))
         self.assert_is(desk.try_("return (9223372036854775807 + 1)"), Throws("overflow"))
         self.assert_is(desk.try_("retry"), Blocks())
@@ -211,7 +212,8 @@ HISTORY = """\
 {"block":"writeTVar x 5","client":0,"event":"submitted","ticket":2}
 {"client":0,"event":"installed","ticket":1,"verdict":{"commits":{"news":[],"result":1,"writes":[]}}}
 {"client":0,"event":"installed","ticket":2,"verdict":{"commits":{"news":[],"result":null,"writes":[[0,5]]}}}
-{"client":0,"event":"finished","first_new":1,"stale":[1],"ticket":2,"verdict":{"commits":{"news":[],"result":null,"writes":[[0,5]]}}}
+{"client":0,"event":"finished","first_new":1,"stale":[1],"ticket":2,"verdict":\
+{"commits":{"news":[],"result":null,"writes":[[0,5]]}}}
 {"client":0,"event":"cancelled","ticket":1}
 """
 
@@ -370,6 +372,10 @@ class Lines(OnProgram):
             for wrong in ("1\nsubmit retry", 1.0, None):
                 with self.assertRaises(TypeError):
                     call(wrong)
+        for call in (desk.tvar, desk.try_, desk.looks, desk.submit):
+            for wrong in (b"retry", 1, None):
+                with self.assertRaises(TypeError):
+                    call(wrong)
         self.assert_is(desk.submit("retry"), 1)
 
     def test_blanks_in_an_argument_change_nothing(self):
@@ -509,9 +515,23 @@ class Ends(OnProgram):
                     desk.submit("retry")
         self.assert_gone(desk.pid)
 
+    def test_an_end_that_is_broken_off(self):
+        def interrupt(number, frame):
+            raise KeyboardInterrupt
+
+        signal.signal(signal.SIGALRM, interrupt)
+        path = self.stand_in("sleep 1000")
+        with self.assertRaises(KeyboardInterrupt), Desk(path) as desk:
+            signal.setitimer(signal.ITIMER_REAL, 0.2)
+        self.assert_gone(desk.pid)
+
     def test_answers_that_no_stmdesk_gives(self):
         calls = {
             "nothing": lambda desk: desk.submit("retry"),
+            "queued 1": lambda desk: desk.submit("retry"),
+            "jobs 1": lambda desk: desk.take(1),
+            "stopped HistoryFull": lambda desk: desk.settle(),
+            "stopped HistoryFull settled 1 evaluations 2": lambda desk: desk.eval(),
             "ticket": lambda desk: desk.submit("retry"),
             "ticket x": lambda desk: desk.submit("retry"),
             "refused X y": lambda desk: desk.submit("retry"),
