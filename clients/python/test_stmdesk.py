@@ -500,6 +500,15 @@ class Ends(OnProgram):
         self.assertLess(time.monotonic() - before, 10)
         self.assert_gone(desk.pid)
 
+    def test_what_the_program_started_ends_with_it(self):
+        path = self.stand_in("read line", "sleep 1000 &", "echo ticket $!", "wait")
+        with self.assertRaises(ZeroDivisionError), Desk(path) as desk:
+            child = desk.submit("retry")
+            raise ZeroDivisionError
+        state = pathlib.Path(f"/proc/{child}/stat")
+        while state.exists() and state.read_text().split()[2] != "Z":  # one that init has yet to wait for is Z
+            time.sleep(0.01)
+
     def test_a_call_that_is_broken_off(self):
         def interrupt(number, frame):
             raise KeyboardInterrupt
