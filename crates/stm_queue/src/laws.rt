@@ -1,4 +1,4 @@
-//! What each change of the list does to who is queued or out, as laws of the definitions: the body of each function is empty.
+//! What each change of the list does to who is there, as laws of the definitions: the body of each function is empty.
 
 ghost use Rattle.stm_queue.specs.Laws.{AddedAreThere, RemovedAreGone, MarksKeepTickets, SendingKeepsTickets, RecallKeepsTickets, QueuedAreThere};
 

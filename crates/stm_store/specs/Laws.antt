@@ -26,7 +26,8 @@ UnwrittenStay =
 
 -- a verdict that fits means the same variable by variable
 abbrev pub FittingAreApplied : Type 0
-FittingAreApplied = (cells : List Cell) (verdict : Verdict) → Fits (plains cells) verdict → IsApplied cells verdict (applied cells verdict)
+FittingAreApplied =
+    (cells : List Cell) (verdict : Verdict) → Fits (plains cells) verdict → IsApplied cells verdict (applied cells verdict)
 
 -- it keeps a store well typed
 abbrev pub FittingKeepTypes : Type 0

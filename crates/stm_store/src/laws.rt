@@ -1,4 +1,4 @@
-//! What applying a verdict keeps, as laws of the definitions: each function's contract is one or more, and its body is empty.
+//! What applying a verdict keeps, as laws of the definitions: the body of each function is empty.
 
 ghost use Rattle.stm_store.specs.Laws.{TypesStay, CoveredStay, UnwrittenStay, FittingAreApplied, FittingKeepTypes, FittingKeepStores, OpenedAreDeclared};
 
