@@ -1,2 +1,4 @@
 mod Answered
 pub mod Crosses
+mod OneJob
+mod Owns
