@@ -2,3 +2,4 @@ mod Answered
 pub mod Crosses
 mod OneJob
 mod Owns
+mod Works

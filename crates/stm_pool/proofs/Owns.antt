@@ -1,7 +1,7 @@
 -- A client's list one event longer.
 use Rattle.std.proofs.Common.{◌≡◌, ℕ, ◌+◌, List, [], ◌∷◌, ◌++◌, length, Bool, true, false, ◌&&◌, refl, ap, ◌∙◌, arith, eq-eqb, length-append}
 use Rattle.stm_history.specs.declared.event.Event.{Event}
-use Rattle.stm_pool.specs.Own.{Known, are_of, counted}
+use Rattle.stm_pool.specs.Own.{Known, are_of, events_in_passes}
 
 and_true : (a b : Bool) → (a && b) ≡ true → (a ≡ true) × (b ≡ true)
 and_true true b e = (refl, e)
@@ -22,6 +22,6 @@ more_of client own now e is all by = (
   ap (are_of client) is ∙ are_of-push client own e all by,
 )
 
-pub counted-push : (ps : List Known) (p : Known) → counted (ps ++ p ∷ []) ≡ counted ps + length p.own
-counted-push [] p = omega arith
-counted-push (x ∷ ps) p = omega (arith, counted-push ps p)
+pub events-push : (ps : List Known) (p : Known) → events_in_passes (ps ++ p ∷ []) ≡ events_in_passes ps + length p.own
+events-push [] p = omega arith
+events-push (x ∷ ps) p = omega (arith, counted-push ps p)

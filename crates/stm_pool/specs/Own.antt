@@ -19,9 +19,9 @@ are_of client [] = true
 are_of client (e ∷ es) = (e.client == client) && are_of client es
 
 -- the numbers of the passes' events, added up
-abbrev pub counted : List Known → ℕ
-counted [] = 0
-counted (p ∷ ps) = length p.own + counted ps
+abbrev pub events_in_passes : List Known → ℕ
+events_in_passes [] = 0
+events_in_passes (p ∷ ps) = length p.own + events_in_passes ps
 
 -- a client who has done and seen nothing
 abbrev pub newcomer : ℕ → Known
@@ -36,6 +36,6 @@ abbrev pub having_seen : Known → ℕ → Known
 having_seen k n = record k { seen = n }
 
 -- the pass is client c's, and has its events in the history
-pub record Agrees (history : List Event) (c : ℕ) (k : Known) : Type 0 where
+pub record IsPassOf (history : List Event) (c : ℕ) (k : Known) : Type 0 where
   pub client : k.client ≡ c
   pub events : own_of c history ≡ k.own

@@ -11,7 +11,7 @@ ghost use Rattle.stm_history.specs.Refusals.{submit_told, cancel_told, finish_to
 ghost use Rattle.stm_queue.specs.Queue.{is_out, marked, first_queued, sent_out};
 ghost use Rattle.stm_desk.specs.Seen.{now, with_event};
 ghost use Rattle.stm_desk.specs.Refusals.{submit_refusal, cancel_refusal, finish_refusal, TellsDeskDelivery, left_by};
-ghost use Rattle.stm_pool.specs.Own.{own_of, with_own, having_seen, Agrees};
+ghost use Rattle.stm_pool.specs.Own.{own_of, with_own, having_seen, IsPassOf};
 
 use crate::errors::{CloseError, ViewError};
 use crate::pass::{Pass, is_own};
@@ -206,7 +206,7 @@ impl<L: Ledger> Guarded<L> {
 
     /// Whether these are so many passes, in the order of their clients, and each has its client's events.
     pub fn agrees(&self, passes: &[Pass<L>], count: u32) -> Result<(), CloseError>
-        ensures ok { OnOk result ((length passes.now ≡ count) × ((k : ℕ) (d : _) → k < count → Agrees self.now.desk.history k (slice_index_or passes.now k d))) }
+        ensures ok { OnOk result ((length passes.now ≡ count) × ((k : ℕ) (d : _) → k < count → IsPassOf self.now.desk.history k (slice_index_or passes.now k d))) }
         ensures missing { result ≡ Err CloseError.PassMissing → length passes.now ≡ count → (k : ℕ) × (k < count) × ((d : _) → (slice_index_or passes.now k d).client ≢ k) }
         ensures differs { (c : ℕ) → result ≡ Err (CloseError.Differs c) → (c < length passes.now) × ((d : _) → own_of c self.now.desk.history ≢ (slice_index_or passes.now c d).own) }
     {
