@@ -24,4 +24,4 @@ more_of client own now e is all by = (
 
 pub events-push : (ps : List Known) (p : Known) → events_in_passes (ps ++ p ∷ []) ≡ events_in_passes ps + length p.own
 events-push [] p = omega arith
-events-push (x ∷ ps) p = omega (arith, counted-push ps p)
+events-push (x ∷ ps) p = omega (arith, events-push ps p)

@@ -107,11 +107,9 @@ impl<L: Ledger> SharedDesk<L> {
     pub fn next_job<R: Wait>(&self, rt: &R) -> Result<Next, NoMemory>
         ensures { IfOk result (λ n. IsFound n) }
     {
-        let mut guard = self.changed.wait_while(
-            rt,
-            self.lock.lock(rt),
-            |g| !g.stopped && !g.has_queued(),
-        );
+        let mut guard = self
+            .changed
+            .wait_while(rt, self.lock.lock(rt), |g| !g.stopped && !g.has_queued());
         if guard.stopped {
             return Ok(Next::Stopped);
         }
