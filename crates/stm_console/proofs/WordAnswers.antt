@@ -1,15 +1,15 @@
 -- What clap answers to words.
-use Rattle.std.proofs.Common.{◌≡◌, ◌≤◌, ℕ, Bool, true, false, List, [], ◌∷◌, ◌++◌, ◌&&◌, inl, inr, codes, refl, ap, sym, ◌∙◌, subst, cond, arith, Option, Some, None}
-use Rattle.std.specs.Prelude.{Ok, Err, option_and_then}
+use Rattle.std.proofs.Common.{bytes_eq, ◌≡◌, ◌≤◌, ℕ, Bool, true, false, List, [], ◌∷◌, ◌++◌, ◌&&◌, inl, inr, codes, refl, ap, sym, ◌∙◌, subst, cond, arith, Option, Some, None}
+use Rattle.std.specs.Prelude.{Ok, Err, nat_le, option_and_then}
 use Rattle.std.specs.Str.Parse.{ParsesUnsigned, digits_value, without_leading_plus}
 use Rattle.clap.specs.Matches.{ReadsOne, one_text}
 use Rattle.clap.specs.ValueTests.{is_unsigned_in}
-use Rattle.clap.specs.Walk.{one_of, rows_of}
+use Rattle.clap.specs.Walk.{Row, one_of, rows_of}
 use Rattle.clap.specs.declared.builder.value_parser.ValueParser.TheVariants.{Unsigned}
 use Rattle.clap.specs.declared.parser.matches.Found.{Found}
 use Rattle.clap.proofs.ValueTestLemmas.{accepts-Accepts, Accepts-accepts}
 use Rattle.clap.proofs.WalkLemmas.{one_text-rows}
-use Rattle.std.proofs.lemmas.Bool.{false≢true}
+use Rattle.std.proofs.lemmas.Bool.{false≢true, leb-true}
 use Rattle.std.specs.List.{list_all}
 use Rattle.std.proofs.lemmas.Slice.Eq.{bytes_eq-Decides}
 use Rattle.clap.specs.Words.{App, Kinds, FailsBy, HasKind, HasMatchesOf, IsAmong, fault_of, is_simple, is_simple_and_free, subcommand_of, subcommand_rows_of}
@@ -19,10 +19,10 @@ use Rattle.clap.specs.declared.error.Error.{Error}
 use Rattle.clap.specs.declared.error.kind.ErrorKind.{ErrorKind}
 use Rattle.clap.proofs.OnLiterals.{clap_on_literals}
 use Rattle.std.specs.Prelude.{Result}
-use Rattle.stm_console.specs.CommandLine.{answers_of, are_mistakes, asks_for_run, command_line, is_mistake, number_of_text, request_of, request_said}
-use Rattle.stm_console.specs.Options.{default_options}
+use Rattle.stm_console.specs.CommandLine.{answers_of, are_mistakes, asks_for_run, command_line, is_mistake, number_of_text, number_within, options_said, request_of, request_said, IfRun}
+use Rattle.stm_console.specs.Options.{AreInRange, default_options}
 use Rattle.stm_console.specs.declared.command_line.Request.{Request}
-use Rattle.stm_console.specs.declared.command_line.Request.TheVariants.{Run}
+use Rattle.stm_console.specs.declared.command_line.Request.TheVariants.{Run, Check}
 
 -- clap's answers to any words are exact
 exact : is_simple_and_free command_line ≡ true
@@ -134,3 +134,60 @@ number_read {E = E} gives f name r parses none some = go (one_of name (rows_of f
     go None r is none some = none is
     go (Some text) (Some x) is none some = read_number E text x (parses text (Ok x) (some text is))
     go (Some text) None is none some = let failed = some text is in unread_number E text failed.0 (parses text (Err failed.0) failed.1)
+
+-- ---- the options of a run
+
+within : (low high otherwise : ℕ) (o : Option ℕ) → low ≤ otherwise → otherwise ≤ high
+    → (low ≤ number_within low high otherwise o) × (number_within low high otherwise o ≤ high)
+within low high otherwise None least most = (least, most)
+within low high otherwise (Some n) least most = go (nat_le low n) (nat_le n high) refl refl
+  where
+    go : (a b : Bool) → a ≡ nat_le low n → b ≡ nat_le n high → (low ≤ cond (a && b) n otherwise) × (cond (a && b) n otherwise ≤ high)
+    go false b above below = (least, most)
+    go true false above below = (least, most)
+    go true true above below = (leb-true low n (sym above), leb-true n high (sym below))
+
+abbrev number : List ℕ → List Row → Option ℕ
+number name rows = option_and_then number_of_text (one_of name rows)
+
+said_in_range : (rows : List Row) → AreInRange (options_said rows)
+said_in_range rows = record {
+  some_worker = (within 1 64 2 (number (codes "workers") rows) (omega arith) (omega arith)).0;
+  few_workers = (within 1 64 2 (number (codes "workers") rows) (omega arith) (omega arith)).1;
+  few_levels = (within 0 8 0 (number (codes "levels") rows) (omega arith) (omega arith)).1;
+  few_events = (within 0 1048576 1048576 (number (codes "max-events") rows) (omega arith) (omega arith)).1;
+}
+
+default_in_range : AreInRange default_options
+default_in_range = record {
+  some_worker = omega arith;
+  few_workers = omega arith;
+  few_levels = omega arith;
+  few_events = omega arith;
+}
+
+subcommand_in_range : (name : List ℕ) (rows : List Row) → IfRun (request_said (Some (name, rows))) AreInRange
+subcommand_in_range name rows = go (bytes_eq name (codes "check"))
+  where
+    go : (b : Bool) → IfRun (cond b Check (Run (options_said rows))) AreInRange
+    go true = tt
+    go false = said_in_range rows
+
+in_range : (p : Option (List ℕ × List Row)) → IfRun (request_said p) AreInRange
+in_range None = default_in_range
+in_range (Some p) = subcommand_in_range p.0 p.1
+
+-- whatever the words are
+pub options_in_range : (words : List (List ℕ)) → IfRun (request_of words) AreInRange
+unfolding request_of
+options_in_range words = in_range (subcommand_of command_line words)
+
+-- ---- `check`
+
+pub check_unanswered : (name : List ℕ) → answers_of (name ∷ codes "check" ∷ []) ≡ []
+unfolding answers_of clap_on_literals
+check_unanswered name = refl
+
+pub check_requested : (name : List ℕ) → request_of (name ∷ codes "check" ∷ []) ≡ Check
+unfolding request_of clap_on_literals
+check_requested name = refl

@@ -52,12 +52,7 @@ fn judge<R: Read>(alloc: Global, reader: &mut R) -> Result<Finding, RunFault>
 }
 
 /// Appends a word, a number and what follows it.
-fn write_counted(
-    before: &str,
-    number: u32,
-    after: &str,
-    out: &mut String,
-) -> Result<(), NoMemory>
+fn write_counted(before: &str, number: u32, after: &str, out: &mut String) -> Result<(), NoMemory>
     ensures { OnOk result (string_bytes out.new ≡ string_bytes out.old ++ before.now ++ decimal number ++ after.now) }
 {
     out.push_str(before)?;

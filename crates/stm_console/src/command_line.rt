@@ -20,14 +20,14 @@ pub enum Request {
     Check,
 }
 
-const ABOUT: &str = "A scheduler for memory transactions: blocks of code wait under tickets, a change of what they read \
+const ABOUT: &str =
+    "A scheduler for memory transactions: blocks of code wait under tickets, a change of what they read \
 makes them stale, and each takes effect at once and whole, or not at all";
 
 const RUN: &str =
     "Reads commands from standard input, one a line, and answers each on standard output (as without a command)";
 
-const CHECK: &str =
-    "Reads a history from standard input, and says whether it is legal";
+const CHECK: &str = "Reads a history from standard input, and says whether it is legal";
 
 const NEXT: &str = "\
 Without a command stmdesk reads commands from standard input, as `stmdesk run` does:
@@ -143,7 +143,14 @@ fn run_words<'a>(alloc: Global) -> Result<Command<'a>, AllocError>
 {
     let workers = number_option(alloc, "workers", 1, Options::MAX_WORKERS, "2", WORKERS);
     let levels = number_option(alloc, "levels", 0, Options::MAX_LEVELS, "0", LEVELS);
-    let max_events = number_option(alloc, "max-events", 0, Options::MAX_EVENTS, "1048576", MAX_EVENTS);
+    let max_events = number_option(
+        alloc,
+        "max-events",
+        0,
+        Options::MAX_EVENTS,
+        "1048576",
+        MAX_EVENTS,
+    );
     Command::new(alloc, "run")
         .about(RUN)
         .after_help(COMMANDS)
@@ -205,9 +212,21 @@ fn options_of(matches: &ArgMatches) -> Options
 {
     let otherwise = Options::standard();
     Options {
-        workers: number_of(matches, "workers", 1, Options::MAX_WORKERS, otherwise.workers),
+        workers: number_of(
+            matches,
+            "workers",
+            1,
+            Options::MAX_WORKERS,
+            otherwise.workers,
+        ),
         levels: number_of(matches, "levels", 0, Options::MAX_LEVELS, otherwise.levels),
-        max_events: number_of(matches, "max-events", 0, Options::MAX_EVENTS, otherwise.max_events),
+        max_events: number_of(
+            matches,
+            "max-events",
+            0,
+            Options::MAX_EVENTS,
+            otherwise.max_events,
+        ),
     }
 }
 

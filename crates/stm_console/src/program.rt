@@ -47,6 +47,7 @@ fn tell_fault<E: Write>(fault: RunFault, errors: &mut E) -> u8
 /// Tells help on the writer, or what is wrong with the words on `errors`, and answers the status.
 fn tell_words<W: Write, E: Write>(error: &Error, writer: &mut W, errors: &mut E) -> u8
     ensures status { IsStatus result }
+    ensures unjudged { result ≢ 3 }
     ensures refused { result ≡ 2 → Keeps (W.contents writer.old) (W.contents writer.new) }
     ensures mistake { IsTrue (is_mistake (kind_of error.now)) → ((result ≡ 2) ⊎ (result ≡ 4))
         × Keeps (W.contents writer.old) (W.contents writer.new) }
@@ -105,10 +106,12 @@ pub fn start<'a, S: AsStr, R: Read, W: Write, E: Write>(
     ensures status { IsStatus result }
     // Words of which there is nothing to tell are those of a run or a check, as the name alone, and aren't refused.
     ensures runs { answers_of (map S.text words.now) ≡ [] → result ≢ 2 }
-    // A run has options in their ranges. With status 0 the whole text of the input was written.
+    // A run has options in their ranges.
+    ensures options { IfRun (request_of (map S.text words.now)) AreInRange }
+    // With status 0 the whole text of the input was written.
     ensures answered { answers_of (map S.text words.now) ≡ [] → IfRun (request_of (map S.text words.now)) (λ o.
-        AreInRange o × (result ≡ 0 → IfSome (R.remaining reader.old) (λ input.
-        Appends (W.contents writer.old) (W.contents writer.new) (console_text o.max_events input)))) }
+        result ≡ 0 → IfSome (R.remaining reader.old) (λ input.
+        Appends (W.contents writer.old) (W.contents writer.new) (console_text o.max_events input))) }
     // With any other it is a prefix of the text.
     ensures part { answers_of (map S.text words.now) ≡ [] → IfRun (request_of (map S.text words.now)) (λ o.
         result ≢ 0 → IfSome (R.remaining reader.old) (λ input.
