@@ -66,7 +66,7 @@ same_types t u e =
     let q : t.refs ≡ u.refs = eqb-true t.refs u.refs h.1 in
     λ i. record { base = p i; refs = q i }
 
-same_kind : (o : Option Ty) (t : Ty) → is_type o t ≡ true → o ≡ Some t
+pub same_kind : (o : Option Ty) (t : Ty) → is_type o t ≡ true → o ≡ Some t
 same_kind (Some u) t e = ap Some (same_types u t e)
 same_kind None t e = absurd (false≢true e)
 

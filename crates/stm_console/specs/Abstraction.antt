@@ -1,10 +1,6 @@
 -- What the code's judgements, values and answers are to the definitions.
-use Rattle.std.specs.Prelude.{◌≡◌, ℕ, List, [], ◌∷◌, ◌++◌, Option, Some, None, Result, Ok, Err, length, IsTrue, codes}
+use Rattle.std.specs.Prelude.{◌≡◌, ℕ, List, [], ◌∷◌, ◌++◌, Option, Some, None, Result, Ok, Err, length, IsTrue}
 use Rattle.stm_store.specs.Tables.{Declared}
-use Rattle.stm_console.specs.declared.command.Command.{Command}
-use Rattle.stm_console.specs.declared.command.Command.TheVariants.{History}
-use Rattle.stm_console.specs.Console.{desk_answer}
-use Rattle.stm_console.specs.OpenDesk.{OpenDesk}
 use Rattle.stm_console.specs.LineClass.{LineClass, TooLong, Silent, NotAscii, Words}
 use Rattle.stm_console.specs.declared.console.Console.{Console}
 use Rattle.stm_console.specs.declared.console.Console.TheVariants.{Declaring, Open}
@@ -13,7 +9,7 @@ use Rattle.stm_console.specs.declared.judging.Judgement.TheVariants as judgement
 use Rattle.stm_console.specs.declared.refusal.Refusal.{Refusal}
 use Rattle.stm_console.specs.declared.reply.Reply.{Reply}
 use Rattle.stm_console.specs.declared.reply.Reply.TheVariants as reply
-use Rattle.stm_console.specs.Refusals.{refused, is_printed}
+use Rattle.stm_console.specs.Refusals.{is_printed}
 use Rattle.stm_console.specs.Showing.{events_text}
 
 abbrev pub line_class_of : Judgement → LineClass
@@ -26,11 +22,6 @@ line_class_of (judgement.Words w argument) = Words w.now argument.now
 abbrev pub Declares : List Declared → Result ℕ Refusal → List Declared → Result Declared Refusal → Type 0
 Declares old (Ok i) new answer = (d : Declared) × (answer ≡ Ok d) × (i ≡ length old) × (new ≡ old ++ d ∷ [])
 Declares old (Err e) new answer = (new ≡ old) × (IsTrue (is_printed e) → answer ≡ Err e)
-
--- the answer to a command where it is a text: the history isn't
-abbrev pub text_answer : OpenDesk → Command → List ℕ → List ℕ
-text_answer d History argument = refused (codes "Argument")
-text_answer d command argument = desk_answer d command argument
 
 -- the text of the history, once the desk is open
 abbrev pub history_of : Console → List ℕ

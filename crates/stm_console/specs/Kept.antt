@@ -1,14 +1,19 @@
 -- What the type of an open desk keeps.
-use Rattle.std.specs.Prelude.{◌≡◌, List, ◌++◌, Option, Some, None}
-use Rattle.std.specs.List.{All}
+use Rattle.std.specs.Prelude.{◌≡◌, List, [], ◌∷◌, ◌++◌, Option, Some, None}
 use Rattle.stm_terms.specs.declared.kinds.Ty.{Ty}
 use Rattle.stm_terms.specs.declared.values.Value.{Value}
 use Rattle.stm_store.specs.Cells.{Covers, plains}
 use Rattle.stm_eval.specs.declared.job.Job.{Job}
+use Rattle.stm_eval.specs.declared.message.Evaluated.{Evaluated}
+use Rattle.stm_eval.specs.EvaluatedFields.{message_ticket, message_verdict}
+use Rattle.stm_history.specs.declared.errors.DeliverError.{DeliverError}
 use Rattle.stm_history.specs.declared.event.Event.{Event}
+use Rattle.stm_history.specs.declared.event.What.TheVariants.{Installed}
 use Rattle.stm_history.specs.JobsHandedOut.{block_at}
+use Rattle.stm_history.specs.Machine.{event}
 use Rattle.stm_history.specs.SlowDesk.{IsLegal, state}
-use Rattle.stm_desk.specs.Seen.{Seen, now}
+use Rattle.stm_desk.specs.Refusals.{left_by}
+use Rattle.stm_desk.specs.Seen.{Seen, now, with_event}
 use Rattle.stm_console.specs.declared.jobs.HandedOut.{HandedOut}
 
 -- a job that is kept with the store at its `take`
@@ -25,7 +30,8 @@ pub record JobStands (d : Seen) (j : HandedOut) : Type 0 where
   pub waited : block_at (state d.table before) j.ticket ≡ Some j.block
 
 abbrev pub JobsStand : Seen → List HandedOut → Type 0
-JobsStand d jobs = All (JobStands d) jobs
+JobsStand d [] = Unit {0}
+JobsStand d (j ∷ js) = JobStands d j × JobsStand d js
 
 -- the copy of the present store, if there is one
 abbrev pub IsPresentCopy : Seen → Option (List (Ty × Value)) → Type 0
@@ -45,3 +51,8 @@ pub record HasGrown (old new : Seen) : Type 0 where
   pub more : List Event
   pub history : new.history ≡ old.history ++ more
   pub legal : IsLegal new.table new.history
+
+-- the desk after a message was delivered, or refused
+abbrev pub after_message : Seen → Evaluated → Option DeliverError → Seen
+after_message d m None = with_event d (event 0 (Installed (message_ticket m) (message_verdict m)))
+after_message d m (Some e) = left_by e (message_ticket m) d

@@ -27,15 +27,9 @@ fn digit_value(byte: u8) -> u8
 
 /// How many digits a text begins with.
 fn number_len(text: &[u8]) -> usize
-    ensures count { result ≡ number_len text.now }
-    ensures within { result ≤ length text.now }
+    ensures { result ≡ number_len text.now }
 {
-    for (at, byte) in text.iter().enumerate() {
-        if !is_digit(*byte) {
-            return at;
-        }
-    }
-    text.len()
+    text.iter().take_while(|byte| is_digit(**byte)).count()
 }
 
 fn decimal(digits: &[u8]) -> u64
@@ -52,12 +46,7 @@ fn decimal(digits: &[u8]) -> u64
 fn are_blank(text: &[u8]) -> bool
     ensures { result ≡ list_all is_line_blank text.now }
 {
-    for byte in text {
-        if !is_blank(*byte) {
-            return false;
-        }
-    }
-    true
+    text.iter().all(|byte| is_blank(*byte))
 }
 
 /// The number that a text is: from one to ten digits, at most 4,294,967,295, with only blanks behind them.

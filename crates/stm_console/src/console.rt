@@ -3,9 +3,10 @@
 ghost use Rattle.std.specs.Prelude.{◌≡◌, ◌≤◌, ◌++◌, Some, string_bytes, OnOk, IfOk};
 ghost use Rattle.stm_history.specs.SlowDesk.{max_events};
 ghost use Rattle.stm_history.specs.HistoryText.{WritesText};
-ghost use Rattle.stm_console.specs.Abstraction.{IsAnswer, text_answer, history_of};
+ghost use Rattle.stm_console.specs.Abstraction.{IsAnswer, history_of};
 ghost use Rattle.stm_console.specs.Console.{initial_console, command_named, desk_answer, desk_after, command_answer, command_state, answer_to_command, state_after_command, answer_to, state_after};
 ghost use Rattle.stm_console.specs.ConsoleState.{present_desk};
+ghost use Rattle.stm_console.specs.Showing.{history_answer};
 ghost use Rattle.stm_console.specs.Declaring.{tvar_answer, tvar_state};
 ghost use Rattle.stm_console.specs.declared.console.Console.TheVariants.{Open as IsOpen};
 
@@ -31,79 +32,16 @@ pub enum Console {
 }
 
 impl OpenDesk {
-    /// Answers a command whose answer is a text.
-    fn answer_text(
-        &mut self,
-        alloc: Global,
-        command: Command,
-        argument: &str,
-        out: &mut String,
-    ) -> Result<(), NoMemory>
-        ensures text { OnOk result (string_bytes out.new ≡ string_bytes out.old ++ text_answer self.old command argument.now) }
-        ensures state { OnOk result (self.new ≡ desk_after self.old command argument.now) }
+    /// Answers `history`.
+    #[tactic(auto, unfolding(crate::specs::Showing::history_answer))]
+    fn answer_history(&self, argument: &str, out: &mut String) -> Result<Reply, NoMemory>
+        ensures { IfOk result (λ r. IsAnswer r (string_bytes out.old) (string_bytes out.new) (IsOpen self.now) (history_answer self.now argument.now)) }
     {
-        match command {
-            Command::Tvar => {
-                refuse("Late", out)?;
-                Ok(())
-            }
-            Command::Try => {
-                self.answer_try(alloc, argument, out)?;
-                Ok(())
-            }
-            Command::Looks => {
-                self.answer_looks(alloc, argument, out)?;
-                Ok(())
-            }
-            Command::Submit => {
-                self.answer_submit(alloc, argument, out)?;
-                Ok(())
-            }
-            Command::Take => {
-                self.answer_take(alloc, argument, out)?;
-                Ok(())
-            }
-            Command::Deliver => {
-                self.answer_deliver(alloc, argument, out)?;
-                Ok(())
-            }
-            Command::Handback => {
-                self.answer_handback(argument, out)?;
-                Ok(())
-            }
-            Command::Eval => {
-                self.answer_eval(alloc, argument, out)?;
-                Ok(())
-            }
-            Command::Finish => {
-                self.answer_finish(argument, out)?;
-                Ok(())
-            }
-            Command::Cancel => {
-                self.answer_cancel(argument, out)?;
-                Ok(())
-            }
-            Command::Show => {
-                self.answer_show(argument, out)?;
-                Ok(())
-            }
-            Command::Reads => {
-                self.answer_reads(argument, out)?;
-                Ok(())
-            }
-            Command::Store => {
-                self.answer_store(argument, out)?;
-                Ok(())
-            }
-            Command::Settle => {
-                self.answer_settle(argument, out)?;
-                Ok(())
-            }
-            Command::History => {
-                refuse("Argument", out)?;
-                Ok(())
-            }
+        if argument.is_empty() {
+            return Ok(Reply::History);
         }
+        refuse("Argument", out)?;
+        Ok(Reply::Text)
     }
 
     /// Answers a command.
@@ -117,11 +55,68 @@ impl OpenDesk {
         ensures text { IfOk result (λ r. IsAnswer r (string_bytes out.old) (string_bytes out.new) (IsOpen self.new) (desk_answer self.old command argument.now)) }
         ensures state { OnOk result (self.new ≡ desk_after self.old command argument.now) }
     {
-        if command == Command::History && argument.is_empty() {
-            return Ok(Reply::History);
+        match command {
+            Command::Tvar => {
+                refuse("Late", out)?;
+                Ok(Reply::Text)
+            }
+            Command::Try => {
+                self.answer_try(alloc, argument, out)?;
+                Ok(Reply::Text)
+            }
+            Command::Looks => {
+                self.answer_looks(alloc, argument, out)?;
+                Ok(Reply::Text)
+            }
+            Command::Submit => {
+                self.answer_submit(alloc, argument, out)?;
+                Ok(Reply::Text)
+            }
+            Command::Take => {
+                self.answer_take(alloc, argument, out)?;
+                Ok(Reply::Text)
+            }
+            Command::Deliver => {
+                self.answer_deliver(alloc, argument, out)?;
+                Ok(Reply::Text)
+            }
+            Command::Handback => {
+                self.answer_handback(argument, out)?;
+                Ok(Reply::Text)
+            }
+            Command::Eval => {
+                self.answer_eval(alloc, argument, out)?;
+                Ok(Reply::Text)
+            }
+            Command::Finish => {
+                self.answer_finish(argument, out)?;
+                Ok(Reply::Text)
+            }
+            Command::Cancel => {
+                self.answer_cancel(argument, out)?;
+                Ok(Reply::Text)
+            }
+            Command::Show => {
+                self.answer_show(argument, out)?;
+                Ok(Reply::Text)
+            }
+            Command::Reads => {
+                self.answer_reads(argument, out)?;
+                Ok(Reply::Text)
+            }
+            Command::Store => {
+                self.answer_store(argument, out)?;
+                Ok(Reply::Text)
+            }
+            Command::Settle => {
+                self.answer_settle(argument, out)?;
+                Ok(Reply::Text)
+            }
+            Command::History => {
+                let reply = self.answer_history(argument, out)?;
+                Ok(reply)
+            }
         }
-        self.answer_text(alloc, command, argument, out)?;
-        Ok(Reply::Text)
     }
 }
 

@@ -1,12 +1,15 @@
 //! `take`, `deliver`, `handback` and `eval`: blocks are handed out, evaluated, and their verdicts delivered.
 
-ghost use Rattle.std.specs.Prelude.{◌≡◌, ◌≤◌, ◌+◌, ◌++◌, map, length, string_bytes, OnOk};
+ghost use Rattle.std.specs.Prelude.{◌≡◌, ◌≤◌, ◌+◌, ◌++◌, map, length, string_bytes, OnOk, IfOk};
 ghost use Rattle.std.specs.Option.{option_copied};
 ghost use Rattle.stm_terms.specs.Texts.{spaced, list_text};
-ghost use Rattle.stm_console.specs.Delivering.{job_text, numbered, jobs_line, take_text, after_take, take_answer, take_state, job_at, deliver_text, after_deliver, deliver_answer, deliver_state, handback_text, handed_back, handback_answer, handback_state, delivered_line, queued_line, evaluated_line, evaluated_text, delivery_text, eval_answer, eval_state};
+ghost use Rattle.stm_history.specs.JobsHandedOut.{sent};
+ghost use Rattle.stm_desk.specs.Seen.{now};
+ghost use Rattle.stm_console.specs.Kept.{JobsStand};
+ghost use Rattle.stm_console.specs.Delivering.{taken, jobs_of, job_text, numbered, jobs_line, take_text, after_take, take_answer, take_state, job_at, deliver_text, after_deliver, deliver_answer, deliver_state, handback_text, handed_back, handback_answer, handback_state, delivered_line, queued_line, evaluated_line, evaluated_text, delivery_text, eval_answer, eval_state};
 
 use crate::arguments::number_of;
-use crate::jobs::{HandedOut, deliver_job, deliver_jobs, with_store};
+use crate::jobs::{HandedOut, deliver_job, evaluate_queued, with_store};
 use crate::opened::OpenDesk;
 use crate::refusal::{refuse, refuse_delivery};
 use std::alloc::Global;
@@ -121,6 +124,27 @@ fn job_of_number(jobs: &[HandedOut], number: u32) -> Option<&HandedOut>
     jobs.get(number as usize - 1)
 }
 
+/// Hands out the n lowest queued tickets, or all, whose jobs' numbers begin with this one.
+fn hand_out(
+    desk: &mut Desk,
+    alloc: Global,
+    first: u32,
+    n: u32,
+    out: &mut String,
+) -> Result<Vec<HandedOut>, NoMemory>
+    requires { first + n ≤ 4294967295 }
+    ensures text { OnOk result (string_bytes out.new ≡ string_bytes out.old ++ jobs_line first (taken desk.old n)) }
+    ensures made { IfOk result (λ made. made.items ≡ jobs_of (now desk.old) (taken desk.old n)) }
+    ensures stand { IfOk result (λ made. JobsStand desk.old made.items) }
+    ensures out { OnOk result (desk.new ≡ record desk.old { pending = sent (length (taken desk.old n)) desk.old.pending }) }
+    ensures same { desk.new ≡ record desk.old { pending = desk.new.pending } }
+{
+    let (store, jobs) = desk.take(n as usize)?;
+    write_jobs_line(first, &jobs, out)?;
+    let made = with_store(alloc, &store, jobs)?;
+    Ok(made)
+}
+
 impl OpenDesk {
     /// Hands out the n lowest queued tickets, or all.
     fn take(&mut self, alloc: Global, n: u32, out: &mut String) -> Result<(), NoMemory>
@@ -132,9 +156,7 @@ impl OpenDesk {
             return Ok(());
         }
         let first = self.jobs.len() as u32 + 1;
-        let (store, jobs) = self.desk.take(n as usize)?;
-        write_jobs_line(first, &jobs, out)?;
-        let mut made = with_store(alloc, &store, jobs)?;
+        let mut made = hand_out(&mut self.desk, alloc, first, n, out)?;
         self.jobs.append(&mut made)?;
         Ok(())
     }
@@ -251,8 +273,7 @@ impl OpenDesk {
             refuse("Argument", out)?;
             return Ok(());
         }
-        let (store, jobs) = self.desk.take(Desk::MAX_WAITING)?;
-        let progress = deliver_jobs(&mut self.desk, alloc, &store, jobs)?;
+        let progress = evaluate_queued(&mut self.desk, alloc)?;
         write_evaluation(progress.count, progress.stop, out)?;
         Ok(())
     }

@@ -1,6 +1,6 @@
 //! `finish`, `cancel` and `settle`: blocks take effect, or wait no more.
 
-ghost use Rattle.std.specs.Prelude.{◌≡◌, ◌≢◌, ◌++◌, List, string_bytes, OnOk, decimal};
+ghost use Rattle.std.specs.Prelude.{◌≡◌, ◌≢◌, ◌++◌, ◌∷◌, [], List, codes, string_bytes, OnOk, decimal};
 ghost use Rattle.stm_store.specs.declared.cell.Cell.{Cell};
 ghost use Rattle.stm_store.specs.Cells.{applied_answer};
 ghost use Rattle.stm_terms.specs.Texts.{spaced};
@@ -80,12 +80,23 @@ fn write_cancelled(ticket: u32, out: &mut String) -> Result<(), NoMemory>
     write!(out, "cancelled {ticket}\n")
 }
 
+/// Appends how many blocks were run.
+fn write_evaluations(evaluations: u32, out: &mut String) -> Result<(), NoMemory>
+    ensures { OnOk result (string_bytes out.new ≡ string_bytes out.old ++ codes " evaluations " ++ decimal evaluations ++ 10 ∷ []) }
+{
+    out.push_str(" evaluations ")?;
+    write_number(evaluations, out)?;
+    out.push_str("\n")
+}
+
 /// Appends how much settling did.
 #[tactic(auto, unfolding(crate::specs::Finishing::settled_line))]
 fn write_settled(finished: u32, evaluations: u32, out: &mut String) -> Result<(), NoMemory>
     ensures { OnOk result (string_bytes out.new ≡ string_bytes out.old ++ settled_line finished evaluations) }
 {
-    write!(out, "settled {finished} evaluations {evaluations}\n")
+    out.push_str("settled ")?;
+    write_number(finished, out)?;
+    write_evaluations(evaluations, out)
 }
 
 /// Appends why settling stopped, and how much it did.

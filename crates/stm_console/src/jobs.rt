@@ -1,16 +1,20 @@
 //! Jobs that were handed out, and what becomes of them.
 
-ghost use Rattle.std.specs.Prelude.{◌≡◌, ◌≤◌, ◌<◌, ◌+◌, ◌++◌, map, None, IfOk, OnOk, vec_len, length};
+ghost use Rattle.std.specs.Prelude.{◌≡◌, ◌≤◌, ◌<◌, ◌+◌, ◌++◌, map, None, Some, IfOk, OnOk, vec_len, length};
 ghost use Rattle.stm_store.specs.Cells.{Covers};
-ghost use Rattle.stm_history.specs.SlowDesk.{max_waiting};
+ghost use Rattle.stm_eval.specs.EvaluatedFields.{message_ticket, message_block, message_reads};
+ghost use Rattle.stm_history.specs.Refusals.{deliver_error};
+ghost use Rattle.stm_history.specs.SlowDesk.{IsLegal, max_waiting};
+ghost use Rattle.stm_desk.specs.Refusals.{TellsDeskDelivery};
 ghost use Rattle.stm_desk.specs.Seen.{now};
-ghost use Rattle.stm_console.specs.Kept.{handed_out, JobStands, JobsStand, HasGrown};
-ghost use Rattle.stm_console.specs.Delivering.{delivery_refusal, after_delivery, delivered_next, delivered_all};
+ghost use Rattle.stm_console.specs.Kept.{handed_out, JobStands, JobsStand, HasGrown, after_message};
+ghost use Rattle.stm_console.specs.Delivering.{delivery_refusal, after_delivery, delivered_next, delivered_all, evaluated};
 
 use std::alloc::{AllocError, Global};
 use stm_check::SharedBlock;
 use stm_desk::{DeliverError, Desk};
-use stm_eval::{Job, evaluate};
+use stm_eval::{Evaluated, Job, evaluate};
+use stm_history::laws::blocks_stay;
 use stm_store::Frozen;
 use stm_terms::NoMemory;
 
@@ -51,6 +55,36 @@ pub fn with_store(alloc: Global, store: &Frozen, jobs: Vec<Job>) -> Result<Vec<H
     Ok(made)
 }
 
+/// A refusal, unless memory ran out.
+fn reported(refusal: DeliverError) -> Result<Option<DeliverError>, NoMemory>
+    ensures { IfOk result (λ r. (r ≡ Some refusal) × (r ≡ deliver_error refusal)) }
+{
+    match refusal {
+        DeliverError::Gone => Ok(Some(DeliverError::Gone)),
+        DeliverError::OtherBlock => Ok(Some(DeliverError::OtherBlock)),
+        DeliverError::Already => Ok(Some(DeliverError::Already)),
+        DeliverError::Overtaken(number) => Ok(Some(DeliverError::Overtaken(number))),
+        DeliverError::HistoryFull => Ok(Some(DeliverError::HistoryFull)),
+        DeliverError::NoMemory => Err(AllocError),
+    }
+}
+
+/// Delivers a message. The answer is why it is refused, if it is.
+fn deliver_message(
+    desk: &mut Desk,
+    message: Evaluated,
+) -> Result<Option<DeliverError>, NoMemory>
+    ensures told { IfOk result (λ r. TellsDeskDelivery r desk.old (message_ticket message) (message_block message) (message_reads message)) }
+    ensures done { IfOk result (λ r. desk.new ≡ after_message desk.old message r) }
+    ensures grown { HasGrown desk.old desk.new }
+    ensures store { (now desk.new).store ≡ (now desk.old).store }
+{
+    match desk.deliver(0, message) {
+        Ok(()) => Ok(None),
+        Err((_, refusal)) => reported(refusal),
+    }
+}
+
 /// Delivers what a job's block does on a store. The answer is why it is refused, if it is.
 pub fn deliver_job(
     desk: &mut Desk,
@@ -58,20 +92,17 @@ pub fn deliver_job(
     store: &Frozen,
     job: Job,
 ) -> Result<Option<DeliverError>, NoMemory>
+    requires legal { IsLegal desk.old.table desk.old.history }
     requires stands { JobStands desk.old (handed_out store.now job) }
     ensures told { IfOk result (λ r. r ≡ delivery_refusal desk.old (handed_out store.now job)) }
     ensures done { OnOk result (desk.new ≡ after_delivery desk.old (handed_out store.now job)) }
     ensures grown { HasGrown desk.old desk.new }
     ensures store { (now desk.new).store ≡ (now desk.old).store }
 {
-    let message = match evaluate(alloc, job, store) {
-        Ok(message) => message,
-        Err((_, refused)) => return Err(refused),
-    };
-    match desk.deliver(0, message) {
-        Ok(()) => Ok(None),
-        Err((_, DeliverError::NoMemory)) => Err(AllocError),
-        Err((_, refusal)) => Ok(Some(refusal)),
+    blocks_stay();
+    match evaluate(alloc, job, store) {
+        Ok(message) => deliver_message(desk, message),
+        Err((_, refused)) => Err(refused),
     }
 }
 
@@ -91,6 +122,7 @@ fn deliver_next(
     so_far: Progress,
 ) -> Result<Progress, NoMemory>
     requires few { so_far.count < max_waiting }
+    requires legal { IsLegal desk.old.table desk.old.history }
     requires stands { JobStands desk.old (handed_out store.now job) }
     ensures done { IfOk result (λ p. record { desk = desk.new; count = p.count; stop = p.stop }
         ≡ delivered_next (record { desk = desk.old; count = so_far.count; stop = so_far.stop }) (handed_out store.now job) so_far.stop) }
@@ -119,13 +151,14 @@ fn deliver_next(
 
 /// Delivers what the blocks of jobs do on a store, one after another, until one is refused. That one and those after it are
 /// queued again.
-pub fn deliver_jobs(
+fn deliver_jobs(
     desk: &mut Desk,
     alloc: Global,
     store: &Frozen,
     jobs: Vec<Job>,
 ) -> Result<Progress, NoMemory>
     requires few { vec_len jobs ≤ max_waiting }
+    requires legal { IsLegal desk.old.table desk.old.history }
     requires stand { JobsStand desk.old (map (handed_out store.now) jobs.items) }
     ensures done { IfOk result (λ p. record { desk = desk.new; count = p.count; stop = p.stop }
         ≡ delivered_all (record { desk = desk.old; count = 0; stop = None }) (map (handed_out store.now) jobs.items)) }
@@ -140,4 +173,17 @@ pub fn deliver_jobs(
         so_far = deliver_next(desk, alloc, store, job, so_far)?;
     }
     Ok(so_far)
+}
+
+/// Evaluates and delivers all that is queued, in rising order of the tickets.
+pub fn evaluate_queued(desk: &mut Desk, alloc: Global) -> Result<Progress, NoMemory>
+    requires { IsLegal desk.old.table desk.old.history }
+    ensures done { IfOk result (λ p. record { desk = desk.new; count = p.count; stop = p.stop } ≡ evaluated desk.old) }
+    ensures grown { HasGrown desk.old desk.new }
+    ensures store { (now desk.new).store ≡ (now desk.old).store }
+{
+    match desk.take(Desk::MAX_WAITING) {
+        Ok((store, jobs)) => deliver_jobs(desk, alloc, &store, jobs),
+        Err(refused) => Err(refused),
+    }
 }

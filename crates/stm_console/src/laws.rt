@@ -1,7 +1,39 @@
 //! What holds of the console's text and of the program's words. Each function is a law: its contract says it, and its body
 //! does nothing but call the laws that it rests on.
 
+ghost use Rattle.stm_console.specs.Laws.{EachLineIsAnswered, VerdictsAreShown};
 ghost use Rattle.stm_console.specs.Laws.{RunsAreAccepted, LastDashesChangeNothing, RunsHaveDefaults, OptionsAreInRange, ChecksAreAccepted, NumbersAreTaken, OthersAreRefused, NoOptionTwice, OptionsNeedRun};
+
+/// A line that is neither blank nor a comment is answered by a text that ends with a line feed, whatever lines came before
+/// it. So `try` always has a verdict to tell, `finish` an effect, and an out-of-memory error is the text of no refusal.
+pub fn each_line_is_answered()
+    ensures { EachLineIsAnswered }
+{
+    stm_parse::laws::answers_are_right();
+    stm_check::laws::check_never_says_no_memory();
+    stm_check::laws::verdict_fits();
+    stm_eval::laws::verdict_is_stable();
+    stm_history::laws::tickets_rise();
+    stm_history::laws::declared_are_covered();
+    stm_history::laws::blocks_stay();
+    stm_history::laws::waiting_are_well_typed();
+    stm_history::laws::stores_are_typed();
+    stm_history::laws::blocks_have_verdicts();
+}
+
+/// Each waiting block that isn't new stands with a verdict, whatever lines came before: so none that `show` has to tell is
+/// missing.
+pub fn verdicts_are_shown()
+    ensures { VerdictsAreShown }
+{
+    stm_parse::laws::answers_are_right();
+    stm_check::laws::check_never_says_no_memory();
+    stm_eval::laws::verdict_is_stable();
+    stm_history::laws::tickets_rise();
+    stm_history::laws::blocks_stay();
+    stm_history::laws::waiting_are_well_typed();
+    stm_history::laws::weak_is_present();
+}
 
 /// The program's name alone, and `run` after it, ask for a run with the default options, also with a last word `--`. No words
 /// give a run options that are out of their ranges.

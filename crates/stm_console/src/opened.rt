@@ -2,7 +2,7 @@
 
 ghost use Rattle.std.specs.Prelude.{◌≡◌, ◌≤◌, ◌++◌, IfOk, OnOk, string_bytes};
 ghost use Rattle.stm_store.specs.Cells.{plains};
-ghost use Rattle.stm_history.specs.SlowDesk.{max_events};
+ghost use Rattle.stm_history.specs.SlowDesk.{IsLegal, max_events};
 ghost use Rattle.stm_history.specs.HistoryText.{WritesText};
 ghost use Rattle.stm_desk.specs.Seen.{now};
 ghost use Rattle.stm_console.specs.OpenDesk.{opened_desk, present};
@@ -58,6 +58,7 @@ impl OpenDesk {
     pub fn take_copy(&mut self) -> Result<Frozen, NoMemory>
         ensures same { self.new ≡ self.old }
         ensures store { IfOk result (λ f. f ≡ plains (present self.old)) }
+        ensures legal { IsLegal self.old.desk.table self.old.desk.history }
     {
         match self.copy.take() {
             Some(copy) => Ok(copy),

@@ -15,6 +15,7 @@ use crate::refusal::{refuse_submit, write_refusal};
 use std::alloc::Global;
 use stm_check::{SharedBlock, Typed};
 use stm_eval::try_block;
+use stm_history::laws::declared_are_covered;
 use stm_terms::NoMemory;
 use stm_terms::text::{write_verdict, write_writes};
 use stm_terms::values::Value;
@@ -53,6 +54,7 @@ impl OpenDesk {
         ensures text { OnOk result (string_bytes out.new ≡ string_bytes out.old ++ verdict_line (verdict_on (present self.old) block.now)) }
         ensures same { self.new ≡ self.old }
     {
+        declared_are_covered();
         let copy = self.take_copy()?;
         let (verdict, _reads) = try_block(alloc, &copy, block)?;
         self.keep_copy(copy);
@@ -71,6 +73,7 @@ impl OpenDesk {
         ensures text { OnOk result (string_bytes out.new ≡ string_bytes out.old ++ reads_line (reads_of (under (present self.old)) block.now.tree)) }
         ensures same { self.new ≡ self.old }
     {
+        declared_are_covered();
         let copy = self.take_copy()?;
         let (_verdict, reads) = try_block(alloc, &copy, block)?;
         self.keep_copy(copy);
