@@ -15,6 +15,8 @@ from devices import spread
 
 SECONDS = 2  # spent on one case, over refusals that are spread evenly where not all can be tried
 OUT_OF_MEMORY = b"stmdesk: out of memory\n"
+FORMS = words.FORMS_OF_HELP + words.FORMS_OF_HELP_OF_RUN[:1] + words.FORMS_OF_HELP_OF_CHECK[:1] + words.REFUSED[:2]
+FORMS += [["run", "--workers", "65"], ["run", "--workers", "3", "--levels=2"], ["check", "--levels", "1"]]
 
 
 def prefixed(case, line):
@@ -108,7 +110,7 @@ def judged(program, calls, library, cases, scripts):
     """Names with what was tried and what is said of them, each as soon as it is known."""
     with tempfile.TemporaryDirectory() as folder:
         refuser = Refuser(program, library, folder)
-        for case in cases + [words.of(form) for form in words.FORMS_OF_HELP + words.REFUSED[:2]]:
+        for case in cases + [words.of(form) for form in FORMS]:
             tried, asked, said = refuser.judge(case, ends_early)
             yield f"stmdesk on {case.name}", told(tried, asked), said
         refuser = Refuser(calls, library, folder)

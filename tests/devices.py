@@ -56,6 +56,18 @@ class Devices:
                 return tried, f"call {call} fails: status {done.returncode}, {done.stderr!r}, {done.stdout[-200:]!r}"
         return tried, None
 
+    def judge_reader_of_file(self, case):
+        """The same where only the end of the input is answered: the answer needs what was read, or the fault is told."""
+        tried = spread(len(case.text) + 1, SECONDS, self.time(case))
+        for call in tried:
+            done = self.run(case, READ_SHORT=1, READ_FAILS=call)
+            ends = [(1, b"", READ_FAULT)]
+            if case.status == 3 and call > 1:
+                ends.append((case.status, case.printed, case.errors))
+            if (done.returncode, done.stdout, done.stderr) not in ends:
+                return tried, f"call {call} fails: status {done.returncode}, {done.stderr!r}, {done.stdout[-200:]!r}"
+        return tried, None
+
     def judge_writer(self, case, printed, reads=True):
         """A writer of a byte a call that fails: all before is printed. Where standard error fails too nothing changes."""
         tried = spread(len(printed), SECONDS, 2 * self.time(case))
@@ -73,7 +85,7 @@ class Devices:
         """A writer of whole texts that fails: a part of the answers from the front is printed."""
         for call in spread(40, SECONDS, self.time(case)):
             done = self.run(case, READ_SHORT=1, WRITE_FAILS=call)
-            whole = (done.returncode, done.stdout, done.stderr) == (0, case.printed, b"")
+            whole = (done.returncode, done.stdout, done.stderr) == (case.status, case.printed, case.errors)
             if not whole and not (
                 done.returncode == 1 and case.printed.startswith(done.stdout) and done.stderr == WRITE_FAULT
             ):
@@ -84,16 +96,16 @@ class Devices:
 def judged(program, library, cases):
     """Names with what is said of them, each as soon as it is known."""
     devices = Devices(program, library)
-    small = [case for case in cases if case.status == 0 and 0 < len(case.text) <= SMALL]
+    small = [case for case in cases if case.status in (0, 3) and 0 < len(case.text) <= SMALL and case.goes_by_lines()]
     for case in small:
         yield f"{case.name}, byte by byte", "", devices.judge_slow(case)
-        tried, said = devices.judge_reader(case)
+        tried, said = devices.judge_reader_of_file(case) if case.has_one_answer() else devices.judge_reader(case)
         yield f"{case.name}, a reader that fails", f"{len(tried)} of {tried[-1]} calls", said
         if case.printed:
             tried, said = devices.judge_writer(case, case.printed)
             yield f"{case.name}, a writer that fails", f"{len(tried)} of {tried[-1]} calls", said
             yield f"{case.name}, a writer of whole texts that fails", "", devices.judge_whole_writes(case)
-    for form in words.FORMS_OF_HELP[:1] + words.FORMS_OF_HELP_OF_RUN[:1]:
+    for form in words.FORMS_OF_HELP[:1] + words.FORMS_OF_HELP_OF_RUN[:1] + words.FORMS_OF_HELP_OF_CHECK[:1]:
         case = words.of(form)
         tried, said = devices.judge_writer(case, devices.run(case).stdout, reads=False)
         yield f"words {form}, a writer that fails", f"{len(tried)} of {tried[-1]} calls", said

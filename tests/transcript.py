@@ -9,6 +9,7 @@ import tempfile
 
 SECONDS = 60
 STACK = 2 << 20  # bytes, as much as a thread has
+SMALL = 1 << 20  # bytes of a case's input or answers
 ENCODING = "latin-1"  # a character of a transcript is a byte
 
 
@@ -25,19 +26,35 @@ class Case:
         self.status = status
         self.only_again = False  # a refused call is made again, and never left at that
 
+    def has_one_answer(self):
+        """Whether it is the input's end that is answered, and not each line."""
+        return self.words[:1] == ["check"]
+
+    def is_small_run(self):
+        """Whether commands are read and answered, and few enough of them that they can be run a few times more."""
+        return self.status == 0 and self.words[:1] in ([], ["run"]) and max(len(self.text), len(self.printed)) < SMALL
+
+    def goes_by_lines(self):
+        """Whether each step is a line, and not many."""
+        return all(b"\n" not in line[:-1] for line, _ in self.steps)
+
 
 def computed(expression):
-    """The bytes of texts that are joined by +, repeated by * N, or written for each number below N by @ N."""
+    """The bytes of texts that are joined by +, repeated by * N, or written for each number below N by @ N, or for each
+    of range(A, B) by @ (A, B), of range(A, B, S) by @ (A, B, S)."""
 
     def value(node):
         if isinstance(node, ast.Constant) and isinstance(node.value, (str, int)):
             return node.value
+        if isinstance(node, ast.Tuple):
+            return range(*ast.literal_eval(node))
         left, right = value(node.left), value(node.right)
         if isinstance(node.op, ast.Add):
             return left + right
         if isinstance(node.op, ast.Mult):
             return left * right
-        return "".join(left.replace("{}", str(number)) for number in range(right))
+        numbers = right if isinstance(right, range) else range(right)
+        return "".join(left.replace("{}", str(number)) for number in numbers)
 
     return value(ast.parse(expression.strip(), mode="eval").body).encode(ENCODING)
 
@@ -64,7 +81,8 @@ def pairs(lines):
         elif line.startswith(">"):
             steps.append((line[2:].encode(ENCODING) + b"\n", []))
         else:
-            (steps[-1][1] if steps else printed).append(line.encode(ENCODING) + b"\n")
+            answer = computed(line[2:]) if line.startswith("= ") else line.encode(ENCODING)
+            (steps[-1][1] if steps else printed).append(answer + b"\n")
     return b"".join(printed), [(line, b"".join(answer)) for line, answer in steps]
 
 
@@ -110,6 +128,13 @@ def run(program, case, environment=None):
     return done
 
 
+def taken_well(case, taken):
+    """Whether so many bytes of the input may have been read. A checker that finds a fault may leave what follows unread."""
+    if case.status == 3:
+        return True
+    return taken == (len(case.text) if case.status == 0 else 0)
+
+
 def shown(case, answer, width=160):
     """Where the first answer that differs stands."""
     want, got = case.printed.decode(ENCODING).split("\n"), answer.decode(ENCODING).split("\n")
@@ -131,7 +156,7 @@ def judged(program, case):
         said.append(f"standard error {done.stderr!r}, not {case.errors!r}")
     if done.stdout != case.printed:
         said.append(shown(case, done.stdout))
-    if done.taken != (len(case.text) if case.status == 0 else 0):
+    if not taken_well(case, done.taken):
         said.append(f"{done.taken} bytes of the input were read")
     return "\n".join(said) or None
 

@@ -1,31 +1,52 @@
-"""The words of the command line: those of help, and those that are refused. Nothing is read for either."""
+"""The words of the command line: the options, those of help, and those that are refused; nothing is read for these two."""
 
 import re
 
 import transcript
 
-COMMANDS = [r"  tvar NAME : TYPE = INIT +.*", r"  try BLOCK +.*", r"  looks BLOCK +.*", r"  store +.*"]
-HELP = [
-    r".*transaction.*",
-    r"",
-    r"Usage: stmdesk \[COMMAND\]",
-    r"",
-    r"Commands:",
-    r"  run +.*",
-    r"  help +.*",
-    r"",
-    r"Options:",
-    r"  -h, --help +.*",
-    r"",
-    r"Commands on standard input, .*",
-    *COMMANDS,
-    r"",
-    r"docs/CONSOLE.md .* docs/LANGUAGE.md .*",
-]
+ARGUMENTS = {  # of each command of the console
+    **{"tvar": "NAME : TYPE = INIT", "try": "BLOCK", "looks": "BLOCK", "submit": "BLOCK", "take": "N", "deliver": "J"},
+    **{"handback": "T", "eval": "", "finish": "T", "cancel": "T", "show": "", "reads": "T", "store": "", "settle": ""},
+    "history": "",
+}
+COMMANDS = [rf"  {word} ?{argument}( .*)?" for word, argument in ARGUMENTS.items()]
+HELP = [r"Usage: stmdesk \[COMMAND\]", r"Commands:", r"  run +.*", r"  check +.*", r"  help +.*", r"  -h, --help +.*"]
+EXAMPLE_IN_HELP = rf" {{4,}}(({'|'.join(ARGUMENTS)})( .*)?)"
+REFUSED_ALONE = ["NotOut", "NotEvaluated", "Stale", "Blocks", "NoTicket", "NoJob", "Already"]  # what an example may be
+HELP_OF_RUN = [r"Usage: stmdesk run .*", r" +--workers .*", r" +--levels .*", r" +--max-events .*", *COMMANDS]
+HELP_OF_CHECK = [r"Usage: stmdesk check.*", r".*histor.*"]
 FORMS_OF_HELP = [["--help"], ["-h"], ["help"]]
 FORMS_OF_HELP_OF_RUN = [["run", "--help"], ["run", "-h"], ["help", "run"]]
-REFUSED = [["frob"], [""], ["--workers"], ["-x"], ["RUN"], ["run "], ["run", "frob"], [b"\xff"]]
+FORMS_OF_HELP_OF_CHECK = [["check", "--help"], ["check", "-h"], ["help", "check"]]
 RUN = [[], ["run"], ["run", "--"], ["--"]]
+OPTIONS = {"--workers": (1, 64, 2), "--levels": (0, 8, 0), "--max-events": (0, 1048576, 1048576)}  # least, most, default
+NO_NUMBERS = ["", "x", "1x", "1.0", "-1", "0x1", "4294967296", "18446744073709551616", "99999999999999999999", b"\xff"]
+REFUSED = [
+    *([word] for word in ("frob", "", "--workers", "-x", "RUN", "run ", "Check", "storm", "1", b"\xff")),
+    *(["run", *rest] for rest in (["frob"], ["run"], ["check"], ["1"], [""], ["-w", "2"], ["--worker", "2"])),
+    *(["run", *rest] for rest in (["--WORKERS", "2"], ["--", "--workers", "2"], ["-workers", "2"])),
+    *(["run", "--workers", *rest] for rest in ([], ["--levels", "1"], ["2", "2"], ["2", "--", "3"])),
+    *(["check", *rest] for rest in (["frob"], ["check"], ["run"], ["a_file"], [""])),
+    *([option, str(default)] for option, (_, _, default) in OPTIONS.items()),
+    *([f"{option}={default}"] for option, (_, _, default) in OPTIONS.items()),
+    *([option, str(default), "run"] for option, (_, _, default) in OPTIONS.items()),
+    *(["check", option, str(default)] for option, (_, _, default) in OPTIONS.items()),
+    *(["run", option, str(default), option, str(default)] for option, (_, _, default) in OPTIONS.items()),
+    *(["run", f"{option}={default}", option, str(default)] for option, (_, _, default) in OPTIONS.items()),
+    *(["run", option, str(least - 1)] for option, (least, _, _) in OPTIONS.items()),
+    *(["run", option, str(most + 1)] for option, (_, most, _) in OPTIONS.items()),
+    *(["run", f"{option}={most + 1}"] for option, (_, most, _) in OPTIONS.items()),
+    *(["run", option, word] for option in OPTIONS for word in NO_NUMBERS),
+]
+ACCEPTED = [
+    *(["run", option, str(number)] for option, ends in OPTIONS.items() for number in ends),
+    *(["run", f"{option}={number}"] for option, ends in OPTIONS.items() for number in ends),
+    *(["run", "--levels", str(number)] for number in range(1, 8)),
+    ["run", "--workers", "64", "--levels", "8", "--max-events", "0"],
+    ["run", "--max-events=1048576", "--levels", "3", "--workers=1"],
+    ["run", "--workers", "3", "--"],
+]
+VARIED = [["--workers", "1", "--levels", "8"], ["--workers", "64", "--levels", "0"]]
 INPUT = b"tvar x : Int = 1\nstore\n"
 ANSWERS = b"tvar #0 x\n#0 x : Int = 1 count 0\ncells 1\n"
 
@@ -37,20 +58,31 @@ def of(words):
     return case
 
 
-def lacks(patterns, text, in_order):
-    """The first pattern that no line is, or that the line at its place isn't."""
+def lacks(patterns, text):
+    """The first pattern that no line of the text is."""
     lines = text.decode().splitlines()
-    if in_order and len(lines) != len(patterns):
-        return f"{len(lines)} lines, not {len(patterns)}"
-    pairs = zip(patterns, ([line] for line in lines) if in_order else [lines] * len(patterns))
-    return next((f"no line {pattern!r}" for pattern, found in pairs if not any(re.fullmatch(pattern, x) for x in found)), None)
+    return next((f"no line {pattern!r}" for pattern in patterns if not any(re.fullmatch(pattern, x) for x in lines)), None)
 
 
-def judge_help(program, words, patterns, in_order):
+def judge_help(program, words, patterns):
     done = transcript.run(program, of(words))
     if (done.returncode, done.stderr, done.taken) != (0, b"", 0):
         return f"status {done.returncode}, {done.stderr!r}, {done.taken} bytes read"
-    return lacks(patterns, done.stdout, in_order)
+    return lacks(patterns, done.stdout)
+
+
+def judge_examples(program, words):
+    """The help has an example of each command, and the program knows what each of them asks for."""
+    printed = transcript.run(program, of(words)).stdout.decode()
+    examples = [found for found in (re.fullmatch(EXAMPLE_IN_HELP, line) for line in printed.splitlines()) if found]
+    missing = set(ARGUMENTS) - {found[2] for found in examples}
+    if missing:
+        return f"no example of {missing}"
+    case = transcript.Case(f"words {words}")
+    case.text = "".join(found[1] + "\n" for found in examples).encode()
+    answers = transcript.run(program, case).stdout.decode().splitlines()
+    refused = [answer for answer in answers if answer.startswith("refused") and answer[8:] not in REFUSED_ALONE]
+    return f"an example is {refused[0]}" if refused else None
 
 
 def judge_refused(program, words):
@@ -66,12 +98,27 @@ def judge_run(program, words):
     return transcript.judged(program, case)
 
 
-def judged(program):
-    for words in RUN:
+def judge_varied(program, case, options):
+    """Neither workers nor levels change an answer."""
+    varied = transcript.Case(case.name, (case.words or ["run"]) + options, printed=case.printed)
+    varied.text = case.text
+    return transcript.judged(program, varied)
+
+
+def judged(program, cases):
+    for words in RUN + ACCEPTED:
         yield f"words {words}", judge_run(program, words)
     for words in REFUSED:
         yield f"words {words}", judge_refused(program, words)
-    for words in FORMS_OF_HELP:
-        yield f"words {words}", judge_help(program, words, HELP, True)
-    for words in FORMS_OF_HELP_OF_RUN:
-        yield f"words {words}", judge_help(program, words, COMMANDS, False)
+    for forms, patterns in (
+        (FORMS_OF_HELP, HELP),
+        (FORMS_OF_HELP_OF_RUN, HELP_OF_RUN),
+        (FORMS_OF_HELP_OF_CHECK, HELP_OF_CHECK),
+    ):
+        for words in forms:
+            yield f"words {words}", judge_help(program, words, patterns)
+    yield f"words {FORMS_OF_HELP_OF_RUN[0]}, the examples", judge_examples(program, FORMS_OF_HELP_OF_RUN[0])
+    for case in cases:
+        if case.is_small_run():
+            for options in VARIED:
+                yield f"{case.name} with {' '.join(options)}", judge_varied(program, case, options)

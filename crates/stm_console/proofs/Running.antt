@@ -1,11 +1,12 @@
 -- What a run has written, from what it has taken.
-use Rattle.std.proofs.Common.{◌≡◌, ℕ, Option, Some, None, IfSome, List, [], ◌++◌, refl, sym, ap, ◌∙◌, subst, append_assoc, append-nil, take}
+use Rattle.std.proofs.Common.{◌≡◌, ℕ, Result, OnErr, Option, Some, None, IfSome, List, [], ◌++◌, refl, sym, ap, ◌∙◌, subst, append_assoc, append-nil, take}
 use Rattle.std.specs.Io.KnownBytes.{Appends, Consumes, Keeps, IsAtEnd}
 use Rattle.std.proofs.KnownBytes.{Appends-trans, Appends-kept, Consumes-trans, Consumes-kept, Consumes-whole}
 use Rattle.stm_console.proofs.InputInParts.{Continues-trans}
 use Rattle.stm_terms.specs.Texts.{IsPrefixOf}
 use Rattle.stm_console.specs.Streaming.{Continues, rest_text, whole_rest_text}
 use Rattle.stm_console.specs.declared.console.Console.{Console}
+use Rattle.stm_console.specs.Console.{initial_console, console_text}
 
 pub console_text-continues : (o : Console) (s : Console) (line taken written more : List ℕ) → Continues o [] s line taken written → rest_text o [] (taken ++ more) ≡ written ++ rest_text s line more
 console_text-continues o s line taken written more h = h.all more
@@ -73,3 +74,12 @@ Kept-next o a b c x y z z' s t line left chunk part k p q r f = record {
 -- after a read that gave nothing
 pub Kept-reread : (o : Console) (a b c x y : Option (List ℕ)) (s : Console) (line : List ℕ) → Kept o a b x y s line → Keeps b c → Kept o a c x y s line
 Kept-reread o a b c x y s line k f = record { taken = k.taken; written = k.written; consumed = Consumes-kept a b c _ k.consumed f; continues = k.continues; appended = k.appended }
+
+-- the text of what follows the beginning is the console's
+pub part_from_start : {E : Type 0} → (r : Result (Unit {0}) E) (a b x y : Option (List ℕ)) (m : ℕ) (s : Console) → a ≡ b → s ≡ initial_console m
+    → OnErr r (IfSome a (λ input. (front : List ℕ) × IsPrefixOf front (rest_text s [] input) × Appends x y front))
+    → OnErr r (IfSome b (λ input. (front : List ℕ) × IsPrefixOf front (console_text m input) × Appends x y front))
+unfolding console_text rest_text
+part_from_start r a b x y m s p e h =
+    subst (λ (c : Option (List ℕ)). OnErr r (IfSome c (λ input. (front : List ℕ) × IsPrefixOf front (rest_text (initial_console m) [] input) × Appends x y front))) p
+    (subst (λ (t : Console). OnErr r (IfSome a (λ input. (front : List ℕ) × IsPrefixOf front (rest_text t [] input) × Appends x y front))) e h)
