@@ -50,6 +50,8 @@ def talk(running, case):
         giver = Giver(running.stdin, line, is_last)
         got = take(running.stdout, len(answer))
         if got != answer:
+            running.kill()  # so that the giver ends while the pipe is still its own
+            giver.join()
             return f"line {number} is answered {got[:200]!r}, not {answer[:200]!r}"
         giver.join()
         if giver.is_broken:

@@ -2,6 +2,7 @@
 
 import re
 
+import tours
 import transcript
 
 ARGUMENTS = {  # of each command of the console
@@ -85,6 +86,20 @@ def judge_examples(program, words):
     return f"an example is {refused[0]}" if refused else None
 
 
+def judge_sessions(program, words):
+    """The commands behind `$` in the help print what stands below them."""
+    sessions, is_inside = [], False
+    for line in transcript.run(program, of(words)).stdout.decode().splitlines():
+        if line.startswith("  $ "):
+            sessions.append((re.sub(r"\bstmdesk\b", "./stmdesk", line[4:]), []))
+            is_inside = True
+        elif is_inside and line.startswith("  "):
+            sessions[-1][1].append(line[2:])
+        else:
+            is_inside = False
+    return next((said for said in (tours.judge(program, *session) for session in sessions) if said), None)
+
+
 def judge_refused(program, words):
     done = transcript.run(program, of(words))
     if (done.returncode, done.stdout, done.taken) != (2, b"", 0) or not done.stderr.startswith(b"error: "):
@@ -118,6 +133,8 @@ def judged(program, cases):
         for words in forms:
             yield f"words {words}", judge_help(program, words, patterns)
     yield f"words {FORMS_OF_HELP_OF_RUN[0]}, the examples", judge_examples(program, FORMS_OF_HELP_OF_RUN[0])
+    for forms in (FORMS_OF_HELP, FORMS_OF_HELP_OF_RUN, FORMS_OF_HELP_OF_CHECK):
+        yield f"words {forms[0]}, what it says to run", judge_sessions(program, forms[0])
     for case in cases:
         if case.is_small_run():
             for options in VARIED:

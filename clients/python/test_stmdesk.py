@@ -399,6 +399,16 @@ class Lines(OnProgram):
             self.assert_is((len(shown), shown[-1]), (count, Stale(count, Commits({}, [], 2999))))
             self.assertEqual(len(desk.take(65536)), count)
 
+    def test_as_many_waiting_blocks_as_there_can_be(self):
+        count = 65536
+        with Desk(program) as desk:
+            for _ in range(count):
+                desk.submit("retry")
+            self.assert_refused(lambda: desk.submit("retry"), "WaitingFull")
+            self.assertEqual(desk.eval(), count)
+            self.assertEqual(desk.show(), [Current(ticket, Blocks()) for ticket in range(1, count + 1)])
+            self.assertEqual(desk.history().count("\n"), 1 + 2 * count)
+
     def test_several_threads(self):
         desk = self.start()
         wrong = []
