@@ -32,7 +32,7 @@ use Rattle.stm_console.specs.Arguments.{number_argument, with_number, with_nothi
 use Rattle.stm_console.specs.Blocks.{compiled_block, verdict_line, tried_text, try_answer, reads_line, looked_text, looks_answer, ticket_line, submitted_text, submit_text, submit_answer}
 use Rattle.stm_console.specs.Console.{desk_answer}
 use Rattle.stm_console.specs.Delivering.{max_jobs, taken, job_text, numbered, jobs_line, take_text, take_answer, delivery_refusal, delivered_line, delivery_text, job_at, deliver_text, deliver_answer, queued_line, handback_text, handback_answer, evaluated_line, evaluated_text, evaluated, eval_answer}
-use Rattle.stm_console.specs.Finishing.{finish_of, tickets_text, result_line, finished_line, event_line, finish_text, finish_answer, cancelled_line, cancel_text, cancel_answer, settled_line, settle_text, settle_answer}
+use Rattle.stm_console.specs.Finishing.{finish_of, tickets_text, result_line, finished_line, finish_event_line, finish_text, finish_answer, cancelled_line, cancel_text, cancel_answer, settled_line, settle_text, settle_answer}
 use Rattle.stm_console.specs.OpenDesk.{OpenDesk, present}
 use Rattle.stm_console.specs.Refusals.{refused}
 use Rattle.stm_console.specs.Showing.{waiter_lines, show_text, show_answer, read_text, waiter_reads_text, reads_answer, cell_lines, store_text, store_answer, history_answer}
@@ -151,11 +151,11 @@ module _ (judged : (table : List Declared) (text : List ℕ) → BlockOrTold tab
   tried_ends d k (Err x) h = refusal_ends x h
 
   -- and so has a block that waits
-  ending_ends : (s : Slow) (t : ℕ) (w : Waiter) (v : Verdict) (o : Option Verdict) → o ≡ Some v → blocks_there o ≡ false → EndsALine (event_line (ending s t o))
+  ending_ends : (s : Slow) (t : ℕ) (w : Waiter) (v : Verdict) (o : Option Verdict) → o ≡ Some v → blocks_there o ≡ false → EndsALine (finish_event_line (ending s t o))
   ending_ends s t w v None e h = absurd cc
   ending_ends s t w v (Some x) e h = effect_ends t (length s.store) x (stale_after (written_in x) (without_waiter t s.waiters)) h
 
-  finishing_ends : (d : Seen) (jobs : List HandedOut) (t : ℕ) (o : Option Waiter) → find_waiter t (now d).waiters ≡ o → finish_first (now d).store (is_full d) o ≡ None → Stands d jobs → EndsALine (event_line (finish_of (now d) t o))
+  finishing_ends : (d : Seen) (jobs : List HandedOut) (t : ℕ) (o : Option Waiter) → find_waiter t (now d).waiters ≡ o → finish_first (now d).store (is_full d) o ≡ None → Stands d jobs → EndsALine (finish_event_line (finish_of (now d) t o))
   finishing_ends d jobs t None f e k = absurd cc
   finishing_ends d jobs t (Some w) f e k =
       let o = verdict_on (now d).store w.block in

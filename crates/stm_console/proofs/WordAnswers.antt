@@ -20,7 +20,7 @@ use Rattle.clap.specs.declared.error.kind.ErrorKind.{ErrorKind}
 use Rattle.clap.proofs.OnLiterals.{clap_on_literals}
 use Rattle.std.specs.Prelude.{Result}
 use Rattle.stm_console.specs.CommandLine.{answers_of, are_mistakes, asks_for_run, command_line, is_mistake, number_of_text, number_within, options_said, request_of, request_said, IfRun}
-use Rattle.stm_console.specs.Options.{AreInRange, default_options}
+use Rattle.stm_console.specs.Options.{AreRunOptions, default_options}
 use Rattle.stm_console.specs.declared.command_line.Request.{Request}
 use Rattle.stm_console.specs.declared.command_line.Request.TheVariants.{Run, Check}
 
@@ -150,7 +150,7 @@ within low high otherwise (Some n) least most = go (nat_le low n) (nat_le n high
 abbrev number : List ℕ → List Row → Option ℕ
 number name rows = option_and_then number_of_text (one_of name rows)
 
-said_in_range : (rows : List Row) → AreInRange (options_said rows)
+said_in_range : (rows : List Row) → AreRunOptions (options_said rows)
 said_in_range rows = record {
   some_worker = (within 1 64 2 (number (codes "workers") rows) (omega arith) (omega arith)).0;
   few_workers = (within 1 64 2 (number (codes "workers") rows) (omega arith) (omega arith)).1;
@@ -158,7 +158,7 @@ said_in_range rows = record {
   few_events = (within 0 1048576 1048576 (number (codes "max-events") rows) (omega arith) (omega arith)).1;
 }
 
-default_in_range : AreInRange default_options
+default_in_range : AreRunOptions default_options
 default_in_range = record {
   some_worker = omega arith;
   few_workers = omega arith;
@@ -166,19 +166,19 @@ default_in_range = record {
   few_events = omega arith;
 }
 
-subcommand_in_range : (name : List ℕ) (rows : List Row) → IfRun (request_said (Some (name, rows))) AreInRange
+subcommand_in_range : (name : List ℕ) (rows : List Row) → IfRun (request_said (Some (name, rows))) AreRunOptions
 subcommand_in_range name rows = go (bytes_eq name (codes "check"))
   where
-    go : (b : Bool) → IfRun (cond b Check (Run (options_said rows))) AreInRange
+    go : (b : Bool) → IfRun (cond b Check (Run (options_said rows))) AreRunOptions
     go true = tt
     go false = said_in_range rows
 
-in_range : (p : Option (List ℕ × List Row)) → IfRun (request_said p) AreInRange
+in_range : (p : Option (List ℕ × List Row)) → IfRun (request_said p) AreRunOptions
 in_range None = default_in_range
 in_range (Some p) = subcommand_in_range p.0 p.1
 
 -- whatever the words are
-pub options_in_range : (words : List (List ℕ)) → IfRun (request_of words) AreInRange
+pub options_in_range : (words : List (List ℕ)) → IfRun (request_of words) AreRunOptions
 unfolding request_of
 options_in_range words = in_range (subcommand_of command_line words)
 

@@ -29,6 +29,6 @@ history_of (Open d) = events_text d
 history_of (Declaring table limit) = []
 
 -- the answer was appended to the text; or it is the history, which is to be written
-abbrev pub IsAnswer : Reply → List ℕ → List ℕ → Console → List ℕ → Type 0
-IsAnswer reply.Text old new c answer = new ≡ old ++ answer
-IsAnswer reply.History old new c answer = (new ≡ old) × (answer ≡ history_of c)
+abbrev pub IsReply : Reply → List ℕ → List ℕ → Console → List ℕ → Type 0
+IsReply reply.Text old new c answer = new ≡ old ++ answer
+IsReply reply.History old new c answer = (new ≡ old) × (answer ≡ history_of c)

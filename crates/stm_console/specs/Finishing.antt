@@ -42,19 +42,19 @@ finished_line t first_new (Commits writes news result) stale = result_line t (re
 finished_line t first_new (Throws fault) stale = codes "finished " ++ decimal t ++ 32 ∷ verdict_text (Throws fault) ++ 10 ∷ []
 finished_line t first_new Blocks stale = []
 
-abbrev pub event_line : Option What → List ℕ
-event_line (Some (Finished t v first_new stale)) = finished_line t first_new v stale
-event_line (Some (Submitted t block)) = []
-event_line (Some (Installed t v)) = []
-event_line (Some (Cancelled t)) = []
-event_line None = []
+abbrev pub finish_event_line : Option What → List ℕ
+finish_event_line (Some (Finished t v first_new stale)) = finished_line t first_new v stale
+finish_event_line (Some (Submitted t block)) = []
+finish_event_line (Some (Installed t v)) = []
+finish_event_line (Some (Cancelled t)) = []
+finish_event_line None = []
 
 abbrev pub with_what : Seen → Option What → Seen
 with_what d (Some what) = with_event d (event 0 what)
 with_what d None = d
 
 abbrev pub finish_text : Seen → ℕ → Option FinishError → List ℕ
-finish_text d t None = event_line (finish_event (now d) t)
+finish_text d t None = finish_event_line (finish_event (now d) t)
 finish_text d t (Some e) = finish_error_text e
 
 abbrev pub after_finish : Seen → ℕ → Option FinishError → Seen

@@ -9,7 +9,7 @@ use Rattle.stm_console.specs.declared.options.Options.{Options}
 use Rattle.stm_console.specs.CommandLine.{answers_of, asks_for_run, has_mistake, request_of, IfRun}
 use Rattle.stm_console.specs.Console.{initial_console, answer_to, state_after}
 use Rattle.stm_console.specs.ConsoleState.{present_desk}
-use Rattle.stm_console.specs.Options.{AreInRange, default_options}
+use Rattle.stm_console.specs.Options.{AreRunOptions, default_options}
 use Rattle.stm_console.specs.LineClass.{Silent, line_class}
 
 -- a text that ends with a line feed
@@ -60,7 +60,7 @@ RunsHaveDefaults = (words : List (List ℕ)) → IsTrue (asks_for_run words)
 
 -- whatever the words are, the options of a run are in their ranges
 abbrev pub OptionsAreInRange : Type 0
-OptionsAreInRange = (words : List (List ℕ)) → IfRun (request_of words) AreInRange
+OptionsAreInRange = (words : List (List ℕ)) → IfRun (request_of words) AreRunOptions
 
 -- `check` after the program's name asks for a check, and there is nothing to tell of it
 abbrev pub ChecksAreAccepted : Type 0

@@ -4,7 +4,7 @@ use Rattle.stm_history.specs.SlowDesk.{max_events}
 use Rattle.stm_console.specs.declared.options.Options.{Options}
 
 -- each is in its range
-pub record AreInRange (o : Options) : Type 0 where
+pub record AreRunOptions (o : Options) : Type 0 where
   pub some_worker : 0 < o.workers
   pub few_workers : o.workers ≤ 64
   pub few_levels : o.levels ≤ 8

@@ -6,7 +6,7 @@ ghost use Rattle.clap.specs.Walk.{one_of, rows_of, rule_of};
 ghost use Rattle.clap.specs.Words.{app_of, found_of, FailsBy};
 ghost use Rattle.clap.specs.declared.builder.command.Command.TheViews.{out-Command as fields_of};
 ghost use Rattle.stm_console.specs.CommandLine.{answers_of, asks_for_run, command_line, check_command, number_of_text, number_option, number_said, number_within, options_said, request_of, request_said, run_command, IfRun};
-ghost use Rattle.stm_console.specs.Options.{AreInRange};
+ghost use Rattle.stm_console.specs.Options.{AreRunOptions};
 
 use crate::options::Options;
 use clap::{Arg, ArgMatches, Command, Error, value_parser};
@@ -208,7 +208,7 @@ fn number_of(matches: &ArgMatches, name: &str, low: u32, high: u32, otherwise: u
 /// The options of `run`.
 fn options_of(matches: &ArgMatches) -> Options
     ensures said { result ≡ options_said (rows_of (found_of matches.now)) }
-    ensures range { AreInRange result }
+    ensures range { AreRunOptions result }
 {
     let otherwise = Options::standard();
     Options {
@@ -233,7 +233,7 @@ fn options_of(matches: &ArgMatches) -> Options
 /// What is asked for by words that clap takes.
 fn request_of<'a>(matches: &ArgMatches<'a>) -> Request
     ensures said { result ≡ request_said (subcommand_rows_of matches.now) }
-    ensures range { IfRun result AreInRange }
+    ensures range { IfRun result AreRunOptions }
 {
     match matches.subcommand() {
         Some((name, inner)) => {
@@ -252,7 +252,7 @@ pub fn read_words<'a, S: AsStr>(alloc: Global, words: &'a [S]) -> Result<Request
     ensures run { IsTrue (asks_for_run (map S.text words.now)) → IsOk result }
     ensures answers { FailsBy (answers_of (map S.text words.now)) result }
     ensures request { IfOk result (λ r. r ≡ request_of (map S.text words.now)) }
-    ensures range { IfOk result (λ r. IfRun r AreInRange) }
+    ensures range { IfOk result (λ r. IfRun r AreRunOptions) }
 {
     if is_plain_run(words) {
         return Ok(Request::Run(Options::standard()));

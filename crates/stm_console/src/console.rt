@@ -3,7 +3,7 @@
 ghost use Rattle.std.specs.Prelude.{◌≡◌, ◌≤◌, ◌++◌, Some, string_bytes, OnOk, IfOk};
 ghost use Rattle.stm_history.specs.SlowDesk.{max_events};
 ghost use Rattle.stm_history.specs.HistoryText.{WritesText};
-ghost use Rattle.stm_console.specs.Abstraction.{IsAnswer, history_of};
+ghost use Rattle.stm_console.specs.Abstraction.{IsReply, history_of};
 ghost use Rattle.stm_console.specs.Console.{initial_console, command_named, desk_answer, desk_after, command_answer, command_state, answer_to_command, state_after_command, answer_to, state_after};
 ghost use Rattle.stm_console.specs.ConsoleState.{present_desk};
 ghost use Rattle.stm_console.specs.Showing.{history_answer};
@@ -35,7 +35,7 @@ impl OpenDesk {
     /// Answers `history`.
     #[tactic(auto, unfolding(crate::specs::Showing::history_answer))]
     fn answer_history(&self, argument: &str, out: &mut String) -> Result<Reply, NoMemory>
-        ensures { IfOk result (λ r. IsAnswer r (string_bytes out.old) (string_bytes out.new) (IsOpen self.now) (history_answer self.now argument.now)) }
+        ensures { IfOk result (λ r. IsReply r (string_bytes out.old) (string_bytes out.new) (IsOpen self.now) (history_answer self.now argument.now)) }
     {
         if argument.is_empty() {
             return Ok(Reply::History);
@@ -52,7 +52,7 @@ impl OpenDesk {
         argument: &str,
         out: &mut String,
     ) -> Result<Reply, NoMemory>
-        ensures text { IfOk result (λ r. IsAnswer r (string_bytes out.old) (string_bytes out.new) (IsOpen self.new) (desk_answer self.old command argument.now)) }
+        ensures text { IfOk result (λ r. IsReply r (string_bytes out.old) (string_bytes out.new) (IsOpen self.new) (desk_answer self.old command argument.now)) }
         ensures state { OnOk result (self.new ≡ desk_after self.old command argument.now) }
     {
         match command {
@@ -178,7 +178,7 @@ impl Console {
         argument: &str,
         out: &mut String,
     ) -> Result<Reply, NoMemory>
-        ensures text { IfOk result (λ r. IsAnswer r (string_bytes out.old) (string_bytes out.new) self.new (desk_answer (present_desk self.old) command argument.now)) }
+        ensures text { IfOk result (λ r. IsReply r (string_bytes out.old) (string_bytes out.new) self.new (desk_answer (present_desk self.old) command argument.now)) }
         ensures state { OnOk result (self.new ≡ IsOpen (desk_after (present_desk self.old) command argument.now)) }
     {
         self.open(alloc)?;
@@ -199,7 +199,7 @@ impl Console {
         argument: &str,
         out: &mut String,
     ) -> Result<Reply, NoMemory>
-        ensures text { IfOk result (λ r. IsAnswer r (string_bytes out.old) (string_bytes out.new) self.new (answer_to_command self.old (command_named word.now) argument.now)) }
+        ensures text { IfOk result (λ r. IsReply r (string_bytes out.old) (string_bytes out.new) self.new (answer_to_command self.old (command_named word.now) argument.now)) }
         ensures state { OnOk result (self.new ≡ state_after_command self.old (command_named word.now) argument.now) }
     {
         let Some(command) = command_of(word) else {
@@ -221,7 +221,7 @@ impl Console {
     /// Appends the answer to a line, or says that it is the history.
     #[tactic(auto, unfolding(crate::specs::Console::answer_to, crate::specs::Console::state_after))]
     pub fn answer(&mut self, alloc: Global, line: &[u8], out: &mut String) -> Result<Reply, NoMemory>
-        ensures text { IfOk result (λ r. IsAnswer r (string_bytes out.old) (string_bytes out.new) self.new (answer_to self.old line.now)) }
+        ensures text { IfOk result (λ r. IsReply r (string_bytes out.old) (string_bytes out.new) self.new (answer_to self.old line.now)) }
         ensures state { OnOk result (self.new ≡ state_after self.old line.now) }
     {
         match judge(line) {

@@ -8,7 +8,7 @@ ghost use Rattle.stm_console.specs.Checking.{IsFinding, BeginsFindingText, findi
 ghost use Rattle.stm_console.specs.Console.{console_text};
 ghost use Rattle.stm_console.specs.ExitStatus.{finding_status, status_of, IsStatus};
 ghost use Rattle.stm_console.specs.CommandLine.{answers_of, asks_for_help, has_mistake, is_mistake, request_of, IfRun};
-ghost use Rattle.stm_console.specs.Options.{AreInRange};
+ghost use Rattle.stm_console.specs.Options.{AreRunOptions};
 
 use crate::checking::{Finding, check};
 use crate::command_line::{Request, read_words};
@@ -107,7 +107,7 @@ pub fn start<'a, S: AsStr, R: Read, W: Write, E: Write>(
     // Words of which there is nothing to tell are those of a run or a check, as the name alone, and aren't refused.
     ensures runs { answers_of (map S.text words.now) ≡ [] → result ≢ 2 }
     // A run has options in their ranges.
-    ensures options { IfRun (request_of (map S.text words.now)) AreInRange }
+    ensures options { IfRun (request_of (map S.text words.now)) AreRunOptions }
     // With status 0 the whole text of the input was written.
     ensures answered { answers_of (map S.text words.now) ≡ [] → IfRun (request_of (map S.text words.now)) (λ o.
         result ≡ 0 → IfSome (R.remaining reader.old) (λ input.

@@ -4,7 +4,7 @@ ghost use Rattle.std.specs.Prelude.{◌≡◌, [], ◌++◌, ℕ, List, OnOk, On
 ghost use Rattle.std.specs.Io.KnownBytes.{Appends};
 ghost use Rattle.stm_terms.specs.Texts.{IsPrefixOf};
 ghost use Rattle.stm_console.specs.Console.{console_text, whole_lines_text};
-ghost use Rattle.stm_console.specs.Options.{AreInRange};
+ghost use Rattle.stm_console.specs.Options.{AreRunOptions};
 ghost use Rattle.stm_console.specs.Streaming.{rest_text, whole_rest_text};
 
 use crate::calls::Calls;
@@ -95,7 +95,7 @@ pub fn run<R: Read, W: Write>(
     writer: &mut W,
     options: Options,
 ) -> Result<(), RunFault>
-    requires { AreInRange options }
+    requires { AreRunOptions options }
     // The whole text of the input was written.
     ensures answered { OnOk result (IfSome (R.remaining reader.old) (λ input.
         Appends (W.contents writer.old) (W.contents writer.new) (console_text options.max_events input))) }
