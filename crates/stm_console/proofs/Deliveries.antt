@@ -1,5 +1,5 @@
 -- What a delivery of a job's message does: the block under a ticket stays the same, so it is the job's.
-use Rattle.std.proofs.Common.{◌≡◌, ℕ, zero, suc, Bool, List, [], ◌∷◌, ◌++◌, Option, Some, None, Result, Ok, Err, IfOk, IfErr, OnOk, refl, sym, ap, ◌∙◌, subst, append-nil}
+use Rattle.std.proofs.Common.{◌≡◌, ℕ, zero, suc, List, [], ◌∷◌, Option, Some, None, Result, Ok, Err, IfOk, IfErr, OnOk, refl, sym, ap, ◌∙◌, subst, append-nil}
 use Rattle.std.specs.Prelude.{option_map, slice_get, length, map}
 use Rattle.stm_terms.specs.declared.kinds.Ty.{Ty}
 use Rattle.stm_terms.specs.declared.values.Value.{Value}
@@ -38,7 +38,7 @@ stays : BlocksStay → (d : Seen) (cells : List (Ty × Value)) (j : Job) → IsL
 stays law d cells j legal s w e =
     let v = same_block (find_waiter j.ticket (state d.table s.before).waiters) j.block s.waited in
     law d.table s.before s.more j.ticket v.0 w (subst (λ (h : List Event). IsLegal d.table h) s.history legal) v.1
-      (subst (λ (h : List Event). find_waiter j.ticket (state d.table h).waiters ≡ Some w) s.history e) ∙ v.2
+    (subst (λ (h : List Event). find_waiter j.ticket (state d.table h).waiters ≡ Some w) s.history e) ∙ v.2
 
 first_told : (d : Seen) (j : Job) (o : Option Waiter) (told : Option DeliverError) (reads : List (ℕ × Value)) → ((w : Waiter) → o ≡ Some w → w.block ≡ j.block)
     → DeliverTold told (now d).store (is_full d) o j.block reads → told ≡ delivery_first (now d).store o reads d

@@ -1,5 +1,5 @@
 -- What the code's judgements, values and answers are to the definitions.
-use Rattle.std.specs.Prelude.{◌≡◌, ℕ, List, [], ◌∷◌, ◌++◌, Option, Some, None, Result, Ok, Err, length, IsTrue}
+use Rattle.std.specs.Prelude.{◌≡◌, ℕ, List, [], ◌∷◌, ◌++◌, Result, Ok, Err, length, IsTrue}
 use Rattle.stm_store.specs.Tables.{Declared}
 use Rattle.stm_console.specs.LineClass.{LineClass, TooLong, Silent, NotAscii, Words}
 use Rattle.stm_console.specs.declared.console.Console.{Console}

@@ -1,5 +1,5 @@
 -- The arguments of commands that take a number, or nothing.
-use Rattle.std.specs.Prelude.{ℕ, Bool, ◌&&◌, ◌==◌, nat_lt, nat_le, List, [], ◌∷◌, ◌++◌, Option, Some, None, if◌then◌else◌, codes, take, drop, length}
+use Rattle.std.specs.Prelude.{ℕ, Bool, ◌&&◌, ◌==◌, nat_lt, nat_le, List, Option, Some, None, if◌then◌else◌, codes, take, drop, length}
 use Rattle.std.specs.List.{list_all}
 use Rattle.stm_parse.specs.Bytes.{number_len, decimal as number_of_digits}
 use Rattle.stm_console.specs.LineClass.{is_line_blank}

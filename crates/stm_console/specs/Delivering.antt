@@ -1,6 +1,5 @@
 -- `take`, `deliver`, `handback` and `eval`: blocks are handed out, evaluated, and their verdicts delivered.
-use Rattle.std.specs.Prelude.{ℕ, zero, suc, ◌+◌, List, [], ◌∷◌, ◌++◌, Option, Some, None, codes, decimal, length, take, map, nat_lt, slice_get, false, if◌then◌else◌}
-use Rattle.stm_terms.specs.declared.kinds.Ty.{Ty}
+use Rattle.std.specs.Prelude.{ℕ, zero, suc, ◌+◌, List, [], ◌∷◌, ◌++◌, Option, Some, None, codes, decimal, length, take, nat_lt, slice_get, false, if◌then◌else◌}
 use Rattle.stm_terms.specs.declared.values.Value.{Value}
 use Rattle.stm_terms.specs.declared.verdicts.Verdict.{Verdict}
 use Rattle.stm_terms.specs.Changes.{cell_value}

@@ -9,7 +9,7 @@ use Rattle.stm_store.specs.Tables.{Declared}
 use Rattle.stm_history.specs.HistoryText.{history_text as text_of_history}
 use Rattle.stm_history.specs.Lines.{format_1}
 use Rattle.stm_history.specs.SlowDesk.{Since, Waiter, Slow, Standing, New, Stale, Current, under, find_waiter, standing}
-use Rattle.stm_desk.specs.Seen.{Seen, now}
+use Rattle.stm_desk.specs.Seen.{now}
 use Rattle.stm_console.specs.Arguments.{number_argument, with_number, with_nothing}
 use Rattle.stm_console.specs.Blocks.{reads_line}
 use Rattle.stm_console.specs.OpenDesk.{OpenDesk, present}

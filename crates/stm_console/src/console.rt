@@ -220,7 +220,12 @@ impl Console {
 
     /// Appends the answer to a line, or says that it is the history.
     #[tactic(auto, unfolding(crate::specs::Console::answer_to, crate::specs::Console::state_after))]
-    pub fn answer(&mut self, alloc: Global, line: &[u8], out: &mut String) -> Result<Reply, NoMemory>
+    pub fn answer(
+        &mut self,
+        alloc: Global,
+        line: &[u8],
+        out: &mut String,
+    ) -> Result<Reply, NoMemory>
         ensures text { IfOk result (λ r. IsReply r (string_bytes out.old) (string_bytes out.new) self.new (answer_to self.old line.now)) }
         ensures state { OnOk result (self.new ≡ state_after self.old line.now) }
     {

@@ -70,10 +70,7 @@ fn reported(refusal: DeliverError) -> Result<Option<DeliverError>, NoMemory>
 }
 
 /// Delivers a message. The answer is why it is refused, if it is.
-fn deliver_message(
-    desk: &mut Desk,
-    message: Evaluated,
-) -> Result<Option<DeliverError>, NoMemory>
+fn deliver_message(desk: &mut Desk, message: Evaluated) -> Result<Option<DeliverError>, NoMemory>
     ensures told { IfOk result (λ r. TellsDeskDelivery r desk.old (message_ticket message) (message_block message) (message_reads message)) }
     ensures done { IfOk result (λ r. desk.new ≡ after_message desk.old message r) }
     ensures grown { HasGrown desk.old desk.new }

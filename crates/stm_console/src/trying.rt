@@ -49,7 +49,12 @@ fn write_ticket_line(ticket: u32, out: &mut String) -> Result<(), NoMemory>
 
 impl OpenDesk {
     /// Appends the verdict of a block on the present store.
-    fn write_tried(&mut self, alloc: Global, block: &Typed, out: &mut String) -> Result<(), NoMemory>
+    fn write_tried(
+        &mut self,
+        alloc: Global,
+        block: &Typed,
+        out: &mut String,
+    ) -> Result<(), NoMemory>
         requires { Covers (plains (opened self.old.desk.table)) block.now.uses }
         ensures text { OnOk result (string_bytes out.new ≡ string_bytes out.old ++ verdict_line (verdict_on (present self.old) block.now)) }
         ensures same { self.new ≡ self.old }

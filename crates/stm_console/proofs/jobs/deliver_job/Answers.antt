@@ -10,5 +10,5 @@ pub returns-in-Ok-clause-done : goal.returns-in-Ok-clause-done
 returns-in-Ok-clause-done c =
     done_if_ok c.args.desk.now _ c.args.store.now c.args.job c.in-Ok.message c.deliver_message.result c.in-Ok.ensures.job.0 c.in-Ok.ensures.verdict
     (told_if_ok c.blocks_stay.ensures c.args.desk.now c.args.store.now c.args.job c.in-Ok.message c.deliver_message.result c.requires.legal c.requires.stands
-      c.in-Ok.ensures.job.0 c.in-Ok.ensures.job.1 c.in-Ok.ensures.reads c.deliver_message.ensures.told)
+    c.in-Ok.ensures.job.0 c.in-Ok.ensures.job.1 c.in-Ok.ensures.reads c.deliver_message.ensures.told)
     c.deliver_message.ensures.done
