@@ -179,12 +179,18 @@ max_events_alone name rest = refl
 
 pub numbers_are_taken : NumbersAreTaken
 numbers_are_taken name n = (
-  (λ least most. (workers_taken name (decimal n) (accepted 1 64 n (omega arith) least most),
-      workers_said name (decimal n) n (said n (omega arith)) (le-leb 1 n least) (le-leb n 64 most))),
-  (λ most. (levels_taken name (decimal n) (accepted 0 8 n (omega arith) (omega arith) most),
-      levels_said name (decimal n) n (said n (omega arith)) (le-leb 0 n (omega arith)) (le-leb n 8 most))),
-  (λ most. (max_events_taken name (decimal n) (accepted 0 1048576 n (omega arith) (omega arith) most),
-      max_events_said name (decimal n) n (said n (omega arith)) (le-leb 0 n (omega arith)) (le-leb n 1048576 most))),
+  (λ least most. (
+    workers_taken name (decimal n) (accepted 1 64 n (omega arith) least most),
+    workers_said name (decimal n) n (said n (omega arith)) (le-leb 1 n least) (le-leb n 64 most),
+  )),
+  (λ most. (
+    levels_taken name (decimal n) (accepted 0 8 n (omega arith) (omega arith) most),
+    levels_said name (decimal n) n (said n (omega arith)) (le-leb 0 n (omega arith)) (le-leb n 8 most),
+  )),
+  (λ most. (
+    max_events_taken name (decimal n) (accepted 0 1048576 n (omega arith) (omega arith) most),
+    max_events_said name (decimal n) n (said n (omega arith)) (le-leb 0 n (omega arith)) (le-leb n 1048576 most),
+  )),
 )
 
 pub others_are_refused : OthersAreRefused
