@@ -85,7 +85,8 @@ number_within low high otherwise (Some n) = if nat_le low n && nat_le n high the
 
 -- the number that is said for an option, from low to high; clap refuses any other
 abbrev pub number_said : List ℕ → ℕ → ℕ → ℕ → List Row → ℕ
-number_said name low high otherwise rows = number_within low high otherwise (option_and_then number_of_text (one_of name rows))
+number_said name low high otherwise rows =
+    number_within low high otherwise (option_and_then number_of_text (one_of name rows))
 
 abbrev pub options_said : List Row → Options
 options_said rows = record {

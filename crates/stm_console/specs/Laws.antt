@@ -64,7 +64,8 @@ OptionsAreInRange = (words : List (List ℕ)) → IfRun (request_of words) AreRu
 
 -- `check` after the program's name asks for a check, and there is nothing to tell of it
 abbrev pub ChecksAreAccepted : Type 0
-ChecksAreAccepted = (name : List ℕ) → (answers_of (name ∷ codes "check" ∷ []) ≡ []) × (request_of (name ∷ codes "check" ∷ []) ≡ Check)
+ChecksAreAccepted =
+    (name : List ℕ) → (answers_of (name ∷ codes "check" ∷ []) ≡ []) × (request_of (name ∷ codes "check" ∷ []) ≡ Check)
 
 -- ---- numbers of options
 

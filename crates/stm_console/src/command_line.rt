@@ -197,8 +197,8 @@ fn number_within(low: u32, high: u32, otherwise: u32, number: Option<u32>) -> u3
     }
 }
 
-/// The number that was said for an option. Clap has a default and takes none but those from `low` to `high`; that it is one of
-/// them is tested here once more.
+/// The number that was said for an option. Clap has a default and takes none but those from `low` to `high`; that it is one
+/// of them is tested here once more.
 fn number_of(matches: &ArgMatches, name: &str, low: u32, high: u32, otherwise: u32) -> u32
     ensures { result ≡ number_said name.now low high otherwise (rows_of (found_of matches.now)) }
 {

@@ -35,8 +35,8 @@ pub fn verdicts_are_shown()
     stm_history::laws::weak_is_present();
 }
 
-/// The program's name alone, and `run` after it, ask for a run with the default options, also with a last word `--`. No words
-/// give a run options that are out of their ranges.
+/// The program's name alone, and `run` after it, ask for a run with the default options, also with a last word `--`. No
+/// words give a run options that are out of their ranges.
 pub fn words_of_a_run_are_accepted()
     ensures accepted { RunsAreAccepted }
     ensures dashes { LastDashesChangeNothing }
@@ -49,8 +49,8 @@ pub fn words_of_a_check_are_accepted()
     ensures { ChecksAreAccepted }
 {}
 
-/// `run` with `--workers=N`, `--levels=N` or `--max-events=N` runs with this number where it is in the option's range, and is
-/// refused where it isn't.
+/// `run` with `--workers=N`, `--levels=N` or `--max-events=N` runs with this number where it is in the option's range, and
+/// is refused where it isn't.
 pub fn numbers_in_range_are_taken()
     ensures taken { NumbersAreTaken }
     ensures others { OthersAreRefused }

@@ -128,7 +128,8 @@ pub fn start<'a, S: AsStr, R: Read, W: Write, E: Write>(
         (front : List ℕ) × BeginsFindingText bytes front
         × Appends (W.contents writer.old) (W.contents writer.new) front) }
     // Nothing but a check judges histories.
-    ensures judged { result ≡ 3 → (answers_of (map S.text words.now) ≡ []) × (request_of (map S.text words.now) ≡ Request.Check) }
+    ensures judged { result ≡ 3 → (answers_of (map S.text words.now) ≡ [])
+        × (request_of (map S.text words.now) ≡ Request.Check) }
     // Where words are refused, nothing is read and nothing written.
     ensures refused { result ≡ 2 → Keeps (R.remaining reader.old) (R.remaining reader.new)
         × Keeps (W.contents writer.old) (W.contents writer.new) }
