@@ -1,0 +1,88 @@
+-- What may go from one thread to another, type by type. One search over a type with several blocks in it ends at its limits.
+use denote.RattleType.{RattleType}
+use denote.Param.Send.{IsSend, IsSync, sendable}
+use Rattle.std.specs.declared.sync.ledger.Ledger.{Ghosts}
+use Rattle.std.proofs.sync.ledger.Share.TheSendSync.{the_send as share_send}
+use Rattle.std.proofs.sync.ledger.Book.TheSendSync.{the_send as book_send}
+use Rattle.std.proofs.Crossing.{crosses, Vec-send}
+use Rattle.std.proofs.MapsCrossing.{BTreeMap-send, crosses as maps_crosses}
+use Rattle.stm_terms.proofs.expr.Expr.TheLaws.TheKnot.{crosses as expr_crosses}
+use Rattle.stm_terms.proofs.action.Action.TheLaws.TheKnot.{crosses as action_crosses}
+use Rattle.stm_check.specs.contracts.typed.SharedBlock as shared_block
+use Rattle.stm_check.specs.contracts.typed.Typed as typed
+use Rattle.stm_eval.specs.contracts.job.Job as job
+use Rattle.stm_eval.specs.contracts.message.Evaluated as message
+use Rattle.stm_pool.specs.contracts.slot.Slot as slot
+use Rattle.stm_history.specs.contracts.event.Event as event
+use Rattle.stm_history.specs.contracts.waiting.Held as held
+use Rattle.stm_history.specs.contracts.waiting.Waiting as waiting
+use Rattle.stm_history.specs.contracts.waiting.WaitingBlocks as blocks
+use Rattle.stm_history.specs.contracts.machine.Machine as machine
+use Rattle.stm_store.specs.contracts.table.Table as table
+use Rattle.stm_store.specs.contracts.store.Store as store
+use Rattle.stm_queue.specs.contracts.pending.Pending as pending
+use Rattle.stm_watch.specs.contracts.watch.Watch as watch
+use Rattle.stm_desk.specs.contracts.desk.Desk as desk
+use Rattle.stm_pool.specs.contracts.pass.Pass as pass
+use Rattle.stm_pool.specs.contracts.guarded.Guarded as guarded
+use Rattle.stm_pool.specs.contracts.shared.SharedDesk as shared
+
+-- ---- jobs and messages
+pub typed_send : IsSend typed.the_row
+typed_send = search (sendable, crosses, maps_crosses, action_crosses, expr_crosses) depth 30 fits 20000
+
+pub typed_sync : IsSync typed.the_row
+typed_sync = search (sendable, crosses, maps_crosses, action_crosses, expr_crosses) depth 30 fits 20000
+
+pub block_send : IsSend shared_block.the_row
+block_send = search (sendable, crosses, typed_send, typed_sync) depth 30
+
+pub job_send : IsSend job.the_row
+job_send = search (sendable, block_send) depth 30
+
+pub message_send : IsSend message.the_row
+message_send = search (sendable, crosses, maps_crosses, action_crosses, expr_crosses) depth 40 fits 100000
+
+pub slot_send : IsSend slot.the_row
+slot_send = search (sendable, job_send, message_send) depth 30 fits 20000
+
+-- ---- the desk under its lock
+pub event_send : IsSend event.the_row
+event_send = search (sendable, crosses, maps_crosses, action_crosses, expr_crosses) depth 40 fits 100000
+
+pub held_send : IsSend held.the_row
+held_send = search (sendable, crosses) depth 40 fits 100000
+
+pub waiting_send : IsSend waiting.the_row
+waiting_send = search (sendable, block_send, held_send) depth 40 fits 100000
+
+pub blocks_send : IsSend blocks.the_row
+blocks_send = search (sendable, crosses, BTreeMap-send, waiting_send) depth 40 fits 100000
+
+pub table_send : IsSend table.the_row
+table_send = search (sendable, crosses) depth 40 fits 100000
+
+pub store_send : IsSend store.the_row
+store_send = search (sendable, crosses) depth 40 fits 100000
+
+pub pending_send : IsSend pending.the_row
+pending_send = search (sendable, crosses) depth 40 fits 100000
+
+pub watch_send : IsSend watch.the_row
+watch_send = search (sendable, crosses, maps_crosses) depth 40 fits 100000
+
+pub machine_send : IsSend machine.the_row
+machine_send = search (sendable, crosses, store_send, blocks_send, pending_send, watch_send) depth 40 fits 100000
+
+pub desk_send : IsSend desk.the_row
+desk_send = search (sendable, Vec-send, event_send, table_send, machine_send) depth 40 fits 100000
+
+module _ (L : RattleType) (g : Ghosts L.Denot) where
+  pub pass_send : IsSend (pass.the_row L g)
+  pass_send = search (sendable, crosses, share_send, event_send) depth 40 fits 100000
+
+  pub guarded_send : IsSend (guarded.the_row L g)
+  guarded_send = search (sendable, share_send, book_send, desk_send) depth 40 fits 100000
+
+  pub shared_sync : IsSync (shared.the_row L g)
+  shared_sync = search (sendable, crosses, guarded_send) depth 40 fits 100000

@@ -1,0 +1,5 @@
+mod Answered
+pub mod Crosses
+mod OneJob
+mod Owns
+mod Works

@@ -1,0 +1,12 @@
+use Rattle.std.proofs.Common.{arith, refl}
+use Rattle.stm_history.specs.declared.event.What.TheVariants.{Finished}
+use Rattle.stm_history.specs.Machine.{event}
+use Rattle.stm_pool.proofs.Owns.{more_of}
+use Rattle.stm_pool.proofs.guarded.Guarded.finish.Goals as goal
+
+pub invariant_of-pass-2 : goal.invariant_of-pass-2
+invariant_of-pass-2 g c =
+    let old = c.pass.inside in
+    let t = more_of old.client old.own.items c.finish_noted.new.own.items (event old.client (Finished c.args.ticket c.in_ok-finish.finish.verdict c.in_ok-finish.finish.applied.first_new c.in_ok-finish.finish.stale)) (c.in_ok-finish.ensures.noted) c.pass.invariant.2 refl in
+    let one = c.pass.invariant.0 in let same = c.pass.invariant.1 in
+    (omega (arith, c.add.ensures.parts, one), omega (arith, c.add.ensures.amount, same, t.0), t.1, c.pass.invariant.3)

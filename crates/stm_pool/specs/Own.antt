@@ -1,0 +1,41 @@
+-- What a client knows of a history.
+use Rattle.std.specs.Prelude.{◌≡◌, ℕ, ◌+◌, Bool, true, ◌&&◌, ◌==◌, List, [], ◌∷◌, ◌++◌, length, if◌then◌else◌}
+use Rattle.stm_history.specs.declared.event.Event.{Event}
+
+-- what a pass is to its holder: the client, its own accepted events, and how many events it has seen
+pub record Known : Type 0 where
+  pub client : ℕ
+  pub own : List Event
+  pub seen : ℕ
+
+-- the events of a client, in order
+abbrev pub own_of : ℕ → List Event → List Event
+own_of client [] = []
+own_of client (e ∷ es) = if e.client == client then e ∷ own_of client es else own_of client es
+
+-- whether all events are the client's
+abbrev pub are_of : ℕ → List Event → Bool
+are_of client [] = true
+are_of client (e ∷ es) = (e.client == client) && are_of client es
+
+-- the numbers of the passes' events, added up
+abbrev pub events_in_passes : List Known → ℕ
+events_in_passes [] = 0
+events_in_passes (p ∷ ps) = length p.own + events_in_passes ps
+
+-- a client who has done and seen nothing
+abbrev pub newcomer : ℕ → Known
+newcomer client = record { client = client; own = []; seen = 0 }
+
+-- the same client with one event more
+abbrev pub with_own : Known → Event → Known
+with_own k e = record k { own = k.own ++ e ∷ [] }
+
+-- the same client, who has seen this many events
+abbrev pub having_seen : Known → ℕ → Known
+having_seen k n = record k { seen = n }
+
+-- the pass is client c's, and has its events in the history
+pub record IsPassOf (history : List Event) (c : ℕ) (k : Known) : Type 0 where
+  pub client : k.client ≡ c
+  pub events : own_of c history ≡ k.own

@@ -1,0 +1,17 @@
+-- What a worker does to its pass.
+use Rattle.std.specs.Prelude.{◌≡◌, Bool, true, ◌&&◌, List, [], ◌∷◌, ◌++◌}
+use Rattle.stm_history.specs.declared.event.Event.{Event}
+use Rattle.stm_history.specs.SlowSettle.{is_install}
+use Rattle.stm_pool.specs.Own.{Known}
+
+-- whether all events are deliveries
+abbrev pub are_installed : List Event → Bool
+are_installed [] = true
+are_installed (e ∷ es) = is_install e.what && are_installed es
+
+-- the same client, with deliveries added alone
+pub record Worked (old new : Known) : Type 0 where
+  pub client : new.client ≡ old.client
+  pub added : List Event
+  pub own : new.own ≡ old.own ++ added
+  pub installed : are_installed added ≡ true

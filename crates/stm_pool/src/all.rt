@@ -1,0 +1,64 @@
+//! Many jobs at once.
+
+ghost use Rattle.std.specs.Prelude.{◌≡◌, ℕ, ◌<◌, ◌≤◌, All, vec_len, slice_index_or, IfOk, IfErr};
+ghost use Rattle.stm_history.specs.JobsHandedOut.{AreCovered};
+ghost use Rattle.stm_pool.specs.Answers.{AnswersJob};
+ghost use Rattle.stm_pool.specs.Slots.{IsWorked, IsReady};
+
+use crate::slot::{Slot, answers_of, slots_of, work_on};
+use std::alloc::Global;
+use std::thread;
+use std::thread::Threads;
+use stm_eval::{Evaluated, Job};
+use stm_store::Frozen;
+use stm_terms::NoMemory;
+
+/// A job's message, or the job back where memory ran out.
+pub type Answer = Result<Evaluated, (Job, NoMemory)>;
+
+fn work_all<R: Threads + Sync>(
+    rt: &R,
+    alloc: Global,
+    frozen: &Frozen,
+    slots: &mut Vec<Slot>,
+    workers: usize,
+)
+    requires some { 0 < workers }
+    requires ready { All (λ s. IsReady frozen.now s) slots.old.items }
+    ensures len { vec_len slots.new ≡ vec_len slots.old }
+    ensures each { (k : ℕ) (d : _) → k < vec_len slots.old → IsWorked frozen.now (slice_index_or slots.old.items k d) (slice_index_or slots.new.items k d) }
+{
+    thread::for_each_mut(
+        rt,
+        slots.as_mut_slice(),
+        workers,
+        &|_, slot| work_on(alloc, frozen, slot),
+    );
+}
+
+/// Evaluates the jobs by at most so many threads on a store that has the variables of their blocks, and answers in the order
+/// of the jobs. Where memory runs out for the list of the answers, the jobs are handed back before any of them is evaluated;
+/// where a thread can't be started, the caller's thread does its share. `levels`, how deep the branches of `orElse` may run
+/// side by side, has no effect yet.
+pub fn evaluate_all<R: Threads + Sync>(
+    rt: &R,
+    alloc: Global,
+    frozen: &Frozen,
+    jobs: Vec<Job>,
+    workers: usize,
+    _levels: u32,
+) -> Result<Vec<Answer>, (Vec<Job>, NoMemory)>
+    requires workers { (0 < workers) × (workers ≤ 64) }
+    requires levels { _levels ≤ 8 }
+    requires covered { AreCovered frozen.now jobs.items }
+    ensures len { IfOk result (λ v. vec_len v ≡ vec_len jobs) }
+    ensures each { IfOk result (λ v. (k : ℕ) (d : _) (e : _) → k < vec_len jobs → AnswersJob (slice_index_or jobs.items k d) frozen.now (slice_index_or v.items k e)) }
+    ensures back { IfErr result (λ e. e.0 ≡ jobs) }
+{
+    let Ok(room) = Vec::with_capacity(alloc, jobs.len()) else {
+        return Err((jobs, NoMemory));
+    };
+    let mut slots = slots_of(alloc, jobs)?;
+    work_all(rt, alloc, frozen, &mut slots, workers);
+    Ok(answers_of(slots, room))
+}

@@ -1,0 +1,147 @@
+//! The calls of a shared desk. Each takes the lock, makes one call of `Guarded`, and wakes those who wait once the lock is
+//! given back.
+
+ghost use Rattle.std.specs.Prelude.{◌≡◌, ◌<◌, ◌≤◌, List, length, IfOk, OnOk, IfErr, OnErr, IfSome};
+ghost use Rattle.stm_store.specs.Tables.{Declared};
+ghost use Rattle.stm_store.specs.Cells.{plains};
+ghost use Rattle.stm_eval.specs.EvaluatedFields.{message_ticket, message_verdict};
+ghost use Rattle.stm_history.specs.SlowDesk.{IsLegal, state};
+ghost use Rattle.stm_history.specs.Machine.{event};
+ghost use Rattle.stm_history.specs.declared.event.Event.{Event as AnyEvent};
+ghost use Rattle.stm_history.specs.declared.event.What.{What as AnyWhat};
+ghost use Rattle.stm_pool.specs.Own.{own_of, with_own, having_seen};
+ghost use Rattle.stm_pool.specs.Found.{IsFound};
+
+use crate::errors::ViewError;
+use crate::guarded::View;
+use crate::pass::Pass;
+use crate::shared::SharedDesk;
+use std::sync::Wait;
+use std::sync::ledger::Ledger;
+use stm_check::SharedBlock;
+use stm_desk::{CancelError, DeliverError, Finish, FinishError, SubmitError};
+use stm_eval::{Evaluated, Job};
+use stm_store::Frozen;
+use stm_terms::NoMemory;
+
+/// What a worker finds to do.
+#[derive(Drop)]
+pub enum Next {
+    Stopped,
+    Idle,
+    Job(Frozen, Job),
+}
+
+impl<L: Ledger> SharedDesk<L> {
+    /// `Guarded::submit`, under the lock.
+    pub fn submit<R: Wait>(
+        &self,
+        rt: &R,
+        pass: &mut Pass<L>,
+        block: SharedBlock,
+    ) -> Result<u32, SubmitError>
+        ensures ok { IfOk result (λ t. pass.new ≡ with_own pass.old (event pass.old.client (AnyWhat.Submitted t block))) }
+        ensures err { OnErr result (pass.new ≡ pass.old) }
+    {
+        let answer = self.lock.lock(rt).submit(pass, block);
+        self.changed.notify_all();
+        answer
+    }
+
+    /// `Guarded::finish`, under the lock.
+    pub fn finish<R: Wait>(
+        &self,
+        rt: &R,
+        pass: &mut Pass<L>,
+        ticket: u32,
+    ) -> Result<Finish, FinishError>
+        ensures ok { IfOk result (λ f. pass.new ≡ with_own pass.old (event pass.old.client (AnyWhat.Finished ticket f.verdict f.applied.first_new f.stale))) }
+        ensures err { OnErr result (pass.new ≡ pass.old) }
+    {
+        let answer = self.lock.lock(rt).finish(pass, ticket);
+        self.changed.notify_all();
+        answer
+    }
+
+    /// `Guarded::cancel`, under the lock.
+    pub fn cancel<R: Wait>(
+        &self,
+        rt: &R,
+        pass: &mut Pass<L>,
+        ticket: u32,
+    ) -> Result<(), CancelError>
+        ensures ok { OnOk result (pass.new ≡ with_own pass.old (event pass.old.client (AnyWhat.Cancelled ticket))) }
+        ensures err { OnErr result (pass.new ≡ pass.old) }
+    {
+        let answer = self.lock.lock(rt).cancel(pass, ticket);
+        self.changed.notify_all();
+        answer
+    }
+
+    /// `Guarded::deliver`, under the lock.
+    pub fn deliver<R: Wait>(
+        &self,
+        rt: &R,
+        pass: &mut Pass<L>,
+        message: Evaluated,
+    ) -> Result<(), (Evaluated, DeliverError)>
+        ensures ok { OnOk result (pass.new ≡ with_own pass.old (event pass.old.client (AnyWhat.Installed (message_ticket message) (message_verdict message)))) }
+        ensures err { OnErr result (pass.new ≡ pass.old) }
+        ensures back { IfErr result (λ e. e.0 ≡ message) }
+    {
+        let answer = self.lock.lock(rt).deliver(pass, message);
+        self.changed.notify_all();
+        answer
+    }
+
+    /// What is there now: the store and the length of a legal history, which has this client's events and is no shorter than
+    /// what it has seen. The client has seen it from then on.
+    pub fn view<R: Wait>(&self, rt: &R, pass: &mut Pass<L>) -> Result<View, ViewError>
+        ensures ok { IfOk result (λ v. (table : List Declared) × (h : List AnyEvent) × (IsLegal table h) × (own_of pass.old.client h ≡ pass.old.own) × (v.store ≡ plains (state table h).store) × (v.events ≡ length h) × (pass.old.seen ≤ v.events) × (pass.new ≡ having_seen pass.old v.events)) }
+        ensures err { OnErr result (pass.new ≡ pass.old) }
+    {
+        self.lock.lock(rt).view(pass)
+    }
+
+    /// Waits until a ticket is queued or the desk is stopped, and takes the ticket. `Idle` where there is none after all.
+    pub fn next_job<R: Wait>(&self, rt: &R) -> Result<Next, NoMemory>
+        ensures { IfOk result (λ n. IsFound n) }
+    {
+        let mut guard = self
+            .changed
+            .wait_while(rt, self.lock.lock(rt), |g| !g.stopped && !g.has_queued());
+        if guard.stopped {
+            return Ok(Next::Stopped);
+        }
+        match guard.take()? {
+            Some((store, job)) => Ok(Next::Job(store, job)),
+            None => Ok(Next::Idle),
+        }
+    }
+
+    /// `Guarded::hand_back`, under the lock.
+    pub fn hand_back<R: Wait>(&self, rt: &R, ticket: u32) -> bool {
+        let was = self.lock.lock(rt).hand_back(ticket);
+        self.changed.notify_all();
+        was
+    }
+
+    /// Waits until there are more than `seen` events, and tells how many; nothing where the desk was stopped before.
+    pub fn wait_past<R: Wait>(&self, rt: &R, seen: u32) -> Option<u32>
+        ensures { IfSome result (λ n. seen < n) }
+    {
+        let guard = self.changed.wait_while(
+            rt,
+            self.lock.lock(rt),
+            |g| g.events() <= seen && !g.stopped,
+        );
+        let events = guard.events();
+        if events > seen { Some(events) } else { None }
+    }
+
+    /// Ends all waiting. No later call is refused for it.
+    pub fn stop<R: Wait>(&self, rt: &R) {
+        self.lock.lock(rt).stopped = true;
+        self.changed.notify_all();
+    }
+}

@@ -1,0 +1,33 @@
+//! Running threads: jobs evaluated by many of them, and a desk that they share.
+//!
+//! `evaluate_all` answers what one thread would, by as many threads as it is given.
+//!
+//! `Guarded` is the desk under its lock, and `Pass` what each client carries: its own accepted events, and its share of the
+//! count of all. A call on `Guarded` is lent both, so its contract says the whole of it. `SharedDesk` is the lock; through it
+//! a call says what it did to the pass alone, and `close` compares all passes with the history. `work` is what a worker does:
+//! it takes, evaluates without the lock, and delivers.
+#![tactic(auto)]
+
+// Many jobs at once.
+pub mod all;
+pub mod slot;
+
+// The desk under its lock.
+pub mod errors;
+pub mod guarded;
+pub mod pass;
+
+// The lock, and workers.
+pub mod calls;
+pub mod close;
+pub mod shared;
+pub mod worker;
+
+pub use all::{Answer, evaluate_all};
+pub use calls::Next;
+pub use close::Report;
+pub use errors::{CloseError, ViewError};
+pub use guarded::{Guarded, View};
+pub use pass::Pass;
+pub use shared::SharedDesk;
+pub use worker::{Gate, WorkEnd, work};

@@ -1,0 +1,89 @@
+//! A desk that threads share, and how it opens.
+
+ghost use Rattle.std.specs.Prelude.{◌≡◌, ◌<◌, ◌≤◌, ℕ, vec_len, slice_index_or, IfOk};
+ghost use Rattle.stm_history.specs.SlowDesk.{max_events as most_events, max_clients};
+ghost use Rattle.stm_pool.specs.Own.{newcomer};
+
+use crate::guarded::Guarded;
+use crate::pass::Pass;
+use std::alloc::Global;
+use std::marker::Model;
+use std::sync::ledger::{Blank, Ledger, Share};
+use std::sync::{Condvar, Mutex};
+use stm_desk::Desk;
+use stm_store::Table;
+use stm_terms::NoMemory;
+
+/// A desk for many threads: one lock, under which each call is one call of `Guarded`. Contracts see the number of its passes.
+///
+/// Nothing is known of the desk between two calls but what its type keeps. So a call tells what it did to the caller's pass,
+/// and `close` compares all passes with the history.
+#[derive(Drop)]
+pub struct SharedDesk<L: Ledger> {
+    pub(crate) lock: Mutex<Guarded<L>>,
+    pub(crate) changed: Condvar,
+    pub(crate) passes: u32,
+}
+
+impl<L: Ledger> Model for SharedDesk<L> {
+    ghost use Rattle.std.specs.Prelude.{◌≡◌, ℕ};
+
+    ghost Value = { ℕ };
+
+    ghost view = { λ s. s.passes };
+
+    ghost invariant = { λ s. s.passes ≡ L.parts };
+}
+
+fn new_pass<L: Ledger>(alloc: Global, client: u32, share: Share<L>) -> Pass<L>
+    requires share { (share.parts ≡ 1) × (share.amount ≡ 0) }
+    requires client { client < max_clients }
+    ensures { result ≡ newcomer client }
+{
+    Pass {
+        client,
+        share,
+        own: Vec::new(alloc),
+        seen: 0,
+    }
+}
+
+impl<L: Ledger> SharedDesk<L> {
+    /// A desk with the variables of a table, on which no block waits, and a pass for each client, from client 0 on. It takes
+    /// this many events.
+    pub fn open(
+        alloc: Global,
+        blank: Blank,
+        table: &Table,
+        passes: u32,
+        max_events: u32,
+    ) -> Result<(SharedDesk<L>, Vec<Pass<L>>), NoMemory>
+        requires name { blank.name ≡ L.name }
+        requires parts { (blank.parts ≡ L.parts) × (blank.parts ≡ passes) }
+        requires passes { passes ≤ max_clients }
+        requires events { max_events ≤ most_events }
+        ensures desk { IfOk result (λ r. r.0 ≡ passes) }
+        ensures len { IfOk result (λ r. vec_len r.1 ≡ passes) }
+        ensures each { IfOk result (λ r. (k : ℕ) (d : _) → k < passes → slice_index_or r.1.items k d ≡ newcomer k) }
+    {
+        let (book, mut rest) = blank.open::<L>();
+        let mut all = Vec::with_capacity(alloc, passes as usize)?;
+        for client in 0..passes {
+            let share = rest.split_off(1, 0);
+            all.push(new_pass(alloc, client, share))?;
+        }
+        let desk = Desk::open(alloc, table, max_events)?;
+        let lock = Mutex::new(Guarded {
+            desk,
+            stopped: false,
+            book,
+            rest,
+        });
+        let shared = SharedDesk {
+            lock,
+            changed: Condvar::new(),
+            passes,
+        };
+        Ok((shared, all))
+    }
+}

@@ -1,0 +1,104 @@
+//! A worker: it evaluates what is queued until the desk is stopped.
+
+ghost use Rattle.std.specs.Prelude.{◌≡◌, ◌≤◌, Some};
+ghost use Rattle.stm_pool.specs.Worked.{Worked};
+
+use crate::calls::Next;
+use crate::pass::Pass;
+use crate::shared::SharedDesk;
+use std::alloc::Global;
+use std::sync::Wait;
+use std::sync::ledger::Ledger;
+use std::thread::Threads;
+use stm_desk::DeliverError;
+use stm_eval::evaluate;
+
+/// What is called without the lock: before an evaluation, whether to begin it, and after an accepted delivery.
+pub trait Gate<R> {
+    fn before(&self, rt: &R, ticket: u32) -> bool;
+
+    fn after(&self, rt: &R, ticket: u32);
+}
+
+/// How a worker ended.
+#[derive(Clone, Copy, Debug, PartialEq, Eq)]
+pub enum WorkEnd {
+    Stopped,
+    HistoryFull,
+    NoMemory,
+}
+
+/// Evaluates what is queued until the desk is stopped. At a full history and where memory runs out its ticket is queued again
+/// and the desk stopped first. `levels`, how deep the branches of `orElse` may run side by side, has no effect yet.
+pub fn work<L: Ledger, G: Gate<R>, R: Wait + Threads + Sync>(
+    rt: &R,
+    alloc: Global,
+    shared: &SharedDesk<L>,
+    gate: &G,
+    pass: Pass<L>,
+    _levels: u32,
+) -> (Pass<L>, WorkEnd)
+    requires { _levels ≤ 8 }
+    ensures { Worked pass result.0 }
+{
+    let mut pass = pass;
+    for _ in rt.forever() {
+        if let Some(end) = round(rt, alloc, shared, gate, &mut pass) {
+            return (pass, end);
+        }
+    }
+    unreachable!()
+}
+
+/// A round: a ticket is taken, evaluated without the lock, and delivered. A delivery that is refused for what happened
+/// meanwhile ends the round.
+fn round<L: Ledger, G: Gate<R>, R: Wait>(
+    rt: &R,
+    alloc: Global,
+    shared: &SharedDesk<L>,
+    gate: &G,
+    pass: &mut Pass<L>,
+) -> Option<WorkEnd>
+    ensures { Worked pass.old pass.new }
+{
+    let (store, job) = match shared.next_job(rt) {
+        Ok(Next::Job(store, job)) => (store, job),
+        Ok(Next::Idle) => return None,
+        Ok(Next::Stopped) => return Some(WorkEnd::Stopped),
+        Err(_) => {
+            shared.stop(rt);
+            return Some(WorkEnd::NoMemory);
+        }
+    };
+    let ticket = job.ticket;
+    if !gate.before(rt, ticket) {
+        shared.hand_back(rt, ticket);
+        return None;
+    }
+    let Ok(message) = evaluate(alloc, job, &store) else {
+        return give_up(rt, shared, ticket, WorkEnd::NoMemory);
+    };
+    match shared.deliver(rt, pass, message) {
+        Ok(()) => {
+            gate.after(rt, ticket);
+            None
+        }
+        Err((_, DeliverError::HistoryFull)) => give_up(rt, shared, ticket, WorkEnd::HistoryFull),
+        Err((_, DeliverError::NoMemory)) => give_up(rt, shared, ticket, WorkEnd::NoMemory),
+        Err(_) => None,
+    }
+}
+
+/// The ticket in hand is queued again, and the desk stopped.
+fn give_up<L: Ledger, R: Wait>(
+    rt: &R,
+    shared: &SharedDesk<L>,
+    ticket: u32,
+    end: WorkEnd,
+) -> Option<WorkEnd>
+    ensures { result ≡ Some end }
+{
+    shared.hand_back(rt, ticket);
+    shared.stop(rt);
+    Some(end)
+}
