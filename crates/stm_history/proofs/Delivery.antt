@@ -1,5 +1,5 @@
 -- A message that is not refused says what its block does on the present store.
-use Rattle.std.proofs.Common.{◌≡◌, ◌≢◌, ℕ, ℤ, Bool, true, false, not, ◌||◌, cond, List, [], ◌∷◌, Option, Some, None, refl, sym, ap, subst, ◌∙◌, arith, eqb-true}
+use Rattle.std.proofs.Common.{◌≡◌, ◌≢◌, ℕ, ℤ, Bool, true, false, not, cond, List, [], ◌∷◌, Option, Some, None, refl, sym, ap, subst, ◌∙◌, arith, eqb-true}
 use Rattle.std.specs.Prelude.{nat_eq, IsSomeAnd}
 use Rattle.std.specs.Ordering.{int_eq}
 use Rattle.std.proofs.lemmas.Bool.Decides.{Decides-int_eq}
@@ -16,7 +16,8 @@ use Rattle.stm_eval.specs.declared.message.Evaluated.{Evaluated}
 use Rattle.stm_eval.specs.Messages.{Agrees, Holds}
 use Rattle.stm_eval.specs.EvaluatedFields.{message_ticket, message_block, message_reads, message_verdict}
 use Rattle.stm_watch.specs.Pairs.{Pairs, WithReads}
-use Rattle.stm_queue.specs.Queue.{Entry, has_ticket, without_ticket, marked, recalled}
+use Rattle.stm_queue.specs.Queue.{Entry, has_ticket, without_ticket}
+use Rattle.stm_queue.proofs.Membership.{has_marked}
 use Rattle.stm_history.specs.declared.event.Event.{Event}
 use Rattle.stm_history.specs.declared.event.What.TheVariants.{Installed}
 use Rattle.stm_history.specs.SlowDesk.{Waiter, Slow, under, is_current, find_waiter, state, Allows}
@@ -161,14 +162,6 @@ moves_install table history m watch' message c truth q =
     (stands_install s m.store m.next m.entries m.pending m.watch watch' t a.one h k.stands a.found a.may.stale holds q)
 
 -- ---- the queue after a message that was overtaken
-marked_step : (b : Bool) (u t : ℕ) (out : Bool) (e : Entry) (es fs : List Entry) → has_ticket u fs ≡ has_ticket u es → has_ticket u (cond b (e.0, out) e ∷ fs) ≡ has_ticket u (e ∷ es)
-marked_step true u t out e es fs h = ap (λ (b : Bool). nat_eq u e.0 || b) h
-marked_step false u t out e es fs h = ap (λ (b : Bool). nat_eq u e.0 || b) h
-
-pub has_marked : (u t : ℕ) (out : Bool) (es : List Entry) → has_ticket u (marked t out es) ≡ has_ticket u es
-has_marked u t out [] = refl
-has_marked u t out (e ∷ es) = marked_step (nat_eq t e.0) u t out e es (marked t out es) (has_marked u t out es)
-
 pub has_left : (u t : ℕ) (e : DeliverError) (es : List Entry) → has_ticket u (pending_left e t es) ≡ has_ticket u es
 has_left u t (deliver.Overtaken i) es = has_marked u t false es
 has_left u t deliver.Gone es = refl
@@ -190,7 +183,3 @@ requeued table history m ps same k = record {
     index = k.stands.index;
   };
 }
-
-pub has_recalled : (u : ℕ) (es : List Entry) → has_ticket u (recalled es) ≡ has_ticket u es
-has_recalled u [] = refl
-has_recalled u (e ∷ es) = ap (λ (b : Bool). nat_eq u e.0 || b) (has_recalled u es)

@@ -1,26 +1,25 @@
 -- What every legal history keeps: what the declared variables cover, and the block under a ticket.
-use Rattle.std.proofs.Common.{◌≡◌, ℕ, ◌+◌, ◌<◌, ◌≤◌, Bool, true, false, cond, List, [], ◌∷◌, ◌++◌, map, length, Option, Some, None, refl, sym, subst, ◌∙◌, arith, length-append}
+use Rattle.std.proofs.Common.{◌≡◌, ℕ, ◌<◌, Bool, true, false, cond, List, [], ◌∷◌, ◌++◌, Option, Some, None, refl, sym, subst, ◌∙◌, arith, length-append}
 use Rattle.std.specs.Prelude.{nat_eq, option_map}
 use Rattle.std.proofs.lemmas.Bool.Decides.{nat_tests}
 use Rattle.stm_terms.specs.declared.kinds.Ty.{Ty}
 use Rattle.stm_store.specs.declared.cell.Cell.{Cell}
 use Rattle.stm_store.specs.Cells.{plains, Covers}
-use Rattle.stm_store.specs.Tables.{Declared}
+use Rattle.stm_store.proofs.ApplyPreservesTyping.{covered_stay}
 use Rattle.stm_check.specs.TypedBlock.{Block}
 use Rattle.stm_history.specs.declared.event.Event.{Event}
 use Rattle.stm_history.specs.declared.event.What.{What}
 use Rattle.stm_history.specs.declared.event.What.TheVariants.{Submitted, Installed, Finished, Cancelled}
-use Rattle.stm_history.specs.SlowDesk.{Waiter, Slow, written_in, find_waiter, without_waiter, with_delivery, delivered, after_writes, after, Allows, initial_state, state_from, state, LegalFrom, IsLegal}
+use Rattle.stm_history.specs.SlowDesk.{Waiter, Slow, written_in, find_waiter, without_waiter, with_delivery, after_writes, after, Allows, initial_state, state_from, state, LegalFrom, IsLegal}
 use Rattle.stm_history.specs.Laws.{AreRising, DeclaredAreCovered, BlocksStay}
-use Rattle.stm_history.proofs.Stores.{covers_stay}
-use Rattle.stm_history.proofs.Rising.{rising_after, rising_state, next_after, waiter_without, waiter_delivered, waiter_marks, waiter_push}
+use Rattle.stm_history.proofs.Rising.{rising_after, rising_state, waiter_without, waiter_delivered, waiter_marks, waiter_push}
 use Rattle.stm_history.proofs.Since.{low}
 
 -- ---- what is covered
 covered_after : (s : Slow) (d : What) (us : List (ℕ × Ty)) → Covers (plains s.store) us → Covers (plains (after s d).store) us
 covered_after s (Submitted t b) us c = c
 covered_after s (Installed t v) us c = c
-covered_after s (Finished t v n l) us c = covers_stay s.store v us c
+covered_after s (Finished t v n l) us c = covered_stay s.store v us c
 covered_after s (Cancelled t) us c = c
 
 covered_from : (s : Slow) (es : List Event) (us : List (ℕ × Ty)) → Covers (plains s.store) us → Covers (plains (state_from s es).store) us

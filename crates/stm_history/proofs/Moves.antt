@@ -11,6 +11,7 @@ use Rattle.stm_check.specs.TypedBlock.{Block}
 use Rattle.stm_eval.specs.Messages.{Holds}
 use Rattle.stm_watch.specs.Pairs.{Pairs, has_pair, is_read, WithReads, WithoutReads}
 use Rattle.stm_queue.specs.Queue.{Entry, has_ticket, with_ticket, without_ticket}
+use Rattle.stm_queue.proofs.Membership.{has_without}
 use Rattle.stm_queue.proofs.Merging.{has_with}
 use Rattle.stm_history.specs.declared.event.Event.{Event}
 use Rattle.stm_history.specs.declared.event.What.{What}
@@ -26,7 +27,7 @@ use Rattle.stm_history.specs.Machine.{Parts, StandsFor, MovesTo, event}
 use Rattle.stm_history.specs.QueueAndIndex.{with_tickets, due_of, watches_of, read_since}
 use Rattle.stm_history.specs.MachineInvariant.{Stands}
 use Rattle.stm_history.proofs.Due.{IsFound, found, due_push, due_lose, due_marks, due_held, held_are}
-use Rattle.stm_history.proofs.Points.{not_yet, has_without_ticket, has_with_tickets, queue_push, index_push, queue_delivered, index_delivered, queue_gone, index_gone, stale_of, queue_finished, index_finished, has_stale}
+use Rattle.stm_history.proofs.Points.{not_yet, has_with_tickets, queue_push, index_push, queue_delivered, index_delivered, queue_gone, index_gone, stale_of, queue_finished, index_finished, has_stale}
 
 -- what holds what the slow desk has after one event more stands for the longer history
 pub moves_to : (table : List Declared) (history : List Event) (m m' : Parts) (what : What) → StandsFor table history m → length history < max_events → Allows (state table history) what
@@ -67,7 +68,7 @@ stands_install s store next es ps watch watch' t w h k f n holds q =
       store_is = k.store_is;
       next_is = k.next_is;
       entries_are = due_held t h s.store es s.waiters w k.entries_are f holds;
-      queue = λ u. has_without_ticket u t ps ∙ queue_delivered (nat_eq u t) (has_ticket u ps) s.store (find_waiter u s.waiters) (k.queue u) ∙ sym (ap due_of (there u));
+      queue = λ u. has_without u t ps ∙ queue_delivered (nat_eq u t) (has_ticket u ps) s.store (find_waiter u s.waiters) (k.queue u) ∙ sym (ap due_of (there u));
       index = λ v u.
           q v u
           ∙ index_delivered (nat_eq u t) (has_pair watch v u) (is_read h.reads v) v s.store (find_waiter u s.waiters) w (k.index v u)
@@ -97,7 +98,7 @@ stands_cancel s store next es ps watch watch' t r k q =
       store_is = k.store_is;
       next_is = k.next_is;
       entries_are = due_lose t es s.waiters k.entries_are;
-      queue = λ u. has_without_ticket u t ps ∙ queue_gone (nat_eq u t) (has_ticket u ps) (find_waiter u s.waiters) (k.queue u) ∙ sym (ap due_of (there u));
+      queue = λ u. has_without u t ps ∙ queue_gone (nat_eq u t) (has_ticket u ps) (find_waiter u s.waiters) (k.queue u) ∙ sym (ap due_of (there u));
       index = λ v u.
           q v u
           ∙ index_gone (nat_eq u t) (has_pair watch v u) (is_read (kept_reads (kept_at t es)) v) v (find_waiter u s.waiters) (kept_reads (kept_at t es)) (k.index v u)

@@ -9,7 +9,7 @@ use Rattle.stm_terms.specs.ReadSet.{reads_of}
 use Rattle.stm_store.specs.declared.cell.Cell.{Cell}
 use Rattle.stm_check.specs.TypedBlock.{Block}
 use Rattle.stm_watch.specs.Pairs.{is_read}
-use Rattle.stm_queue.specs.Queue.{Entry, has_ticket, with_ticket, without_ticket}
+use Rattle.stm_queue.specs.Queue.{Entry, has_ticket, with_ticket}
 use Rattle.stm_queue.proofs.Merging.{has_with}
 use Rattle.stm_history.specs.SlowDesk.{Since, Waiter, under, looked_on, intersects, current_since, is_current, wrote_more, after_writes, becomes_stale, stale_after, find_waiter, with_delivery}
 use Rattle.stm_history.specs.Laws.{AreRising}
@@ -46,25 +46,6 @@ meets-append a b (i ∷ is) =
     rw (list_any-append (nat_eq i) a b, meets-append a b is) (swap_or (list_any (nat_eq i) a) (list_any (nat_eq i) b) (intersects a is) (intersects b is))
 
 -- ---- tickets of the queue
-gone_head : (u t x : ℕ) (h : Bool) → nat_eq t x ≡ true → (not (nat_eq u t) && h) ≡ (not (nat_eq u t) && (nat_eq u x || h))
-gone_head u t x h e = grind (arith, nat_tests)
-
-stays_head : (u t x : ℕ) (h : Bool) → nat_eq t x ≡ false → (nat_eq u x || (not (nat_eq u t) && h)) ≡ (not (nat_eq u t) && (nat_eq u x || h))
-stays_head u t x h e = grind (arith, nat_tests)
-
-without_step : (b : Bool) (u t : ℕ) (e : Entry) (es fs : List Entry) → nat_eq t e.0 ≡ b → has_ticket u fs ≡ (not (nat_eq u t) && has_ticket u es)
-    → has_ticket u (cond (not b) (e ∷ fs) fs) ≡ (not (nat_eq u t) && (nat_eq u e.0 || has_ticket u es))
-without_step true u t e es fs h more = more ∙ gone_head u t e.0 (has_ticket u es) h
-without_step false u t e es fs h more = ap (λ (b : Bool). nat_eq u e.0 || b) more ∙ stays_head u t e.0 (has_ticket u es) h
-
-nothing_left : (a : Bool) → false ≡ (not a && false)
-nothing_left true = refl
-nothing_left false = refl
-
-pub has_without_ticket : (u t : ℕ) (es : List Entry) → has_ticket u (without_ticket t es) ≡ (not (nat_eq u t) && has_ticket u es)
-has_without_ticket u t [] = nothing_left (nat_eq u t)
-has_without_ticket u t (e ∷ es) = without_step (nat_eq t e.0) u t e es (without_ticket t es) refl (has_without_ticket u t es)
-
 turn : (a b c : Bool) → (b || (a || c)) ≡ ((a || b) || c)
 turn true true c = refl
 turn true false c = refl

@@ -1,7 +1,6 @@
 -- The jobs that are handed out.
-use Rattle.std.proofs.Common.{◌≡◌, ◌≢◌, ℕ, zero, suc, ◌+◌, ◌-◌, ◌<◌, ◌≤◌, Bool, true, false, not, ◌||◌, cond, List, [], ◌∷◌, ◌++◌, map, filter, take, Option, Some, None, refl, sym, ap, subst, ◌∙◌, arith, add-one}
-use Rattle.std.specs.Prelude.{nat_eq, slice_get, option_map, IsSome}
-use Rattle.std.proofs.lemmas.Bool.Decides.{nat_tests}
+use Rattle.std.proofs.Common.{◌≡◌, ◌≢◌, ℕ, zero, suc, ◌+◌, ◌-◌, ◌<◌, ◌≤◌, true, List, [], ◌∷◌, ◌++◌, take, Option, Some, None, refl, sym, ap, subst, ◌∙◌, arith, add-one}
+use Rattle.std.specs.Prelude.{slice_get, option_map, IsSome}
 use Rattle.stm_terms.specs.declared.kinds.Ty.{Ty}
 use Rattle.stm_terms.specs.declared.values.Value.{Value}
 use Rattle.stm_terms.specs.Changes.{cell_value}
@@ -13,7 +12,8 @@ use Rattle.stm_check.specs.TypedBlock.{Block}
 use Rattle.stm_eval.specs.declared.job.Job.{Job}
 use Rattle.stm_eval.specs.declared.message.Evaluated.{Evaluated}
 use Rattle.stm_eval.specs.EvaluatedFields.{message_ticket, message_block, message_reads, message_verdict}
-use Rattle.stm_queue.specs.Queue.{Entry, has_ticket, queued, first_queued, sent_out}
+use Rattle.stm_queue.specs.Queue.{Entry, has_ticket, first_queued, sent_out}
+use Rattle.stm_queue.proofs.Membership.{has_sent_out}
 use Rattle.stm_history.specs.declared.event.Event.{Event}
 use Rattle.stm_history.specs.SlowDesk.{Waiter, Slow, under, find_waiter, state}
 use Rattle.stm_history.specs.declared.waiting.Waiting.{Waiting}
@@ -25,25 +25,6 @@ use Rattle.stm_history.specs.Refusals.{differing}
 use Rattle.stm_history.proofs.Agreeing.{reads_differ_nowhere}
 use Rattle.stm_history.proofs.Covered.{blocks_are_covered}
 use Rattle.stm_history.proofs.Due.{IsFound, found}
-use Rattle.stm_history.proofs.Delivery.{has_marked}
-
-itself : (i : ℕ) → nat_eq i i ≡ true
-itself i = grind (arith, nat_tests)
-
-or_right : (a b : Bool) → b ≡ true → (a || b) ≡ true
-or_right true b h = refl
-or_right false b h = h
-
--- ---- a queued ticket is in the queue
-in_step : (o : Bool) (t i : ℕ) (f : Entry) (es : List Entry) → f.1 ≡ o → ((j : ℕ) → slice_get (queued es) j ≡ Some t → has_ticket t es ≡ true)
-    → slice_get (map (λ e. e.0) (cond (not o) (f ∷ filter (λ e. not e.1) es) (filter (λ e. not e.1) es))) i ≡ Some t → (nat_eq t f.0 || has_ticket t es) ≡ true
-in_step true t i f es e more h = or_right (nat_eq t f.0) (has_ticket t es) (more i h)
-in_step false t zero f es e more h = let q : f.0 ≡ t = cc in rw (q, itself t) refl
-in_step false t (suc i) f es e more h = or_right (nat_eq t f.0) (has_ticket t es) (more i h)
-
-pub in_queue : (t i : ℕ) (es : List Entry) → slice_get (queued es) i ≡ Some t → has_ticket t es ≡ true
-in_queue t i [] h = cc
-in_queue t i (f ∷ es) h = in_step f.1 t i f es refl (λ j. in_queue t j es) h
 
 -- ---- one more of a list
 take_suc : (xs : List ℕ) (i t : ℕ) → slice_get xs i ≡ Some t → take (suc i) xs ≡ take i xs ++ t ∷ []
@@ -70,10 +51,6 @@ kept_job-push es (i ∷ js) j a k = (a.0, kept_job-push es js j a.1 k)
 -- ---- what is sent out
 pub sent_more : (n k : ℕ) (es : List Entry) → k < n → sent (n - (k + 1)) (sent_out (first_queued es) es) ≡ sent (n - k) es
 sent_more n k es l = let e : n - k ≡ suc (n - (k + 1)) = omega arith in rw e refl
-
-has_sent_out : (u : ℕ) (o : Option ℕ) (es : List Entry) → has_ticket u (sent_out o es) ≡ has_ticket u es
-has_sent_out u None es = refl
-has_sent_out u (Some t) es = has_marked u t true es
 
 pub has_sent : (u n : ℕ) (es : List Entry) → has_ticket u (sent n es) ≡ has_ticket u es
 has_sent u zero es = refl

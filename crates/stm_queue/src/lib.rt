@@ -5,6 +5,7 @@
 //! more there is room (`specs/Queue`).
 #![tactic(auto)]
 
+pub mod laws;
 pub mod pending;
 mod sorted;
 

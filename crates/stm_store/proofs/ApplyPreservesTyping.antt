@@ -6,12 +6,12 @@ use Rattle.stm_terms.specs.declared.kinds.Ty.{Ty}
 use Rattle.stm_terms.specs.declared.values.Ref.TheVariants.{Old, New}
 use Rattle.stm_terms.specs.declared.values.Value.{Value}
 use Rattle.stm_terms.specs.declared.values.Value.TheVariants.{Int, Bool as Truth, Unit as Nil, Var}
-use Rattle.stm_terms.specs.declared.verdicts.Verdict.{Verdict}
 use Rattle.stm_terms.specs.declared.verdicts.Verdict.TheVariants.{Commits, Throws, Blocks}
 use Rattle.stm_terms.specs.Changes.{Changes, no_changes}
 use Rattle.stm_terms.specs.Typing.{TypeEnv, type_of}
 use Rattle.stm_store.specs.declared.cell.Cell.{Cell}
-use Rattle.stm_store.specs.Cells.{plain, plains, kinds_of, StoreIsTyped, StoreHasAtMost8Refs, IsStore, CommitFits, Fits, renumbered, rewritten, with_write, with_writes, new_cell, applied, made_by}
+use Rattle.stm_store.specs.Cells.{plain, plains, kinds_of, StoreIsTyped, StoreHasAtMost8Refs, IsStore, CommitFits, Fits, renumbered, rewritten, with_write, with_writes, new_cell, applied}
+use Rattle.stm_store.specs.Laws.{TypesStay, CoveredStay, FittingKeepTypes, FittingKeepStores}
 use Rattle.stm_store.proofs.Typed.{kinds-left, mapped, old_type}
 use Rattle.stm_store.proofs.WritesInTurn.{EachWrite, each_found}
 
@@ -176,12 +176,30 @@ commit_typed cells writes news v w typed =
     (typed-writes k l n writes cells (λ j. refl) right (old_typed k l old cells (each_typed k cells typed)))
     (typed-new l n news (λ i c e. renumbered_type k l h n old new c.1 c.0 ((w.news i c e).0))))
 
+pub applied_typed : FittingKeepTypes
+unfolding Fits
+applied_typed cells (Commits writes news v) f typed = commit_typed cells writes news v f typed
+applied_typed cells (Throws x) f typed = typed
+applied_typed cells Blocks f typed = typed
+
+-- ---- what every verdict leaves
+pub kinds_stay : TypesStay
+kinds_stay cells (Commits writes news v) i t e =
+    kinds-before (with_writes (length cells) writes cells) (map (new_cell (length cells)) news) i t (kinds-writes (length cells) writes cells i ∙ e)
+kinds_stay cells (Throws x) i t e = e
+kinds_stay cells Blocks i t e = e
+
+pub covered_stay : CoveredStay
+covered_stay cells verdict [] c = tt
+covered_stay cells verdict (u ∷ us) c = (kinds_stay cells verdict u.0 u.1 c.0, covered_stay cells verdict us c.1)
+
+-- ---- the limits of a store
 length-applied : (cells : List Cell) (writes : List (ℕ × Value)) (news : List (Ty × Value)) (v : Value) → length (applied cells (Commits writes news v)) ≡ length cells + length news
 length-applied cells writes news v =
     let n = length cells in
     omega (arith, length-append (with_writes n writes cells) (map (new_cell n) news), length-map news (new_cell n), length-writes n writes cells)
 
-pub kept_store : (cells : List Cell) (verdict : Verdict) → Fits (plains cells) verdict → IsStore (plains cells) → length cells + length (made_by verdict) ≤ 1000000 → IsStore (plains (applied cells verdict))
+pub kept_store : FittingKeepStores
 unfolding Fits
 kept_store cells (Commits writes news v) f i room = record {
   small = simp length-map (omega (arith, length-applied cells writes news v));

@@ -1,15 +1,15 @@
 -- The cells that a verdict leaves, variable by variable.
-use Rattle.std.proofs.Common.{◌≡◌, ℕ, zero, suc, ◌+◌, ◌<◌, true, false, List, [], ◌∷◌, map, Option, Some, None, length, set, refl, sym, ap, subst, ◌∙◌, arith, eqb-true}
+use Rattle.std.proofs.Common.{◌≡◌, ℕ, zero, suc, ◌+◌, ◌<◌, Bool, true, false, List, [], ◌∷◌, ◌++◌, map, Option, Some, None, length, set, refl, sym, ap, subst, ◌∙◌, arith, eqb-true}
 use Rattle.std.specs.Prelude.{slice_get, option_map, nat_eq, if◌then◌else◌}
 use Rattle.std.proofs.lemmas.Bool.Decides.{nat_tests}
 use Rattle.std.proofs.lemmas.Option.{slice_get-map, slice_get_past}
 use Rattle.stm_terms.specs.declared.values.Value.{Value}
-use Rattle.stm_terms.specs.declared.verdicts.Verdict.{Verdict}
 use Rattle.stm_terms.specs.declared.verdicts.Verdict.TheVariants.{Commits, Throws, Blocks}
 use Rattle.stm_terms.specs.Changes.{find}
 use Rattle.stm_terms.specs.Typing.{AllAbove, Rising}
 use Rattle.stm_store.specs.declared.cell.Cell.{Cell}
-use Rattle.stm_store.specs.Cells.{plains, Fits, rewritten, with_write, with_writes, new_cell, applied, after_write, IsApplied}
+use Rattle.stm_store.specs.Cells.{Fits, rewritten, with_write, with_writes, new_cell, after_write}
+use Rattle.stm_store.specs.Laws.{UnwrittenStay, FittingAreApplied}
 use Rattle.stm_store.proofs.Paged.{get_left, get_right}
 use Rattle.stm_store.proofs.ApplyPreservesTyping.{length-writes}
 
@@ -60,7 +60,31 @@ get-writes n (w ∷ ws) cs i r =
       | false ↦ λ e. rest ∙ ap (option_map (after_write n (find i ws))) (write-other n cs w.0 i w.1 (slice_get cs w.0) e)
     ] refl
 
-pub is_applied : (cells : List Cell) (verdict : Verdict) → Fits (plains cells) verdict → IsApplied cells verdict (applied cells verdict)
+-- ---- a variable that isn't written
+unwritten_step : (b : Bool) (n i : ℕ) (w : ℕ × Value) (ws : List (ℕ × Value)) (cs : List Cell) → nat_eq w.0 i ≡ b → (if b then Some w.1 else find i ws) ≡ None
+    → (find i ws ≡ None → slice_get (with_writes n ws (with_write n cs w.0 w.1 (slice_get cs w.0))) i ≡ slice_get (with_write n cs w.0 w.1 (slice_get cs w.0)) i)
+    → slice_get (with_writes n ws (with_write n cs w.0 w.1 (slice_get cs w.0))) i ≡ slice_get cs i
+unwritten_step true n i w ws cs e none rest = absurd (cc)
+unwritten_step false n i w ws cs e none rest = rest none ∙ write-other n cs w.0 i w.1 (slice_get cs w.0) e
+
+unwritten-writes : (n : ℕ) (ws : List (ℕ × Value)) (cs : List Cell) (i : ℕ) → find i ws ≡ None → slice_get (with_writes n ws cs) i ≡ slice_get cs i
+unwritten-writes n [] cs i none = refl
+unwritten-writes n (w ∷ ws) cs i none =
+    unwritten_step (nat_eq w.0 i) n i w ws cs refl none (unwritten-writes n ws (with_write n cs w.0 w.1 (slice_get cs w.0)) i)
+
+before : (cs ds : List Cell) (i : ℕ) (c : Cell) → slice_get cs i ≡ Some c → slice_get (cs ++ ds) i ≡ Some c
+before [] ds i c e = absurd (cc)
+before (x ∷ cs) ds zero c e = e
+before (x ∷ cs) ds (suc i) c e = before cs ds i c e
+
+pub unwritten_stay : UnwrittenStay
+unwritten_stay cells (Commits writes news v) i c none e =
+    before (with_writes (length cells) writes cells) (map (new_cell (length cells)) news) i c (unwritten-writes (length cells) writes cells i none ∙ e)
+unwritten_stay cells (Throws x) i c none e = e
+unwritten_stay cells Blocks i c none e = e
+
+-- ---- all of them
+pub is_applied : FittingAreApplied
 unfolding Fits
 is_applied cells (Commits writes news v) f =
     let n = length cells in

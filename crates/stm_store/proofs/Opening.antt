@@ -7,6 +7,7 @@ use Rattle.stm_terms.specs.declared.values.Value.{Value}
 use Rattle.stm_store.specs.declared.cell.Cell.{Cell}
 use Rattle.stm_store.specs.Cells.{plains, StoreIsTyped, StoreHasAtMost8Refs, IsStore}
 use Rattle.stm_store.specs.Tables.{Declared, declared_cell, declared_cells, opened}
+use Rattle.stm_store.specs.Laws.{OpenedAreDeclared}
 
 abbrev cell_of : Ty → Value → Cell
 cell_of k v = record { kind = k; value = v; count = 0 }
@@ -30,7 +31,7 @@ opened-whole cells t i e h =
     let past : length (opened t) ≤ i = simp length-map h in
     sym (append-nil cells) ∙ ap (λ (cs : List Cell). cells ++ cs) (sym (drop_all i (opened t) past)) ∙ e
 
-plains-opened : (t : List Declared) → plains (opened t) ≡ declared_cells t
+pub plains-opened : OpenedAreDeclared
 plains-opened [] = refl
 plains-opened (d ∷ t) = ap (λ (cs : List (Ty × Value)). declared_cell d ∷ cs) (plains-opened t)
 

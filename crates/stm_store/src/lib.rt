@@ -10,6 +10,7 @@ mod covers;
 mod fits;
 pub mod frozen;
 mod in_place;
+pub mod laws;
 mod page;
 pub mod ready;
 mod renumber;

@@ -3,7 +3,8 @@ use Rattle.std.specs.Prelude.{slice_get}
 use Rattle.std.proofs.lemmas.List.{map-append}
 use Rattle.stm_eval.specs.declared.job.Job.{Job}
 use Rattle.stm_queue.specs.Queue.{queued}
-use Rattle.stm_history.proofs.Taking.{in_queue, take_more, take_past, kept_job-push}
+use Rattle.stm_queue.proofs.Membership.{in_queue}
+use Rattle.stm_history.proofs.Taking.{take_more, take_past, kept_job-push}
 use Rattle.stm_history.proofs.queue_moves.jobs_of.Goals as goal
 
 pub job_of-requires : goal.job_of-requires

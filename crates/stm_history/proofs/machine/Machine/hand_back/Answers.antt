@@ -1,6 +1,7 @@
 use Rattle.std.proofs.Common.{false, sym, subst}
 use Rattle.stm_history.specs.Machine.{StandsFor}
-use Rattle.stm_history.proofs.Delivery.{has_marked, requeued}
+use Rattle.stm_queue.proofs.Membership.{has_marked}
+use Rattle.stm_history.proofs.Delivery.{requeued}
 use Rattle.stm_history.proofs.machine.Machine.hand_back.Goals as goal
 
 pub returns-clause-kept : goal.returns-clause-kept

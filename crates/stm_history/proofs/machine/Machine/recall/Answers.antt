@@ -1,6 +1,7 @@
 use Rattle.std.proofs.Common.{sym, subst}
 use Rattle.stm_history.specs.Machine.{StandsFor}
-use Rattle.stm_history.proofs.Delivery.{has_recalled, requeued}
+use Rattle.stm_queue.proofs.Membership.{has_recalled}
+use Rattle.stm_history.proofs.Delivery.{requeued}
 use Rattle.stm_history.proofs.machine.Machine.recall.Goals as goal
 
 pub returns-clause-kept : goal.returns-clause-kept

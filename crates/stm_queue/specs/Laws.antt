@@ -1,0 +1,25 @@
+-- What each change of the list does to who is there: queued or out.
+use Rattle.std.specs.Prelude.{◌≡◌, ℕ, Bool, true, not, ◌&&◌, ◌||◌, nat_eq, List, Option, Some, slice_get}
+use Rattle.stm_queue.specs.Queue.{Entry, has_ticket, with_entry, without_ticket, marked, sent_out, recalled, queued}
+
+-- an entry brings its ticket, and no other
+abbrev pub AddedAreThere : Type 0
+AddedAreThere = (u : ℕ) (e : Entry) (es : List Entry) → has_ticket u (with_entry e es) ≡ (nat_eq u e.0 || has_ticket u es)
+
+-- a removal takes its ticket away, and no other
+abbrev pub RemovedAreGone : Type 0
+RemovedAreGone = (u t : ℕ) (es : List Entry) → has_ticket u (without_ticket t es) ≡ (not (nat_eq u t) && has_ticket u es)
+
+-- who is queued and who is out may change while nobody comes or goes
+abbrev pub MarksKeepTickets : Type 0
+MarksKeepTickets = (u t : ℕ) (out : Bool) (es : List Entry) → has_ticket u (marked t out es) ≡ has_ticket u es
+
+abbrev pub SendingKeepsTickets : Type 0
+SendingKeepsTickets = (u : ℕ) (sent : Option ℕ) (es : List Entry) → has_ticket u (sent_out sent es) ≡ has_ticket u es
+
+abbrev pub RecallKeepsTickets : Type 0
+RecallKeepsTickets = (u : ℕ) (es : List Entry) → has_ticket u (recalled es) ≡ has_ticket u es
+
+-- a queued ticket is there
+abbrev pub QueuedAreThere : Type 0
+QueuedAreThere = (t i : ℕ) (es : List Entry) → slice_get (queued es) i ≡ Some t → has_ticket t es ≡ true
