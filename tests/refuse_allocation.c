@@ -1,11 +1,12 @@
 /* Loaded before the C library: refuses the allocation whose number, from 1, is in REFUSE, and at the end writes how many
-   allocations were asked for into the file named by REFUSE_COUNT. */
+   allocations were asked for into the file named by REFUSE_COUNT. Threads may ask side by side. */
 #define _GNU_SOURCE
 #include <dlfcn.h>
 #include <errno.h>
 #include <fcntl.h>
 #include <stddef.h>
 #include <stdlib.h>
+#include <sys/syscall.h>
 #include <unistd.h>
 
 static unsigned long asked;
@@ -22,8 +23,7 @@ __attribute__((constructor)) static void begin(void) {
 }
 
 static int is_refused(void) {
-    asked += 1;
-    return asked == refused;
+    return __atomic_add_fetch(&asked, 1, __ATOMIC_SEQ_CST) == refused;
 }
 
 void *malloc(size_t size) {
@@ -63,4 +63,11 @@ __attribute__((destructor)) static void end(void) {
         return;
     (void)!write(file, digits + at, sizeof digits - at);
     close(file);
+}
+
+/* A program with threads ends by this call, and not by a return from main. */
+void _exit(int status) {
+    end();
+    for (;;)
+        syscall(SYS_exit_group, status);
 }

@@ -60,7 +60,7 @@ pub fn say_tickets(tickets: &[u32], out: &mut String) -> Result<(), AllocError> 
 }
 
 /// Answers with what a finish did.
-fn say_finish(finish: &Finish, out: &mut String) -> Result<(), AllocError> {
+pub fn say_finish(finish: &Finish, out: &mut String) -> Result<(), AllocError> {
     write_verdict(&finish.verdict, out)?;
     write!(out, " first {} result ", finish.applied.first_new)?;
     match finish.applied.result {

@@ -1,13 +1,16 @@
 //! Jobs that a desk handed out, and the messages made of them.
 
-ghost use Rattle.std.specs.Prelude.{◌<◌};
+ghost use Rattle.std.specs.Prelude.{◌<◌, IfOk, OnOk};
 ghost use Rattle.stm_store.specs.Cells.{Covers};
+ghost use Rattle.stm_history.specs.JobsHandedOut.{AreCovered};
 
 use crate::words::say;
 use std::alloc::{AllocError, Global};
 use std::fmt::Write;
+use std::thread::Threads;
 use stm_desk::{DeliverError, Desk};
 use stm_eval::{Evaluated, Job, evaluate};
+use stm_pool::{Answer, evaluate_all};
 use stm_store::Frozen;
 
 /// The jobs of the last call that took some, the copy of the store beside them, the messages made of them, and how many
@@ -111,6 +114,74 @@ pub fn evaluate_jobs(work: &mut Work, alloc: Global, out: &mut String) -> Result
             make_messages(&mut messages, work.jobs.as_slice(), frozen, alloc)?;
             work.messages = messages;
             say("done", out)
+        }
+    }
+}
+
+/// A copy of the job at the end of the list, if the store covers it; its block is shared.
+fn push_copy(copied: &mut Vec<Job>, job: &Job, frozen: &Frozen) -> Result<(), AllocError>
+    requires { AreCovered frozen.now copied.old.items }
+    ensures { OnOk result (AreCovered frozen.now copied.new.items) }
+{
+    if !frozen.covers(job.block.block().uses()) {
+        return Ok(());
+    }
+    let block = job.block.share()?;
+    copied.push(Job {
+        ticket: job.ticket,
+        block,
+    })?;
+    Ok(())
+}
+
+/// Copies of the jobs that the store covers.
+fn copies(jobs: &[Job], frozen: &Frozen, alloc: Global) -> Result<Vec<Job>, AllocError>
+    ensures { IfOk result (λ v. AreCovered frozen.now v.items) }
+{
+    let mut copied = Vec::new(alloc);
+    for job in jobs {
+        push_copy(&mut copied, job, frozen)?;
+    }
+    Ok(copied)
+}
+
+fn keep_messages(
+    messages: &mut Vec<Option<Evaluated>>,
+    answers: Vec<Answer>,
+) -> Result<(), AllocError> {
+    for answer in answers {
+        match answer {
+            Ok(message) => messages.push(Some(message))?,
+            Err((_, refused)) => return Err(refused),
+        }
+    }
+    Ok(())
+}
+
+/// The same by so many threads.
+pub fn evaluate_by_threads<R: Threads + Sync>(
+    work: &mut Work,
+    rt: &R,
+    alloc: Global,
+    workers: usize,
+    out: &mut String,
+) -> Result<(), AllocError> {
+    if workers == 0 || workers > 64 {
+        return say("refused no workers", out);
+    }
+    match &work.frozen {
+        None => say("refused no jobs", out),
+        Some(frozen) => {
+            let jobs = copies(work.jobs.as_slice(), frozen, alloc)?;
+            match evaluate_all(rt, alloc, frozen, jobs, workers, 0) {
+                Ok(answers) => {
+                    let mut messages = Vec::new(alloc);
+                    keep_messages(&mut messages, answers)?;
+                    work.messages = messages;
+                    say("done", out)
+                }
+                Err((_, refused)) => Err(refused),
+            }
         }
     }
 }

@@ -52,6 +52,11 @@ impl Desks {
     pub fn desk(&self) -> Option<&Desk> {
         self.desk.as_ref()
     }
+
+    /// What was handed out.
+    pub fn work_mut(&mut self) -> &mut Work {
+        &mut self.work
+    }
 }
 
 /// Opens a desk on the declared variables.
@@ -78,7 +83,7 @@ fn swap(desks: &mut Desks, out: &mut String) -> Result<(), AllocError> {
 }
 
 /// The block of a text where many may hold it.
-fn script(
+pub fn script(
     alloc: Global,
     table: &Table,
     text: &str,

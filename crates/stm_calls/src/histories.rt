@@ -101,6 +101,11 @@ fn say_judgement(
     }
 }
 
+/// Judges the events of a desk.
+pub fn say_replay(desk: &Desk, alloc: Global, out: &mut String) -> Result<(), AllocError> {
+    say_judgement(replay(alloc, desk.table(), desk.history()), out)
+}
+
 /// Judges what was gathered, read by so many bytes a call, or by as many as are asked for.
 fn judge(
     gathered: &Gathered,
@@ -225,7 +230,7 @@ fn answer_desk(
     match (call, desks.desk()) {
         ("write", Some(desk)) => write(gathered, desk, alloc, out),
         ("write_failing", Some(desk)) => write_failing(gathered, desk, alloc, calls, out),
-        ("replay", Some(desk)) => say_judgement(replay(alloc, desk.table(), desk.history()), out),
+        ("replay", Some(desk)) => say_replay(desk, alloc, out),
         (_, None) => say("refused no desk", out),
         _ => say("no such call", out),
     }

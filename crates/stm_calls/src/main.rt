@@ -18,6 +18,9 @@ mod histories;
 mod input;
 mod log;
 mod log_calls;
+mod pool_calls;
+mod pool_gate;
+mod pools;
 mod queue;
 mod store;
 mod tables;
@@ -30,10 +33,13 @@ use crate::evaluating::Evaluating;
 use crate::histories::Gathered;
 use crate::input::Lines;
 use crate::log::Logging;
-use crate::words::{first_word, say};
+use crate::words::{first_word, number, say};
 use std::alloc::{AllocError, Global};
 use std::io::{Read, Write};
 use std::process::ExitCode;
+use std::sync::Wait;
+use std::thread::Threads;
+use std::time::Clock;
 use stm_queue::Pending;
 use stm_store::{Frozen, Ready, Store, Table};
 use stm_terms::Verdict;
@@ -120,9 +126,30 @@ fn answer_store_itself(
     }
 }
 
-/// Makes the call of a line, and writes its answer.
-fn answer(
+/// Makes a call by many threads, or of a shared desk.
+fn answer_pool<T: Threads + Wait + Clock + Sync>(
     objects: &mut Objects,
+    rt: &T,
+    alloc: Global,
+    text: &str,
+    out: &mut String,
+) -> Result<(), AllocError> {
+    let (call, rest) = first_word(text);
+    match call {
+        "evaluate" => {
+            let workers = number(rest) as usize;
+            desk_work::evaluate_by_threads(objects.desks.work_mut(), rt, alloc, workers, out)
+        }
+        "open" => pools::answer(rt, &objects.table, alloc, rest, out),
+        "gate" => pool_gate::answer(rt, &objects.table, alloc, rest, out),
+        _ => say("no such call", out),
+    }
+}
+
+/// Makes the call of a line, and writes its answer.
+fn answer<T: Threads + Wait + Clock + Sync>(
+    objects: &mut Objects,
+    rt: &T,
     alloc: Global,
     line: &str,
     out: &mut String,
@@ -139,6 +166,7 @@ fn answer(
         "log" => log_calls::answer(&mut objects.log, &objects.frozen, alloc, call, out),
         "desk" => desks::answer(&mut objects.desks, &objects.table, alloc, call, out),
         "history" => histories::answer(&mut objects.gathered, &objects.desks, alloc, call, out),
+        "pool" => answer_pool(objects, rt, alloc, call, out),
         "text" => blocks::answer(&objects.table, alloc, call, out),
         "block" => evaluating::answer_block(
             &mut objects.evaluating,
@@ -160,25 +188,27 @@ fn answer(
 }
 
 /// Answers a line. A call that is refused memory is made again, or told by the number of its line.
-fn answer_line(
+fn answer_line<T: Threads + Wait + Clock + Sync>(
     objects: &mut Objects,
+    rt: &T,
     alloc: Global,
     lines: &Lines,
     out: &mut String,
 ) -> Result<(), AllocError> {
-    if answer(objects, alloc, lines.line(), out).is_ok() {
+    if answer(objects, rt, alloc, lines.line(), out).is_ok() {
         return Ok(());
     }
     out.clear();
     if objects.calls_once {
         return writeln!(out, "no memory {}", lines.number());
     }
-    answer(objects, alloc, lines.line(), out)
+    answer(objects, rt, alloc, lines.line(), out)
 }
 
 /// Answers each line of the reader on the writer, and tells the exit status.
-fn run<R: Read, W: Write>(
+fn run<T: Threads + Wait + Clock + Sync, R: Read, W: Write>(
     objects: &mut Objects,
+    rt: &T,
     alloc: Global,
     lines: &mut Lines,
     out: &mut String,
@@ -192,7 +222,7 @@ fn run<R: Read, W: Write>(
             Err(_) => return BROKEN,
         }
         out.clear();
-        if answer_line(objects, alloc, lines, out).is_err() {
+        if answer_line(objects, rt, alloc, lines, out).is_err() {
             return NO_MEMORY;
         }
         if writer.write_all(out.as_bytes()).is_err() {
@@ -219,7 +249,8 @@ fn new_answer(alloc: Global) -> Result<String, AllocError> {
 }
 
 /// Answers each line of the reader, with room for lines and answers.
-fn run_with_room<R: Read, W: Write>(
+fn run_with_room<T: Threads + Wait + Clock + Sync, R: Read, W: Write>(
+    rt: &T,
     alloc: Global,
     lines: &mut Lines,
     out: &mut String,
@@ -227,13 +258,19 @@ fn run_with_room<R: Read, W: Write>(
     writer: &mut W,
 ) -> u8 {
     let mut objects = new_objects(alloc);
-    run(&mut objects, alloc, lines, out, reader, writer)
+    run(&mut objects, rt, alloc, lines, out, reader, writer)
 }
 
-/// The same on standard input and output, with room for answers yet to be had.
-fn run_with_lines(rt: &HostRuntime, alloc: Global, lines: &mut Lines) -> u8 {
+/// The same with room for answers yet to be had.
+fn run_with_lines<T: Threads + Wait + Clock + Sync, R: Read, W: Write>(
+    rt: &T,
+    alloc: Global,
+    lines: &mut Lines,
+    reader: &mut R,
+    writer: &mut W,
+) -> u8 {
     match new_answer(alloc) {
-        Ok(mut out) => run_with_room(alloc, lines, &mut out, &mut rt.stdin(), &mut rt.stdout()),
+        Ok(mut out) => run_with_room(rt, alloc, lines, &mut out, reader, writer),
         Err(_) => NO_MEMORY,
     }
 }
@@ -241,7 +278,7 @@ fn run_with_lines(rt: &HostRuntime, alloc: Global, lines: &mut Lines) -> u8 {
 fn main(rt: HostRuntime) -> ExitCode {
     let alloc = rt.alloc();
     ExitCode::from(match new_lines(alloc) {
-        Ok(mut lines) => run_with_lines(&rt, alloc, &mut lines),
+        Ok(mut lines) => run_with_lines(&rt, alloc, &mut lines, &mut rt.stdin(), &mut rt.stdout()),
         Err(_) => NO_MEMORY,
     })
 }

@@ -56,7 +56,8 @@ fn declare_read(
     answer_declared(answer, out)
 }
 
-fn answer_declare(
+/// Declares the variable of a text.
+pub fn answer_declare(
     table: &mut Table,
     alloc: Global,
     text: &str,

@@ -1,0 +1,186 @@
+//! A shared desk in one thread: a line opens it on the declared variables, and makes calls of it one after another.
+
+ghost use Rattle.std.specs.Prelude.{◌≡◌, ◌≤◌};
+
+use crate::histories::say_replay;
+use crate::pool_calls::{answer_shared, work};
+use crate::tables;
+use crate::words::{first_word, number, say};
+use std::alloc::{AllocError, Global};
+use std::fmt::Write;
+use std::marker::Brand;
+use std::mem;
+use std::sync::Wait;
+use std::sync::ledger::{Blank, Ledger};
+use std::thread::Threads;
+use stm_desk::Desk;
+use stm_eval::Evaluated;
+use stm_pool::{Pass, Report, SharedDesk};
+use stm_store::Table;
+
+/// How many passes a shared desk may have.
+const PASSES: u32 = 128;
+
+/// The shared desk, until it is closed, its passes, the messages that were made, and the variables that blocks may name.
+#[derive(Drop)]
+struct Session<L: Ledger> {
+    shared: Option<SharedDesk<L>>,
+    passes: Vec<Pass<L>>,
+    messages: Vec<Option<Evaluated>>,
+    table: Table,
+}
+
+/// The calls of a line, which are parted by ` / `.
+#[derive(Clone, Copy)]
+struct Calls<'a> {
+    text: &'a str,
+}
+
+/// Answers with what a desk was when it was closed.
+fn say_report(report: &Report, alloc: Global, out: &mut String) -> Result<(), AllocError> {
+    writeln!(out, "events {}", report.events)?;
+    say_replay(&report.desk, alloc, out)
+}
+
+/// Closes the desk with the passes but for the last few, which are there again after a refusal.
+fn close<L: Ledger>(
+    session: &mut Session<L>,
+    alloc: Global,
+    without: u32,
+    out: &mut String,
+) -> Result<(), AllocError> {
+    let Some(shared) = session.shared.take() else {
+        return say("refused no desk", out);
+    };
+    let mut kept = Vec::with_capacity(alloc, session.passes.len())?;
+    for _ in 0..without {
+        match session.passes.pop() {
+            Some(pass) => kept.push(pass)?,
+            None => {}
+        }
+    }
+    let passes = mem::replace(&mut session.passes, Vec::new(alloc));
+    match shared.close(passes) {
+        Ok(report) => say_report(&report, alloc, out),
+        Err((shared, passes, refusal)) => {
+            session.shared = Some(shared);
+            session.passes = passes;
+            for _ in 0..without {
+                match kept.pop() {
+                    Some(pass) => session.passes.push(pass)?,
+                    None => {}
+                }
+            }
+            writeln!(out, "refused {refusal:?}")
+        }
+    }
+}
+
+/// Makes one call of a line.
+fn answer_call<L: Ledger, R: Wait + Threads + Sync>(
+    session: &mut Session<L>,
+    rt: &R,
+    alloc: Global,
+    text: &str,
+    out: &mut String,
+) -> Result<(), AllocError> {
+    let (call, rest) = first_word(text);
+    match (call, &session.shared) {
+        ("declare", _) => tables::answer_declare(&mut session.table, alloc, rest, out),
+        ("close", _) => close(session, alloc, number(rest), out),
+        (_, None) => say("refused no desk", out),
+        ("work", Some(shared)) => work(shared, &mut session.passes, rt, alloc, rest, out),
+        (_, Some(shared)) => answer_shared(
+            shared,
+            &mut session.passes,
+            &mut session.messages,
+            &session.table,
+            rt,
+            alloc,
+            text,
+            out,
+        ),
+    }
+}
+
+/// Makes the calls of a line.
+fn answer_calls<L: Ledger, R: Wait + Threads + Sync>(
+    session: &mut Session<L>,
+    rt: &R,
+    alloc: Global,
+    calls: Calls<'_>,
+    out: &mut String,
+) -> Result<(), AllocError> {
+    let mut left = calls.text;
+    for _ in 0..calls.text.len() {
+        match left.split_once(" / ") {
+            Some((call, more)) => {
+                answer_call(session, rt, alloc, call, out)?;
+                left = more;
+            }
+            None => return answer_call(session, rt, alloc, left, out),
+        }
+    }
+    Ok(())
+}
+
+fn answer_with<L: Ledger, R: Wait + Threads + Sync>(
+    rt: &R,
+    alloc: Global,
+    blank: Blank,
+    table: &Table,
+    passes: u32,
+    limit: u32,
+    calls: Calls<'_>,
+    out: &mut String,
+) -> Result<(), AllocError>
+    requires name { blank.name ≡ L.name }
+    requires parts { (blank.parts ≡ L.parts) × (blank.parts ≡ passes) }
+    requires passes { passes ≤ 128 }
+    requires limit { limit ≤ 1048576 }
+{
+    let (shared, passes) = SharedDesk::<L>::open(alloc, blank, table, passes, limit)?;
+    let mut session = Session {
+        shared: Some(shared),
+        passes,
+        messages: Vec::new(alloc),
+        table: table.copy(alloc)?,
+    };
+    answer_calls(&mut session, rt, alloc, calls, out)
+}
+
+/// Opens the desk under a ledger of its own.
+fn answer_open<R: Wait + Threads + Sync>(
+    rt: &R,
+    alloc: Global,
+    table: &Table,
+    passes: u32,
+    limit: u32,
+    calls: Calls<'_>,
+    out: &mut String,
+) -> Result<(), AllocError>
+    requires passes { passes ≤ 128 }
+    requires limit { limit ≤ 1048576 }
+{
+    let blank = Blank::new(u64::from(passes));
+    answer_with::<Brand, R>(rt, alloc, blank, table, passes, limit, calls, out)
+}
+
+/// Answers a line of calls of a shared desk, behind the numbers of its passes and of the events that it takes.
+pub fn answer<R: Wait + Threads + Sync>(
+    rt: &R,
+    table: &Table,
+    alloc: Global,
+    text: &str,
+    out: &mut String,
+) -> Result<(), AllocError> {
+    let (passes, rest) = first_word(text);
+    let (limit, text) = first_word(rest);
+    let passes = number(passes);
+    let limit = number(limit);
+    if passes > PASSES || limit > Desk::MAX_EVENTS {
+        return say("refused too many", out);
+    }
+    let calls = Calls { text };
+    answer_open(rt, alloc, table, passes, limit, calls, out)
+}
