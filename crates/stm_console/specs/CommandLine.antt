@@ -1,10 +1,19 @@
 -- What the words of a command line ask for. The first is the program's name.
-use Rattle.std.specs.Prelude.{ℕ, Bool, true, false, List, [], ◌∷◌, codes}
+use Rattle.std.specs.Prelude.{ℕ, Bool, true, false, List, [], ◌∷◌, ◌&&◌, Option, Some, None, if◌then◌else◌, codes, nat_le, option_and_then, ⊤, pos}
 use Rattle.std.specs.List.{list_all}
 use Rattle.std.specs.Str.{bytes_eq}
-use Rattle.clap.specs.Words.{App, Kinds, fault_of, new_app, with_subcommand}
+use Rattle.std.specs.Str.Parse.{digits_value, without_leading_plus}
+use Rattle.clap.specs.Walk.{Row, Rule, one_of}
+use Rattle.clap.specs.ValueTests.{is_unsigned_in}
+use Rattle.clap.specs.Words.{App, Kinds, fault_of, new_app, new_rule, subcommand_of, with_rule, with_subcommand}
+use Rattle.clap.specs.declared.builder.value_parser.ValueParser.TheVariants.{Signed}
 use Rattle.clap.specs.declared.error.kind.ErrorKind.{ErrorKind}
 use Rattle.clap.specs.declared.error.kind.ErrorKind.TheVariants.{DisplayHelp, DisplayVersion}
+use Rattle.stm_history.specs.SlowDesk.{max_events}
+use Rattle.stm_console.specs.declared.command_line.Request.{Request}
+use Rattle.stm_console.specs.declared.command_line.Request.TheVariants.{Run, Check}
+use Rattle.stm_console.specs.declared.options.Options.{Options}
+use Rattle.stm_console.specs.Options.{default_options}
 
 -- the program's name alone, or the word `run` after it
 abbrev pub asks_for_run : List (List ℕ) → Bool
@@ -13,11 +22,32 @@ asks_for_run (name ∷ []) = true
 asks_for_run (name ∷ word ∷ []) = bytes_eq word (codes "run")
 asks_for_run (name ∷ word ∷ next ∷ rest) = false
 
--- what the program takes: `run`, and what clap adds for help
-abbrev pub command_line : App
-command_line = with_subcommand (new_app (codes "stmdesk")) (new_app (codes "run")).top
+-- ---- what the program takes: `run` with its options, `check`, and what clap adds for help
 
--- what clap has to say of words in place of a run; nothing where they ask for one
+-- an option that takes a number from low to high, and its default in digits
+abbrev pub number_option : List ℕ → ℕ → ℕ → List ℕ → Rule
+number_option name low high default = record (new_rule name) {
+  long = Some name;
+  value_names = 1;
+  defaults = default ∷ [];
+  parser = Some (Signed (pos low) (pos high));
+}
+
+abbrev pub run_command : App
+run_command = with_rule (with_rule (with_rule (new_app (codes "run"))
+    (number_option (codes "workers") 1 64 (codes "2")))
+    (number_option (codes "levels") 0 8 (codes "0")))
+    (number_option (codes "max-events") 0 max_events (codes "1048576"))
+
+abbrev pub check_command : App
+check_command = new_app (codes "check")
+
+abbrev pub command_line : App
+command_line = with_subcommand (with_subcommand (new_app (codes "stmdesk")) run_command.top) check_command.top
+
+-- ---- which words are taken
+
+-- what clap has to say of words in place of a run or a check; nothing where they ask for one
 unfoldable pub answers_of : List (List ℕ) → Kinds
 answers_of words = fault_of command_line words
 
@@ -42,3 +72,38 @@ is_help _ = false
 -- clap finds a request for help in the words, as `--help`; of the word `help` it promises help or a refusal of what follows
 abbrev pub asks_for_help : List (List ℕ) → Bool
 asks_for_help words = is_help (answers_of words)
+
+-- ---- what they ask for
+
+-- the number that digits stand for, also after a plus, where it is one of 32 bits
+abbrev pub number_of_text : List ℕ → Option ℕ
+number_of_text text = if is_unsigned_in 0 4294967295 text then Some (digits_value 10 (without_leading_plus text)) else None
+
+abbrev pub number_within : ℕ → ℕ → ℕ → Option ℕ → ℕ
+number_within low high otherwise None = otherwise
+number_within low high otherwise (Some n) = if nat_le low n && nat_le n high then n else otherwise
+
+-- the number that is said for an option, from low to high; clap refuses any other
+abbrev pub number_said : List ℕ → ℕ → ℕ → ℕ → List Row → ℕ
+number_said name low high otherwise rows = number_within low high otherwise (option_and_then number_of_text (one_of name rows))
+
+abbrev pub options_said : List Row → Options
+options_said rows = record {
+  workers = number_said (codes "workers") 1 64 2 rows;
+  levels = number_said (codes "levels") 0 8 0 rows;
+  max_events = number_said (codes "max-events") 0 max_events max_events rows;
+}
+
+-- a subcommand, by its name and what is said for its options; without one a run
+abbrev pub request_said : Option (List ℕ × List Row) → Request
+request_said None = Run default_options
+request_said (Some p) = if bytes_eq p.0 (codes "check") then Check else Run (options_said p.1)
+
+-- what words ask for that clap takes: `check`, or a run with its options
+unfoldable pub request_of : List (List ℕ) → Request
+request_of words = request_said (subcommand_of command_line words)
+
+-- where it is a run, this holds of its options
+abbrev pub IfRun : Request → (Options → Type 0) → Type 0
+IfRun (Run options) P = P options
+IfRun Check P = ⊤

@@ -1,5 +1,7 @@
 -- The exit statuses of the program.
 use Rattle.std.specs.Prelude.{◌≡◌, ◌⊎◌, ℕ}
+use Rattle.stm_console.specs.declared.checking.Finding.{Finding}
+use Rattle.stm_console.specs.declared.checking.Finding.TheVariants.{Legal, BadHeader, BadLine, NotLegal}
 use Rattle.stm_console.specs.declared.streams.RunFault.{RunFault}
 use Rattle.stm_console.specs.declared.streams.RunFault.TheVariants.{Read, Write, NoMemory}
 
@@ -9,6 +11,13 @@ status_of Read = 1
 status_of Write = 1
 status_of NoMemory = 4
 
--- done, the words are refused, or a fault's
+-- a history is legal, or not
+abbrev pub finding_status : Finding → ℕ
+finding_status (Legal events) = 0
+finding_status BadHeader = 3
+finding_status (BadLine n) = 3
+finding_status (NotLegal n) = 3
+
+-- done, the words are refused, a history isn't legal, or a fault's
 abbrev pub IsStatus : ℕ → Type 0
-IsStatus n = (n ≡ 0) ⊎ ((n ≡ 1) ⊎ ((n ≡ 2) ⊎ (n ≡ 4)))
+IsStatus n = (n ≡ 0) ⊎ ((n ≡ 1) ⊎ ((n ≡ 2) ⊎ ((n ≡ 3) ⊎ (n ≡ 4))))

@@ -1,6 +1,7 @@
 -- What a reader has to believe: what the console writes for an input, command by command.
 pub mod Arguments
 pub mod Blocks
+pub mod Checking
 pub mod CommandLine
 pub mod Console
 pub mod ConsoleState

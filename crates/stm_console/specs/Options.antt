@@ -1,5 +1,5 @@
 -- The options of a run.
-use Rattle.std.specs.Prelude.{ℕ, ◌≤◌, ◌<◌}
+use Rattle.std.specs.Prelude.{◌≤◌, ◌<◌}
 use Rattle.stm_history.specs.SlowDesk.{max_events}
 use Rattle.stm_console.specs.declared.options.Options.{Options}
 

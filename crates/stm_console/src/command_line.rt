@@ -1,27 +1,108 @@
 //! The words of the command line.
 
-ghost use Rattle.std.specs.Prelude.{◌≡◌, IsTrue, IsOk, IfOk, map};
-ghost use Rattle.clap.specs.Words.{app_of, FailsBy};
-ghost use Rattle.stm_console.specs.CommandLine.{answers_of, asks_for_run, command_line};
+ghost use Rattle.std.specs.Prelude.{◌≡◌, false, IsTrue, IsOk, IfOk, map, option_and_then};
+ghost use Rattle.clap.specs.Simple.{subcommand_rows_of};
+ghost use Rattle.clap.specs.Walk.{one_of, rows_of, rule_of};
+ghost use Rattle.clap.specs.Words.{app_of, found_of, FailsBy};
+ghost use Rattle.clap.specs.declared.builder.command.Command.TheViews.{out-Command as fields_of};
+ghost use Rattle.stm_console.specs.CommandLine.{answers_of, asks_for_run, command_line, check_command, number_of_text, number_option, number_said, number_within, options_said, request_of, request_said, run_command, IfRun};
+ghost use Rattle.stm_console.specs.Options.{AreInRange};
 
-use clap::{Command, Error};
+use crate::options::Options;
+use clap::{Arg, ArgMatches, Command, Error, value_parser};
 use std::alloc::{AllocError, Global};
 use std::convert::AsStr;
 
+/// What words ask for: a run with these options, or a check of a history.
+#[derive(Clone, Copy, PartialEq, Eq, Debug)]
+pub enum Request {
+    Run(Options),
+    Check,
+}
+
 const ABOUT: &str =
-    "Declares shared variables, and tells what a transaction does on them and what it reads";
+    "A scheduler for memory transactions: blocks of code wait under tickets, a change of what they read \
+makes them stale, and each takes effect at once and whole, or not at all";
 
 const RUN: &str =
-    "Reads commands from standard input, one a line, and answers each on standard output";
+    "Reads commands from standard input, one a line, and answers each on standard output (as without a command)";
+
+const CHECK: &str = "Reads a history from standard input, and says whether it is legal";
+
+const NEXT: &str = "\
+Without a command stmdesk reads commands from standard input, as `stmdesk run` does:
+  $ printf 'tvar x : Int = 1\\ntry readTVar x\\nstore\\n' | stmdesk
+  tvar #0 x
+  commits writes none news none result 1
+  #0 x : Int = 1 count 0
+  cells 1
+
+`stmdesk run --help` teaches the commands, each with an example, and the options; `stmdesk check --help` says what a check
+prints. Exit statuses: 0 done, 1 the input or the output failed, 2 the words were refused, 3 a history isn't legal, 4 memory
+was refused.
+
+docs/CONSOLE.md says more about all of it, docs/LANGUAGE.md about blocks, docs/HISTORY.md about histories.";
 
 const COMMANDS: &str = "\
-Commands on standard input, one a line:
-  tvar NAME : TYPE = INIT  Declares a variable
-  try BLOCK                Tells the verdict of a block on the present store
-  looks BLOCK              Tells what the block reads of the present store
-  store                    Prints each variable with its value
+Commands on standard input, one a line. A line that begins with `--` is a comment.
+  tvar NAME : TYPE = INIT  Declares a variable, before any other command: `tvar #0 x`
+      tvar x : Int = 1
+  try BLOCK                Runs a block on the present store, which stays as it is, and prints its verdict
+      try do { a <- readTVar x; writeTVar x (a + 1); return a }
+  looks BLOCK              The same, and prints what the block reads: `reads #0=1`
+      looks readTVar x
+  submit BLOCK             Puts a block on the desk, where it waits: `ticket 1`
+      submit do { a <- readTVar x; if a < 1 then retry else writeTVar x (a + 1) }
+  take N                   Hands out the N lowest queued tickets as jobs on the present store: `jobs 1=1 2=3`
+      take 2
+  deliver J                Evaluates job J on the store of its `take`, and hands its verdict in: `delivered 1`
+      deliver 1
+  handback T               Queues a ticket that is out again: `queued 1`
+      handback 1
+  eval                     Evaluates and delivers all queued tickets: `evaluated 3`
+      eval
+  finish T                 Lets a current block take effect, and prints its result and the tickets that its writes
+                           made stale: `finished 1 result () stale 2 3`
+      finish 1
+  cancel T                 Takes a block off the desk: `cancelled 2`
+      cancel 2
+  show                     Prints each waiting ticket as `1 new`, `1 current VERDICT` or `1 stale VERDICT`, then `waiting 1`
+      show
+  reads T                  What the block under a ticket read when it was last evaluated: `reads #0=1`
+      reads 1
+  store                    Prints each variable with its value and how often it was written, then `cells 1`
+      store
+  settle                   Evaluates and finishes until no waiting block could commit: `settled 2 evaluations 3`
+      settle
+  history                  Prints all that happened, one JSON object a line, as `stmdesk check` reads it
+      history
+
+A verdict is `commits writes W news N result V` (#0=2 writes 2 to variable 0), `throws 4`, `throws overflow`, or `blocks`
+where the block retries. A ticket is new until its first delivery, then current, and stale once a finish wrote a variable
+that its block read. New and stale tickets are queued for `take` and `eval`, or out as jobs.
+A line that can't be taken prints `refused NAME`, with the place of its cause where it has one.
 
 docs/CONSOLE.md says more about the commands, docs/LANGUAGE.md about blocks.";
+
+const FINDINGS: &str = "\
+Prints one line:
+  legal N events   A desk can have taken the N events; status 0
+  bad header       The first line or a variable's line is wrong; status 3
+  bad line N       Line N is no event's line; status 3
+  not legal N      The event in line N can't follow those before it; status 3
+
+Example:
+  $ printf 'tvar x : Int = 1\\nsubmit readTVar x\\neval\\nfinish 1\\nhistory\\n' | stmdesk | sed '1,4d' | stmdesk check
+  legal 3 events
+
+docs/HISTORY.md describes the lines.";
+
+const WORKERS: &str = "How many threads `eval` may use, from 1 to 64; no answer depends on it";
+
+const LEVELS: &str =
+    "How many `orElse` deep both branches may run at once, from 0 to 8; no answer depends on it";
+
+const MAX_EVENTS: &str = "How many events the history may have, from 0 to 1048576";
 
 /// Whether the words are those of a run with nothing else, so that clap need not be asked.
 fn is_plain_run<S: AsStr>(words: &[S]) -> bool
@@ -34,25 +115,148 @@ fn is_plain_run<S: AsStr>(words: &[S]) -> bool
     }
 }
 
-/// What the program takes: `run`, which is meant where nothing is said, and what clap adds for help.
+/// An option that takes a number from `low` to `high`.
+fn number_option<'a>(
+    alloc: Global,
+    name: &'a str,
+    low: u32,
+    high: u32,
+    otherwise: &'a str,
+    help: &'a str,
+) -> Arg<'a>
+    ensures rule { rule_of result ≡ number_option name.entry.now low high otherwise.entry.now }
+    ensures local { result.global ≡ false }
+{
+    let numbers = value_parser!(u32).range(i64::from(low)..=i64::from(high));
+    Arg::new(alloc, name)
+        .long(name)
+        .value_name("N")
+        .value_parser(numbers)
+        .default_value(otherwise)
+        .help(help)
+}
+
+/// `run` with its options.
+fn run_words<'a>(alloc: Global) -> Result<Command<'a>, AllocError>
+    ensures app { IfOk result (λ c. app_of c ≡ run_command) }
+    ensures local { IfOk result (λ c. (fields_of c).has_globals ≡ false) }
+{
+    let workers = number_option(alloc, "workers", 1, Options::MAX_WORKERS, "2", WORKERS);
+    let levels = number_option(alloc, "levels", 0, Options::MAX_LEVELS, "0", LEVELS);
+    let max_events = number_option(
+        alloc,
+        "max-events",
+        0,
+        Options::MAX_EVENTS,
+        "1048576",
+        MAX_EVENTS,
+    );
+    Command::new(alloc, "run")
+        .about(RUN)
+        .after_help(COMMANDS)
+        .arg(workers)?
+        .arg(levels)?
+        .arg(max_events)
+}
+
+/// What the program takes: `run`, which is meant where nothing is said, `check`, and what clap adds for help.
 fn command<'a>(alloc: Global) -> Result<Command<'a>, AllocError>
     ensures { IfOk result (λ c. app_of c ≡ command_line) }
 {
-    let run = Command::new(alloc, "run").about(RUN).after_help(COMMANDS);
+    let run = run_words(alloc)?;
+    let check = Command::new(alloc, "check")
+        .about(CHECK)
+        .after_help(FINDINGS);
     Command::new(alloc, "stmdesk")
         .about(ABOUT)
-        .after_help(COMMANDS)
-        .subcommand(run)
+        .after_help(NEXT)
+        .subcommand(run)?
+        .subcommand(check)
 }
 
-/// Reads the words, the program's name first: `Ok` where they ask for a run, else the help or the fault to be reported.
-pub fn read_words<'a, S: AsStr>(alloc: Global, words: &'a [S]) -> Result<(), Error>
+/// The number that was said for an option.
+fn number_given(matches: &ArgMatches, name: &str) -> Option<u32>
+    ensures { result ≡ option_and_then number_of_text (one_of name.now (rows_of (found_of matches.now))) }
+{
+    matches.get_one::<u32>(name)
+}
+
+/// A number, where it is one from `low` to `high`.
+fn number_within(low: u32, high: u32, otherwise: u32, number: Option<u32>) -> u32
+    ensures { result ≡ number_within low high otherwise number }
+{
+    match number {
+        Some(number) => {
+            if low <= number && number <= high {
+                number
+            } else {
+                otherwise
+            }
+        }
+        None => otherwise,
+    }
+}
+
+/// The number that was said for an option. Clap has a default and takes none but those from `low` to `high`; that it is one of
+/// them is tested here once more.
+fn number_of(matches: &ArgMatches, name: &str, low: u32, high: u32, otherwise: u32) -> u32
+    ensures { result ≡ number_said name.now low high otherwise (rows_of (found_of matches.now)) }
+{
+    number_within(low, high, otherwise, number_given(matches, name))
+}
+
+/// The options of `run`.
+fn options_of(matches: &ArgMatches) -> Options
+    ensures said { result ≡ options_said (rows_of (found_of matches.now)) }
+    ensures range { AreInRange result }
+{
+    let otherwise = Options::standard();
+    Options {
+        workers: number_of(
+            matches,
+            "workers",
+            1,
+            Options::MAX_WORKERS,
+            otherwise.workers,
+        ),
+        levels: number_of(matches, "levels", 0, Options::MAX_LEVELS, otherwise.levels),
+        max_events: number_of(
+            matches,
+            "max-events",
+            0,
+            Options::MAX_EVENTS,
+            otherwise.max_events,
+        ),
+    }
+}
+
+/// What is asked for by words that clap takes.
+fn request_of<'a>(matches: &ArgMatches<'a>) -> Request
+    ensures said { result ≡ request_said (subcommand_rows_of matches.now) }
+    ensures range { IfRun result AreInRange }
+{
+    match matches.subcommand() {
+        Some((name, inner)) => {
+            if name == "check" {
+                Request::Check
+            } else {
+                Request::Run(options_of(inner))
+            }
+        }
+        None => Request::Run(Options::standard()),
+    }
+}
+
+/// Reads the words, the program's name first: what they ask for, else the help or the fault to be reported.
+pub fn read_words<'a, S: AsStr>(alloc: Global, words: &'a [S]) -> Result<Request, Error>
     ensures run { IsTrue (asks_for_run (map S.text words.now)) → IsOk result }
     ensures answers { FailsBy (answers_of (map S.text words.now)) result }
+    ensures request { IfOk result (λ r. r ≡ request_of (map S.text words.now)) }
+    ensures range { IfOk result (λ r. IfRun r AreInRange) }
 {
     if is_plain_run(words) {
-        return Ok(());
+        return Ok(Request::Run(Options::standard()));
     }
-    let _matches = command(alloc)?.try_get_matches_from(words)?;
-    Ok(())
+    let matches = command(alloc)?.try_get_matches_from(words)?;
+    Ok(request_of(&matches))
 }

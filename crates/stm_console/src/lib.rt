@@ -1,7 +1,7 @@
 //! The console: commands by line from a reader, answers to a writer.
 //!
-//! `run` writes exactly the text that `specs/Console` gives for what it reads; `start` is the program over its words and
-//! streams, and `command_line` judges the words.
+//! `run` writes exactly the text that `specs/Console` gives for what it reads; `check` judges a history; `start` is the program
+//! over its words and streams, and `command_line` judges the words.
 //! Below them stand the reader with the calls that are left of it (`calls`), a run under way (`session`), the judgement of a
 //! line (`judging`), what the console knows (`console`) and the commands: `declaring` has `tvar`, `trying` has `try` and
 //! `looks`, `showing` has `store`. `laws` says what holds of the text that is written and of the program's words.
@@ -10,6 +10,7 @@
 mod arguments;
 mod block;
 mod calls;
+mod checking;
 mod command;
 mod command_line;
 mod console;
@@ -31,6 +32,7 @@ mod showing;
 mod streams;
 mod trying;
 
+pub use checking::{Finding, check};
 pub use options::Options;
 pub use program::start;
 pub use streams::{RunFault, run};

@@ -22,6 +22,9 @@ impl Options {
     /// The deepest branches.
     pub const MAX_LEVELS: u32 = 8;
 
+    /// The most events.
+    pub const MAX_EVENTS: u32 = Desk::MAX_EVENTS;
+
     /// Where nothing is said: two threads, no branches on threads of their own, as many events as there may be.
     pub fn standard() -> Options
         ensures { result ≡ default_options }
@@ -29,7 +32,7 @@ impl Options {
         Options {
             workers: 2,
             levels: 0,
-            max_events: Desk::MAX_EVENTS,
+            max_events: Options::MAX_EVENTS,
         }
     }
 }

@@ -1,16 +1,17 @@
 //! The program over its words and streams, and its exit status.
 
-ghost use Rattle.std.specs.Prelude.{◌≡◌, ◌≢◌, ◌⊎◌, ℕ, List, [], IfSome, IsTrue, map};
+ghost use Rattle.std.specs.Prelude.{◌≡◌, ◌≢◌, ◌⊎◌, ℕ, List, [], IfErr, IfOk, IfSome, IsTrue, OnOk, map};
 ghost use Rattle.std.specs.Io.KnownBytes.{Appends, Keeps};
 ghost use Rattle.clap.specs.Values.{kind_of};
 ghost use Rattle.stm_terms.specs.Texts.{IsPrefixOf};
-ghost use Rattle.stm_history.specs.SlowDesk.{max_events};
+ghost use Rattle.stm_console.specs.Checking.{IsFinding, BeginsFindingText, finding_text};
 ghost use Rattle.stm_console.specs.Console.{console_text};
-ghost use Rattle.stm_console.specs.ExitStatus.{status_of, IsStatus};
-ghost use Rattle.stm_console.specs.CommandLine.{answers_of, asks_for_help, has_mistake, is_mistake};
+ghost use Rattle.stm_console.specs.ExitStatus.{finding_status, status_of, IsStatus};
+ghost use Rattle.stm_console.specs.CommandLine.{answers_of, asks_for_help, has_mistake, is_mistake, request_of, IfRun};
+ghost use Rattle.stm_console.specs.Options.{AreInRange};
 
-use crate::command_line::read_words;
-use crate::options::Options;
+use crate::checking::{Finding, check};
+use crate::command_line::{Request, read_words};
 use crate::streams::{RunFault, run};
 use clap::Error;
 use clap::error::ErrorKind;
@@ -46,6 +47,7 @@ fn tell_fault<E: Write>(fault: RunFault, errors: &mut E) -> u8
 /// Tells help on the writer, or what is wrong with the words on `errors`, and answers the status.
 fn tell_words<W: Write, E: Write>(error: &Error, writer: &mut W, errors: &mut E) -> u8
     ensures status { IsStatus result }
+    ensures unjudged { result ≢ 3 }
     ensures refused { result ≡ 2 → Keeps (W.contents writer.old) (W.contents writer.new) }
     ensures mistake { IsTrue (is_mistake (kind_of error.now)) → ((result ≡ 2) ⊎ (result ≡ 4))
         × Keeps (W.contents writer.old) (W.contents writer.new) }
@@ -66,11 +68,34 @@ fn tell_words<W: Write, E: Write>(error: &Error, writer: &mut W, errors: &mut E)
     0
 }
 
+/// Tells how a run ended, and answers the status.
+fn end_run<E: Write>(ended: Result<(), RunFault>, errors: &mut E) -> u8
+    ensures done { OnOk ended (result ≡ 0) }
+    ensures fault { IfErr ended (λ e. result ≡ status_of e) }
+{
+    match ended {
+        Ok(()) => 0,
+        Err(fault) => tell_fault(fault, errors),
+    }
+}
+
+/// Tells how a check ended, and answers the status.
+fn end_check<E: Write>(ended: Result<Finding, RunFault>, errors: &mut E) -> u8
+    ensures done { IfOk ended (λ f. result ≡ finding_status f) }
+    ensures fault { IfErr ended (λ e. result ≡ status_of e) }
+{
+    match ended {
+        Ok(finding) => finding.status(),
+        Err(fault) => tell_fault(fault, errors),
+    }
+}
+
 /// The whole program: reads its words, the program's name first; where they ask for a run, runs from the reader to the
-/// writer; reports a fault on `errors`, and answers the exit status.
+/// writer; where they ask for a check, judges the history on the reader; reports a fault on `errors`, and answers the exit
+/// status.
 ///
-/// 0: the input was read to its end, or help was written. 1: a read or a write failed. 2: the words were refused. 4: memory
-/// ran out. That `errors` fails changes nothing.
+/// 0: the input was read to its end, or help was written. 1: a read or a write failed. 2: the words were refused. 3: the
+/// history isn't legal. 4: memory ran out. That `errors` fails changes nothing.
 pub fn start<'a, S: AsStr, R: Read, W: Write, E: Write>(
     alloc: Global,
     words: &'a [S],
@@ -79,17 +104,31 @@ pub fn start<'a, S: AsStr, R: Read, W: Write, E: Write>(
     errors: &mut E,
 ) -> u8
     ensures status { IsStatus result }
-    // Words of which there is nothing to tell are those of a run, as the name alone and `run` are, and aren't refused.
+    // Words of which there is nothing to tell are those of a run or a check, as the name alone, and aren't refused.
     ensures runs { answers_of (map S.text words.now) ≡ [] → result ≢ 2 }
+    // A run has options in their ranges.
+    ensures options { IfRun (request_of (map S.text words.now)) AreInRange }
     // With status 0 the whole text of the input was written.
-    ensures answered { answers_of (map S.text words.now) ≡ [] → result ≡ 0 →
-        IfSome (R.remaining reader.old) (λ input.
-        Appends (W.contents writer.old) (W.contents writer.new) (console_text max_events input)) }
+    ensures answered { answers_of (map S.text words.now) ≡ [] → IfRun (request_of (map S.text words.now)) (λ o.
+        result ≡ 0 → IfSome (R.remaining reader.old) (λ input.
+        Appends (W.contents writer.old) (W.contents writer.new) (console_text o.max_events input))) }
     // With any other it is a prefix of the text.
-    ensures part { answers_of (map S.text words.now) ≡ [] → result ≢ 0 →
-        IfSome (R.remaining reader.old) (λ input.
-        (front : List ℕ) × IsPrefixOf front (console_text max_events input)
+    ensures part { answers_of (map S.text words.now) ≡ [] → IfRun (request_of (map S.text words.now)) (λ o.
+        result ≢ 0 → IfSome (R.remaining reader.old) (λ input.
+        (front : List ℕ) × IsPrefixOf front (console_text o.max_events input)
+        × Appends (W.contents writer.old) (W.contents writer.new) front)) }
+    // A check writes what it finds of the bytes, which the status says too.
+    ensures found { answers_of (map S.text words.now) ≡ [] → request_of (map S.text words.now) ≡ Request.Check →
+        (result ≡ 0) ⊎ (result ≡ 3) → IfSome (R.remaining reader.old) (λ bytes.
+        (f : Finding) × IsFinding bytes f × (result ≡ finding_status f)
+        × Appends (W.contents writer.old) (W.contents writer.new) (finding_text f)) }
+    // With any other status nothing or a prefix of it.
+    ensures found_part { answers_of (map S.text words.now) ≡ [] → request_of (map S.text words.now) ≡ Request.Check →
+        result ≢ 0 → IfSome (R.remaining reader.old) (λ bytes.
+        (front : List ℕ) × BeginsFindingText bytes front
         × Appends (W.contents writer.old) (W.contents writer.new) front) }
+    // Nothing but a check judges histories.
+    ensures judged { result ≡ 3 → (answers_of (map S.text words.now) ≡ []) × (request_of (map S.text words.now) ≡ Request.Check) }
     // Where words are refused, nothing is read and nothing written.
     ensures refused { result ≡ 2 → Keeps (R.remaining reader.old) (R.remaining reader.new)
         × Keeps (W.contents writer.old) (W.contents writer.new) }
@@ -101,11 +140,12 @@ pub fn start<'a, S: AsStr, R: Read, W: Write, E: Write>(
     ensures help { IsTrue (asks_for_help (map S.text words.now)) → (result ≢ 2)
         × Keeps (R.remaining reader.old) (R.remaining reader.new) }
 {
-    if let Err(error) = read_words(alloc, words) {
-        return tell_words(&error, writer, errors);
-    }
-    match run(alloc, reader, writer, Options::standard()) {
-        Ok(()) => 0,
-        Err(fault) => tell_fault(fault, errors),
+    let request = match read_words(alloc, words) {
+        Ok(request) => request,
+        Err(error) => return tell_words(&error, writer, errors),
+    };
+    match request {
+        Request::Run(options) => end_run(run(alloc, reader, writer, options), errors),
+        Request::Check => end_check(check(alloc, reader, writer), errors),
     }
 }

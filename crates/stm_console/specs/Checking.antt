@@ -1,0 +1,26 @@
+-- What `check` finds of bytes, and what it prints.
+use Rattle.std.specs.Prelude.{◌≡◌, ◌⊎◌, ℕ, List, [], ◌++◌, codes, decimal}
+use Rattle.stm_terms.specs.Texts.{IsPrefixOf}
+use Rattle.stm_history.specs.declared.files.fault.HistoryFault.TheVariants as fault
+use Rattle.stm_history.specs.declared.files.fault.Legal.{Legal}
+use Rattle.stm_history.specs.Judgement.{IsHistory, TellsFault}
+use Rattle.stm_history.specs.Lines.{format_1}
+use Rattle.stm_console.specs.declared.checking.Finding.{Finding}
+use Rattle.stm_console.specs.declared.checking.Finding.TheVariants.{Legal as LegalFound, BadHeader, BadLine, NotLegal}
+
+-- the bytes are the text of a legal history of so many events, or this is their first fault
+abbrev pub IsFinding : List ℕ → Finding → Type 0
+IsFinding bytes (LegalFound events) = (n : Legal) × IsHistory format_1 bytes n × (events ≡ n.events)
+IsFinding bytes BadHeader = TellsFault format_1 fault.BadHeader bytes
+IsFinding bytes (BadLine n) = TellsFault format_1 (fault.BadLine n) bytes
+IsFinding bytes (NotLegal n) = TellsFault format_1 (fault.NotLegal n) bytes
+
+abbrev pub finding_text : Finding → List ℕ
+finding_text (LegalFound events) = codes "legal " ++ decimal events ++ codes " events\n"
+finding_text BadHeader = codes "bad header\n"
+finding_text (BadLine n) = codes "bad line " ++ decimal n ++ codes "\n"
+finding_text (NotLegal n) = codes "not legal " ++ decimal n ++ codes "\n"
+
+-- nothing, or a prefix of what is printed of the bytes
+abbrev pub BeginsFindingText : List ℕ → List ℕ → Type 0
+BeginsFindingText bytes front = (front ≡ []) ⊎ ((f : Finding) × IsFinding bytes f × IsPrefixOf front (finding_text f))
