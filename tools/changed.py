@@ -9,11 +9,13 @@ import repository
 
 ROOT = repository.ROOT
 SECOND = "second-tier edit"
-# What is run on the built programs: what is shown, the script of tests/, and the program that it is given, if it is.
+# What is run on the built programs: what is shown, the script, and the program that it is given, if it is.
 RUNS = [
-    ("cases and examples", "run_cases", "stmdesk"),
-    ("calls", "run_calls", "stm_calls"),
-    ("each allocation refused in turn", "refused", None),
+    ("cases and examples", "tests/run_cases", "stmdesk"),
+    ("the Python client", "clients/python/test_stmdesk.py", "stmdesk"),
+    ("drawings of histories", "tests/run_timeline", "stmdesk"),
+    ("calls", "tests/run_calls", "stm_calls"),
+    ("each allocation refused in turn", "tests/refused", None),
 ]
 
 
@@ -21,8 +23,8 @@ def runs(root=ROOT):
     """The runs on built programs that are there: what each shows, and its command in the repository."""
     found = []
     for shown, script, program in RUNS:
-        if (root / "tests" / script).exists():
-            found.append((shown, [sys.executable, f"tests/{script}"] + [f"crates/{program}/out/{program}"] * bool(program)))
+        if (root / script).exists():
+            found.append((shown, [sys.executable, script] + [f"crates/{program}/out/{program}"] * bool(program)))
     return found
 
 
@@ -66,7 +68,7 @@ def of_crate(crate, anew=False):
 def of_runs(programs):
     """The parts that run the programs."""
     texts = [it for it in sorted((ROOT / "tests").iterdir()) if it.name not in ("edits", "budget", "__pycache__")]
-    texts += [ROOT / it for it in ("examples", "README.md", "docs")]
+    texts += [ROOT / it for it in ("clients", "tools/timeline", "examples", "README.md", "docs")]
     key = lambda: repository.digest(*(it.digest() for it in programs), *map(repository.contents, texts))
     after = [f"proof {it.name}" for it in programs]
     return [parts.Part(shown, lambda jobs, it=command: on_programs(it), [key], after) for shown, command in runs()]

@@ -578,11 +578,13 @@ class Pages(OnProgram):
         done = subprocess.run(command, capture_output=True, text=True, timeout=SECONDS)
         self.assertEqual((done.stdout, done.stderr), ((HERE / "job_engine.out").read_text(), ""))
 
-    def test_the_readme(self):
+    def test_the_readmes(self):
         with_program = vars(stmdesk) | {"Desk": functools.partial(Desk, program)}
-        tried = doctest.testfile(str(HERE / "README.md"), module_relative=False, globs=with_program)
-        self.assertGreater(tried.attempted, 0)
-        self.assertEqual(tried.failed, 0)
+        for page in (HERE / "README.md", HERE.parents[1] / "README.md"):
+            tried = doctest.testfile(str(page), module_relative=False, globs=with_program)
+            with self.subTest(page=page):
+                self.assertGreater(tried.attempted, 0)
+                self.assertEqual(tried.failed, 0)
 
 
 def main():
