@@ -65,7 +65,11 @@ pub fn take(
 }
 
 /// The message of a job, which stays.
-fn message_of(job: &Job, frozen: &Frozen, alloc: Global) -> Result<Option<Evaluated>, AllocError> {
+pub fn message_of(
+    job: &Job,
+    frozen: &Frozen,
+    alloc: Global,
+) -> Result<Option<Evaluated>, AllocError> {
     if !frozen.covers(job.block.block().uses()) {
         return Ok(None);
     }
@@ -135,7 +139,7 @@ fn push_copy(copied: &mut Vec<Job>, job: &Job, frozen: &Frozen) -> Result<(), Al
 }
 
 /// Copies of the jobs that the store covers.
-fn copies(jobs: &[Job], frozen: &Frozen, alloc: Global) -> Result<Vec<Job>, AllocError>
+pub fn copies(jobs: &[Job], frozen: &Frozen, alloc: Global) -> Result<Vec<Job>, AllocError>
     ensures { IfOk result (λ v. AreCovered frozen.now v.items) }
 {
     let mut copied = Vec::new(alloc);

@@ -20,6 +20,7 @@ mod log;
 mod log_calls;
 mod pool_calls;
 mod pool_gate;
+mod pool_late;
 mod pools;
 mod queue;
 mod store;
@@ -142,6 +143,7 @@ fn answer_pool<T: Threads + Wait + Clock + Sync>(
         }
         "open" => pools::answer(rt, &objects.table, alloc, rest, out),
         "gate" => pool_gate::answer(rt, &objects.table, alloc, rest, out),
+        "late" => pool_late::answer(rt, &objects.table, alloc, rest, out),
         _ => say("no such call", out),
     }
 }
