@@ -72,7 +72,7 @@ Commands on standard input, one a line. A line that begins with `--` is a commen
       reads 1
   store                    Prints each variable with its value and how often it was written, then `cells 1`
       store
-  settle                   Evaluates and finishes until no waiting block could commit: `settled 2 evaluations 3`
+  settle                   Evaluates and finishes until nothing can go on: `settled 2 evaluations 3`
       settle
   history                  Prints all that happened, one JSON object a line, as `stmdesk check` reads it
       history

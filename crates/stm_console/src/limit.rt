@@ -4,9 +4,8 @@ ghost use Rattle.std.specs.Prelude.{◌≡◌, ◌≤◌};
 ghost use Rattle.stm_history.specs.SlowDesk.{max_events};
 
 use std::marker::Model;
-use stm_desk::Desk;
 
-/// How many events a desk takes: at most `Desk::MAX_EVENTS`. Contracts see the number.
+/// How many events a desk takes, at most `stm_desk::Desk::MAX_EVENTS`. Contracts see the number.
 #[derive(Drop)]
 pub struct EventLimit {
     events: u32,
@@ -24,9 +23,6 @@ impl Model for EventLimit {
 }
 
 impl EventLimit {
-    /// As many as there may be.
-    pub const MOST: u32 = Desk::MAX_EVENTS;
-
     pub fn new(events: u32) -> EventLimit
         requires { events ≤ max_events }
         ensures { result ≡ events }
