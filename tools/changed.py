@@ -14,6 +14,7 @@ RUNS = [
     ("cases and examples", "tests/run_cases", "stmdesk"),
     ("the Python client", "clients/python/test_stmdesk.py", "stmdesk"),
     ("drawings of histories", "tests/run_timeline", "stmdesk"),
+    ("the library's example", "tests/run_library", None),
     ("calls", "tests/run_calls", "stm_calls"),
     ("each allocation refused in turn", "tests/refused", None),
 ]
