@@ -37,8 +37,8 @@ fn joined<L: Ledger>(rest: Share<L>, passes: Vec<Pass<L>>) -> Share<L>
 }
 
 impl<L: Ledger> SharedDesk<L> {
-    /// The desk, where all its passes are there, in the order of their clients, and have their clients' events. Otherwise the
-    /// desk and the passes are handed back.
+    /// The desk, where all its passes are there, in the order of their clients, and have their clients' events. Otherwise
+    /// the desk and the passes are handed back.
     pub fn close(
         self,
         passes: Vec<Pass<L>>,
