@@ -68,8 +68,8 @@ struct Errand<'a, L: Ledger, R> {
 /// A pass, and how its worker ended.
 type Ended<L> = (Pass<L>, WorkEnd);
 
-/// A worker, which stops the desk when it ends, so that nobody waits for it in vain. Where memory ran out for it, the other one
-/// is held no longer.
+/// A worker, which stops the desk when it ends, so that nobody waits for it in vain. Where memory ran out for it, the other
+/// one is held no longer.
 fn run_worker<'a, L: Ledger, R: Threads + Wait + Clock + Sync>(
     errand: Errand<'a, L, R>,
 ) -> Ended<L> {

@@ -21,7 +21,6 @@ use Rattle.stm_history.specs.contracts.machine.Machine as machine
 use Rattle.stm_store.specs.contracts.table.Table as table
 use Rattle.stm_store.specs.contracts.store.Store as store
 use Rattle.stm_queue.specs.contracts.pending.Pending as pending
-use Rattle.stm_watch.specs.contracts.watch.Watch as watch
 use Rattle.stm_desk.specs.contracts.desk.Desk as desk
 use Rattle.stm_pool.specs.contracts.pass.Pass as pass
 use Rattle.stm_pool.specs.contracts.guarded.Guarded as guarded
@@ -68,11 +67,8 @@ store_send = search (sendable, crosses) depth 40 fits 100000
 pub pending_send : IsSend pending.the_row
 pending_send = search (sendable, crosses) depth 40 fits 100000
 
-pub watch_send : IsSend watch.the_row
-watch_send = search (sendable, crosses, maps_crosses) depth 40 fits 100000
-
 pub machine_send : IsSend machine.the_row
-machine_send = search (sendable, crosses, store_send, blocks_send, pending_send, watch_send) depth 40 fits 100000
+machine_send = search (sendable, crosses, maps_crosses, store_send, blocks_send, pending_send) depth 40 fits 100000
 
 pub desk_send : IsSend desk.the_row
 desk_send = search (sendable, Vec-send, event_send, table_send, machine_send) depth 40 fits 100000

@@ -1,5 +1,6 @@
 mod Answered
 pub mod Crosses
 mod OneJob
+mod OnlyTheirs
 mod Owns
 mod Works

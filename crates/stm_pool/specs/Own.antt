@@ -1,5 +1,5 @@
 -- What a client knows of a history.
-use Rattle.std.specs.Prelude.{◌≡◌, ℕ, ◌+◌, Bool, true, ◌&&◌, ◌==◌, List, [], ◌∷◌, ◌++◌, length, if◌then◌else◌}
+use Rattle.std.specs.Prelude.{◌≡◌, ℕ, ◌+◌, Bool, true, ◌&&◌, ◌==◌, nat_lt, List, [], ◌∷◌, ◌++◌, length, if◌then◌else◌}
 use Rattle.stm_history.specs.declared.event.Event.{Event}
 
 -- what a pass is to its holder: the client, its own accepted events, and how many events it has seen
@@ -17,6 +17,11 @@ own_of client (e ∷ es) = if e.client == client then e ∷ own_of client es els
 abbrev pub are_of : ℕ → List Event → Bool
 are_of client [] = true
 are_of client (e ∷ es) = (e.client == client) && are_of client es
+
+-- whether all events are of clients below n
+abbrev pub are_below : ℕ → List Event → Bool
+are_below n [] = true
+are_below n (e ∷ es) = nat_lt e.client n && are_below n es
 
 -- the numbers of the passes' events, added up
 abbrev pub events_in_passes : List Known → ℕ

@@ -142,8 +142,8 @@ impl<L: Ledger> Guarded<L> {
         Ok(())
     }
 
-    /// The job of the lowest queued ticket, which is out from then on, and an unchanging copy of the present store, which has
-    /// the variables of its block; nothing where no ticket is queued.
+    /// The job of the lowest queued ticket, which is out from then on, and an unchanging copy of the present store, which
+    /// has the variables of its block; nothing where no ticket is queued.
     pub fn take(&mut self) -> Result<Option<(Frozen, Job)>, NoMemory>
         ensures ticket { IfOk result (λ r. option_map (λ j. j.1.ticket) r ≡ first_queued self.old.desk.pending) }
         ensures block { IfOk result (λ r. IfSome r (λ j. block_at (now self.old.desk) j.1.ticket ≡ Some j.1.block)) }

@@ -2,10 +2,10 @@
 //!
 //! `evaluate_all` answers what one thread would, by as many threads as it is given.
 //!
-//! `Guarded` is the desk under its lock, and `Pass` what each client carries: its own accepted events, and its share of the
-//! count of all. A call on `Guarded` is lent both, so its contract says the whole of it. `SharedDesk` is the lock; through it
-//! a call says what it did to the pass alone, and `close` compares all passes with the history. `work` is what a worker does:
-//! it takes, evaluates without the lock, and delivers.
+//! `Guarded` is the desk under its lock, and `Pass` what each client carries: its own accepted events, and its share of
+//! the count of all. A call on `Guarded` is lent both, so its contract says the whole of it. `SharedDesk` is the lock;
+//! through it a call says what it did to the pass alone, and `close` compares all passes with the history. `work` is what
+//! a worker does: it takes, evaluates without the lock, and delivers.
 #![tactic(auto)]
 
 // Many jobs at once.

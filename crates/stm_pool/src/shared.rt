@@ -14,7 +14,7 @@ use stm_desk::Desk;
 use stm_store::Table;
 use stm_terms::NoMemory;
 
-/// A desk for many threads: one lock, under which each call is one call of `Guarded`. Contracts see the number of its passes.
+/// A desk for many threads: one lock, under which each call is one call of `Guarded`. Contracts see how many passes it has.
 ///
 /// Nothing is known of the desk between two calls but what its type keeps. So a call tells what it did to the caller's pass,
 /// and `close` compares all passes with the history.

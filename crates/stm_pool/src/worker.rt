@@ -28,8 +28,8 @@ pub enum WorkEnd {
     NoMemory,
 }
 
-/// Evaluates what is queued until the desk is stopped. At a full history and where memory runs out its ticket is queued again
-/// and the desk stopped first. `levels`, how deep the branches of `orElse` may run side by side, has no effect yet.
+/// Evaluates what is queued until the desk is stopped. At a full history and where memory runs out its ticket is queued
+/// again and the desk stopped first. `levels`, how deep the branches of `orElse` may run side by side, has no effect yet.
 pub fn work<L: Ledger, G: Gate<R>, R: Wait + Threads + Sync>(
     rt: &R,
     alloc: Global,
