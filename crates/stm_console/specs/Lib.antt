@@ -16,6 +16,8 @@ pub mod OpenDesk
 pub mod Options
 pub mod Refusals
 pub mod Showing
+pub mod StormScript
+pub mod StormText
 -- The words inside.
 pub mod Abstraction
 pub mod Kept

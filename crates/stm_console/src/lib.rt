@@ -31,10 +31,13 @@ mod refusal;
 mod reply;
 mod session;
 mod showing;
+pub mod storm;
+mod storm_word;
 mod streams;
 mod trying;
 
 pub use checking::{Finding, check};
 pub use options::Options;
 pub use program::start;
+pub use storm::{StormFault, storm};
 pub use streams::{RunFault, run};

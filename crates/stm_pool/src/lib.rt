@@ -6,6 +6,9 @@
 //! the count of all. A call on `Guarded` is lent both, so its contract says the whole of it. `SharedDesk` is the lock;
 //! through it a call says what it did to the pass alone, and `close` compares all passes with the history. `work` is what
 //! a worker does: it takes, evaluates without the lock, and delivers.
+//!
+//! A storm (`run_storm`) runs clients and workers in threads of their own over one such desk, and replays the history that they
+//! leave.
 #![tactic(auto)]
 
 // Many jobs at once.
@@ -23,11 +26,17 @@ pub mod close;
 pub mod shared;
 pub mod worker;
 
+// Clients and workers in threads of their own.
+pub mod section;
+pub mod storm;
+
 pub use all::{Answer, evaluate_all};
 pub use calls::Next;
 pub use close::Report;
 pub use errors::{CloseError, ViewError};
 pub use guarded::{Guarded, View};
 pub use pass::Pass;
+pub use section::{Section, Task};
 pub use shared::SharedDesk;
+pub use storm::{Counts, Replay, StormEnd, run_storm};
 pub use worker::{Gate, WorkEnd, work};

@@ -1,0 +1,39 @@
+-- What a storm writes.
+use Rattle.std.specs.Prelude.{◌≡◌, ℕ, ◌+◌, List, [], ◌∷◌, ◌++◌, Ok, codes, decimal, length}
+use Rattle.stm_history.specs.declared.event.Event.{Event}
+use Rattle.stm_pool.specs.declared.storm.Counts.{Counts}
+use Rattle.stm_pool.specs.Storms.{IsStormHistory}
+use Rattle.stm_console.specs.StormScript.{StormScript, storm_script}
+
+-- the line of a client
+unfoldable pub client_line : ℕ → Counts → List ℕ
+client_line client c =
+    codes "client " ++ decimal client
+    ++ codes " submitted " ++ decimal c.submitted
+    ++ codes " finished " ++ decimal c.finished
+    ++ codes " cancelled " ++ decimal c.cancelled
+    ++ codes " refused " ++ decimal c.refused
+    ++ codes " missed " ++ decimal c.missed ++ 10 ∷ []
+
+-- those of the clients from this one on
+abbrev pub client_lines : ℕ → List Counts → List ℕ
+client_lines client [] = []
+client_lines client (c ∷ cs) = client_line client c ++ client_lines (client + 1) cs
+
+unfoldable pub events_line : ℕ → List ℕ
+events_line events = codes "events " ++ decimal events ++ 10 ∷ []
+
+-- where the history was replayed, and found legal
+abbrev pub storm_text : List Counts → ℕ → List ℕ
+storm_text counts events = client_lines 0 counts ++ events_line events ++ codes "replay ok" ++ 10 ∷ []
+
+-- a text that a storm of a script may write: what it counts is told by a history that is legal over the script's variables.
+-- Which history that is, and so what is refused or missed, depends on which thread came first
+pub record IsStormText (input text : List ℕ) : Type 0 where
+  pub script : StormScript
+  pub right : storm_script input ≡ Ok script
+  pub counts : List Counts
+  pub each : length counts ≡ length script.sections
+  pub history : List Event
+  pub counted : IsStormHistory script.table counts (length history) history
+  pub written : text ≡ storm_text counts (length history)

@@ -1,0 +1,58 @@
+-- What a storm leaves: a legal history, which has what its counts tell.
+use Rattle.std.specs.Prelude.{◌≡◌, ℕ, ◌+◌, Bool, true, false, List, [], ◌∷◌, length, if◌then◌else◌, ⊤}
+use Rattle.stm_store.specs.Tables.{Declared}
+use Rattle.stm_history.specs.declared.event.Event.{Event}
+use Rattle.stm_history.specs.declared.event.What.{What}
+use Rattle.stm_history.specs.declared.event.What.TheVariants.{Submitted, Installed, Finished, Cancelled}
+use Rattle.stm_history.specs.SlowDesk.{IsLegal}
+use Rattle.stm_pool.specs.declared.storm.Counts.{Counts}
+use Rattle.stm_pool.specs.declared.storm.Replay.{Replay}
+use Rattle.stm_pool.specs.declared.storm.Replay.TheVariants.{NotClosed, NotLegal, Legal}
+use Rattle.stm_pool.specs.Own.{own_of}
+
+-- the kinds of event that a client makes
+abbrev pub is_submission : What → Bool
+is_submission (Submitted t block) = true
+is_submission (Installed t v) = false
+is_submission (Finished t v n stale) = false
+is_submission (Cancelled t) = false
+
+abbrev pub is_finished : What → Bool
+is_finished (Submitted t block) = false
+is_finished (Installed t v) = false
+is_finished (Finished t v n stale) = true
+is_finished (Cancelled t) = false
+
+abbrev pub is_cancelled : What → Bool
+is_cancelled (Submitted t block) = false
+is_cancelled (Installed t v) = false
+is_cancelled (Finished t v n stale) = false
+is_cancelled (Cancelled t) = true
+
+-- how many events are of a kind
+abbrev pub how_many : (What → Bool) → List Event → ℕ
+how_many kind [] = 0
+how_many kind (e ∷ es) = if kind e.what then how_many kind es + 1 else how_many kind es
+
+-- a client's counts are those of its events
+pub record CountsEvents (own : List Event) (c : Counts) : Type 0 where
+  pub submitted : c.submitted ≡ how_many is_submission own
+  pub finished : c.finished ≡ how_many is_finished own
+  pub cancelled : c.cancelled ≡ how_many is_cancelled own
+
+-- the same of the clients from this one on, one after another
+abbrev pub CountsClients : List Event → ℕ → List Counts → Type 0
+CountsClients history client [] = ⊤
+CountsClients history client (c ∷ cs) = CountsEvents (own_of client history) c × CountsClients history (client + 1) cs
+
+-- a history of so many events that is legal over the table, of which the counts tell what each client did
+pub record IsStormHistory (table : List Declared) (counts : List Counts) (events : ℕ) (history : List Event) : Type 0 where
+  pub legal : IsLegal table history
+  pub many : events ≡ length history
+  pub counted : CountsClients history 0 counts
+
+-- where a storm's history was found legal, there is one
+abbrev pub IsStormEnd : List Declared → List Counts → Replay → Type 0
+IsStormEnd table counts NotClosed = ⊤
+IsStormEnd table counts (NotLegal n) = ⊤
+IsStormEnd table counts (Legal n) = (history : List Event) × IsStormHistory table counts n history

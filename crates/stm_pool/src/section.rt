@@ -1,0 +1,20 @@
+//! What a client of a storm is to do.
+
+use stm_check::SharedBlock;
+use stm_terms::values::Value;
+
+/// One thing that a client does. `Finish` and `Cancel` name one of the section's submissions, counted from 0; `Expect` names
+/// a variable by its number, and the value that it should have.
+#[derive(Drop)]
+pub enum Task {
+    Submit(SharedBlock),
+    Finish(usize),
+    Cancel(usize),
+    Expect(u32, Value),
+}
+
+/// What one client does, in order.
+#[derive(Drop)]
+pub struct Section {
+    pub tasks: Vec<Task>,
+}
