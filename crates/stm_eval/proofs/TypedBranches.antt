@@ -1,5 +1,5 @@
 -- All branches of a well typed action are defined, in every well typed view.
-use Rattle.std.proofs.Common.{◌≡◌, ◌≢◌, ℕ, Bool, true, false, List, [], ◌∷◌, ◌++◌, Option, Some, None, Ok, Err, refl, sym, ap, ◌∙◌, subst}
+use Rattle.std.proofs.Common.{◌≡◌, ◌≢◌, ℕ, Bool, true, false, List, [], ◌∷◌, ◌++◌, ◌≤◌, ◌^◌, inl, arith, Option, Some, None, Ok, Err, refl, sym, ap, ◌∙◌, subst}
 use Rattle.stm_terms.specs.declared.kinds.Ty.{Ty}
 use Rattle.stm_terms.specs.declared.values.Value.{Value}
 use Rattle.stm_terms.specs.declared.values.Value.TheVariants.{Int, Bool as Truth, Unit as Nil, Var}
@@ -7,12 +7,12 @@ use Rattle.stm_terms.specs.Ast.{Act, return, read, write, make, retry, throw, if
 use Rattle.stm_terms.specs.Value.{Answer, value}
 use Rattle.stm_terms.specs.Changes.{Variables, Changes, no_changes, cell_value}
 use Rattle.stm_terms.specs.Semantics.{Outcome, Returned, Threw, Retried, Stuck, run}
-use Rattle.stm_terms.specs.Typing.{TypeEnv, kinds_in, bool_ty, type_of, ActionType, action_type, WellTyped, HaveTypes}
+use Rattle.stm_terms.specs.Typing.{TypeEnv, kinds_in, bool_ty, type_of, ActionType, action_type, WellTyped, makes, HaveTypes}
 use Rattle.stm_store.specs.Cells.{kinds_of, StoreIsTyped, Covers}
 use Rattle.stm_check.proofs.ExpressionsSound.{IsOf, is_truth, same_ty_equal, with_type_some, expr_fine}
 use Rattle.stm_check.proofs.ActionsSound.{if_some, with_result_some, with_bound_some, Extends, locals_kept, one_more, HasResult, Fine, run_fine, typed_not_stuck}
 use Rattle.stm_check.proofs.Weakening.{action_more, covered, store_fine}
-use Rattle.stm_eval.specs.BothBranches.{OnAnswer, OnCondition, OnReturn, AllBranchesDefined}
+use Rattle.stm_eval.specs.BothBranches.{OnAnswer, OnCondition, OnReturn, AllBranchesDefined, CanRun}
 
 module _ (kinds : TypeEnv) (under : Variables) where
   after_answer : (h : Changes) (t : Ty) (o : Answer) (go : Value → Type 0) → IsOf kinds h t o → ((v : Value) → type_of kinds h v ≡ Some t → go v) → OnAnswer o go
@@ -72,8 +72,12 @@ module _ (kinds : TypeEnv) (under : Variables) where
         (λ v k q m x. all_defined b locals types k r m (locals_kept kinds h k x locals types l) s.2),
       )
 
--- so are those of a well typed block on a well typed store that covers it
-pub block_all_defined : (cells : List (Ty × Value)) (uses : List (ℕ × Ty)) (a : Act) (r : ActionType) → StoreIsTyped cells → Covers cells uses → action_type (kinds_in uses) [] a ≡ Some r → AllBranchesDefined (cell_value cells) a [] no_changes
-block_all_defined cells uses a r s c p =
-    all_defined (kinds_of cells) (cell_value cells) a [] [] no_changes r (store_fine cells s) tt
-    (action_more (kinds_in uses) (kinds_of cells) (covered cells uses c) a [] r p)
+-- so a well typed block can be run on a new log, over a well typed store that covers it
+pub block_can_run : (cells : List (Ty × Value)) (uses : List (ℕ × Ty)) (a : Act) (r : ActionType) → StoreIsTyped cells → Covers cells uses → action_type (kinds_in uses) [] a ≡ Some r → makes a ≤ 2 ^ 32
+    → CanRun (cell_value cells) a [] (record { top = no_changes; below = []; reads = [] })
+block_can_run cells uses a r s c p few = record {
+  defined = all_defined (kinds_of cells) (cell_value cells) a [] [] no_changes r (store_fine cells s) tt
+    (action_more (kinds_in uses) (kinds_of cells) (covered cells uses c) a [] r p);
+  room = omega (arith, few);
+  reads = record { rising = tt; part = λ i. inl refl };
+}

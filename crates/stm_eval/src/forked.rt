@@ -4,7 +4,7 @@
 //! be started: the left one goes on with the log, in a frame, and the right one with a copy that was made before. Where
 //! the left one retried, what it read is joined to what the right one read. Else nothing of the right one counts.
 
-ghost use Rattle.std.specs.Prelude.{◌≡◌, ◌≢◌, ◌+◌, ◌<◌, ◌≤◌, ◌^◌, Some, length, take, OnOk, IfOk, IfErr};
+ghost use Rattle.std.specs.Prelude.{◌≡◌, ◌≢◌, ◌+◌, ◌<◌, ◌≤◌, ◌^◌, [], Some, length, take, OnOk, IfOk, IfErr};
 ghost use denote.Param.Send.{IsSync};
 ghost use Rattle.stm_terms.specs.Ast.{act_of, or_else};
 ghost use Rattle.stm_terms.specs.Changes.{cell_value};
