@@ -1,12 +1,12 @@
 -- All branches of a well typed action are defined, in every well typed view.
-use Rattle.std.proofs.Common.{◌≡◌, ◌≢◌, ℕ, Bool, true, false, List, [], ◌∷◌, ◌++◌, ◌≤◌, ◌^◌, inl, arith, Option, Some, None, Ok, Err, refl, sym, ap, ◌∙◌, subst}
+use Rattle.std.proofs.Common.{◌≡◌, ℕ, Bool, true, false, List, [], ◌∷◌, ◌++◌, ◌≤◌, ◌^◌, inl, arith, Some, None, Ok, Err, refl, sym, ap, ◌∙◌, subst}
 use Rattle.stm_terms.specs.declared.kinds.Ty.{Ty}
 use Rattle.stm_terms.specs.declared.values.Value.{Value}
-use Rattle.stm_terms.specs.declared.values.Value.TheVariants.{Int, Bool as Truth, Unit as Nil, Var}
+use Rattle.stm_terms.specs.declared.values.Value.TheVariants.{Bool as Truth}
 use Rattle.stm_terms.specs.Ast.{Act, return, read, write, make, retry, throw, if_else, or_else, bind, let_in, seq}
-use Rattle.stm_terms.specs.Value.{Answer, value}
+use Rattle.stm_terms.specs.Value.{Answer}
 use Rattle.stm_terms.specs.Changes.{Variables, Changes, no_changes, cell_value}
-use Rattle.stm_terms.specs.Semantics.{Outcome, Returned, Threw, Retried, Stuck, run}
+use Rattle.stm_terms.specs.Semantics.{Outcome, Returned, Threw, Retried, Stuck}
 use Rattle.stm_terms.specs.Typing.{TypeEnv, kinds_in, bool_ty, type_of, ActionType, action_type, WellTyped, makes, HaveTypes}
 use Rattle.stm_store.specs.Cells.{kinds_of, StoreIsTyped, Covers}
 use Rattle.stm_check.proofs.ExpressionsSound.{IsOf, is_truth, same_ty_equal, with_type_some, expr_fine}

@@ -1,7 +1,7 @@
 -- What the branches of an `orElse` rest on where both are run, and what an action that was run has done to its log.
-use Rattle.std.specs.Prelude.{◌≡◌, ◌≢◌, ◌⊎◌, ℕ, ◌+◌, ◌≤◌, ◌^◌, true, false, List, [], ◌∷◌, ◌++◌, length, Option, Some, None, Ok, Err}
+use Rattle.std.specs.Prelude.{◌≡◌, ◌≢◌, ◌⊎◌, ℕ, ◌+◌, ◌≤◌, ◌^◌, true, false, List, [], ◌∷◌, ◌++◌, length, Some, None, Ok, Err}
 use Rattle.stm_terms.specs.declared.values.Value.{Value}
-use Rattle.stm_terms.specs.declared.values.Value.TheVariants.{Int, Bool as Truth, Unit as Nil, Var}
+use Rattle.stm_terms.specs.declared.values.Value.TheVariants.{Bool as Truth}
 use Rattle.stm_terms.specs.Ast.{Act, return, read, write, make, retry, throw, if_else, or_else, bind, let_in, seq, act_of}
 use Rattle.stm_terms.specs.Value.{Answer, value}
 use Rattle.stm_terms.specs.Changes.{Variables, Changes, find}

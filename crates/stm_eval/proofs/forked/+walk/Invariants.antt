@@ -1,4 +1,4 @@
-use Rattle.std.proofs.Common.{◌≡◌, ◌+◌, ◌*◌, ◌≤◌, ◌<◌, length, take}
+use Rattle.std.proofs.Common.{◌≡◌, ◌+◌, ◌*◌, ◌≤◌, length, take}
 use Rattle.stm_terms.specs.Ast.{act_of}
 use Rattle.stm_terms.specs.Changes.{cell_value}
 use Rattle.stm_terms.specs.Semantics.{run}

@@ -1,5 +1,3 @@
-use Rattle.std.proofs.Common.{◌≡◌, ◌≤◌, ◌^◌, Some}
-use Rattle.stm_terms.specs.Typing.{makes}
 use Rattle.stm_eval.proofs.TypedBranches.{block_can_run}
 use Rattle.stm_eval.proofs.forked.try_forked.Goals as goal
 
