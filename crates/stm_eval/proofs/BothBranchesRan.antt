@@ -12,7 +12,7 @@ use Rattle.stm_log.specs.LogModel.{Logged, joined_reads}
 use Rattle.stm_eval.specs.declared.outcome.Outcome.{Outcome}
 use Rattle.stm_eval.specs.declared.outcome.Outcome.TheVariants.{Retried as Again}
 use Rattle.stm_eval.specs.InterpreterSteps.{outcome}
-use Rattle.stm_eval.specs.BothBranches.{IsReadSetOf, RunsTo}
+use Rattle.stm_eval.specs.BothBranches.{IsReadSetOf, RunsTo, entered}
 use Rattle.stm_eval.proofs.ReadsLookedUp.{inserted_reads_rise, part_all}
 use Rattle.stm_eval.proofs.JoinedReads.{joined_in_turn}
 
@@ -44,14 +44,6 @@ ran_alone (Err x) S a locals after old new are ends reads made below same = tt
 pub ok_at : {A E : Type 0} (P : A → Type 0) (r : Result A E) (x : A) → IfOk r P → r ≡ Ok x → P x
 ok_at P (Ok y) x h e = let q : y ≡ x = cc in subst P q h
 ok_at P (Err z) x h e = absurd cc
-
-pub moved : (S : Variables) (a : Act) (l k after : List Value) (h i new : Logged) (e f : Outcome) → l ≡ k → h ≡ i → e ≡ f → RunsTo S a l h e after new → RunsTo S a k i f after new
-moved S a l k after h i new e f p q r ran =
-    subst (λ (x : Outcome). RunsTo S a k i x after new) r (subst (λ (x : Logged). RunsTo S a k x e after new) q (subst (λ (x : List Value). RunsTo S a x h e after new) p ran))
-
--- a log with one frame more
-abbrev pub entered : Logged → Logged
-entered l = record l { below = l.top ∷ l.below }
 
 ends_right : (x y : meaning.Outcome) → x ≡ Retried → else_run x y ≡ y
 ends_right x y h = ap (λ (o : meaning.Outcome). else_run o y) h

@@ -61,6 +61,10 @@ pub record IsReadSetOf (under : Variables) (reads : List (ℕ × Value)) : Type 
   pub rising : Rising reads
   pub part : (i : ℕ) → (find i reads ≡ None) ⊎ (find i reads ≡ under i)
 
+-- a log with one frame more
+abbrev pub entered : Logged → Logged
+entered log = record log { below = log.top ∷ log.below }
+
 -- what an action needs to be run on a log
 pub record CanRun (under : Variables) (a : Act) (locals : List Value) (log : Logged) : Type 0 where
   pub defined : AllBranchesDefined under a locals log.top

@@ -4,21 +4,23 @@
 //! be started: the left one goes on with the log, in a frame, and the right one with a copy that was made before. Where
 //! the left one retried, what it read is joined to what the right one read. Else nothing of the right one counts.
 
-ghost use Rattle.std.specs.Prelude.{◌≡◌, ◌≢◌, ◌+◌, ◌<◌, ◌≤◌, ◌^◌, [], Some, length, take, OnOk, IfOk, IfErr};
+ghost use Rattle.std.specs.Prelude.{◌≡◌, ◌≢◌, ◌+◌, ◌<◌, ◌≤◌, ◌^◌, [], List, Some, length, take, OnOk, OnErr, IfOk, IfErr};
 ghost use denote.Param.Send.{IsSync};
-ghost use Rattle.stm_terms.specs.Ast.{act_of, or_else};
-ghost use Rattle.stm_terms.specs.Changes.{cell_value};
+ghost use Rattle.stm_terms.specs.declared.values.Value.{Value as AnyValue};
+ghost use Rattle.stm_terms.specs.Ast.{Act, act_of, or_else};
+ghost use Rattle.stm_terms.specs.Changes.{Variables, cell_value};
 ghost use Rattle.stm_terms.specs.Semantics.{run};
 ghost use Rattle.stm_terms.specs.ReadSet.{looks, insert_reads, reads_of};
 ghost use Rattle.stm_terms.specs.Verdict.{verdict};
 ghost use Rattle.stm_terms.specs.Typing.{makes};
 ghost use Rattle.stm_store.specs.Cells.{Covers};
+ghost use Rattle.stm_log.specs.LogModel.{Logged};
 ghost use Rattle.stm_eval.specs.EvaluatedFields.{message_ticket, message_block, message_reads, message_verdict};
 ghost use Rattle.stm_eval.specs.InterpreterSteps.{outcome, outcome_left, looks_left, makes_left, size, size_left};
-ghost use Rattle.stm_eval.specs.BothBranches.{AllBranchesDefined, DefinedLeft, IsReadSetOf, CanRun, RunsTo};
+ghost use Rattle.stm_eval.specs.BothBranches.{DefinedLeft, IsReadSetOf, CanRun, RunsTo, entered};
 
 use crate::block::judged;
-use crate::interpreter::evaluate;
+use crate::interpreter::{evaluate, run_choice, run_let};
 use crate::job::Job;
 use crate::message::Evaluated;
 use crate::outcome::{Outcome, Step};
@@ -30,13 +32,12 @@ use stm_log::{Log, Reads};
 use stm_store::Frozen;
 use stm_terms::NoMemory;
 use stm_terms::action::Action;
-use stm_terms::eval::eval_expr;
 use stm_terms::values::Value;
 use stm_terms::verdicts::Verdict;
 
-/// What a branch has of its own while it runs.
+/// What a branch of an `orElse` works on.
 #[derive(Drop)]
-struct Branch {
+struct BranchState {
     locals: Vec<Value>,
     log: Log,
 }
@@ -99,14 +100,10 @@ fn step<'a, R: Threads + Sync>(
     ensures read_set { OnOk result (IsReadSetOf (cell_value frozen.now) log.new.reads) }
 {
     match action {
-        Action::If(e, a, b) => match eval_expr(e, locals) {
-            Ok(Value::Bool(true)) => Ok(Step::On(a)),
-            Ok(Value::Bool(false)) => Ok(Step::On(b)),
-            Ok(_) => unreachable!(),
-            Err(f) => Ok(Step::Ended(Outcome::Threw(f))),
-        },
+        Action::If(e, a, b) => Ok(run_choice(frozen, e, a, b, locals, log)),
         Action::OrElse(a, b) => {
-            Ok(Step::Ended(run_or_else(rt, alloc, frozen, action, a, b, locals, log, levels - 1)?))
+            let end = run_or_else(rt, alloc, frozen, action, a, b, locals, log, levels - 1)?;
+            Ok(Step::Ended(end))
         }
         Action::Bind(a, b) => match walk(rt, alloc, frozen, a, locals, log, levels)? {
             Outcome::Returned(v) => {
@@ -115,13 +112,7 @@ fn step<'a, R: Threads + Sync>(
             }
             end => Ok(Step::Ended(end)),
         },
-        Action::Let(e, b) => match eval_expr(e, locals) {
-            Ok(v) => {
-                locals.push(v)?;
-                Ok(Step::On(b))
-            }
-            Err(f) => Ok(Step::Ended(Outcome::Threw(f))),
-        },
+        Action::Let(e, b) => run_let(frozen, e, b, locals, log),
         Action::Seq(a, b) => match walk(rt, alloc, frozen, a, locals, log, levels)? {
             Outcome::Returned(_) => Ok(Step::On(b)),
             end => Ok(Step::Ended(end)),
@@ -144,7 +135,7 @@ fn alone(
     evaluate(frozen, action, locals, log)
 }
 
-/// `orElse`. Where the right branch can't be given a log and locals of its own, one branch runs after the other.
+/// `orElse`. Where the branches can't be given locals and logs of their own, one runs after the other.
 #[cycle(walk)]
 fn run_or_else<R: Threads + Sync>(
     rt: &R,
@@ -155,47 +146,51 @@ fn run_or_else<R: Threads + Sync>(
     right: &Action,
     locals: &mut Vec<Value>,
     log: &mut Log,
-    below: u32,
+    levels: u32,
 ) -> Result<Outcome, NoMemory>
     requires branches { act_of action.now ≡ or_else (act_of left.now) (act_of right.now) }
-    requires run { CanRun (cell_value frozen.now) (or_else (act_of left.now) (act_of right.now)) locals.old.items log.old }
-    ensures { IfOk result (λ e. RunsTo (cell_value frozen.now) (or_else (act_of left.now) (act_of right.now)) locals.old.items log.old e locals.new.items log.new) }
+    requires run { CanRun (cell_value frozen.now) (act_of action.now) locals.old.items log.old }
+    ensures { IfOk result (λ e. RunsTo (cell_value frozen.now) (act_of action.now)
+        locals.old.items log.old e locals.new.items log.new) }
 {
-    let Ok(other) = second(alloc, locals, log) else {
-        return alone(frozen, action, locals, log);
-    };
-    run_both(rt, alloc, frozen, left, right, other, locals, log, below)
+    match fork(alloc, locals, log) {
+        Ok((left_state, right_state)) => {
+            run_both(rt, alloc, frozen, left, right, left_state, right_state, locals, log, levels)
+        }
+        Err(_) => alone(frozen, action, locals, log),
+    }
 }
 
-/// A branch that begins with equal locals and an equal log.
-fn second(alloc: Global, locals: &[Value], log: &Log) -> Result<Branch, NoMemory>
-    ensures { IfOk result (λ b. (b.locals.items ≡ locals.now) × (b.log ≡ log.now)) }
+/// The states that the branches of an `orElse` begin with. The left one is the state itself, in a frame; the right one is
+/// a copy.
+fn fork(
+    alloc: Global,
+    locals: &mut Vec<Value>,
+    log: &mut Log,
+) -> Result<(BranchState, BranchState), NoMemory>
+    ensures left { IfOk result (λ s. (s.0.locals.items ≡ locals.old.items) × (s.0.log ≡ entered log.old)) }
+    ensures right { IfOk result (λ s. (s.1.locals.items ≡ locals.old.items) × (s.1.log ≡ log.old)) }
+    ensures err { OnErr result ((locals.new.items ≡ locals.old.items) × (log.new ≡ log.old)) }
 {
-    Ok(Branch {
+    let right = copy_of(alloc, locals, log)?;
+    log.enter()?;
+    let left = BranchState {
+        locals: mem::replace(locals, Vec::new(alloc)),
+        log: mem::replace(log, Log::start(alloc)),
+    };
+    Ok((left, right))
+}
+
+fn copy_of(alloc: Global, locals: &[Value], log: &Log) -> Result<BranchState, NoMemory>
+    ensures { IfOk result (λ s. (s.locals.items ≡ locals.now) × (s.log ≡ log.now)) }
+{
+    Ok(BranchState {
         locals: locals.to_vec(alloc)?,
         log: log.copy()?,
     })
 }
 
-/// A branch that has run, with how it ended.
-#[cycle(walk)]
-fn run_branch<R: Threads + Sync>(
-    rt: &R,
-    alloc: Global,
-    frozen: &Frozen,
-    action: &Action,
-    branch: Branch,
-    levels: u32,
-) -> Result<(Outcome, Branch), NoMemory>
-    requires { CanRun (cell_value frozen.now) (act_of action.now) branch.locals.items branch.log }
-    ensures { IfOk result (λ r. RunsTo (cell_value frozen.now) (act_of action.now) branch.locals.items branch.log r.0 r.1.locals.items r.1.log) }
-{
-    let mut branch = branch;
-    let end = walk(rt, alloc, frozen, action, &mut branch.locals, &mut branch.log, levels)?;
-    Ok((end, branch))
-}
-
-/// Both branches at once, the left one on the log and the right one on its own.
+/// Both branches at once. The end of the `orElse` is left in the locals and the log that are lent.
 #[cycle(walk)]
 fn run_both<R: Threads + Sync>(
     rt: &R,
@@ -203,55 +198,100 @@ fn run_both<R: Threads + Sync>(
     frozen: &Frozen,
     left: &Action,
     right: &Action,
-    other: Branch,
+    left_state: BranchState,
+    right_state: BranchState,
     locals: &mut Vec<Value>,
     log: &mut Log,
     levels: u32,
 ) -> Result<Outcome, NoMemory>
-    requires locals { other.locals.items ≡ locals.old.items }
-    requires log { other.log ≡ log.old }
-    requires run { CanRun (cell_value frozen.now) (or_else (act_of left.now) (act_of right.now)) locals.old.items log.old }
-    ensures { IfOk result (λ e. RunsTo (cell_value frozen.now) (or_else (act_of left.now) (act_of right.now)) locals.old.items log.old e locals.new.items log.new) }
+    requires locals { left_state.locals.items ≡ right_state.locals.items }
+    requires log { left_state.log ≡ entered right_state.log }
+    requires run { CanRun (cell_value frozen.now) (or_else (act_of left.now) (act_of right.now))
+        right_state.locals.items right_state.log }
+    ensures { IfOk result (λ e. RunsTo (cell_value frozen.now) (or_else (act_of left.now) (act_of right.now))
+        right_state.locals.items right_state.log e locals.new.items log.new) }
 {
-    log.enter()?;
-    let mine = Branch {
-        locals: mem::replace(locals, Vec::new(alloc)),
-        log: mem::replace(log, Log::start(alloc)),
-    };
-    let (one, two) = join(
+    let ((left_end, mut left_state), (right_end, mut right_state)) = join(
         rt,
-        move || -> Result<(Outcome, Branch), NoMemory>
+        move || -> (Result<Outcome, NoMemory>, BranchState)
             requires sync { IsSync R.row }
-            requires run { CanRun (cell_value frozen.now) (act_of left.now) mine.locals.items mine.log }
-            ensures { IfOk result (λ r. RunsTo (cell_value frozen.entry.now) (act_of left.entry.now) mine.locals.items mine.log r.0 r.1.locals.items r.1.log) }
-        { run_branch(rt, alloc, frozen, left, mine, levels) },
-        move || -> Result<(Outcome, Branch), NoMemory>
+            requires run { CanRun (cell_value frozen.now) (act_of left.now) left_state.locals.items left_state.log }
+            ensures { IfOk result.0 (λ e. RunsTo (cell_value frozen.entry.now) (act_of left.entry.now)
+                left_state.locals.items left_state.log e result.1.locals.items result.1.log) }
+        { run_branch(rt, alloc, frozen, left, left_state, levels) },
+        move || -> (Result<Outcome, NoMemory>, BranchState)
             requires sync { IsSync R.row }
-            requires run { CanRun (cell_value frozen.now) (act_of right.now) other.locals.items other.log }
-            ensures { IfOk result (λ r. RunsTo (cell_value frozen.entry.now) (act_of right.entry.now) other.locals.items other.log r.0 r.1.locals.items r.1.log) }
-        { run_branch(rt, alloc, frozen, right, other, levels) },
+            requires run { CanRun (cell_value frozen.now) (act_of right.now) right_state.locals.items right_state.log }
+            ensures { IfOk result.0 (λ e. RunsTo (cell_value frozen.entry.now) (act_of right.entry.now)
+                right_state.locals.items right_state.log e result.1.locals.items result.1.log) }
+        { run_branch(rt, alloc, frozen, right, right_state, levels) },
     );
-    let (end, mut mine) = one?;
-    match end {
+    choose(left_end, &mut left_state, right_end, &mut right_state, locals, log)
+}
+
+/// A branch that has run, and how it ended.
+#[cycle(walk)]
+fn run_branch<R: Threads + Sync>(
+    rt: &R,
+    alloc: Global,
+    frozen: &Frozen,
+    action: &Action,
+    state: BranchState,
+    levels: u32,
+) -> (Result<Outcome, NoMemory>, BranchState)
+    requires { CanRun (cell_value frozen.now) (act_of action.now) state.locals.items state.log }
+    ensures { IfOk result.0 (λ e. RunsTo (cell_value frozen.now) (act_of action.now)
+        state.locals.items state.log e result.1.locals.items result.1.log) }
+{
+    let mut state = state;
+    let end = walk(rt, alloc, frozen, action, &mut state.locals, &mut state.log, levels);
+    (end, state)
+}
+
+/// What an `orElse` comes to once both branches have run, the left one in a frame: the left one's end, or, where that
+/// retried, the right one's, with the left one's reads joined to its own.
+fn choose(
+    left_end: Result<Outcome, NoMemory>,
+    left_state: &mut BranchState,
+    right_end: Result<Outcome, NoMemory>,
+    right_state: &mut BranchState,
+    locals: &mut Vec<Value>,
+    log: &mut Log,
+) -> Result<Outcome, NoMemory>
+    requires { OnOk left_end (left_state.old.log.below ≢ []) }
+    ensures { (S : Variables) (a b : Act) (vs : List AnyValue) (h : Logged) → IsReadSetOf S h.reads
+        → IfOk left_end (λ e. RunsTo S a vs (entered h) e left_state.old.locals.items left_state.old.log)
+        → IfOk right_end (λ e. RunsTo S b vs h e right_state.old.locals.items right_state.old.log)
+        → IfOk result (λ e. RunsTo S (or_else a b) vs h e locals.new.items log.new) }
+{
+    match left_end? {
         Outcome::Returned(v) => {
-            mine.log.keep()?;
-            *locals = mine.locals;
-            *log = mine.log;
+            left_state.log.keep()?;
+            left_state.swap(locals, log);
             Ok(Outcome::Returned(v))
         }
         Outcome::Threw(f) => {
-            mine.log.discard();
-            *locals = mine.locals;
-            *log = mine.log;
+            left_state.log.discard();
+            left_state.swap(locals, log);
             Ok(Outcome::Threw(f))
         }
         Outcome::Retried => {
-            let (end, mut theirs) = two?;
-            theirs.log.join_reads(&mine.log)?;
-            *locals = theirs.locals;
-            *log = theirs.log;
+            let end = right_end?;
+            right_state.log.join_reads(&left_state.log)?;
+            right_state.swap(locals, log);
             Ok(end)
         }
+    }
+}
+
+impl BranchState {
+    /// Gives its locals and its log for these.
+    fn swap(&mut self, locals: &mut Vec<Value>, log: &mut Log)
+        ensures locals { locals.new.items ≡ self.old.locals.items }
+        ensures log { log.new ≡ self.old.log }
+    {
+        mem::swap(&mut self.locals, locals);
+        mem::swap(&mut self.log, log);
     }
 }
 
