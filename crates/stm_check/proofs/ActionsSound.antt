@@ -147,13 +147,13 @@ module _ (kinds : TypeEnv) where
   kept h k x (Var (New i)) t e =
       let m = mapped var_ty _ t e in ap (λ o. option_map var_ty o) (x i m.0 m.1) ∙ ap Some m.2
 
-  locals_kept : (h k : Changes) → Extends h k → (vs : List Value) (ts : List Ty) → HaveTypes kinds h vs ts → HaveTypes kinds k vs ts
+  pub locals_kept : (h k : Changes) → Extends h k → (vs : List Value) (ts : List Ty) → HaveTypes kinds h vs ts → HaveTypes kinds k vs ts
   locals_kept h k x [] [] p = tt
   locals_kept h k x (v ∷ vs) [] p = p
   locals_kept h k x [] (t ∷ ts) p = p
   locals_kept h k x (v ∷ vs) (t ∷ ts) p = (kept h k x v t p.0, locals_kept h k x vs ts p.1)
 
-  one_more : (h : Changes) (vs : List Value) (ts : List Ty) (v : Value) (t : Ty) → HaveTypes kinds h vs ts → type_of kinds h v ≡ Some t → HaveTypes kinds h (vs ++ v ∷ []) (ts ++ t ∷ [])
+  pub one_more : (h : Changes) (vs : List Value) (ts : List Ty) (v : Value) (t : Ty) → HaveTypes kinds h vs ts → type_of kinds h v ≡ Some t → HaveTypes kinds h (vs ++ v ∷ []) (ts ++ t ∷ [])
   one_more h [] [] v t p e = (e, tt)
   one_more h (w ∷ vs) [] v t p e = absurd p
   one_more h [] (u ∷ ts) v t p e = absurd p

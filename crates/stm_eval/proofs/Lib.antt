@@ -1,6 +1,10 @@
+pub mod BothBranchesRan
+pub mod DefinedBranches
 pub mod FragmentsAndStores
 pub mod InsertedReads
+pub mod JoinedReads
 pub mod OrElseLaws
 pub mod ReadSetIndependence
 pub mod ReadsArePresent
 pub mod ReadsLookedUp
+pub mod TypedBranches

@@ -51,7 +51,7 @@ module _ (S : Variables) where
   one_noted (Some v) i reads e h = noted_put i v reads (find_put i v reads i) e
   one_noted None i reads e h = ⊎_elim (λ n. n ∙ sym e) (λ n. n) h
 
-  keeps : (is : List ℕ) (reads : List (ℕ × Value)) (j : ℕ) → find j reads ≡ S j → find j (insert_reads S is reads) ≡ S j
+  pub keeps : (is : List ℕ) (reads : List (ℕ × Value)) (j : ℕ) → find j reads ≡ S j → find j (insert_reads S is reads) ≡ S j
   keeps [] reads j h = h
   keeps (i ∷ is) reads j h = keeps is (insert_read i (S i) reads) j (at_note (S i) i j reads refl h)
 

@@ -38,7 +38,7 @@ fn run_whole(
 }
 
 /// The verdict of a log that ended so, and what it read.
-fn judged(ends: Ends, end: Outcome) -> (Verdict, Reads)
+pub(crate) fn judged(ends: Ends, end: Outcome) -> (Verdict, Reads)
     ensures verdict { verdict_from (outcome end (record { writes = ends.writes; news = ends.news })) ≡ Some result.0 }
     ensures reads { result.1 ≡ ends.reads }
 {

@@ -9,6 +9,7 @@ ghost use Rattle.stm_terms.specs.Changes.{cell_value};
 ghost use Rattle.stm_terms.specs.Semantics.{run, Stuck};
 ghost use Rattle.stm_terms.specs.ReadSet.{looks, insert_reads};
 ghost use Rattle.stm_terms.specs.Typing.{makes};
+ghost use Rattle.stm_eval.specs.BothBranches.{AllBranchesDefined, DefinedLeft};
 ghost use Rattle.stm_eval.specs.InterpreterSteps.{outcome, outcome_left, looks_left, makes_left, size, size_left};
 
 use crate::outcome::{Outcome, Step};
@@ -85,7 +86,7 @@ fn step<'a>(
 }
 
 /// `if`: the branch that the condition chooses is left to be run.
-fn run_choice<'a>(
+pub(crate) fn run_choice<'a>(
     frozen: &Frozen,
     condition: &Expr,
     first: &'a Action,
@@ -100,6 +101,8 @@ fn run_choice<'a>(
         ≡ looks_left (cell_value frozen.now) result locals.now log.now.top }
     ensures made { makes_left result ≤ makes (act_of first.now) + makes (act_of second.now) }
     ensures smaller { size_left result ≤ size (act_of first.now) + size (act_of second.now) }
+    ensures defined { AllBranchesDefined (cell_value frozen.now) (if_else (term_of condition.now) (act_of first.now) (act_of second.now)) locals.now log.now.top
+        → DefinedLeft (cell_value frozen.now) result locals.now log.now.top }
 {
     match eval_expr(condition, locals) {
         Ok(Value::Bool(true)) => Step::On(first),
@@ -110,7 +113,7 @@ fn run_choice<'a>(
 }
 
 /// `let`: the rest is left to be run, with one more local.
-fn run_let<'a>(
+pub(crate) fn run_let<'a>(
     frozen: &Frozen,
     value: &Expr,
     rest: &'a Action,
@@ -125,6 +128,8 @@ fn run_let<'a>(
     ensures made { IfOk result (λ s. makes_left s ≤ makes (act_of rest.now)) }
     ensures locals { OnOk result (take (length locals.old.items) locals.new.items ≡ locals.old.items) }
     ensures smaller { IfOk result (λ s. size_left s ≤ size (act_of rest.now)) }
+    ensures defined { IfOk result (λ s. AllBranchesDefined (cell_value frozen.now) (let_in (term_of value.now) (act_of rest.now)) locals.old.items log.now.top
+        → DefinedLeft (cell_value frozen.now) s locals.new.items log.now.top) }
 {
     match eval_expr(value, locals) {
         Ok(v) => {

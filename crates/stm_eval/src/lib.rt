@@ -7,6 +7,7 @@
 
 pub mod block;
 pub mod evaluate_job;
+pub mod forked;
 mod interpreter;
 pub mod job;
 pub mod laws;
@@ -16,6 +17,7 @@ mod primitives;
 
 pub use block::{try_action, try_block};
 pub use evaluate_job::evaluate;
+pub use forked::evaluate_forked;
 pub use job::Job;
 pub use message::Evaluated;
 pub use stm_log::Reads;
