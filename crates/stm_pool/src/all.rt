@@ -22,8 +22,10 @@ fn work_all<R: Threads + Sync>(
     frozen: &Frozen,
     slots: &mut Vec<Slot>,
     workers: usize,
+    levels: u32,
 )
     requires some { 0 < workers }
+    requires levels { levels ≤ 8 }
     requires ready { All (λ s. IsReady frozen.now s) slots.old.items }
     ensures len { vec_len slots.new ≡ vec_len slots.old }
     ensures each { (k : ℕ) (d : _) → k < vec_len slots.old → IsWorked frozen.now (slice_index_or slots.old.items k d) (slice_index_or slots.new.items k d) }
@@ -32,24 +34,27 @@ fn work_all<R: Threads + Sync>(
         rt,
         slots.as_mut_slice(),
         workers,
-        &|_, slot| work_on(alloc, frozen, slot),
+        &|_, slot|
+            requires levels { levels ≤ 8 }
+            requires ready { IsReady frozen.now slot.old }
+        { work_on(rt, alloc, frozen, slot, levels) },
     );
 }
 
 /// Evaluates the jobs by at most so many threads on a store that has the variables of their blocks, and answers in the order
 /// of the jobs. Where memory runs out for the list of the answers, the jobs are handed back before any of them is evaluated;
-/// where a thread can't be started, the caller's thread does its share. `levels`, how deep the branches of `orElse` may run
-/// side by side, has no effect yet.
+/// where a thread can't be started, the caller's thread does its share. Both branches of an `orElse` run at once, in threads of
+/// their own, `levels` deep.
 pub fn evaluate_all<R: Threads + Sync>(
     rt: &R,
     alloc: Global,
     frozen: &Frozen,
     jobs: Vec<Job>,
     workers: usize,
-    _levels: u32,
+    levels: u32,
 ) -> Result<Vec<Answer>, (Vec<Job>, NoMemory)>
     requires workers { (0 < workers) × (workers ≤ 64) }
-    requires levels { _levels ≤ 8 }
+    requires levels { levels ≤ 8 }
     requires covered { AreCovered frozen.now jobs.items }
     ensures len { IfOk result (λ v. vec_len v ≡ vec_len jobs) }
     ensures each { IfOk result (λ v. (k : ℕ) (d : _) (e : _) → k < vec_len jobs → AnswersJob (slice_index_or jobs.items k d) frozen.now (slice_index_or v.items k e)) }
@@ -59,6 +64,6 @@ pub fn evaluate_all<R: Threads + Sync>(
         return Err((jobs, NoMemory));
     };
     let mut slots = slots_of(alloc, jobs)?;
-    work_all(rt, alloc, frozen, &mut slots, workers);
+    work_all(rt, alloc, frozen, &mut slots, workers, levels);
     Ok(answers_of(slots, room))
 }

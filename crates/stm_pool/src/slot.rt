@@ -1,11 +1,12 @@
 //! The place in which a job is evaluated.
 
-ghost use Rattle.std.specs.Prelude.{◌≡◌, ℕ, ◌<◌, [], map, vec_len, vec_capacity, slice_index_or, IfOk, IfErr};
+ghost use Rattle.std.specs.Prelude.{◌≡◌, ℕ, ◌<◌, ◌≤◌, [], map, vec_len, vec_capacity, slice_index_or, IfOk, IfErr};
 ghost use Rattle.stm_pool.specs.Slots.{IsWorked, IsDone, IsReady, todo, slot_of};
 
 use crate::all::Answer;
 use std::alloc::Global;
-use stm_eval::{Evaluated, Job, evaluate};
+use std::thread::Threads;
+use stm_eval::{Evaluated, Job, evaluate_forked};
 use stm_store::Frozen;
 use stm_terms::NoMemory;
 
@@ -19,13 +20,20 @@ pub struct Slot {
     pub message: Option<Evaluated>,
 }
 
-/// Evaluates the slot's job.
-pub(crate) fn work_on(alloc: Global, frozen: &Frozen, slot: &mut Slot)
-    requires { IsReady frozen.now slot.old }
+/// Evaluates the slot's job, with the branches of its outer `levels` of `orElse` at once.
+pub(crate) fn work_on<R: Threads + Sync>(
+    rt: &R,
+    alloc: Global,
+    frozen: &Frozen,
+    slot: &mut Slot,
+    levels: u32,
+)
+    requires levels { levels ≤ 8 }
+    requires ready { IsReady frozen.now slot.old }
     ensures { IsWorked frozen.now slot.old slot.new }
 {
     match slot.job.take() {
-        Some(job) => match evaluate(alloc, job, frozen) {
+        Some(job) => match evaluate_forked(rt, alloc, job, frozen, levels) {
             Ok(message) => slot.message = Some(message),
             Err((job, _)) => slot.job = Some(job),
         },

@@ -11,7 +11,7 @@ use std::sync::Wait;
 use std::sync::ledger::Ledger;
 use std::thread::Threads;
 use stm_desk::DeliverError;
-use stm_eval::evaluate;
+use stm_eval::evaluate_forked;
 
 /// What is called without the lock: before an evaluation, whether to begin it, and after an accepted delivery.
 pub trait Gate<R> {
@@ -29,21 +29,21 @@ pub enum WorkEnd {
 }
 
 /// Evaluates what is queued until the desk is stopped. At a full history and where memory runs out its ticket is queued
-/// again and the desk stopped first. `levels`, how deep the branches of `orElse` may run side by side, has no effect yet.
+/// again and the desk stopped first. Both branches of an `orElse` run at once, in threads of their own, `levels` deep.
 pub fn work<L: Ledger, G: Gate<R>, R: Wait + Threads + Sync>(
     rt: &R,
     alloc: Global,
     shared: &SharedDesk<L>,
     gate: &G,
     pass: Pass<L>,
-    _levels: u32,
+    levels: u32,
 ) -> (Pass<L>, WorkEnd)
-    requires { _levels ≤ 8 }
+    requires { levels ≤ 8 }
     ensures { Worked pass result.0 }
 {
     let mut pass = pass;
     for _ in rt.forever() {
-        if let Some(end) = round(rt, alloc, shared, gate, &mut pass) {
+        if let Some(end) = round(rt, alloc, shared, gate, &mut pass, levels) {
             return (pass, end);
         }
     }
@@ -52,13 +52,15 @@ pub fn work<L: Ledger, G: Gate<R>, R: Wait + Threads + Sync>(
 
 /// A round: a ticket is taken, evaluated without the lock, and delivered. A delivery that is refused for what happened
 /// meanwhile ends the round.
-fn round<L: Ledger, G: Gate<R>, R: Wait>(
+fn round<L: Ledger, G: Gate<R>, R: Wait + Threads + Sync>(
     rt: &R,
     alloc: Global,
     shared: &SharedDesk<L>,
     gate: &G,
     pass: &mut Pass<L>,
+    levels: u32,
 ) -> Option<WorkEnd>
+    requires { levels ≤ 8 }
     ensures { Worked pass.old pass.new }
 {
     let (store, job) = match shared.next_job(rt) {
@@ -75,7 +77,7 @@ fn round<L: Ledger, G: Gate<R>, R: Wait>(
         shared.hand_back(rt, ticket);
         return None;
     }
-    let Ok(message) = evaluate(alloc, job, &store) else {
+    let Ok(message) = evaluate_forked(rt, alloc, job, &store, levels) else {
         return give_up(rt, shared, ticket, WorkEnd::NoMemory);
     };
     match shared.deliver(rt, pass, message) {
