@@ -46,7 +46,8 @@ pub(crate) fn counts_of<L: Ledger>(
 {
     let mut all = Vec::with_capacity(alloc, extras.len())?;
     for k in 0..extras.len() {
-        all.push(counts_from(passes[k].own.as_slice(), extras[k]))?;
+        let pass = &passes[k];
+        all.push(counts_from(pass.own.as_slice(), extras[k]))?;
     }
     Ok(all)
 }

@@ -12,7 +12,7 @@ use std::alloc::Global;
 use std::sync::Wait;
 use std::sync::ledger::Ledger;
 use std::thread;
-use std::thread::{JoinHandle, SpawnError, Threads};
+use std::thread::{JoinHandle, Threads};
 
 /// A gate that stands open.
 #[derive(Clone, Copy)]
@@ -28,20 +28,20 @@ impl<R> Gate<R> for Open {
 
 /// What the thread of a client is given, as one value.
 #[derive(Drop)]
-pub(crate) struct ClientErrand<'a, L: Ledger, R> {
+pub(crate) struct ClientErrand<'a, 'b, L: Ledger, R> {
     rt: &'a R,
     alloc: Global,
-    shared: &'a SharedDesk<L>,
+    shared: &'b SharedDesk<L>,
     pass: Pass<L>,
     section: Section,
 }
 
 /// What the thread of a worker is given, as one value.
 #[derive(Drop)]
-pub(crate) struct WorkerErrand<'a, L: Ledger, R> {
+pub(crate) struct WorkerErrand<'a, 'b, L: Ledger, R> {
     rt: &'a R,
     alloc: Global,
-    shared: &'a SharedDesk<L>,
+    shared: &'b SharedDesk<L>,
     pass: Pass<L>,
     levels: u32,
     ghost few: { levels ≤ 8 },
@@ -61,7 +61,7 @@ pub(crate) struct Returned<L: Ledger> {
     pub(crate) extras: Vec<Extra>,
 }
 
-fn run_client<'a, L: Ledger, R: Wait>(errand: ClientErrand<'a, L, R>) -> ClientEnd<L> {
+fn run_client<'a, 'b, L: Ledger, R: Wait>(errand: ClientErrand<'a, 'b, L, R>) -> ClientEnd<L> {
     let ClientErrand {
         rt,
         alloc,
@@ -72,8 +72,8 @@ fn run_client<'a, L: Ledger, R: Wait>(errand: ClientErrand<'a, L, R>) -> ClientE
     do_section(rt, alloc, shared, pass, section)
 }
 
-fn run_worker<'a, L: Ledger, R: Threads + Wait + Sync>(
-    errand: WorkerErrand<'a, L, R>,
+fn run_worker<'a, 'b, L: Ledger, R: Threads + Wait + Sync>(
+    errand: WorkerErrand<'a, 'b, L, R>,
 ) -> WorkerEnd<L> {
     let WorkerErrand {
         rt,
@@ -87,15 +87,15 @@ fn run_worker<'a, L: Ledger, R: Threads + Wait + Sync>(
 
 /// Keeps the handle of a thread. Where the thread couldn't be started, or there is no memory for its handle, the desk is
 /// stopped, so that nobody waits for the thread.
-fn keep<L: Ledger, R: Wait, T: Drop, F: Drop>(
+fn keep<L: Ledger, R: Wait, T: Drop>(
     rt: &R,
     shared: &SharedDesk<L>,
     handles: &mut Vec<JoinHandle<T>>,
-    spawned: Result<JoinHandle<T>, SpawnError<F>>,
+    started: Option<JoinHandle<T>>,
 ) {
-    let kept = match spawned {
-        Ok(handle) => handles.push(handle).is_ok(),
-        Err(_) => false,
+    let kept = match started {
+        Some(handle) => handles.push(handle).is_ok(),
+        None => false,
     };
     if !kept {
         shared.stop(rt);
@@ -108,13 +108,11 @@ fn join_clients<L: Ledger, R: Threads>(
     returned: &mut Returned<L>,
 ) {
     for handle in handles {
-        match handle.join(rt) {
-            (pass, Some(extra)) => {
-                if returned.passes.push(pass).is_ok() {
-                    let _ = returned.extras.push(extra);
-                }
+        let (pass, extra) = handle.join(rt);
+        if let Some(extra) = extra {
+            if returned.passes.push(pass).is_ok() {
+                let _ = returned.extras.push(extra);
             }
-            (_, None) => {}
         }
     }
 }
@@ -125,11 +123,9 @@ fn join_workers<L: Ledger, R: Threads>(
     returned: &mut Returned<L>,
 ) {
     for handle in handles {
-        match handle.join(rt) {
-            (_, WorkEnd::NoMemory) => {}
-            (pass, _) => {
-                let _ = returned.passes.push(pass);
-            }
+        let (pass, end) = handle.join(rt);
+        if end != WorkEnd::NoMemory {
+            let _ = returned.passes.push(pass);
         }
     }
 }
@@ -166,8 +162,8 @@ pub(crate) fn run_all<L: Ledger + Send + Sync, R: Threads + Wait + Sync>(
                             pass,
                             section,
                         };
-                        let spawned = scope.spawn(move || run_client(errand));
-                        keep(rt, shared, &mut clients, spawned);
+                        let started = scope.spawn(move || run_client(errand)).ok();
+                        keep(rt, shared, &mut clients, started);
                     }
                     None => {
                         let errand = WorkerErrand {
@@ -177,8 +173,8 @@ pub(crate) fn run_all<L: Ledger + Send + Sync, R: Threads + Wait + Sync>(
                             pass,
                             levels,
                         };
-                        let spawned = scope.spawn(move || run_worker(errand));
-                        keep(rt, shared, &mut workers, spawned);
+                        let started = scope.spawn(move || run_worker(errand)).ok();
+                        keep(rt, shared, &mut workers, started);
                     }
                 }
             }
