@@ -46,9 +46,9 @@ pub all_counted : (history : List Event) (passes : List Known) (counts : List Co
     → CountsClients history 0 counts
 all_counted history passes counts few own each =
     counted_from history 0 counts (λ k d l.
-      let p = some_pass passes (omega (arith, few, l)) in
-      subst (λ (m : ℕ). CountsEvents (own_of m history) (get_or counts k d)) (omega arith)
-      (along _ _ _ _ (sym (own k p (omega (arith, few, l))).events) refl (each k p d l)))
+    let p = some_pass passes (omega (arith, few, l)) in
+    subst (λ (m : ℕ). CountsEvents (own_of m history) (get_or counts k d)) (omega arith)
+    (along _ _ _ _ (sym (own k p (omega (arith, few, l))).events) refl (each k p d l)))
 
 pub storm_end : (table : List Declared) (counts : List Counts) (history : List Event) (r : Result Replay AllocError)
     → ((n : ℕ) → r ≡ Ok (Legal n) → IsLegal table history × (n ≡ length history)) → CountsClients history 0 counts → IfOk r (λ e. IsStormEnd table counts e)

@@ -26,9 +26,9 @@ use Rattle.stm_desk.specs.contracts.desk.Desk as desk
 use Rattle.stm_pool.specs.contracts.pass.Pass as pass
 use Rattle.stm_pool.specs.contracts.guarded.Guarded as guarded
 use Rattle.stm_pool.specs.contracts.shared.SharedDesk as shared
+use Rattle.stm_pool.specs.contracts.section.Section as section
 use Rattle.stm_pool.specs.contracts.section.Task as task
-use Rattle.stm_pool.specs.contracts.threads.ClientErrand as client_errand
-use Rattle.stm_pool.specs.contracts.threads.WorkerErrand as worker_errand
+use Rattle.stm_pool.specs.contracts.threads.Errand as errand
 
 -- ---- jobs and messages
 pub typed_send : IsSend typed.the_row
@@ -91,9 +91,9 @@ module _ (L : RattleType) (g : Ghosts L.Denot) where
 task_send : IsSend task.the_row
 task_send = search (sendable, crosses, block_send) depth 40 fits 100000
 
-module _ (κ ι : NamedLft) (L R : RattleType) (g : Ghosts L.Denot) where
-  pub client_errand_send : IsSync R → IsSend (client_errand.the_row κ ι L R g)
-  client_errand_send s = search (sendable, crosses, pass_send, shared_sync, task_send) depth 40 fits 100000
+pub section_send : IsSend section.the_row
+section_send = search (sendable, Vec-send, task_send) depth 40 fits 100000
 
-  pub worker_errand_send : IsSync R → IsSend (worker_errand.the_row κ ι L R g)
-  worker_errand_send s = search (sendable, crosses, pass_send, shared_sync) depth 40 fits 100000
+module _ (κ ι : NamedLft) (L R : RattleType) (g : Ghosts L.Denot) where
+  pub errand_send : IsSync R → IsSend (errand.the_row κ ι L R g)
+  errand_send s = search (sendable, crosses, pass_send, shared_sync) depth 40 fits 100000

@@ -26,25 +26,14 @@ impl<R> Gate<R> for Open {
     fn after(&self, _rt: &R, _ticket: u32) {}
 }
 
-/// What the thread of a client is given, as one value.
+/// What each thread is given, as one value: what a closure may hold that goes to another thread is found by a search, which
+/// ends before it has gone through five values.
 #[derive(Drop)]
-pub(crate) struct ClientErrand<'a, 'b, L: Ledger, R> {
+pub(crate) struct Errand<'a, 'b, L: Ledger, R> {
     rt: &'a R,
     alloc: Global,
     shared: &'b SharedDesk<L>,
     pass: Pass<L>,
-    section: Section,
-}
-
-/// What the thread of a worker is given, as one value.
-#[derive(Drop)]
-pub(crate) struct WorkerErrand<'a, 'b, L: Ledger, R> {
-    rt: &'a R,
-    alloc: Global,
-    shared: &'b SharedDesk<L>,
-    pass: Pass<L>,
-    levels: u32,
-    ghost few: { levels ≤ 8 },
 }
 
 /// A pass, and what its client's tasks left no event of; nothing where memory ran out.
@@ -61,26 +50,30 @@ pub(crate) struct Returned<L: Ledger> {
     pub(crate) extras: Vec<Extra>,
 }
 
-fn run_client<'a, 'b, L: Ledger, R: Wait>(errand: ClientErrand<'a, 'b, L, R>) -> ClientEnd<L> {
-    let ClientErrand {
+fn run_client<'a, 'b, L: Ledger, R: Wait>(
+    errand: Errand<'a, 'b, L, R>,
+    section: Section,
+) -> ClientEnd<L> {
+    let Errand {
         rt,
         alloc,
         shared,
         pass,
-        section,
     } = errand;
     do_section(rt, alloc, shared, pass, section)
 }
 
 fn run_worker<'a, 'b, L: Ledger, R: Threads + Wait + Sync>(
-    errand: WorkerErrand<'a, 'b, L, R>,
-) -> WorkerEnd<L> {
-    let WorkerErrand {
+    errand: Errand<'a, 'b, L, R>,
+    levels: u32,
+) -> WorkerEnd<L>
+    requires { levels ≤ 8 }
+{
+    let Errand {
         rt,
         alloc,
         shared,
         pass,
-        levels,
     } = errand;
     work(rt, alloc, shared, &Open, pass, levels)
 }
@@ -153,28 +146,24 @@ pub(crate) fn run_all<L: Ledger + Send + Sync, R: Threads + Wait + Sync>(
             let mut workers = Vec::new(alloc);
             let mut sections = sections.into_iter();
             for pass in passes {
+                let errand = Errand {
+                    rt,
+                    alloc,
+                    shared,
+                    pass,
+                };
                 match sections.next() {
                     Some(section) => {
-                        let errand = ClientErrand {
-                            rt,
-                            alloc,
-                            shared,
-                            pass,
-                            section,
-                        };
-                        let started = scope.spawn(move || run_client(errand)).ok();
-                        keep(rt, shared, &mut clients, started);
+                        let spawned = scope.spawn(move || run_client(errand, section));
+                        keep(rt, shared, &mut clients, spawned.ok());
                     }
                     None => {
-                        let errand = WorkerErrand {
-                            rt,
-                            alloc,
-                            shared,
-                            pass,
-                            levels,
-                        };
-                        let started = scope.spawn(move || run_worker(errand)).ok();
-                        keep(rt, shared, &mut workers, started);
+                        let spawned = scope.spawn(
+                            move || -> WorkerEnd<L>
+                                requires { levels ≤ 8 }
+                            { run_worker(errand, levels) },
+                        );
+                        keep(rt, shared, &mut workers, spawned.ok());
                     }
                 }
             }
