@@ -4,12 +4,12 @@ use Rattle.std.proofs.lemmas.List.{get_or_default, get_or_append_left, get_or_pu
 use Rattle.std.specs.Prelude.{Result, Ok, Err, IfOk}
 use Rattle.std.specs.declared.alloc.AllocError.{AllocError}
 use Rattle.stm_store.specs.Tables.{Declared}
-use Rattle.stm_history.specs.SlowDesk.{IsLegal}
 use Rattle.stm_history.specs.declared.event.Event.{Event}
 use Rattle.stm_pool.specs.declared.storm.Counts.{Counts}
 use Rattle.stm_pool.specs.declared.storm.Replay.{Replay}
 use Rattle.stm_pool.specs.declared.storm.Replay.TheVariants.{NotClosed, NotLegal, Legal}
 use Rattle.stm_pool.specs.Own.{Known, own_of, IsPassOf}
+use Rattle.stm_pool.specs.Counted.{CountsPasses, IsReplayed}
 use Rattle.stm_pool.specs.Storms.{CountsEvents, CountsClients, IsStormEnd}
 
 along : (os ps : List Event) (c d : Counts) → os ≡ ps → c ≡ d → CountsEvents os c → CountsEvents ps d
@@ -42,18 +42,18 @@ some_pass (p ∷ ps) h = p
 
 pub all_counted : (history : List Event) (passes : List Known) (counts : List Counts) → length counts ≤ length passes
     → ((k : ℕ) (p : Known) → k < length passes → IsPassOf history k (get_or passes k p))
-    → ((k : ℕ) (p : Known) (d : Counts) → k < length counts → CountsEvents (get_or passes k p).own (get_or counts k d))
-    → CountsClients history 0 counts
+    → CountsPasses passes counts → CountsClients history 0 counts
 all_counted history passes counts few own each =
     counted_from history 0 counts (λ k d l.
     let p = some_pass passes (omega (arith, few, l)) in
     subst (λ (m : ℕ). CountsEvents (own_of m history) (get_or counts k d)) (omega arith)
     (along _ _ _ _ (sym (own k p (omega (arith, few, l))).events) refl (each k p d l)))
 
+-- what is found of a history whose passes are counted is the end of the storm
 pub storm_end : (table : List Declared) (counts : List Counts) (history : List Event) (r : Result Replay AllocError)
-    → ((n : ℕ) → r ≡ Ok (Legal n) → IsLegal table history × (n ≡ length history)) → CountsClients history 0 counts → IfOk r (λ e. IsStormEnd table counts e)
-storm_end table counts history (Ok NotClosed) legal counted = tt
-storm_end table counts history (Ok (NotLegal n)) legal counted = tt
-storm_end table counts history (Ok (Legal n)) legal counted =
-    let here = legal n refl in (history, record { legal = here.0; many = here.1; counted = counted })
-storm_end table counts history (Err e) legal counted = tt
+    → IfOk r (λ e. IsReplayed table history e) → CountsClients history 0 counts → IfOk r (λ e. IsStormEnd table counts e)
+storm_end table counts history (Ok NotClosed) replayed counted = tt
+storm_end table counts history (Ok (NotLegal n)) replayed counted = tt
+storm_end table counts history (Ok (Legal n)) replayed counted =
+    (history, record { legal = replayed.0; many = replayed.1; counted = counted })
+storm_end table counts history (Err e) replayed counted = tt

@@ -13,10 +13,10 @@ use stm_terms::NoMemory;
 use stm_terms::values::Value;
 
 /// How many tasks of a client left no event: those refused, and the expected values that weren't there.
-#[derive(Clone, Copy, PartialEq, Eq, Debug, Drop)]
-pub struct Extra {
-    pub refused: usize,
-    pub missed: usize,
+#[derive(Clone, Copy)]
+pub(crate) struct Extra {
+    pub(crate) refused: usize,
+    pub(crate) missed: usize,
 }
 
 /// What became of a task. `Met`: it left an event, or the expected value was there.

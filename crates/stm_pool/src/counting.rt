@@ -1,7 +1,7 @@
 //! What the clients of a storm are counted to have done.
 
-ghost use Rattle.std.specs.Prelude.{◌≡◌, ◌<◌, ◌≤◌, ℕ, length, vec_len, slice_index_or, IfOk};
-ghost use Rattle.stm_pool.specs.Own.{Known};
+ghost use Rattle.std.specs.Prelude.{◌≡◌, ◌≤◌, length, vec_len, IfOk};
+ghost use Rattle.stm_pool.specs.Counted.{CountsPasses};
 ghost use Rattle.stm_pool.specs.Storms.{CountsEvents};
 
 use crate::client::Extra;
@@ -42,7 +42,7 @@ pub(crate) fn counts_of<L: Ledger>(
 ) -> Result<Vec<Counts>, NoMemory>
     requires { length extras.now ≤ length passes.now }
     ensures len { IfOk result (λ v. vec_len v ≡ length extras.now) }
-    ensures each { IfOk result (λ v. (k : ℕ) (p : Known) (d : _) → k < length extras.now → CountsEvents (slice_index_or passes.now k p).own (slice_index_or v.items k d)) }
+    ensures each { IfOk result (λ v. CountsPasses passes.now v.items) }
 {
     let mut all = Vec::with_capacity(alloc, extras.len())?;
     for k in 0..extras.len() {

@@ -1,9 +1,9 @@
 //! A storm: clients and workers in threads of their own, over one desk, and the history that they leave.
 
-ghost use Rattle.std.specs.Prelude.{◌≡◌, ◌+◌, ◌<◌, ◌≤◌, ℕ, Ok, length, vec_len, slice_index_or, IfOk};
-ghost use Rattle.stm_history.specs.SlowDesk.{IsLegal, max_events as most_events};
-ghost use Rattle.stm_pool.specs.Own.{Known};
-ghost use Rattle.stm_pool.specs.Storms.{IsStormEnd, CountsEvents};
+ghost use Rattle.std.specs.Prelude.{◌≡◌, ◌+◌, ◌<◌, ◌≤◌, length, vec_len, IfOk};
+ghost use Rattle.stm_history.specs.SlowDesk.{max_events as most_events};
+ghost use Rattle.stm_pool.specs.Counted.{CountsPasses, IsReplayed};
+ghost use Rattle.stm_pool.specs.Storms.{IsStormEnd};
 
 use crate::close::Report;
 use crate::counting::counts_of;
@@ -51,8 +51,7 @@ pub struct StormEnd {
 /// What is found of a closed desk's history.
 fn judge(alloc: Global, table: &Table, report: &Report) -> Result<Replay, NoMemory>
     requires { report.now.events ≡ length report.now.desk.history }
-    ensures legal { (n : ℕ) → result ≡ Ok (Replay.Legal n) → IsLegal table.now report.now.desk.history × (n ≡ length report.now.desk.history) }
-    ensures not_legal { (n : ℕ) → result ≡ Ok (Replay.NotLegal n) → n ≡ length report.now.desk.history }
+    ensures { IfOk result (λ r. IsReplayed table.now report.now.desk.history r) }
 {
     match replay(alloc, table, report.desk.history()) {
         Ok(_) => Ok(Replay::Legal(report.events)),
@@ -70,7 +69,7 @@ fn close_and_replay<L: Ledger>(
     counts: &[Counts],
 ) -> Result<Replay, NoMemory>
     requires few { length counts.now ≤ vec_len passes }
-    requires each { (k : ℕ) (p : Known) (d : _) → k < length counts.now → CountsEvents (slice_index_or passes.items k p).own (slice_index_or counts.now k d) }
+    requires each { CountsPasses passes.items counts.now }
     ensures { IfOk result (λ r. IsStormEnd table.now counts.now r) }
 {
     match shared.close(passes) {

@@ -8,5 +8,5 @@ returns-in-Ok g c =
     let passes = c.args.passes.items in
     let len : vec_len c.args.passes ≡ length passes = search rules in
     let few : length c.args.counts.now ≤ length passes = omega (arith, len, c.requires.few) in
-    storm_end c.args.table.now c.args.counts.now history c.judge.result c.judge.ensures.legal
+    storm_end c.args.table.now c.args.counts.now history c.judge.result c.judge.ensures
     (all_counted history passes c.args.counts.now few (λ k p l. c.in-Ok.ensures.own k p (omega (arith, l, len))) c.requires.each)

@@ -1,4 +1,4 @@
-use Rattle.std.proofs.Common.{◌≡◌, ◌<◌, length, arith, rules}
+use Rattle.std.proofs.Common.{◌≡◌, length, arith, rules}
 use Rattle.stm_pool.proofs.storm.end_of.Goals as goal
 
 pub close_and_replay-requires-clause-each : goal.close_and_replay-requires-clause-each
