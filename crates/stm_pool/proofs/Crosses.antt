@@ -1,4 +1,5 @@
 -- What may go from one thread to another, type by type. One search over a type with several blocks in it ends at its limits.
+use denote.Ref.{NamedLft}
 use denote.RattleType.{RattleType}
 use denote.Param.Send.{IsSend, IsSync, sendable}
 use Rattle.std.specs.declared.sync.ledger.Ledger.{Ghosts}
@@ -25,6 +26,9 @@ use Rattle.stm_desk.specs.contracts.desk.Desk as desk
 use Rattle.stm_pool.specs.contracts.pass.Pass as pass
 use Rattle.stm_pool.specs.contracts.guarded.Guarded as guarded
 use Rattle.stm_pool.specs.contracts.shared.SharedDesk as shared
+use Rattle.stm_pool.specs.contracts.section.Section as section
+use Rattle.stm_pool.specs.contracts.section.Task as task
+use Rattle.stm_pool.specs.contracts.threads.Errand as errand
 
 -- ---- jobs and messages
 pub typed_send : IsSend typed.the_row
@@ -82,3 +86,14 @@ module _ (L : RattleType) (g : Ghosts L.Denot) where
 
   pub shared_sync : IsSync (shared.the_row L g)
   shared_sync = search (sendable, crosses, guarded_send) depth 40 fits 100000
+
+-- ---- what the threads of a storm are given
+task_send : IsSend task.the_row
+task_send = search (sendable, crosses, block_send) depth 40 fits 100000
+
+pub section_send : IsSend section.the_row
+section_send = search (sendable, Vec-send, task_send) depth 40 fits 100000
+
+module _ (κ ι : NamedLft) (L R : RattleType) (g : Ghosts L.Denot) where
+  pub errand_send : IsSync R → IsSend (errand.the_row κ ι L R g)
+  errand_send s = search (sendable, crosses, pass_send, shared_sync) depth 40 fits 100000

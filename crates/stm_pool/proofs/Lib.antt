@@ -1,4 +1,5 @@
 mod Answered
+mod Counted
 pub mod Crosses
 mod OneJob
 mod OnlyTheirs

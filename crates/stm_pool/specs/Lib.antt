@@ -5,5 +5,6 @@ pub mod Own
 pub mod Storms
 pub mod Worked
 -- The words inside.
+pub mod Counted
 pub mod Found
 pub mod Slots

@@ -27,8 +27,11 @@ pub mod shared;
 pub mod worker;
 
 // Clients and workers in threads of their own.
+mod client;
+mod counting;
 pub mod section;
 pub mod storm;
+mod threads;
 
 pub use all::{Answer, evaluate_all};
 pub use calls::Next;

@@ -1,13 +1,22 @@
 //! A storm: clients and workers in threads of their own, over one desk, and the history that they leave.
 
-ghost use Rattle.std.specs.Prelude.{◌≡◌, ◌<◌, ◌≤◌, vec_len, IfOk};
+ghost use Rattle.std.specs.Prelude.{◌≡◌, ◌+◌, ◌<◌, ◌≤◌, length, vec_len, IfOk};
 ghost use Rattle.stm_history.specs.SlowDesk.{max_events as most_events};
+ghost use Rattle.stm_pool.specs.Counted.{CountsPasses, IsReplayed};
 ghost use Rattle.stm_pool.specs.Storms.{IsStormEnd};
 
+use crate::close::Report;
+use crate::counting::counts_of;
+use crate::pass::Pass;
 use crate::section::Section;
+use crate::shared::SharedDesk;
+use crate::threads::{Returned, run_all};
 use std::alloc::Global;
+use std::marker::Brand;
 use std::sync::Wait;
+use std::sync::ledger::{Blank, Ledger};
 use std::thread::Threads;
+use stm_history::{HistoryFault, replay};
 use stm_store::Table;
 use stm_terms::NoMemory;
 
@@ -39,6 +48,83 @@ pub struct StormEnd {
     pub replay: Replay,
 }
 
+/// What is found of a closed desk's history.
+fn judge(alloc: Global, table: &Table, report: &Report) -> Result<Replay, NoMemory>
+    requires { report.now.events ≡ length report.now.desk.history }
+    ensures { IfOk result (λ r. IsReplayed table.now report.now.desk.history r) }
+{
+    match replay(alloc, table, report.desk.history()) {
+        Ok(_) => Ok(Replay::Legal(report.events)),
+        Err(HistoryFault::NoMemory) => Err(NoMemory),
+        Err(_) => Ok(Replay::NotLegal(report.events)),
+    }
+}
+
+/// Closes a desk with its passes, of which the clients counted have the first, and replays its history.
+fn close_and_replay<L: Ledger>(
+    alloc: Global,
+    table: &Table,
+    shared: SharedDesk<L>,
+    passes: Vec<Pass<L>>,
+    counts: &[Counts],
+) -> Result<Replay, NoMemory>
+    requires few { length counts.now ≤ vec_len passes }
+    requires each { CountsPasses passes.items counts.now }
+    ensures { IfOk result (λ r. IsStormEnd table.now counts.now r) }
+{
+    match shared.close(passes) {
+        Ok(report) => judge(alloc, table, &report),
+        Err(_) => Ok(Replay::NotClosed),
+    }
+}
+
+/// The end of a storm of so many clients, when its threads are joined. Where a thread gave nothing back, memory ran out.
+fn end_of<L: Ledger>(
+    alloc: Global,
+    table: &Table,
+    shared: SharedDesk<L>,
+    returned: Returned<L>,
+    clients: usize,
+) -> Result<StormEnd, NoMemory>
+    requires { clients ≤ shared }
+    ensures each { IfOk result (λ e. vec_len e.counts ≡ clients) }
+    ensures end { IfOk result (λ e. IsStormEnd table.now e.counts.items e.replay) }
+{
+    let Returned { passes, extras } = returned;
+    if extras.len() != clients || passes.len() != shared.passes as usize {
+        return Err(NoMemory);
+    }
+    let counts = counts_of(alloc, passes.as_slice(), extras.as_slice())?;
+    let replay = close_and_replay(alloc, table, shared, passes, counts.as_slice())?;
+    Ok(StormEnd { counts, replay })
+}
+
+/// `run_storm`, with the blank of a ledger that has a part for each thread.
+fn storm_with<L: Ledger + Send + Sync, R: Threads + Wait + Sync>(
+    rt: &R,
+    alloc: Global,
+    blank: Blank,
+    table: &Table,
+    sections: Vec<Section>,
+    workers: u32,
+    levels: u32,
+    max_events: u32,
+) -> Result<StormEnd, NoMemory>
+    requires name { blank.name ≡ L.name }
+    requires parts { (blank.parts ≡ L.parts) × (blank.parts ≡ vec_len sections + workers) }
+    requires few { (vec_len sections ≤ 64) × (workers ≤ 64) }
+    requires levels { levels ≤ 8 }
+    requires events { max_events ≤ most_events }
+    ensures each { IfOk result (λ e. vec_len e.counts ≡ vec_len sections) }
+    ensures end { IfOk result (λ e. IsStormEnd table.now e.counts.items e.replay) }
+{
+    let clients = sections.len();
+    let threads = clients as u32 + workers;
+    let (shared, passes) = SharedDesk::<L>::open(alloc, blank, table, threads, max_events)?;
+    let returned = run_all(rt, alloc, &shared, passes, sections, levels);
+    end_of(alloc, table, shared, returned, clients)
+}
+
 /// Opens a desk with the variables of a table and room for so many events; does what each section says, in a thread of its own,
 /// while the workers, each in a thread of its own, evaluate what is queued; then closes the desk and replays its history over
 /// the table. `levels` is how deep the workers evaluate both branches of an `orElse` at once.
@@ -62,5 +148,15 @@ pub fn run_storm<R: Threads + Wait + Sync>(
     // A history that is legal over the table, and what the counts tell of each client is what the history has of it.
     ensures end { IfOk result (λ e. IsStormEnd table.now e.counts.items e.replay) }
 {
-    Err(NoMemory)
+    let parts = sections.len() as u64 + u64::from(workers);
+    storm_with::<Brand, R>(
+        rt,
+        alloc,
+        Blank::new(parts),
+        table,
+        sections,
+        workers,
+        levels,
+        max_events,
+    )
 }

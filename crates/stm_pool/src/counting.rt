@@ -1,0 +1,53 @@
+//! What the clients of a storm are counted to have done.
+
+ghost use Rattle.std.specs.Prelude.{◌≡◌, ◌≤◌, length, vec_len, IfOk};
+ghost use Rattle.stm_pool.specs.Counted.{CountsPasses};
+ghost use Rattle.stm_pool.specs.Storms.{CountsEvents};
+
+use crate::client::Extra;
+use crate::pass::Pass;
+use crate::storm::Counts;
+use std::alloc::Global;
+use std::sync::ledger::Ledger;
+use stm_history::{Event, What};
+use stm_terms::NoMemory;
+
+/// The counts of a client: of its own events, and of what left none.
+fn counts_from(own: &[Event], extra: Extra) -> Counts
+    ensures { CountsEvents own.now result }
+{
+    let mut counts = Counts {
+        submitted: 0,
+        finished: 0,
+        cancelled: 0,
+        refused: extra.refused,
+        missed: extra.missed,
+    };
+    for event in own {
+        match &event.what {
+            What::Submitted { .. } => counts.submitted += 1,
+            What::Installed { .. } => {}
+            What::Finished { .. } => counts.finished += 1,
+            What::Cancelled { .. } => counts.cancelled += 1,
+        }
+    }
+    counts
+}
+
+/// The counts of the clients, who have the first of the passes.
+pub(crate) fn counts_of<L: Ledger>(
+    alloc: Global,
+    passes: &[Pass<L>],
+    extras: &[Extra],
+) -> Result<Vec<Counts>, NoMemory>
+    requires { length extras.now ≤ length passes.now }
+    ensures len { IfOk result (λ v. vec_len v ≡ length extras.now) }
+    ensures each { IfOk result (λ v. CountsPasses passes.now v.items) }
+{
+    let mut all = Vec::with_capacity(alloc, extras.len())?;
+    for k in 0..extras.len() {
+        let pass = &passes[k];
+        all.push(counts_from(pass.own.as_slice(), extras[k]))?;
+    }
+    Ok(all)
+}
