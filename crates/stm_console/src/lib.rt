@@ -34,6 +34,7 @@ mod showing;
 pub mod storm;
 mod storm_word;
 mod streams;
+mod threading;
 mod trying;
 
 pub use checking::{Finding, check};

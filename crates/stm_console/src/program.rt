@@ -18,6 +18,8 @@ use clap::error::ErrorKind;
 use std::alloc::Global;
 use std::convert::AsStr;
 use std::io::{Read, Write};
+use std::sync::Wait;
+use std::thread::Threads;
 
 /// The exit status where the words are refused.
 const REFUSED: u8 = 2;
@@ -96,7 +98,8 @@ fn end_check<E: Write>(ended: Result<Finding, RunFault>, errors: &mut E) -> u8
 ///
 /// 0: the input was read to its end, or help was written. 1: a read or a write failed. 2: the words were refused. 3: the
 /// history isn't legal. 4: memory ran out. That `errors` fails changes nothing.
-pub fn start<'a, S: AsStr, R: Read, W: Write, E: Write>(
+pub fn start<'a, T: Threads + Wait + Sync, S: AsStr, R: Read, W: Write, E: Write>(
+    rt: &T,
     alloc: Global,
     words: &'a [S],
     reader: &mut R,
@@ -146,7 +149,7 @@ pub fn start<'a, S: AsStr, R: Read, W: Write, E: Write>(
         Err(error) => return tell_words(&error, writer, errors),
     };
     match request {
-        Request::Run(options) => end_run(run(alloc, reader, writer, options), errors),
+        Request::Run(options) => end_run(run(rt, alloc, reader, writer, options), errors),
         Request::Check => end_check(check(alloc, reader, writer), errors),
     }
 }
