@@ -16,6 +16,7 @@ pub mod action;
 pub mod block;
 pub mod cursor;
 pub mod declaration;
+pub mod expectation;
 pub mod expression;
 pub mod fault;
 pub mod laws;
@@ -28,6 +29,7 @@ pub mod types;
 
 pub use block::parse_block;
 pub use declaration::{Declaration, Init, parse_declare};
+pub use expectation::{Expectation, parse_expectation};
 pub use fault::ParseFault;
 pub use raw::Raw;
 pub use tokenizer::{Token, TokenClass, tokens};
