@@ -1,10 +1,10 @@
 -- The reader of expectations is good, the names of their trees are names of the text, and the call is exact.
-use Rattle.std.proofs.Common.{◌≡◌, ℕ, List, [], ◌∷◌, refl, ap, subst, arith, length, Result, Ok}
+use Rattle.std.proofs.Common.{◌≡◌, ℕ, List, [], ◌∷◌, refl, ap, subst, arith, length, Ok}
 use Rattle.stm_terms.specs.ParsedAst.{IsSpan, NamesWithin}
 use Rattle.stm_parse.specs.declared.token.Lexeme.{Lexeme}
 use Rattle.stm_parse.specs.declared.token.Failure.{Failure}
 use Rattle.stm_parse.specs.declared.fault.ParseFault.{ParseFault}
-use Rattle.stm_parse.specs.Descent.{Reader, ◌>>=◌, StopsAs, expect_name, init, whole}
+use Rattle.stm_parse.specs.Descent.{◌>>=◌, StopsAs, expect_name, init, whole}
 use Rattle.stm_parse.specs.ExpectationFunction.{expectation_reader, expected_tree, expectation_result, parsed_expectation, ExpectationAnswersAreRight}
 use Rattle.stm_parse.specs.Expectations.{ExpectationTree, IsExpectation, is_expectation, expectation_in}
 use Rattle.stm_parse.specs.Faults.{Language, IsText}
