@@ -67,7 +67,8 @@ fn whole_expectation(toks: &[Lexeme]) -> Result<RawExpectation, Failure>
 pub fn parse_expectation(alloc: Global, text: &str) -> Result<Expectation, ParseFault>
     // What is read is a text of the expectation, and a fault is the one to be reported.
     ensures right { MatchResult result
-        (λ d. (t : ExpectationTree) × IsTextOf IsExpectation text.now t × (expectation_of d ≡ expectation_in text.now t))
+        (λ d. (t : ExpectationTree) × IsTextOf IsExpectation text.now t
+        × (expectation_of d ≡ expectation_in text.now t))
         (λ e. IsReported IsExpectation text.now e) }
     // Each text is read, with its one tree, unless memory runs out.
     ensures only { (t : ExpectationTree) → IsTextOf IsExpectation text.now t
