@@ -56,7 +56,7 @@ told_of_job law d cells j m r legal s t b rs told =
     (subst (λ (x : ℕ). DeliverTold r (now d).store (is_full d) (find_waiter x (now d).waiters) (message_block m) (message_reads m)) t told)))
 
 -- and so is what it leaves
-refused_of_job : (d : Seen) (cells : List (Ty × Value)) (j : Job) (m : Evaluated) (r : Option DeliverError) → message_ticket m ≡ j.ticket → verdict (cell_value cells) j.block.tree ≡ Some (message_verdict m)
+pub refused_of_job : (d : Seen) (cells : List (Ty × Value)) (j : Job) (m : Evaluated) (r : Option DeliverError) → message_ticket m ≡ j.ticket → verdict (cell_value cells) j.block.tree ≡ Some (message_verdict m)
     → after_message d m r ≡ after_refusal d (handed_out cells j) r
 refused_of_job d cells j m None t v = ap (λ (x : ℕ). with_event d (event 0 (Installed x (message_verdict m)))) t ∙ sym (ap (installed d j.ticket) v)
 refused_of_job d cells j m (Some e) t v = ap (λ (x : ℕ). left_by e x d) t

@@ -19,10 +19,10 @@ use Rattle.clap.specs.declared.error.Error.{Error}
 use Rattle.clap.specs.declared.error.kind.ErrorKind.{ErrorKind}
 use Rattle.clap.proofs.OnLiterals.{clap_on_literals}
 use Rattle.std.specs.Prelude.{Result}
-use Rattle.stm_console.specs.CommandLine.{answers_of, are_mistakes, asks_for_run, command_line, is_mistake, number_of_text, number_within, options_said, request_of, request_said, IfRun}
+use Rattle.stm_console.specs.CommandLine.{answers_of, are_mistakes, asks_for_run, command_line, is_mistake, number_of_text, number_within, options_said, request_of, request_said, IfRun, IfStorm}
 use Rattle.stm_console.specs.Options.{AreRunOptions, default_options}
 use Rattle.stm_console.specs.declared.command_line.Request.{Request}
-use Rattle.stm_console.specs.declared.command_line.Request.TheVariants.{Run, Check}
+use Rattle.stm_console.specs.declared.command_line.Request.TheVariants.{Run, Storm, Check}
 
 -- clap's answers to any words are exact
 exact : is_simple_and_free command_line ≡ true
@@ -166,19 +166,23 @@ default_in_range = record {
   few_events = omega arith;
 }
 
-subcommand_in_range : (name : List ℕ) (rows : List Row) → IfRun (request_said (Some (name, rows))) AreRunOptions
-subcommand_in_range name rows = go (bytes_eq name (codes "check"))
-  where
-    go : (b : Bool) → IfRun (cond b Check (Run (options_said rows))) AreRunOptions
-    go true = tt
-    go false = said_in_range rows
+abbrev HasOptionsInRange : Request → Type 0
+HasOptionsInRange r = IfRun r AreRunOptions × IfStorm r AreRunOptions
 
-in_range : (p : Option (List ℕ × List Row)) → IfRun (request_said p) AreRunOptions
-in_range None = default_in_range
+subcommand_in_range : (name : List ℕ) (rows : List Row) → HasOptionsInRange (request_said (Some (name, rows)))
+subcommand_in_range name rows = go (bytes_eq name (codes "check")) (bytes_eq name (codes "storm"))
+  where
+    go : (b c : Bool) → HasOptionsInRange (cond b Check (cond c (Storm (options_said rows)) (Run (options_said rows))))
+    go true c = (tt, tt)
+    go false true = (tt, said_in_range rows)
+    go false false = (said_in_range rows, tt)
+
+in_range : (p : Option (List ℕ × List Row)) → HasOptionsInRange (request_said p)
+in_range None = (default_in_range, tt)
 in_range (Some p) = subcommand_in_range p.0 p.1
 
 -- whatever the words are
-pub options_in_range : (words : List (List ℕ)) → IfRun (request_of words) AreRunOptions
+pub options_in_range : (words : List (List ℕ)) → IfRun (request_of words) AreRunOptions × IfStorm (request_of words) AreRunOptions
 unfolding request_of
 options_in_range words = in_range (subcommand_of command_line words)
 

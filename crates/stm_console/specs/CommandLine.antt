@@ -11,7 +11,7 @@ use Rattle.clap.specs.declared.error.kind.ErrorKind.{ErrorKind}
 use Rattle.clap.specs.declared.error.kind.ErrorKind.TheVariants.{DisplayHelp, DisplayVersion}
 use Rattle.stm_history.specs.SlowDesk.{max_events}
 use Rattle.stm_console.specs.declared.command_line.Request.{Request}
-use Rattle.stm_console.specs.declared.command_line.Request.TheVariants.{Run, Check}
+use Rattle.stm_console.specs.declared.command_line.Request.TheVariants.{Run, Storm, Check}
 use Rattle.stm_console.specs.declared.options.Options.{Options}
 use Rattle.stm_console.specs.Options.{default_options}
 
@@ -22,7 +22,7 @@ asks_for_run (name ∷ []) = true
 asks_for_run (name ∷ word ∷ []) = bytes_eq word (codes "run")
 asks_for_run (name ∷ word ∷ next ∷ rest) = false
 
--- ---- what the program takes: `run` with its options, `check`, and what clap adds for help
+-- ---- what the program takes: `run` and `storm` with their options, `check`, and what clap adds for help
 
 -- an option that takes a number from low to high, and its default in digits
 abbrev pub number_option : List ℕ → ℕ → ℕ → List ℕ → Rule
@@ -33,21 +33,28 @@ number_option name low high default = record (new_rule name) {
   parser = Some (Signed (pos low) (pos high));
 }
 
-abbrev pub run_command : App
-run_command = with_rule (with_rule (with_rule (new_app (codes "run"))
+abbrev pub with_options : App → App
+with_options command = with_rule (with_rule (with_rule command
     (number_option (codes "workers") 1 64 (codes "2")))
     (number_option (codes "levels") 0 8 (codes "0")))
     (number_option (codes "max-events") 0 max_events (codes "1048576"))
+
+abbrev pub run_command : App
+run_command = with_options (new_app (codes "run"))
+
+abbrev pub storm_command : App
+storm_command = with_options (new_app (codes "storm"))
 
 abbrev pub check_command : App
 check_command = new_app (codes "check")
 
 abbrev pub command_line : App
-command_line = with_subcommand (with_subcommand (new_app (codes "stmdesk")) run_command.top) check_command.top
+command_line = with_subcommand (with_subcommand (with_subcommand (new_app (codes "stmdesk"))
+    run_command.top) storm_command.top) check_command.top
 
 -- ---- which words are taken
 
--- what clap has to say of words in place of a run or a check; nothing where they ask for one
+-- what clap has to say of words in place of what they ask for; nothing where they ask for a run, a storm or a check
 unfoldable pub answers_of : List (List ℕ) → Kinds
 answers_of words = fault_of command_line words
 
@@ -98,13 +105,29 @@ options_said rows = record {
 -- a subcommand, by its name and what is said for its options; without one a run
 abbrev pub request_said : Option (List ℕ × List Row) → Request
 request_said None = Run default_options
-request_said (Some p) = if bytes_eq p.0 (codes "check") then Check else Run (options_said p.1)
+request_said (Some p) =
+    if bytes_eq p.0 (codes "check") then Check
+    else if bytes_eq p.0 (codes "storm") then Storm (options_said p.1)
+    else Run (options_said p.1)
 
--- what words ask for that clap takes: `check`, or a run with its options
+-- what words ask for that clap takes: `check`, or a run or a storm with its options
 unfoldable pub request_of : List (List ℕ) → Request
 request_of words = request_said (subcommand_of command_line words)
 
 -- where it is a run, this holds of its options
 abbrev pub IfRun : Request → (Options → Type 0) → Type 0
 IfRun (Run options) P = P options
+IfRun (Storm options) P = ⊤
 IfRun Check P = ⊤
+
+-- where it is a storm, this holds of its options
+abbrev pub IfStorm : Request → (Options → Type 0) → Type 0
+IfStorm (Run options) P = ⊤
+IfStorm (Storm options) P = P options
+IfStorm Check P = ⊤
+
+-- it judges a history: a check that of the reader, a storm that of its clients
+abbrev pub judges_history : Request → Bool
+judges_history (Run options) = false
+judges_history (Storm options) = true
+judges_history Check = true

@@ -2,6 +2,8 @@
 use Rattle.std.specs.Prelude.{◌≡◌, ◌⊎◌, ℕ}
 use Rattle.stm_console.specs.declared.checking.Finding.{Finding}
 use Rattle.stm_console.specs.declared.checking.Finding.TheVariants.{Legal, BadHeader, BadLine, NotLegal}
+use Rattle.stm_console.specs.declared.storming.StormFault.{StormFault}
+use Rattle.stm_console.specs.declared.storming.StormFault.TheVariants.{Run, Script, Replay}
 use Rattle.stm_console.specs.declared.streams.RunFault.{RunFault}
 use Rattle.stm_console.specs.declared.streams.RunFault.TheVariants.{Read, Write, NoMemory}
 
@@ -10,6 +12,12 @@ abbrev pub status_of : RunFault → ℕ
 status_of Read = 1
 status_of Write = 1
 status_of NoMemory = 4
+
+-- a storm's: also where a line of the script is faulty, and where the history isn't legal, or not what the clients did
+abbrev pub storm_status : StormFault → ℕ
+storm_status (Run fault) = status_of fault
+storm_status (Script line) = 1
+storm_status Replay = 3
 
 -- a history is legal, or not
 abbrev pub finding_status : Finding → ℕ

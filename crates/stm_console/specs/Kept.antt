@@ -1,5 +1,6 @@
 -- What the type of an open desk keeps.
-use Rattle.std.specs.Prelude.{◌≡◌, List, [], ◌∷◌, ◌++◌, Option, Some, None}
+use Rattle.std.specs.Prelude.{◌≡◌, List, [], ◌∷◌, ◌++◌, Option, Some, None, Result}
+use Rattle.std.specs.declared.alloc.AllocError.{AllocError}
 use Rattle.stm_terms.specs.declared.kinds.Ty.{Ty}
 use Rattle.stm_terms.specs.declared.values.Value.{Value}
 use Rattle.stm_store.specs.Cells.{Covers, plains}
@@ -12,6 +13,7 @@ use Rattle.stm_history.specs.declared.event.What.TheVariants.{Installed}
 use Rattle.stm_history.specs.JobsHandedOut.{block_at}
 use Rattle.stm_history.specs.Machine.{event}
 use Rattle.stm_history.specs.SlowDesk.{IsLegal, state}
+use Rattle.stm_pool.specs.Answers.{AnswersJob}
 use Rattle.stm_desk.specs.Refusals.{left_by}
 use Rattle.stm_desk.specs.Seen.{Seen, now, with_event}
 use Rattle.stm_console.specs.declared.jobs.HandedOut.{HandedOut}
@@ -56,3 +58,10 @@ pub record HasGrown (old new : Seen) : Type 0 where
 abbrev pub after_message : Seen → Evaluated → Option DeliverError → Seen
 after_message d m None = with_event d (event 0 (Installed (message_ticket m) (message_verdict m)))
 after_message d m (Some e) = left_by e (message_ticket m) d
+
+-- each answers the job at its place, and there are as many
+abbrev pub AnswerJobs : List Job → List (Ty × Value) → List (Result Evaluated (Job × AllocError)) → Type 0
+AnswerJobs [] cells [] = Unit {0}
+AnswerJobs [] cells (a ∷ rest) = ⊥
+AnswerJobs (j ∷ js) cells [] = ⊥
+AnswerJobs (j ∷ js) cells (a ∷ rest) = AnswersJob j cells a × AnswerJobs js cells rest

@@ -1,12 +1,12 @@
--- The console's text has no gap: each line that says something is answered. And which words ask for a run or a
--- check, and what they say.
+-- The console's text has no gap: each line that says something is answered. And which words ask for a run, a storm
+-- or a check, and what they say.
 use Rattle.std.specs.Prelude.{◌≡◌, ◌≢◌, ◌≤◌, ◌<◌, ◌^◌, ℕ, List, [], ◌∷◌, ◌++◌, Some, IsSome, slice_get, codes, decimal, IsTrue}
 use Rattle.stm_history.specs.SlowDesk as slow
 use Rattle.stm_desk.specs.Seen.{now}
 use Rattle.stm_console.specs.declared.console.Console.{Console}
-use Rattle.stm_console.specs.declared.command_line.Request.TheVariants.{Run, Check}
+use Rattle.stm_console.specs.declared.command_line.Request.TheVariants.{Run, Storm, Check}
 use Rattle.stm_console.specs.declared.options.Options.{Options}
-use Rattle.stm_console.specs.CommandLine.{answers_of, asks_for_run, has_mistake, request_of, IfRun}
+use Rattle.stm_console.specs.CommandLine.{answers_of, asks_for_run, has_mistake, request_of, IfRun, IfStorm}
 use Rattle.stm_console.specs.Console.{initial_console, answer_to, state_after}
 use Rattle.stm_console.specs.ConsoleState.{present_desk}
 use Rattle.stm_console.specs.Options.{AreRunOptions, default_options}
@@ -58,9 +58,21 @@ abbrev pub RunsHaveDefaults : Type 0
 RunsHaveDefaults = (words : List (List ℕ)) → IsTrue (asks_for_run words)
     → (request_of words ≡ Run default_options) × (request_of (words ++ codes "--" ∷ []) ≡ Run default_options)
 
--- whatever the words are, the options of a run are in their ranges
+-- whatever the words are, the options of a run and of a storm are in their ranges
 abbrev pub OptionsAreInRange : Type 0
-OptionsAreInRange = (words : List (List ℕ)) → IfRun (request_of words) AreRunOptions
+OptionsAreInRange = (words : List (List ℕ)) → IfRun (request_of words) AreRunOptions × IfStorm (request_of words) AreRunOptions
+
+-- `storm` alone after the program's name asks for a storm with the default options, and there is nothing to tell of it
+abbrev pub StormsAreAccepted : Type 0
+StormsAreAccepted = (name : List ℕ)
+    → (answers_of (name ∷ codes "storm" ∷ []) ≡ []) × (request_of (name ∷ codes "storm" ∷ []) ≡ Storm default_options)
+
+-- any words after `storm` are taken as after `run`: what there is to tell of them is the same, and the storm has the options
+-- that the run would have
+abbrev pub StormsAreAsRuns : Type 0
+StormsAreAsRuns = (name : List ℕ) (rest : List (List ℕ))
+    → (answers_of (name ∷ codes "storm" ∷ rest) ≡ answers_of (name ∷ codes "run" ∷ rest))
+    × ((options : Options) → request_of (name ∷ codes "run" ∷ rest) ≡ Run options → request_of (name ∷ codes "storm" ∷ rest) ≡ Storm options)
 
 -- `check` after the program's name asks for a check, and there is nothing to tell of it
 abbrev pub ChecksAreAccepted : Type 0

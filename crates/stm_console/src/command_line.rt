@@ -5,7 +5,7 @@ ghost use Rattle.clap.specs.Simple.{subcommand_rows_of};
 ghost use Rattle.clap.specs.Walk.{one_of, rows_of, rule_of};
 ghost use Rattle.clap.specs.Words.{app_of, found_of, FailsBy};
 ghost use Rattle.clap.specs.declared.builder.command.Command.TheViews.{out-Command as fields_of};
-ghost use Rattle.stm_console.specs.CommandLine.{answers_of, asks_for_run, command_line, check_command, number_of_text, number_option, number_said, number_within, options_said, request_of, request_said, run_command, IfRun};
+ghost use Rattle.stm_console.specs.CommandLine.{answers_of, asks_for_run, command_line, check_command, number_of_text, number_option, number_said, number_within, options_said, request_of, request_said, run_command, storm_command, with_options, IfRun, IfStorm};
 ghost use Rattle.stm_console.specs.Options.{AreRunOptions};
 
 use crate::options::Options;
@@ -13,10 +13,11 @@ use clap::{Arg, ArgMatches, Command, Error, value_parser};
 use std::alloc::{AllocError, Global};
 use std::convert::AsStr;
 
-/// What words ask for: a run with these options, or a check of a history.
+/// What words ask for: a run or a storm with these options, or a check of a history.
 #[derive(Clone, Copy, PartialEq, Eq, Debug)]
 pub enum Request {
     Run(Options),
+    Storm(Options),
     Check,
 }
 
@@ -26,6 +27,10 @@ makes them stale, and each takes effect at once and whole, or not at all";
 
 const RUN: &str =
     "Reads commands from standard input, one a line, and answers each on standard output (as without a command)";
+
+const STORM: &str =
+    "Reads a script from standard input, runs each of its clients in a thread of its own over one desk, and prints what came of \
+it";
 
 const CHECK: &str = "Reads a history from standard input, and says whether it is legal";
 
@@ -37,11 +42,12 @@ Without a command stmdesk reads commands from standard input, as `stmdesk run` d
   #0 x : Int = 1 count 0
   cells 1
 
-`stmdesk run --help` teaches the commands, each with an example, and the options; `stmdesk check --help` says what a check
-prints. Exit statuses: 0 done, 1 the input or the output failed, 2 the words were refused, 3 a history isn't legal, 4 memory
-was refused.
+`stmdesk run --help` teaches the commands, each with an example, and the options; `stmdesk storm --help` the lines of a
+script; `stmdesk check --help` says what a check prints. Exit statuses: 0 done, 1 the input or the output failed, or a line of
+a script is faulty, 2 the words were refused, 3 a history isn't legal, 4 memory or a thread was refused.
 
-docs/CONSOLE.md says more about all of it, docs/LANGUAGE.md about blocks, docs/HISTORY.md about histories.";
+docs/CONSOLE.md says more about all of it, docs/LANGUAGE.md about blocks, docs/HISTORY.md about histories, docs/STORM.md about
+storms.";
 
 const COMMANDS: &str = "\
 Commands on standard input, one a line. A line that begins with `--` is a comment.
@@ -84,6 +90,30 @@ A line that can't be taken prints `refused NAME`, with the place of its cause wh
 
 docs/CONSOLE.md says more about the commands, docs/LANGUAGE.md about blocks.";
 
+const SCRIPT: &str = "\
+A script on standard input: variables, then a section for each client. Blank lines and lines that begin with `--` say nothing.
+  tvar NAME : TYPE = INIT  Declares a variable, before the first section
+  client                   Begins the section of the next client, which runs in a thread of its own
+  submit BLOCK             Puts a block on the desk
+  finish K                 Lets the block of the K-th `submit` of the section take effect, as soon as it is evaluated
+  cancel K                 Takes that block off the desk
+  expect NAME VALUE        Looks whether the variable holds the value
+
+Prints a line for each client, with how many blocks it submitted, finished and cancelled, how often it was refused, and how
+often it missed an expected value; then the number of events, and `replay ok` where the history that all left is legal.
+
+Example:
+  $ printf 'tvar x : Int = 1\\nclient\\nsubmit readTVar x\\nfinish 1\\nclient\\nexpect x 1\\n' | stmdesk storm
+  client 0 submitted 1 finished 1 cancelled 0 refused 0 missed 0
+  client 1 submitted 0 finished 0 cancelled 0 refused 0 missed 0
+  events 3
+  replay ok
+
+Where a line is faulty, standard error has `stmdesk: script line N`, nothing is printed, and the status is 1. With `replay
+failed` the status is 3.
+
+docs/STORM.md says more about scripts.";
+
 const FINDINGS: &str = "\
 Prints one line:
   legal N events   A desk can have taken the N events; status 0
@@ -97,10 +127,11 @@ Example:
 
 docs/HISTORY.md describes the lines.";
 
-const WORKERS: &str = "How many threads `eval` may use, from 1 to 64; no answer depends on it";
+const WORKERS: &str =
+    "How many threads evaluate blocks, from 1 to 64; no answer of a run depends on it";
 
 const LEVELS: &str =
-    "How many `orElse` deep both branches may run at once, from 0 to 8; no answer depends on it";
+    "How many `orElse` deep both branches may run at once, from 0 to 8; no answer of a run depends on it";
 
 const MAX_EVENTS: &str = "How many events the history may have, from 0 to 1048576";
 
@@ -136,9 +167,10 @@ fn number_option<'a>(
         .help(help)
 }
 
-/// `run` with its options.
-fn run_words<'a>(alloc: Global) -> Result<Command<'a>, AllocError>
-    ensures app { IfOk result (λ c. app_of c ≡ run_command) }
+/// A command with the options of a run.
+fn with_options<'a>(alloc: Global, command: Command<'a>) -> Result<Command<'a>, AllocError>
+    requires local { (fields_of command).has_globals ≡ false }
+    ensures app { IfOk result (λ c. app_of c ≡ with_options (app_of command)) }
     ensures local { IfOk result (λ c. (fields_of c).has_globals ≡ false) }
 {
     let workers = number_option(alloc, "workers", 1, Options::MAX_WORKERS, "2", WORKERS);
@@ -151,19 +183,33 @@ fn run_words<'a>(alloc: Global) -> Result<Command<'a>, AllocError>
         "1048576",
         MAX_EVENTS,
     );
-    Command::new(alloc, "run")
-        .about(RUN)
-        .after_help(COMMANDS)
-        .arg(workers)?
-        .arg(levels)?
-        .arg(max_events)
+    command.arg(workers)?.arg(levels)?.arg(max_events)
 }
 
-/// What the program takes: `run`, which is meant where nothing is said, `check`, and what clap adds for help.
+/// `run` with its options.
+fn run_words<'a>(alloc: Global) -> Result<Command<'a>, AllocError>
+    ensures app { IfOk result (λ c. app_of c ≡ run_command) }
+    ensures local { IfOk result (λ c. (fields_of c).has_globals ≡ false) }
+{
+    let run = Command::new(alloc, "run").about(RUN).after_help(COMMANDS);
+    with_options(alloc, run)
+}
+
+/// `storm` with its options.
+fn storm_words<'a>(alloc: Global) -> Result<Command<'a>, AllocError>
+    ensures app { IfOk result (λ c. app_of c ≡ storm_command) }
+    ensures local { IfOk result (λ c. (fields_of c).has_globals ≡ false) }
+{
+    let storm = Command::new(alloc, "storm").about(STORM).after_help(SCRIPT);
+    with_options(alloc, storm)
+}
+
+/// What the program takes: `run`, which is meant where nothing is said, `storm`, `check`, and what clap adds for help.
 fn command<'a>(alloc: Global) -> Result<Command<'a>, AllocError>
     ensures { IfOk result (λ c. app_of c ≡ command_line) }
 {
     let run = run_words(alloc)?;
+    let storm = storm_words(alloc)?;
     let check = Command::new(alloc, "check")
         .about(CHECK)
         .after_help(FINDINGS);
@@ -171,6 +217,7 @@ fn command<'a>(alloc: Global) -> Result<Command<'a>, AllocError>
         .about(ABOUT)
         .after_help(NEXT)
         .subcommand(run)?
+        .subcommand(storm)?
         .subcommand(check)
 }
 
@@ -205,7 +252,7 @@ fn number_of(matches: &ArgMatches, name: &str, low: u32, high: u32, otherwise: u
     number_within(low, high, otherwise, number_given(matches, name))
 }
 
-/// The options of `run`.
+/// The options of `run` and `storm`.
 fn options_of(matches: &ArgMatches) -> Options
     ensures said { result ≡ options_said (rows_of (found_of matches.now)) }
     ensures range { AreRunOptions result }
@@ -234,13 +281,18 @@ fn options_of(matches: &ArgMatches) -> Options
 fn request_of<'a>(matches: &ArgMatches<'a>) -> Request
     ensures said { result ≡ request_said (subcommand_rows_of matches.now) }
     ensures range { IfRun result AreRunOptions }
+    ensures storm_range { IfStorm result AreRunOptions }
 {
     match matches.subcommand() {
         Some((name, inner)) => {
             if name == "check" {
-                Request::Check
+                return Request::Check;
+            }
+            let options = options_of(inner);
+            if name == "storm" {
+                Request::Storm(options)
             } else {
-                Request::Run(options_of(inner))
+                Request::Run(options)
             }
         }
         None => Request::Run(Options::standard()),
@@ -253,6 +305,7 @@ pub fn read_words<'a, S: AsStr>(alloc: Global, words: &'a [S]) -> Result<Request
     ensures answers { FailsBy (answers_of (map S.text words.now)) result }
     ensures request { IfOk result (λ r. r ≡ request_of (map S.text words.now)) }
     ensures range { IfOk result (λ r. IfRun r AreRunOptions) }
+    ensures storm_range { IfOk result (λ r. IfStorm r AreRunOptions) }
 {
     if is_plain_run(words) {
         return Ok(Request::Run(Options::standard()));

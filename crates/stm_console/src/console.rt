@@ -17,9 +17,11 @@ use crate::limit::EventLimit;
 use crate::opened::OpenDesk;
 use crate::refusal::{refuse, write_refusal};
 use crate::reply::Reply;
+use crate::threading::Threading;
 use std::alloc::Global;
 use std::io::Write;
 use std::str;
+use std::thread::Threads;
 use stm_history::WriteFault;
 use stm_store::Table;
 use stm_terms::NoMemory;
@@ -45,9 +47,11 @@ impl OpenDesk {
     }
 
     /// Answers a command.
-    fn answer(
+    fn answer<T: Threads + Sync>(
         &mut self,
+        rt: &T,
         alloc: Global,
+        threading: Threading,
         command: Command,
         argument: &str,
         out: &mut String,
@@ -85,7 +89,7 @@ impl OpenDesk {
                 Ok(Reply::Text)
             }
             Command::Eval => {
-                self.answer_eval(alloc, argument, out)?;
+                self.answer_eval(rt, alloc, threading, argument, out)?;
                 Ok(Reply::Text)
             }
             Command::Finish => {
@@ -171,9 +175,11 @@ impl Console {
     }
 
     /// Answers a command other than `tvar`, which opens the desk.
-    fn answer_open(
+    fn answer_open<T: Threads + Sync>(
         &mut self,
+        rt: &T,
         alloc: Global,
+        threading: Threading,
         command: Command,
         argument: &str,
         out: &mut String,
@@ -184,7 +190,7 @@ impl Console {
         self.open(alloc)?;
         match self {
             Console::Open(desk) => {
-                let reply = desk.answer(alloc, command, argument, out)?;
+                let reply = desk.answer(rt, alloc, threading, command, argument, out)?;
                 Ok(reply)
             }
             Console::Declaring { .. } => unreachable!(),
@@ -192,9 +198,11 @@ impl Console {
     }
 
     /// Answers a command.
-    fn answer_command(
+    fn answer_command<T: Threads + Sync>(
         &mut self,
+        rt: &T,
         alloc: Global,
+        threading: Threading,
         word: &[u8],
         argument: &str,
         out: &mut String,
@@ -212,7 +220,7 @@ impl Console {
                 Ok(Reply::Text)
             }
             _ => {
-                let reply = self.answer_open(alloc, command, argument, out)?;
+                let reply = self.answer_open(rt, alloc, threading, command, argument, out)?;
                 Ok(reply)
             }
         }
@@ -220,9 +228,11 @@ impl Console {
 
     /// Appends the answer to a line, or says that it is the history.
     #[tactic(auto, unfolding(crate::specs::Console::answer_to, crate::specs::Console::state_after))]
-    pub fn answer(
+    pub fn answer<T: Threads + Sync>(
         &mut self,
+        rt: &T,
         alloc: Global,
+        threading: Threading,
         line: &[u8],
         out: &mut String,
     ) -> Result<Reply, NoMemory>
@@ -241,7 +251,7 @@ impl Console {
             }
             Judgement::Words(word, argument) => match str::from_utf8(argument) {
                 Ok(argument) => {
-                    let reply = self.answer_command(alloc, word, argument, out)?;
+                    let reply = self.answer_command(rt, alloc, threading, word, argument, out)?;
                     Ok(reply)
                 }
                 Err(_) => unreachable!(),

@@ -12,7 +12,9 @@ use crate::arguments::number_of;
 use crate::jobs::{HandedOut, deliver_job, evaluate_queued, with_store};
 use crate::opened::OpenDesk;
 use crate::refusal::{refuse, refuse_delivery};
+use crate::threading::Threading;
 use std::alloc::Global;
+use std::thread::Threads;
 use stm_desk::{DeliverError, Desk};
 use stm_eval::Job;
 use stm_terms::NoMemory;
@@ -260,9 +262,11 @@ impl OpenDesk {
 
     /// Answers `eval`: evaluates and delivers all that is queued.
     #[tactic(auto, unfolding(crate::specs::Delivering::eval_answer, crate::specs::Delivering::eval_state))]
-    pub fn answer_eval(
+    pub fn answer_eval<T: Threads + Sync>(
         &mut self,
+        rt: &T,
         alloc: Global,
+        threading: Threading,
         argument: &str,
         out: &mut String,
     ) -> Result<(), NoMemory>
@@ -273,7 +277,7 @@ impl OpenDesk {
             refuse("Argument", out)?;
             return Ok(());
         }
-        let progress = evaluate_queued(&mut self.desk, alloc)?;
+        let progress = evaluate_queued(&mut self.desk, rt, alloc, threading)?;
         write_evaluation(progress.count, progress.stop, out)?;
         Ok(())
     }

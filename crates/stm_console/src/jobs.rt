@@ -1,20 +1,28 @@
 //! Jobs that were handed out, and what becomes of them.
 
-ghost use Rattle.std.specs.Prelude.{◌≡◌, ◌≤◌, ◌<◌, ◌+◌, ◌++◌, map, None, Some, IfOk, OnOk, vec_len, length};
+ghost use Rattle.std.specs.Prelude.{◌≡◌, ◌≤◌, ◌<◌, ◌+◌, ◌++◌, List, map, None, Some, IfOk, OnOk, vec_len, length};
+ghost use Rattle.stm_terms.specs.declared.kinds.Ty.{Ty};
+ghost use Rattle.stm_terms.specs.declared.values.Value.{Value};
 ghost use Rattle.stm_store.specs.Cells.{Covers};
 ghost use Rattle.stm_eval.specs.EvaluatedFields.{message_ticket, message_block, message_reads};
+ghost use Rattle.stm_eval.specs.declared.job.Job.{Job};
+ghost use Rattle.stm_pool.specs.Answers.{IsMessageOf, AnswersJob};
+ghost use Rattle.stm_history.specs.JobsHandedOut.{AreCovered};
 ghost use Rattle.stm_history.specs.Refusals.{deliver_error};
 ghost use Rattle.stm_history.specs.SlowDesk.{IsLegal, max_waiting};
 ghost use Rattle.stm_desk.specs.Refusals.{TellsDeskDelivery};
 ghost use Rattle.stm_desk.specs.Seen.{now};
-ghost use Rattle.stm_console.specs.Kept.{handed_out, JobStands, JobsStand, HasGrown, after_message};
+ghost use Rattle.stm_console.specs.Kept.{handed_out, JobStands, JobsStand, HasGrown, after_message, AnswerJobs};
 ghost use Rattle.stm_console.specs.Delivering.{delivery_refusal, after_delivery, delivered_next, delivered_all, evaluated};
 
+use crate::threading::Threading;
 use std::alloc::{AllocError, Global};
+use std::thread::Threads;
 use stm_check::SharedBlock;
 use stm_desk::{DeliverError, Desk};
 use stm_eval::{Evaluated, Job, evaluate};
 use stm_history::laws::blocks_stay;
+use stm_pool::{Answer, evaluate_all};
 use stm_store::Frozen;
 use stm_terms::NoMemory;
 
@@ -110,29 +118,28 @@ pub struct Progress {
     pub stop: Option<DeliverError>,
 }
 
-/// Delivers the next job, unless one was refused before: then its ticket is queued again.
+/// Delivers the next message, unless one was refused before: then its ticket is queued again.
 fn deliver_next(
     desk: &mut Desk,
-    alloc: Global,
-    store: &Frozen,
-    job: Job,
+    message: Evaluated,
     so_far: Progress,
 ) -> Result<Progress, NoMemory>
     requires few { so_far.count < max_waiting }
     requires legal { IsLegal desk.old.table desk.old.history }
-    requires stands { JobStands desk.old (handed_out store.now job) }
-    ensures done { IfOk result (λ p. record { desk = desk.new; count = p.count; stop = p.stop }
-        ≡ delivered_next (record { desk = desk.old; count = so_far.count; stop = so_far.stop }) (handed_out store.now job) so_far.stop) }
+    ensures done { (cells : List (Ty × Value)) (job : Job) → IsMessageOf job cells message → JobStands desk.old (handed_out cells job)
+        → IfOk result (λ p. record { desk = desk.new; count = p.count; stop = p.stop }
+        ≡ delivered_next (record { desk = desk.old; count = so_far.count; stop = so_far.stop }) (handed_out cells job) so_far.stop) }
     ensures few { IfOk result (λ p. p.count ≤ so_far.count + 1) }
     ensures grown { HasGrown desk.old desk.new }
     ensures store { (now desk.new).store ≡ (now desk.old).store }
 {
-    let ticket = job.ticket;
+    blocks_stay();
+    let ticket = message.ticket();
     if so_far.stop.is_some() {
         desk.hand_back(ticket);
         return Ok(so_far);
     }
-    let refusal = deliver_job(desk, alloc, store, job)?;
+    let refusal = deliver_message(desk, message)?;
     if refusal.is_some() {
         desk.hand_back(ticket);
         return Ok(Progress {
@@ -146,19 +153,34 @@ fn deliver_next(
     })
 }
 
-/// Delivers what the blocks of jobs do on a store, one after another, until one is refused. That one and those after it are
-/// queued again.
-fn deliver_jobs(
+/// Delivers the next answer. A job that wasn't evaluated tells that memory ran out.
+fn deliver_answer(
     desk: &mut Desk,
-    alloc: Global,
-    store: &Frozen,
-    jobs: Vec<Job>,
+    answer: Answer,
+    so_far: Progress,
 ) -> Result<Progress, NoMemory>
-    requires few { vec_len jobs ≤ max_waiting }
+    requires few { so_far.count < max_waiting }
     requires legal { IsLegal desk.old.table desk.old.history }
-    requires stand { JobsStand desk.old (map (handed_out store.now) jobs.items) }
-    ensures done { IfOk result (λ p. record { desk = desk.new; count = p.count; stop = p.stop }
-        ≡ delivered_all (record { desk = desk.old; count = 0; stop = None }) (map (handed_out store.now) jobs.items)) }
+    ensures done { (cells : List (Ty × Value)) (job : Job) → AnswersJob job cells answer → JobStands desk.old (handed_out cells job)
+        → IfOk result (λ p. record { desk = desk.new; count = p.count; stop = p.stop }
+        ≡ delivered_next (record { desk = desk.old; count = so_far.count; stop = so_far.stop }) (handed_out cells job) so_far.stop) }
+    ensures few { IfOk result (λ p. p.count ≤ so_far.count + 1) }
+    ensures grown { HasGrown desk.old desk.new }
+    ensures store { (now desk.new).store ≡ (now desk.old).store }
+{
+    match answer {
+        Ok(message) => deliver_next(desk, message, so_far),
+        Err((_, refused)) => Err(refused),
+    }
+}
+
+/// Delivers answers, one after another, until one is refused. That one and those after it are queued again.
+fn deliver_answers(desk: &mut Desk, answers: Vec<Answer>) -> Result<Progress, NoMemory>
+    requires few { vec_len answers ≤ max_waiting }
+    requires legal { IsLegal desk.old.table desk.old.history }
+    ensures done { (cells : List (Ty × Value)) (jobs : List Job) → AnswerJobs jobs cells answers.items → JobsStand desk.old (map (handed_out cells) jobs)
+        → IfOk result (λ p. record { desk = desk.new; count = p.count; stop = p.stop }
+        ≡ delivered_all (record { desk = desk.old; count = 0; stop = None }) (map (handed_out cells) jobs)) }
     ensures grown { HasGrown desk.old desk.new }
     ensures store { (now desk.new).store ≡ (now desk.old).store }
 {
@@ -166,21 +188,51 @@ fn deliver_jobs(
         count: 0,
         stop: None,
     };
-    for job in jobs {
-        so_far = deliver_next(desk, alloc, store, job, so_far)?;
+    for answer in answers {
+        so_far = deliver_answer(desk, answer, so_far)?;
     }
     Ok(so_far)
 }
 
-/// Evaluates and delivers all that is queued, in rising order of the tickets.
-pub fn evaluate_queued(desk: &mut Desk, alloc: Global) -> Result<Progress, NoMemory>
+/// Evaluates jobs by threads on a store, and delivers their answers in the order of the jobs.
+fn evaluate_jobs<T: Threads + Sync>(
+    desk: &mut Desk,
+    rt: &T,
+    alloc: Global,
+    threading: Threading,
+    store: &Frozen,
+    jobs: Vec<Job>,
+) -> Result<Progress, NoMemory>
+    requires few { vec_len jobs ≤ max_waiting }
+    requires legal { IsLegal desk.old.table desk.old.history }
+    requires covered { AreCovered store.now jobs.items }
+    requires stand { JobsStand desk.old (map (handed_out store.now) jobs.items) }
+    ensures done { IfOk result (λ p. record { desk = desk.new; count = p.count; stop = p.stop }
+        ≡ delivered_all (record { desk = desk.old; count = 0; stop = None }) (map (handed_out store.now) jobs.items)) }
+    ensures grown { HasGrown desk.old desk.new }
+    ensures store { (now desk.new).store ≡ (now desk.old).store }
+{
+    let workers = threading.workers() as usize;
+    match evaluate_all(rt, alloc, store, jobs, workers, threading.levels()) {
+        Ok(answers) => deliver_answers(desk, answers),
+        Err((_, refused)) => Err(refused),
+    }
+}
+
+/// Evaluates by threads and delivers all that is queued, in rising order of the tickets.
+pub fn evaluate_queued<T: Threads + Sync>(
+    desk: &mut Desk,
+    rt: &T,
+    alloc: Global,
+    threading: Threading,
+) -> Result<Progress, NoMemory>
     requires { IsLegal desk.old.table desk.old.history }
     ensures done { IfOk result (λ p. record { desk = desk.new; count = p.count; stop = p.stop } ≡ evaluated desk.old) }
     ensures grown { HasGrown desk.old desk.new }
     ensures store { (now desk.new).store ≡ (now desk.old).store }
 {
     match desk.take(Desk::MAX_WAITING) {
-        Ok((store, jobs)) => deliver_jobs(desk, alloc, &store, jobs),
+        Ok((store, jobs)) => evaluate_jobs(desk, rt, alloc, threading, &store, jobs),
         Err(refused) => Err(refused),
     }
 }

@@ -2,7 +2,7 @@
 //! does nothing but call the laws that it rests on.
 
 ghost use Rattle.stm_console.specs.Laws.{EachLineIsAnswered, VerdictsAreShown};
-ghost use Rattle.stm_console.specs.Laws.{RunsAreAccepted, LastDashesChangeNothing, RunsHaveDefaults, OptionsAreInRange, ChecksAreAccepted, NumbersAreTaken, OthersAreRefused, NoOptionTwice, OptionsNeedRun};
+ghost use Rattle.stm_console.specs.Laws.{RunsAreAccepted, LastDashesChangeNothing, RunsHaveDefaults, OptionsAreInRange, StormsAreAccepted, StormsAreAsRuns, ChecksAreAccepted, NumbersAreTaken, OthersAreRefused, NoOptionTwice, OptionsNeedRun};
 
 /// A line that is neither blank nor a comment is answered by a text that ends with a line feed, whatever lines came before
 /// it. So `try` always has a verdict to tell, `finish` an effect, and an out-of-memory error is the text of no refusal.
@@ -36,12 +36,19 @@ pub fn verdicts_are_shown()
 }
 
 /// The program's name alone, and `run` after it, ask for a run with the default options, also with a last word `--`. No
-/// words give a run options that are out of their ranges.
+/// words give a run or a storm options that are out of their ranges.
 pub fn words_of_a_run_are_accepted()
     ensures accepted { RunsAreAccepted }
     ensures dashes { LastDashesChangeNothing }
     ensures defaults { RunsHaveDefaults }
     ensures range { OptionsAreInRange }
+{}
+
+/// `storm` after the program's name asks for a storm with the default options, and any words after it are taken as after `run`:
+/// so a storm's options are those of a run, in the same ranges, each at most once.
+pub fn words_of_a_storm_are_those_of_a_run()
+    ensures accepted { StormsAreAccepted }
+    ensures same { StormsAreAsRuns }
 {}
 
 /// `check` after the program's name asks for a check.

@@ -31,13 +31,14 @@ mod refusal;
 mod reply;
 mod session;
 mod showing;
-pub mod storm;
 mod storm_word;
+pub mod storming;
 mod streams;
+mod threading;
 mod trying;
 
 pub use checking::{Finding, check};
 pub use options::Options;
 pub use program::start;
-pub use storm::{StormFault, storm};
+pub use storming::{StormFault, storm};
 pub use streams::{RunFault, run};

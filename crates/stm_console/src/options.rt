@@ -1,4 +1,4 @@
-//! The options of a run.
+//! The options of a run and of a storm.
 
 ghost use Rattle.std.specs.Prelude.{◌≡◌};
 ghost use Rattle.stm_console.specs.Options.{default_options};
@@ -6,8 +6,8 @@ ghost use Rattle.stm_console.specs.Options.{default_options};
 use stm_desk::Desk;
 
 /// How a run works: how many threads evaluate blocks (1 to 64), how deep the branches of `orElse` are evaluated on threads
-/// of their own (0 to 8), and how many events the desk takes (at most 1,048,576). None but the last has a say in what is
-/// written.
+/// of their own (0 to 8), and how many events the desk takes (at most 1,048,576). None but the last has a say in what a run
+/// writes.
 #[derive(Clone, Copy, PartialEq, Eq, Debug)]
 pub struct Options {
     pub workers: u32,

@@ -6,21 +6,31 @@ ghost use Rattle.clap.specs.Values.{kind_of};
 ghost use Rattle.stm_terms.specs.Texts.{IsPrefixOf};
 ghost use Rattle.stm_console.specs.Checking.{IsFinding, BeginsFindingText, finding_text};
 ghost use Rattle.stm_console.specs.Console.{console_text};
-ghost use Rattle.stm_console.specs.ExitStatus.{finding_status, status_of, IsStatus};
-ghost use Rattle.stm_console.specs.CommandLine.{answers_of, asks_for_help, has_mistake, is_mistake, request_of, IfRun};
+ghost use Rattle.stm_console.specs.ExitStatus.{finding_status, status_of, storm_status, IsStatus};
+ghost use Rattle.stm_console.specs.CommandLine.{answers_of, asks_for_help, has_mistake, is_mistake, judges_history, request_of, IfRun, IfStorm};
 ghost use Rattle.stm_console.specs.Options.{AreRunOptions};
+ghost use Rattle.stm_console.specs.StormText.{IsStormText};
 
 use crate::checking::{Finding, check};
 use crate::command_line::{Request, read_words};
+use crate::storming::{StormFault, storm};
 use crate::streams::{RunFault, run};
 use clap::Error;
 use clap::error::ErrorKind;
 use std::alloc::Global;
 use std::convert::AsStr;
 use std::io::{Read, Write};
+use std::sync::Wait;
+use std::thread::Threads;
+
+/// The exit status where a line of a script is faulty.
+const FAULTY_SCRIPT: u8 = 1;
 
 /// The exit status where the words are refused.
 const REFUSED: u8 = 2;
+
+/// The exit status where the history that a storm left isn't legal.
+const NOT_LEGAL: u8 = 3;
 
 impl RunFault {
     /// The exit status of a run that ends so.
@@ -90,13 +100,31 @@ fn end_check<E: Write>(ended: Result<Finding, RunFault>, errors: &mut E) -> u8
     }
 }
 
+/// Tells how a storm ended, and answers the status. A replay that failed is told by the storm's text and the status alone.
+fn end_storm<E: Write>(ended: Result<(), StormFault>, errors: &mut E) -> u8
+    ensures done { OnOk ended (result ≡ 0) }
+    ensures fault { IfErr ended (λ e. result ≡ storm_status e) }
+{
+    match ended {
+        Ok(()) => 0,
+        Err(StormFault::Run(fault)) => tell_fault(fault, errors),
+        Err(StormFault::Script(line)) => {
+            let _ = writeln!(errors, "{}", StormFault::Script(line));
+            FAULTY_SCRIPT
+        }
+        Err(StormFault::Replay) => NOT_LEGAL,
+    }
+}
+
 /// The whole program: reads its words, the program's name first; where they ask for a run, runs from the reader to the
-/// writer; where they ask for a check, judges the history on the reader; reports a fault on `errors`, and answers the exit
-/// status.
+/// writer; where they ask for a storm, does what the script on the reader says; where they ask for a check, judges the history
+/// on the reader; reports a fault on `errors`, and answers the exit status.
 ///
-/// 0: the input was read to its end, or help was written. 1: a read or a write failed. 2: the words were refused. 3: the
-/// history isn't legal. 4: memory ran out. That `errors` fails changes nothing.
-pub fn start<'a, S: AsStr, R: Read, W: Write, E: Write>(
+/// 0: the input was read to its end, or help was written. 1: a read or a write failed, or a line of a script is faulty. 2: the
+/// words were refused. 3: the history isn't legal. 4: memory ran out, or a thread couldn't be started. That `errors` fails
+/// changes nothing.
+pub fn start<'a, T: Threads + Wait + Sync, S: AsStr, R: Read, W: Write, E: Write>(
+    rt: &T,
     alloc: Global,
     words: &'a [S],
     reader: &mut R,
@@ -104,11 +132,12 @@ pub fn start<'a, S: AsStr, R: Read, W: Write, E: Write>(
     errors: &mut E,
 ) -> u8
     ensures status { IsStatus result }
-    // Words of which there is nothing to tell are those of a run or a check, as the name alone, and aren't refused.
+    // Words of which there is nothing to tell ask for a run, as the name alone, a storm or a check, and aren't refused.
     ensures runs { answers_of (map S.text words.now) ≡ [] → result ≢ 2 }
-    // A run has options in their ranges.
-    ensures options { IfRun (request_of (map S.text words.now)) AreRunOptions }
-    // With status 0 the whole text of the input was written.
+    // A run and a storm have options in their ranges.
+    ensures options { IfRun (request_of (map S.text words.now)) AreRunOptions
+        × IfStorm (request_of (map S.text words.now)) AreRunOptions }
+    // With status 0 the whole text of a run's input was written.
     ensures answered { answers_of (map S.text words.now) ≡ [] → IfRun (request_of (map S.text words.now)) (λ o.
         result ≡ 0 → IfSome (R.remaining reader.old) (λ input.
         Appends (W.contents writer.old) (W.contents writer.new) (console_text o.max_events input))) }
@@ -117,6 +146,10 @@ pub fn start<'a, S: AsStr, R: Read, W: Write, E: Write>(
         result ≢ 0 → IfSome (R.remaining reader.old) (λ input.
         (front : List ℕ) × IsPrefixOf front (console_text o.max_events input)
         × Appends (W.contents writer.old) (W.contents writer.new) front)) }
+    // With status 0 a storm's script is right, and what was written is a text of it.
+    ensures stormed { answers_of (map S.text words.now) ≡ [] → IfStorm (request_of (map S.text words.now)) (λ o.
+        result ≡ 0 → IfSome (R.remaining reader.old) (λ input.
+        (text : List ℕ) × IsStormText input text × Appends (W.contents writer.old) (W.contents writer.new) text)) }
     // A check writes what it finds of the bytes, which the status says too.
     ensures found { answers_of (map S.text words.now) ≡ [] → request_of (map S.text words.now) ≡ Request.Check →
         (result ≡ 0) ⊎ (result ≡ 3) → IfSome (R.remaining reader.old) (λ bytes.
@@ -127,9 +160,9 @@ pub fn start<'a, S: AsStr, R: Read, W: Write, E: Write>(
         result ≢ 0 → IfSome (R.remaining reader.old) (λ bytes.
         (front : List ℕ) × BeginsFindingText bytes front
         × Appends (W.contents writer.old) (W.contents writer.new) front) }
-    // Nothing but a check judges histories.
+    // Nothing but a check and a storm judges histories.
     ensures judged { result ≡ 3 → (answers_of (map S.text words.now) ≡ [])
-        × (request_of (map S.text words.now) ≡ Request.Check) }
+        × IsTrue (judges_history (request_of (map S.text words.now))) }
     // Where words are refused, nothing is read and nothing written.
     ensures refused { result ≡ 2 → Keeps (R.remaining reader.old) (R.remaining reader.new)
         × Keeps (W.contents writer.old) (W.contents writer.new) }
@@ -146,7 +179,8 @@ pub fn start<'a, S: AsStr, R: Read, W: Write, E: Write>(
         Err(error) => return tell_words(&error, writer, errors),
     };
     match request {
-        Request::Run(options) => end_run(run(alloc, reader, writer, options), errors),
+        Request::Run(options) => end_run(run(rt, alloc, reader, writer, options), errors),
+        Request::Storm(options) => end_storm(storm(rt, alloc, reader, writer, options), errors),
         Request::Check => end_check(check(alloc, reader, writer), errors),
     }
 }

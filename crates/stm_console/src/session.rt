@@ -12,9 +12,11 @@ use crate::limit::EventLimit;
 use crate::output::write_text;
 use crate::reply::Reply;
 use crate::streams::RunFault;
+use crate::threading::Threading;
 use memchr::memchr;
 use std::alloc::Global;
 use std::io::Write;
+use std::thread::Threads;
 
 /// Two bytes more than the longest line: no carriage return can make so many bytes a line.
 const FULL: usize = 65_538;
@@ -29,16 +31,17 @@ fn drop_return(line: &mut Vec<u8>)
     }
 }
 
-/// The console, the bytes of a line that has begun, and room for an answer.
+/// The console, the bytes of a line that has begun, room for an answer, and how many threads evaluate.
 #[derive(Drop)]
 pub struct Session {
     console: Console,
     line: Vec<u8>,
     answer: String,
+    threading: Threading,
 }
 
 impl Session {
-    pub fn new(alloc: Global, limit: EventLimit) -> Session
+    pub fn new(alloc: Global, limit: EventLimit, threading: Threading) -> Session
         ensures console { result.console ≡ initial_console limit }
         ensures line { result.line.items ≡ [] }
     {
@@ -46,11 +49,17 @@ impl Session {
             console: Console::new(alloc, limit),
             line: Vec::new(alloc),
             answer: String::new(alloc),
+            threading,
         }
     }
 
     /// Answers the line that has begun, which becomes empty.
-    fn answer_line<W: Write>(&mut self, alloc: Global, writer: &mut W) -> Result<(), RunFault>
+    fn answer_line<T: Threads + Sync, W: Write>(
+        &mut self,
+        rt: &T,
+        alloc: Global,
+        writer: &mut W,
+    ) -> Result<(), RunFault>
         ensures done { OnOk result (Appends (W.contents writer.old) (W.contents writer.new)
             (answer_to self.old.console self.old.line.items)) }
         ensures state { OnOk result (self.new.console ≡ state_after self.old.console self.old.line.items) }
@@ -61,7 +70,7 @@ impl Session {
         ensures fault { IfErr result (λ e. e ≢ RunFault.Read) }
     {
         self.answer.clear();
-        let reply = match self.console.answer(alloc, &self.line, &mut self.answer) {
+        let reply = match self.console.answer(rt, alloc, self.threading, &self.line, &mut self.answer) {
             Ok(reply) => reply,
             Err(_) => return Err(RunFault::NoMemory),
         };
@@ -91,7 +100,12 @@ impl Session {
     }
 
     /// Takes a line feed, which ends the line that has begun.
-    fn take_line_feed<W: Write>(&mut self, alloc: Global, writer: &mut W) -> Result<(), RunFault>
+    fn take_line_feed<T: Threads + Sync, W: Write>(
+        &mut self,
+        rt: &T,
+        alloc: Global,
+        writer: &mut W,
+    ) -> Result<(), RunFault>
         ensures done { OnOk result ((written : List ℕ)
             × Continues self.old.console self.old.line.items self.new.console self.new.line.items (10 ∷ []) written
             × Appends (W.contents writer.old) (W.contents writer.new) written) }
@@ -101,13 +115,14 @@ impl Session {
         ensures fault { IfErr result (λ e. e ≢ RunFault.Read) }
     {
         drop_return(&mut self.line);
-        self.answer_line(alloc, writer)?;
+        self.answer_line(rt, alloc, writer)?;
         Ok(())
     }
 
     /// Takes the next bytes of the input.
-    pub fn take_bytes<W: Write>(
+    pub fn take_bytes<T: Threads + Sync, W: Write>(
         &mut self,
+        rt: &T,
         alloc: Global,
         bytes: &[u8],
         writer: &mut W,
@@ -123,7 +138,7 @@ impl Session {
         let mut rest = bytes;
         while let Some(at) = memchr(b'\n', rest) {
             self.take_part(&rest[..at])?;
-            self.take_line_feed(alloc, writer)?;
+            self.take_line_feed(rt, alloc, writer)?;
             rest = &rest[at + 1..];
         }
         self.take_part(rest)?;
@@ -131,7 +146,12 @@ impl Session {
     }
 
     /// Answers the last line, which no line feed ends, unless it is empty.
-    pub fn end<W: Write>(&mut self, alloc: Global, writer: &mut W) -> Result<(), RunFault>
+    pub fn end<T: Threads + Sync, W: Write>(
+        &mut self,
+        rt: &T,
+        alloc: Global,
+        writer: &mut W,
+    ) -> Result<(), RunFault>
         ensures done { OnOk result (Appends (W.contents writer.old) (W.contents writer.new)
             (rest_text self.old.console self.old.line.items [])) }
         ensures part { OnErr result ((front : List ℕ)
@@ -140,7 +160,7 @@ impl Session {
         ensures fault { IfErr result (λ e. e ≢ RunFault.Read) }
     {
         if !self.line.is_empty() {
-            self.answer_line(alloc, writer)?;
+            self.answer_line(rt, alloc, writer)?;
         }
         Ok(())
     }

@@ -12,8 +12,10 @@ use crate::limit::EventLimit;
 use crate::options::Options;
 use crate::output::flush;
 use crate::session::Session;
+use crate::threading::Threading;
 use std::alloc::Global;
 use std::io::{ErrorKind, Read, Write};
+use std::thread::Threads;
 use stm_history::WriteFault;
 use thiserror::Error;
 
@@ -44,7 +46,8 @@ impl From<WriteFault> for RunFault {
 
 /// A run in a session in which no line has begun. `run` owns the session, so that this function, with a loop and many ends,
 /// owns nothing.
-fn run_session<R: Read, W: Write>(
+fn run_session<T: Threads + Sync, R: Read, W: Write>(
+    rt: &T,
     alloc: Global,
     session: &mut Session,
     calls: &mut Calls<R>,
@@ -69,11 +72,11 @@ fn run_session<R: Read, W: Write>(
         match calls.read(&mut buffer) {
             Ok(count) => {
                 if count == 0 {
-                    session.end(alloc, writer)?;
+                    session.end(rt, alloc, writer)?;
                     flush(writer)?;
                     return Ok(());
                 }
-                session.take_bytes(alloc, &buffer[..count], writer)?;
+                session.take_bytes(rt, alloc, &buffer[..count], writer)?;
                 flush(writer)?;
             }
             Err(fault) if fault.kind() == ErrorKind::Interrupted => {}
@@ -89,7 +92,8 @@ fn run_session<R: Read, W: Write>(
 /// the reader a run ends as it does after a read that fails. The writer is flushed before each read and at the end, so it
 /// may keep a buffer. Of a line that is too long no more than its first 65,538 bytes are kept.
 #[tactic(auto, unfolding(crate::specs::Console::console_text, crate::specs::Console::whole_lines_text, crate::specs::Streaming::rest_text, crate::specs::Streaming::whole_rest_text))]
-pub fn run<R: Read, W: Write>(
+pub fn run<T: Threads + Sync, R: Read, W: Write>(
+    rt: &T,
     alloc: Global,
     reader: &mut R,
     writer: &mut W,
@@ -108,7 +112,11 @@ pub fn run<R: Read, W: Write>(
         (front : List ℕ) × IsPrefixOf front (console_text options.max_events input)
         × Appends (W.contents writer.old) (W.contents writer.new) front)) }
 {
-    let mut session = Session::new(alloc, EventLimit::new(options.max_events));
+    let mut session = Session::new(
+        alloc,
+        EventLimit::new(options.max_events),
+        Threading::new(options.workers, options.levels),
+    );
     let mut calls = Calls::new(reader);
-    run_session(alloc, &mut session, &mut calls, writer)
+    run_session(rt, alloc, &mut session, &mut calls, writer)
 }

@@ -38,5 +38,5 @@ fn main(rt: HostRuntime) -> ExitCode {
         return no_memory(&mut errors);
     };
     let mut reader = rt.stdin();
-    ExitCode::from(start(alloc, &words, &mut reader, &mut writer, &mut errors))
+    ExitCode::from(start(&rt, alloc, &words, &mut reader, &mut writer, &mut errors))
 }
