@@ -1,5 +1,5 @@
 -- The calls answer as the grammar allows.
-use Rattle.std.proofs.Common.{◌≡◌, ℕ, List, ap, Result, Ok}
+use Rattle.std.proofs.Common.{◌≡◌, ℕ, List, refl, ap, ◌∙◌, Result, Ok, Err}
 use Rattle.stm_terms.specs.ParsedAst.{RawAct}
 use Rattle.stm_parse.specs.declared.token.Lexeme.{Lexeme}
 use Rattle.stm_parse.specs.declared.token.Failure.{Failure}
@@ -27,19 +27,20 @@ pub stop_block : (text : List ℕ) (ls : List Lexeme) → LexesWithinLimits text
 unfolding parsed_block
 stop_block text ls f e h = stop_answer block_reader text ls f e h
 
-said_same : (text : List ℕ) (e : ParseFault) (r : Result DeclarationTree ParseFault) → FailsAs e r → FailsAs e (declaration_result text r)
-said_same text (fault.BadByte n) r q = ap (declaration_result text) q
-said_same text (fault.BadNumber n) r q = ap (declaration_result text) q
-said_same text (fault.NameTooLong n) r q = ap (declaration_result text) q
-said_same text (fault.Unexpected n) r q = ap (declaration_result text) q
-said_same text fault.EndOfText r q = ap (declaration_result text) q
-said_same text fault.TooDeep r q = ap (declaration_result text) q
-said_same text fault.TooLarge r q = ap (declaration_result text) q
-said_same text fault.NoMemory r q = tt
+-- a change of the tree that keeps each fault keeps how a call fails
+pub fails_through : {A B : Type 0} (f : Result A ParseFault → Result B ParseFault) → ((e : ParseFault) → f (Err e) ≡ Err e) → (e : ParseFault) (r : Result A ParseFault) → FailsAs e r → FailsAs e (f r)
+fails_through f k (fault.BadByte n) r q = ap f q ∙ k (fault.BadByte n)
+fails_through f k (fault.BadNumber n) r q = ap f q ∙ k (fault.BadNumber n)
+fails_through f k (fault.NameTooLong n) r q = ap f q ∙ k (fault.NameTooLong n)
+fails_through f k (fault.Unexpected n) r q = ap f q ∙ k (fault.Unexpected n)
+fails_through f k fault.EndOfText r q = ap f q ∙ k fault.EndOfText
+fails_through f k fault.TooDeep r q = ap f q ∙ k fault.TooDeep
+fails_through f k fault.TooLarge r q = ap f q ∙ k fault.TooLarge
+fails_through f k fault.NoMemory r q = tt
 
 pub early_declaration : (text : List ℕ) (e : ParseFault) → IsEarly text e → FailsAs e (parsed_declaration text)
 unfolding parsed_declaration declared_tree
-early_declaration text e h = said_same text e _ (early_answer declaration_reader text e h)
+early_declaration text e h = fails_through (declaration_result text) (λ e. refl) e _ (early_answer declaration_reader text e h)
 
 pub ok_declaration : (text : List ℕ) (ls : List Lexeme) → LexesWithinLimits text ls → (t : DeclarationTree) → whole declaration_reader ls ≡ Ok t → parsed_declaration text ≡ Ok (declaration_in text t)
 unfolding parsed_declaration declared_tree
@@ -47,7 +48,7 @@ ok_declaration text ls f t e = ap (declaration_result text) (ok_answer declarati
 
 pub stop_declaration : (text : List ℕ) (ls : List Lexeme) → LexesWithinLimits text ls → (e : Failure) → StopsAs e (whole declaration_reader ls) → FailsAs (fault_of_failure ls e) (parsed_declaration text)
 unfolding parsed_declaration declared_tree
-stop_declaration text ls f e h = said_same text (fault_of_failure ls e) _ (stop_answer declaration_reader text ls f e h)
+stop_declaration text ls f e h = fails_through (declaration_result text) (λ e. refl) (fault_of_failure ls e) _ (stop_answer declaration_reader text ls f e h)
 
 pub blocks_are_right : BlockAnswersAreRight
 unfolding parsed_block

@@ -4,6 +4,7 @@ pub mod AnswersCorrect
 pub mod BodyReaders
 pub mod CallsExact
 pub mod DepthLevels
+pub mod Expectations
 pub mod ExpressionReaders
 pub mod FaultReported
 pub mod GrammarLaws

@@ -55,7 +55,7 @@ pub names_of : (text : List ℕ) (p : ℕ) (ts : List Token) → SpansRise p (le
 names_of text p [] h = tt
 names_of text p (t ∷ ts) h = let l = h.1 in (λ s. ((omega arith, h.2), sym_named t.kind (slice_range text t.start t.end) s), names_of text t.end ts h.3)
 
-named : (text : List ℕ) (us : List At) → NamesOf text (erase us) → Named text us
+pub named : (text : List ℕ) (us : List At) → NamesOf text (erase us) → Named text us
 named text [] h = tt
 named text (u ∷ us) h = (h.0, named text us h.1)
 
@@ -165,18 +165,18 @@ kept_block text ls t h n l =
     let m = k.2 in
     (k.0, k.1, omega arith)
 
+pub kept_init : (text : List ℕ) (us : List At) (e : RawTerm) → IsInit us e → Named text us → NamesWithin (length text) e
+kept_init text us e (is_number_init p) k = tt
+kept_init text us e (is_negative_init o m p c) k = tt
+kept_init text us e (is_true_init p) k = tt
+kept_init text us e (is_false_init p) k = tt
+kept_init text us e (is_unit_init o c) k = tt
+kept_init text us e (is_name_init p) k = (k.0 p).0
+
 pub kept_declaration : (text : List ℕ) (ls : List Lexeme) (t : DeclarationTree) → IsText IsDeclaration ls t → NamesOf text ls → IsSpan (length text) t.from t.to × IsNameOf text t.from t.to × NamesWithin (length text) t.init
 kept_declaration text ls t h n = of h.0 t h.1 (named text h.0 (subst (NamesOf text) h.3 n))
   where
-    of_init : (us : List At) (e : RawTerm) → IsInit us e → Named text us → NamesWithin (length text) e
-    of_init us e (is_number_init p) k = tt
-    of_init us e (is_negative_init o m p c) k = tt
-    of_init us e (is_true_init p) k = tt
-    of_init us e (is_false_init p) k = tt
-    of_init us e (is_unit_init o c) k = tt
-    of_init us e (is_name_init p) k = (k.0 p).0
-
     of : (us : List At) (t : DeclarationTree) → IsDeclaration us t → Named text us → IsSpan (length text) t.from t.to × IsNameOf text t.from t.to × NamesWithin (length text) t.init
     of us t (is_declaration z {us = vs} {vs = ws} p q g c i) k =
         let m = k.0 p in
-        (m.0, m.1, of_init ws _ i (named_back text vs (at 0 z ∷ ws) k.1.1).1)
+        (m.0, m.1, kept_init text ws _ i (named_back text vs (at 0 z ∷ ws) k.1.1).1)

@@ -236,7 +236,7 @@ inner = record {
   no_minus = λ us e h rest. absurd h;
 }
 
-good_init : (n : ℕ) → Good n init IsInit Any
+pub good_init : (n : ℕ) → Good n init IsInit Any
 good_init n = good_same n init (Operand 0 Nothing) IsInit Any to_init from_init (good_operand 0 Nothing (Some refuse) (omega arith) inner n)
 
 -- declarations

@@ -10,6 +10,7 @@ use Rattle.stm_parse.specs.declared.token.TokenKind.TheVariants as tok
 use Rattle.stm_parse.specs.declared.token.Lexeme.{Lexeme}
 use Rattle.stm_parse.specs.declared.fault.ParseFault.{ParseFault}
 use Rattle.stm_parse.specs.declared.fault.ParseFault.TheVariants.{NoMemory}
+use Rattle.stm_parse.specs.Expectations.{ExpectationTree, IsExpectation}
 use Rattle.stm_parse.specs.Grammar.{IsBlock, DeclarationTree, IsDeclaration}
 use Rattle.stm_parse.specs.Faults.{Language, IsText}
 use Rattle.stm_parse.specs.ParseResult.{IsTextOf, IsReported}
@@ -19,6 +20,9 @@ BlocksAreUnambiguous = (ls : List Lexeme) (t u : RawAct) → IsText IsBlock ls t
 
 abbrev pub DeclarationsAreUnambiguous : Type 0
 DeclarationsAreUnambiguous = (ls : List Lexeme) (t u : DeclarationTree) → IsText IsDeclaration ls t → IsText IsDeclaration ls u → t ≡ u
+
+abbrev pub ExpectationsAreUnambiguous : Type 0
+ExpectationsAreUnambiguous = (ls : List Lexeme) (t u : ExpectationTree) → IsText IsExpectation ls t → IsText IsExpectation ls u → t ≡ u
 
 -- two faults that are reported of a text, neither of them an out-of-memory error, are one
 abbrev pub OneFault : {A : Type 0} → Language A → Type 0
@@ -34,11 +38,17 @@ EachBlockFaultIsOne = OneFault IsBlock
 abbrev pub EachDeclarationFaultIsOne : Type 0
 EachDeclarationFaultIsOne = OneFault IsDeclaration
 
+abbrev pub EachExpectationFaultIsOne : Type 0
+EachExpectationFaultIsOne = OneFault IsExpectation
+
 abbrev pub BlockOrFault : Type 0
 BlockOrFault = TextOrFault IsBlock
 
 abbrev pub DeclarationOrFault : Type 0
 DeclarationOrFault = TextOrFault IsDeclaration
+
+abbrev pub ExpectationOrFault : Type 0
+ExpectationOrFault = TextOrFault IsExpectation
 
 -- an operator with its sign
 abbrev pub Signed : Type 0

@@ -1,6 +1,8 @@
 pub mod Bytes
 pub mod Declarations
 pub mod Descent
+pub mod ExpectationFunction
+pub mod Expectations
 pub mod Faults
 pub mod Grammar
 pub mod Laws

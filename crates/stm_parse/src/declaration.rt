@@ -34,7 +34,7 @@ pub struct Declaration {
     pub init: Init,
 }
 
-fn init_of(alloc: Global, text: &str, raw: RawExpr) -> Result<Init, NoMemory>
+pub(crate) fn init_of(alloc: Global, text: &str, raw: RawExpr) -> Result<Init, NoMemory>
     requires ascii { IsAscii text.now }
     requires spans { NamesWithin (length text.now) (raw_term_of raw) }
     ensures { IfOk result (λ i. parsed_initial i ≡ init_of text.now (raw_term_of raw)) }

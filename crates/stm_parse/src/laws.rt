@@ -1,6 +1,8 @@
 //! What holds of the grammar. Each function is a law: its contract says it, and its body does nothing.
 
-ghost use Rattle.stm_parse.specs.Laws.{BlocksAreUnambiguous, DeclarationsAreUnambiguous, EachBlockFaultIsOne, EachDeclarationFaultIsOne, BlockOrFault, DeclarationOrFault};
+ghost use Rattle.stm_parse.specs.ExpectationFunction.{ExpectationAnswersAreRight};
+ghost use Rattle.stm_parse.specs.Laws.{BlocksAreUnambiguous, DeclarationsAreUnambiguous, ExpectationsAreUnambiguous};
+ghost use Rattle.stm_parse.specs.Laws.{EachBlockFaultIsOne, EachDeclarationFaultIsOne, EachExpectationFaultIsOne, BlockOrFault, DeclarationOrFault, ExpectationOrFault};
 ghost use Rattle.stm_parse.specs.Laws.{ProductsGroupToTheLeft, SumsGroupToTheLeft, ComparisonsAreNotChained, ConjunctionsGroupToTheRight, DisjunctionsGroupToTheRight, ProductsBindTightest, SumsBindTighter, ComparisonsBindTighter, ConjunctionsBindTighter};
 ghost use Rattle.stm_parse.specs.ParseFunction.{BlockAnswersAreRight, DeclarationAnswersAreRight};
 ghost use Rattle.stm_parse.specs.TypeTexts.{TypesAreReadBack};
@@ -9,18 +11,21 @@ ghost use Rattle.stm_parse.specs.TypeTexts.{TypesAreReadBack};
 pub fn texts_are_unambiguous()
     ensures block { BlocksAreUnambiguous }
     ensures declaration { DeclarationsAreUnambiguous }
+    ensures expectation { ExpectationsAreUnambiguous }
 {}
 
 /// Of each text one fault is reported, an out-of-memory error apart.
 pub fn each_fault_is_one()
     ensures block { EachBlockFaultIsOne }
     ensures declaration { EachDeclarationFaultIsOne }
+    ensures expectation { EachExpectationFaultIsOne }
 {}
 
 /// Of a text that has a tree no fault is reported, an out-of-memory error apart.
 pub fn tree_or_fault()
     ensures block { BlockOrFault }
     ensures declaration { DeclarationOrFault }
+    ensures expectation { ExpectationOrFault }
 {}
 
 /// `a * b * c` is `(a * b) * c`, and `a - b + c` is `(a - b) + c`, for each two of `+` and `-`.
@@ -53,6 +58,7 @@ pub fn each_tier_binds_tighter_than_the_next()
 pub fn answers_are_right()
     ensures blocks { BlockAnswersAreRight }
     ensures declarations { DeclarationAnswersAreRight }
+    ensures expectations { ExpectationAnswersAreRight }
 {}
 
 /// A declaration that is written with the text of a type, of at most 8 `TVar`, has that type.

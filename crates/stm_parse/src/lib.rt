@@ -1,21 +1,22 @@
-//! Texts: their tokens, the grammar, and the trees that blocks and declarations write.
+//! Texts: their tokens, the grammar, and the trees that blocks, declarations and expectations write.
 //!
 //! What a reader must believe stands in `specs/`: `Bytes` (letters, blanks, the number that digits write) and
 //! `MaximalMunch` (which tokens a text has, or which fault first, as a relation), `Lexing` (reserved words, names and
 //! numbers), `Grammar` (the productions, as a relation between tokens and trees), `Faults` (which token is the first at
-//! fault), `ParseResult` (a text of the grammar, and which fault is reported of any other text), `Declarations` and `ParsedBlock` (what
-//! callers see).
+//! fault), `ParseResult` (a text of the grammar, and which fault is reported of any other text), `Declarations` and
+//! `ParsedBlock` (what callers see), `Expectations` (the production of an expectation, and what callers see of it).
 //!
 //! Contracts also cite two functions that say this in another way, and laws say that they are right. `tokens_of` in
 //! `Tokenizer` cuts a text: it is in the relation of `MaximalMunch`, and nothing else is (`laws_of_tokens`). `parsed_block` in
 //! `ParseFunction` is the one answer for a text, by way of the descent in `Descent`: it is right by the grammar
-//! (`laws::answers_are_right`).
+//! (`laws::answers_are_right`). So is `parsed_expectation` in `ExpectationFunction`.
 #![tactic(auto)]
 
 pub mod action;
 pub mod block;
 pub mod cursor;
 pub mod declaration;
+pub mod expectation;
 pub mod expression;
 pub mod fault;
 pub mod laws;
@@ -28,6 +29,7 @@ pub mod types;
 
 pub use block::parse_block;
 pub use declaration::{Declaration, Init, parse_declare};
+pub use expectation::{Expectation, parse_expectation};
 pub use fault::ParseFault;
 pub use raw::Raw;
 pub use tokenizer::{Token, TokenClass, tokens};

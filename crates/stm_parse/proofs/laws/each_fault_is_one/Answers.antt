@@ -1,5 +1,8 @@
 use Rattle.stm_parse.specs.Grammar.{IsBlock, IsDeclaration}
 use Rattle.stm_parse.specs.Descent.{block_reader, declaration_reader}
+use Rattle.stm_parse.specs.ExpectationFunction.{expectation_reader}
+use Rattle.stm_parse.specs.Expectations.{IsExpectation}
+use Rattle.stm_parse.proofs.Expectations.{good_expectation}
 use Rattle.stm_parse.proofs.OneFault.{one_fault}
 use Rattle.stm_parse.proofs.TypeReaders.{good_declaration}
 use Rattle.stm_parse.proofs.WholeTextRead.{good_block}
@@ -10,3 +13,6 @@ returns-clause-block c = one_fault block_reader IsBlock good_block
 
 pub returns-clause-declaration : goal.returns-clause-declaration
 returns-clause-declaration c = one_fault declaration_reader IsDeclaration good_declaration
+
+pub returns-clause-expectation : goal.returns-clause-expectation
+returns-clause-expectation c = one_fault expectation_reader IsExpectation good_expectation

@@ -1,0 +1,58 @@
+use Rattle.std.proofs.Common.{◌≡◌, sym, ap, ◌∙◌, subst, rules, Ok}
+use Rattle.stm_terms.specs.Names.{is_name_text}
+use Rattle.stm_parse.specs.Expectations.{IsExpectation, expectation_tree_of, expectation_in, expectation_of}
+use Rattle.stm_parse.specs.ParseResult.{IsReported}
+use Rattle.stm_parse.specs.ExpectationFunction.{expectation_reader, parsed_expectation}
+use Rattle.stm_parse.specs.UnlessNoMemory.{FailsAs}
+use Rattle.stm_parse.proofs.Expectations.{good_expectation, kept_expectation, early_expectation, ok_expectation, stop_expectation}
+use Rattle.stm_parse.proofs.FaultReported.{text_of, ok_text, only_this, stop_told, stop_none}
+use Rattle.stm_parse.proofs.expectation.parse_expectation.Goals as goal
+
+pub owned-requires-clause-name : goal.owned-requires-clause-name
+owned-requires-clause-name c =
+    let e = rw c.deref.ensures.value at c.in-Ok.ensures in
+    (kept_expectation c.args.text.now c.in_ok-toks.toks.items (expectation_tree_of c.in-Ok.raw) (text_of expectation_reader IsExpectation good_expectation c.args.text.now c.in_ok-toks.toks.items c.in_ok-toks.ensures.right (expectation_tree_of c.in-Ok.raw) e) c.in_ok-toks.ensures.names).0
+
+pub owned-requires-clause-spans : goal.owned-requires-clause-spans
+owned-requires-clause-spans c =
+    let e = rw c.deref.ensures.value at c.in-Ok.ensures in
+    (kept_expectation c.args.text.now c.in_ok-toks.toks.items (expectation_tree_of c.in-Ok.raw) (text_of expectation_reader IsExpectation good_expectation c.args.text.now c.in_ok-toks.toks.items c.in_ok-toks.ensures.right (expectation_tree_of c.in-Ok.raw) e) c.in_ok-toks.ensures.names).2
+
+pub returns-in-Ok-clause-right : goal.returns-in-Ok-clause-right
+returns-in-Ok-clause-right c =
+    let e = rw c.deref.ensures.value at c.in-Ok.ensures in
+    (expectation_tree_of c.in-Ok.raw, ok_text expectation_reader IsExpectation good_expectation c.args.text.now c.in_ok-toks.toks.items c.in_ok-toks.ensures.right (expectation_tree_of c.in-Ok.raw) e, c.in_ok-owned-in-Ok.ensures)
+
+pub returns-in-Ok-clause-only : goal.returns-in-Ok-clause-only
+returns-in-Ok-clause-only c =
+    let e = rw c.deref.ensures.value at c.in-Ok.ensures in
+    λ t h. c.in_ok-owned-in-Ok.ensures ∙ ap (expectation_in c.args.text.now) (only_this expectation_reader IsExpectation good_expectation c.args.text.now c.in_ok-toks.toks.items c.in_ok-toks.ensures.right t (expectation_tree_of c.in-Ok.raw) h e)
+
+pub returns-in-Ok-clause-name : goal.returns-in-Ok-clause-name
+returns-in-Ok-clause-name c =
+    let e = rw c.deref.ensures.value at c.in-Ok.ensures in
+    let k = kept_expectation c.args.text.now c.in_ok-toks.toks.items (expectation_tree_of c.in-Ok.raw) (text_of expectation_reader IsExpectation good_expectation c.args.text.now c.in_ok-toks.toks.items c.in_ok-toks.ensures.right (expectation_tree_of c.in-Ok.raw) e) c.in_ok-toks.ensures.names in
+    ap (λ s. is_name_text s.name) c.in_ok-owned-in-Ok.ensures ∙ k.1
+
+pub returns-clause-right : goal.returns-clause-right
+returns-clause-right c =
+    let e = rw c.deref.ensures.value at c.in-Err.ensures in
+    subst (IsReported IsExpectation c.args.text.now) (sym (rw c.deref-in-Err.ensures.value at c.fault_of_failure.ensures)) (stop_told expectation_reader IsExpectation good_expectation c.args.text.now c.in_ok-toks.toks.items c.in_ok-toks.ensures.right c.in-Err.stop e)
+
+pub returns-clause-only : goal.returns-clause-only
+returns-clause-only c =
+    let e = rw c.deref.ensures.value at c.in-Err.ensures in
+    λ t h. rw (rw c.deref-in-Err.ensures.value at c.fault_of_failure.ensures) (stop_none expectation_reader IsExpectation good_expectation c.args.text.now c.in_ok-toks.toks.items c.in_ok-toks.ensures.right (λ d. expectation_of d ≡ expectation_in c.args.text.now t) t h c.in-Err.stop e)
+
+pub returns-in-Ok-clause-answer : goal.returns-in-Ok-clause-answer
+returns-in-Ok-clause-answer c =
+    let e = rw c.deref.ensures.value at c.in-Ok.ensures in
+    ok_expectation c.args.text.now c.in_ok-toks.toks.items c.in_ok-toks.ensures.right (expectation_tree_of c.in-Ok.raw) e ∙ ap Ok (sym c.in_ok-owned-in-Ok.ensures)
+
+pub returns-clause-answer : goal.returns-clause-answer
+returns-clause-answer c =
+    let e = rw c.deref.ensures.value at c.in-Err.ensures in
+    subst (λ x. FailsAs x (parsed_expectation c.args.text.now)) (sym (rw c.deref-in-Err.ensures.value at c.fault_of_failure.ensures)) (stop_expectation c.args.text.now c.in_ok-toks.toks.items c.in_ok-toks.ensures.right c.in-Err.stop e)
+
+pub returns-in_err-toks-clause-answer : goal.returns-in_err-toks-clause-answer
+returns-in_err-toks-clause-answer c = search (early_expectation c.args.text.now _ c.in_err-toks.ensures.right, rules)
