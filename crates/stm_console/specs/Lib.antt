@@ -21,4 +21,6 @@ pub mod StormText
 -- The words inside.
 pub mod Abstraction
 pub mod Kept
+pub mod ScriptReading
+pub mod StormEnd
 pub mod Streaming

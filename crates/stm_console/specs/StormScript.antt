@@ -4,7 +4,8 @@ use Rattle.std.specs.Str.{bytes_eq}
 use Rattle.stm_terms.specs.declared.values.Value.{Value}
 use Rattle.stm_check.specs.TypedBlock.{Block}
 use Rattle.stm_parse.specs.declared.fault.ParseFault.{ParseFault}
-use Rattle.stm_parse.specs.Expectations.{ParsedExpectation, parsed_expectation}
+use Rattle.stm_parse.specs.ExpectationFunction.{parsed_expectation}
+use Rattle.stm_parse.specs.Expectations.{ParsedExpectation}
 use Rattle.stm_store.specs.Tables.{Declared, declared_cells, number_of, is_of}
 use Rattle.stm_pool.specs.declared.section.Task.{Task}
 use Rattle.stm_pool.specs.declared.section.Task.TheVariants as task
@@ -50,9 +51,9 @@ nothing_read = record { table = []; ended = []; begun = None }
 
 -- ---- the lines; none where a line is faulty
 -- `tvar`: a variable more, before the first section
-abbrev pub declared_more : List Declared → Result Declared Refusal → Option Reading
-declared_more table (Ok d) = Some (record { table = table ++ d ∷ []; ended = []; begun = None })
-declared_more table (Err e) = None
+abbrev pub declared_more : Reading → Result Declared Refusal → Option Reading
+declared_more r (Ok d) = Some (record r { table = r.table ++ d ∷ [] })
+declared_more r (Err e) = None
 
 -- the sections so far
 abbrev pub sections_so_far : List (List Task) → Option Begun → List (List Task)
@@ -94,7 +95,7 @@ expected_at table i (Some d) (Err e) = None
 expected_at table i None v = None
 
 abbrev pub expected_of : List Declared → ParsedExpectation → Option ℕ → Option Task
-expected_of table e (Some i) = expected_at table i (slice_get table i) (initial table e.init)
+expected_of table e (Some i) = expected_at table i (slice_get table i) (initial table e.value)
 expected_of table e None = None
 
 -- what is expected of a declared variable; a name stands for the reference to its variable
@@ -117,7 +118,7 @@ after_task r b Expect argument = with_expectation r b (expectation_in r.table (p
 
 -- a line before the first section
 abbrev pub before_sections : Reading → StormWord → List ℕ → Option Reading
-before_sections r Tvar argument = declared_more r.table (variable_of r.table argument)
+before_sections r Tvar argument = declared_more r (variable_of r.table argument)
 before_sections r Client argument = after_client r argument
 before_sections r Submit argument = None
 before_sections r Finish argument = None

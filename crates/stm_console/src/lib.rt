@@ -10,6 +10,7 @@
 #![tactic(auto)]
 
 mod arguments;
+mod begun_section;
 mod block;
 mod calls;
 mod checking;
@@ -29,15 +30,18 @@ mod output;
 mod program;
 mod refusal;
 mod reply;
+mod script_line;
+mod script_so_far;
 mod session;
 mod showing;
-pub mod storm;
+mod storm_text;
 mod storm_word;
+pub mod storming;
 mod streams;
 mod trying;
 
 pub use checking::{Finding, check};
 pub use options::Options;
 pub use program::start;
-pub use storm::{StormFault, storm};
+pub use storming::{StormFault, storm};
 pub use streams::{RunFault, run};
