@@ -5,6 +5,7 @@ ghost use Rattle.std.specs.Result.{result_ok};
 ghost use Rattle.stm_terms.specs.Typing.{same_ty, var_ty};
 ghost use Rattle.stm_parse.specs.Declarations.{parsed_initial};
 ghost use Rattle.stm_parse.specs.ExpectationFunction.{parsed_expectation};
+ghost use Rattle.stm_store.specs.Cells.{kinds_of};
 ghost use Rattle.stm_store.specs.Tables.{declared_cells, is_of as is_value_of};
 ghost use Rattle.stm_console.specs.Arguments.{number_argument};
 ghost use Rattle.stm_console.specs.Blocks.{compiled_block};
@@ -81,6 +82,17 @@ fn is_plain(base: Base, kind: Ty) -> bool
     kind.base == base && kind.refs == 0
 }
 
+/// The type of a variable, if it is there.
+fn kind_at(table: &Table, id: u32) -> Option<Ty>
+    ensures { result ≡ kinds_of (declared_cells table.now) id }
+{
+    if (id as usize) < table.len() {
+        Some(table.kind(id))
+    } else {
+        None
+    }
+}
+
 /// Whether a value is of a type.
 fn is_of(table: &Table, value: Value, kind: Ty) -> bool
     ensures { result ≡ is_value_of (declared_cells table.now) value kind }
@@ -89,7 +101,10 @@ fn is_of(table: &Table, value: Value, kind: Ty) -> bool
         Value::Int(_) => is_plain(Base::Int, kind),
         Value::Bool(_) => is_plain(Base::Bool, kind),
         Value::Unit => is_plain(Base::Unit, kind),
-        Value::Var(Ref::Old(id)) => (id as usize) < table.len() && refers_to(table.kind(id), kind),
+        Value::Var(Ref::Old(id)) => match kind_at(table, id) {
+            Some(inner) => refers_to(inner, kind),
+            None => false,
+        },
         Value::Var(Ref::New(_)) => false,
     }
 }

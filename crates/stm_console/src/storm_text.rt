@@ -19,7 +19,9 @@ fn write_client_line(client: usize, counts: Counts, out: &mut String) -> Result<
         refused,
         missed,
     } = counts;
-    write!(out, "client {client} submitted {submitted} finished {finished} cancelled {cancelled} refused {refused} missed {missed}\n")
+    write!(out, "client {client} submitted {submitted} finished {finished}")?;
+    write!(out, " cancelled {cancelled} refused {refused} missed {missed}\n")?;
+    Ok(())
 }
 
 /// Appends the lines of the clients.
