@@ -10,7 +10,7 @@ use Rattle.stm_console.specs.declared.console.Console.{Console}
 use Rattle.stm_console.specs.Console.{answer_to, state_after, answers_to, answer_to_class, state_after_class}
 
 -- a line that is too long is judged so, whatever its bytes
-judged-too_long : (line : List ℕ) → 65536 < length line → line_class line ≡ TooLong
+pub judged-too_long : (line : List ℕ) → 65536 < length line → line_class line ≡ TooLong
 unfolding line_class
 judged-too_long line h = rw (lt-ltb 65536 (length line) h) refl
 
@@ -28,7 +28,7 @@ length-drop_return line = elim (ends_with_byte 13 line) as (λ t. length line �
 abbrev pub Long : List ℕ → Type 0
 Long line = 65538 ≤ length line
 
-drop_return-long : (line : List ℕ) → Long line → 65536 < length (drop_return line)
+pub drop_return-long : (line : List ℕ) → Long line → 65536 < length (drop_return line)
 drop_return-long line h = omega (arith, length-drop_return line)
 
 last_lines-long : (s : Console) (a b : List ℕ) → Long a → Long b → answers_to s (last_lines a) ≡ answers_to s (last_lines b)
@@ -36,7 +36,7 @@ last_lines-long s [] b h k = absurd (omega arith)
 last_lines-long s (x ∷ a) [] h k = absurd (omega arith)
 last_lines-long s (x ∷ a) (y ∷ b) h k = answers_to-too_long s (x ∷ a) (y ∷ b) [] (omega arith) (omega arith)
 
-more-long : (a : List ℕ) (x : ℕ) → Long a → Long (a ++ x ∷ [])
+pub more-long : (a : List ℕ) (x : ℕ) → Long a → Long (a ++ x ∷ [])
 more-long a x h = omega (arith, length-append a (x ∷ []))
 
 pub rest-long : (s : Console) (more a b : List ℕ) → Long a → Long b → answers_to s (lines_from a more) ≡ answers_to s (lines_from b more)

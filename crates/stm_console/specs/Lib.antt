@@ -21,4 +21,7 @@ pub mod StormText
 -- The words inside.
 pub mod Abstraction
 pub mod Kept
+pub mod LineReading
+pub mod ScriptReading
+pub mod StormEnd
 pub mod Streaming

@@ -14,7 +14,7 @@ use stm_terms::NoMemory;
 use stm_terms::values::{Ref, Value};
 
 /// A first value: a literal, or a reference to the variable of a name.
-fn initial(table: &Table, init: &Init) -> Result<Value, Refusal>
+pub fn initial(table: &Table, init: &Init) -> Result<Value, Refusal>
     ensures { AnswersAs (λ v. v) result (initial_of table.now (parsed_initial init.now)) }
 {
     match init {

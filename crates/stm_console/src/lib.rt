@@ -7,12 +7,18 @@
 //! `declaring` has `tvar`; `trying` has `try`, `looks` and `submit`; `delivering` has `take`, `deliver`, `handback` and `eval`,
 //! by the jobs of `jobs`; `finishing` has `finish`, `cancel` and `settle`; `showing` has `show`, `reads` and `store`. `laws` says
 //! what holds of the text that is written and of the program's words.
+//!
+//! `storm` (`storming`) reads a script of many clients whole (`script_reader`, by the lines of `line_reader`), has `stm_pool` run
+//! it by threads, and writes what came of it (`storm_text`). `script_so_far` is a script under way, `script_line` what a line
+//! of it says.
 #![tactic(auto)]
 
 mod arguments;
+mod begun_section;
 mod block;
 mod calls;
 mod checking;
+mod chunk;
 mod command;
 mod command_line;
 mod console;
@@ -23,14 +29,19 @@ mod jobs;
 mod judging;
 pub mod laws;
 mod limit;
+mod line_reader;
 mod opened;
 pub mod options;
 mod output;
 mod program;
 mod refusal;
 mod reply;
+mod script_line;
+mod script_reader;
+mod script_so_far;
 mod session;
 mod showing;
+mod storm_text;
 mod storm_word;
 pub mod storming;
 mod streams;

@@ -1,0 +1,135 @@
+//! Lines pulled from a reader.
+
+ghost use Rattle.std.specs.Prelude.{◌≡◌, ◌≢◌, ◌++◌, ◌∷◌, [], ◌<◌, ◌≤◌, ◌-◌, ℕ, List, false, length, drop, take, min, IfOk, IfErr, IfNone, IfSome, MatchBool, OnOk};
+ghost use Rattle.std.specs.Io.KnownBytes.{Consumes, IsAtEnd, prepend_known};
+ghost use Rattle.stm_console.specs.LineClass.{line_class};
+ghost use Rattle.stm_console.specs.LineReading.{classes_from, IsNextLine, IsNoLine};
+ghost use Rattle.stm_console.specs.Lines.{drop_return as returnless};
+
+use crate::calls::Calls;
+use crate::chunk::Chunk;
+use crate::streams::RunFault;
+use memchr::memchr;
+use std::alloc::Global;
+use std::io::{ErrorKind, Read};
+
+/// Two bytes more than the longest line: no carriage return can make so many bytes a line.
+const FULL: usize = 65_538;
+
+/// Drops one carriage return at the end.
+fn drop_return(line: &mut Vec<u8>)
+    ensures { line.new.items ≡ returnless line.old.items }
+{
+    let len = line.len();
+    if len > 0 && line[len - 1] == b'\r' {
+        line.truncate(len - 1);
+    }
+}
+
+/// Keeps bytes of the line that has begun, of which no more than `FULL` are kept.
+fn keep(line: &mut Vec<u8>, bytes: &[u8]) -> Result<(), RunFault>
+    ensures kept { OnOk result (line.new.items ≡ line.old.items
+        ++ take (min (length bytes.now) (65538 - length line.old.items)) bytes.now) }
+    ensures fault { IfErr result (λ e. e ≡ RunFault.NoMemory) }
+{
+    let room = FULL.saturating_sub(line.len());
+    let kept = bytes.len().min(room);
+    match line.extend_from_slice(&bytes[..kept]) {
+        Ok(()) => Ok(()),
+        Err(_) => Err(RunFault::NoMemory),
+    }
+}
+
+/// Takes bytes to the line that has begun: all of them, or, where there is a line feed, those up to it, which ends the line. Then it
+/// answers how many they are.
+fn take_part(line: &mut Vec<u8>, bytes: &[u8]) -> Result<Option<usize>, RunFault>
+    ensures all { IfOk result (λ taken. IfNone taken ((more : List ℕ) →
+        classes_from line.old.items (bytes.now ++ more) ≡ classes_from line.new.items more)) }
+    ensures ended { IfOk result (λ taken. IfSome taken (λ n. (more : List ℕ) →
+        classes_from line.old.items (bytes.now ++ more)
+        ≡ line_class line.new.items ∷ classes_from [] (drop n bytes.now ++ more))) }
+    ensures within { IfOk result (λ taken. IfSome taken (λ n. n ≤ length bytes.now)) }
+    ensures fault { IfErr result (λ e. e ≡ RunFault.NoMemory) }
+{
+    match memchr(b'\n', bytes) {
+        Some(at) => {
+            keep(line, &bytes[..at])?;
+            drop_return(line);
+            Ok(Some(at + 1))
+        }
+        None => {
+            keep(line, bytes)?;
+            Ok(None)
+        }
+    }
+}
+
+/// Reads the next bytes in place of those that were there; answers whether there are any. An interrupted read is tried again.
+fn fill<R: Read>(chunk: &mut Chunk, calls: &mut Calls<R>) -> Result<bool, RunFault>
+    ensures fewer { OnOk result (calls.new.left < calls.old.left) }
+    ensures bytes { OnOk result (Consumes (R.remaining calls.old.reader.now) (R.remaining calls.new.reader.now) chunk.new) }
+    ensures end { IfOk result (λ some. some ≡ false → (chunk.new ≡ []) × IsAtEnd (R.remaining calls.new.reader.now)) }
+    ensures fault { IfErr result (λ e. e ≡ RunFault.Read) }
+{
+    'reads: while calls.may_read() {
+        match chunk.read(calls) {
+            Ok(count) => return Ok(count > 0),
+            Err(fault) if fault.kind() == ErrorKind::Interrupted => {}
+            Err(_) => return Err(RunFault::Read),
+        }
+    }
+    Err(RunFault::Read)
+}
+
+/// Reads lines. The reader is called 4,294,967,295 times at most; an interrupted read is tried again.
+#[derive(Drop)]
+pub struct LineReader<'a, R> {
+    calls: Calls<'a, R>,
+    chunk: Chunk,
+    line: Vec<u8>,
+}
+
+impl<'a, R: Read> LineReader<'a, R> {
+    pub fn new(alloc: Global, reader: &'a mut R) -> LineReader<'a, R>
+        ensures same_reader { result.calls.reader.ghost_name ≡ reader.entry.ghost_name }
+        ensures reader { result.calls.reader.now ≡ reader.old }
+        ensures chunk { result.chunk ≡ [] }
+    {
+        LineReader {
+            calls: Calls::new(reader),
+            chunk: Chunk::new(),
+            line: Vec::new(alloc),
+        }
+    }
+
+    /// The line that was read last.
+    pub fn line(&self) -> &[u8]
+        ensures { result.now ≡ self.now.line.items }
+    {
+        self.line.as_slice()
+    }
+
+    /// Reads the next line; answers whether there is one. One carriage return before the line feed is dropped. A last line
+    /// without line feed counts unless it is empty. Of a line that is too long no more than its first 65,538 bytes are kept.
+    pub fn next_line(&mut self) -> Result<bool, RunFault>
+        ensures line { IfOk result (λ some. MatchBool some
+            (IsNextLine (prepend_known self.old.chunk (R.remaining self.old.calls.reader.now))
+            (prepend_known self.new.chunk (R.remaining self.new.calls.reader.now)) self.new.line.items)
+            (IsNoLine (prepend_known self.old.chunk (R.remaining self.old.calls.reader.now)))) }
+        ensures fault { IfErr result (λ e. e ≢ RunFault.Write) }
+    {
+        self.line.clear();
+        'parts: loop {
+            match take_part(&mut self.line, self.chunk.bytes())? {
+                Some(count) => {
+                    self.chunk.advance(count);
+                    return Ok(true);
+                }
+                None => {}
+            }
+            if !fill(&mut self.chunk, &mut self.calls)? {
+                return Ok(!self.line().is_empty());
+            }
+        }
+    }
+}
