@@ -97,6 +97,7 @@ def judged(program, library, cases):
     """Names with what is said of them, each as soon as it is known."""
     devices = Devices(program, library)
     small = [case for case in cases if case.status in (0, 3) and 0 < len(case.text) <= SMALL and case.goes_by_lines()]
+    small = [case for case in small if not case.events_are_open]
     for case in small:
         yield f"{case.name}, byte by byte", "", devices.judge_slow(case)
         tried, said = devices.judge_reader_of_file(case) if case.has_one_answer() else devices.judge_reader(case)

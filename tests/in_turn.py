@@ -107,7 +107,7 @@ def judge_ends(case):
 
 def judged(program, cases):
     for case in cases:
-        if case.steps and case.status == 0:
+        if case.steps and case.status == 0 and not case.events_are_open:
             yield f"{case.name}, line by line", judge(program, case)
         if case.is_small_run() and case.goes_by_lines():
             yield f"{case.name}, where each answer ends", judge_ends(case)

@@ -3,6 +3,7 @@
 import ast
 import os
 import pathlib
+import re
 import resource
 import subprocess
 import tempfile
@@ -25,10 +26,15 @@ class Case:
         self.errors = errors
         self.status = status
         self.only_again = False  # a refused call is made again, and never left at that
+        self.events_are_open = False  # how many events a storm has depends on which thread came first
 
     def has_one_answer(self):
         """Whether it is the input's end that is answered, and not each line."""
-        return self.words[:1] == ["check"]
+        return self.words[:1] in (["check"], ["storm"])
+
+    def comparable(self, text):
+        """A text without what is left open of it."""
+        return re.sub(rb"(?m)^events \d+$", b"events ..", text) if self.events_are_open else text
 
     def is_small_run(self):
         """Whether commands are read and answered, and few enough of them that they can be run a few times more."""
@@ -102,6 +108,7 @@ def parsed(name, lines):
         int(said["status"][0]) if said["status"] else 0,
     )
     case.only_again = "again" in said["mode"]
+    case.events_are_open = "any events" in said["mode"]
     return case
 
 
@@ -129,15 +136,15 @@ def run(program, case, environment=None):
 
 
 def taken_well(case, taken):
-    """Whether so many bytes of the input may have been read. A checker that finds a fault may leave what follows unread."""
-    if case.status == 3:
+    """Whether so many bytes of the input may have been read. Behind a fault that is found in it the rest may stay unread."""
+    if case.status == 3 or (case.status == 1 and case.has_one_answer()):
         return True
     return taken == (len(case.text) if case.status == 0 else 0)
 
 
 def shown(case, answer, width=160):
     """Where the first answer that differs stands."""
-    want, got = case.printed.decode(ENCODING).split("\n"), answer.decode(ENCODING).split("\n")
+    want, got = (case.comparable(text).decode(ENCODING).split("\n") for text in (case.printed, answer))
     at = next((n for n, (w, g) in enumerate(zip(want, got)) if w != g), min(len(want), len(got)))
     told = lambda lines: lines[at][:width] if at < len(lines) else "(nothing)"
     return f"line {at + 1} of the answers is\n  {told(got)}\nnot\n  {told(want)}"
@@ -154,7 +161,7 @@ def judged(program, case):
         said.append(f"status {done.returncode}, not {case.status}")
     if done.stderr != case.errors:
         said.append(f"standard error {done.stderr!r}, not {case.errors!r}")
-    if done.stdout != case.printed:
+    if case.comparable(done.stdout) != case.comparable(case.printed):
         said.append(shown(case, done.stdout))
     if not taken_well(case, done.taken):
         said.append(f"{done.taken} bytes of the input were read")

@@ -11,45 +11,53 @@ ARGUMENTS = {  # of each command of the console
     "history": "",
 }
 COMMANDS = [rf"  {word} ?{argument}( .*)?" for word, argument in ARGUMENTS.items()]
-HELP = [r"Usage: stmdesk \[COMMAND\]", r"Commands:", r"  run +.*", r"  check +.*", r"  help +.*", r"  -h, --help +.*"]
+HELP = [r"Usage: stmdesk \[COMMAND\]", r"Commands:", *(rf"  {word} +.*" for word in ("run", "storm", "check", "help"))]
+HELP += [r"  -h, --help +.*"]
 EXAMPLE_IN_HELP = rf" {{4,}}(({'|'.join(ARGUMENTS)})( .*)?)"
 REFUSED_ALONE = ["NotOut", "NotEvaluated", "Stale", "Blocks", "NoTicket", "NoJob", "Already"]  # what an example may be
 HELP_OF_RUN = [r"Usage: stmdesk run .*", r" +--workers .*", r" +--levels .*", r" +--max-events .*", *COMMANDS]
+HELP_OF_STORM = [r"Usage: stmdesk storm .*", r" +--workers .*", r" +--levels .*", r" +--max-events .*"]
+HELP_OF_STORM += [rf"  {word}( .*)?" for word in ("tvar NAME", "client", "submit BLOCK", "finish K", "cancel K", "expect NAME VALUE")]
 HELP_OF_CHECK = [r"Usage: stmdesk check.*", r".*histor.*"]
 FORMS_OF_HELP = [["--help"], ["-h"], ["help"]]
 FORMS_OF_HELP_OF_RUN = [["run", "--help"], ["run", "-h"], ["help", "run"]]
+FORMS_OF_HELP_OF_STORM = [["storm", "--help"], ["storm", "-h"], ["help", "storm"]]
 FORMS_OF_HELP_OF_CHECK = [["check", "--help"], ["check", "-h"], ["help", "check"]]
 RUN = [[], ["run"], ["run", "--"], ["--"]]
+RUNS = ["run", "storm"]  # the commands that take the options
 OPTIONS = {"--workers": (1, 64, 2), "--levels": (0, 8, 0), "--max-events": (0, 1048576, 1048576)}  # least, most, default
 NO_NUMBERS = ["", "x", "1x", "1.0", "-1", "0x1", "4294967296", "18446744073709551616", "99999999999999999999", b"\xff"]
 REFUSED = [
-    *([word] for word in ("frob", "", "--workers", "-x", "RUN", "run ", "Check", "storm", "1", b"\xff")),
-    *(["run", *rest] for rest in (["frob"], ["run"], ["check"], ["1"], [""], ["-w", "2"], ["--worker", "2"])),
-    *(["run", *rest] for rest in (["--WORKERS", "2"], ["--", "--workers", "2"], ["-workers", "2"])),
-    *(["run", "--workers", *rest] for rest in ([], ["--levels", "1"], ["2", "2"], ["2", "--", "3"])),
-    *(["check", *rest] for rest in (["frob"], ["check"], ["run"], ["a_file"], [""])),
+    *([word] for word in ("frob", "", "--workers", "-x", "RUN", "run ", "Check", "Storm", "1", b"\xff")),
+    *([word, *rest] for word in RUNS for rest in (["frob"], ["run"], ["check"], ["storm"], ["1"], [""], ["-w", "2"])),
+    *([word, *rest] for word in RUNS for rest in (["--worker", "2"], ["--WORKERS", "2"], ["-workers", "2"])),
+    *([word, *rest] for word in RUNS for rest in (["--", "--workers", "2"],)),
+    *([word, "--workers", *rest] for word in RUNS for rest in ([], ["--levels", "1"], ["2", "2"], ["2", "--", "3"])),
+    *(["check", *rest] for rest in (["frob"], ["check"], ["run"], ["storm"], ["a_file"], [""])),
     *([option, str(default)] for option, (_, _, default) in OPTIONS.items()),
     *([f"{option}={default}"] for option, (_, _, default) in OPTIONS.items()),
-    *([option, str(default), "run"] for option, (_, _, default) in OPTIONS.items()),
+    *([option, str(default), word] for word in RUNS for option, (_, _, default) in OPTIONS.items()),
     *(["check", option, str(default)] for option, (_, _, default) in OPTIONS.items()),
-    *(["run", option, str(default), option, str(default)] for option, (_, _, default) in OPTIONS.items()),
-    *(["run", f"{option}={default}", option, str(default)] for option, (_, _, default) in OPTIONS.items()),
-    *(["run", option, str(least - 1)] for option, (least, _, _) in OPTIONS.items()),
-    *(["run", option, str(most + 1)] for option, (_, most, _) in OPTIONS.items()),
-    *(["run", f"{option}={most + 1}"] for option, (_, most, _) in OPTIONS.items()),
-    *(["run", option, word] for option in OPTIONS for word in NO_NUMBERS),
+    *([word, option, str(said), option, str(said)] for word in RUNS for option, (_, _, said) in OPTIONS.items()),
+    *([word, f"{option}={said}", option, str(said)] for word in RUNS for option, (_, _, said) in OPTIONS.items()),
+    *([word, option, str(least - 1)] for word in RUNS for option, (least, _, _) in OPTIONS.items()),
+    *([word, option, str(most + 1)] for word in RUNS for option, (_, most, _) in OPTIONS.items()),
+    *([word, f"{option}={most + 1}"] for word in RUNS for option, (_, most, _) in OPTIONS.items()),
+    *([word, option, number] for word in RUNS for option in OPTIONS for number in NO_NUMBERS),
 ]
-ACCEPTED = [
-    *(["run", option, str(number)] for option, ends in OPTIONS.items() for number in ends),
-    *(["run", f"{option}={number}"] for option, ends in OPTIONS.items() for number in ends),
-    *(["run", "--levels", str(number)] for number in range(1, 8)),
-    ["run", "--workers", "64", "--levels", "8", "--max-events", "0"],
-    ["run", "--max-events=1048576", "--levels", "3", "--workers=1"],
-    ["run", "--workers", "3", "--"],
+ACCEPTED = [  # behind a command that takes the options
+    *([option, str(number)] for option, ends in OPTIONS.items() for number in ends),
+    *([f"{option}={number}"] for option, ends in OPTIONS.items() for number in ends),
+    *(["--levels", str(number)] for number in range(1, 8)),
+    ["--workers", "64", "--levels", "8", "--max-events", "0"],
+    ["--max-events=1048576", "--levels", "3", "--workers=1"],
+    ["--workers", "3", "--"],
 ]
 VARIED = [["--workers", "1", "--levels", "8"], ["--workers", "64", "--levels", "0"]]
 INPUT = b"tvar x : Int = 1\nstore\n"
 ANSWERS = b"tvar #0 x\n#0 x : Int = 1 count 0\ncells 1\n"
+SCRIPT = b"tvar x : Int = 1\nclient\nexpect x 1\n"  # of a storm without events, so that it takes any number of them
+COUNTS = b"client 0 submitted 0 finished 0 cancelled 0 refused 0 missed 0\nevents 0\nreplay ok\n"
 
 
 def of(words):
@@ -107,35 +115,38 @@ def judge_refused(program, words):
     return None
 
 
-def judge_run(program, words):
+def judge_run(program, words, text, printed):
     case = of(words)
-    case.printed = ANSWERS
+    case.text, case.printed = text, printed
     return transcript.judged(program, case)
 
 
 def judge_varied(program, case, options):
     """Neither workers nor levels change an answer."""
     varied = transcript.Case(case.name, (case.words or ["run"]) + options, printed=case.printed)
-    varied.text = case.text
+    varied.text, varied.events_are_open = case.text, case.events_are_open
     return transcript.judged(program, varied)
 
 
 def judged(program, cases):
-    for words in RUN + ACCEPTED:
-        yield f"words {words}", judge_run(program, words)
+    for words in RUN + [["run", *options] for options in ACCEPTED]:
+        yield f"words {words}", judge_run(program, words, INPUT, ANSWERS)
+    for words in [["storm", *options] for options in [[], ["--"], *ACCEPTED]]:
+        yield f"words {words}", judge_run(program, words, SCRIPT, COUNTS)
     for words in REFUSED:
         yield f"words {words}", judge_refused(program, words)
     for forms, patterns in (
         (FORMS_OF_HELP, HELP),
         (FORMS_OF_HELP_OF_RUN, HELP_OF_RUN),
+        (FORMS_OF_HELP_OF_STORM, HELP_OF_STORM),
         (FORMS_OF_HELP_OF_CHECK, HELP_OF_CHECK),
     ):
         for words in forms:
             yield f"words {words}", judge_help(program, words, patterns)
     yield f"words {FORMS_OF_HELP_OF_RUN[0]}, the examples", judge_examples(program, FORMS_OF_HELP_OF_RUN[0])
-    for forms in (FORMS_OF_HELP, FORMS_OF_HELP_OF_RUN, FORMS_OF_HELP_OF_CHECK):
+    for forms in (FORMS_OF_HELP, FORMS_OF_HELP_OF_RUN, FORMS_OF_HELP_OF_STORM, FORMS_OF_HELP_OF_CHECK):
         yield f"words {forms[0]}, what it says to run", judge_sessions(program, forms[0])
     for case in cases:
-        if case.is_small_run():
+        if case.is_small_run() or (case.words == ["storm"] and case.status == 0):
             for options in VARIED:
                 yield f"{case.name} with {' '.join(options)}", judge_varied(program, case, options)
