@@ -149,8 +149,9 @@ fn run_or_else<R: Threads + Sync>(
     levels: u32,
 ) -> Result<Outcome, NoMemory>
     requires branches { act_of action.now ≡ or_else (act_of left.now) (act_of right.now) }
-    requires run { CanRun (cell_value frozen.now) (act_of action.now) locals.old.items log.old }
-    ensures { IfOk result (λ e. RunsTo (cell_value frozen.now) (act_of action.now)
+    requires run { CanRun (cell_value frozen.now) (or_else (act_of left.now) (act_of right.now))
+        locals.old.items log.old }
+    ensures { IfOk result (λ e. RunsTo (cell_value frozen.now) (or_else (act_of left.now) (act_of right.now))
         locals.old.items log.old e locals.new.items log.new) }
 {
     match fork(alloc, locals, log) {
