@@ -1,5 +1,5 @@
 -- What an `orElse` does where both branches were run and the left one retried.
-use Rattle.std.proofs.Common.{◌≡◌, ℕ, ◌≤◌, ◌+◌, List, ◌∷◌, ◌++◌, length, sym, ap, ◌∙◌, subst, ◌⊎◌, None, arith}
+use Rattle.std.proofs.Common.{◌≡◌, ℕ, ◌≤◌, ◌+◌, List, ◌++◌, length, sym, ap, ◌∙◌, subst, ◌⊎◌, None, arith}
 use Rattle.std.specs.Prelude.{Result, Ok, Err, OnOk, IfOk}
 use Rattle.stm_terms.specs.declared.values.Value.{Value}
 use Rattle.stm_terms.specs.Ast.{Act, or_else}
@@ -60,10 +60,10 @@ both_ran S a b locals mine theirs h left right new e are p q is =
     let below : new.below ≡ right.below = ap (λ (l : Logged). l.below) is in
     let js = looks S b locals h.top in
     let one : joined_reads left.reads right.reads ≡ joined_reads (insert_reads S (looks S a locals h.top) h.reads) (insert_reads S js h.reads) =
-      ap (λ (rs : Pairs). joined_reads rs right.reads) p.reads ∙ ap (λ (rs : Pairs). joined_reads (insert_reads S (looks S a locals h.top) h.reads) rs) q.reads in
+    ap (λ (rs : Pairs). joined_reads rs right.reads) p.reads ∙ ap (λ (rs : Pairs). joined_reads (insert_reads S (looks S a locals h.top) h.reads) rs) q.reads in
     let all : new.reads ≡ insert_reads S (looks S (or_else a b) locals h.top) h.reads =
-      joins ∙ one ∙ joined_in_turn S (looks S a locals h.top) js h.reads are.part are.rising
-      ∙ ap (λ (is : List ℕ). insert_reads S is h.reads) (sym (looks_right (run S a locals h.top) (looks S a locals h.top) js p.outcome)) in
+    joins ∙ one ∙ joined_in_turn S (looks S a locals h.top) js h.reads are.part are.rising
+    ∙ ap (λ (is : List ℕ). insert_reads S is h.reads) (sym (looks_right (run S a locals h.top) (looks S a locals h.top) js p.outcome)) in
     record {
       outcome = ends_right (run S a locals h.top) (run S b locals h.top) p.outcome ∙ q.outcome ∙ ap (outcome e) (sym top);
       reads = all;

@@ -49,11 +49,11 @@ same_lists [] (y ∷ ys) p q h = absurd (no_head y.0 y.1 (find y.0 ys) (h y.0))
 same_lists (x ∷ xs) [] p q h = absurd (no_head x.0 x.1 (find x.0 xs) (sym (h x.0)))
 same_lists (x ∷ xs) (y ∷ ys) p q h =
     let at : x.0 ≡ y.0 = one_head x.0 y.0
-      (λ l. below_step x.0 y.0 x.1 y.1 (find x.0 xs) (find x.0 ys) l (none_above y.0 x.0 ys q.0 (omega (arith, l))) (h x.0))
-      (λ l. below_step y.0 x.0 y.1 x.1 (find y.0 ys) (find y.0 xs) l (none_above x.0 y.0 xs p.0 (omega (arith, l))) (sym (h y.0))) in
+    (λ l. below_step x.0 y.0 x.1 y.1 (find x.0 xs) (find x.0 ys) l (none_above y.0 x.0 ys q.0 (omega (arith, l))) (h x.0))
+    (λ l. below_step y.0 x.0 y.1 x.1 (find y.0 ys) (find y.0 xs) l (none_above x.0 y.0 xs p.0 (omega (arith, l))) (sym (h y.0))) in
     let value : x.1 ≡ y.1 = values_step x.0 y.0 x.1 y.1 (find x.0 xs) (find x.0 ys) at (h x.0) in
     let rest : xs ≡ ys = same_lists xs ys p.1 q.1 (λ i. tails_step x.0 y.0 i x.1 y.1 (find i xs) (find i ys) at
-      (λ l. none_above x.0 i xs p.0 l ∙ sym (none_above y.0 i ys q.0 (omega (arith, at, l)))) (h i)) in
+    (λ l. none_above x.0 i xs p.0 l ∙ sym (none_above y.0 i ys q.0 (omega (arith, at, l)))) (h i)) in
     ap (λ (e : ℕ × Value). e ∷ xs) (pair_is x y at value) ∙ ap (λ (es : Pairs). y ∷ es) rest
 
 -- ---- what a joined list has
@@ -99,14 +99,14 @@ module _ (S : Variables) where
         let mine = insert_reads S is r in let theirs = insert_reads S js r in
         let late : (find j theirs ≡ None) ⊎ (find j theirs ≡ S j) = part_all S js r parts j in
         let found : find j mine ≡ S j → first_of (find j mine) (find j theirs) ≡ find j (insert_reads S js mine) =
-          (λ h. ap (λ (o : Option Value). first_of o (find j theirs)) h ∙ either (find j theirs) (S j) late ∙ sym (keeps S js mine j h)) in
+        (λ h. ap (λ (o : Option Value). first_of o (find j theirs)) h ∙ either (find j theirs) (S j) late ∙ sym (keeps S js mine j h)) in
         let lost : find j mine ≡ None → find j r ≡ None → first_of (find j mine) (find j theirs) ≡ find j (insert_reads S js mine) =
-          (λ h k. ap (λ (o : Option Value). first_of o (find j theirs)) h ∙ alike js j r mine (k ∙ sym h)) in
+        (λ h k. ap (λ (o : Option Value). first_of o (find j theirs)) h ∙ alike js j r mine (k ∙ sym h)) in
         ⊎_elim (λ k. ⊎_elim (λ h. lost h k) found (part_all S is r parts j)) (λ h. found (keeps S is r j h)) (parts j)
 
     pub joined_in_turn : Rising r → joined_reads (insert_reads S is r) (insert_reads S js r) ≡ insert_reads S (is ++ js) r
     joined_in_turn p =
         same_lists (joined_reads (insert_reads S is r) (insert_reads S js r)) (insert_reads S js (insert_reads S is r))
-          (joined_rises (insert_reads S is r) (insert_reads S js r) (inserted_reads_rise S js r p)) (inserted_reads_rise S js (insert_reads S is r) (inserted_reads_rise S is r p))
-          (λ j. find_joined (insert_reads S is r) (insert_reads S js r) j (inserted_reads_rise S is r p) ∙ same_at j)
+        (joined_rises (insert_reads S is r) (insert_reads S js r) (inserted_reads_rise S js r p)) (inserted_reads_rise S js (insert_reads S is r) (inserted_reads_rise S is r p))
+        (λ j. find_joined (insert_reads S is r) (insert_reads S js r) j (inserted_reads_rise S is r p) ∙ same_at j)
         ∙ sym (noted-append S is js r)

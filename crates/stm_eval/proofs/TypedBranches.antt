@@ -57,9 +57,9 @@ module _ (kinds : TypeEnv) (under : Variables) where
       let t = with_bound_some s.0 _ r s.2 in (
         all_defined a locals types h s.0 w l s.1,
         after_run h s.0 _ _ (run_fine kinds under a locals types h s.0 w l s.1)
-        (λ v k q m x.
-        let e : type_of kinds k v ≡ Some t.0 = subst (λ y. HasResult kinds under k y v) t.1 q in
-        all_defined b (locals ++ v ∷ []) (types ++ t.0 ∷ []) k r m (one_more kinds k locals types v t.0 (locals_kept kinds h k x locals types l) e) t.2),
+            (λ v k q m x.
+            let e : type_of kinds k v ≡ Some t.0 = subst (λ y. HasResult kinds under k y v) t.1 q in
+            all_defined b (locals ++ v ∷ []) (types ++ t.0 ∷ []) k r m (one_more kinds k locals types v t.0 (locals_kept kinds h k x locals types l) e) t.2),
       )
   all_defined (let_in e b) locals types h r w l p =
       let t = with_type_some _ _ r p in
@@ -69,7 +69,7 @@ module _ (kinds : TypeEnv) (under : Variables) where
       let s = with_result_some _ _ r p in (
         all_defined a locals types h s.0 w l s.1,
         after_run h s.0 _ _ (run_fine kinds under a locals types h s.0 w l s.1)
-        (λ v k q m x. all_defined b locals types k r m (locals_kept kinds h k x locals types l) s.2),
+            (λ v k q m x. all_defined b locals types k r m (locals_kept kinds h k x locals types l) s.2),
       )
 
 -- so a well typed block can be run on a new log, over a well typed store that covers it
@@ -77,7 +77,7 @@ pub block_can_run : (cells : List (Ty × Value)) (uses : List (ℕ × Ty)) (a : 
     → CanRun (cell_value cells) a [] (record { top = no_changes; below = []; reads = [] })
 block_can_run cells uses a r s c p few = record {
   defined = all_defined (kinds_of cells) (cell_value cells) a [] [] no_changes r (store_fine cells s) tt
-    (action_more (kinds_in uses) (kinds_of cells) (covered cells uses c) a [] r p);
+      (action_more (kinds_in uses) (kinds_of cells) (covered cells uses c) a [] r p);
   room = omega (arith, few);
   reads = record { rising = tt; part = λ i. inl refl };
 }

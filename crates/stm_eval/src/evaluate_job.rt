@@ -5,7 +5,7 @@ ghost use Rattle.stm_terms.specs.ReadSet.{reads_of};
 ghost use Rattle.stm_terms.specs.Verdict.{verdict};
 ghost use Rattle.stm_terms.specs.Changes.{Variables, cell_value};
 ghost use Rattle.stm_store.specs.Cells.{Covers};
-ghost use Rattle.stm_eval.specs.Messages.{Agrees, Holds};
+ghost use Rattle.stm_eval.specs.Messages.{Agrees, Holds, MessageIsValid};
 ghost use Rattle.stm_eval.specs.EvaluatedFields.{message_ticket, message_block, message_reads, message_verdict};
 
 use crate::block::try_block;
@@ -27,20 +27,27 @@ pub fn evaluate(alloc: Global, job: Job, frozen: &Frozen) -> Result<Evaluated, (
     ensures refused { IfErr result (λ e. e.0 ≡ job) }
 {
     match try_block(alloc, frozen, job.block.block()) {
-        Ok((verdict, reads)) => {
-            let Job { ticket, block } = job;
-            Ok(Evaluated {
-                ticket,
-                block,
-                reads,
-                verdict,
-            })
-        }
+        Ok((verdict, reads)) => Ok(Evaluated::of(job, reads, verdict)),
         Err(refused) => Err((job, refused)),
     }
 }
 
 impl Evaluated {
+    /// The message of a job whose block was evaluated.
+    pub(crate) fn of(job: Job, reads: Reads, told: Verdict) -> Evaluated
+        requires { MessageIsValid job.block.tree reads told }
+        ensures job { (message_ticket result ≡ job.ticket) × (message_block result ≡ job.block) }
+        ensures told { (message_reads result ≡ reads) × (message_verdict result ≡ told) }
+    {
+        let Job { ticket, block } = job;
+        Evaluated {
+            ticket,
+            block,
+            reads,
+            verdict: told,
+        }
+    }
+
     /// The ticket that was evaluated.
     pub fn ticket(&self) -> u32
         ensures { result ≡ message_ticket self.now }

@@ -88,11 +88,16 @@ fn step<'a, R: Threads + Sync>(
 ) -> Result<Step<'a>, NoMemory>
     requires levels { 0 < levels }
     requires run { CanRun (cell_value frozen.now) (act_of action.now) locals.old.items log.old }
-    ensures outcome { IfOk result (λ s. run (cell_value frozen.now) (act_of action.now) locals.old.items log.old.top
+    ensures outcome { IfOk result (λ s.
+        run (cell_value frozen.now) (act_of action.now) locals.old.items log.old.top
         ≡ outcome_left (cell_value frozen.now) s locals.new.items log.new.top) }
-    ensures reads { IfOk result (λ s. insert_reads (cell_value frozen.now) (looks (cell_value frozen.now) (act_of action.now) locals.old.items log.old.top) log.old.reads
-        ≡ insert_reads (cell_value frozen.now) (looks_left (cell_value frozen.now) s locals.new.items log.new.top) log.new.reads) }
-    ensures made { IfOk result (λ s. length log.new.top.news + makes_left s ≤ length log.old.top.news + makes (act_of action.now)) }
+    ensures reads { IfOk result (λ s.
+        insert_reads (cell_value frozen.now)
+        (looks (cell_value frozen.now) (act_of action.now) locals.old.items log.old.top) log.old.reads
+        ≡ insert_reads (cell_value frozen.now)
+        (looks_left (cell_value frozen.now) s locals.new.items log.new.top) log.new.reads) }
+    ensures made { IfOk result (λ s.
+        length log.new.top.news + makes_left s ≤ length log.old.top.news + makes (act_of action.now)) }
     ensures below { OnOk result (log.new.below ≡ log.old.below) }
     ensures locals { OnOk result (take (length locals.old.items) locals.new.items ≡ locals.old.items) }
     ensures smaller { IfOk result (λ s. size_left s < size (act_of action.now)) }
@@ -135,7 +140,8 @@ fn alone(
     evaluate(frozen, action, locals, log)
 }
 
-/// `orElse`. Where the branches can't be given locals and logs of their own, one runs after the other.
+/// `orElse`, with `levels` more at once within each branch. Where the branches can't be given locals and logs of their own,
+/// one runs after the other.
 #[cycle(walk)]
 fn run_or_else<R: Threads + Sync>(
     rt: &R,
@@ -149,13 +155,25 @@ fn run_or_else<R: Threads + Sync>(
     levels: u32,
 ) -> Result<Outcome, NoMemory>
     requires branches { act_of action.now ≡ or_else (act_of left.now) (act_of right.now) }
-    requires run { CanRun (cell_value frozen.now) (act_of action.now) locals.old.items log.old }
-    ensures { IfOk result (λ e. RunsTo (cell_value frozen.now) (act_of action.now)
-        locals.old.items log.old e locals.new.items log.new) }
+    requires run { CanRun (cell_value frozen.now) (or_else (act_of left.now) (act_of right.now))
+        locals.old.items log.old }
+    ensures { IfOk result (λ e. RunsTo (cell_value frozen.now)
+        (or_else (act_of left.now) (act_of right.now)) locals.old.items log.old e locals.new.items log.new) }
 {
     match fork(alloc, locals, log) {
         Ok((left_state, right_state)) => {
-            run_both(rt, alloc, frozen, left, right, left_state, right_state, locals, log, levels)
+            run_both(
+                rt,
+                alloc,
+                frozen,
+                left,
+                right,
+                left_state,
+                right_state,
+                locals,
+                log,
+                levels,
+            )
         }
         Err(_) => alone(frozen, action, locals, log),
     }
@@ -168,7 +186,8 @@ fn fork(
     locals: &mut Vec<Value>,
     log: &mut Log,
 ) -> Result<(BranchState, BranchState), NoMemory>
-    ensures left { IfOk result (λ s. (s.0.locals.items ≡ locals.old.items) × (s.0.log ≡ entered log.old)) }
+    ensures left { IfOk result (λ s.
+        (s.0.locals.items ≡ locals.old.items) × (s.0.log ≡ entered log.old)) }
     ensures right { IfOk result (λ s. (s.1.locals.items ≡ locals.old.items) × (s.1.log ≡ log.old)) }
     ensures err { OnErr result ((locals.new.items ≡ locals.old.items) × (log.new ≡ log.old)) }
 {
@@ -208,25 +227,35 @@ fn run_both<R: Threads + Sync>(
     requires log { left_state.log ≡ entered right_state.log }
     requires run { CanRun (cell_value frozen.now) (or_else (act_of left.now) (act_of right.now))
         right_state.locals.items right_state.log }
-    ensures { IfOk result (λ e. RunsTo (cell_value frozen.now) (or_else (act_of left.now) (act_of right.now))
+    ensures { IfOk result (λ e. RunsTo (cell_value frozen.now)
+        (or_else (act_of left.now) (act_of right.now))
         right_state.locals.items right_state.log e locals.new.items log.new) }
 {
     let ((left_end, mut left_state), (right_end, mut right_state)) = join(
         rt,
         move || -> (Result<Outcome, NoMemory>, BranchState)
             requires sync { IsSync R.row }
-            requires run { CanRun (cell_value frozen.now) (act_of left.now) left_state.locals.items left_state.log }
+            requires run { CanRun (cell_value frozen.now) (act_of left.now)
+                left_state.locals.items left_state.log }
             ensures { IfOk result.0 (λ e. RunsTo (cell_value frozen.entry.now) (act_of left.entry.now)
                 left_state.locals.items left_state.log e result.1.locals.items result.1.log) }
         { run_branch(rt, alloc, frozen, left, left_state, levels) },
         move || -> (Result<Outcome, NoMemory>, BranchState)
             requires sync { IsSync R.row }
-            requires run { CanRun (cell_value frozen.now) (act_of right.now) right_state.locals.items right_state.log }
+            requires run { CanRun (cell_value frozen.now) (act_of right.now)
+                right_state.locals.items right_state.log }
             ensures { IfOk result.0 (λ e. RunsTo (cell_value frozen.entry.now) (act_of right.entry.now)
                 right_state.locals.items right_state.log e result.1.locals.items result.1.log) }
         { run_branch(rt, alloc, frozen, right, right_state, levels) },
     );
-    choose(left_end, &mut left_state, right_end, &mut right_state, locals, log)
+    choose(
+        left_end,
+        &mut left_state,
+        right_end,
+        &mut right_state,
+        locals,
+        log,
+    )
 }
 
 /// A branch that has run, and how it ended.
@@ -244,7 +273,15 @@ fn run_branch<R: Threads + Sync>(
         state.locals.items state.log e result.1.locals.items result.1.log) }
 {
     let mut state = state;
-    let end = walk(rt, alloc, frozen, action, &mut state.locals, &mut state.log, levels);
+    let end = walk(
+        rt,
+        alloc,
+        frozen,
+        action,
+        &mut state.locals,
+        &mut state.log,
+        levels,
+    );
     (end, state)
 }
 
@@ -259,6 +296,7 @@ fn choose(
     log: &mut Log,
 ) -> Result<Outcome, NoMemory>
     requires { OnOk left_end (left_state.old.log.below ≢ []) }
+    // over any variables, branches, locals and log that the two were run on
     ensures { (S : Variables) (a b : Act) (vs : List AnyValue) (h : Logged) → IsReadSetOf S h.reads
         → IfOk left_end (λ e. RunsTo S a vs (entered h) e left_state.old.locals.items left_state.old.log)
         → IfOk right_end (λ e. RunsTo S b vs h e right_state.old.locals.items right_state.old.log)
@@ -350,15 +388,7 @@ pub fn evaluate_forked<R: Threads + Sync>(
     ensures refused { IfErr result (λ e. e.0 ≡ job) }
 {
     match try_forked(rt, alloc, frozen, job.block.block(), levels) {
-        Ok((verdict, reads)) => {
-            let Job { ticket, block } = job;
-            Ok(Evaluated {
-                ticket,
-                block,
-                reads,
-                verdict,
-            })
-        }
+        Ok((verdict, reads)) => Ok(Evaluated::of(job, reads, verdict)),
         Err(refused) => Err((job, refused)),
     }
 }

@@ -1,8 +1,9 @@
 //! Evaluation of a block on an unchanging copy of a store.
 //!
 //! `block` gives a block's verdict and what it read, on the nested log of `stm_log`. `message` is what an evaluation
-//! tells: its type keeps that the verdict holds wherever the values that were read are found again. `laws` states why:
-//! what a block does depends on what it reads alone, left branches that were discarded included.
+//! tells: its type keeps that the verdict holds wherever the values that were read are found again. `forked` gives the
+//! same message with both branches of an `orElse` at once, by threads. `laws` states why a message holds: what a block
+//! does depends on what it reads alone, left branches that were discarded included.
 #![tactic(auto)]
 
 pub mod block;

@@ -1,4 +1,4 @@
-use Rattle.std.proofs.Common.{rules, ◌≡◌, ◌∷◌, ◌≢◌}
+use Rattle.std.proofs.Common.{rules, ◌≢◌}
 use Rattle.std.specs.Prelude.{IfOk}
 use Rattle.stm_terms.specs.Ast.{act_of}
 use Rattle.stm_terms.specs.Changes.{cell_value}
@@ -14,17 +14,17 @@ run_both-returns g t c =
     let vs = c.args.right_state.locals.items in
     let h = c.args.right_state.log in
     let one : IfOk c.join-left_state.result.0.0 (λ e. RunsTo S a vs (entered h) e c.join-left_state.result.0.1.locals.items c.join-left_state.result.0.1.log) =
-      rw (c.requires.locals, c.requires.log) at c.join-left_state.ensures.first in
+    rw (c.requires.locals, c.requires.log) at c.join-left_state.ensures.first in
     c.choose.ensures S a (act_of c.args.right.now) vs h c.requires.run.reads one c.join-left_state.ensures.second
 
 pub step-run_choice-requires : goal.step-run_choice-requires
 step-run_choice-requires g t c =
     let defined : run (cell_value c.args.frozen.now) (act_of c.args.action.now) c.args.locals.now.items c.args.log.now.top ≢ Stuck =
-      not_stuck (cell_value c.args.frozen.now) (act_of c.args.action.now) c.args.locals.now.items c.args.log.now.top c.requires.run.defined in
+    not_stuck (cell_value c.args.frozen.now) (act_of c.args.action.now) c.args.locals.now.items c.args.log.now.top c.requires.run.defined in
     search rules
 
 pub step-run_let-requires : goal.step-run_let-requires
 step-run_let-requires g t c =
     let defined : run (cell_value c.args.frozen.now) (act_of c.args.action.now) c.args.locals.now.items c.args.log.now.top ≢ Stuck =
-      not_stuck (cell_value c.args.frozen.now) (act_of c.args.action.now) c.args.locals.now.items c.args.log.now.top c.requires.run.defined in
+    not_stuck (cell_value c.args.frozen.now) (act_of c.args.action.now) c.args.locals.now.items c.args.log.now.top c.requires.run.defined in
     search rules

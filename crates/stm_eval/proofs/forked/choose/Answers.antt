@@ -1,5 +1,5 @@
 use Rattle.std.proofs.Common.{rules, ◌≡◌, Ok}
-use Rattle.stm_log.specs.LogModel.{Logged, joined_reads}
+use Rattle.stm_log.specs.LogModel.{joined_reads}
 use Rattle.stm_eval.specs.declared.outcome.Outcome.TheVariants.{Retried}
 use Rattle.stm_eval.specs.BothBranches.{RunsTo, entered}
 use Rattle.stm_eval.proofs.BothBranchesRan.{both_ran, ok_at}
