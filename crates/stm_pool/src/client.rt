@@ -122,15 +122,21 @@ fn submit_block<L: Ledger, R: Wait>(
     }
 }
 
-/// Finishes a ticket as soon as its evaluation is current. Refused where the desk is stopped before, or refuses for another
-/// reason.
+/// Finishes a ticket as soon as its evaluation is current: tries it, and again whenever there are more events than there were
+/// before the last try. Refused where the desk is stopped before, or refuses for another reason.
 fn finish_in_time<L: Ledger, R: Wait>(
     rt: &R,
     shared: &SharedDesk<L>,
     pass: &mut Pass<L>,
     ticket: u32,
 ) -> Result<Done, NoMemory> {
+    // The ticket's own submission is an event, so the first wait ends at once.
+    let mut seen = 0;
     for _ in rt.forever() {
+        match shared.wait_past(rt, seen) {
+            Some(events) => seen = events,
+            None => return Ok(Done::Refused),
+        }
         if let Some(done) = finish_once(rt, shared, pass, ticket)? {
             return Ok(done);
         }
@@ -138,26 +144,17 @@ fn finish_in_time<L: Ledger, R: Wait>(
     unreachable!()
 }
 
-/// Tries to finish a ticket. Where it isn't evaluated or its evaluation is stale, waits for more events than there were before;
-/// nothing where there are some.
+/// Tries to finish a ticket; nothing where it isn't evaluated, or its evaluation is stale.
 fn finish_once<L: Ledger, R: Wait>(
     rt: &R,
     shared: &SharedDesk<L>,
     pass: &mut Pass<L>,
     ticket: u32,
 ) -> Result<Option<Done>, NoMemory> {
-    let seen = match shared.view(rt, pass) {
-        Ok(view) => view.events,
-        Err(ViewError::NoMemory) => return Err(NoMemory),
-        Err(ViewError::Lost) => return Ok(Some(Done::Refused)),
-    };
     match shared.finish(rt, pass, ticket) {
         Ok(_) => Ok(Some(Done::Met)),
         Err(FinishError::NoMemory) => Err(NoMemory),
-        Err(FinishError::NotEvaluated | FinishError::Stale) => match shared.wait_past(rt, seen) {
-            Some(_) => Ok(None),
-            None => Ok(Some(Done::Refused)),
-        },
+        Err(FinishError::NotEvaluated | FinishError::Stale) => Ok(None),
         Err(_) => Ok(Some(Done::Refused)),
     }
 }
