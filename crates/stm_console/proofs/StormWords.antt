@@ -59,9 +59,9 @@ told_at a stop = or_else (entered_fault a stop) (told_after a (is_some (entered 
 
 told_of_walk : (a : App) (words : List Text) (name : Text) (rest : List Text) (w : Walk) → w ≡ stopped name rest → walk_fault a.top (names_of a) (walk_from nothing_held) words ≡ []
     → or_else (walk_fault a.top (names_of a) (walk_from nothing_held) words)
-      (or_else (entered_fault a w.stopped) (or_else (settle_fault a.top.rules a.top.args_override_self w.held)
-      (or_else (defaults_fault (settled a.top.rules w.held).rows a.top.rules)
-      (check_fault a.top (finished a.top.rules w.held) (is_some (entered a w.stopped)))))) ≡ told_at a (Some (name, rest))
+    (or_else (entered_fault a w.stopped) (or_else (settle_fault a.top.rules a.top.args_override_self w.held)
+    (or_else (defaults_fault (settled a.top.rules w.held).rows a.top.rules)
+    (check_fault a.top (finished a.top.rules w.held) (is_some (entered a w.stopped)))))) ≡ told_at a (Some (name, rest))
 told_of_walk a words name rest w e f = rw (f, e) refl
 
 no_fault : (a : App) (name : Text) (rest : List Text) → Enters a name → walk_fault a.top (names_of a) (walk_from nothing_held) (name ∷ rest) ≡ []

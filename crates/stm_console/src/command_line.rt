@@ -1,9 +1,9 @@
 //! The words of the command line.
 
-ghost use Rattle.std.specs.Prelude.{◌≡◌, false, IsTrue, IsOk, IfOk, map, option_and_then};
+ghost use Rattle.std.specs.Prelude.{◌≡◌, false, codes, IsTrue, IsOk, IfOk, map, option_and_then};
 ghost use Rattle.clap.specs.Simple.{subcommand_rows_of};
 ghost use Rattle.clap.specs.Walk.{one_of, rows_of, rule_of};
-ghost use Rattle.clap.specs.Words.{app_of, found_of, FailsBy};
+ghost use Rattle.clap.specs.Words.{app_of, found_of, new_app, with_subcommand, FailsBy};
 ghost use Rattle.clap.specs.declared.builder.command.Command.TheViews.{out-Command as fields_of};
 ghost use Rattle.stm_console.specs.CommandLine.{answers_of, asks_for_run, command_line, check_command, number_of_text, number_option, number_said, number_within, options_said, request_of, request_said, run_command, storm_command, with_options, IfRun, IfStorm};
 ghost use Rattle.stm_console.specs.Options.{AreRunOptions};
@@ -168,9 +168,13 @@ fn number_option<'a>(
 }
 
 /// A command with the options of a run.
-fn with_options<'a>(alloc: Global, command: Command<'a>) -> Result<Command<'a>, AllocError>
-    requires local { (fields_of command).has_globals ≡ false }
-    ensures app { IfOk result (λ c. app_of c ≡ with_options (app_of command)) }
+fn with_options<'a>(
+    alloc: Global,
+    name: &'a str,
+    about: &'a str,
+    after_help: &'a str,
+) -> Result<Command<'a>, AllocError>
+    ensures app { IfOk result (λ c. app_of c ≡ with_options (new_app name.entry.now)) }
     ensures local { IfOk result (λ c. (fields_of c).has_globals ≡ false) }
 {
     let workers = number_option(alloc, "workers", 1, Options::MAX_WORKERS, "2", WORKERS);
@@ -183,7 +187,12 @@ fn with_options<'a>(alloc: Global, command: Command<'a>) -> Result<Command<'a>, 
         "1048576",
         MAX_EVENTS,
     );
-    command.arg(workers)?.arg(levels)?.arg(max_events)
+    Command::new(alloc, name)
+        .about(about)
+        .after_help(after_help)
+        .arg(workers)?
+        .arg(levels)?
+        .arg(max_events)
 }
 
 /// `run` with its options.
@@ -191,8 +200,7 @@ fn run_words<'a>(alloc: Global) -> Result<Command<'a>, AllocError>
     ensures app { IfOk result (λ c. app_of c ≡ run_command) }
     ensures local { IfOk result (λ c. (fields_of c).has_globals ≡ false) }
 {
-    let run = Command::new(alloc, "run").about(RUN).after_help(COMMANDS);
-    with_options(alloc, run)
+    with_options(alloc, "run", RUN, COMMANDS)
 }
 
 /// `storm` with its options.
@@ -200,25 +208,31 @@ fn storm_words<'a>(alloc: Global) -> Result<Command<'a>, AllocError>
     ensures app { IfOk result (λ c. app_of c ≡ storm_command) }
     ensures local { IfOk result (λ c. (fields_of c).has_globals ≡ false) }
 {
-    let storm = Command::new(alloc, "storm").about(STORM).after_help(SCRIPT);
-    with_options(alloc, storm)
+    with_options(alloc, "storm", STORM, SCRIPT)
 }
 
-/// What the program takes: `run`, which is meant where nothing is said, `storm`, `check`, and what clap adds for help.
-fn command<'a>(alloc: Global) -> Result<Command<'a>, AllocError>
-    ensures { IfOk result (λ c. app_of c ≡ command_line) }
+/// The program with the commands that take options: `run`, which is meant where nothing is said, and `storm`.
+fn command_of_runs<'a>(alloc: Global) -> Result<Command<'a>, AllocError>
+    ensures { IfOk result (λ c. app_of c
+        ≡ with_subcommand (with_subcommand (new_app (codes "stmdesk")) run_command.top) storm_command.top) }
 {
     let run = run_words(alloc)?;
     let storm = storm_words(alloc)?;
-    let check = Command::new(alloc, "check")
-        .about(CHECK)
-        .after_help(FINDINGS);
     Command::new(alloc, "stmdesk")
         .about(ABOUT)
         .after_help(NEXT)
         .subcommand(run)?
-        .subcommand(storm)?
-        .subcommand(check)
+        .subcommand(storm)
+}
+
+/// What the program takes: `run`, `storm`, `check`, and what clap adds for help.
+fn command<'a>(alloc: Global) -> Result<Command<'a>, AllocError>
+    ensures { IfOk result (λ c. app_of c ≡ command_line) }
+{
+    let check = Command::new(alloc, "check")
+        .about(CHECK)
+        .after_help(FINDINGS);
+    command_of_runs(alloc)?.subcommand(check)
 }
 
 /// The number that was said for an option.

@@ -119,11 +119,7 @@ pub struct Progress {
 }
 
 /// Delivers the next message, unless one was refused before: then its ticket is queued again.
-fn deliver_next(
-    desk: &mut Desk,
-    message: Evaluated,
-    so_far: Progress,
-) -> Result<Progress, NoMemory>
+fn deliver_next(desk: &mut Desk, message: Evaluated, so_far: Progress) -> Result<Progress, NoMemory>
     requires few { so_far.count < max_waiting }
     requires legal { IsLegal desk.old.table desk.old.history }
     ensures done { (cells : List (Ty × Value)) (job : Job) → IsMessageOf job cells message → JobStands desk.old (handed_out cells job)
@@ -154,11 +150,7 @@ fn deliver_next(
 }
 
 /// Delivers the next answer. A job that wasn't evaluated tells that memory ran out.
-fn deliver_answer(
-    desk: &mut Desk,
-    answer: Answer,
-    so_far: Progress,
-) -> Result<Progress, NoMemory>
+fn deliver_answer(desk: &mut Desk, answer: Answer, so_far: Progress) -> Result<Progress, NoMemory>
     requires few { so_far.count < max_waiting }
     requires legal { IsLegal desk.old.table desk.old.history }
     ensures done { (cells : List (Ty × Value)) (job : Job) → AnswersJob job cells answer → JobStands desk.old (handed_out cells job)

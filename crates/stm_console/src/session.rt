@@ -70,7 +70,10 @@ impl Session {
         ensures fault { IfErr result (λ e. e ≢ RunFault.Read) }
     {
         self.answer.clear();
-        let reply = match self.console.answer(rt, alloc, self.threading, &self.line, &mut self.answer) {
+        let reply = match self
+            .console
+            .answer(rt, alloc, self.threading, &self.line, &mut self.answer)
+        {
             Ok(reply) => reply,
             Err(_) => return Err(RunFault::NoMemory),
         };

@@ -12,7 +12,7 @@ abbrev pub invariant-loop-answer : goal.invariant-loop-answer
 invariant-loop-answer l = record {
   left : (cells : List (Ty × Value)) (jobs : List Job) → AnswerJobs jobs cells l.fn.answers.items → JobsStand l.fn.desk (map (handed_out cells) jobs)
       → IsLeft cells (record { desk = l.desk; count = l.so_far.count; stop = l.so_far.stop })
-        (delivered_all (record { desk = l.fn.desk; count = 0; stop = None }) (map (handed_out cells) jobs)) l.answer-iterator.rest.items;
+      (delivered_all (record { desk = l.fn.desk; count = 0; stop = None }) (map (handed_out cells) jobs)) l.answer-iterator.rest.items;
   grown : HasGrown l.fn.desk l.desk;
   same_store : (now l.desk).store ≡ (now l.fn.desk).store;
   few : l.so_far.count + length l.answer-iterator.rest.items ≤ length l.fn.answers.items;
