@@ -50,7 +50,8 @@ impl BegunSection {
 
     /// One task more, which is no submission.
     pub fn push(&mut self, task: Task) -> Result<(), NoMemory>
-        ensures { OnOk result (self.new ≡ record self.old { tasks = self.old.tasks ++ task ∷ [] }) }
+        ensures { OnOk result
+            (self.new ≡ record self.old { tasks = self.old.tasks ++ task ∷ [] }) }
     {
         match self.tasks.push(task) {
             Ok(()) => Ok(()),
@@ -60,7 +61,9 @@ impl BegunSection {
 
     /// One submission more.
     pub fn push_submission(&mut self, block: SharedBlock) -> Result<(), NoMemory>
-        ensures { OnOk result (self.new ≡ record { tasks = self.old.tasks ++ Task.Submit block ∷ []; submissions = self.old.submissions + 1 }) }
+        ensures { OnOk result (self.new ≡ record {
+            tasks = self.old.tasks ++ Task.Submit block ∷ [];
+            submissions = self.old.submissions + 1 }) }
     {
         match self.tasks.push(Task::Submit(block)) {
             Ok(()) => {
