@@ -62,8 +62,9 @@ impl BegunSection {
     /// One submission more.
     pub fn push_submission(&mut self, block: SharedBlock) -> Result<(), NoMemory>
         ensures { OnOk result (self.new ≡ record {
-            tasks = self.old.tasks ++ Task.Submit block ∷ [];
-            submissions = self.old.submissions + 1 }) }
+          tasks = self.old.tasks ++ Task.Submit block ∷ [];
+          submissions = self.old.submissions + 1;
+        }) }
     {
         match self.tasks.push(Task::Submit(block)) {
             Ok(()) => {

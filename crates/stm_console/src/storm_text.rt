@@ -20,8 +20,14 @@ fn write_client_line(client: usize, counts: Counts, out: &mut String) -> Result<
         refused,
         missed,
     } = counts;
-    write!(out, "client {client} submitted {submitted} finished {finished}")?;
-    write!(out, " cancelled {cancelled} refused {refused} missed {missed}\n")?;
+    write!(
+        out,
+        "client {client} submitted {submitted} finished {finished}"
+    )?;
+    write!(
+        out,
+        " cancelled {cancelled} refused {refused} missed {missed}\n"
+    )?;
     Ok(())
 }
 
