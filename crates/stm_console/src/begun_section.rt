@@ -1,7 +1,6 @@
 //! The section of a script that is being read.
 
 ghost use Rattle.std.specs.Prelude.{◌≡◌, ◌++◌, ◌∷◌, [], ◌+◌, OnOk};
-ghost use Rattle.stm_console.specs.ScriptReading.{tasks_of};
 
 use std::alloc::Global;
 use std::marker::Model;
