@@ -1,5 +1,5 @@
 -- Lines are read part by part, and are judged as those of the whole.
-use Rattle.std.proofs.Common.{◌≡◌, ◌≢◌, ℕ, ◌+◌, ◌-◌, ◌≤◌, ◌<◌, true, false, min, List, [], ◌∷◌, ◌++◌, length, take, drop, map, refl, sym, ap, ◌∙◌, subst, ⊎_elim, append_assoc, append-nil, arith, cond, length-append, take_all, Option, Some, None, eqb-true, eq-eqb}
+use Rattle.std.proofs.Common.{◌≡◌, ◌≢◌, ℕ, ◌+◌, ◌-◌, ◌≤◌, ◌<◌, true, false, min, List, [], ◌∷◌, ◌++◌, length, take, drop, map, refl, sym, ap, ◌∙◌, ⊎_elim, append_assoc, append-nil, arith, cond, length-append, take_all, Option, Some, None, eqb-true, eq-eqb}
 use Rattle.std.proofs.lemmas.Bool.{cases_lt}
 use Rattle.std.proofs.lemmas.Bool.Decides.{nat_tests}
 use Rattle.std.proofs.lemmas.List.{get_or-take, length-take, length-take-le}
@@ -7,7 +7,7 @@ use Rattle.std.proofs.lemmas.List.Elements.{All-from_get_or, All-head, All-tail}
 use Rattle.std.specs.Io.KnownBytes.{Consumes, IsAtEnd, prepend_known}
 use Rattle.std.specs.Prelude.{nat_eq, not, Bool, MatchBool}
 use Rattle.memchr.specs.Find.{IsFirstByte, is_byte}
-use Rattle.stm_console.proofs.Chunks.{NoLineFeed-all, split-at}
+use Rattle.stm_console.proofs.Chunks.{split-at}
 use Rattle.stm_console.proofs.LongLines.{Long, judged-too_long, drop_return-long, more-long}
 use Rattle.stm_console.specs.LineClass.{line_class}
 use Rattle.stm_console.specs.LineReading.{classes_from, HasBegun, IsNextLine, IsNoLine}

@@ -1,15 +1,10 @@
 -- A script is read line by line, and is that of the whole input.
-use Rattle.std.proofs.Common.{◌≡◌, ℕ, ◌+◌, ◌≤◌, true, false, Bool, List, [], ◌∷◌, ◌++◌, length, map, refl, sym, ap, ◌∙◌, subst, arith, cond, length-append, add-zero, Option, Some, None, Result, Ok, Err, IfSome}
-use Rattle.std.specs.Prelude.{nat_lt, nat_eq, ◌&&◌}
-use Rattle.std.specs.Io.KnownBytes.{prepend_known}
-use Rattle.std.proofs.lemmas.Bool.Decides.{nat_tests}
+use Rattle.std.proofs.Common.{◌≡◌, ℕ, ◌+◌, List, [], ◌∷◌, length, map, refl, sym, ap, ◌∙◌, arith, add-zero, Option, Some, None, Result, Ok, Err, IfSome}
 use Rattle.std.proofs.lemmas.List.{length-map}
-use Rattle.stm_parse.specs.declared.fault.ParseFault.{ParseFault}
-use Rattle.stm_pool.specs.declared.section.Task.{Task}
-use Rattle.stm_console.specs.LineClass.{LineClass, TooLong, Silent, NotAscii, Words, line_class}
+use Rattle.stm_console.specs.LineClass.{LineClass, line_class}
 use Rattle.stm_console.specs.LineReading.{classes_from, IsNextLine, IsNoLine}
 use Rattle.stm_console.specs.Lines.{lines_of}
-use Rattle.stm_console.specs.ScriptReading.{HasFewSections, after_class_at, after_classes, rest_script, IsReadTo}
+use Rattle.stm_console.specs.ScriptReading.{after_class_at, after_classes, rest_script, IsReadTo}
 use Rattle.stm_console.specs.StormScript.{Reading, nothing_read, after_line, after_lines, script_result, storm_script}
 
 -- of a line no more counts than how it is judged

@@ -1,5 +1,5 @@
 -- What a script of a storm says: variables, and what each of some clients does.
-use Rattle.std.specs.Prelude.{ℕ, ◌+◌, ◌-◌, Bool, ◌&&◌, ◌==◌, nat_lt, nat_le, List, [], ◌∷◌, ◌++◌, Option, Some, None, Result, Ok, Err, if◌then◌else◌, codes, length, slice_get}
+use Rattle.std.specs.Prelude.{ℕ, ◌+◌, ◌-◌, ◌&&◌, ◌==◌, nat_lt, nat_le, List, [], ◌∷◌, ◌++◌, Option, Some, None, Result, Ok, Err, if◌then◌else◌, codes, length, slice_get}
 use Rattle.std.specs.Str.{bytes_eq}
 use Rattle.stm_terms.specs.declared.values.Value.{Value}
 use Rattle.stm_check.specs.TypedBlock.{Block}

@@ -1,7 +1,6 @@
 //! The section of a script that is being read.
 
 ghost use Rattle.std.specs.Prelude.{◌≡◌, ◌++◌, ◌∷◌, [], ◌+◌, OnOk};
-ghost use Rattle.stm_console.specs.ScriptReading.{tasks_of};
 
 use std::alloc::Global;
 use std::marker::Model;
@@ -50,7 +49,8 @@ impl BegunSection {
 
     /// One task more, which is no submission.
     pub fn push(&mut self, task: Task) -> Result<(), NoMemory>
-        ensures { OnOk result (self.new ≡ record self.old { tasks = self.old.tasks ++ task ∷ [] }) }
+        ensures { OnOk result
+            (self.new ≡ record self.old { tasks = self.old.tasks ++ task ∷ [] }) }
     {
         match self.tasks.push(task) {
             Ok(()) => Ok(()),
@@ -60,7 +60,10 @@ impl BegunSection {
 
     /// One submission more.
     pub fn push_submission(&mut self, block: SharedBlock) -> Result<(), NoMemory>
-        ensures { OnOk result (self.new ≡ record { tasks = self.old.tasks ++ Task.Submit block ∷ []; submissions = self.old.submissions + 1 }) }
+        ensures { OnOk result (self.new ≡ record {
+          tasks = self.old.tasks ++ Task.Submit block ∷ [];
+          submissions = self.old.submissions + 1;
+        }) }
     {
         match self.tasks.push(Task::Submit(block)) {
             Ok(()) => {

@@ -1,6 +1,6 @@
 //! Bytes of the input that are read and not yet taken.
 
-ghost use Rattle.std.specs.Prelude.{◌≡◌, ◌+◌, ◌<◌, ◌≤◌, [], drop, length, IfOk, OnErr};
+ghost use Rattle.std.specs.Prelude.{◌≡◌, ◌+◌, ◌<◌, ◌≤◌, [], drop, length, IfOk, OnErr, OnOk};
 ghost use Rattle.std.specs.Io.KnownBytes.{Consumes, IsAtEnd, Keeps};
 
 use crate::calls::Calls;
@@ -55,13 +55,16 @@ impl Chunk {
         self.at += count;
     }
 
-    /// Reads the next bytes in place of those that were there, and answers how many they are; none only at the end.
+    /// Reads the next bytes in place of those that were there, and answers how many they are: none only at the end.
     pub fn read<R: Read>(&mut self, calls: &mut Calls<R>) -> io::Result<usize>
         requires { 0 < calls.old.left }
         ensures one_less { calls.new.left + 1 ≡ calls.old.left }
-        ensures bytes { IfOk result (λ n. Consumes (R.remaining calls.old.reader.now) (R.remaining calls.new.reader.now) self.new) }
-        ensures end { IfOk result (λ n. n ≡ 0 → (self.new ≡ []) × IsAtEnd (R.remaining calls.new.reader.now)) }
-        ensures kept { OnErr result (Keeps (R.remaining calls.old.reader.now) (R.remaining calls.new.reader.now)) }
+        ensures bytes { OnOk result (Consumes (R.remaining calls.old.reader.now)
+            (R.remaining calls.new.reader.now) self.new) }
+        ensures end { IfOk result (λ n. n ≡ 0 →
+            (self.new ≡ []) × IsAtEnd (R.remaining calls.new.reader.now)) }
+        ensures kept { OnErr result (Keeps (R.remaining calls.old.reader.now)
+            (R.remaining calls.new.reader.now)) }
     {
         self.at = 0;
         self.end = 0;

@@ -8,9 +8,9 @@
 //! by the jobs of `jobs`; `finishing` has `finish`, `cancel` and `settle`; `showing` has `show`, `reads` and `store`. `laws` says
 //! what holds of the text that is written and of the program's words.
 //!
-//! `storm` (`storming`) reads a script of many clients whole (`script_reader`, by the lines of `line_reader`), has `stm_pool` run
-//! it by threads, and writes what came of it (`storm_text`). `script_so_far` is a script under way, `script_line` what a line
-//! of it says.
+//! `storm` (`storming`) runs a script of many clients by threads. `line_reader` pulls lines from a reader, by the bytes of a
+//! `chunk`; `script_line` says what a line of a script is, `begun_section` and `script_so_far` take it, and `script_reader` reads
+//! a script whole; `storm_text` has the lines that are written.
 #![tactic(auto)]
 
 mod arguments;

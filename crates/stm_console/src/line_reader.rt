@@ -40,8 +40,8 @@ fn keep(line: &mut Vec<u8>, bytes: &[u8]) -> Result<(), RunFault>
     }
 }
 
-/// Takes bytes to the line that has begun: all of them, or, where there is a line feed, those up to it, which ends the line. Then it
-/// answers how many they are.
+/// Takes bytes to the line that has begun: all of them, or, where there is a line feed, those up to it, which ends the line.
+/// Then it answers how many they are.
 fn take_part(line: &mut Vec<u8>, bytes: &[u8]) -> Result<Option<usize>, RunFault>
     ensures all { IfOk result (λ taken. IfNone taken ((more : List ℕ) →
         classes_from line.old.items (bytes.now ++ more) ≡ classes_from line.new.items more)) }
@@ -64,11 +64,14 @@ fn take_part(line: &mut Vec<u8>, bytes: &[u8]) -> Result<Option<usize>, RunFault
     }
 }
 
-/// Reads the next bytes in place of those that were there; answers whether there are any. An interrupted read is tried again.
+/// Reads the next bytes in place of those that were there; answers whether there are any. An interrupted read is tried
+/// again.
 fn fill<R: Read>(chunk: &mut Chunk, calls: &mut Calls<R>) -> Result<bool, RunFault>
     ensures fewer { OnOk result (calls.new.left < calls.old.left) }
-    ensures bytes { OnOk result (Consumes (R.remaining calls.old.reader.now) (R.remaining calls.new.reader.now) chunk.new) }
-    ensures end { IfOk result (λ some. some ≡ false → (chunk.new ≡ []) × IsAtEnd (R.remaining calls.new.reader.now)) }
+    ensures bytes { OnOk result (Consumes (R.remaining calls.old.reader.now)
+        (R.remaining calls.new.reader.now) chunk.new) }
+    ensures end { IfOk result (λ some. some ≡ false →
+        (chunk.new ≡ []) × IsAtEnd (R.remaining calls.new.reader.now)) }
     ensures fault { IfErr result (λ e. e ≡ RunFault.Read) }
 {
     'reads: while calls.may_read() {
@@ -112,6 +115,7 @@ impl<'a, R: Read> LineReader<'a, R> {
     /// Reads the next line; answers whether there is one. One carriage return before the line feed is dropped. A last line
     /// without line feed counts unless it is empty. Of a line that is too long no more than its first 65,538 bytes are kept.
     pub fn next_line(&mut self) -> Result<bool, RunFault>
+        // What was left begins with the line, or one that is judged as it is, and goes on with what is left.
         ensures line { IfOk result (λ some. MatchBool some
             (IsNextLine (prepend_known self.old.chunk (R.remaining self.old.calls.reader.now))
             (prepend_known self.new.chunk (R.remaining self.new.calls.reader.now)) self.new.line.items)

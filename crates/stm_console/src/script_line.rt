@@ -35,7 +35,8 @@ pub enum LineFault {
 
 /// What a refusal is to a script: a line that would be refused is faulty.
 pub fn fault_of(refusal: Refusal) -> LineFault
-    ensures { (result ≡ LineFault.NoMemory) ⊎ ((result ≡ LineFault.Faulty) × IsTrue (is_printed refusal)) }
+    ensures { (result ≡ LineFault.NoMemory)
+        ⊎ ((result ≡ LineFault.Faulty) × IsTrue (is_printed refusal)) }
 {
     match refusal {
         Refusal::Parsing(ParseFault::NoMemory) => LineFault::NoMemory,
@@ -58,7 +59,7 @@ pub fn submitted_block(alloc: Global, table: &Table, text: &str) -> Result<Share
     }
 }
 
-/// The submission of a `finish` or a `cancel`, counted from 0: its number, counted from 1, is one of those before.
+/// The submission of a `finish` or a `cancel`, counted from 0. Its number in the text, counted from 1, is one of those before.
 pub fn named_submission(submissions: usize, argument: &str) -> Option<usize>
     ensures { result ≡ submission_told submissions (number_argument argument.now) }
 {
@@ -112,7 +113,8 @@ fn is_of(table: &Table, value: Value, kind: Ty) -> bool
 /// What is expected of a declared variable: a value that it may hold.
 fn expected_value(table: &Table, number: u32, init: &Init) -> Result<Task, LineFault>
     requires { number < length table.now }
-    ensures { GivesAs (λ t. t) result (expected_at table.now number (slice_get table.now number) (initial_of table.now (parsed_initial init.now))) }
+    ensures { GivesAs (λ t. t) result (expected_at table.now number (slice_get table.now number)
+        (initial_of table.now (parsed_initial init.now))) }
 {
     match initial(table, init) {
         Ok(value) => {

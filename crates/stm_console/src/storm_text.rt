@@ -10,7 +10,8 @@ use stm_terms::NoMemory;
 /// Appends the line of a client.
 #[tactic(auto, unfolding(crate::specs::StormText::client_line))]
 fn write_client_line(client: usize, counts: Counts, out: &mut String) -> Result<(), NoMemory>
-    ensures { OnOk result (string_bytes out.new ≡ string_bytes out.old ++ client_line client counts) }
+    ensures { OnOk result
+        (string_bytes out.new ≡ string_bytes out.old ++ client_line client counts) }
 {
     let Counts {
         submitted,
@@ -19,14 +20,21 @@ fn write_client_line(client: usize, counts: Counts, out: &mut String) -> Result<
         refused,
         missed,
     } = counts;
-    write!(out, "client {client} submitted {submitted} finished {finished}")?;
-    write!(out, " cancelled {cancelled} refused {refused} missed {missed}\n")?;
+    write!(
+        out,
+        "client {client} submitted {submitted} finished {finished}"
+    )?;
+    write!(
+        out,
+        " cancelled {cancelled} refused {refused} missed {missed}\n"
+    )?;
     Ok(())
 }
 
 /// Appends the lines of the clients.
 fn write_client_lines(counts: &[Counts], out: &mut String) -> Result<(), NoMemory>
-    ensures { OnOk result (string_bytes out.new ≡ string_bytes out.old ++ client_lines 0 counts.now) }
+    ensures { OnOk result
+        (string_bytes out.new ≡ string_bytes out.old ++ client_lines 0 counts.now) }
 {
     for (client, counts) in counts.iter().enumerate() {
         write_client_line(client, *counts, out)?;
@@ -44,7 +52,8 @@ fn write_events_line(events: u32, out: &mut String) -> Result<(), NoMemory>
 
 /// Appends what the clients did, how many events there are, and what the replay found.
 pub fn write_end(counts: &[Counts], replay: Replay, out: &mut String) -> Result<(), NoMemory>
-    ensures { OnOk result (string_bytes out.new ≡ string_bytes out.old ++ end_text counts.now replay) }
+    ensures { OnOk result
+        (string_bytes out.new ≡ string_bytes out.old ++ end_text counts.now replay) }
 {
     write_client_lines(counts, out)?;
     match replay {

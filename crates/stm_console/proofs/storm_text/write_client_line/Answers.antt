@@ -1,5 +1,4 @@
-use Rattle.std.proofs.Common.{◌≡◌, ◌++◌, ◌∷◌, [], ◌∙◌, ap, OnOk, string_bytes, append_assoc}
-use Rattle.std.specs.Prelude.{codes, decimal}
+use Rattle.std.proofs.Common.{append_assoc}
 use Rattle.stm_console.specs.StormText.{client_line}
 use Rattle.stm_console.proofs.storm_text.write_client_line.Goals as goal
 
