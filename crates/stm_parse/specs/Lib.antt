@@ -4,6 +4,7 @@ pub mod Descent
 pub mod ExpectationFunction
 pub mod Expectations
 pub mod Faults
+pub mod Front
 pub mod Grammar
 pub mod Laws
 pub mod LexerStep

@@ -5,8 +5,8 @@ use Rattle.stm_parse.specs.Bytes.{is_letter, is_blank, symbol_mark, word_len, nu
 use Rattle.stm_parse.specs.declared.token.Mark.{Mark}
 use Rattle.stm_parse.specs.declared.tokenizer.TokenClass.TheVariants as kind
 use Rattle.stm_parse.specs.declared.tokenizer.Token.{Token}
-use Rattle.stm_parse.specs.declared.tokenizer.Front.{Front}
-use Rattle.stm_parse.specs.declared.tokenizer.Front.TheVariants as front
+use Rattle.stm_parse.specs.Front.{Front}
+use Rattle.stm_parse.specs.Front as front
 use Rattle.stm_parse.specs.declared.fault.ParseFault.{ParseFault}
 use Rattle.stm_parse.specs.declared.fault.ParseFault.TheVariants as fault
 
