@@ -38,6 +38,10 @@ abbrev pub ReadsAs : {X Y : Type 0} → (X → Y) → Result X Failure → Resul
 ReadsAs view (Ok x) reading = reading ≡ Ok (view x)
 ReadsAs view (Err e) reading = StopsAs e reading
 
+-- these tokens are left of a reading
+abbrev pub Leaves : {A : Type 0} → List Lexeme → Reading A → Type 0
+Leaves {A} rest reading = (a : A) × (reading ≡ Ok (a, rest))
+
 abbrev pub unexpected : List Lexeme → Fault
 unexpected toks = record { cause = cause.Unexpected; left = length toks }
 
@@ -46,10 +50,6 @@ too_deep toks = record { cause = cause.TooDeep; left = length toks }
 
 abbrev pub bad_number : List Lexeme → Fault
 bad_number toks = record { cause = cause.BadNumber; left = length toks }
-
-abbrev pub begins : Mark → List Lexeme → Bool
-begins m [] = false
-begins m (x ∷ rest) = is_mark m x.sym
 
 -- the token that is this mark
 abbrev pub expect : Mark → Reader Lexeme

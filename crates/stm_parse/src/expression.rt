@@ -5,7 +5,9 @@ ghost use Rattle.stm_terms.specs.ParsedAst.{raw_term_of, bin};
 ghost use Rattle.stm_parse.specs.Grammar.{deepest, widest, greatest};
 ghost use Rattle.stm_parse.specs.Descent.{ReadsAs, in_reach, literal, bracketed, short_of, refuse, init, atom_at, tier_at, tail_at};
 
-use crate::cursor::{Grouping, accept, bad_number, expect, groups, operator, too_deep, unexpected};
+use crate::cursor::{
+    Grouping, Parsed, accept, bad_number, expect, groups, one_level_deeper, operator, unexpected,
+};
 use crate::token::{Failure, Lexeme, Mark, TokenKind};
 use std::alloc::Global;
 use stm_terms::{Op, RawExpr};
@@ -37,7 +39,7 @@ fn negated(n: u64) -> i64
 }
 
 // After the minus of a negative number.
-fn literal(at: usize, toks: &[Lexeme]) -> Result<(RawExpr, &[Lexeme]), Failure>
+fn literal(at: usize, toks: &[Lexeme]) -> Parsed<'_, RawExpr>
     ensures gives { ReadsAs (λ r. (raw_term_of r.0, r.1.now)) result (literal at toks.now) }
     ensures shorter { IfOk result (λ r. length r.1.now ≤ length toks.now) }
 {
@@ -50,16 +52,12 @@ fn literal(at: usize, toks: &[Lexeme]) -> Result<(RawExpr, &[Lexeme]), Failure>
     if !in_reach(n.saturating_sub(1)) {
         return Err(bad_number(toks));
     }
-    let (_, after) = expect(Mark::RParen, rest)?;
+    let after = expect(Mark::RParen, rest)?;
     Ok((RawExpr::Int(negated(n), at), after))
 }
 
 // An operand of one token.
-fn short<'t>(
-    first: &Lexeme,
-    rest: &'t [Lexeme],
-    toks: &'t [Lexeme],
-) -> Result<(RawExpr, &'t [Lexeme]), Failure>
+fn short<'t>(first: &Lexeme, rest: &'t [Lexeme], toks: &'t [Lexeme]) -> Parsed<'t, RawExpr>
     requires { toks.now ≡ first.now ∷ rest.now }
     ensures gives { ReadsAs (λ r. (raw_term_of r.0, r.1.now)) result (short_of first.now.sym first.now rest.now) }
     ensures shorter { IfOk result (λ r. length r.1.now ≤ length toks.now) }
@@ -84,12 +82,7 @@ fn short<'t>(
 
 // After "(".
 #[cycle(expressions)]
-fn bracketed<'t>(
-    alloc: Global,
-    levels: u8,
-    at: usize,
-    toks: &'t [Lexeme],
-) -> Result<(RawExpr, &'t [Lexeme]), Failure>
+fn bracketed<'t>(alloc: Global, levels: u8, at: usize, toks: &'t [Lexeme]) -> Parsed<'t, RawExpr>
     requires { levels ≤ deepest }
     ensures gives { ReadsAs (λ r. (raw_term_of r.0, r.1.now)) result (bracketed (tier_at widest levels) at toks.now) }
     ensures shorter { IfOk result (λ r. length r.1.now ≤ length toks.now) }
@@ -101,18 +94,14 @@ fn bracketed<'t>(
         return literal(at, rest);
     }
     let (inner, rest) = tier(alloc, levels, WIDEST, toks)?;
-    let (_, after) = expect(Mark::RParen, rest)?;
+    let after = expect(Mark::RParen, rest)?;
     Ok((inner, after))
 }
 
 /// A literal, a name, or an expression in brackets.
 #[cycle(expressions)]
 #[tactic(auto, unfolding(crate::specs::Descent::atom_at))]
-pub fn atom<'t>(
-    alloc: Global,
-    levels: u8,
-    toks: &'t [Lexeme],
-) -> Result<(RawExpr, &'t [Lexeme]), Failure>
+pub fn atom<'t>(alloc: Global, levels: u8, toks: &'t [Lexeme]) -> Parsed<'t, RawExpr>
     requires { levels ≤ deepest }
     ensures gives { ReadsAs (λ r. (raw_term_of r.0, r.1.now)) result (atom_at levels toks.now) }
     ensures shorter { IfOk result (λ r. length r.1.now ≤ length toks.now) }
@@ -123,20 +112,13 @@ pub fn atom<'t>(
     if !first.sym.is(Mark::LParen) {
         return short(first, rest, toks);
     }
-    if levels == 0 {
-        return Err(too_deep(toks));
-    }
-    bracketed(alloc, levels - 1, first.start, rest)
+    let inner = one_level_deeper(levels, toks)?;
+    bracketed(alloc, inner, first.start, rest)
 }
 
 // An expression whose operators outside of brackets are of tiers below this one.
 #[cycle(expressions)]
-fn tier<'t>(
-    alloc: Global,
-    levels: u8,
-    width: u8,
-    toks: &'t [Lexeme],
-) -> Result<(RawExpr, &'t [Lexeme]), Failure>
+fn tier<'t>(alloc: Global, levels: u8, width: u8, toks: &'t [Lexeme]) -> Parsed<'t, RawExpr>
     requires low { levels ≤ deepest }
     requires width { width ≤ widest }
     ensures gives { ReadsAs (λ r. (raw_term_of r.0, r.1.now)) result (tier_at width levels toks.now) }
@@ -167,7 +149,7 @@ fn tail<'t>(
     width: u8,
     left: RawExpr,
     toks: &'t [Lexeme],
-) -> Result<(RawExpr, &'t [Lexeme]), Failure>
+) -> Parsed<'t, RawExpr>
     requires low { levels ≤ deepest }
     requires width { width < widest }
     ensures gives { ReadsAs (λ r. (raw_term_of r.0, r.1.now)) result (tail_at width levels (raw_term_of left) toks.now) }
@@ -196,11 +178,7 @@ fn tail<'t>(
 }
 
 /// A whole expression.
-pub fn expression<'t>(
-    alloc: Global,
-    levels: u8,
-    toks: &'t [Lexeme],
-) -> Result<(RawExpr, &'t [Lexeme]), Failure>
+pub fn expression<'t>(alloc: Global, levels: u8, toks: &'t [Lexeme]) -> Parsed<'t, RawExpr>
     requires { levels ≤ deepest }
     ensures gives { ReadsAs (λ r. (raw_term_of r.0, r.1.now)) result (tier_at widest levels toks.now) }
     ensures shorter { IfOk result (λ r. length r.1.now ≤ length toks.now) }
@@ -209,7 +187,7 @@ pub fn expression<'t>(
 }
 
 // After "(" of what a declared variable holds at first.
-fn bracketed_init(at: usize, toks: &[Lexeme]) -> Result<(RawExpr, &[Lexeme]), Failure>
+fn bracketed_init(at: usize, toks: &[Lexeme]) -> Parsed<'_, RawExpr>
     ensures gives { ReadsAs (λ r. (raw_term_of r.0, r.1.now)) result (bracketed refuse at toks.now) }
 {
     if let Some(rest) = accept(Mark::RParen, toks) {
@@ -222,7 +200,7 @@ fn bracketed_init(at: usize, toks: &[Lexeme]) -> Result<(RawExpr, &[Lexeme]), Fa
 }
 
 /// What a declared variable holds at first: a literal or a name.
-pub fn init(toks: &[Lexeme]) -> Result<(RawExpr, &[Lexeme]), Failure>
+pub fn init(toks: &[Lexeme]) -> Parsed<'_, RawExpr>
     ensures gives { ReadsAs (λ r. (raw_term_of r.0, r.1.now)) result (init toks.now) }
 {
     let Some((first, rest)) = toks.split_first() else {

@@ -6,7 +6,7 @@ ghost use Rattle.stm_parse.specs.Grammar.{deepest, most_refs};
 ghost use Rattle.stm_parse.specs.Declarations.{declaration_tree_of};
 ghost use Rattle.stm_parse.specs.Descent.{ReadsAs, type_at, bare_at, bracketed_type, declaration_reader};
 
-use crate::cursor::{accept, expect, expect_name, too_deep, unexpected};
+use crate::cursor::{Parsed, accept, expect, expect_name, one_level_deeper, too_deep, unexpected};
 use crate::expression::init;
 use crate::token::{Failure, Lexeme, Mark, TokenKind};
 use stm_terms::{Base, RawExpr, Ty};
@@ -14,7 +14,7 @@ use stm_terms::{Base, RawExpr, Ty};
 // A type with the given number of `TVar` around it.
 #[cycle(types)]
 #[tactic(auto, unfolding(crate::specs::Descent::type_at))]
-fn type_within(levels: u8, refs: u8, toks: &[Lexeme]) -> Result<(Ty, &[Lexeme]), Failure>
+fn type_within(levels: u8, refs: u8, toks: &[Lexeme]) -> Parsed<'_, Ty>
     requires low { levels ≤ deepest }
     requires few { refs ≤ most_refs }
     ensures gives { ReadsAs (λ r. (r.0, r.1.now)) result (type_at levels refs toks.now) }
@@ -38,7 +38,7 @@ fn type_within(levels: u8, refs: u8, toks: &[Lexeme]) -> Result<(Ty, &[Lexeme]),
 // A type that needs no brackets after `TVar`.
 #[cycle(types)]
 #[tactic(auto, using(crate::proofs::TypeLevels::inside_type_none, crate::proofs::TypeLevels::inside_type_some), unfolding(crate::specs::Descent::bare_at))]
-fn bare_type(levels: u8, refs: u8, toks: &[Lexeme]) -> Result<(Ty, &[Lexeme]), Failure>
+fn bare_type(levels: u8, refs: u8, toks: &[Lexeme]) -> Parsed<'_, Ty>
     requires low { levels ≤ deepest }
     requires few { refs ≤ most_refs }
     ensures gives { ReadsAs (λ r. (r.0, r.1.now)) result (bare_at levels refs toks.now) }
@@ -67,10 +67,8 @@ fn bare_type(levels: u8, refs: u8, toks: &[Lexeme]) -> Result<(Ty, &[Lexeme]), F
             rest,
         )),
         Mark::LParen => {
-            if levels == 0 {
-                return Err(too_deep(toks));
-            }
-            bracketed_type(levels - 1, refs, rest)
+            let inner = one_level_deeper(levels, toks)?;
+            bracketed_type(inner, refs, rest)
         }
         _ => Err(unexpected(toks)),
     }
@@ -78,7 +76,7 @@ fn bare_type(levels: u8, refs: u8, toks: &[Lexeme]) -> Result<(Ty, &[Lexeme]), F
 
 // After "(" in a type.
 #[cycle(types)]
-fn bracketed_type(levels: u8, refs: u8, toks: &[Lexeme]) -> Result<(Ty, &[Lexeme]), Failure>
+fn bracketed_type(levels: u8, refs: u8, toks: &[Lexeme]) -> Parsed<'_, Ty>
     requires low { levels ≤ deepest }
     requires few { refs ≤ most_refs }
     ensures gives { ReadsAs (λ r. (r.0, r.1.now)) result (bracketed_type (type_at levels refs) toks.now) }
@@ -95,7 +93,7 @@ fn bracketed_type(levels: u8, refs: u8, toks: &[Lexeme]) -> Result<(Ty, &[Lexeme
         ));
     }
     let (inner, rest) = type_within(levels, refs, toks)?;
-    let (_, rest) = expect(Mark::RParen, rest)?;
+    let rest = expect(Mark::RParen, rest)?;
     Ok((inner, rest))
 }
 
@@ -109,14 +107,14 @@ pub struct RawDeclaration {
 }
 
 /// A declaration.
-pub fn declaration(toks: &[Lexeme]) -> Result<(RawDeclaration, &[Lexeme]), Failure>
+pub fn declaration(toks: &[Lexeme]) -> Parsed<'_, RawDeclaration>
     ensures gives { ReadsAs (λ r. (declaration_tree_of r.0, r.1.now)) result (declaration_reader toks.now) }
     ensures few { IfOk result (λ r. r.0.ty.refs ≤ most_refs) }
 {
     let (name, rest) = expect_name(toks)?;
-    let (_, rest) = expect(Mark::Colon, rest)?;
+    let rest = expect(Mark::Colon, rest)?;
     let (ty, rest) = type_within(64, 0, rest)?;
-    let (_, rest) = expect(Mark::Equals, rest)?;
+    let rest = expect(Mark::Equals, rest)?;
     let (init, rest) = init(rest)?;
     let declared = RawDeclaration {
         from: name.start,
