@@ -15,7 +15,7 @@ use crate::types::{BOOL, INT, UNIT, inside, join, reference_to, same};
 use std::alloc::Global;
 use stm_terms::action::Action;
 use stm_terms::kinds::Ty;
-use stm_terms::raw::{RawAction, RawExpr};
+use stm_terms::raw::{RawAction, RawExpr, Span};
 
 /// An action with its names resolved, and the type of its result, with none for any.
 type Checked = Result<(Action, Option<Ty>), TypeFault>;
@@ -151,13 +151,13 @@ fn check_bind(
     alloc: Global,
     names: &Names,
     uses: &mut Vec<(u32, Ty)>,
-    local: (usize, usize),
+    name: Span,
     at: usize,
     bound: &RawAction,
     rest: &RawAction,
 ) -> Checked
-    requires { CanCheck names.now (raw.bind local.0 local.1 at (raw_act_of bound.now) (raw_act_of rest.now)) }
-    ensures says { ChecksAs (λ r. (act_of r.0, result_type r.1)) result (act_found names.now (raw.bind local.0 local.1 at (raw_act_of bound.now) (raw_act_of rest.now))) }
+    requires { CanCheck names.now (raw.bind name.start name.end at (raw_act_of bound.now) (raw_act_of rest.now)) }
+    ensures says { ChecksAs (λ r. (act_of r.0, result_type r.1)) result (act_found names.now (raw.bind name.start name.end at (raw_act_of bound.now) (raw_act_of rest.now))) }
     ensures uses { IfOk result (λ r. uses.new.items ≡ recorded_act names.now (act_of r.0) uses.old.items) }
     ensures low { IfOk result (λ r. HasAtMost9Refs r.1) }
 {
@@ -165,11 +165,11 @@ fn check_bind(
     let Some(kind) = kind else {
         return Err(TypeFault::Untyped(at));
     };
-    let name = name_at(names.text, local.0, local.1);
+    let local = name_at(names.text, name);
     let inner = Names {
         table: names.table,
         text: names.text,
-        locals: &Scope::Local(name, kind, names.locals),
+        locals: &Scope::Local(local, kind, names.locals),
     };
     let (b, kind) = check_part(alloc, &inner, uses, rest)?;
     Ok((Action::Bind(a, b), kind))
@@ -180,21 +180,21 @@ fn check_let(
     alloc: Global,
     names: &Names,
     uses: &mut Vec<(u32, Ty)>,
-    local: (usize, usize),
+    name: Span,
     value: &RawExpr,
     rest: &RawAction,
 ) -> Checked
-    requires { CanCheck names.now (raw.let_in local.0 local.1 (raw_term_of value.now) (raw_act_of rest.now)) }
-    ensures says { ChecksAs (λ r. (act_of r.0, result_type r.1)) result (act_found names.now (raw.let_in local.0 local.1 (raw_term_of value.now) (raw_act_of rest.now))) }
+    requires { CanCheck names.now (raw.let_in name.start name.end (raw_term_of value.now) (raw_act_of rest.now)) }
+    ensures says { ChecksAs (λ r. (act_of r.0, result_type r.1)) result (act_found names.now (raw.let_in name.start name.end (raw_term_of value.now) (raw_act_of rest.now))) }
     ensures uses { IfOk result (λ r. uses.new.items ≡ recorded_act names.now (act_of r.0) uses.old.items) }
     ensures low { IfOk result (λ r. HasAtMost9Refs r.1) }
 {
     let (a, kind) = check_expr(alloc, names, uses, value)?;
-    let name = name_at(names.text, local.0, local.1);
+    let local = name_at(names.text, name);
     let inner = Names {
         table: names.table,
         text: names.text,
-        locals: &Scope::Local(name, kind, names.locals),
+        locals: &Scope::Local(local, kind, names.locals),
     };
     let (b, kind) = check_part(alloc, &inner, uses, rest)?;
     Ok((Action::Let(a, b), kind))
@@ -257,17 +257,23 @@ pub(crate) fn check_action(
         RawAction::Make(value) => check_make(alloc, names, uses, value),
         RawAction::Retry => Ok((Action::Retry, None)),
         RawAction::Throw(number) => check_throw(alloc, names, uses, number),
-        RawAction::If(condition, first, at, second) => {
-            check_if(alloc, names, uses, condition, first, *at, second)
-        }
-        RawAction::OrElse(first, at, second) => {
+        RawAction::If {
+            condition,
+            first,
+            at,
+            second,
+        } => check_if(alloc, names, uses, condition, first, *at, second),
+        RawAction::OrElse { first, at, second } => {
             check_or_else(alloc, names, uses, first, *at, second)
         }
-        RawAction::Bind(from, to, at, bound, rest) => {
-            check_bind(alloc, names, uses, (*from, *to), *at, bound, rest)
-        }
-        RawAction::Let(from, to, value, rest) => {
-            check_let(alloc, names, uses, (*from, *to), value, rest)
+        RawAction::Bind {
+            name,
+            at,
+            bound,
+            rest,
+        } => check_bind(alloc, names, uses, *name, *at, bound, rest),
+        RawAction::Let { name, value, rest } => {
+            check_let(alloc, names, uses, *name, value, rest)
         }
         RawAction::Seq(statement, rest) => check_seq(alloc, names, uses, statement, rest),
     }

@@ -4,7 +4,7 @@ ghost use Rattle.std.specs.Prelude.{◌≡◌, ◌≤◌, IfOk, length, slice_ra
 ghost use Rattle.std.specs.Str.{IsAscii};
 ghost use Rattle.stm_terms.specs.Ast.{term_of};
 ghost use Rattle.stm_terms.specs.ParsedAst as raw;
-ghost use Rattle.stm_terms.specs.ParsedAst.{raw_term_of, place};
+ghost use Rattle.stm_terms.specs.ParsedAst.{IsSpan, raw_term_of, place};
 ghost use Rattle.stm_check.specs.CheckFunction.{ChecksAs};
 ghost use Rattle.stm_check.specs.CheckContext.{CanLookUp, expr_found, recorded_expr};
 
@@ -15,7 +15,7 @@ use crate::uses::record_use;
 use std::alloc::Global;
 use stm_terms::expr::{Expr, Op};
 use stm_terms::kinds::Ty;
-use stm_terms::raw::RawExpr;
+use stm_terms::raw::{RawExpr, Span};
 use stm_terms::values::Value;
 
 /// Where an expression begins.
@@ -26,43 +26,37 @@ pub(crate) fn place(raw: &RawExpr) -> usize
         RawExpr::Int(_, at) => *at,
         RawExpr::Bool(_, at) => *at,
         RawExpr::Unit(at) => *at,
-        RawExpr::Name(from, _) => *from,
+        RawExpr::Name(name) => name.start,
         RawExpr::Bin(_, left, _) => place(left),
     }
 }
 
 /// The text of a span.
-pub(crate) fn name_at(text: &str, from: usize, to: usize) -> &str
+pub(crate) fn name_at(text: &str, name: Span) -> &str
     requires ascii { IsAscii text.now }
-    requires in_order { from ≤ to }
-    requires within { to ≤ length text.now }
-    ensures { result.now ≡ slice_range text.now from to }
+    requires within { IsSpan (length text.now) name.start name.end }
+    ensures { result.now ≡ slice_range text.now name.start name.end }
 {
-    &text[from..to]
+    &text[name.start..name.end]
 }
 
 /// A name: the innermost local, else a declared variable, which is noted.
-fn check_name(
-    names: &Names,
-    uses: &mut Vec<(u32, Ty)>,
-    from: usize,
-    to: usize,
-) -> Result<(Expr, Ty), TypeFault>
-    requires { CanLookUp names.now (raw.name from to) }
-    ensures says { ChecksAs (λ r. (term_of r.0, r.1)) result (expr_found names.now (raw.name from to)) }
+fn check_name(names: &Names, uses: &mut Vec<(u32, Ty)>, name: Span) -> Result<(Expr, Ty), TypeFault>
+    requires { CanLookUp names.now (raw.name name.start name.end) }
+    ensures says { ChecksAs (λ r. (term_of r.0, r.1)) result (expr_found names.now (raw.name name.start name.end)) }
     ensures uses { IfOk result (λ r. uses.new.items ≡ recorded_expr names.now (term_of r.0) uses.old.items) }
     ensures low { IfOk result (λ r. r.1.refs ≤ 9) }
 {
-    let name = name_at(names.text, from, to);
-    if let Some((number, kind)) = find_local(names.locals, name) {
+    let text = name_at(names.text, name);
+    if let Some((number, kind)) = find_local(names.locals, text) {
         return Ok((Expr::Local(number), kind));
     }
-    match find_variable(names.table, name) {
+    match find_variable(names.table, text) {
         Some((id, kind)) => {
             record_use(uses, id, kind)?;
             Ok((Expr::Global(id), reference_to(kind)))
         }
-        None => Err(TypeFault::Unknown(from)),
+        None => Err(TypeFault::Unknown(name.start)),
     }
 }
 
@@ -127,7 +121,7 @@ pub(crate) fn check_expr(
         RawExpr::Int(n, _) => Ok((Expr::Lit(Value::Int(*n)), INT)),
         RawExpr::Bool(b, _) => Ok((Expr::Lit(Value::Bool(*b)), BOOL)),
         RawExpr::Unit(_) => Ok((Expr::Lit(Value::Unit), UNIT)),
-        RawExpr::Name(from, to) => check_name(names, uses, *from, *to),
+        RawExpr::Name(name) => check_name(names, uses, *name),
         RawExpr::Bin(op, left, right) => check_operator(alloc, names, uses, *op, left, right),
     }
 }

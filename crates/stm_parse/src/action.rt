@@ -14,7 +14,7 @@ use crate::cursor::{
 use crate::expression::{atom, expression};
 use crate::token::{Failure, Lexeme, Mark, TokenKind};
 use std::alloc::Global;
-use stm_terms::RawAction;
+use stm_terms::{RawAction, Span};
 
 // An action that is whole.
 fn whole<'t>(alloc: Global, action: RawAction, toks: &'t [Lexeme]) -> Parsed<'t, Box<RawAction>>
@@ -166,7 +166,7 @@ fn or_else<'t>(
 {
     let ((first, _), rest) = paren(alloc, levels, toks)?;
     let ((second, at), rest) = paren(alloc, levels, rest)?;
-    placed(alloc, RawAction::OrElse(first, at, second), place, rest)
+    placed(alloc, RawAction::OrElse { first, at, second }, place, rest)
 }
 
 // After if.
@@ -186,7 +186,12 @@ fn if_then_else<'t>(
     let ((first, _), rest) = boxed_action(alloc, levels, rest)?;
     let rest = expect(Mark::Else, rest)?;
     let ((second, at), rest) = boxed_action(alloc, levels, rest)?;
-    let choice = RawAction::If(condition, first, at, second);
+    let choice = RawAction::If {
+        condition,
+        first,
+        at,
+        second,
+    };
     placed(alloc, choice, place, rest)
 }
 
@@ -219,7 +224,7 @@ fn body<'t>(alloc: Global, levels: u8, toks: &'t [Lexeme]) -> Parsed<'t, Box<Raw
         return Err(unexpected(toks));
     };
     if is_name_kind(first.sym) {
-        return bound(alloc, levels, first.start, first.end, rest);
+        return bound(alloc, levels, first.span(), rest);
     }
     if first.sym.is(Mark::Let) {
         return let_bound(alloc, levels, rest);
@@ -232,19 +237,24 @@ fn body<'t>(alloc: Global, levels: u8, toks: &'t [Lexeme]) -> Parsed<'t, Box<Raw
 fn bound<'t>(
     alloc: Global,
     levels: u8,
-    start: usize,
-    end: usize,
+    name: Span,
     toks: &'t [Lexeme],
 ) -> Parsed<'t, Box<RawAction>>
     requires { levels ≤ deepest }
-    ensures gives { ReadsAs (λ r. (raw_act_of r.0.value, r.1.now)) result (bound (action_at levels) (body_at levels) start end toks.now) }
+    ensures gives { ReadsAs (λ r. (raw_act_of r.0.value, r.1.now)) result (bound (action_at levels) (body_at levels) name.start name.end toks.now) }
     ensures shorter { IfOk result (λ r. length r.1.now ≤ length toks.now) }
 {
-    let rest = expect(Mark::Arrow, toks)?;
-    let ((first, at), rest) = boxed_action(alloc, levels, rest)?;
-    let rest = expect(Mark::Semicolon, rest)?;
-    let (then, rest) = body(alloc, levels, rest)?;
-    whole(alloc, RawAction::Bind(start, end, at, first, then), rest)
+    let toks = expect(Mark::Arrow, toks)?;
+    let ((bound, at), toks) = boxed_action(alloc, levels, toks)?;
+    let toks = expect(Mark::Semicolon, toks)?;
+    let (rest, toks) = body(alloc, levels, toks)?;
+    let all = RawAction::Bind {
+        name,
+        at,
+        bound,
+        rest,
+    };
+    whole(alloc, all, toks)
 }
 
 // After let.
@@ -254,13 +264,14 @@ fn let_bound<'t>(alloc: Global, levels: u8, toks: &'t [Lexeme]) -> Parsed<'t, Bo
     ensures gives { ReadsAs (λ r. (raw_act_of r.0.value, r.1.now)) result (let_bound (tier_at widest levels) (body_at levels) toks.now) }
     ensures shorter { IfOk result (λ r. length r.1.now ≤ length toks.now) }
 {
-    let (name, rest) = expect_name(toks)?;
-    let rest = expect(Mark::Equals, rest)?;
-    let (value, rest) = expression(alloc, levels, rest)?;
-    let rest = expect(Mark::Semicolon, rest)?;
-    let (then, rest) = body(alloc, levels, rest)?;
-    let all = RawAction::Let(name.start, name.end, value, then);
-    whole(alloc, all, rest)
+    let (name, toks) = expect_name(toks)?;
+    let toks = expect(Mark::Equals, toks)?;
+    let (value, toks) = expression(alloc, levels, toks)?;
+    let toks = expect(Mark::Semicolon, toks)?;
+    let (rest, toks) = body(alloc, levels, toks)?;
+    let name = name.span();
+    let all = RawAction::Let { name, value, rest };
+    whole(alloc, all, toks)
 }
 
 // An action, and the rest of the body after a semicolon.

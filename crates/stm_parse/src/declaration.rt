@@ -43,7 +43,10 @@ pub(crate) fn init_of(alloc: Global, text: &str, raw: RawExpr) -> Result<Init, N
         RawExpr::Int(n, _) => Ok(Init::Literal(Value::Int(n))),
         RawExpr::Bool(b, _) => Ok(Init::Literal(Value::Bool(b))),
         RawExpr::Unit(_) => Ok(Init::Literal(Value::Unit)),
-        RawExpr::Name(from, to) => Ok(Init::Name(String::from_str(alloc, &text[from..to])?, from)),
+        RawExpr::Name(name) => Ok(Init::Name(
+            String::from_str(alloc, &text[name.start..name.end])?,
+            name.start,
+        )),
         // No declaration has an operator.
         RawExpr::Bin(_, _, _) => Ok(Init::Literal(Value::Unit)),
     }
@@ -51,11 +54,11 @@ pub(crate) fn init_of(alloc: Global, text: &str, raw: RawExpr) -> Result<Init, N
 
 fn owned(alloc: Global, text: &str, raw: RawDeclaration) -> Result<Declaration, NoMemory>
     requires ascii { IsAscii text.now }
-    requires name { IsSpan (length text.now) raw.from raw.to }
+    requires name { IsSpan (length text.now) raw.name.start raw.name.end }
     requires spans { NamesWithin (length text.now) (raw_term_of raw.init) }
     ensures { IfOk result (λ d. declaration_of d ≡ declaration_in text.now (declaration_tree_of raw)) }
 {
-    let name = String::from_str(alloc, &text[raw.from..raw.to])?;
+    let name = String::from_str(alloc, &text[raw.name.start..raw.name.end])?;
     let init = init_of(alloc, text, raw.init)?;
     Ok(Declaration {
         name,

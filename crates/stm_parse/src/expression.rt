@@ -70,7 +70,7 @@ fn short<'t>(first: &Lexeme, rest: &'t [Lexeme], toks: &'t [Lexeme]) -> Parsed<'
                 Err(bad_number(toks))
             }
         }
-        TokenKind::Name => Ok((RawExpr::Name(first.start, first.end), rest)),
+        TokenKind::Name => Ok((RawExpr::Name(first.span()), rest)),
         TokenKind::Other => Err(unexpected(toks)),
         TokenKind::Mark(mark) => match mark {
             Mark::True => Ok((RawExpr::Bool(true, first.start), rest)),

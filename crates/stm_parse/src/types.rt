@@ -9,7 +9,7 @@ ghost use Rattle.stm_parse.specs.Descent.{ReadsAs, type_at, bare_at, bracketed_t
 use crate::cursor::{Parsed, accept, expect, expect_name, one_level_deeper, too_deep, unexpected};
 use crate::expression::init;
 use crate::token::{Failure, Lexeme, Mark, TokenKind};
-use stm_terms::{Base, RawExpr, Ty};
+use stm_terms::{Base, RawExpr, Span, Ty};
 
 // A type with the given number of `TVar` around it.
 #[cycle(types)]
@@ -100,8 +100,7 @@ fn bracketed_type(levels: u8, refs: u8, toks: &[Lexeme]) -> Parsed<'_, Ty>
 /// A declared name by its span, its type, and what it holds at first.
 #[derive(Drop)]
 pub struct RawDeclaration {
-    pub from: usize,
-    pub to: usize,
+    pub name: Span,
     pub ty: Ty,
     pub init: RawExpr,
 }
@@ -117,8 +116,7 @@ pub fn declaration(toks: &[Lexeme]) -> Parsed<'_, RawDeclaration>
     let rest = expect(Mark::Equals, rest)?;
     let (init, rest) = init(rest)?;
     let declared = RawDeclaration {
-        from: name.start,
-        to: name.end,
+        name: name.span(),
         ty,
         init,
     };
