@@ -7,9 +7,9 @@ ghost use Rattle.stm_terms.specs.Ast.{act_of};
 ghost use Rattle.stm_terms.specs.Typing.{result_type, uses_of};
 ghost use Rattle.stm_check.specs.CheckFunction.{ChecksAs, checked, table_kinds};
 
-use crate::actions::check_action;
+use crate::checker::Checker;
 use crate::fault::TypeFault;
-use crate::scope::{Names, Scope};
+use crate::scope::Scope;
 use crate::typed::Typed;
 use std::alloc::Global;
 use stm_parse::Raw;
@@ -32,12 +32,13 @@ fn check_tree(
     ensures uses { IfOk result (λ r. r.2.items ≡ uses_of (table_kinds table.now) (act_of r.0)) }
 {
     let mut uses = Vec::new(alloc);
-    let names = Names {
+    let checker = Checker {
+        alloc,
         table,
         text,
         locals: &Scope::Empty,
     };
-    let (action, kind) = check_action(alloc, &names, &mut uses, raw)?;
+    let (action, kind) = checker.check_action(&mut uses, raw)?;
     Ok((action, kind, uses))
 }
 

@@ -5,14 +5,13 @@ ghost use Rattle.std.specs.Str.{IsAscii};
 ghost use Rattle.stm_terms.specs.Ast.{term_of};
 ghost use Rattle.stm_terms.specs.ParsedAst as raw;
 ghost use Rattle.stm_terms.specs.ParsedAst.{IsSpan, raw_term_of, place};
-ghost use Rattle.stm_check.specs.CheckFunction.{ChecksAs};
-ghost use Rattle.stm_check.specs.CheckContext.{CanLookUp, expr_found, recorded_expr};
+ghost use Rattle.stm_check.specs.CheckContext.{CanLookUp, ChecksExpr};
 
+use crate::checker::Checker;
 use crate::fault::TypeFault;
-use crate::scope::{Names, find_local, find_variable};
+use crate::scope::{find_local, find_variable};
 use crate::types::{BOOL, INT, UNIT, as_wanted, given, reference_to, same, wanted};
 use crate::uses::record_use;
-use std::alloc::Global;
 use stm_terms::expr::{Expr, Op};
 use stm_terms::kinds::Ty;
 use stm_terms::raw::{RawExpr, Span};
@@ -40,88 +39,83 @@ pub(crate) fn name_at(text: &str, name: Span) -> &str
     &text[name.start..name.end]
 }
 
-/// A name: the innermost local, else a declared variable, which is noted.
-fn check_name(names: &Names, uses: &mut Vec<(u32, Ty)>, name: Span) -> Result<(Expr, Ty), TypeFault>
-    requires { CanLookUp names.now (raw.name name.start name.end) }
-    ensures says { ChecksAs (λ r. (term_of r.0, r.1)) result (expr_found names.now (raw.name name.start name.end)) }
-    ensures uses { IfOk result (λ r. uses.new.items ≡ recorded_expr names.now (term_of r.0) uses.old.items) }
-    ensures low { IfOk result (λ r. r.1.refs ≤ 9) }
-{
-    let text = name_at(names.text, name);
-    if let Some((number, kind)) = find_local(names.locals, text) {
-        return Ok((Expr::Local(number), kind));
-    }
-    match find_variable(names.table, text) {
-        Some((id, kind)) => {
-            record_use(uses, id, kind)?;
-            Ok((Expr::Global(id), reference_to(kind)))
+impl Checker<'_> {
+    /// A name: the innermost local, else a declared variable, which is noted.
+    fn check_name(&self, uses: &mut Vec<(u32, Ty)>, name: Span) -> Result<(Expr, Ty), TypeFault>
+        requires { CanLookUp self.now (raw.name name.start name.end) }
+        ensures { ChecksExpr self.now (raw.name name.start name.end)
+            term_of result uses.old.items uses.new.items }
+    {
+        let text = name_at(self.text, name);
+        if let Some((number, kind)) = find_local(self.locals, text) {
+            return Ok((Expr::Local(number), kind));
         }
-        None => Err(TypeFault::Unknown(name.start)),
+        match find_variable(self.table, text) {
+            Some((id, kind)) => {
+                record_use(uses, id, kind)?;
+                Ok((Expr::Global(id), reference_to(kind)))
+            }
+            None => Err(TypeFault::Unknown(name.start)),
+        }
     }
-}
 
-/// An operand, boxed as soon as it is whole.
-#[cycle(expressions)]
-fn check_operand(
-    alloc: Global,
-    names: &Names,
-    uses: &mut Vec<(u32, Ty)>,
-    raw: &RawExpr,
-) -> Result<(Box<Expr>, Ty), TypeFault>
-    requires { CanLookUp names.now (raw_term_of raw.now) }
-    ensures says { ChecksAs (λ r. (term_of r.0.value, r.1)) result (expr_found names.now (raw_term_of raw.now)) }
-    ensures uses { IfOk result (λ r. uses.new.items ≡ recorded_expr names.now (term_of r.0.value) uses.old.items) }
-    ensures low { IfOk result (λ r. r.1.refs ≤ 9) }
-{
-    let (operand, kind) = check_expr(alloc, names, uses, raw)?;
-    let operand = Box::new(alloc, operand)?;
-    Ok((operand, kind))
-}
-
-/// An operator with its operands.
-#[cycle(expressions)]
-fn check_operator(
-    alloc: Global,
-    names: &Names,
-    uses: &mut Vec<(u32, Ty)>,
-    op: Op,
-    left: &RawExpr,
-    right: &RawExpr,
-) -> Result<(Expr, Ty), TypeFault>
-    requires { CanLookUp names.now (raw.bin op (raw_term_of left.now) (raw_term_of right.now)) }
-    ensures says { ChecksAs (λ r. (term_of r.0, r.1)) result (expr_found names.now (raw.bin op (raw_term_of left.now) (raw_term_of right.now))) }
-    ensures uses { IfOk result (λ r. uses.new.items ≡ recorded_expr names.now (term_of r.0) uses.old.items) }
-    ensures low { IfOk result (λ r. r.1.refs ≤ 9) }
-{
-    let (a, first) = check_operand(alloc, names, uses, left)?;
-    if !as_wanted(wanted(op), first) {
-        return Err(TypeFault::Mismatch(place(left)));
+    /// An operand, boxed as soon as it is whole.
+    #[cycle(expressions)]
+    fn check_operand(
+        &self,
+        uses: &mut Vec<(u32, Ty)>,
+        raw: &RawExpr,
+    ) -> Result<(Box<Expr>, Ty), TypeFault>
+        requires { CanLookUp self.now (raw_term_of raw.now) }
+        ensures { ChecksExpr self.now (raw_term_of raw.now)
+            (λ p. term_of p.value) result uses.old.items uses.new.items }
+    {
+        let (operand, kind) = self.check_expr(uses, raw)?;
+        let operand = Box::new(self.alloc, operand)?;
+        Ok((operand, kind))
     }
-    let (b, second) = check_operand(alloc, names, uses, right)?;
-    if !same(second, wanted(op).unwrap_or(first)) {
-        return Err(TypeFault::Mismatch(place(right)));
-    }
-    Ok((Expr::Bin(op, a, b), given(op)))
-}
 
-/// The expression with its names resolved, and its type.
-#[cycle(expressions)]
-pub(crate) fn check_expr(
-    alloc: Global,
-    names: &Names,
-    uses: &mut Vec<(u32, Ty)>,
-    raw: &RawExpr,
-) -> Result<(Expr, Ty), TypeFault>
-    requires { CanLookUp names.now (raw_term_of raw.now) }
-    ensures says { ChecksAs (λ r. (term_of r.0, r.1)) result (expr_found names.now (raw_term_of raw.now)) }
-    ensures uses { IfOk result (λ r. uses.new.items ≡ recorded_expr names.now (term_of r.0) uses.old.items) }
-    ensures low { IfOk result (λ r. r.1.refs ≤ 9) }
-{
-    match raw {
-        RawExpr::Int(n, _) => Ok((Expr::Lit(Value::Int(*n)), INT)),
-        RawExpr::Bool(b, _) => Ok((Expr::Lit(Value::Bool(*b)), BOOL)),
-        RawExpr::Unit(_) => Ok((Expr::Lit(Value::Unit), UNIT)),
-        RawExpr::Name(name) => check_name(names, uses, *name),
-        RawExpr::Bin(op, left, right) => check_operator(alloc, names, uses, *op, left, right),
+    /// An operator with its operands.
+    #[cycle(expressions)]
+    fn check_operator(
+        &self,
+        uses: &mut Vec<(u32, Ty)>,
+        op: Op,
+        left: &RawExpr,
+        right: &RawExpr,
+    ) -> Result<(Expr, Ty), TypeFault>
+        requires { CanLookUp self.now (raw.bin op (raw_term_of left.now) (raw_term_of right.now)) }
+        ensures { ChecksExpr self.now (raw.bin op (raw_term_of left.now) (raw_term_of right.now))
+            term_of result uses.old.items uses.new.items }
+    {
+        let (a, first) = self.check_operand(uses, left)?;
+        if !as_wanted(wanted(op), first) {
+            return Err(TypeFault::Mismatch(place(left)));
+        }
+        let (b, second) = self.check_operand(uses, right)?;
+        if !same(second, wanted(op).unwrap_or(first)) {
+            return Err(TypeFault::Mismatch(place(right)));
+        }
+        Ok((Expr::Bin(op, a, b), given(op)))
+    }
+
+    /// The expression with its names resolved, and its type.
+    #[cycle(expressions)]
+    pub(crate) fn check_expr(
+        &self,
+        uses: &mut Vec<(u32, Ty)>,
+        raw: &RawExpr,
+    ) -> Result<(Expr, Ty), TypeFault>
+        requires { CanLookUp self.now (raw_term_of raw.now) }
+        ensures { ChecksExpr self.now (raw_term_of raw.now)
+            term_of result uses.old.items uses.new.items }
+    {
+        match raw {
+            RawExpr::Int(n, _) => Ok((Expr::Lit(Value::Int(*n)), INT)),
+            RawExpr::Bool(b, _) => Ok((Expr::Lit(Value::Bool(*b)), BOOL)),
+            RawExpr::Unit(_) => Ok((Expr::Lit(Value::Unit), UNIT)),
+            RawExpr::Name(name) => self.check_name(uses, *name),
+            RawExpr::Bin(op, left, right) => self.check_operator(uses, *op, left, right),
+        }
     }
 }

@@ -14,14 +14,6 @@ pub(crate) enum Scope<'a> {
     Local(&'a str, Ty, &'a Scope<'a>),
 }
 
-/// Where a check looks names up: the declared variables, the text that names are spans of, and the locals in scope.
-#[derive(Drop)]
-pub(crate) struct Names<'a> {
-    pub table: &'a Table,
-    pub text: &'a str,
-    pub locals: &'a Scope<'a>,
-}
-
 fn depth(locals: &Scope) -> u32
     requires { length (scope locals.now) < 2 ^ 32 }
     ensures { result ≡ length (scope locals.now) }
