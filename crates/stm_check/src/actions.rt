@@ -61,7 +61,7 @@ impl Checker<'_> {
             act_of result uses.old.items uses.new.items }
     {
         let (first, kind) = self.check_expr(uses, value)?;
-        if kind.refs > 8 {
+        if kind.refs > Ty::MOST_REFS {
             return Err(TypeFault::TypeTooDeep(place(value)));
         }
         Ok((Action::Make(kind, first), Some(reference_to(kind))))

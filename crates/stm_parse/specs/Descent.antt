@@ -16,7 +16,8 @@ use Rattle.stm_parse.specs.declared.token.Failure.TheVariants as stop
 use Rattle.stm_parse.specs.declared.cursor.Grouping.{Grouping}
 use Rattle.stm_parse.specs.declared.cursor.Grouping.TheVariants as grouping
 use Rattle.stm_parse.specs.Terminals.{is_mark}
-use Rattle.stm_parse.specs.Grammar.{operator_of, grouping_of, widest, Placed, DeclarationTree, most_refs, greatest}
+use Rattle.stm_terms.specs.Limits.{most_refs}
+use Rattle.stm_parse.specs.Grammar.{operator_of, grouping_of, widest, Placed, DeclarationTree, deepest, greatest}
 
 abbrev pub Reading : Type 0 → Type 0
 Reading A = Result (A × List Lexeme) Fault
@@ -335,7 +336,7 @@ level_at n = record { expression = tier_at widest n; action = action_at n; paren
 -- a whole block
 abbrev pub block_reader : Reader RawAct
 block_reader toks = do
-  a ← action_at 64 toks
+  a ← action_at deepest toks
   Ok (a.0.0, a.1)
 
 abbrev pub tvar_type : Ty → Ty
@@ -387,7 +388,7 @@ abbrev pub declaration_reader : Reader DeclarationTree
 declaration_reader toks = do
   x ← expect_name toks
   colon ← expect mark.Colon x.1
-  t ← type_at 64 0 colon.1
+  t ← type_at deepest 0 colon.1
   equals ← expect mark.Equals t.1
   e ← init equals.1
   Ok (record { from = x.0.start; to = x.0.end; ty = t.0; init = e.0 }, e.1)

@@ -14,6 +14,7 @@ use crate::action::action;
 use crate::cursor::unexpected;
 use crate::fault::ParseFault;
 use crate::lexer::lexemes;
+use crate::limits::{DEEPEST, MOST_BYTES, MOST_TOKENS};
 use crate::raw::Raw;
 use crate::token::{ErrorKind, Failure, Lexeme};
 use std::alloc::Global;
@@ -28,14 +29,14 @@ pub(crate) fn lexed(alloc: Global, text: &str) -> Result<Vec<Lexeme>, ParseFault
     ensures block { IfErr result (λ e. FailsAs e (parsed_block text.now)) }
     ensures declaration { IfErr result (λ e. FailsAs e (parsed_declaration text.now)) }
 {
-    if text.len() > 65536 {
+    if text.len() > MOST_BYTES {
         return Err(ParseFault::TooLarge);
     }
     let toks = match lexemes(alloc, text) {
         Ok(toks) => toks,
         Err(fault) => return Err(fault),
     };
-    if toks.len() > 4096 {
+    if toks.len() > MOST_TOKENS {
         return Err(ParseFault::TooLarge);
     }
     Ok(toks)
@@ -62,7 +63,7 @@ pub(crate) fn fault_of_failure(toks: &[Lexeme], stop: Failure) -> ParseFault
 fn whole_block(alloc: Global, toks: &[Lexeme]) -> Result<RawAction, Failure>
     ensures { ReadsAs raw_act_of result (whole block_reader toks.now) }
 {
-    let ((tree, _), rest) = action(alloc, 64, toks)?;
+    let ((tree, _), rest) = action(alloc, DEEPEST, toks)?;
     if rest.is_empty() {
         Ok(tree)
     } else {

@@ -4,33 +4,34 @@ ghost use Rattle.std.specs.Prelude.{◌≡◌, ◌≤◌, length, IfSome};
 ghost use Rattle.stm_terms.specs.Names.{is_digit, is_word_byte};
 ghost use Rattle.stm_parse.specs.declared.token.TokenKind.TheVariants as tok;
 ghost use Rattle.stm_parse.specs.declared.tokenizer.TokenClass.TheVariants as kind;
-ghost use Rattle.stm_parse.specs.Bytes.{is_letter, is_blank, pair_mark, single_mark, word_len, number_len, digit_value, decimal, number_of_digits};
+ghost use Rattle.stm_parse.specs.Bytes.{is_letter, is_blank, pair_mark, single_mark, word_len, number_len, digit_value, decimal, most_digits, number_of_digits};
 ghost use Rattle.stm_parse.specs.Lexing.{class_of};
 
+use crate::limits::{GREATEST_WRITTEN, MOST_DIGITS};
 use crate::token::Mark;
 
 pub(crate) fn is_letter(byte: u8) -> bool
     ensures { result ≡ is_letter byte }
 {
-    (97 <= byte && byte <= 122) || (65 <= byte && byte <= 90)
+    (b'a' <= byte && byte <= b'z') || (b'A' <= byte && byte <= b'Z')
 }
 
 pub(crate) fn is_digit(byte: u8) -> bool
     ensures { result ≡ is_digit byte }
 {
-    48 <= byte && byte <= 57
+    b'0' <= byte && byte <= b'9'
 }
 
 fn is_word_byte(byte: u8) -> bool
     ensures { result ≡ is_word_byte byte }
 {
-    is_letter(byte) || is_digit(byte) || byte == 95 || byte == 39
+    is_letter(byte) || is_digit(byte) || byte == b'_' || byte == b'\''
 }
 
 pub(crate) fn is_blank(byte: u8) -> bool
     ensures { result ≡ is_blank byte }
 {
-    byte == 9 || byte == 10 || byte == 13 || byte == 32
+    byte == b'\t' || byte == b'\n' || byte == b'\r' || byte == b' '
 }
 
 // <- <= == && ||
@@ -88,19 +89,19 @@ fn digit_value(byte: u8) -> u8
     ensures value { result ≡ digit_value byte }
     ensures low { result ≤ 9 }
 {
-    if is_digit(byte) { byte - 48 } else { 0 }
+    if is_digit(byte) { byte - b'0' } else { 0 }
 }
 
-/// The number of these digits, if there are at most 19 and it is at most 9223372036854775808.
+/// The number of these digits, if they are not too many and it is not too great.
 #[tactic(auto, unfolding(crate::specs::Bytes::number_of_digits))]
 pub fn number_of(digits: &[u8]) -> Option<u64>
     ensures { result ≡ number_of_digits digits.now }
 {
-    if digits.len() > 19 {
+    if digits.len() > MOST_DIGITS {
         return None;
     }
     let value = decimal(digits);
-    if value > 9223372036854775808 {
+    if value > GREATEST_WRITTEN {
         None
     } else {
         Some(value)
@@ -108,7 +109,7 @@ pub fn number_of(digits: &[u8]) -> Option<u64>
 }
 
 fn decimal(digits: &[u8]) -> u64
-    requires { length digits.now ≤ 19 }
+    requires { length digits.now ≤ most_digits }
     ensures { result ≡ decimal 0 digits.now }
 {
     let mut value: u64 = 0;

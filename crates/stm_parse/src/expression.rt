@@ -8,6 +8,7 @@ ghost use Rattle.stm_parse.specs.Descent.{ReadsAs, in_reach, literal, bracketed,
 use crate::cursor::{
     Grouping, Parsed, accept, bad_number, expect, groups, one_level_deeper, operator, unexpected,
 };
+use crate::limits::GREATEST_WRITTEN;
 use crate::token::{Failure, Lexeme, Mark, TokenKind};
 use std::alloc::Global;
 use stm_terms::{Op, RawExpr};
@@ -19,7 +20,7 @@ const WIDEST: u8 = 5;
 fn in_reach(n: u64) -> bool
     ensures { result ≡ in_reach n }
 {
-    n <= 9223372036854775807
+    n < GREATEST_WRITTEN
 }
 
 #[tactic(auto, unfolding(crate::specs::Grammar::greatest))]

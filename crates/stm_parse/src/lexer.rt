@@ -6,7 +6,7 @@ ghost use Rattle.std.specs.Str.{IsAscii};
 ghost use Rattle.stm_terms.specs.Names.{is_word_byte, starts_lower};
 ghost use Rattle.stm_parse.specs.declared.token.TokenKind.TheVariants as tok;
 ghost use Rattle.stm_parse.specs.declared.tokenizer.TokenClass.TheVariants as kind;
-ghost use Rattle.stm_parse.specs.Bytes.{is_letter, word_len, number_len, number_of_digits};
+ghost use Rattle.stm_parse.specs.Bytes.{is_letter, longest_word, word_len, number_len, number_of_digits};
 ghost use Rattle.stm_parse.specs.Lexing.{control_mark, action_mark, value_mark, word_mark, token_kind_of, class_of, token_of};
 ghost use Rattle.stm_parse.specs.ParseResult.{Lexes};
 ghost use Rattle.stm_parse.specs.LexerStep.{front_seen, IsSeen};
@@ -18,8 +18,12 @@ use crate::bytes::{
     is_blank, is_digit, is_letter, number_len, number_of, pair_mark, single_mark, word_len,
 };
 use crate::fault::ParseFault;
+use crate::limits::LONGEST_WORD;
 use crate::token::{Lexeme, Mark, TokenKind};
 use std::alloc::Global;
+
+// The most tokens that room is made for before the first is found.
+const FIRST_ROOM: usize = 64;
 
 /// What stands at the front of some bytes, a token with what the grammar sees in it and its length.
 #[derive(Clone, Copy)]
@@ -101,7 +105,7 @@ fn starts_small(word: &[u8]) -> bool
 {
     match word {
         [] => false,
-        [first, ..] => 97 <= *first && *first <= 122,
+        [first, ..] => b'a' <= *first && *first <= b'z',
     }
 }
 
@@ -109,7 +113,7 @@ fn starts_small(word: &[u8]) -> bool
 #[tactic(auto, using(crate::proofs::Words::is_name_by_first), unfolding(crate::specs::Lexing::class_of))]
 fn word_kind(word: &[u8]) -> TokenKind
     requires bytes { list_all is_word_byte word.now ≡ true }
-    requires short { length word.now ≤ 32 }
+    requires short { length word.now ≤ longest_word }
     ensures sym { result ≡ token_kind_of kind.Word word.now }
     ensures class { class_of result ≡ kind.Word }
 {
@@ -156,7 +160,7 @@ fn word_piece(first: u8, rest: &[u8], bytes: &[u8]) -> Piece
     ensures within { IsWithin (front_seen result) (length bytes.now) }
 {
     let n = 1 + word_len(rest);
-    if n > 32 {
+    if n > LONGEST_WORD {
         Piece::LongName
     } else {
         Piece::Found(word_kind(&bytes[..n]), n)
@@ -231,7 +235,7 @@ fn cut_lexemes(alloc: Global, bytes: &[u8]) -> Result<Vec<Lexeme>, ParseFault>
     ensures faults { IfErr result IsOfTokens }
 {
     // Few texts have more tokens than half their bytes, and long ones grow as they need.
-    let mut out = Vec::with_capacity(alloc, (bytes.len() / 2).min(64))?;
+    let mut out = Vec::with_capacity(alloc, (bytes.len() / 2).min(FIRST_ROOM))?;
     let mut place = 0;
     while place < bytes.len() {
         match piece_at(bytes, place) {

@@ -24,6 +24,7 @@ pub mod fault;
 pub mod laws;
 pub mod laws_of_tokens;
 pub mod lexer;
+pub mod limits;
 pub mod raw;
 pub mod token;
 pub mod tokenizer;

@@ -2,12 +2,14 @@
 
 ghost use Rattle.std.specs.Prelude.{◌≡◌, ◌+◌, ◌-◌, ◌<◌, ◌≤◌, suc, length, IfOk};
 ghost use Rattle.stm_terms.specs.ParsedAst.{raw_term_of};
-ghost use Rattle.stm_parse.specs.Grammar.{deepest, most_refs};
+ghost use Rattle.stm_terms.specs.Limits.{most_refs};
+ghost use Rattle.stm_parse.specs.Grammar.{deepest};
 ghost use Rattle.stm_parse.specs.Declarations.{declaration_tree_of};
 ghost use Rattle.stm_parse.specs.Descent.{ReadsAs, type_at, bare_at, bracketed_type, declaration_reader};
 
 use crate::cursor::{Parsed, accept, expect, expect_name, one_level_deeper, too_deep, unexpected};
 use crate::expression::init;
+use crate::limits::DEEPEST;
 use crate::token::{Failure, Lexeme, Mark, TokenKind};
 use stm_terms::{Base, RawExpr, Span, Ty};
 
@@ -24,7 +26,7 @@ fn type_within(levels: u8, refs: u8, toks: &[Lexeme]) -> Parsed<'_, Ty>
     let Some(rest) = accept(Mark::TVar, toks) else {
         return bare_type(levels, refs, toks);
     };
-    if refs >= 8 {
+    if refs >= Ty::MOST_REFS {
         return Err(too_deep(toks));
     }
     let (inner, rest) = bare_type(levels, refs + 1, rest)?;
@@ -112,7 +114,7 @@ pub fn declaration(toks: &[Lexeme]) -> Parsed<'_, RawDeclaration>
 {
     let (name, rest) = expect_name(toks)?;
     let rest = expect(Mark::Colon, rest)?;
-    let (ty, rest) = type_within(64, 0, rest)?;
+    let (ty, rest) = type_within(DEEPEST, 0, rest)?;
     let rest = expect(Mark::Equals, rest)?;
     let (init, rest) = init(rest)?;
     let declared = RawDeclaration {
