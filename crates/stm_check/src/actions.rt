@@ -40,8 +40,10 @@ impl Checker<'_> {
     }
 
     fn check_write(&self, uses: &mut Vec<(u32, Ty)>, variable: &RawExpr, value: &RawExpr) -> Checked
-        requires { CanCheck self.now (raw.write (raw_term_of variable.now) (raw_term_of value.now)) }
-        ensures { ChecksAction self.now (raw.write (raw_term_of variable.now) (raw_term_of value.now))
+        requires { CanCheck self.now
+            (raw.write (raw_term_of variable.now) (raw_term_of value.now)) }
+        ensures { ChecksAction self.now
+            (raw.write (raw_term_of variable.now) (raw_term_of value.now))
             act_of result uses.old.items uses.new.items }
     {
         let (reference, kind) = self.check_expr(uses, variable)?;
@@ -88,8 +90,12 @@ impl Checker<'_> {
         at: usize,
         second: &RawAction,
     ) -> Checked
-        requires { CanCheck self.now (raw.if_else (raw_term_of condition.now) (raw_act_of first.now) at (raw_act_of second.now)) }
-        ensures { ChecksAction self.now (raw.if_else (raw_term_of condition.now) (raw_act_of first.now) at (raw_act_of second.now))
+        requires { CanCheck self.now
+            (raw.if_else (raw_term_of condition.now) (raw_act_of first.now) at
+            (raw_act_of second.now)) }
+        ensures { ChecksAction self.now
+            (raw.if_else (raw_term_of condition.now) (raw_act_of first.now) at
+            (raw_act_of second.now))
             act_of result uses.old.items uses.new.items }
     {
         let (test, kind) = self.check_expr(uses, condition)?;
@@ -112,8 +118,10 @@ impl Checker<'_> {
         at: usize,
         second: &RawAction,
     ) -> Checked
-        requires { CanCheck self.now (raw.or_else (raw_act_of first.now) at (raw_act_of second.now)) }
-        ensures { ChecksAction self.now (raw.or_else (raw_act_of first.now) at (raw_act_of second.now))
+        requires { CanCheck self.now
+            (raw.or_else (raw_act_of first.now) at (raw_act_of second.now)) }
+        ensures { ChecksAction self.now
+            (raw.or_else (raw_act_of first.now) at (raw_act_of second.now))
             act_of result uses.old.items uses.new.items }
     {
         let (a, left) = self.check_part(uses, first)?;
@@ -133,8 +141,10 @@ impl Checker<'_> {
         bound: &RawAction,
         rest: &RawAction,
     ) -> Checked
-        requires { CanCheck self.now (raw.bind name.start name.end at (raw_act_of bound.now) (raw_act_of rest.now)) }
-        ensures { ChecksAction self.now (raw.bind name.start name.end at (raw_act_of bound.now) (raw_act_of rest.now))
+        requires { CanCheck self.now
+            (raw.bind name.start name.end at (raw_act_of bound.now) (raw_act_of rest.now)) }
+        ensures { ChecksAction self.now
+            (raw.bind name.start name.end at (raw_act_of bound.now) (raw_act_of rest.now))
             act_of result uses.old.items uses.new.items }
     {
         let (a, kind) = self.check_part(uses, bound)?;
@@ -160,8 +170,10 @@ impl Checker<'_> {
         value: &RawExpr,
         rest: &RawAction,
     ) -> Checked
-        requires { CanCheck self.now (raw.let_in name.start name.end (raw_term_of value.now) (raw_act_of rest.now)) }
-        ensures { ChecksAction self.now (raw.let_in name.start name.end (raw_term_of value.now) (raw_act_of rest.now))
+        requires { CanCheck self.now
+            (raw.let_in name.start name.end (raw_term_of value.now) (raw_act_of rest.now)) }
+        ensures { ChecksAction self.now
+            (raw.let_in name.start name.end (raw_term_of value.now) (raw_act_of rest.now))
             act_of result uses.old.items uses.new.items }
     {
         let (a, kind) = self.check_expr(uses, value)?;

@@ -1,6 +1,7 @@
 pub mod Bytes
 pub mod Declarations
 pub mod Descent
+pub mod DescentResults
 pub mod ExpectationFunction
 pub mod Expectations
 pub mod Faults

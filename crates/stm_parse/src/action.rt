@@ -6,7 +6,8 @@ ghost use Rattle.std.specs.Prelude.{◌≡◌, ◌+◌, ◌-◌, ◌<◌, ◌≤
 ghost use Rattle.stm_terms.specs.ParsedAst.{RawAct, raw_act_of, return, read, make, throw};
 ghost use Rattle.stm_parse.specs.Grammar.{Placed, deepest, widest};
 ghost use Rattle.stm_parse.specs.declared.token.Lexeme.{Lexeme};
-ghost use Rattle.stm_parse.specs.Descent.{ReadsAs, atom_at, tier_at, action_at, paren_at, body_at, closed, block, if_of, or_else_of, bound, let_bound, sequence, two_operands};
+ghost use Rattle.stm_parse.specs.DescentResults.{GivesReading, boxed_tree, placed_tree};
+ghost use Rattle.stm_parse.specs.Descent.{atom_at, tier_at, action_at, paren_at, body_at, closed, block, if_of, or_else_of, bound, let_bound, sequence, two_operands};
 
 use crate::cursor::{
     Parsed, accept, expect, expect_name, is_name_kind, one_level_deeper, unexpected,
@@ -18,7 +19,7 @@ use stm_terms::{RawAction, Span};
 
 // An action that is whole.
 fn whole<'t>(alloc: Global, action: RawAction, toks: &'t [Lexeme]) -> Parsed<'t, Box<RawAction>>
-    ensures gives { ReadsAs {Y = RawAct × List Lexeme} (λ r. (raw_act_of r.0.value, r.1.now)) result (Ok (raw_act_of action, toks.now)) }
+    ensures gives { GivesReading boxed_tree result (Ok (raw_act_of action, toks.now)) }
     ensures shorter { IfOk result (λ r. length r.1.now ≤ length toks.now) }
 {
     let action = Box::new(alloc, action)?;
@@ -32,7 +33,7 @@ fn placed<'t>(
     place: usize,
     toks: &'t [Lexeme],
 ) -> Parsed<'t, (Box<RawAction>, usize)>
-    ensures gives { ReadsAs {Y = Placed × List Lexeme} (λ r. ((raw_act_of r.0.0.value, r.0.1), r.1.now)) result (Ok ((raw_act_of action, place), toks.now)) }
+    ensures gives { GivesReading placed_tree result (Ok ((raw_act_of action, place), toks.now)) }
     ensures shorter { IfOk result (λ r. length r.1.now ≤ length toks.now) }
 {
     let action = Box::new(alloc, action)?;
@@ -42,7 +43,7 @@ fn placed<'t>(
 /// An action.
 pub fn action<'t>(alloc: Global, levels: u8, toks: &'t [Lexeme]) -> Parsed<'t, (RawAction, usize)>
     requires { levels ≤ deepest }
-    ensures gives { ReadsAs (λ r. ((raw_act_of r.0.0, r.0.1), r.1.now)) result (action_at levels toks.now) }
+    ensures gives { GivesReading (λ a. (raw_act_of a.0, a.1)) result (action_at levels toks.now) }
     ensures shorter { IfOk result (λ r. length r.1.now ≤ length toks.now) }
 {
     let ((action, place), rest) = boxed_action(alloc, levels, toks)?;
@@ -58,7 +59,7 @@ fn boxed_action<'t>(
     toks: &'t [Lexeme],
 ) -> Parsed<'t, (Box<RawAction>, usize)>
     requires { levels ≤ deepest }
-    ensures gives { ReadsAs (λ r. ((raw_act_of r.0.0.value, r.0.1), r.1.now)) result (action_at levels toks.now) }
+    ensures gives { GivesReading placed_tree result (action_at levels toks.now) }
     ensures shorter { IfOk result (λ r. length r.1.now ≤ length toks.now) }
 {
     let Some((first, rest)) = toks.split_first() else {
@@ -114,7 +115,7 @@ fn write<'t>(
     toks: &'t [Lexeme],
 ) -> Parsed<'t, (Box<RawAction>, usize)>
     requires { levels ≤ deepest }
-    ensures gives { ReadsAs (λ r. ((raw_act_of r.0.0.value, r.0.1), r.1.now)) result (two_operands (atom_at levels) place toks.now) }
+    ensures gives { GivesReading placed_tree result (two_operands (atom_at levels) place toks.now) }
     ensures shorter { IfOk result (λ r. length r.1.now ≤ length toks.now) }
 {
     let (variable, rest) = atom(alloc, levels, toks)?;
@@ -126,7 +127,7 @@ fn write<'t>(
 #[cycle(actions)]
 fn closed<'t>(alloc: Global, levels: u8, toks: &'t [Lexeme]) -> Parsed<'t, (Box<RawAction>, usize)>
     requires { levels ≤ deepest }
-    ensures gives { ReadsAs (λ r. ((raw_act_of r.0.0.value, r.0.1), r.1.now)) result (closed (action_at levels) toks.now) }
+    ensures gives { GivesReading placed_tree result (closed (action_at levels) toks.now) }
     ensures shorter { IfOk result (λ r. length r.1.now ≤ length toks.now) }
 {
     let (inner, rest) = boxed_action(alloc, levels, toks)?;
@@ -139,7 +140,7 @@ fn closed<'t>(alloc: Global, levels: u8, toks: &'t [Lexeme]) -> Parsed<'t, (Box<
 #[tactic(auto, unfolding(crate::specs::Descent::paren_at))]
 fn paren<'t>(alloc: Global, levels: u8, toks: &'t [Lexeme]) -> Parsed<'t, (Box<RawAction>, usize)>
     requires { levels ≤ deepest }
-    ensures gives { ReadsAs (λ r. ((raw_act_of r.0.0.value, r.0.1), r.1.now)) result (paren_at levels toks.now) }
+    ensures gives { GivesReading placed_tree result (paren_at levels toks.now) }
     ensures shorter { IfOk result (λ r. length r.1.now ≤ length toks.now) }
 {
     let Some((first, rest)) = toks.split_first() else {
@@ -161,7 +162,7 @@ fn or_else<'t>(
     toks: &'t [Lexeme],
 ) -> Parsed<'t, (Box<RawAction>, usize)>
     requires { levels ≤ deepest }
-    ensures gives { ReadsAs (λ r. ((raw_act_of r.0.0.value, r.0.1), r.1.now)) result (or_else_of (paren_at levels) place toks.now) }
+    ensures gives { GivesReading placed_tree result (or_else_of (paren_at levels) place toks.now) }
     ensures shorter { IfOk result (λ r. length r.1.now ≤ length toks.now) }
 {
     let ((first, _), rest) = paren(alloc, levels, toks)?;
@@ -178,7 +179,8 @@ fn if_then_else<'t>(
     toks: &'t [Lexeme],
 ) -> Parsed<'t, (Box<RawAction>, usize)>
     requires { levels ≤ deepest }
-    ensures gives { ReadsAs (λ r. ((raw_act_of r.0.0.value, r.0.1), r.1.now)) result (if_of (tier_at widest levels) (action_at levels) place toks.now) }
+    ensures gives { GivesReading placed_tree result
+        (if_of (tier_at widest levels) (action_at levels) place toks.now) }
     ensures shorter { IfOk result (λ r. length r.1.now ≤ length toks.now) }
 {
     let (condition, rest) = expression(alloc, levels, toks)?;
@@ -204,7 +206,7 @@ fn block<'t>(
     toks: &'t [Lexeme],
 ) -> Parsed<'t, (Box<RawAction>, usize)>
     requires { levels ≤ deepest }
-    ensures gives { ReadsAs (λ r. ((raw_act_of r.0.0.value, r.0.1), r.1.now)) result (block (body_at levels) place toks.now) }
+    ensures gives { GivesReading placed_tree result (block (body_at levels) place toks.now) }
     ensures shorter { IfOk result (λ r. length r.1.now ≤ length toks.now) }
 {
     let rest = expect(Mark::LBrace, toks)?;
@@ -217,7 +219,7 @@ fn block<'t>(
 #[cycle(actions)]
 fn body<'t>(alloc: Global, levels: u8, toks: &'t [Lexeme]) -> Parsed<'t, Box<RawAction>>
     requires { levels ≤ deepest }
-    ensures gives { ReadsAs (λ r. (raw_act_of r.0.value, r.1.now)) result (body_at levels toks.now) }
+    ensures gives { GivesReading boxed_tree result (body_at levels toks.now) }
     ensures shorter { IfOk result (λ r. length r.1.now ≤ length toks.now) }
 {
     let Some((first, rest)) = toks.split_first() else {
@@ -241,7 +243,8 @@ fn bound<'t>(
     toks: &'t [Lexeme],
 ) -> Parsed<'t, Box<RawAction>>
     requires { levels ≤ deepest }
-    ensures gives { ReadsAs (λ r. (raw_act_of r.0.value, r.1.now)) result (bound (action_at levels) (body_at levels) name.start name.end toks.now) }
+    ensures gives { GivesReading boxed_tree result
+        (bound (action_at levels) (body_at levels) name.start name.end toks.now) }
     ensures shorter { IfOk result (λ r. length r.1.now ≤ length toks.now) }
 {
     let toks = expect(Mark::Arrow, toks)?;
@@ -261,7 +264,8 @@ fn bound<'t>(
 #[cycle(actions)]
 fn let_bound<'t>(alloc: Global, levels: u8, toks: &'t [Lexeme]) -> Parsed<'t, Box<RawAction>>
     requires { levels ≤ deepest }
-    ensures gives { ReadsAs (λ r. (raw_act_of r.0.value, r.1.now)) result (let_bound (tier_at widest levels) (body_at levels) toks.now) }
+    ensures gives { GivesReading boxed_tree result
+        (let_bound (tier_at widest levels) (body_at levels) toks.now) }
     ensures shorter { IfOk result (λ r. length r.1.now ≤ length toks.now) }
 {
     let (name, toks) = expect_name(toks)?;
@@ -278,7 +282,8 @@ fn let_bound<'t>(alloc: Global, levels: u8, toks: &'t [Lexeme]) -> Parsed<'t, Bo
 #[cycle(actions)]
 fn sequence<'t>(alloc: Global, levels: u8, toks: &'t [Lexeme]) -> Parsed<'t, Box<RawAction>>
     requires { levels ≤ deepest }
-    ensures gives { ReadsAs (λ r. (raw_act_of r.0.value, r.1.now)) result (sequence (action_at levels) (body_at levels) toks.now) }
+    ensures gives { GivesReading boxed_tree result
+        (sequence (action_at levels) (body_at levels) toks.now) }
     ensures shorter { IfOk result (λ r. length r.1.now ≤ length toks.now) }
 {
     let ((first, _), rest) = boxed_action(alloc, levels, toks)?;

@@ -2,7 +2,8 @@
 
 ghost use Rattle.std.specs.Prelude.{◌≡◌, ◌-◌, ◌<◌, ◌≤◌, length, IfOk, IfErr, IfSome, MatchOption, MatchResult, None, Some};
 ghost use Rattle.stm_parse.specs.Grammar.{operator_of, operator_mark, grouping_of};
-ghost use Rattle.stm_parse.specs.Descent.{ReadsAs, StopsAs, Leaves, accept, expect, expect_name, is_name_kind, op_next, unexpected, too_deep, bad_number};
+ghost use Rattle.stm_parse.specs.DescentResults.{GivesReading};
+ghost use Rattle.stm_parse.specs.Descent.{StopsAs, Leaves, accept, expect, expect_name, is_name_kind, op_next, unexpected, too_deep, bad_number};
 
 use crate::token::{ErrorKind, Failure, Fault, Lexeme, Mark, TokenKind};
 use stm_terms::Op;
@@ -62,7 +63,8 @@ pub fn one_level_deeper(levels: u8, toks: &[Lexeme]) -> Result<u8, Failure>
 
 /// The tokens after this mark, where it is the next.
 pub fn accept(mark: Mark, toks: &[Lexeme]) -> Option<&[Lexeme]>
-    ensures value { MatchOption result (accept mark toks.now ≡ None) (λ rest. accept mark toks.now ≡ Some rest.now) }
+    ensures value { MatchOption result (accept mark toks.now ≡ None)
+        (λ rest. accept mark toks.now ≡ Some rest.now) }
     ensures shorter { IfSome result (λ rest. length rest.now < length toks.now) }
 {
     match toks.split_first() {
@@ -73,7 +75,8 @@ pub fn accept(mark: Mark, toks: &[Lexeme]) -> Option<&[Lexeme]>
 
 /// The tokens after this mark, which must be the next.
 pub fn expect(mark: Mark, toks: &[Lexeme]) -> Result<&[Lexeme], Failure>
-    ensures gives { MatchResult result (λ rest. Leaves rest.now (expect mark toks.now)) (λ e. StopsAs e (expect mark toks.now)) }
+    ensures gives { MatchResult result (λ rest. Leaves rest.now (expect mark toks.now))
+        (λ e. StopsAs e (expect mark toks.now)) }
     ensures shorter { IfOk result (λ rest. length rest.now ≤ length toks.now) }
 {
     match toks.split_first() {
@@ -96,7 +99,7 @@ pub fn is_name_kind(sym: TokenKind) -> bool
 
 /// The token that is a name.
 pub fn expect_name(toks: &[Lexeme]) -> Parsed<'_, Lexeme>
-    ensures gives { ReadsAs (λ r. (r.0, r.1.now)) result (expect_name toks.now) }
+    ensures gives { GivesReading (λ x. x) result (expect_name toks.now) }
     ensures shorter { IfOk result (λ r. length r.1.now ≤ length toks.now) }
 {
     match toks.split_first() {
@@ -134,7 +137,8 @@ fn operator_of(sym: TokenKind) -> Option<(u8, Op)>
 
 /// An operator of this tier and the tokens after it, where it is the next.
 pub fn operator(tier: u8, toks: &[Lexeme]) -> Option<(Op, &[Lexeme])>
-    ensures value { MatchOption result (op_next tier toks.now ≡ None) (λ r. op_next tier toks.now ≡ Some (r.0, r.1.now)) }
+    ensures value { MatchOption result (op_next tier toks.now ≡ None)
+        (λ r. op_next tier toks.now ≡ Some (r.0, r.1.now)) }
     ensures shorter { IfSome result (λ r. length r.1.now < length toks.now) }
 {
     let Some((first, rest)) = toks.split_first() else {

@@ -57,7 +57,8 @@ fn owned(alloc: Global, text: &str, raw: RawDeclaration) -> Result<Declaration, 
     requires ascii { IsAscii text.now }
     requires name { IsSpan (length text.now) raw.name.start raw.name.end }
     requires spans { NamesWithin (length text.now) (raw_term_of raw.init) }
-    ensures { IfOk result (λ d. declaration_of d ≡ declaration_in text.now (declaration_tree_of raw)) }
+    ensures { IfOk result
+        (λ d. declaration_of d ≡ declaration_in text.now (declaration_tree_of raw)) }
 {
     let name = String::from_str(alloc, &text[raw.name.start..raw.name.end])?;
     let init = init_of(alloc, text, raw.init)?;
@@ -85,9 +86,13 @@ fn whole_declaration(toks: &[Lexeme]) -> Result<RawDeclaration, Failure>
 /// docs/LANGUAGE.md, "Grammar", has the productions, and "Which fault of the grammar is told" the order of the faults.
 pub fn parse_declare(alloc: Global, text: &str) -> Result<Declaration, ParseFault>
     // What is read is a text of the declaration, and a fault is the one to be reported.
-    ensures right { MatchResult result (λ d. (t : DeclarationTree) × IsTextOf IsDeclaration text.now t × (declaration_of d ≡ declaration_in text.now t)) (λ e. IsReported IsDeclaration text.now e) }
+    ensures right { MatchResult result
+        (λ d. (t : DeclarationTree) × IsTextOf IsDeclaration text.now t
+        × (declaration_of d ≡ declaration_in text.now t))
+        (λ e. IsReported IsDeclaration text.now e) }
     // Each text is read, with its one tree, unless memory runs out.
-    ensures only { (t : DeclarationTree) → IsTextOf IsDeclaration text.now t → OrNoMemory result (λ d. declaration_of d ≡ declaration_in text.now t) }
+    ensures only { (t : DeclarationTree) → IsTextOf IsDeclaration text.now t
+        → OrNoMemory result (λ d. declaration_of d ≡ declaration_in text.now t) }
     // The answer is a function of the text.
     ensures answer { ParsesAs declaration_of result (parsed_declaration text.now) }
     ensures name { IfOk result (λ d. is_name_text (string_bytes d.name) ≡ true) }

@@ -37,7 +37,8 @@ fn owned(alloc: Global, text: &str, raw: RawExpectation) -> Result<Expectation, 
     requires ascii { IsAscii text.now }
     requires name { IsSpan (length text.now) raw.name.start raw.name.end }
     requires spans { NamesWithin (length text.now) (raw_term_of raw.init) }
-    ensures { IfOk result (λ d. expectation_of d ≡ expectation_in text.now (expectation_tree_of raw)) }
+    ensures { IfOk result
+        (λ d. expectation_of d ≡ expectation_in text.now (expectation_tree_of raw)) }
 {
     let name = String::from_str(alloc, &text[raw.name.start..raw.name.end])?;
     let value = init_of(alloc, text, raw.init)?;

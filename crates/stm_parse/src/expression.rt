@@ -3,7 +3,8 @@
 ghost use Rattle.std.specs.Prelude.{◌≡◌, ◌+◌, ◌-◌, ◌<◌, ◌≤◌, ◌∷◌, length, IfOk, IfErr, pos, neg_ℤ};
 ghost use Rattle.stm_terms.specs.ParsedAst.{raw_term_of, bin};
 ghost use Rattle.stm_parse.specs.Grammar.{deepest, widest, greatest};
-ghost use Rattle.stm_parse.specs.Descent.{ReadsAs, in_reach, literal, bracketed, short_of, refuse, init, atom_at, tier_at, tail_at};
+ghost use Rattle.stm_parse.specs.DescentResults.{GivesReading};
+ghost use Rattle.stm_parse.specs.Descent.{in_reach, literal, bracketed, short_of, refuse, init, atom_at, tier_at, tail_at};
 
 use crate::cursor::{
     Grouping, Parsed, accept, bad_number, expect, groups, one_level_deeper, operator, unexpected,
@@ -41,7 +42,7 @@ fn negated(n: u64) -> i64
 
 // After the minus of a negative number.
 fn literal(at: usize, toks: &[Lexeme]) -> Parsed<'_, RawExpr>
-    ensures gives { ReadsAs (λ r. (raw_term_of r.0, r.1.now)) result (literal at toks.now) }
+    ensures gives { GivesReading raw_term_of result (literal at toks.now) }
     ensures shorter { IfOk result (λ r. length r.1.now ≤ length toks.now) }
 {
     let Some((first, rest)) = toks.split_first() else {
@@ -60,7 +61,7 @@ fn literal(at: usize, toks: &[Lexeme]) -> Parsed<'_, RawExpr>
 // An operand of one token.
 fn short<'t>(first: &Lexeme, rest: &'t [Lexeme], toks: &'t [Lexeme]) -> Parsed<'t, RawExpr>
     requires { toks.now ≡ first.now ∷ rest.now }
-    ensures gives { ReadsAs (λ r. (raw_term_of r.0, r.1.now)) result (short_of first.now.sym first.now rest.now) }
+    ensures gives { GivesReading raw_term_of result (short_of first.now.sym first.now rest.now) }
     ensures shorter { IfOk result (λ r. length r.1.now ≤ length toks.now) }
 {
     match first.sym {
@@ -85,7 +86,8 @@ fn short<'t>(first: &Lexeme, rest: &'t [Lexeme], toks: &'t [Lexeme]) -> Parsed<'
 #[cycle(expressions)]
 fn bracketed<'t>(alloc: Global, levels: u8, at: usize, toks: &'t [Lexeme]) -> Parsed<'t, RawExpr>
     requires { levels ≤ deepest }
-    ensures gives { ReadsAs (λ r. (raw_term_of r.0, r.1.now)) result (bracketed (tier_at widest levels) at toks.now) }
+    ensures gives { GivesReading raw_term_of result
+        (bracketed (tier_at widest levels) at toks.now) }
     ensures shorter { IfOk result (λ r. length r.1.now ≤ length toks.now) }
 {
     if let Some(rest) = accept(Mark::RParen, toks) {
@@ -104,7 +106,7 @@ fn bracketed<'t>(alloc: Global, levels: u8, at: usize, toks: &'t [Lexeme]) -> Pa
 #[tactic(auto, unfolding(crate::specs::Descent::atom_at))]
 pub fn atom<'t>(alloc: Global, levels: u8, toks: &'t [Lexeme]) -> Parsed<'t, RawExpr>
     requires { levels ≤ deepest }
-    ensures gives { ReadsAs (λ r. (raw_term_of r.0, r.1.now)) result (atom_at levels toks.now) }
+    ensures gives { GivesReading raw_term_of result (atom_at levels toks.now) }
     ensures shorter { IfOk result (λ r. length r.1.now ≤ length toks.now) }
 {
     let Some((first, rest)) = toks.split_first() else {
@@ -122,7 +124,7 @@ pub fn atom<'t>(alloc: Global, levels: u8, toks: &'t [Lexeme]) -> Parsed<'t, Raw
 fn tier<'t>(alloc: Global, levels: u8, width: u8, toks: &'t [Lexeme]) -> Parsed<'t, RawExpr>
     requires low { levels ≤ deepest }
     requires width { width ≤ widest }
-    ensures gives { ReadsAs (λ r. (raw_term_of r.0, r.1.now)) result (tier_at width levels toks.now) }
+    ensures gives { GivesReading raw_term_of result (tier_at width levels toks.now) }
     ensures shorter { IfOk result (λ r. length r.1.now ≤ length toks.now) }
 {
     if width == 0 {
@@ -134,7 +136,8 @@ fn tier<'t>(alloc: Global, levels: u8, width: u8, toks: &'t [Lexeme]) -> Parsed<
 
 // An operator with its operands.
 fn joined(alloc: Global, op: Op, left: RawExpr, right: RawExpr) -> Result<RawExpr, Failure>
-    ensures value { IfOk result (λ e. raw_term_of e ≡ bin op (raw_term_of left) (raw_term_of right)) }
+    ensures value { IfOk result
+        (λ e. raw_term_of e ≡ bin op (raw_term_of left) (raw_term_of right)) }
     ensures refused { IfErr result (λ e. e ≡ Failure.Memory) }
 {
     let left = Box::new(alloc, left)?;
@@ -153,7 +156,8 @@ fn tail<'t>(
 ) -> Parsed<'t, RawExpr>
     requires low { levels ≤ deepest }
     requires width { width < widest }
-    ensures gives { ReadsAs (λ r. (raw_term_of r.0, r.1.now)) result (tail_at width levels (raw_term_of left) toks.now) }
+    ensures gives { GivesReading raw_term_of result
+        (tail_at width levels (raw_term_of left) toks.now) }
     ensures shorter { IfOk result (λ r. length r.1.now ≤ length toks.now) }
 {
     let Some((op, rest)) = operator(width, toks) else {
@@ -181,7 +185,7 @@ fn tail<'t>(
 /// A whole expression.
 pub fn expression<'t>(alloc: Global, levels: u8, toks: &'t [Lexeme]) -> Parsed<'t, RawExpr>
     requires { levels ≤ deepest }
-    ensures gives { ReadsAs (λ r. (raw_term_of r.0, r.1.now)) result (tier_at widest levels toks.now) }
+    ensures gives { GivesReading raw_term_of result (tier_at widest levels toks.now) }
     ensures shorter { IfOk result (λ r. length r.1.now ≤ length toks.now) }
 {
     tier(alloc, levels, WIDEST, toks)
@@ -189,7 +193,7 @@ pub fn expression<'t>(alloc: Global, levels: u8, toks: &'t [Lexeme]) -> Parsed<'
 
 // After "(" of what a declared variable holds at first.
 fn bracketed_init(at: usize, toks: &[Lexeme]) -> Parsed<'_, RawExpr>
-    ensures gives { ReadsAs (λ r. (raw_term_of r.0, r.1.now)) result (bracketed refuse at toks.now) }
+    ensures gives { GivesReading raw_term_of result (bracketed refuse at toks.now) }
 {
     if let Some(rest) = accept(Mark::RParen, toks) {
         return Ok((RawExpr::Unit(at), rest));
@@ -202,7 +206,7 @@ fn bracketed_init(at: usize, toks: &[Lexeme]) -> Parsed<'_, RawExpr>
 
 /// What a declared variable holds at first: a literal or a name.
 pub fn init(toks: &[Lexeme]) -> Parsed<'_, RawExpr>
-    ensures gives { ReadsAs (λ r. (raw_term_of r.0, r.1.now)) result (init toks.now) }
+    ensures gives { GivesReading raw_term_of result (init toks.now) }
 {
     let Some((first, rest)) = toks.split_first() else {
         return Err(unexpected(toks));

@@ -171,7 +171,8 @@ fn word_piece(first: u8, rest: &[u8], bytes: &[u8]) -> Piece
 #[tactic(auto, unfolding(crate::specs::Lexing::class_of))]
 fn number_piece(bytes: &[u8]) -> Piece
     requires { 0 < number_len bytes.now }
-    ensures front { front_seen result ≡ number_front (number_len bytes.now) (number_of_digits (take (number_len bytes.now) bytes.now)) }
+    ensures front { let n = number_len bytes.now in
+        front_seen result ≡ number_front n (number_of_digits (take n bytes.now)) }
     ensures sym { IsSeen bytes.now result }
     ensures within { IsWithin (front_seen result) (length bytes.now) }
 {
@@ -216,7 +217,8 @@ fn piece_at(bytes: &[u8], place: usize) -> Piece
 ///
 /// The faults are `BadByte`, `BadNumber` and `NameTooLong`.
 pub fn lexemes(alloc: Global, text: &str) -> Result<Vec<Lexeme>, ParseFault>
-    ensures cuts { MatchResult result (λ v. Lexes text.now v.items) (λ e. FailsAs e (tokens_of text.now)) }
+    ensures cuts { MatchResult result (λ v. Lexes text.now v.items)
+        (λ e. FailsAs e (tokens_of text.now)) }
     ensures classes { IfOk result (λ v. tokens_of text.now ≡ Ok (map token_of v.items)) }
     ensures rise { IfOk result (λ v. SpansRise 0 (length text.now) (map token_of v.items)) }
     // So each place of the text is between characters.
@@ -228,7 +230,8 @@ pub fn lexemes(alloc: Global, text: &str) -> Result<Vec<Lexeme>, ParseFault>
 }
 
 fn cut_lexemes(alloc: Global, bytes: &[u8]) -> Result<Vec<Lexeme>, ParseFault>
-    ensures cuts { MatchResult result (λ v. Lexes bytes.now v.items) (λ e. FailsAs e (tokens_of bytes.now)) }
+    ensures cuts { MatchResult result (λ v. Lexes bytes.now v.items)
+        (λ e. FailsAs e (tokens_of bytes.now)) }
     ensures classes { IfOk result (λ v. tokens_of bytes.now ≡ Ok (map token_of v.items)) }
     ensures rise { IfOk result (λ v. SpansRise 0 (length bytes.now) (map token_of v.items)) }
     ensures names { IfOk result (λ v. NamesOf bytes.now v.items) }

@@ -5,7 +5,8 @@ ghost use Rattle.stm_terms.specs.ParsedAst.{raw_term_of};
 ghost use Rattle.stm_terms.specs.Limits.{most_refs};
 ghost use Rattle.stm_parse.specs.Grammar.{deepest};
 ghost use Rattle.stm_parse.specs.Declarations.{declaration_tree_of};
-ghost use Rattle.stm_parse.specs.Descent.{ReadsAs, type_at, bare_at, bracketed_type, declaration_reader};
+ghost use Rattle.stm_parse.specs.DescentResults.{GivesReading};
+ghost use Rattle.stm_parse.specs.Descent.{type_at, bare_at, bracketed_type, declaration_reader};
 
 use crate::cursor::{Parsed, accept, expect, expect_name, one_level_deeper, too_deep, unexpected};
 use crate::expression::init;
@@ -19,7 +20,7 @@ use stm_terms::{Base, RawExpr, Span, Ty};
 fn type_within(levels: u8, refs: u8, toks: &[Lexeme]) -> Parsed<'_, Ty>
     requires low { levels ≤ deepest }
     requires few { refs ≤ most_refs }
-    ensures gives { ReadsAs (λ r. (r.0, r.1.now)) result (type_at levels refs toks.now) }
+    ensures gives { GivesReading (λ t. t) result (type_at levels refs toks.now) }
     ensures shorter { IfOk result (λ r. length r.1.now ≤ length toks.now) }
     ensures few { IfOk result (λ r. r.0.refs + refs ≤ most_refs) }
 {
@@ -43,7 +44,7 @@ fn type_within(levels: u8, refs: u8, toks: &[Lexeme]) -> Parsed<'_, Ty>
 fn bare_type(levels: u8, refs: u8, toks: &[Lexeme]) -> Parsed<'_, Ty>
     requires low { levels ≤ deepest }
     requires few { refs ≤ most_refs }
-    ensures gives { ReadsAs (λ r. (r.0, r.1.now)) result (bare_at levels refs toks.now) }
+    ensures gives { GivesReading (λ t. t) result (bare_at levels refs toks.now) }
     ensures shorter { IfOk result (λ r. length r.1.now ≤ length toks.now) }
     ensures few { IfOk result (λ r. r.0.refs + refs ≤ most_refs) }
 {
@@ -81,7 +82,7 @@ fn bare_type(levels: u8, refs: u8, toks: &[Lexeme]) -> Parsed<'_, Ty>
 fn bracketed_type(levels: u8, refs: u8, toks: &[Lexeme]) -> Parsed<'_, Ty>
     requires low { levels ≤ deepest }
     requires few { refs ≤ most_refs }
-    ensures gives { ReadsAs (λ r. (r.0, r.1.now)) result (bracketed_type (type_at levels refs) toks.now) }
+    ensures gives { GivesReading (λ t. t) result (bracketed_type (type_at levels refs) toks.now) }
     ensures shorter { IfOk result (λ r. length r.1.now ≤ length toks.now) }
     ensures few { IfOk result (λ r. r.0.refs + refs ≤ most_refs) }
 {
@@ -109,7 +110,7 @@ pub struct RawDeclaration {
 
 /// A declaration.
 pub fn declaration(toks: &[Lexeme]) -> Parsed<'_, RawDeclaration>
-    ensures gives { ReadsAs (λ r. (declaration_tree_of r.0, r.1.now)) result (declaration_reader toks.now) }
+    ensures gives { GivesReading declaration_tree_of result (declaration_reader toks.now) }
     ensures few { IfOk result (λ r. r.0.ty.refs ≤ most_refs) }
 {
     let (name, rest) = expect_name(toks)?;
