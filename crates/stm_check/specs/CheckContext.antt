@@ -1,40 +1,53 @@
--- The check as the code walks it: with the names in one place, and noting variables as it goes.
-use Rattle.std.specs.Prelude.{ℕ, ◌+◌, ◌≤◌, ◌^◌, List, Option, Result, length, IfSome}
+-- The check as the code walks it: with what it looks up in one place, and noting variables as it goes.
+use Rattle.std.specs.Prelude.{◌≡◌, ℕ, ◌+◌, ◌≤◌, ◌^◌, List, Option, Result, length, IfOk, IfSome}
 use Rattle.std.specs.Str.{IsAscii}
 use Rattle.stm_terms.specs.declared.kinds.Ty.{Ty}
 use Rattle.stm_terms.specs.Ast.{Term, Act}
+use Rattle.stm_terms.specs.Limits.{most_refs}
 use Rattle.stm_terms.specs.ParsedAst as raw
-use Rattle.stm_terms.specs.Typing.{ActionType, named_in, named, record_uses}
+use Rattle.stm_terms.specs.Typing.{ActionType, result_type, named_in, named, record_uses}
 use Rattle.stm_check.specs.declared.fault.TypeFault.{TypeFault}
-use Rattle.stm_check.specs.declared.scope.Names.{Names}
-use Rattle.stm_check.specs.Scopes.{scope, ScopeHasAtMost9Refs}
-use Rattle.stm_check.specs.CheckFunction.{table_kinds, checked_expr, checked}
+use Rattle.stm_check.specs.declared.checker.Checker.{Checker}
+use Rattle.stm_check.specs.Scopes.{scope, ScopeHasFewRefs}
+use Rattle.stm_check.specs.CheckFunction.{ChecksAs, table_kinds, checked_expr, checked}
 
 -- the names of an expression can be looked up
-abbrev pub CanLookUp : Names → raw.RawTerm → Type 0
-CanLookUp names e =
-    IsAscii names.text.now × raw.NamesWithin (length names.text.now) e
-    × (length (scope names.locals.now) ≤ 2 ^ 32) × ScopeHasAtMost9Refs (scope names.locals.now)
+abbrev pub CanLookUp : Checker → raw.RawTerm → Type 0
+CanLookUp checker e =
+    IsAscii checker.text.now × raw.NamesWithin (length checker.text.now) e
+    × (length (scope checker.locals.now) ≤ 2 ^ 32) × ScopeHasFewRefs (scope checker.locals.now)
 
 -- and those of an action, whose locals have numbers below 2 ^ 32
-abbrev pub CanCheck : Names → raw.RawAct → Type 0
-CanCheck names a =
-    IsAscii names.text.now × raw.SpansWithin (length names.text.now) a
-    × (length (scope names.locals.now) + raw.actions a ≤ 2 ^ 32) × ScopeHasAtMost9Refs (scope names.locals.now)
+abbrev pub CanCheck : Checker → raw.RawAct → Type 0
+CanCheck checker a =
+    IsAscii checker.text.now × raw.SpansWithin (length checker.text.now) a
+    × (length (scope checker.locals.now) + raw.actions a ≤ 2 ^ 32) × ScopeHasFewRefs (scope checker.locals.now)
 
-abbrev pub expr_found : Names → raw.RawTerm → Result (Term × Ty) TypeFault
-expr_found names e = checked_expr names.table.now names.text.now (scope names.locals.now) e
+abbrev pub expr_found : Checker → raw.RawTerm → Result (Term × Ty) TypeFault
+expr_found checker e = checked_expr checker.table.now checker.text.now (scope checker.locals.now) e
 
-abbrev pub act_found : Names → raw.RawAct → Result (Act × ActionType) TypeFault
-act_found names a = checked names.table.now names.text.now (scope names.locals.now) a
+abbrev pub act_found : Checker → raw.RawAct → Result (Act × ActionType) TypeFault
+act_found checker a = checked checker.table.now checker.text.now (scope checker.locals.now) a
 
 -- the variables of a tree are noted after those from before
-abbrev pub recorded_expr : Names → Term → List (ℕ × Ty) → List (ℕ × Ty)
-recorded_expr names e uses = record_uses (table_kinds names.table.now) (named_in e) uses
+abbrev pub recorded_expr : Checker → Term → List (ℕ × Ty) → List (ℕ × Ty)
+recorded_expr checker e uses = record_uses (table_kinds checker.table.now) (named_in e) uses
 
-abbrev pub recorded_act : Names → Act → List (ℕ × Ty) → List (ℕ × Ty)
-recorded_act names a uses = record_uses (table_kinds names.table.now) (named a) uses
+abbrev pub recorded_act : Checker → Act → List (ℕ × Ty) → List (ℕ × Ty)
+recorded_act checker a uses = record_uses (table_kinds checker.table.now) (named a) uses
 
--- a type has at most 9 `TVar`, where it is one
-abbrev pub HasAtMost9Refs : Option Ty → Type 0
-HasAtMost9Refs o = IfSome o (λ t. t.refs ≤ 9)
+-- a type has at most one `TVar` more than that of what a variable holds, where it is one
+abbrev pub HasFewRefs : Option Ty → Type 0
+HasFewRefs o = IfSome o (λ t. t.refs ≤ most_refs + 1)
+
+-- the check of an expression, seen by view: what it answers, which variables it notes, and how deep its type is
+pub record ChecksExpr {X : Type 0} (checker : Checker) (e : raw.RawTerm) (view : X → Term) (result : Result (X × Ty) TypeFault) (before after : List (ℕ × Ty)) : Type 0 where
+  pub says : ChecksAs (λ r. (view r.0, r.1)) result (expr_found checker e)
+  pub uses : IfOk result (λ r. after ≡ recorded_expr checker (view r.0) before)
+  pub low : IfOk result (λ r. r.1.refs ≤ most_refs + 1)
+
+-- so too of an action
+pub record ChecksAction {X : Type 0} (checker : Checker) (a : raw.RawAct) (view : X → Act) (result : Result (X × Option Ty) TypeFault) (before after : List (ℕ × Ty)) : Type 0 where
+  pub says : ChecksAs (λ r. (view r.0, result_type r.1)) result (act_found checker a)
+  pub uses : IfOk result (λ r. after ≡ recorded_act checker (view r.0) before)
+  pub low : IfOk result (λ r. HasFewRefs r.1)

@@ -5,6 +5,7 @@ use Rattle.stm_terms.specs.declared.expr.Op.TheVariants.{Mul, Add, Sub, Eq, Lt, 
 use Rattle.stm_terms.specs.declared.kinds.Ty.{Ty}
 use Rattle.stm_terms.specs.declared.values.Value.TheVariants as value
 use Rattle.stm_terms.specs.Ast.{Term, lit, local, global, bin, Act, return, read, write, make, retry, throw, if_else, or_else, bind, let_in, seq}
+use Rattle.stm_terms.specs.Limits.{most_refs}
 use Rattle.stm_terms.specs.ParsedAst as raw
 use Rattle.stm_terms.specs.Typing.{TypeEnv, int_ty, bool_ty, unit_ty, var_ty, deref_ty, same_ty, ActionType, Gives, Any, join_types}
 use Rattle.stm_store.specs.Cells.{kinds_of}
@@ -107,7 +108,7 @@ module _ (table : List Declared) (text : List ℕ) where
       (λ t. on_ok (checked_expr ls e) (λ y. unless (same_ty y.1 t) (Mismatch (raw.place e))
       (Ok (write x.0 y.0, Gives unit_ty)))))
   checked ls (raw.make e) =
-      on_ok (checked_expr ls e) (λ x. unless (nat_le x.1.refs 8) (TypeTooDeep (raw.place e)) (Ok (make x.1 x.0, Gives (var_ty x.1))))
+      on_ok (checked_expr ls e) (λ x. unless (nat_le x.1.refs most_refs) (TypeTooDeep (raw.place e)) (Ok (make x.1 x.0, Gives (var_ty x.1))))
   checked ls raw.retry = Ok (retry, Any)
   checked ls (raw.throw e) =
       on_ok (checked_expr ls e) (λ x. unless (same_ty x.1 int_ty) (Mismatch (raw.place e)) (Ok (throw x.0, Any)))

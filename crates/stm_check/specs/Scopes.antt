@@ -1,7 +1,8 @@
 -- The locals in scope.
-use Rattle.std.specs.Prelude.{ℕ, ◌≤◌, List, [], ◌∷◌, ◌++◌, length, Option, Some, None, if◌then◌else◌}
+use Rattle.std.specs.Prelude.{ℕ, ◌+◌, ◌≤◌, List, [], ◌∷◌, ◌++◌, length, Option, Some, None, if◌then◌else◌}
 use Rattle.std.specs.Str.{bytes_eq}
 use Rattle.stm_terms.specs.declared.kinds.Ty.{Ty}
+use Rattle.stm_terms.specs.Limits.{most_refs}
 use Rattle.stm_check.specs.declared.scope.Scope.{Scope}
 use Rattle.stm_check.specs.declared.scope.Scope.TheVariants as S
 
@@ -28,7 +29,7 @@ abbrev pub names_of : Locals → List (List ℕ)
 names_of [] = []
 names_of (l ∷ outer) = l.0 ∷ names_of outer
 
--- each type has at most 9 `TVar`
-abbrev pub ScopeHasAtMost9Refs : Locals → Type 0
-ScopeHasAtMost9Refs [] = Unit {0}
-ScopeHasAtMost9Refs (l ∷ outer) = (l.1.refs ≤ 9) × ScopeHasAtMost9Refs outer
+-- each type has at most one `TVar` more than that of what a variable holds
+abbrev pub ScopeHasFewRefs : Locals → Type 0
+ScopeHasFewRefs [] = Unit {0}
+ScopeHasFewRefs (l ∷ outer) = (l.1.refs ≤ most_refs + 1) × ScopeHasFewRefs outer

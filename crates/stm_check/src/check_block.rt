@@ -7,9 +7,9 @@ ghost use Rattle.stm_terms.specs.Ast.{act_of};
 ghost use Rattle.stm_terms.specs.Typing.{result_type, uses_of};
 ghost use Rattle.stm_check.specs.CheckFunction.{ChecksAs, checked, table_kinds};
 
-use crate::actions::check_action;
+use crate::checker::Checker;
 use crate::fault::TypeFault;
-use crate::scope::{Names, Scope};
+use crate::scope::Scope;
 use crate::typed::Typed;
 use std::alloc::Global;
 use stm_parse::Raw;
@@ -28,16 +28,18 @@ fn check_tree(
     requires ascii { IsAscii text.now }
     requires spans { SpansWithin (length text.now) (raw_act_of raw.now) }
     requires small { actions (raw_act_of raw.now) ≤ 2 ^ 32 }
-    ensures says { ChecksAs (λ r. (act_of r.0, result_type r.1)) result (checked table.now text.now [] (raw_act_of raw.now)) }
+    ensures says { ChecksAs (λ r. (act_of r.0, result_type r.1)) result
+        (checked table.now text.now [] (raw_act_of raw.now)) }
     ensures uses { IfOk result (λ r. r.2.items ≡ uses_of (table_kinds table.now) (act_of r.0)) }
 {
     let mut uses = Vec::new(alloc);
-    let names = Names {
+    let checker = Checker {
+        alloc,
         table,
         text,
         locals: &Scope::Empty,
     };
-    let (action, kind) = check_action(alloc, &names, &mut uses, raw)?;
+    let (action, kind) = checker.check_action(&mut uses, raw)?;
     Ok((action, kind, uses))
 }
 
@@ -51,7 +53,8 @@ pub(crate) fn check_raw(
     requires ascii { IsAscii (string_bytes text) }
     requires spans { SpansWithin (length (string_bytes text)) (raw_act_of raw.now) }
     requires small { actions (raw_act_of raw.now) ≤ 2 ^ 32 }
-    ensures says { ChecksAs (λ t. (t.tree, result_type t.result_type)) result (checked table.now (string_bytes text) [] (raw_act_of raw.now)) }
+    ensures says { ChecksAs (λ t. (t.tree, result_type t.result_type)) result
+        (checked table.now (string_bytes text) [] (raw_act_of raw.now)) }
     ensures uses { IfOk result (λ t. t.uses ≡ uses_of (table_kinds table.now) t.tree) }
     ensures text { IfOk result (λ t. t.text ≡ string_bytes text) }
 {
@@ -65,7 +68,8 @@ pub(crate) fn check_raw(
 /// in the table. Where locals have one name, the innermost is meant; a local hides a declared variable (docs/LANGUAGE.md,
 /// "Types"). The fault is the one of docs/LANGUAGE.md, "Type faults"; `NoMemory` stands where memory ran out.
 pub fn check(alloc: Global, table: &Table, raw: Raw) -> Result<Typed, TypeFault>
-    ensures says { ChecksAs (λ t. (t.tree, result_type t.result_type)) result (checked table.now raw.text [] raw.tree) }
+    ensures says { ChecksAs (λ t. (t.tree, result_type t.result_type)) result
+        (checked table.now raw.text [] raw.tree) }
     ensures uses { IfOk result (λ t. t.uses ≡ uses_of (table_kinds table.now) t.tree) }
     ensures text { IfOk result (λ t. t.text ≡ raw.text) }
 {

@@ -7,6 +7,7 @@
 
 mod actions;
 pub mod check_block;
+mod checker;
 mod expressions;
 pub mod fault;
 pub mod laws;

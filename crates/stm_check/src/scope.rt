@@ -1,7 +1,8 @@
 //! Where names are looked up.
 
-ghost use Rattle.std.specs.Prelude.{◌≡◌, ◌<◌, ◌≤◌, ◌^◌, length, IfSome, Some};
-ghost use Rattle.stm_check.specs.Scopes.{innermost, scope, ScopeHasAtMost9Refs};
+ghost use Rattle.std.specs.Prelude.{◌≡◌, ◌+◌, ◌<◌, ◌≤◌, ◌^◌, length, IfSome, Some};
+ghost use Rattle.stm_terms.specs.Limits.{most_refs};
+ghost use Rattle.stm_check.specs.Scopes.{innermost, scope, ScopeHasFewRefs};
 ghost use Rattle.stm_check.specs.CheckFunction.{variable, table_kinds};
 
 use stm_store::Table;
@@ -12,14 +13,6 @@ use stm_terms::kinds::Ty;
 pub(crate) enum Scope<'a> {
     Empty,
     Local(&'a str, Ty, &'a Scope<'a>),
-}
-
-/// Where a check looks names up: the declared variables, the text that names are spans of, and the locals in scope.
-#[derive(Drop)]
-pub(crate) struct Names<'a> {
-    pub table: &'a Table,
-    pub text: &'a str,
-    pub locals: &'a Scope<'a>,
 }
 
 fn depth(locals: &Scope) -> u32
@@ -35,9 +28,9 @@ fn depth(locals: &Scope) -> u32
 /// The innermost local of a name: its number, counted from the outermost, and its type.
 pub(crate) fn find_local(locals: &Scope, name: &str) -> Option<(u32, Ty)>
     requires room { length (scope locals.now) ≤ 2 ^ 32 }
-    requires shallow { ScopeHasAtMost9Refs (scope locals.now) }
+    requires shallow { ScopeHasFewRefs (scope locals.now) }
     ensures found { result ≡ innermost name.now (scope locals.now) }
-    ensures low { IfSome result (λ l. l.1.refs ≤ 9) }
+    ensures low { IfSome result (λ l. l.1.refs ≤ most_refs + 1) }
 {
     match locals {
         Scope::Empty => None,
@@ -55,7 +48,7 @@ pub(crate) fn find_local(locals: &Scope, name: &str) -> Option<(u32, Ty)>
 pub(crate) fn find_variable(table: &Table, name: &str) -> Option<(u32, Ty)>
     ensures found { result ≡ variable table.now name.now }
     ensures kind { IfSome result (λ v. table_kinds table.now v.0 ≡ Some v.1) }
-    ensures low { IfSome result (λ v. v.1.refs ≤ 8) }
+    ensures low { IfSome result (λ v. v.1.refs ≤ most_refs) }
 {
     let _count = table.len();
     match table.find(name) {

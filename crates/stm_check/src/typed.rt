@@ -63,9 +63,16 @@ impl Model for Typed {
 
     ghost coded = { Prim.hlevel (codes, act_code) };
 
-    ghost view = { λ b. record { tree = act_of b.action; text = string_bytes b.text; result_type = b.result_type; uses = b.uses.items } };
+    ghost view = { λ b. record {
+      tree = act_of b.action;
+      text = string_bytes b.text;
+      result_type = b.result_type;
+      uses = b.uses.items;
+    } };
 
-    ghost invariant = { λ b. (action_type (kinds_in b.uses.items) [] (act_of b.action) ≡ Some (type_of_result b.result_type)) × (makes (act_of b.action) ≤ 2 ^ 32) };
+    ghost invariant = { λ b. (action_type (kinds_in b.uses.items) [] (act_of b.action)
+        ≡ Some (type_of_result b.result_type))
+        × (makes (act_of b.action) ≤ 2 ^ 32) };
 }
 
 impl Typed {
@@ -76,9 +83,15 @@ impl Typed {
         result_type: Option<Ty>,
         uses: Vec<(u32, Ty)>,
     ) -> Typed
-        requires typed { action_type (kinds_in uses.items) [] (act_of action) ≡ Some (type_of_result result_type) }
+        requires typed { action_type (kinds_in uses.items) [] (act_of action)
+            ≡ Some (type_of_result result_type) }
         requires small { makes (act_of action) ≤ 2 ^ 32 }
-        ensures { result ≡ record { tree = act_of action; text = string_bytes text; result_type = result_type; uses = uses.items } }
+        ensures { result ≡ record {
+          tree = act_of action;
+          text = string_bytes text;
+          result_type = result_type;
+          uses = uses.items;
+        } }
     {
         Typed {
             action,
@@ -91,7 +104,8 @@ impl Typed {
     /// What the block does.
     pub fn action(&self) -> &Action
         ensures action { act_of result.now ≡ self.now.tree }
-        ensures typed { action_type (kinds_in self.now.uses) [] self.now.tree ≡ Some (type_of_result self.now.result_type) }
+        ensures typed { action_type (kinds_in self.now.uses) [] self.now.tree
+            ≡ Some (type_of_result self.now.result_type) }
         ensures small { makes self.now.tree ≤ 2 ^ 32 }
     {
         &self.action

@@ -1,6 +1,7 @@
 //! Types of operators, references and branches.
 
 ghost use Rattle.std.specs.Prelude.{◌≡◌, ◌<◌, ◌≤◌, Some, None, IsTrue, option_map, IfSome};
+ghost use Rattle.stm_terms.specs.Limits.{most_refs};
 ghost use Rattle.stm_terms.specs.Typing.{int_ty, bool_ty, unit_ty, var_ty, deref_ty, same_ty, join_types, result_type};
 ghost use Rattle.stm_check.specs.CheckFunction.{wanted, given, as_wanted};
 
@@ -36,7 +37,7 @@ pub(crate) fn same(t: Ty, u: Ty) -> bool
 
 /// The type of references to cells of a type.
 pub(crate) fn reference_to(t: Ty) -> Ty
-    requires { t.refs ≤ 8 }
+    requires { t.refs ≤ most_refs }
     ensures { result ≡ var_ty t }
 {
     Ty {
@@ -92,7 +93,8 @@ pub(crate) fn as_wanted(wanted: Option<Ty>, t: Ty) -> bool
 
 /// What two branches have in common, with none for any type.
 pub(crate) fn join(first: Option<Ty>, second: Option<Ty>) -> Option<Option<Ty>>
-    ensures { option_map result_type result ≡ join_types (result_type first) (result_type second) }
+    ensures { option_map result_type result
+        ≡ join_types (result_type first) (result_type second) }
 {
     match (first, second) {
         (None, r) => Some(r),

@@ -23,7 +23,8 @@ pub(crate) fn record_use(
     id: u32,
     kind: Ty,
 ) -> Result<(), AllocFailed<(u32, Ty)>>
-    ensures { OnOk result (uses.new.items ≡ record_use_as (kinds_in uses.old.items id) (Some kind) id uses.old.items) }
+    ensures { OnOk result (uses.new.items
+        ≡ record_use_as (kinds_in uses.old.items id) (Some kind) id uses.old.items) }
 {
     if kind_in(uses, id).is_none() {
         uses.push((id, kind))?;

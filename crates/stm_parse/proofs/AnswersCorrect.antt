@@ -8,8 +8,8 @@ use Rattle.stm_parse.specs.declared.token.Fault.{Fault}
 use Rattle.stm_parse.specs.declared.token.Failure.{Failure}
 use Rattle.stm_parse.specs.declared.token.Failure.TheVariants as stop
 use Rattle.stm_parse.specs.declared.tokenizer.Token.{Token}
-use Rattle.stm_parse.specs.declared.tokenizer.Front.{Front}
-use Rattle.stm_parse.specs.declared.tokenizer.Front.TheVariants as front
+use Rattle.stm_parse.specs.Front.{Front}
+use Rattle.stm_parse.specs.Front as front
 use Rattle.stm_parse.specs.declared.fault.ParseFault.{ParseFault}
 use Rattle.stm_parse.specs.declared.fault.ParseFault.TheVariants as fault
 use Rattle.stm_parse.specs.Tokenizer.{cut, front_of, next, with_front, tokens_of, IsOfTokens}
@@ -20,6 +20,7 @@ use Rattle.stm_parse.specs.ParseResult.{most_bytes, most_tokens, LexesWithinLimi
 use Rattle.stm_parse.specs.Descent.{Reader, StopsAs, whole}
 use Rattle.stm_parse.specs.ParseFunction.{IsAnswer, located, of_tokens, answered}
 use Rattle.stm_parse.proofs.ReaderCorrect.{Good, Any}
+use Rattle.stm_parse.proofs.TokenizationUnique.{rules_cut}
 use Rattle.stm_parse.proofs.FaultReported.{tells_early, early_told, lexemes_count, too_many, they_fit, ok_text, stop_told}
 
 more : (m n : ℕ) → nat_lt m n ≡ true → m < n
@@ -120,7 +121,7 @@ module _ {A : Type 0} (r : Reader A) (text : List ℕ) where
       let k = lexemes_count text ts in
       let m = f.2 in
       let n : length ts ≤ most_tokens = omega arith in
-      small f.0 ∙ ap (of_tokens r text) f.1.1 ∙ ap (λ b. cond b (Err fault.TooLarge) (located (lexemes_of text ts) (whole r (lexemes_of text ts)))) (is_less most_tokens (length ts) n) ∙ ap (λ l. located l (whole r l)) (sym f.1.2)
+      small f.0 ∙ ap (of_tokens r text) (rules_cut text (Ok ts) f.1.1) ∙ ap (λ b. cond b (Err fault.TooLarge) (located (lexemes_of text ts) (whole r (lexemes_of text ts)))) (is_less most_tokens (length ts) n) ∙ ap (λ l. located l (whole r l)) (sym f.1.2)
 
   pub ok_answer : (ls : List Lexeme) → LexesWithinLimits text ls → (t : A) → whole r ls ≡ Ok t → answered r text ≡ Ok t
   ok_answer ls f t e = fits_answer ls f ∙ ap (located ls) e
@@ -148,10 +149,10 @@ module _ {A : Type 0} (r : Reader A) (text : List ℕ) where
       let k = lexemes_count text ts in
       let m = h.3 in
       let n : most_tokens < length ts = omega arith in
-      small h.1 ∙ ap (of_tokens r text) h.2.1 ∙ ap (λ b. cond b (Err fault.TooLarge) (located (lexemes_of text ts) (whole r (lexemes_of text ts)))) (is_more most_tokens (length ts) n)
-  early_answer (fault.BadByte n) h = small h.0 ∙ ap (of_tokens r text) h.1
-  early_answer (fault.BadNumber n) h = small h.0 ∙ ap (of_tokens r text) h.1
-  early_answer (fault.NameTooLong n) h = small h.0 ∙ ap (of_tokens r text) h.1
+      small h.1 ∙ ap (of_tokens r text) (rules_cut text (Ok ts) h.2.1) ∙ ap (λ b. cond b (Err fault.TooLarge) (located (lexemes_of text ts) (whole r (lexemes_of text ts)))) (is_more most_tokens (length ts) n)
+  early_answer (fault.BadByte n) h = small h.0 ∙ ap (of_tokens r text) (rules_cut text (Err (fault.BadByte n)) h.1)
+  early_answer (fault.BadNumber n) h = small h.0 ∙ ap (of_tokens r text) (rules_cut text (Err (fault.BadNumber n)) h.1)
+  early_answer (fault.NameTooLong n) h = small h.0 ∙ ap (of_tokens r text) (rules_cut text (Err (fault.NameTooLong n)) h.1)
   early_answer (fault.Unexpected n) h = absurd h
   early_answer fault.EndOfText h = absurd h
   early_answer fault.TooDeep h = absurd h

@@ -15,6 +15,7 @@ use Rattle.stm_parse.specs.Faults.{Language, IsText, Begins, AtFault}
 use Rattle.stm_parse.specs.ParseResult.{most_bytes, most_tokens, Lexes, LexesWithinLimits, IsTextOf, IsEarly, IsReported, fault_of_cause, fault_of_failure, OrNoMemory}
 use Rattle.stm_parse.specs.Descent.{Reader, StopsAs, whole}
 use Rattle.stm_parse.proofs.ReaderCorrect.{Good, Any}
+use Rattle.stm_parse.proofs.TokenizationUnique.{one_by_rules, cut_by_rules}
 use Rattle.stm_parse.proofs.WholeTextRead.{Right, right, only}
 
 pub get_end : (q : List Lexeme) → slice_get (q ++ []) (length q) ≡ None
@@ -38,9 +39,9 @@ lexemes_count text [] = refl
 lexemes_count text (t ∷ ts) = ap suc (lexemes_count text ts)
 
 pub tells_early : (text : List ℕ) (e : ParseFault) → length text ≤ most_bytes → FailsAs e (tokens_of text) → IsOfTokens e → IsEarly text e
-tells_early text (fault.BadByte n) l h k = (l, h)
-tells_early text (fault.BadNumber n) l h k = (l, h)
-tells_early text (fault.NameTooLong n) l h k = (l, h)
+tells_early text (fault.BadByte n) l h k = (l, cut_by_rules text (Err (fault.BadByte n)) h)
+tells_early text (fault.BadNumber n) l h k = (l, cut_by_rules text (Err (fault.BadNumber n)) h)
+tells_early text (fault.NameTooLong n) l h k = (l, cut_by_rules text (Err (fault.NameTooLong n)) h)
 tells_early text (fault.Unexpected n) l h k = absurd k
 tells_early text fault.EndOfText l h k = absurd k
 tells_early text fault.TooDeep l h k = absurd k
@@ -48,13 +49,13 @@ tells_early text fault.TooLarge l h k = absurd k
 tells_early text fault.NoMemory l h k = tt
 
 pub too_many : (text : List ℕ) (ts : List Token) → length text ≤ most_bytes → tokens_of text ≡ Ok ts → most_tokens < length ts → IsEarly text fault.TooLarge
-too_many text ts l e m = let n = lexemes_count text ts in inr (lexemes_of text ts, l, (ts, e, refl), omega arith)
+too_many text ts l e m = let n = lexemes_count text ts in inr (lexemes_of text ts, l, (ts, cut_by_rules text (Ok ts) e, refl), omega arith)
 
 pub they_fit : (text : List ℕ) (ts : List Token) (ls : List Lexeme) → length text ≤ most_bytes → tokens_of text ≡ Ok ts → length ts ≤ most_tokens → ls ≡ lexemes_of text ts → LexesWithinLimits text ls
-they_fit text ts ls l e m q = let n = lexemes_count text ts in let k = ap length q in (l, (ts, e, q), omega arith)
+they_fit text ts ls l e m q = let n = lexemes_count text ts in let k = ap length q in (l, (ts, cut_by_rules text (Ok ts) e, q), omega arith)
 
 pub lexes_same : (text : List ℕ) (ls ms : List Lexeme) → Lexes text ls → Lexes text ms → ls ≡ ms
-lexes_same text ls ms h k = let e : h.0 ≡ k.0 = same_ok h.0 k.0 (sym h.1 ∙ k.1) in h.2 ∙ ap (lexemes_of text) e ∙ sym k.2
+lexes_same text ls ms h k = let e : h.0 ≡ k.0 = same_ok h.0 k.0 (one_by_rules text (Ok h.0) (Ok k.0) h.1 k.1) in h.2 ∙ ap (lexemes_of text) e ∙ sym k.2
 
 pub early_told : {A : Type 0} (L : Language A) (text : List ℕ) (e : ParseFault) → IsEarly text e → IsReported L text e
 early_told L text fault.TooLarge h = h
@@ -70,9 +71,9 @@ early_told L text fault.NoMemory h = tt
 pub early_none : {B : Type 0} (P : B → Type 0) (text : List ℕ) (ls : List Lexeme) → LexesWithinLimits text ls → (e : ParseFault) → IsEarly text e → OrNoMemory (Err e) P
 early_none P text ls f fault.TooLarge (inl h) = let l = f.0 in absurd (omega arith)
 early_none P text ls f fault.TooLarge (inr h) = let e = lexes_same text ls h.0 f.1 h.2 in let l = f.2 in let m = h.3 in absurd (omega (arith, ap length e))
-early_none P text ls f (fault.BadByte n) h = let e = f.1.1 in let g = h.1 in absurd cc
-early_none P text ls f (fault.BadNumber n) h = let e = f.1.1 in let g = h.1 in absurd cc
-early_none P text ls f (fault.NameTooLong n) h = let e = f.1.1 in let g = h.1 in absurd cc
+early_none P text ls f (fault.BadByte n) h = let e = one_by_rules text (Ok f.1.0) (Err (fault.BadByte n)) f.1.1 h.1 in absurd cc
+early_none P text ls f (fault.BadNumber n) h = let e = one_by_rules text (Ok f.1.0) (Err (fault.BadNumber n)) f.1.1 h.1 in absurd cc
+early_none P text ls f (fault.NameTooLong n) h = let e = one_by_rules text (Ok f.1.0) (Err (fault.NameTooLong n)) f.1.1 h.1 in absurd cc
 early_none P text ls f (fault.Unexpected n) h = absurd h
 early_none P text ls f fault.EndOfText h = absurd h
 early_none P text ls f fault.TooDeep h = absurd h

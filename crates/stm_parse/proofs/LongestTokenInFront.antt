@@ -9,8 +9,8 @@ use Rattle.stm_terms.specs.Names.{is_digit, is_word_byte}
 use Rattle.stm_parse.specs.declared.token.Mark.{Mark}
 use Rattle.stm_parse.specs.declared.tokenizer.TokenClass.{TokenClass}
 use Rattle.stm_parse.specs.declared.tokenizer.TokenClass.TheVariants as kind
-use Rattle.stm_parse.specs.declared.tokenizer.Front.{Front}
-use Rattle.stm_parse.specs.declared.tokenizer.Front.TheVariants as front
+use Rattle.stm_parse.specs.Front.{Front}
+use Rattle.stm_parse.specs.Front as front
 use Rattle.stm_parse.specs.declared.fault.ParseFault.TheVariants as fault
 use Rattle.stm_parse.specs.declared.fault.ParseFault.{ParseFault}
 use Rattle.stm_parse.specs.Bytes.{is_letter, is_blank, pair_mark, single_mark, word_len, number_len, decimal, number_of_digits}

@@ -7,10 +7,10 @@ use Rattle.stm_terms.specs.Names.{is_digit, is_word_byte}
 use Rattle.stm_parse.specs.declared.tokenizer.TokenClass.{TokenClass}
 use Rattle.stm_parse.specs.declared.tokenizer.TokenClass.TheVariants as kind
 use Rattle.stm_parse.specs.declared.tokenizer.Token.{Token}
-use Rattle.stm_parse.specs.declared.tokenizer.Front.{Front}
-use Rattle.stm_parse.specs.declared.tokenizer.Front.TheVariants as front
+use Rattle.stm_parse.specs.Front.{Front}
+use Rattle.stm_parse.specs.Front as front
 use Rattle.stm_parse.specs.Bytes.{is_letter}
-use Rattle.stm_parse.specs.Tokenizer.{front_of, with_front, next, cut}
+use Rattle.stm_parse.specs.Tokenizer.{front_of, with_front, next, cut, tokens_of}
 use Rattle.stm_parse.specs.MaximalMunch.{is_symbol, is_token, IsLongest, BeginsNoToken, Tokenization, token_before, IsTokenization}
 use Rattle.stm_parse.specs.MaximalMunch.{at_end, at_blank, at_token, at_fault, at_bad_byte, TokensAreMaximal, TokenizationIsUnique}
 use Rattle.stm_parse.proofs.LongestTokenInFront.{letter_digit, letter_symbol, digit_symbol, nothing_is_no_token, blank_begins_none, IsRightFront, right_front}
@@ -138,3 +138,11 @@ one_cut (at_bad_byte g m) (at_bad_byte h n) = refl
 
 pub one_by_rules : TokenizationIsUnique
 one_by_rules text a b g h = one_cut g h
+
+-- what is cut is what is reported by the rules
+pub cut_by_rules : (text : List ℕ) (told : Tokenization) → tokens_of text ≡ told → IsTokenization 0 text told
+cut_by_rules text told e = subst (IsTokenization 0 text) e (each_by_rules text)
+
+-- what is reported by the rules is what is cut
+pub rules_cut : (text : List ℕ) (told : Tokenization) → IsTokenization 0 text told → tokens_of text ≡ told
+rules_cut text told h = one_by_rules text (tokens_of text) told (each_by_rules text) h

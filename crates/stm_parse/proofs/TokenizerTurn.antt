@@ -3,8 +3,8 @@ use Rattle.std.proofs.Common.{◌≡◌, ℕ, zero, suc, ◌+◌, ◌-◌, ◌<�
 use Rattle.std.proofs.lemmas.List.{drop-drop}
 use Rattle.stm_parse.specs.declared.tokenizer.TokenClass.{TokenClass}
 use Rattle.stm_parse.specs.declared.tokenizer.Token.{Token}
-use Rattle.stm_parse.specs.declared.tokenizer.Front.{Front}
-use Rattle.stm_parse.specs.declared.tokenizer.Front.TheVariants as front
+use Rattle.stm_parse.specs.Front.{Front}
+use Rattle.stm_parse.specs.Front as front
 use Rattle.stm_parse.specs.declared.fault.ParseFault.{ParseFault}
 use Rattle.stm_parse.specs.Tokenizer.{front_of, with_front, next, cut, SpansRise}
 

@@ -11,7 +11,8 @@ use Rattle.stm_parse.specs.declared.token.TokenKind.TheVariants as tok
 use Rattle.stm_parse.specs.declared.token.Lexeme.{Lexeme}
 use Rattle.stm_parse.specs.declared.token.ErrorKind.TheVariants as cause
 use Rattle.stm_parse.specs.Terminals.{is_mark, IsMark}
-use Rattle.stm_parse.specs.Grammar.{At, at, at_ref, erase, deepest, most_refs, IsType, is_var, is_bare, IsBareType, is_int, is_bool, is_unit_type, is_bracketed_type, IsInit, is_number_init, is_negative_init, is_true_init, is_false_init, is_unit_init, is_name_init, DeclarationTree, IsDeclaration, is_declaration}
+use Rattle.stm_terms.specs.Limits.{most_refs}
+use Rattle.stm_parse.specs.Grammar.{At, at, at_ref, erase, deepest, IsType, is_var, is_bare, IsBareType, is_int, is_bool, is_unit_type, is_bracketed_type, IsInit, is_number_init, is_negative_init, is_true_init, is_false_init, is_unit_init, is_name_init, DeclarationTree, IsDeclaration, is_declaration}
 use Rattle.stm_parse.specs.Faults.{Language}
 use Rattle.stm_parse.specs.Descent.{Reading, Reader, ◌>>=◌, accept, or_accepted, expect, expect_name, closed, deeper, refuse, init, tvar_type, bracketed_type, bare_of, bare_with, var_of, type_with, inside_type, bare_at, type_at, declaration_reader}
 use Rattle.stm_parse.proofs.ReaderPromises.{plain-split, Says, Then, then_, Mapped, mapped, says_more, says_map, says_end, says_refused, says_beyond, says_token, says_one, says_same_first, says_same_end}

@@ -59,6 +59,18 @@ abbrev pub decimal : ℕ → List ℕ → ℕ
 decimal n [] = n
 decimal n (b ∷ bytes) = decimal (n * 10 + digit_value b) bytes
 
--- the number of these digits, if there are at most 19 and it is at most 2 ^ 63
+-- the most bytes of a word
+abbrev pub longest_word : ℕ
+longest_word = 32
+
+-- the most digits of a number
+abbrev pub most_digits : ℕ
+most_digits = 19
+
+-- the greatest number that is written, 2 ^ 63: behind a minus it is an Int
+abbrev pub greatest_written : ℕ
+greatest_written = 9223372036854775808
+
+-- the number of these digits, if they are not too many and it is not too great
 unfoldable pub number_of_digits : List ℕ → Option ℕ
-number_of_digits bytes = if nat_lt 19 (length bytes) then None else (if nat_lt 9223372036854775808 (decimal 0 bytes) then None else Some (decimal 0 bytes))
+number_of_digits bytes = if nat_lt most_digits (length bytes) then None else (if nat_lt greatest_written (decimal 0 bytes) then None else Some (decimal 0 bytes))

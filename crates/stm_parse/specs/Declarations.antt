@@ -11,7 +11,7 @@ use Rattle.stm_parse.specs.declared.types.RawDeclaration.{RawDeclaration}
 use Rattle.stm_parse.specs.Grammar.{DeclarationTree}
 
 abbrev pub declaration_tree_of : RawDeclaration → DeclarationTree
-declaration_tree_of d = record { from = d.from; to = d.to; ty = d.ty; init = raw_term_of d.init }
+declaration_tree_of d = record { from = d.name.start; to = d.name.end; ty = d.ty; init = raw_term_of d.init }
 
 -- what a variable holds at first: a value, or the variable of a name that stands at a place
 pub data ParsedInit : Type 0 where

@@ -16,7 +16,8 @@ use Rattle.stm_parse.specs.declared.token.Failure.TheVariants as stop
 use Rattle.stm_parse.specs.declared.cursor.Grouping.{Grouping}
 use Rattle.stm_parse.specs.declared.cursor.Grouping.TheVariants as grouping
 use Rattle.stm_parse.specs.Terminals.{is_mark}
-use Rattle.stm_parse.specs.Grammar.{operator_of, grouping_of, widest, Placed, DeclarationTree, most_refs, greatest}
+use Rattle.stm_terms.specs.Limits.{most_refs}
+use Rattle.stm_parse.specs.Grammar.{operator_of, grouping_of, widest, Placed, DeclarationTree, deepest, greatest}
 
 abbrev pub Reading : Type 0 → Type 0
 Reading A = Result (A × List Lexeme) Fault
@@ -38,6 +39,10 @@ abbrev pub ReadsAs : {X Y : Type 0} → (X → Y) → Result X Failure → Resul
 ReadsAs view (Ok x) reading = reading ≡ Ok (view x)
 ReadsAs view (Err e) reading = StopsAs e reading
 
+-- these tokens are left of a reading
+abbrev pub Leaves : {A : Type 0} → List Lexeme → Reading A → Type 0
+Leaves {A} rest reading = (a : A) × (reading ≡ Ok (a, rest))
+
 abbrev pub unexpected : List Lexeme → Fault
 unexpected toks = record { cause = cause.Unexpected; left = length toks }
 
@@ -46,10 +51,6 @@ too_deep toks = record { cause = cause.TooDeep; left = length toks }
 
 abbrev pub bad_number : List Lexeme → Fault
 bad_number toks = record { cause = cause.BadNumber; left = length toks }
-
-abbrev pub begins : Mark → List Lexeme → Bool
-begins m [] = false
-begins m (x ∷ rest) = is_mark m x.sym
 
 -- the token that is this mark
 abbrev pub expect : Mark → Reader Lexeme
@@ -335,7 +336,7 @@ level_at n = record { expression = tier_at widest n; action = action_at n; paren
 -- a whole block
 abbrev pub block_reader : Reader RawAct
 block_reader toks = do
-  a ← action_at 64 toks
+  a ← action_at deepest toks
   Ok (a.0.0, a.1)
 
 abbrev pub tvar_type : Ty → Ty
@@ -387,7 +388,7 @@ abbrev pub declaration_reader : Reader DeclarationTree
 declaration_reader toks = do
   x ← expect_name toks
   colon ← expect mark.Colon x.1
-  t ← type_at 64 0 colon.1
+  t ← type_at deepest 0 colon.1
   equals ← expect mark.Equals t.1
   e ← init equals.1
   Ok (record { from = x.0.start; to = x.0.end; ty = t.0; init = e.0 }, e.1)

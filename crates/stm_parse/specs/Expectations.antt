@@ -20,7 +20,7 @@ pub data IsExpectation : List At → ExpectationTree → Type 0 where
 
 -- a tree of the descent without where it lies in memory
 abbrev pub expectation_tree_of : RawExpectation → ExpectationTree
-expectation_tree_of d = record { from = d.from; to = d.to; init = raw_term_of d.init }
+expectation_tree_of d = record { from = d.name.start; to = d.name.end; init = raw_term_of d.init }
 
 -- an expectation as callers see it: a variable's name, and a value or the variable of a name
 pub record ParsedExpectation : Type 0 where

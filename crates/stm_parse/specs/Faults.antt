@@ -4,7 +4,8 @@ use Rattle.stm_parse.specs.declared.token.Lexeme.{Lexeme}
 use Rattle.stm_parse.specs.declared.token.ErrorKind.{ErrorKind}
 use Rattle.stm_parse.specs.declared.token.ErrorKind.TheVariants as cause
 use Rattle.stm_parse.specs.declared.token.Fault.{Fault}
-use Rattle.stm_parse.specs.Grammar.{At, erase, deepest, most_refs, greatest, WithinLimits}
+use Rattle.stm_terms.specs.Limits.{most_refs}
+use Rattle.stm_parse.specs.Grammar.{At, erase, deepest, greatest, WithinLimits}
 
 -- a language: which tokens, in their places, are a text of which tree
 abbrev pub Language : Type 0 → Type 1

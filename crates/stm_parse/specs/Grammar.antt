@@ -4,6 +4,7 @@ use Rattle.stm_terms.specs.declared.expr.Op.{Op}
 use Rattle.stm_terms.specs.declared.expr.Op.TheVariants as op
 use Rattle.stm_terms.specs.declared.kinds.Ty.{Ty}
 use Rattle.stm_terms.specs.declared.kinds.Base.TheVariants as base
+use Rattle.stm_terms.specs.Limits.{most_refs}
 use Rattle.stm_terms.specs.ParsedAst.{RawTerm, int, truth, unit, name, bin, RawAct, return, read, write, make, retry, throw, if_else, or_else, bind, let_in, seq}
 use Rattle.stm_parse.specs.declared.token.Mark.{Mark}
 use Rattle.stm_parse.specs.declared.token.Mark.TheVariants as mark
@@ -182,10 +183,6 @@ pub data IsDeclaration : List At → DeclarationTree → Type 0 where
 -- the greatest depth
 abbrev pub deepest : ℕ
 deepest = 64
-
--- the most `TVar` of a type
-abbrev pub most_refs : ℕ
-most_refs = 8
 
 -- the greatest number, and how far the least lies from -1
 unfoldable pub greatest : ℕ

@@ -1,15 +1,15 @@
 -- What stands at the front of some bytes, with what the grammar sees in it.
 use Rattle.std.specs.Prelude.{◌≡◌, ℕ, List, take}
-use Rattle.stm_parse.specs.declared.tokenizer.Front.{Front}
-use Rattle.stm_parse.specs.declared.tokenizer.Front.TheVariants as front
+use Rattle.stm_parse.specs.Front.{Front}
+use Rattle.stm_parse.specs.Front as front
 use Rattle.stm_parse.specs.declared.lexer.Piece.{Piece}
 use Rattle.stm_parse.specs.declared.lexer.Piece.TheVariants as piece
-use Rattle.stm_parse.specs.Lexing.{token_kind_of}
+use Rattle.stm_parse.specs.Lexing.{token_kind_of, class_of}
 
--- the same without what the grammar sees
+-- the same with the class of a token in place of what the grammar sees
 abbrev pub front_seen : Piece → Front
 front_seen piece.Blank = front.Blank
-front_seen (piece.Found kind sym n) = front.Found kind n
+front_seen (piece.Found sym n) = front.Found (class_of sym) n
 front_seen piece.BadByte = front.BadByte
 front_seen piece.LongName = front.LongName
 front_seen piece.BadNumber = front.BadNumber
@@ -17,7 +17,7 @@ front_seen piece.BadNumber = front.BadNumber
 -- the grammar sees what these bytes are
 abbrev pub IsSeen : List ℕ → Piece → Type 0
 IsSeen bytes piece.Blank = Unit {0}
-IsSeen bytes (piece.Found kind sym n) = sym ≡ token_kind_of kind (take n bytes)
+IsSeen bytes (piece.Found sym n) = sym ≡ token_kind_of (class_of sym) (take n bytes)
 IsSeen bytes piece.BadByte = Unit {0}
 IsSeen bytes piece.LongName = Unit {0}
 IsSeen bytes piece.BadNumber = Unit {0}

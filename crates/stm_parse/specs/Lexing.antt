@@ -11,6 +11,7 @@ use Rattle.stm_parse.specs.declared.tokenizer.TokenClass.{TokenClass}
 use Rattle.stm_parse.specs.declared.tokenizer.TokenClass.TheVariants as kind
 use Rattle.stm_parse.specs.declared.tokenizer.Token.{Token}
 use Rattle.stm_parse.specs.Bytes.{symbol_mark, number_of_digits}
+use Rattle.stm_parse.specs.Terminals.{is_word_mark}
 
 -- the words of control
 unfoldable pub control_mark : List ℕ → Option Mark
@@ -66,10 +67,22 @@ token_kind_of kind.Word bytes = mark_or (word_mark bytes) (if is_name_text bytes
 token_kind_of kind.Number bytes = number_or (number_of_digits bytes)
 token_kind_of kind.Symbol bytes = mark_or (symbol_mark bytes) tok.Other
 
--- a token of the text
+-- the class of a token that the grammar sees as this
+unfoldable pub class_of : TokenKind → TokenClass
+class_of (tok.Mark m) = if is_word_mark m then kind.Word else kind.Symbol
+class_of (tok.Number n) = kind.Number
+class_of tok.Name = kind.Word
+class_of tok.Other = kind.Word
+
+-- a token as callers see it
+abbrev pub token_of : Lexeme → Token
+token_of x = record { kind = class_of x.sym; start = x.start; end = x.end }
+
+-- a token of the text as the grammar sees it
 abbrev pub lexeme_of : List ℕ → Token → Lexeme
 lexeme_of text t = record { sym = token_kind_of t.kind (slice_range text t.start t.end); start = t.start; end = t.end }
 
+-- so is each
 abbrev pub lexemes_of : List ℕ → List Token → List Lexeme
 lexemes_of text [] = []
 lexemes_of text (t ∷ ts) = lexeme_of text t ∷ lexemes_of text ts

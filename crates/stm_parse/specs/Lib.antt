@@ -1,9 +1,11 @@
 pub mod Bytes
 pub mod Declarations
 pub mod Descent
+pub mod DescentResults
 pub mod ExpectationFunction
 pub mod Expectations
 pub mod Faults
+pub mod Front
 pub mod Grammar
 pub mod Laws
 pub mod LexerStep

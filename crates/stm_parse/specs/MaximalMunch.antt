@@ -9,7 +9,7 @@ use Rattle.stm_parse.specs.declared.tokenizer.TokenClass.TheVariants as kind
 use Rattle.stm_parse.specs.declared.tokenizer.Token.{Token}
 use Rattle.stm_parse.specs.declared.fault.ParseFault.{ParseFault}
 use Rattle.stm_parse.specs.declared.fault.ParseFault.TheVariants as fault
-use Rattle.stm_parse.specs.Bytes.{is_letter, is_blank, decimal}
+use Rattle.stm_parse.specs.Bytes.{is_letter, is_blank, decimal, longest_word, most_digits, greatest_written}
 use Rattle.stm_parse.specs.Tokenizer.{tokens_of}
 
 -- the symbols, each by its bytes
@@ -40,13 +40,13 @@ pub record IsLongest (bytes : List ℕ) (k : TokenClass) (n : ℕ) : Type 0 wher
 abbrev pub BeginsNoToken : List ℕ → Type 0
 BeginsNoToken bytes = (k : TokenClass) (n : ℕ) → is_token k (take n bytes) ≡ false
 
--- whether a number has more than 19 digits, or is greater than 2 ^ 63
+-- whether a number has too many digits, or is too great
 abbrev pub is_too_large : List ℕ → Bool
-is_too_large digits = nat_lt 19 (length digits) || nat_lt 9223372036854775808 (decimal 0 digits)
+is_too_large digits = nat_lt most_digits (length digits) || nat_lt greatest_written (decimal 0 digits)
 
--- the fault of a token at this place: a word of more than 32 bytes, a number that is too great
+-- the fault of a token at this place: a word that is too long, a number that is too great
 abbrev pub token_fault : ℕ → TokenClass → List ℕ → Option ParseFault
-token_fault place kind.Word bytes = if nat_lt 32 (length bytes) then Some (fault.NameTooLong place) else None
+token_fault place kind.Word bytes = if nat_lt longest_word (length bytes) then Some (fault.NameTooLong place) else None
 token_fault place kind.Number bytes = if is_too_large bytes then Some (fault.BadNumber place) else None
 token_fault place kind.Symbol bytes = None
 

@@ -8,7 +8,7 @@ use Rattle.stm_parse.specs.declared.token.Failure.TheVariants as stop
 use Rattle.stm_parse.specs.declared.tokenizer.Token.{Token}
 use Rattle.stm_parse.specs.declared.fault.ParseFault.{ParseFault}
 use Rattle.stm_parse.specs.declared.fault.ParseFault.TheVariants as fault
-use Rattle.stm_parse.specs.Tokenizer.{tokens_of}
+use Rattle.stm_parse.specs.MaximalMunch.{IsTokenization}
 use Rattle.stm_parse.specs.Lexing.{lexemes_of}
 use Rattle.stm_parse.specs.Faults.{Language, IsText, Begins, AtFault}
 
@@ -22,7 +22,7 @@ most_tokens = 4096
 
 -- the text has these tokens
 abbrev pub Lexes : List ℕ → List Lexeme → Type 0
-Lexes text ls = (ts : List Token) × (tokens_of text ≡ Ok ts) × (ls ≡ lexemes_of text ts)
+Lexes text ls = (ts : List Token) × IsTokenization 0 text (Ok ts) × (ls ≡ lexemes_of text ts)
 
 -- and neither too many bytes nor too many tokens
 abbrev pub LexesWithinLimits : List ℕ → List Lexeme → Type 0
@@ -43,9 +43,9 @@ EndsTooSoon {A} L text = (ls : List Lexeme) × LexesWithinLimits text ls × Begi
 -- the fault that is reported of tokens, before any of the grammar
 abbrev pub IsEarly : List ℕ → ParseFault → Type 0
 IsEarly text fault.TooLarge = (most_bytes < length text) ⊎ (ls : List Lexeme) × (length text ≤ most_bytes) × Lexes text ls × (most_tokens < length ls)
-IsEarly text (fault.BadByte n) = (length text ≤ most_bytes) × (tokens_of text ≡ Err (fault.BadByte n))
-IsEarly text (fault.BadNumber n) = (length text ≤ most_bytes) × (tokens_of text ≡ Err (fault.BadNumber n))
-IsEarly text (fault.NameTooLong n) = (length text ≤ most_bytes) × (tokens_of text ≡ Err (fault.NameTooLong n))
+IsEarly text (fault.BadByte n) = (length text ≤ most_bytes) × IsTokenization 0 text (Err (fault.BadByte n))
+IsEarly text (fault.BadNumber n) = (length text ≤ most_bytes) × IsTokenization 0 text (Err (fault.BadNumber n))
+IsEarly text (fault.NameTooLong n) = (length text ≤ most_bytes) × IsTokenization 0 text (Err (fault.NameTooLong n))
 IsEarly text (fault.Unexpected n) = ⊥
 IsEarly text fault.EndOfText = ⊥
 IsEarly text fault.TooDeep = ⊥

@@ -62,7 +62,7 @@ abbrev boxed_term : RawTerm → RawExpr
 boxed_term (int n at) = E.Int n at
 boxed_term (truth b at) = E.Bool b at
 boxed_term (unit at) = E.Unit at
-boxed_term (name from to) = E.Name from to
+boxed_term (name from to) = E.Name (record { start = from; end = to })
 boxed_term (bin op a b) = E.Bin' op nowhere (boxed_term a) nowhere (boxed_term b)
 
 abbrev boxed : RawAct → RawAction
@@ -74,8 +74,8 @@ boxed retry = A.Retry
 boxed (throw e) = A.Throw (boxed_term e)
 boxed (if_else e a at b) = A.If' (boxed_term e) nowhere (boxed a) at nowhere (boxed b)
 boxed (or_else a at b) = A.OrElse' nowhere (boxed a) at nowhere (boxed b)
-boxed (bind from to at a b) = A.Bind' from to at nowhere (boxed a) nowhere (boxed b)
-boxed (let_in from to e b) = A.Let' from to (boxed_term e) nowhere (boxed b)
+boxed (bind from to at a b) = A.Bind' (record { start = from; end = to }) at nowhere (boxed a) nowhere (boxed b)
+boxed (let_in from to e b) = A.Let' (record { start = from; end = to }) (boxed_term e) nowhere (boxed b)
 boxed (seq a b) = A.Seq' nowhere (boxed a) nowhere (boxed b)
 
 term_back : (e : RawTerm) → raw_term_of (boxed_term e) ≡ e

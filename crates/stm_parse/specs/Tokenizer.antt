@@ -1,12 +1,12 @@
 -- How a text is cut: at each place that is no blank the longest token.
 use Rattle.std.specs.Prelude.{ℕ, zero, suc, ◌+◌, ◌-◌, ◌<◌, ◌≤◌, List, [], ◌∷◌, ◌++◌, take, Result, Ok, Err, nat_lt, if◌then◌else◌, Option, Some, None}
 use Rattle.stm_terms.specs.Names.{is_digit}
-use Rattle.stm_parse.specs.Bytes.{is_letter, is_blank, symbol_mark, word_len, number_len, number_of_digits}
+use Rattle.stm_parse.specs.Bytes.{is_letter, is_blank, symbol_mark, word_len, longest_word, number_len, number_of_digits}
 use Rattle.stm_parse.specs.declared.token.Mark.{Mark}
 use Rattle.stm_parse.specs.declared.tokenizer.TokenClass.TheVariants as kind
 use Rattle.stm_parse.specs.declared.tokenizer.Token.{Token}
-use Rattle.stm_parse.specs.declared.tokenizer.Front.{Front}
-use Rattle.stm_parse.specs.declared.tokenizer.Front.TheVariants as front
+use Rattle.stm_parse.specs.Front.{Front}
+use Rattle.stm_parse.specs.Front as front
 use Rattle.stm_parse.specs.declared.fault.ParseFault.{ParseFault}
 use Rattle.stm_parse.specs.declared.fault.ParseFault.TheVariants as fault
 
@@ -25,7 +25,7 @@ symbol_front (a ∷ []) = one_symbol (symbol_mark (a ∷ []))
 symbol_front (a ∷ b ∷ rest) = two_symbol (symbol_mark (a ∷ b ∷ [])) a
 
 abbrev pub word_front : ℕ → Front
-word_front n = if nat_lt 32 n then front.LongName else front.Found kind.Word n
+word_front n = if nat_lt longest_word n then front.LongName else front.Found kind.Word n
 
 abbrev pub number_front : ℕ → Option ℕ → Front
 number_front n None = front.BadNumber

@@ -6,21 +6,20 @@ ghost use Rattle.std.specs.Prelude.{◌≡◌, ◌+◌, ◌-◌, ◌<◌, ◌≤
 ghost use Rattle.stm_terms.specs.ParsedAst.{RawAct, raw_act_of, return, read, make, throw};
 ghost use Rattle.stm_parse.specs.Grammar.{Placed, deepest, widest};
 ghost use Rattle.stm_parse.specs.declared.token.Lexeme.{Lexeme};
-ghost use Rattle.stm_parse.specs.Descent.{ReadsAs, atom_at, tier_at, action_at, paren_at, body_at, closed, block, if_of, or_else_of, bound, let_bound, sequence, two_operands};
+ghost use Rattle.stm_parse.specs.DescentResults.{GivesReading, boxed_tree, placed_tree};
+ghost use Rattle.stm_parse.specs.Descent.{atom_at, tier_at, action_at, paren_at, body_at, closed, block, if_of, or_else_of, bound, let_bound, sequence, two_operands};
 
-use crate::cursor::{accept, expect, expect_name, is_name_kind, too_deep, unexpected};
+use crate::cursor::{
+    Parsed, accept, expect, expect_name, is_name_kind, one_level_deeper, unexpected,
+};
 use crate::expression::{atom, expression};
 use crate::token::{Failure, Lexeme, Mark, TokenKind};
 use std::alloc::Global;
-use stm_terms::RawAction;
+use stm_terms::{RawAction, Span};
 
 // An action that is whole.
-fn whole<'t>(
-    alloc: Global,
-    action: RawAction,
-    toks: &'t [Lexeme],
-) -> Result<(Box<RawAction>, &'t [Lexeme]), Failure>
-    ensures gives { ReadsAs {Y = RawAct × List Lexeme} (λ r. (raw_act_of r.0.value, r.1.now)) result (Ok (raw_act_of action, toks.now)) }
+fn whole<'t>(alloc: Global, action: RawAction, toks: &'t [Lexeme]) -> Parsed<'t, Box<RawAction>>
+    ensures gives { GivesReading boxed_tree result (Ok (raw_act_of action, toks.now)) }
     ensures shorter { IfOk result (λ r. length r.1.now ≤ length toks.now) }
 {
     let action = Box::new(alloc, action)?;
@@ -33,8 +32,8 @@ fn placed<'t>(
     action: RawAction,
     place: usize,
     toks: &'t [Lexeme],
-) -> Result<((Box<RawAction>, usize), &'t [Lexeme]), Failure>
-    ensures gives { ReadsAs {Y = Placed × List Lexeme} (λ r. ((raw_act_of r.0.0.value, r.0.1), r.1.now)) result (Ok ((raw_act_of action, place), toks.now)) }
+) -> Parsed<'t, (Box<RawAction>, usize)>
+    ensures gives { GivesReading placed_tree result (Ok ((raw_act_of action, place), toks.now)) }
     ensures shorter { IfOk result (λ r. length r.1.now ≤ length toks.now) }
 {
     let action = Box::new(alloc, action)?;
@@ -42,13 +41,9 @@ fn placed<'t>(
 }
 
 /// An action.
-pub fn action<'t>(
-    alloc: Global,
-    levels: u8,
-    toks: &'t [Lexeme],
-) -> Result<((RawAction, usize), &'t [Lexeme]), Failure>
+pub fn action<'t>(alloc: Global, levels: u8, toks: &'t [Lexeme]) -> Parsed<'t, (RawAction, usize)>
     requires { levels ≤ deepest }
-    ensures gives { ReadsAs (λ r. ((raw_act_of r.0.0, r.0.1), r.1.now)) result (action_at levels toks.now) }
+    ensures gives { GivesReading (λ a. (raw_act_of a.0, a.1)) result (action_at levels toks.now) }
     ensures shorter { IfOk result (λ r. length r.1.now ≤ length toks.now) }
 {
     let ((action, place), rest) = boxed_action(alloc, levels, toks)?;
@@ -62,9 +57,9 @@ fn boxed_action<'t>(
     alloc: Global,
     levels: u8,
     toks: &'t [Lexeme],
-) -> Result<((Box<RawAction>, usize), &'t [Lexeme]), Failure>
+) -> Parsed<'t, (Box<RawAction>, usize)>
     requires { levels ≤ deepest }
-    ensures gives { ReadsAs (λ r. ((raw_act_of r.0.0.value, r.0.1), r.1.now)) result (action_at levels toks.now) }
+    ensures gives { GivesReading placed_tree result (action_at levels toks.now) }
     ensures shorter { IfOk result (λ r. length r.1.now ≤ length toks.now) }
 {
     let Some((first, rest)) = toks.split_first() else {
@@ -75,28 +70,20 @@ fn boxed_action<'t>(
     };
     match word {
         Mark::Do => {
-            if levels == 0 {
-                return Err(too_deep(toks));
-            }
-            block(alloc, levels - 1, first.start, rest)
+            let inner = one_level_deeper(levels, toks)?;
+            block(alloc, inner, first.start, rest)
         }
         Mark::If => {
-            if levels == 0 {
-                return Err(too_deep(toks));
-            }
-            if_then_else(alloc, levels - 1, first.start, rest)
+            let inner = one_level_deeper(levels, toks)?;
+            if_then_else(alloc, inner, first.start, rest)
         }
         Mark::OrElse => {
-            if levels == 0 {
-                return Err(too_deep(toks));
-            }
-            or_else(alloc, levels - 1, first.start, rest)
+            let inner = one_level_deeper(levels, toks)?;
+            or_else(alloc, inner, first.start, rest)
         }
         Mark::LParen => {
-            if levels == 0 {
-                return Err(too_deep(toks));
-            }
-            closed(alloc, levels - 1, rest)
+            let inner = one_level_deeper(levels, toks)?;
+            closed(alloc, inner, rest)
         }
         Mark::Return => {
             let (value, rest) = atom(alloc, levels, rest)?;
@@ -126,9 +113,9 @@ fn write<'t>(
     levels: u8,
     place: usize,
     toks: &'t [Lexeme],
-) -> Result<((Box<RawAction>, usize), &'t [Lexeme]), Failure>
+) -> Parsed<'t, (Box<RawAction>, usize)>
     requires { levels ≤ deepest }
-    ensures gives { ReadsAs (λ r. ((raw_act_of r.0.0.value, r.0.1), r.1.now)) result (two_operands (atom_at levels) place toks.now) }
+    ensures gives { GivesReading placed_tree result (two_operands (atom_at levels) place toks.now) }
     ensures shorter { IfOk result (λ r. length r.1.now ≤ length toks.now) }
 {
     let (variable, rest) = atom(alloc, levels, toks)?;
@@ -138,30 +125,22 @@ fn write<'t>(
 
 // After "(".
 #[cycle(actions)]
-fn closed<'t>(
-    alloc: Global,
-    levels: u8,
-    toks: &'t [Lexeme],
-) -> Result<((Box<RawAction>, usize), &'t [Lexeme]), Failure>
+fn closed<'t>(alloc: Global, levels: u8, toks: &'t [Lexeme]) -> Parsed<'t, (Box<RawAction>, usize)>
     requires { levels ≤ deepest }
-    ensures gives { ReadsAs (λ r. ((raw_act_of r.0.0.value, r.0.1), r.1.now)) result (closed (action_at levels) toks.now) }
+    ensures gives { GivesReading placed_tree result (closed (action_at levels) toks.now) }
     ensures shorter { IfOk result (λ r. length r.1.now ≤ length toks.now) }
 {
     let (inner, rest) = boxed_action(alloc, levels, toks)?;
-    let (_, rest) = expect(Mark::RParen, rest)?;
+    let rest = expect(Mark::RParen, rest)?;
     Ok((inner, rest))
 }
 
 // "(" action ")"
 #[cycle(actions)]
 #[tactic(auto, unfolding(crate::specs::Descent::paren_at))]
-fn paren<'t>(
-    alloc: Global,
-    levels: u8,
-    toks: &'t [Lexeme],
-) -> Result<((Box<RawAction>, usize), &'t [Lexeme]), Failure>
+fn paren<'t>(alloc: Global, levels: u8, toks: &'t [Lexeme]) -> Parsed<'t, (Box<RawAction>, usize)>
     requires { levels ≤ deepest }
-    ensures gives { ReadsAs (λ r. ((raw_act_of r.0.0.value, r.0.1), r.1.now)) result (paren_at levels toks.now) }
+    ensures gives { GivesReading placed_tree result (paren_at levels toks.now) }
     ensures shorter { IfOk result (λ r. length r.1.now ≤ length toks.now) }
 {
     let Some((first, rest)) = toks.split_first() else {
@@ -170,10 +149,8 @@ fn paren<'t>(
     if !first.sym.is(Mark::LParen) {
         return Err(unexpected(toks));
     }
-    if levels == 0 {
-        return Err(too_deep(toks));
-    }
-    closed(alloc, levels - 1, rest)
+    let inner = one_level_deeper(levels, toks)?;
+    closed(alloc, inner, rest)
 }
 
 // After orElse.
@@ -183,14 +160,14 @@ fn or_else<'t>(
     levels: u8,
     place: usize,
     toks: &'t [Lexeme],
-) -> Result<((Box<RawAction>, usize), &'t [Lexeme]), Failure>
+) -> Parsed<'t, (Box<RawAction>, usize)>
     requires { levels ≤ deepest }
-    ensures gives { ReadsAs (λ r. ((raw_act_of r.0.0.value, r.0.1), r.1.now)) result (or_else_of (paren_at levels) place toks.now) }
+    ensures gives { GivesReading placed_tree result (or_else_of (paren_at levels) place toks.now) }
     ensures shorter { IfOk result (λ r. length r.1.now ≤ length toks.now) }
 {
     let ((first, _), rest) = paren(alloc, levels, toks)?;
     let ((second, at), rest) = paren(alloc, levels, rest)?;
-    placed(alloc, RawAction::OrElse(first, at, second), place, rest)
+    placed(alloc, RawAction::OrElse { first, at, second }, place, rest)
 }
 
 // After if.
@@ -200,17 +177,23 @@ fn if_then_else<'t>(
     levels: u8,
     place: usize,
     toks: &'t [Lexeme],
-) -> Result<((Box<RawAction>, usize), &'t [Lexeme]), Failure>
+) -> Parsed<'t, (Box<RawAction>, usize)>
     requires { levels ≤ deepest }
-    ensures gives { ReadsAs (λ r. ((raw_act_of r.0.0.value, r.0.1), r.1.now)) result (if_of (tier_at widest levels) (action_at levels) place toks.now) }
+    ensures gives { GivesReading placed_tree result
+        (if_of (tier_at widest levels) (action_at levels) place toks.now) }
     ensures shorter { IfOk result (λ r. length r.1.now ≤ length toks.now) }
 {
     let (condition, rest) = expression(alloc, levels, toks)?;
-    let (_, rest) = expect(Mark::Then, rest)?;
+    let rest = expect(Mark::Then, rest)?;
     let ((first, _), rest) = boxed_action(alloc, levels, rest)?;
-    let (_, rest) = expect(Mark::Else, rest)?;
+    let rest = expect(Mark::Else, rest)?;
     let ((second, at), rest) = boxed_action(alloc, levels, rest)?;
-    let choice = RawAction::If(condition, first, at, second);
+    let choice = RawAction::If {
+        condition,
+        first,
+        at,
+        second,
+    };
     placed(alloc, choice, place, rest)
 }
 
@@ -221,33 +204,29 @@ fn block<'t>(
     levels: u8,
     place: usize,
     toks: &'t [Lexeme],
-) -> Result<((Box<RawAction>, usize), &'t [Lexeme]), Failure>
+) -> Parsed<'t, (Box<RawAction>, usize)>
     requires { levels ≤ deepest }
-    ensures gives { ReadsAs (λ r. ((raw_act_of r.0.0.value, r.0.1), r.1.now)) result (block (body_at levels) place toks.now) }
+    ensures gives { GivesReading placed_tree result (block (body_at levels) place toks.now) }
     ensures shorter { IfOk result (λ r. length r.1.now ≤ length toks.now) }
 {
-    let (_, rest) = expect(Mark::LBrace, toks)?;
+    let rest = expect(Mark::LBrace, toks)?;
     let (inner, rest) = body(alloc, levels, rest)?;
-    let (_, rest) = expect(Mark::RBrace, rest)?;
+    let rest = expect(Mark::RBrace, rest)?;
     Ok(((inner, place), rest))
 }
 
 // Statements and the last action.
 #[cycle(actions)]
-fn body<'t>(
-    alloc: Global,
-    levels: u8,
-    toks: &'t [Lexeme],
-) -> Result<(Box<RawAction>, &'t [Lexeme]), Failure>
+fn body<'t>(alloc: Global, levels: u8, toks: &'t [Lexeme]) -> Parsed<'t, Box<RawAction>>
     requires { levels ≤ deepest }
-    ensures gives { ReadsAs (λ r. (raw_act_of r.0.value, r.1.now)) result (body_at levels toks.now) }
+    ensures gives { GivesReading boxed_tree result (body_at levels toks.now) }
     ensures shorter { IfOk result (λ r. length r.1.now ≤ length toks.now) }
 {
     let Some((first, rest)) = toks.split_first() else {
         return Err(unexpected(toks));
     };
     if is_name_kind(first.sym) {
-        return bound(alloc, levels, first.start, first.end, rest);
+        return bound(alloc, levels, first.span(), rest);
     }
     if first.sym.is(Mark::Let) {
         return let_bound(alloc, levels, rest);
@@ -260,50 +239,51 @@ fn body<'t>(
 fn bound<'t>(
     alloc: Global,
     levels: u8,
-    start: usize,
-    end: usize,
+    name: Span,
     toks: &'t [Lexeme],
-) -> Result<(Box<RawAction>, &'t [Lexeme]), Failure>
+) -> Parsed<'t, Box<RawAction>>
     requires { levels ≤ deepest }
-    ensures gives { ReadsAs (λ r. (raw_act_of r.0.value, r.1.now)) result (bound (action_at levels) (body_at levels) start end toks.now) }
+    ensures gives { GivesReading boxed_tree result
+        (bound (action_at levels) (body_at levels) name.start name.end toks.now) }
     ensures shorter { IfOk result (λ r. length r.1.now ≤ length toks.now) }
 {
-    let (_, rest) = expect(Mark::Arrow, toks)?;
-    let ((first, at), rest) = boxed_action(alloc, levels, rest)?;
-    let (_, rest) = expect(Mark::Semicolon, rest)?;
-    let (then, rest) = body(alloc, levels, rest)?;
-    whole(alloc, RawAction::Bind(start, end, at, first, then), rest)
+    let toks = expect(Mark::Arrow, toks)?;
+    let ((bound, at), toks) = boxed_action(alloc, levels, toks)?;
+    let toks = expect(Mark::Semicolon, toks)?;
+    let (rest, toks) = body(alloc, levels, toks)?;
+    let all = RawAction::Bind {
+        name,
+        at,
+        bound,
+        rest,
+    };
+    whole(alloc, all, toks)
 }
 
 // After let.
 #[cycle(actions)]
-fn let_bound<'t>(
-    alloc: Global,
-    levels: u8,
-    toks: &'t [Lexeme],
-) -> Result<(Box<RawAction>, &'t [Lexeme]), Failure>
+fn let_bound<'t>(alloc: Global, levels: u8, toks: &'t [Lexeme]) -> Parsed<'t, Box<RawAction>>
     requires { levels ≤ deepest }
-    ensures gives { ReadsAs (λ r. (raw_act_of r.0.value, r.1.now)) result (let_bound (tier_at widest levels) (body_at levels) toks.now) }
+    ensures gives { GivesReading boxed_tree result
+        (let_bound (tier_at widest levels) (body_at levels) toks.now) }
     ensures shorter { IfOk result (λ r. length r.1.now ≤ length toks.now) }
 {
-    let (name, rest) = expect_name(toks)?;
-    let (_, rest) = expect(Mark::Equals, rest)?;
-    let (value, rest) = expression(alloc, levels, rest)?;
-    let (_, rest) = expect(Mark::Semicolon, rest)?;
-    let (then, rest) = body(alloc, levels, rest)?;
-    let all = RawAction::Let(name.start, name.end, value, then);
-    whole(alloc, all, rest)
+    let (name, toks) = expect_name(toks)?;
+    let toks = expect(Mark::Equals, toks)?;
+    let (value, toks) = expression(alloc, levels, toks)?;
+    let toks = expect(Mark::Semicolon, toks)?;
+    let (rest, toks) = body(alloc, levels, toks)?;
+    let name = name.span();
+    let all = RawAction::Let { name, value, rest };
+    whole(alloc, all, toks)
 }
 
 // An action, and the rest of the body after a semicolon.
 #[cycle(actions)]
-fn sequence<'t>(
-    alloc: Global,
-    levels: u8,
-    toks: &'t [Lexeme],
-) -> Result<(Box<RawAction>, &'t [Lexeme]), Failure>
+fn sequence<'t>(alloc: Global, levels: u8, toks: &'t [Lexeme]) -> Parsed<'t, Box<RawAction>>
     requires { levels ≤ deepest }
-    ensures gives { ReadsAs (λ r. (raw_act_of r.0.value, r.1.now)) result (sequence (action_at levels) (body_at levels) toks.now) }
+    ensures gives { GivesReading boxed_tree result
+        (sequence (action_at levels) (body_at levels) toks.now) }
     ensures shorter { IfOk result (λ r. length r.1.now ≤ length toks.now) }
 {
     let ((first, _), rest) = boxed_action(alloc, levels, toks)?;

@@ -14,6 +14,7 @@ use crate::action::action;
 use crate::cursor::unexpected;
 use crate::fault::ParseFault;
 use crate::lexer::lexemes;
+use crate::limits::{DEEPEST, MOST_BYTES, MOST_TOKENS};
 use crate::raw::Raw;
 use crate::token::{ErrorKind, Failure, Lexeme};
 use std::alloc::Global;
@@ -22,20 +23,21 @@ use stm_terms::RawAction;
 // The tokens of a text that is not too large.
 #[tactic(auto, unfolding(crate::specs::ParseResult::most_bytes, crate::specs::ParseResult::most_tokens))]
 pub(crate) fn lexed(alloc: Global, text: &str) -> Result<Vec<Lexeme>, ParseFault>
-    ensures right { MatchResult result (λ v. LexesWithinLimits text.now v.items) (λ e. IsEarly text.now e) }
+    ensures right { MatchResult result (λ v. LexesWithinLimits text.now v.items)
+        (λ e. IsEarly text.now e) }
     ensures ascii { IfOk result (λ v. IsAscii text.now) }
     ensures names { IfOk result (λ v. NamesOf text.now v.items) }
     ensures block { IfErr result (λ e. FailsAs e (parsed_block text.now)) }
     ensures declaration { IfErr result (λ e. FailsAs e (parsed_declaration text.now)) }
 {
-    if text.len() > 65536 {
+    if text.len() > MOST_BYTES {
         return Err(ParseFault::TooLarge);
     }
     let toks = match lexemes(alloc, text) {
         Ok(toks) => toks,
         Err(fault) => return Err(fault),
     };
-    if toks.len() > 4096 {
+    if toks.len() > MOST_TOKENS {
         return Err(ParseFault::TooLarge);
     }
     Ok(toks)
@@ -62,7 +64,7 @@ pub(crate) fn fault_of_failure(toks: &[Lexeme], stop: Failure) -> ParseFault
 fn whole_block(alloc: Global, toks: &[Lexeme]) -> Result<RawAction, Failure>
     ensures { ReadsAs raw_act_of result (whole block_reader toks.now) }
 {
-    let ((tree, _), rest) = action(alloc, 64, toks)?;
+    let ((tree, _), rest) = action(alloc, DEEPEST, toks)?;
     if rest.is_empty() {
         Ok(tree)
     } else {
@@ -75,9 +77,11 @@ fn whole_block(alloc: Global, toks: &[Lexeme]) -> Result<RawAction, Failure>
 /// docs/LANGUAGE.md, "Grammar", has the productions, and "Which fault of the grammar is told" the order of the faults.
 pub fn parse_block(alloc: Global, text: &str) -> Result<Raw, ParseFault>
     // What is read is a text of the tree, and a fault is the one to be reported.
-    ensures right { MatchResult result (λ r. IsTextOf IsBlock text.now r.tree) (λ e. IsReported IsBlock text.now e) }
+    ensures right { MatchResult result (λ r. IsTextOf IsBlock text.now r.tree)
+        (λ e. IsReported IsBlock text.now e) }
     // Each text is read, with its one tree, unless memory runs out.
-    ensures only { (t : RawAct) → IsTextOf IsBlock text.now t → OrNoMemory result (λ r. r.tree ≡ t) }
+    ensures only { (t : RawAct) → IsTextOf IsBlock text.now t
+        → OrNoMemory result (λ r. r.tree ≡ t) }
     ensures text { IfOk result (λ r. r.text ≡ text.now) }
     // The answer is a function of the text.
     ensures answer { ParsesAs (λ r. r.tree) result (parsed_block text.now) }

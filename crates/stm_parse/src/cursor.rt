@@ -1,11 +1,15 @@
 //! What the descent is made of: one token of lookahead, and what is asked of the next token.
 
-ghost use Rattle.std.specs.Prelude.{◌≡◌, ◌<◌, ◌≤◌, length, IfOk, IfSome, MatchOption, None, Some};
+ghost use Rattle.std.specs.Prelude.{◌≡◌, ◌-◌, ◌<◌, ◌≤◌, length, IfOk, IfErr, IfSome, MatchOption, MatchResult, None, Some};
 ghost use Rattle.stm_parse.specs.Grammar.{operator_of, operator_mark, grouping_of};
-ghost use Rattle.stm_parse.specs.Descent.{ReadsAs, begins, accept, expect, expect_name, is_name_kind, op_next, unexpected, too_deep, bad_number};
+ghost use Rattle.stm_parse.specs.DescentResults.{GivesReading};
+ghost use Rattle.stm_parse.specs.Descent.{StopsAs, Leaves, accept, expect, expect_name, is_name_kind, op_next, unexpected, too_deep, bad_number};
 
 use crate::token::{ErrorKind, Failure, Fault, Lexeme, Mark, TokenKind};
 use stm_terms::Op;
+
+/// What was read from the front of the tokens, and the tokens after it.
+pub type Parsed<'t, T> = Result<(T, &'t [Lexeme]), Failure>;
 
 /// How the operators of a tier group.
 #[derive(Clone, Copy)]
@@ -45,33 +49,38 @@ pub fn bad_number(toks: &[Lexeme]) -> Failure
     })
 }
 
-fn begins(mark: Mark, toks: &[Lexeme]) -> bool
-    ensures { result ≡ begins mark toks.now }
+/// One level deeper: how many levels are left there.
+pub fn one_level_deeper(levels: u8, toks: &[Lexeme]) -> Result<u8, Failure>
+    ensures left { IfOk result (λ l. (0 < levels) × (l ≡ levels - 1)) }
+    ensures none { IfErr result (λ e. (levels ≡ 0) × (e ≡ Failure.At (too_deep toks.now))) }
 {
-    match toks.split_first() {
-        Some((first, _)) => first.sym.is(mark),
-        None => false,
+    if levels == 0 {
+        Err(too_deep(toks))
+    } else {
+        Ok(levels - 1)
     }
 }
 
 /// The tokens after this mark, where it is the next.
 pub fn accept(mark: Mark, toks: &[Lexeme]) -> Option<&[Lexeme]>
-    ensures value { MatchOption result (accept mark toks.now ≡ None) (λ rest. accept mark toks.now ≡ Some rest.now) }
+    ensures value { MatchOption result (accept mark toks.now ≡ None)
+        (λ rest. accept mark toks.now ≡ Some rest.now) }
     ensures shorter { IfSome result (λ rest. length rest.now < length toks.now) }
 {
     match toks.split_first() {
-        Some((_, rest)) if begins(mark, toks) => Some(rest),
+        Some((first, rest)) if first.sym.is(mark) => Some(rest),
         _ => None,
     }
 }
 
-/// The token that is this mark.
-pub fn expect(mark: Mark, toks: &[Lexeme]) -> Result<(Lexeme, &[Lexeme]), Failure>
-    ensures gives { ReadsAs (λ r. (r.0, r.1.now)) result (expect mark toks.now) }
-    ensures shorter { IfOk result (λ r. length r.1.now ≤ length toks.now) }
+/// The tokens after this mark, which must be the next.
+pub fn expect(mark: Mark, toks: &[Lexeme]) -> Result<&[Lexeme], Failure>
+    ensures gives { MatchResult result (λ rest. Leaves rest.now (expect mark toks.now))
+        (λ e. StopsAs e (expect mark toks.now)) }
+    ensures shorter { IfOk result (λ rest. length rest.now ≤ length toks.now) }
 {
     match toks.split_first() {
-        Some((first, rest)) if begins(mark, toks) => Ok((*first, rest)),
+        Some((first, rest)) if first.sym.is(mark) => Ok(rest),
         _ => Err(unexpected(toks)),
     }
 }
@@ -89,19 +98,13 @@ pub fn is_name_kind(sym: TokenKind) -> bool
 }
 
 /// The token that is a name.
-pub fn expect_name(toks: &[Lexeme]) -> Result<(Lexeme, &[Lexeme]), Failure>
-    ensures gives { ReadsAs (λ r. (r.0, r.1.now)) result (expect_name toks.now) }
+pub fn expect_name(toks: &[Lexeme]) -> Parsed<'_, Lexeme>
+    ensures gives { GivesReading (λ x. x) result (expect_name toks.now) }
     ensures shorter { IfOk result (λ r. length r.1.now ≤ length toks.now) }
 {
     match toks.split_first() {
-        Some((first, rest)) => {
-            if is_name_kind(first.sym) {
-                Ok((*first, rest))
-            } else {
-                Err(unexpected(toks))
-            }
-        }
-        None => Err(unexpected(toks)),
+        Some((first, rest)) if is_name_kind(first.sym) => Ok((*first, rest)),
+        _ => Err(unexpected(toks)),
     }
 }
 
@@ -134,7 +137,8 @@ fn operator_of(sym: TokenKind) -> Option<(u8, Op)>
 
 /// An operator of this tier and the tokens after it, where it is the next.
 pub fn operator(tier: u8, toks: &[Lexeme]) -> Option<(Op, &[Lexeme])>
-    ensures value { MatchOption result (op_next tier toks.now ≡ None) (λ r. op_next tier toks.now ≡ Some (r.0, r.1.now)) }
+    ensures value { MatchOption result (op_next tier toks.now ≡ None)
+        (λ r. op_next tier toks.now ≡ Some (r.0, r.1.now)) }
     ensures shorter { IfSome result (λ r. length r.1.now < length toks.now) }
 {
     let Some((first, rest)) = toks.split_first() else {

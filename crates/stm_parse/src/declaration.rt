@@ -5,7 +5,8 @@ ghost use Rattle.std.specs.Str.{IsAscii};
 ghost use Rattle.stm_terms.specs.Names.{is_name_text};
 ghost use Rattle.stm_terms.specs.ParsedAst.{IsSpan, NamesWithin, raw_term_of};
 ghost use Rattle.stm_parse.specs.Declarations.{declaration_tree_of, init_of, declaration_in, declaration_of, parsed_initial};
-ghost use Rattle.stm_parse.specs.Grammar.{DeclarationTree, IsDeclaration, most_refs};
+ghost use Rattle.stm_terms.specs.Limits.{most_refs};
+ghost use Rattle.stm_parse.specs.Grammar.{DeclarationTree, IsDeclaration};
 ghost use Rattle.stm_parse.specs.ParseFunction.{parsed_declaration};
 ghost use Rattle.stm_parse.specs.UnlessNoMemory.{ParsesAs};
 ghost use Rattle.stm_parse.specs.ParseResult.{IsTextOf, IsReported, OrNoMemory};
@@ -43,7 +44,10 @@ pub(crate) fn init_of(alloc: Global, text: &str, raw: RawExpr) -> Result<Init, N
         RawExpr::Int(n, _) => Ok(Init::Literal(Value::Int(n))),
         RawExpr::Bool(b, _) => Ok(Init::Literal(Value::Bool(b))),
         RawExpr::Unit(_) => Ok(Init::Literal(Value::Unit)),
-        RawExpr::Name(from, to) => Ok(Init::Name(String::from_str(alloc, &text[from..to])?, from)),
+        RawExpr::Name(name) => Ok(Init::Name(
+            String::from_str(alloc, &text[name.start..name.end])?,
+            name.start,
+        )),
         // No declaration has an operator.
         RawExpr::Bin(_, _, _) => Ok(Init::Literal(Value::Unit)),
     }
@@ -51,11 +55,12 @@ pub(crate) fn init_of(alloc: Global, text: &str, raw: RawExpr) -> Result<Init, N
 
 fn owned(alloc: Global, text: &str, raw: RawDeclaration) -> Result<Declaration, NoMemory>
     requires ascii { IsAscii text.now }
-    requires name { IsSpan (length text.now) raw.from raw.to }
+    requires name { IsSpan (length text.now) raw.name.start raw.name.end }
     requires spans { NamesWithin (length text.now) (raw_term_of raw.init) }
-    ensures { IfOk result (λ d. declaration_of d ≡ declaration_in text.now (declaration_tree_of raw)) }
+    ensures { IfOk result
+        (λ d. declaration_of d ≡ declaration_in text.now (declaration_tree_of raw)) }
 {
-    let name = String::from_str(alloc, &text[raw.from..raw.to])?;
+    let name = String::from_str(alloc, &text[raw.name.start..raw.name.end])?;
     let init = init_of(alloc, text, raw.init)?;
     Ok(Declaration {
         name,
@@ -81,9 +86,13 @@ fn whole_declaration(toks: &[Lexeme]) -> Result<RawDeclaration, Failure>
 /// docs/LANGUAGE.md, "Grammar", has the productions, and "Which fault of the grammar is told" the order of the faults.
 pub fn parse_declare(alloc: Global, text: &str) -> Result<Declaration, ParseFault>
     // What is read is a text of the declaration, and a fault is the one to be reported.
-    ensures right { MatchResult result (λ d. (t : DeclarationTree) × IsTextOf IsDeclaration text.now t × (declaration_of d ≡ declaration_in text.now t)) (λ e. IsReported IsDeclaration text.now e) }
+    ensures right { MatchResult result
+        (λ d. (t : DeclarationTree) × IsTextOf IsDeclaration text.now t
+        × (declaration_of d ≡ declaration_in text.now t))
+        (λ e. IsReported IsDeclaration text.now e) }
     // Each text is read, with its one tree, unless memory runs out.
-    ensures only { (t : DeclarationTree) → IsTextOf IsDeclaration text.now t → OrNoMemory result (λ d. declaration_of d ≡ declaration_in text.now t) }
+    ensures only { (t : DeclarationTree) → IsTextOf IsDeclaration text.now t
+        → OrNoMemory result (λ d. declaration_of d ≡ declaration_in text.now t) }
     // The answer is a function of the text.
     ensures answer { ParsesAs declaration_of result (parsed_declaration text.now) }
     ensures name { IfOk result (λ d. is_name_text (string_bytes d.name) ≡ true) }

@@ -17,7 +17,7 @@ use crate::expression::init;
 use crate::fault::ParseFault;
 use crate::token::{Failure, Lexeme};
 use std::alloc::Global;
-use stm_terms::{NoMemory, RawExpr};
+use stm_terms::{NoMemory, RawExpr, Span};
 
 /// What a variable is expected to hold: its name, and a value or a reference to the variable of a name.
 #[derive(Drop)]
@@ -29,18 +29,18 @@ pub struct Expectation {
 // A variable's name by its span, and what it is expected to hold.
 #[derive(Drop)]
 struct RawExpectation {
-    from: usize,
-    to: usize,
+    name: Span,
     init: RawExpr,
 }
 
 fn owned(alloc: Global, text: &str, raw: RawExpectation) -> Result<Expectation, NoMemory>
     requires ascii { IsAscii text.now }
-    requires name { IsSpan (length text.now) raw.from raw.to }
+    requires name { IsSpan (length text.now) raw.name.start raw.name.end }
     requires spans { NamesWithin (length text.now) (raw_term_of raw.init) }
-    ensures { IfOk result (λ d. expectation_of d ≡ expectation_in text.now (expectation_tree_of raw)) }
+    ensures { IfOk result
+        (λ d. expectation_of d ≡ expectation_in text.now (expectation_tree_of raw)) }
 {
-    let name = String::from_str(alloc, &text[raw.from..raw.to])?;
+    let name = String::from_str(alloc, &text[raw.name.start..raw.name.end])?;
     let value = init_of(alloc, text, raw.init)?;
     Ok(Expectation { name, value })
 }
@@ -52,8 +52,7 @@ fn whole_expectation(toks: &[Lexeme]) -> Result<RawExpectation, Failure>
     let (init, rest) = init(rest)?;
     if rest.is_empty() {
         Ok(RawExpectation {
-            from: name.start,
-            to: name.end,
+            name: name.span(),
             init,
         })
     } else {

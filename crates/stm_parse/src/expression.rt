@@ -3,9 +3,13 @@
 ghost use Rattle.std.specs.Prelude.{◌≡◌, ◌+◌, ◌-◌, ◌<◌, ◌≤◌, ◌∷◌, length, IfOk, IfErr, pos, neg_ℤ};
 ghost use Rattle.stm_terms.specs.ParsedAst.{raw_term_of, bin};
 ghost use Rattle.stm_parse.specs.Grammar.{deepest, widest, greatest};
-ghost use Rattle.stm_parse.specs.Descent.{ReadsAs, in_reach, literal, bracketed, short_of, refuse, init, atom_at, tier_at, tail_at};
+ghost use Rattle.stm_parse.specs.DescentResults.{GivesReading};
+ghost use Rattle.stm_parse.specs.Descent.{in_reach, literal, bracketed, short_of, refuse, init, atom_at, tier_at, tail_at};
 
-use crate::cursor::{Grouping, accept, bad_number, expect, groups, operator, too_deep, unexpected};
+use crate::cursor::{
+    Grouping, Parsed, accept, bad_number, expect, groups, one_level_deeper, operator, unexpected,
+};
+use crate::limits::GREATEST_WRITTEN;
 use crate::token::{Failure, Lexeme, Mark, TokenKind};
 use std::alloc::Global;
 use stm_terms::{Op, RawExpr};
@@ -17,7 +21,7 @@ const WIDEST: u8 = 5;
 fn in_reach(n: u64) -> bool
     ensures { result ≡ in_reach n }
 {
-    n <= 9223372036854775807
+    n < GREATEST_WRITTEN
 }
 
 #[tactic(auto, unfolding(crate::specs::Grammar::greatest))]
@@ -37,8 +41,8 @@ fn negated(n: u64) -> i64
 }
 
 // After the minus of a negative number.
-fn literal(at: usize, toks: &[Lexeme]) -> Result<(RawExpr, &[Lexeme]), Failure>
-    ensures gives { ReadsAs (λ r. (raw_term_of r.0, r.1.now)) result (literal at toks.now) }
+fn literal(at: usize, toks: &[Lexeme]) -> Parsed<'_, RawExpr>
+    ensures gives { GivesReading raw_term_of result (literal at toks.now) }
     ensures shorter { IfOk result (λ r. length r.1.now ≤ length toks.now) }
 {
     let Some((first, rest)) = toks.split_first() else {
@@ -50,18 +54,14 @@ fn literal(at: usize, toks: &[Lexeme]) -> Result<(RawExpr, &[Lexeme]), Failure>
     if !in_reach(n.saturating_sub(1)) {
         return Err(bad_number(toks));
     }
-    let (_, after) = expect(Mark::RParen, rest)?;
+    let after = expect(Mark::RParen, rest)?;
     Ok((RawExpr::Int(negated(n), at), after))
 }
 
 // An operand of one token.
-fn short<'t>(
-    first: &Lexeme,
-    rest: &'t [Lexeme],
-    toks: &'t [Lexeme],
-) -> Result<(RawExpr, &'t [Lexeme]), Failure>
+fn short<'t>(first: &Lexeme, rest: &'t [Lexeme], toks: &'t [Lexeme]) -> Parsed<'t, RawExpr>
     requires { toks.now ≡ first.now ∷ rest.now }
-    ensures gives { ReadsAs (λ r. (raw_term_of r.0, r.1.now)) result (short_of first.now.sym first.now rest.now) }
+    ensures gives { GivesReading raw_term_of result (short_of first.now.sym first.now rest.now) }
     ensures shorter { IfOk result (λ r. length r.1.now ≤ length toks.now) }
 {
     match first.sym {
@@ -72,7 +72,7 @@ fn short<'t>(
                 Err(bad_number(toks))
             }
         }
-        TokenKind::Name => Ok((RawExpr::Name(first.start, first.end), rest)),
+        TokenKind::Name => Ok((RawExpr::Name(first.span()), rest)),
         TokenKind::Other => Err(unexpected(toks)),
         TokenKind::Mark(mark) => match mark {
             Mark::True => Ok((RawExpr::Bool(true, first.start), rest)),
@@ -84,14 +84,10 @@ fn short<'t>(
 
 // After "(".
 #[cycle(expressions)]
-fn bracketed<'t>(
-    alloc: Global,
-    levels: u8,
-    at: usize,
-    toks: &'t [Lexeme],
-) -> Result<(RawExpr, &'t [Lexeme]), Failure>
+fn bracketed<'t>(alloc: Global, levels: u8, at: usize, toks: &'t [Lexeme]) -> Parsed<'t, RawExpr>
     requires { levels ≤ deepest }
-    ensures gives { ReadsAs (λ r. (raw_term_of r.0, r.1.now)) result (bracketed (tier_at widest levels) at toks.now) }
+    ensures gives { GivesReading raw_term_of result
+        (bracketed (tier_at widest levels) at toks.now) }
     ensures shorter { IfOk result (λ r. length r.1.now ≤ length toks.now) }
 {
     if let Some(rest) = accept(Mark::RParen, toks) {
@@ -101,20 +97,16 @@ fn bracketed<'t>(
         return literal(at, rest);
     }
     let (inner, rest) = tier(alloc, levels, WIDEST, toks)?;
-    let (_, after) = expect(Mark::RParen, rest)?;
+    let after = expect(Mark::RParen, rest)?;
     Ok((inner, after))
 }
 
 /// A literal, a name, or an expression in brackets.
 #[cycle(expressions)]
 #[tactic(auto, unfolding(crate::specs::Descent::atom_at))]
-pub fn atom<'t>(
-    alloc: Global,
-    levels: u8,
-    toks: &'t [Lexeme],
-) -> Result<(RawExpr, &'t [Lexeme]), Failure>
+pub fn atom<'t>(alloc: Global, levels: u8, toks: &'t [Lexeme]) -> Parsed<'t, RawExpr>
     requires { levels ≤ deepest }
-    ensures gives { ReadsAs (λ r. (raw_term_of r.0, r.1.now)) result (atom_at levels toks.now) }
+    ensures gives { GivesReading raw_term_of result (atom_at levels toks.now) }
     ensures shorter { IfOk result (λ r. length r.1.now ≤ length toks.now) }
 {
     let Some((first, rest)) = toks.split_first() else {
@@ -123,23 +115,16 @@ pub fn atom<'t>(
     if !first.sym.is(Mark::LParen) {
         return short(first, rest, toks);
     }
-    if levels == 0 {
-        return Err(too_deep(toks));
-    }
-    bracketed(alloc, levels - 1, first.start, rest)
+    let inner = one_level_deeper(levels, toks)?;
+    bracketed(alloc, inner, first.start, rest)
 }
 
 // An expression whose operators outside of brackets are of tiers below this one.
 #[cycle(expressions)]
-fn tier<'t>(
-    alloc: Global,
-    levels: u8,
-    width: u8,
-    toks: &'t [Lexeme],
-) -> Result<(RawExpr, &'t [Lexeme]), Failure>
+fn tier<'t>(alloc: Global, levels: u8, width: u8, toks: &'t [Lexeme]) -> Parsed<'t, RawExpr>
     requires low { levels ≤ deepest }
     requires width { width ≤ widest }
-    ensures gives { ReadsAs (λ r. (raw_term_of r.0, r.1.now)) result (tier_at width levels toks.now) }
+    ensures gives { GivesReading raw_term_of result (tier_at width levels toks.now) }
     ensures shorter { IfOk result (λ r. length r.1.now ≤ length toks.now) }
 {
     if width == 0 {
@@ -151,7 +136,8 @@ fn tier<'t>(
 
 // An operator with its operands.
 fn joined(alloc: Global, op: Op, left: RawExpr, right: RawExpr) -> Result<RawExpr, Failure>
-    ensures value { IfOk result (λ e. raw_term_of e ≡ bin op (raw_term_of left) (raw_term_of right)) }
+    ensures value { IfOk result
+        (λ e. raw_term_of e ≡ bin op (raw_term_of left) (raw_term_of right)) }
     ensures refused { IfErr result (λ e. e ≡ Failure.Memory) }
 {
     let left = Box::new(alloc, left)?;
@@ -167,10 +153,11 @@ fn tail<'t>(
     width: u8,
     left: RawExpr,
     toks: &'t [Lexeme],
-) -> Result<(RawExpr, &'t [Lexeme]), Failure>
+) -> Parsed<'t, RawExpr>
     requires low { levels ≤ deepest }
     requires width { width < widest }
-    ensures gives { ReadsAs (λ r. (raw_term_of r.0, r.1.now)) result (tail_at width levels (raw_term_of left) toks.now) }
+    ensures gives { GivesReading raw_term_of result
+        (tail_at width levels (raw_term_of left) toks.now) }
     ensures shorter { IfOk result (λ r. length r.1.now ≤ length toks.now) }
 {
     let Some((op, rest)) = operator(width, toks) else {
@@ -196,21 +183,17 @@ fn tail<'t>(
 }
 
 /// A whole expression.
-pub fn expression<'t>(
-    alloc: Global,
-    levels: u8,
-    toks: &'t [Lexeme],
-) -> Result<(RawExpr, &'t [Lexeme]), Failure>
+pub fn expression<'t>(alloc: Global, levels: u8, toks: &'t [Lexeme]) -> Parsed<'t, RawExpr>
     requires { levels ≤ deepest }
-    ensures gives { ReadsAs (λ r. (raw_term_of r.0, r.1.now)) result (tier_at widest levels toks.now) }
+    ensures gives { GivesReading raw_term_of result (tier_at widest levels toks.now) }
     ensures shorter { IfOk result (λ r. length r.1.now ≤ length toks.now) }
 {
     tier(alloc, levels, WIDEST, toks)
 }
 
 // After "(" of what a declared variable holds at first.
-fn bracketed_init(at: usize, toks: &[Lexeme]) -> Result<(RawExpr, &[Lexeme]), Failure>
-    ensures gives { ReadsAs (λ r. (raw_term_of r.0, r.1.now)) result (bracketed refuse at toks.now) }
+fn bracketed_init(at: usize, toks: &[Lexeme]) -> Parsed<'_, RawExpr>
+    ensures gives { GivesReading raw_term_of result (bracketed refuse at toks.now) }
 {
     if let Some(rest) = accept(Mark::RParen, toks) {
         return Ok((RawExpr::Unit(at), rest));
@@ -222,8 +205,8 @@ fn bracketed_init(at: usize, toks: &[Lexeme]) -> Result<(RawExpr, &[Lexeme]), Fa
 }
 
 /// What a declared variable holds at first: a literal or a name.
-pub fn init(toks: &[Lexeme]) -> Result<(RawExpr, &[Lexeme]), Failure>
-    ensures gives { ReadsAs (λ r. (raw_term_of r.0, r.1.now)) result (init toks.now) }
+pub fn init(toks: &[Lexeme]) -> Parsed<'_, RawExpr>
+    ensures gives { GivesReading raw_term_of result (init toks.now) }
 {
     let Some((first, rest)) = toks.split_first() else {
         return Err(unexpected(toks));

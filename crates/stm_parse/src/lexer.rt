@@ -1,40 +1,45 @@
 //! The tokens of a text as the grammar sees them, in one pass over its bytes.
 
-ghost use Rattle.std.specs.Prelude.{◌≡◌, ◌-◌, ◌<◌, ◌≤◌, ◌∷◌, length, take, drop, true, MatchResult, IfOk, IfErr};
+ghost use Rattle.std.specs.Prelude.{◌≡◌, ◌-◌, ◌<◌, ◌≤◌, ◌∷◌, length, take, drop, map, true, MatchResult, IfOk, IfErr, IfSome, Ok};
 ghost use Rattle.std.specs.List.{list_all};
 ghost use Rattle.std.specs.Str.{IsAscii};
 ghost use Rattle.stm_terms.specs.Names.{is_word_byte, starts_lower};
+ghost use Rattle.stm_parse.specs.declared.token.TokenKind.TheVariants as tok;
 ghost use Rattle.stm_parse.specs.declared.tokenizer.TokenClass.TheVariants as kind;
-ghost use Rattle.stm_parse.specs.Bytes.{is_letter, word_len, number_len, number_of_digits};
-ghost use Rattle.stm_parse.specs.Lexing.{control_mark, action_mark, value_mark, word_mark, token_kind_of};
+ghost use Rattle.stm_parse.specs.Bytes.{is_letter, longest_word, word_len, number_len, number_of_digits};
+ghost use Rattle.stm_parse.specs.Lexing.{control_mark, action_mark, value_mark, word_mark, token_kind_of, class_of, token_of};
 ghost use Rattle.stm_parse.specs.ParseResult.{Lexes};
 ghost use Rattle.stm_parse.specs.LexerStep.{front_seen, IsSeen};
 ghost use Rattle.stm_parse.specs.ParsedBlock.{NamesOf};
 ghost use Rattle.stm_parse.specs.UnlessNoMemory.{FailsAs};
-ghost use Rattle.stm_parse.specs.Tokenizer.{symbol_front, word_front, number_front, front_of, tokens_of, IsOfTokens, IsWithin};
+ghost use Rattle.stm_parse.specs.Tokenizer.{symbol_front, word_front, number_front, front_of, tokens_of, SpansRise, IsOfTokens, IsWithin};
 
-use crate::fault::ParseFault;
-use crate::token::{Lexeme, Mark, TokenKind};
-use crate::tokenizer::{
-    TokenClass, is_blank, is_digit, is_letter, number_len, number_of, pair_mark, single_mark,
-    word_len,
+use crate::bytes::{
+    is_blank, is_digit, is_letter, number_len, number_of, pair_mark, single_mark, word_len,
 };
+use crate::fault::ParseFault;
+use crate::limits::LONGEST_WORD;
+use crate::token::{Lexeme, Mark, TokenKind};
 use std::alloc::Global;
+
+// The most tokens that room is made for before the first is found.
+const FIRST_ROOM: usize = 64;
 
 /// What stands at the front of some bytes, a token with what the grammar sees in it and its length.
 #[derive(Clone, Copy)]
 pub enum Piece {
     Blank,
-    Found(TokenClass, TokenKind, usize),
+    Found(TokenKind, usize),
     BadByte,
     LongName,
     BadNumber,
 }
 
 // A word of control.
-#[tactic(auto, unfolding(crate::specs::Lexing::control_mark))]
+#[tactic(auto, unfolding(crate::specs::Lexing::control_mark, crate::specs::Lexing::class_of))]
 fn control_mark(word: &[u8]) -> Option<Mark>
-    ensures { result ≡ control_mark word.now }
+    ensures mark { result ≡ control_mark word.now }
+    ensures word { IfSome result (λ m. class_of (tok.Mark m) ≡ kind.Word) }
 {
     match word {
         b"do" => Some(Mark::Do),
@@ -47,9 +52,10 @@ fn control_mark(word: &[u8]) -> Option<Mark>
 }
 
 // A word that begins an action.
-#[tactic(auto, unfolding(crate::specs::Lexing::action_mark))]
+#[tactic(auto, unfolding(crate::specs::Lexing::action_mark, crate::specs::Lexing::class_of))]
 fn action_mark(word: &[u8]) -> Option<Mark>
-    ensures { result ≡ action_mark word.now }
+    ensures mark { result ≡ action_mark word.now }
+    ensures word { IfSome result (λ m. class_of (tok.Mark m) ≡ kind.Word) }
 {
     match word {
         b"return" => Some(Mark::Return),
@@ -65,9 +71,10 @@ fn action_mark(word: &[u8]) -> Option<Mark>
 }
 
 // A word for a value or a type.
-#[tactic(auto, unfolding(crate::specs::Lexing::value_mark))]
+#[tactic(auto, unfolding(crate::specs::Lexing::value_mark, crate::specs::Lexing::class_of))]
 fn value_mark(word: &[u8]) -> Option<Mark>
-    ensures { result ≡ value_mark word.now }
+    ensures mark { result ≡ value_mark word.now }
+    ensures word { IfSome result (λ m. class_of (tok.Mark m) ≡ kind.Word) }
 {
     match word {
         b"True" => Some(Mark::True),
@@ -81,7 +88,8 @@ fn value_mark(word: &[u8]) -> Option<Mark>
 
 // A reserved word.
 fn word_mark(word: &[u8]) -> Option<Mark>
-    ensures { result ≡ word_mark word.now }
+    ensures mark { result ≡ word_mark word.now }
+    ensures word { IfSome result (λ m. class_of (tok.Mark m) ≡ kind.Word) }
 {
     if let Some(mark) = control_mark(word) {
         return Some(mark);
@@ -97,16 +105,17 @@ fn starts_small(word: &[u8]) -> bool
 {
     match word {
         [] => false,
-        [first, ..] => 97 <= *first && *first <= 122,
+        [first, ..] => b'a' <= *first && *first <= b'z',
     }
 }
 
 // A word that isn't reserved is a name by its first letter alone.
-#[tactic(auto, using(crate::proofs::Words::is_name_by_first))]
+#[tactic(auto, using(crate::proofs::Words::is_name_by_first), unfolding(crate::specs::Lexing::class_of))]
 fn word_kind(word: &[u8]) -> TokenKind
     requires bytes { list_all is_word_byte word.now ≡ true }
-    requires short { length word.now ≤ 32 }
-    ensures { result ≡ token_kind_of kind.Word word.now }
+    requires short { length word.now ≤ longest_word }
+    ensures sym { result ≡ token_kind_of kind.Word word.now }
+    ensures class { class_of result ≡ kind.Word }
 {
     match word_mark(word) {
         Some(mark) => TokenKind::Mark(mark),
@@ -128,13 +137,13 @@ fn symbol_piece(bytes: &[u8]) -> Piece
     match bytes {
         [] => Piece::BadByte,
         [a] => match single_mark(*a) {
-            Some(mark) => Piece::Found(TokenClass::Symbol, TokenKind::Mark(mark), 1),
+            Some(mark) => Piece::Found(TokenKind::Mark(mark), 1),
             None => Piece::BadByte,
         },
         [a, b, ..] => match pair_mark(*a, *b) {
-            Some(mark) => Piece::Found(TokenClass::Symbol, TokenKind::Mark(mark), 2),
+            Some(mark) => Piece::Found(TokenKind::Mark(mark), 2),
             None => match single_mark(*a) {
-                Some(mark) => Piece::Found(TokenClass::Symbol, TokenKind::Mark(mark), 1),
+                Some(mark) => Piece::Found(TokenKind::Mark(mark), 1),
                 None => Piece::BadByte,
             },
         },
@@ -151,23 +160,25 @@ fn word_piece(first: u8, rest: &[u8], bytes: &[u8]) -> Piece
     ensures within { IsWithin (front_seen result) (length bytes.now) }
 {
     let n = 1 + word_len(rest);
-    if n > 32 {
+    if n > LONGEST_WORD {
         Piece::LongName
     } else {
-        Piece::Found(TokenClass::Word, word_kind(&bytes[..n]), n)
+        Piece::Found(word_kind(&bytes[..n]), n)
     }
 }
 
 // A number, which has a digit.
+#[tactic(auto, unfolding(crate::specs::Lexing::class_of))]
 fn number_piece(bytes: &[u8]) -> Piece
     requires { 0 < number_len bytes.now }
-    ensures front { front_seen result ≡ number_front (number_len bytes.now) (number_of_digits (take (number_len bytes.now) bytes.now)) }
+    ensures front { let n = number_len bytes.now in
+        front_seen result ≡ number_front n (number_of_digits (take n bytes.now)) }
     ensures sym { IsSeen bytes.now result }
     ensures within { IsWithin (front_seen result) (length bytes.now) }
 {
     let n = number_len(bytes);
     match number_of(&bytes[..n]) {
-        Some(value) => Piece::Found(TokenClass::Number, TokenKind::Number(value), n),
+        Some(value) => Piece::Found(TokenKind::Number(value), n),
         None => Piece::BadNumber,
     }
 }
@@ -206,7 +217,10 @@ fn piece_at(bytes: &[u8], place: usize) -> Piece
 ///
 /// The faults are `BadByte`, `BadNumber` and `NameTooLong`.
 pub fn lexemes(alloc: Global, text: &str) -> Result<Vec<Lexeme>, ParseFault>
-    ensures cuts { MatchResult result (λ v. Lexes text.now v.items) (λ e. FailsAs e (tokens_of text.now)) }
+    ensures cuts { MatchResult result (λ v. Lexes text.now v.items)
+        (λ e. FailsAs e (tokens_of text.now)) }
+    ensures classes { IfOk result (λ v. tokens_of text.now ≡ Ok (map token_of v.items)) }
+    ensures rise { IfOk result (λ v. SpansRise 0 (length text.now) (map token_of v.items)) }
     // So each place of the text is between characters.
     ensures ascii { IfOk result (λ v. IsAscii text.now) }
     ensures names { IfOk result (λ v. NamesOf text.now v.items) }
@@ -216,17 +230,20 @@ pub fn lexemes(alloc: Global, text: &str) -> Result<Vec<Lexeme>, ParseFault>
 }
 
 fn cut_lexemes(alloc: Global, bytes: &[u8]) -> Result<Vec<Lexeme>, ParseFault>
-    ensures cuts { MatchResult result (λ v. Lexes bytes.now v.items) (λ e. FailsAs e (tokens_of bytes.now)) }
+    ensures cuts { MatchResult result (λ v. Lexes bytes.now v.items)
+        (λ e. FailsAs e (tokens_of bytes.now)) }
+    ensures classes { IfOk result (λ v. tokens_of bytes.now ≡ Ok (map token_of v.items)) }
+    ensures rise { IfOk result (λ v. SpansRise 0 (length bytes.now) (map token_of v.items)) }
     ensures names { IfOk result (λ v. NamesOf bytes.now v.items) }
     ensures faults { IfErr result IsOfTokens }
 {
     // Few texts have more tokens than half their bytes, and long ones grow as they need.
-    let mut out = Vec::with_capacity(alloc, (bytes.len() / 2).min(64))?;
+    let mut out = Vec::with_capacity(alloc, (bytes.len() / 2).min(FIRST_ROOM))?;
     let mut place = 0;
     while place < bytes.len() {
         match piece_at(bytes, place) {
             Piece::Blank => place += 1,
-            Piece::Found(_, sym, n) => {
+            Piece::Found(sym, n) => {
                 out.push(Lexeme {
                     sym,
                     start: place,

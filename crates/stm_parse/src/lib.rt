@@ -4,7 +4,8 @@
 //! `MaximalMunch` (which tokens a text has, or which fault first, as a relation), `Lexing` (reserved words, names and
 //! numbers), `Grammar` (the productions, as a relation between tokens and trees), `Faults` (which token is the first at
 //! fault), `ParseResult` (a text of the grammar, and which fault is reported of any other text), `Declarations` and
-//! `ParsedBlock` (what callers see), `Expectations` (the production of an expectation, and what callers see of it).
+//! `ParsedBlock` (what callers see), `Expectations` (the production of an expectation, and what callers see of it). The
+//! contracts of blocks, declarations and expectations rest on these relations alone.
 //!
 //! Contracts also cite two functions that say this in another way, and laws say that they are right. `tokens_of` in
 //! `Tokenizer` cuts a text: it is in the relation of `MaximalMunch`, and nothing else is (`laws_of_tokens`). `parsed_block` in
@@ -14,6 +15,7 @@
 
 pub mod action;
 pub mod block;
+pub mod bytes;
 pub mod cursor;
 pub mod declaration;
 pub mod expectation;
@@ -22,6 +24,7 @@ pub mod fault;
 pub mod laws;
 pub mod laws_of_tokens;
 pub mod lexer;
+pub mod limits;
 pub mod raw;
 pub mod token;
 pub mod tokenizer;

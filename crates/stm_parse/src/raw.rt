@@ -30,7 +30,10 @@ impl Model for Raw {
 
     ghost view = { λ r. record { tree = raw_act_of r.action; text = string_bytes r.text } };
 
-    ghost invariant = { λ r. IsAscii (string_bytes r.text) × SpansWithin (length (string_bytes r.text)) (raw_act_of r.action) × NamesAre (string_bytes r.text) (raw_act_of r.action) × (actions (raw_act_of r.action) ≤ 2 ^ 32) };
+    ghost invariant = { λ r. IsAscii (string_bytes r.text)
+        × SpansWithin (length (string_bytes r.text)) (raw_act_of r.action)
+        × NamesAre (string_bytes r.text) (raw_act_of r.action)
+        × (actions (raw_act_of r.action) ≤ 2 ^ 32) };
 }
 
 impl Raw {

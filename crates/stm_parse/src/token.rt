@@ -4,6 +4,7 @@ ghost use Rattle.std.specs.Prelude.{◌≡◌};
 ghost use Rattle.stm_parse.specs.Terminals.{code, is_mark, is_word_mark};
 
 use std::alloc::AllocFailed;
+use stm_terms::Span;
 
 /// A reserved word or a symbol.
 #[derive(Clone, Copy)]
@@ -123,6 +124,18 @@ pub struct Lexeme {
     pub sym: TokenKind,
     pub start: usize,
     pub end: usize,
+}
+
+impl Lexeme {
+    /// The span of the token in the text.
+    pub fn span(&self) -> Span
+        ensures { result ≡ record { start = self.now.start; end = self.now.end } }
+    {
+        Span {
+            start: self.start,
+            end: self.end,
+        }
+    }
 }
 
 /// Why a token is refused.

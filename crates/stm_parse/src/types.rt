@@ -2,29 +2,32 @@
 
 ghost use Rattle.std.specs.Prelude.{◌≡◌, ◌+◌, ◌-◌, ◌<◌, ◌≤◌, suc, length, IfOk};
 ghost use Rattle.stm_terms.specs.ParsedAst.{raw_term_of};
-ghost use Rattle.stm_parse.specs.Grammar.{deepest, most_refs};
+ghost use Rattle.stm_terms.specs.Limits.{most_refs};
+ghost use Rattle.stm_parse.specs.Grammar.{deepest};
 ghost use Rattle.stm_parse.specs.Declarations.{declaration_tree_of};
-ghost use Rattle.stm_parse.specs.Descent.{ReadsAs, type_at, bare_at, bracketed_type, declaration_reader};
+ghost use Rattle.stm_parse.specs.DescentResults.{GivesReading};
+ghost use Rattle.stm_parse.specs.Descent.{type_at, bare_at, bracketed_type, declaration_reader};
 
-use crate::cursor::{accept, expect, expect_name, too_deep, unexpected};
+use crate::cursor::{Parsed, accept, expect, expect_name, one_level_deeper, too_deep, unexpected};
 use crate::expression::init;
+use crate::limits::DEEPEST;
 use crate::token::{Failure, Lexeme, Mark, TokenKind};
-use stm_terms::{Base, RawExpr, Ty};
+use stm_terms::{Base, RawExpr, Span, Ty};
 
 // A type with the given number of `TVar` around it.
 #[cycle(types)]
 #[tactic(auto, unfolding(crate::specs::Descent::type_at))]
-fn type_within(levels: u8, refs: u8, toks: &[Lexeme]) -> Result<(Ty, &[Lexeme]), Failure>
+fn type_within(levels: u8, refs: u8, toks: &[Lexeme]) -> Parsed<'_, Ty>
     requires low { levels ≤ deepest }
     requires few { refs ≤ most_refs }
-    ensures gives { ReadsAs (λ r. (r.0, r.1.now)) result (type_at levels refs toks.now) }
+    ensures gives { GivesReading (λ t. t) result (type_at levels refs toks.now) }
     ensures shorter { IfOk result (λ r. length r.1.now ≤ length toks.now) }
     ensures few { IfOk result (λ r. r.0.refs + refs ≤ most_refs) }
 {
     let Some(rest) = accept(Mark::TVar, toks) else {
         return bare_type(levels, refs, toks);
     };
-    if refs >= 8 {
+    if refs >= Ty::MOST_REFS {
         return Err(too_deep(toks));
     }
     let (inner, rest) = bare_type(levels, refs + 1, rest)?;
@@ -38,10 +41,10 @@ fn type_within(levels: u8, refs: u8, toks: &[Lexeme]) -> Result<(Ty, &[Lexeme]),
 // A type that needs no brackets after `TVar`.
 #[cycle(types)]
 #[tactic(auto, using(crate::proofs::TypeLevels::inside_type_none, crate::proofs::TypeLevels::inside_type_some), unfolding(crate::specs::Descent::bare_at))]
-fn bare_type(levels: u8, refs: u8, toks: &[Lexeme]) -> Result<(Ty, &[Lexeme]), Failure>
+fn bare_type(levels: u8, refs: u8, toks: &[Lexeme]) -> Parsed<'_, Ty>
     requires low { levels ≤ deepest }
     requires few { refs ≤ most_refs }
-    ensures gives { ReadsAs (λ r. (r.0, r.1.now)) result (bare_at levels refs toks.now) }
+    ensures gives { GivesReading (λ t. t) result (bare_at levels refs toks.now) }
     ensures shorter { IfOk result (λ r. length r.1.now ≤ length toks.now) }
     ensures few { IfOk result (λ r. r.0.refs + refs ≤ most_refs) }
 {
@@ -67,10 +70,8 @@ fn bare_type(levels: u8, refs: u8, toks: &[Lexeme]) -> Result<(Ty, &[Lexeme]), F
             rest,
         )),
         Mark::LParen => {
-            if levels == 0 {
-                return Err(too_deep(toks));
-            }
-            bracketed_type(levels - 1, refs, rest)
+            let inner = one_level_deeper(levels, toks)?;
+            bracketed_type(inner, refs, rest)
         }
         _ => Err(unexpected(toks)),
     }
@@ -78,10 +79,10 @@ fn bare_type(levels: u8, refs: u8, toks: &[Lexeme]) -> Result<(Ty, &[Lexeme]), F
 
 // After "(" in a type.
 #[cycle(types)]
-fn bracketed_type(levels: u8, refs: u8, toks: &[Lexeme]) -> Result<(Ty, &[Lexeme]), Failure>
+fn bracketed_type(levels: u8, refs: u8, toks: &[Lexeme]) -> Parsed<'_, Ty>
     requires low { levels ≤ deepest }
     requires few { refs ≤ most_refs }
-    ensures gives { ReadsAs (λ r. (r.0, r.1.now)) result (bracketed_type (type_at levels refs) toks.now) }
+    ensures gives { GivesReading (λ t. t) result (bracketed_type (type_at levels refs) toks.now) }
     ensures shorter { IfOk result (λ r. length r.1.now ≤ length toks.now) }
     ensures few { IfOk result (λ r. r.0.refs + refs ≤ most_refs) }
 {
@@ -95,32 +96,30 @@ fn bracketed_type(levels: u8, refs: u8, toks: &[Lexeme]) -> Result<(Ty, &[Lexeme
         ));
     }
     let (inner, rest) = type_within(levels, refs, toks)?;
-    let (_, rest) = expect(Mark::RParen, rest)?;
+    let rest = expect(Mark::RParen, rest)?;
     Ok((inner, rest))
 }
 
 /// A declared name by its span, its type, and what it holds at first.
 #[derive(Drop)]
 pub struct RawDeclaration {
-    pub from: usize,
-    pub to: usize,
+    pub name: Span,
     pub ty: Ty,
     pub init: RawExpr,
 }
 
 /// A declaration.
-pub fn declaration(toks: &[Lexeme]) -> Result<(RawDeclaration, &[Lexeme]), Failure>
-    ensures gives { ReadsAs (λ r. (declaration_tree_of r.0, r.1.now)) result (declaration_reader toks.now) }
+pub fn declaration(toks: &[Lexeme]) -> Parsed<'_, RawDeclaration>
+    ensures gives { GivesReading declaration_tree_of result (declaration_reader toks.now) }
     ensures few { IfOk result (λ r. r.0.ty.refs ≤ most_refs) }
 {
     let (name, rest) = expect_name(toks)?;
-    let (_, rest) = expect(Mark::Colon, rest)?;
-    let (ty, rest) = type_within(64, 0, rest)?;
-    let (_, rest) = expect(Mark::Equals, rest)?;
+    let rest = expect(Mark::Colon, rest)?;
+    let (ty, rest) = type_within(DEEPEST, 0, rest)?;
+    let rest = expect(Mark::Equals, rest)?;
     let (init, rest) = init(rest)?;
     let declared = RawDeclaration {
-        from: name.start,
-        to: name.end,
+        name: name.span(),
         ty,
         init,
     };

@@ -1,5 +1,6 @@
 pub mod Ast
 pub mod Changes
+pub mod Limits
 pub mod Names
 pub mod OverflowArithmetic
 pub mod ParsedAst

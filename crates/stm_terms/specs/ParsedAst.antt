@@ -32,7 +32,7 @@ abbrev pub raw_term_of : RawExpr → RawTerm
 raw_term_of (E.Int n at) = int n at
 raw_term_of (E.Bool b at) = truth b at
 raw_term_of (E.Unit at) = unit at
-raw_term_of (E.Name from to) = name from to
+raw_term_of (E.Name s) = name s.start s.end
 raw_term_of (E.Bin' op p a q b) = bin op (raw_term_of a) (raw_term_of b)
 
 abbrev pub raw_act_of : RawAction → RawAct
@@ -44,8 +44,8 @@ raw_act_of A.Retry = retry
 raw_act_of (A.Throw e) = throw (raw_term_of e)
 raw_act_of (A.If' e p a at q b) = if_else (raw_term_of e) (raw_act_of a) at (raw_act_of b)
 raw_act_of (A.OrElse' p a at q b) = or_else (raw_act_of a) at (raw_act_of b)
-raw_act_of (A.Bind' from to at p a q b) = bind from to at (raw_act_of a) (raw_act_of b)
-raw_act_of (A.Let' from to e p b) = let_in from to (raw_term_of e) (raw_act_of b)
+raw_act_of (A.Bind' s at p a q b) = bind s.start s.end at (raw_act_of a) (raw_act_of b)
+raw_act_of (A.Let' s e p b) = let_in s.start s.end (raw_term_of e) (raw_act_of b)
 raw_act_of (A.Seq' p a q b) = seq (raw_act_of a) (raw_act_of b)
 
 -- where an expression begins

@@ -10,9 +10,14 @@ pub enum Base {
 
 /// A type: `refs` times `TVar` around the base.
 ///
-/// A variable holds values of a type with at most 8 `TVar`, so the type of a reference has at most 9.
+/// A variable holds values of a type with at most `MOST_REFS`, so the type of a reference has at most one more.
 #[derive(Clone, Copy, PartialEq, Eq, Debug)]
 pub struct Ty {
     pub base: Base,
     pub refs: u8,
+}
+
+impl Ty {
+    /// The most `TVar` of the type of what a variable holds.
+    pub const MOST_REFS: u8 = 8;
 }

@@ -24,7 +24,7 @@ pub use expr::{Expr, Op};
 pub use kinds::{Base, Ty};
 pub use lists::{News, Writes};
 pub use naming::is_name;
-pub use raw::{RawAction, RawExpr};
+pub use raw::{RawAction, RawExpr, Span};
 pub use std::alloc::AllocError as NoMemory;
 pub use text::{write_number, write_type, write_value, write_verdict};
 pub use values::{Fault, Ref, Value};

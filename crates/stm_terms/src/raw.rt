@@ -2,17 +2,24 @@
 
 use crate::expr::Op;
 
+/// A part of a text, by the offsets of its first byte and of the one after its last.
+#[derive(Clone, Copy)]
+pub struct Span {
+    pub start: usize,
+    pub end: usize,
+}
+
 /// An expression with the place, in bytes from 0, where each part begins. A name is its span in the text.
 #[derive(Drop)]
 pub enum RawExpr {
     Int(i64, usize),
     Bool(bool, usize),
     Unit(usize),
-    Name(usize, usize),
+    Name(Span),
     Bin(Op, Box<RawExpr>, Box<RawExpr>),
 }
 
-/// An action. Before a part that may be at fault stands its place, and before what is bound the span of its name.
+/// An action. A part that may be at fault has its place, and a name is its span in the text.
 #[derive(Drop)]
 pub enum RawAction {
     Return(RawExpr),
@@ -21,13 +28,31 @@ pub enum RawAction {
     Make(RawExpr),
     Retry,
     Throw(RawExpr),
-    /// The condition, the first branch, the place of the second branch, the second branch.
-    If(RawExpr, Box<RawAction>, usize, Box<RawAction>),
-    /// The first branch, the place of the second branch, the second branch.
-    OrElse(Box<RawAction>, usize, Box<RawAction>),
-    /// The span of the name, the place of what is bound, what is bound, the rest.
-    Bind(usize, usize, usize, Box<RawAction>, Box<RawAction>),
-    /// The span of the name, what it stands for, the rest.
-    Let(usize, usize, RawExpr, Box<RawAction>),
+    /// A choice, with the place of its second branch.
+    If {
+        condition: RawExpr,
+        first: Box<RawAction>,
+        at: usize,
+        second: Box<RawAction>,
+    },
+    /// Two branches, with the place of the second.
+    OrElse {
+        first: Box<RawAction>,
+        at: usize,
+        second: Box<RawAction>,
+    },
+    /// A name, what is bound to it, with its place, and the rest.
+    Bind {
+        name: Span,
+        at: usize,
+        bound: Box<RawAction>,
+        rest: Box<RawAction>,
+    },
+    /// A name, what it stands for, and the rest.
+    Let {
+        name: Span,
+        value: RawExpr,
+        rest: Box<RawAction>,
+    },
     Seq(Box<RawAction>, Box<RawAction>),
 }

@@ -1,44 +1,46 @@
 -- One level deeper, where there is such a level; and one statement after another.
-use Rattle.std.proofs.Common.{arith}
+use Rattle.std.proofs.Common.{arith, rules}
 use Rattle.stm_parse.specs.Descent.{action_at, paren_at}
-use Rattle.stm_parse.proofs.ActLevels.{inside_act_none, inside_act_some, body_more}
+use Rattle.stm_parse.proofs.ActLevels.{inside_act_none, inside_act_some, action_at_if, body_more}
 use Rattle.stm_parse.proofs.action.+actions.Goals as goal
 
-pub boxed_action-returns-then-levels-eq0-clause-gives : goal.boxed_action-returns-then-levels-eq0-clause-gives
+pub boxed_action-returns-in_err-inner-in-Do-clause-gives : goal.boxed_action-returns-in_err-inner-in-Do-clause-gives
 unfolding action_at
-boxed_action-returns-then-levels-eq0-clause-gives t c = grind (arith, inside_act_none)
+boxed_action-returns-in_err-inner-in-Do-clause-gives t c = grind (arith, inside_act_none)
 
-pub boxed_action-returns-then-levels-eq0-2-clause-gives : goal.boxed_action-returns-then-levels-eq0-2-clause-gives
+pub boxed_action-returns-in_err-inner-in-If-clause-gives : goal.boxed_action-returns-in_err-inner-in-If-clause-gives
 unfolding action_at
-boxed_action-returns-then-levels-eq0-2-clause-gives t c = grind (arith, inside_act_none)
+boxed_action-returns-in_err-inner-in-If-clause-gives t c = grind (arith, inside_act_none)
 
-pub boxed_action-returns-then-levels-eq0-3-clause-gives : goal.boxed_action-returns-then-levels-eq0-3-clause-gives
+pub boxed_action-returns-in_err-inner-in-OrElse-clause-gives : goal.boxed_action-returns-in_err-inner-in-OrElse-clause-gives
 unfolding action_at
-boxed_action-returns-then-levels-eq0-3-clause-gives t c = grind (arith, inside_act_none)
+boxed_action-returns-in_err-inner-in-OrElse-clause-gives t c = grind (arith, inside_act_none)
 
-pub boxed_action-returns-then-levels-eq0-4-clause-gives : goal.boxed_action-returns-then-levels-eq0-4-clause-gives
+pub boxed_action-returns-in_err-inner-in-LParen-clause-gives : goal.boxed_action-returns-in_err-inner-in-LParen-clause-gives
 unfolding action_at
-boxed_action-returns-then-levels-eq0-4-clause-gives t c = grind (arith, inside_act_none)
+boxed_action-returns-in_err-inner-in-LParen-clause-gives t c = grind (arith, inside_act_none)
 
-pub boxed_action-returns-else-levels-eq0-clause-gives : goal.boxed_action-returns-else-levels-eq0-clause-gives
+pub boxed_action-returns-in_ok-inner-in-Do-clause-gives : goal.boxed_action-returns-in_ok-inner-in-Do-clause-gives
 unfolding action_at
-boxed_action-returns-else-levels-eq0-clause-gives t c = grind (arith, inside_act_some)
+boxed_action-returns-in_ok-inner-in-Do-clause-gives t c = grind (arith, inside_act_some)
 
-pub boxed_action-returns-else-levels-eq0-2-clause-gives : goal.boxed_action-returns-else-levels-eq0-2-clause-gives
+pub boxed_action-returns-in_ok-inner-in-If-clause-gives : goal.boxed_action-returns-in_ok-inner-in-If-clause-gives
+boxed_action-returns-in_ok-inner-in-If-clause-gives t c =
+    let left = c.in_ok-inner-in-If.ensures.left in
+    let e = action_at_if c.args.levels c.in_ok-inner-in-If.inner c.args.toks.now c.in-Some.rest.now c.in-Some.first.now (search rules) (search rules) left.0 left.1 in
+    rw e c.if_then_else.ensures.gives
+
+pub boxed_action-returns-in_ok-inner-in-OrElse-clause-gives : goal.boxed_action-returns-in_ok-inner-in-OrElse-clause-gives
 unfolding action_at
-boxed_action-returns-else-levels-eq0-2-clause-gives t c = grind (arith, inside_act_some)
+boxed_action-returns-in_ok-inner-in-OrElse-clause-gives t c = grind (arith, inside_act_some)
 
-pub boxed_action-returns-else-levels-eq0-3-clause-gives : goal.boxed_action-returns-else-levels-eq0-3-clause-gives
+pub boxed_action-returns-in_ok-inner-in-LParen-clause-gives : goal.boxed_action-returns-in_ok-inner-in-LParen-clause-gives
 unfolding action_at
-boxed_action-returns-else-levels-eq0-3-clause-gives t c = grind (arith, inside_act_some)
+boxed_action-returns-in_ok-inner-in-LParen-clause-gives t c = grind (arith, inside_act_some)
 
-pub boxed_action-returns-else-levels-eq0-4-clause-gives : goal.boxed_action-returns-else-levels-eq0-4-clause-gives
-unfolding action_at
-boxed_action-returns-else-levels-eq0-4-clause-gives t c = grind (arith, inside_act_some)
-
-pub paren-returns-then-levels-eq0-clause-gives : goal.paren-returns-then-levels-eq0-clause-gives
+pub paren-returns-in_err-inner-clause-gives : goal.paren-returns-in_err-inner-clause-gives
 unfolding paren_at
-paren-returns-then-levels-eq0-clause-gives t c = grind (arith, inside_act_none)
+paren-returns-in_err-inner-clause-gives t c = grind (arith, inside_act_none)
 
 pub paren-returns-clause-gives : goal.paren-returns-clause-gives
 unfolding paren_at

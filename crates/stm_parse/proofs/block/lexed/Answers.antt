@@ -9,26 +9,26 @@ pub returns-in-Err-clause-right : goal.returns-in-Err-clause-right
 unfolding most_bytes
 returns-in-Err-clause-right c = tells_early c.args.text.now c.in-Err.fault (omega arith) c.in-Err.ensures.cuts c.in-Err.ensures.faults
 
-pub returns-then-text-gt65536-clause-block : goal.returns-then-text-gt65536-clause-block
+pub returns-then-text-gt-MOST_BYTES-clause-block : goal.returns-then-text-gt-MOST_BYTES-clause-block
 unfolding most_bytes
-returns-then-text-gt65536-clause-block c = early_block c.args.text.now fault.TooLarge (inl (omega arith))
+returns-then-text-gt-MOST_BYTES-clause-block c = early_block c.args.text.now fault.TooLarge (inl (omega arith))
 
 pub returns-in-Err-clause-block : goal.returns-in-Err-clause-block
 unfolding most_bytes
 returns-in-Err-clause-block c = early_block c.args.text.now c.in-Err.fault (tells_early c.args.text.now c.in-Err.fault (omega arith) c.in-Err.ensures.cuts c.in-Err.ensures.faults)
 
-pub returns-then-len-gt4096-clause-block : goal.returns-then-len-gt4096-clause-block
+pub returns-then-len-gt-MOST_TOKENS-clause-block : goal.returns-then-len-gt-MOST_TOKENS-clause-block
 unfolding most_bytes most_tokens
-returns-then-len-gt4096-clause-block c = early_block c.args.text.now fault.TooLarge (inr (c.in-Ok.toks.items, omega arith, c.in-Ok.ensures.cuts, omega arith))
+returns-then-len-gt-MOST_TOKENS-clause-block c = early_block c.args.text.now fault.TooLarge (inr (c.in-Ok.toks.items, omega arith, c.in-Ok.ensures.cuts, omega arith))
 
-pub returns-then-text-gt65536-clause-declaration : goal.returns-then-text-gt65536-clause-declaration
+pub returns-then-text-gt-MOST_BYTES-clause-declaration : goal.returns-then-text-gt-MOST_BYTES-clause-declaration
 unfolding most_bytes
-returns-then-text-gt65536-clause-declaration c = early_declaration c.args.text.now fault.TooLarge (inl (omega arith))
+returns-then-text-gt-MOST_BYTES-clause-declaration c = early_declaration c.args.text.now fault.TooLarge (inl (omega arith))
 
 pub returns-in-Err-clause-declaration : goal.returns-in-Err-clause-declaration
 unfolding most_bytes
 returns-in-Err-clause-declaration c = early_declaration c.args.text.now c.in-Err.fault (tells_early c.args.text.now c.in-Err.fault (omega arith) c.in-Err.ensures.cuts c.in-Err.ensures.faults)
 
-pub returns-then-len-gt4096-clause-declaration : goal.returns-then-len-gt4096-clause-declaration
+pub returns-then-len-gt-MOST_TOKENS-clause-declaration : goal.returns-then-len-gt-MOST_TOKENS-clause-declaration
 unfolding most_bytes most_tokens
-returns-then-len-gt4096-clause-declaration c = early_declaration c.args.text.now fault.TooLarge (inr (c.in-Ok.toks.items, omega arith, c.in-Ok.ensures.cuts, omega arith))
+returns-then-len-gt-MOST_TOKENS-clause-declaration c = early_declaration c.args.text.now fault.TooLarge (inr (c.in-Ok.toks.items, omega arith, c.in-Ok.ensures.cuts, omega arith))

@@ -5,7 +5,7 @@ use Rattle.stm_parse.specs.ParseResult.{IsReported}
 use Rattle.stm_parse.specs.ExpectationFunction.{expectation_reader, parsed_expectation}
 use Rattle.stm_parse.specs.UnlessNoMemory.{FailsAs}
 use Rattle.stm_parse.proofs.Expectations.{good_expectation, kept_expectation, early_expectation, ok_expectation, stop_expectation}
-use Rattle.stm_parse.proofs.FaultReported.{text_of, ok_text, only_this, stop_told, stop_none}
+use Rattle.stm_parse.proofs.FaultReported.{early_none, text_of, ok_text, only_this, stop_told, stop_none}
 use Rattle.stm_parse.proofs.expectation.parse_expectation.Goals as goal
 
 pub owned-requires-clause-name : goal.owned-requires-clause-name
@@ -56,3 +56,6 @@ returns-clause-answer c =
 
 pub returns-in_err-toks-clause-answer : goal.returns-in_err-toks-clause-answer
 returns-in_err-toks-clause-answer c = search (early_expectation c.args.text.now _ c.in_err-toks.ensures.right, rules)
+
+pub returns-in_err-toks-clause-only : goal.returns-in_err-toks-clause-only
+returns-in_err-toks-clause-only c = λ t h. search (early_none (λ d. expectation_of d ≡ expectation_in c.args.text.now t) c.args.text.now h.0 h.1 _ c.in_err-toks.ensures.right, rules)

@@ -4,9 +4,9 @@ use Rattle.stm_parse.specs.Descent.{atom_at}
 use Rattle.stm_parse.proofs.DepthLevels.{inside_none, inside_some, tier_zero, tier_more, tail_more}
 use Rattle.stm_parse.proofs.expression.+expressions.Goals as goal
 
-pub atom-returns-then-levels-eq0-clause-gives : goal.atom-returns-then-levels-eq0-clause-gives
+pub atom-returns-in_err-inner-clause-gives : goal.atom-returns-in_err-inner-clause-gives
 unfolding atom_at
-atom-returns-then-levels-eq0-clause-gives t c = grind (arith, inside_none)
+atom-returns-in_err-inner-clause-gives t c = grind (arith, inside_none)
 
 pub atom-returns-clause-gives : goal.atom-returns-clause-gives
 unfolding atom_at

@@ -9,34 +9,34 @@ use Rattle.stm_parse.proofs.lexer.action_mark.Goals as goal
 read : (word text : List ℕ) (m : Mark) → action_mark text ≡ Some m → length word ≡ length text → HasBytesAt word 0 text → Some m ≡ action_mark word
 read word text m e l h = sym (ap action_mark (text_from_reads word text l h) ∙ e)
 
-pub returns-in-return : goal.returns-in-return
+pub returns-in-return-clause-mark : goal.returns-in-return-clause-mark
 unfolding action_mark
-returns-in-return c = read c.args.word.now (codes "return") mark.Return refl (omega arith) (search rules)
+returns-in-return-clause-mark c = read c.args.word.now (codes "return") mark.Return refl (omega arith) (search rules)
 
-pub returns-in-readTVar : goal.returns-in-readTVar
+pub returns-in-readTVar-clause-mark : goal.returns-in-readTVar-clause-mark
 unfolding action_mark
-returns-in-readTVar c = read c.args.word.now (codes "readTVar") mark.ReadTVar refl (omega arith) (search rules)
+returns-in-readTVar-clause-mark c = read c.args.word.now (codes "readTVar") mark.ReadTVar refl (omega arith) (search rules)
 
-pub returns-in-writeTVar : goal.returns-in-writeTVar
+pub returns-in-writeTVar-clause-mark : goal.returns-in-writeTVar-clause-mark
 unfolding action_mark
-returns-in-writeTVar c = read c.args.word.now (codes "writeTVar") mark.WriteTVar refl (omega arith) (search rules)
+returns-in-writeTVar-clause-mark c = read c.args.word.now (codes "writeTVar") mark.WriteTVar refl (omega arith) (search rules)
 
-pub returns-in-newTVar : goal.returns-in-newTVar
+pub returns-in-newTVar-clause-mark : goal.returns-in-newTVar-clause-mark
 unfolding action_mark
-returns-in-newTVar c = read c.args.word.now (codes "newTVar") mark.NewTVar refl (omega arith) (search rules)
+returns-in-newTVar-clause-mark c = read c.args.word.now (codes "newTVar") mark.NewTVar refl (omega arith) (search rules)
 
-pub returns-in-retry : goal.returns-in-retry
+pub returns-in-retry-clause-mark : goal.returns-in-retry-clause-mark
 unfolding action_mark
-returns-in-retry c = read c.args.word.now (codes "retry") mark.Retry refl (omega arith) (search rules)
+returns-in-retry-clause-mark c = read c.args.word.now (codes "retry") mark.Retry refl (omega arith) (search rules)
 
-pub returns-in-orElse : goal.returns-in-orElse
+pub returns-in-orElse-clause-mark : goal.returns-in-orElse-clause-mark
 unfolding action_mark
-returns-in-orElse c = read c.args.word.now (codes "orElse") mark.OrElse refl (omega arith) (search rules)
+returns-in-orElse-clause-mark c = read c.args.word.now (codes "orElse") mark.OrElse refl (omega arith) (search rules)
 
-pub returns-in-throw : goal.returns-in-throw
+pub returns-in-throw-clause-mark : goal.returns-in-throw-clause-mark
 unfolding action_mark
-returns-in-throw c = read c.args.word.now (codes "throw") mark.Throw refl (omega arith) (search rules)
+returns-in-throw-clause-mark c = read c.args.word.now (codes "throw") mark.Throw refl (omega arith) (search rules)
 
-pub returns-in-catch : goal.returns-in-catch
+pub returns-in-catch-clause-mark : goal.returns-in-catch-clause-mark
 unfolding action_mark
-returns-in-catch c = read c.args.word.now (codes "catch") mark.Catch refl (omega arith) (search rules)
+returns-in-catch-clause-mark c = read c.args.word.now (codes "catch") mark.Catch refl (omega arith) (search rules)

@@ -1,7 +1,7 @@
 use Rattle.std.proofs.Common.{◌+◌, arith, refl, sym, subst}
-use Rattle.stm_parse.specs.declared.tokenizer.Front.TheVariants as front
+use Rattle.stm_parse.specs.Front as front
 use Rattle.stm_parse.specs.declared.fault.ParseFault.TheVariants as fault
-use Rattle.stm_parse.proofs.LexerTurn.{AreSeen, seen_all, seen_names, seen_blank, seen_found, seen_bad}
+use Rattle.stm_parse.proofs.LexerTurn.{AreSeen, seen_all, seen_classes, seen_rise, seen_names, seen_blank, seen_found, seen_bad}
 use Rattle.stm_parse.proofs.lexer.cut_lexemes.Goals as goal
 
 pub loop-place-preserved-in-Blank : goal.loop-place-preserved-in-Blank
@@ -11,7 +11,7 @@ loop-place-preserved-in-Blank c =
 pub loop-place-preserved : goal.loop-place-preserved
 loop-place-preserved c =
     let w = c.in-Found.ensures.within in
-    (omega arith, subst (AreSeen c.args.bytes.now (c.loop-place.place + c.in-Found.n)) (sym c.in_ok-push-in-Found.ensures.items) (seen_found c.args.bytes.now c.loop-place.place c.loop-place.out.items c.loop-place.invariant.1 c.loop-place-test.true c.in-Found.field-0 c.in-Found.sym c.in-Found.n c.in-Found.ensures.front c.in-Found.ensures.sym w.0 w.1))
+    (omega arith, subst (AreSeen c.args.bytes.now (c.loop-place.place + c.in-Found.n)) (sym c.in_ok-push-in-Found.ensures.items) (seen_found c.args.bytes.now c.loop-place.place c.loop-place.out.items c.loop-place.invariant.1 c.loop-place-test.true c.in-Found.sym c.in-Found.n c.in-Found.ensures.front c.in-Found.ensures.sym w.0 w.1))
 
 pub returns-in-BadByte-clause-cuts : goal.returns-in-BadByte-clause-cuts
 returns-in-BadByte-clause-cuts c = seen_bad c.args.bytes.now c.loop-place.place c.loop-place.out.items c.loop-place.invariant.1 c.loop-place-test.true front.BadByte (fault.BadByte c.loop-place.place) c.in-BadByte.ensures.front (λ go. refl)
@@ -27,3 +27,9 @@ returns-clause-cuts c = seen_all c.args.bytes.now c.loop-place.place c.loop-plac
 
 pub returns-clause-names : goal.returns-clause-names
 returns-clause-names c = seen_names c.args.bytes.now c.loop-place.place c.loop-place.out.items c.loop-place.invariant.1 c.loop-place.invariant.0
+
+pub returns-clause-classes : goal.returns-clause-classes
+returns-clause-classes c = seen_classes c.args.bytes.now c.loop-place.place c.loop-place.out.items c.loop-place.invariant.1 c.loop-place-test.false
+
+pub returns-clause-rise : goal.returns-clause-rise
+returns-clause-rise c = seen_rise c.args.bytes.now c.loop-place.place c.loop-place.out.items c.loop-place.invariant.1 c.loop-place.invariant.0

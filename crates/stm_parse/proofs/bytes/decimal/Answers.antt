@@ -1,6 +1,6 @@
 use Rattle.std.proofs.Common.{ℕ, ◌<◌, ◌≤◌, ◌^◌, arith}
 use Rattle.std.proofs.Math.Nat.{pow-le-pow_right}
-use Rattle.stm_parse.proofs.tokenizer.decimal.Goals as goal
+use Rattle.stm_parse.proofs.bytes.decimal.Goals as goal
 
 below : (v i n : ℕ) → v < 10 ^ i → i < n → n ≤ 19 → v < 1000000000000000000
 below v i n h l m = let ten : 0 < 10 = omega arith in let j : i ≤ 18 = omega arith in let p : 10 ^ i ≤ 10 ^ 18 = pow-le-pow_right {n = 10} ten {i = i} {j = 18} j in omega arith

@@ -2,7 +2,7 @@
 use Rattle.std.proofs.Common.{◌+◌, ◌*◌}
 use Rattle.stm_terms.specs.ParsedAst.{raw_term_of}
 use Rattle.stm_check.proofs.Sizes.{operators}
-use Rattle.stm_check.proofs.expressions.+expressions.Given as goal
+use Rattle.stm_check.proofs.checker.Checker.+expressions.Given as goal
 
 abbrev pub decreases-check_expr : goal.decreases-check_expr
 decreases-check_expr l = 3 * operators (raw_term_of l.raw.now)

@@ -1,6 +1,6 @@
 use Rattle.std.proofs.Common.{◌+◌, ◌*◌}
 use Rattle.stm_terms.specs.ParsedAst.{raw_act_of, actions}
-use Rattle.stm_check.proofs.actions.+actions.Given as goal
+use Rattle.stm_check.proofs.checker.Checker.+actions.Given as goal
 
 abbrev pub decreases-check_action : goal.decreases-check_action
 decreases-check_action l = 3 * actions (raw_act_of l.raw.now)

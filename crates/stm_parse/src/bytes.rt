@@ -1,0 +1,120 @@
+//! The bytes of tokens: letters, digits, blanks, the marks of symbols, and the number that digits write.
+
+ghost use Rattle.std.specs.Prelude.{◌≡◌, ◌≤◌, length, IfSome};
+ghost use Rattle.stm_terms.specs.Names.{is_digit, is_word_byte};
+ghost use Rattle.stm_parse.specs.declared.token.TokenKind.TheVariants as tok;
+ghost use Rattle.stm_parse.specs.declared.tokenizer.TokenClass.TheVariants as kind;
+ghost use Rattle.stm_parse.specs.Bytes.{is_letter, is_blank, pair_mark, single_mark, word_len, number_len, digit_value, decimal, most_digits, number_of_digits};
+ghost use Rattle.stm_parse.specs.Lexing.{class_of};
+
+use crate::limits::{GREATEST_WRITTEN, MOST_DIGITS};
+use crate::token::Mark;
+
+pub(crate) fn is_letter(byte: u8) -> bool
+    ensures { result ≡ is_letter byte }
+{
+    (b'a' <= byte && byte <= b'z') || (b'A' <= byte && byte <= b'Z')
+}
+
+pub(crate) fn is_digit(byte: u8) -> bool
+    ensures { result ≡ is_digit byte }
+{
+    b'0' <= byte && byte <= b'9'
+}
+
+fn is_word_byte(byte: u8) -> bool
+    ensures { result ≡ is_word_byte byte }
+{
+    is_letter(byte) || is_digit(byte) || byte == b'_' || byte == b'\''
+}
+
+pub(crate) fn is_blank(byte: u8) -> bool
+    ensures { result ≡ is_blank byte }
+{
+    byte == b'\t' || byte == b'\n' || byte == b'\r' || byte == b' '
+}
+
+// <- <= == && ||
+#[tactic(auto, unfolding(crate::specs::Bytes::pair_mark, crate::specs::Lexing::class_of))]
+pub(crate) fn pair_mark(a: u8, b: u8) -> Option<Mark>
+    ensures mark { result ≡ pair_mark a b }
+    ensures symbol { IfSome result (λ m. class_of (tok.Mark m) ≡ kind.Symbol) }
+{
+    match (a, b) {
+        (b'<', b'-') => Some(Mark::Arrow),
+        (b'<', b'=') => Some(Mark::Le),
+        (b'=', b'=') => Some(Mark::EqEq),
+        (b'&', b'&') => Some(Mark::AndAnd),
+        (b'|', b'|') => Some(Mark::OrOr),
+        _ => None,
+    }
+}
+
+// { } ( ) ; : < = + - *
+#[inline(always)]
+#[tactic(auto, unfolding(crate::specs::Bytes::single_mark, crate::specs::Lexing::class_of))]
+pub(crate) fn single_mark(a: u8) -> Option<Mark>
+    ensures mark { result ≡ single_mark a }
+    ensures symbol { IfSome result (λ m. class_of (tok.Mark m) ≡ kind.Symbol) }
+{
+    match a {
+        b'{' => Some(Mark::LBrace),
+        b'}' => Some(Mark::RBrace),
+        b'(' => Some(Mark::LParen),
+        b')' => Some(Mark::RParen),
+        b';' => Some(Mark::Semicolon),
+        b':' => Some(Mark::Colon),
+        b'<' => Some(Mark::Lt),
+        b'=' => Some(Mark::Equals),
+        b'+' => Some(Mark::Plus),
+        b'-' => Some(Mark::Minus),
+        b'*' => Some(Mark::Star),
+        _ => None,
+    }
+}
+
+pub(crate) fn word_len(bytes: &[u8]) -> usize
+    ensures { result ≡ word_len bytes.now }
+{
+    bytes.iter().take_while(|byte| is_word_byte(**byte)).count()
+}
+
+pub(crate) fn number_len(bytes: &[u8]) -> usize
+    ensures { result ≡ number_len bytes.now }
+{
+    bytes.iter().take_while(|byte| is_digit(**byte)).count()
+}
+
+fn digit_value(byte: u8) -> u8
+    ensures value { result ≡ digit_value byte }
+    ensures low { result ≤ 9 }
+{
+    if is_digit(byte) { byte - b'0' } else { 0 }
+}
+
+/// The number of these digits, if they are not too many and it is not too great.
+#[tactic(auto, unfolding(crate::specs::Bytes::number_of_digits))]
+pub fn number_of(digits: &[u8]) -> Option<u64>
+    ensures { result ≡ number_of_digits digits.now }
+{
+    if digits.len() > MOST_DIGITS {
+        return None;
+    }
+    let value = decimal(digits);
+    if value > GREATEST_WRITTEN {
+        None
+    } else {
+        Some(value)
+    }
+}
+
+fn decimal(digits: &[u8]) -> u64
+    requires { length digits.now ≤ most_digits }
+    ensures { result ≡ decimal 0 digits.now }
+{
+    let mut value: u64 = 0;
+    for digit in digits {
+        value = value * 10 + digit_value(*digit) as u64;
+    }
+    value
+}
