@@ -10,7 +10,7 @@ use Rattle.memchr.specs.Find.{IsFirstByte, is_byte}
 use Rattle.stm_console.proofs.Chunks.{split-at}
 use Rattle.stm_console.proofs.LongLines.{Long, judged-too_long, drop_return-long, more-long}
 use Rattle.stm_console.specs.LineClass.{line_class}
-use Rattle.stm_console.specs.LineReading.{classes_from, HasBegun, IsNextLine, IsNoLine}
+use Rattle.stm_console.specs.LineReading.{classes_from, HasBegunLine, IsNextLine, IsNoLine}
 use Rattle.stm_console.specs.Lines.{drop_return, lines_from, last_lines}
 use Rattle.stm_console.specs.Streaming.{NoLineFeed}
 
@@ -81,20 +81,20 @@ ended begun bytes line left at f e r more =
     ∙ ap (λ l. line_class l ∷ classes_from [] (drop (at + 1) bytes ++ more)) (sym r)
 
 -- ---- what is left
-pub begins : (a : Option (List ℕ)) (line : List ℕ) → line ≡ [] → HasBegun a a line
+pub begins : (a : Option (List ℕ)) (line : List ℕ) → line ≡ [] → HasBegunLine a a line
 begins None line e = tt
 begins (Some all) line e = ap (λ l. classes_from l all) (sym e)
 
 -- all that was read joins the line, and more is read
-pub goes_on : (a b c : Option (List ℕ)) (bytes line left chunk : List ℕ) → HasBegun a (prepend_known bytes b) line
-    → ((more : List ℕ) → classes_from line (bytes ++ more) ≡ classes_from left more) → Consumes b c chunk → HasBegun a (prepend_known chunk c) left
+pub goes_on : (a b c : Option (List ℕ)) (bytes line left chunk : List ℕ) → HasBegunLine a (prepend_known bytes b) line
+    → ((more : List ℕ) → classes_from line (bytes ++ more) ≡ classes_from left more) → Consumes b c chunk → HasBegunLine a (prepend_known chunk c) left
 goes_on None b c bytes line left chunk h p q = tt
 goes_on (Some all) None c bytes line left chunk h p q = absurd h
 goes_on (Some all) (Some rest) None bytes line left chunk h p q = absurd q
 goes_on (Some all) (Some rest) (Some next) bytes line left chunk h p q = h ∙ p rest ∙ ap (classes_from left) q
 
 -- the line has ended
-pub found : (a b : Option (List ℕ)) (bytes line left others : List ℕ) → HasBegun a (prepend_known bytes b) line
+pub found : (a b : Option (List ℕ)) (bytes line left others : List ℕ) → HasBegunLine a (prepend_known bytes b) line
     → ((more : List ℕ) → classes_from line (bytes ++ more) ≡ line_class left ∷ classes_from [] (others ++ more)) → IsNextLine a (prepend_known others b) left
 found None b bytes line left others h p = tt
 found (Some all) None bytes line left others h p = absurd h
@@ -111,18 +111,18 @@ last [] h = absurd (omega arith)
 last (b ∷ begun) h = refl
 
 -- at the end a last line without line feed counts unless it is empty
-pub last_line : (a b : Option (List ℕ)) (line chunk : List ℕ) → HasBegun a (prepend_known chunk b) line → chunk ≡ [] → IsAtEnd b → 0 < length line → IsNextLine a (prepend_known chunk b) line
+pub last_line : (a b : Option (List ℕ)) (line chunk : List ℕ) → HasBegunLine a (prepend_known chunk b) line → chunk ≡ [] → IsAtEnd b → 0 < length line → IsNextLine a (prepend_known chunk b) line
 last_line None b line chunk h e at_end some = tt
 last_line (Some all) None line chunk h e at_end some = absurd h
 last_line (Some all) (Some rest) line chunk h e at_end some = h ∙ rw (e, at_end) (last line some)
 
-pub no_line : (a b : Option (List ℕ)) (line chunk : List ℕ) → HasBegun a (prepend_known chunk b) line → chunk ≡ [] → IsAtEnd b → length line ≡ 0 → IsNoLine a
+pub no_line : (a b : Option (List ℕ)) (line chunk : List ℕ) → HasBegunLine a (prepend_known chunk b) line → chunk ≡ [] → IsAtEnd b → length line ≡ 0 → IsNoLine a
 no_line None b line chunk h e at_end none = tt
 no_line (Some all) None line chunk h e at_end none = absurd h
 no_line (Some all) (Some rest) line chunk h e at_end none = h ∙ rw (e, at_end) (no_bytes line none)
 
 -- at the end there is a line unless none has begun
-pub at_end : (a b : Option (List ℕ)) (line chunk : List ℕ) (empty : Bool) → HasBegun a (prepend_known chunk b) line → chunk ≡ [] → IsAtEnd b → empty ≡ nat_eq (length line) 0
+pub at_end : (a b : Option (List ℕ)) (line chunk : List ℕ) (empty : Bool) → HasBegunLine a (prepend_known chunk b) line → chunk ≡ [] → IsAtEnd b → empty ≡ nat_eq (length line) 0
     → MatchBool (not empty) (IsNextLine a (prepend_known chunk b) line) (IsNoLine a)
 at_end a b line chunk true h e end t = no_line a b line chunk h e end (eqb-true (length line) 0 (sym t))
 at_end a b line chunk false h e end t = last_line a b line chunk h e end (grind (arith, nat_tests))

@@ -8,10 +8,10 @@ unfoldable pub classes_from : List ℕ → List ℕ → List LineClass
 classes_from begun rest = map line_class (lines_from begun rest)
 
 -- where it is known what was left and what is: of the line that has begun this was taken, or one that is as much too long
-abbrev pub HasBegun : Option (List ℕ) → Option (List ℕ) → List ℕ → Type 0
-HasBegun None new line = ⊤
-HasBegun (Some all) None line = ⊥
-HasBegun (Some all) (Some rest) line = classes_from [] all ≡ classes_from line rest
+abbrev pub HasBegunLine : Option (List ℕ) → Option (List ℕ) → List ℕ → Type 0
+HasBegunLine None new line = ⊤
+HasBegunLine (Some all) None line = ⊥
+HasBegunLine (Some all) (Some rest) line = classes_from [] all ≡ classes_from line rest
 
 -- the line came first in what was left, or one that is judged as it is
 abbrev pub IsNextLine : Option (List ℕ) → Option (List ℕ) → List ℕ → Type 0

@@ -40,18 +40,18 @@ pub record Begun : Type 0 where
   pub submissions : ℕ
 
 -- a script under way: its variables, the sections that have ended, and the one under way, if any has begun
-pub record Reading : Type 0 where
+pub record PartialScript : Type 0 where
   pub table : List Declared
   pub ended : List (List Task)
   pub begun : Option Begun
 
 -- nothing was read yet
-abbrev pub nothing_read : Reading
+abbrev pub nothing_read : PartialScript
 nothing_read = record { table = []; ended = []; begun = None }
 
 -- ---- the lines; none where a line is faulty
 -- `tvar`: a variable more, before the first section
-abbrev pub declared_more : Reading → Result Declared Refusal → Option Reading
+abbrev pub declared_more : PartialScript → Result Declared Refusal → Option PartialScript
 declared_more r (Ok d) = Some (record r { table = r.table ++ d ∷ [] })
 declared_more r (Err e) = None
 
@@ -65,17 +65,17 @@ abbrev pub most_sections : ℕ
 most_sections = 64
 
 -- `client`: the next section begins
-abbrev pub after_client : Reading → List ℕ → Option Reading
+abbrev pub after_client : PartialScript → List ℕ → Option PartialScript
 after_client r argument =
     if (length argument == 0) && nat_lt (length (sections_so_far r.ended r.begun)) most_sections
     then Some (record { table = r.table; ended = sections_so_far r.ended r.begun; begun = Some (record { tasks = []; submissions = 0 }) })
     else None
 
 -- a task more in the section under way
-abbrev pub with_task : Reading → Begun → Task → Reading
+abbrev pub with_task : PartialScript → Begun → Task → PartialScript
 with_task r b t = record r { begun = Some (record b { tasks = b.tasks ++ t ∷ [] }) }
 
-abbrev pub with_block : Reading → Begun → Result Block Refusal → Option Reading
+abbrev pub with_block : PartialScript → Begun → Result Block Refusal → Option PartialScript
 with_block r b (Ok block) = Some (record r { begun = Some (record { tasks = b.tasks ++ task.Submit block ∷ []; submissions = b.submissions + 1 }) })
 with_block r b (Err e) = None
 
@@ -84,7 +84,7 @@ abbrev pub submission_of : ℕ → Option ℕ → Option ℕ
 submission_of submissions (Some n) = if nat_lt 0 n && nat_le n submissions then Some (n - 1) else None
 submission_of submissions None = None
 
-abbrev pub with_submission : Reading → Begun → (ℕ → Task) → Option ℕ → Option Reading
+abbrev pub with_submission : PartialScript → Begun → (ℕ → Task) → Option ℕ → Option PartialScript
 with_submission r b make (Some k) = Some (with_task r b (make k))
 with_submission r b make None = None
 
@@ -99,25 +99,25 @@ expected_of table e (Some i) = expected_at table i (slice_get table i) (initial 
 expected_of table e None = None
 
 -- what is expected of a declared variable; a name stands for the reference to its variable
-abbrev pub expectation_in : List Declared → Result ParsedExpectation ParseFault → Option Task
-expectation_in table (Ok e) = expected_of table e (number_of e.name table)
-expectation_in table (Err e) = None
+abbrev pub expected_task : List Declared → Result ParsedExpectation ParseFault → Option Task
+expected_task table (Ok e) = expected_of table e (number_of e.name table)
+expected_task table (Err e) = None
 
-abbrev pub with_expectation : Reading → Begun → Option Task → Option Reading
+abbrev pub with_expectation : PartialScript → Begun → Option Task → Option PartialScript
 with_expectation r b (Some t) = Some (with_task r b t)
 with_expectation r b None = None
 
 -- a line of a section
-abbrev pub after_task : Reading → Begun → StormWord → List ℕ → Option Reading
+abbrev pub after_task : PartialScript → Begun → StormWord → List ℕ → Option PartialScript
 after_task r b Tvar argument = None
 after_task r b Client argument = after_client r argument
 after_task r b Submit argument = with_block r b (compiled_block r.table argument)
 after_task r b Finish argument = with_submission r b task.Finish (submission_of b.submissions (number_argument argument))
 after_task r b Cancel argument = with_submission r b task.Cancel (submission_of b.submissions (number_argument argument))
-after_task r b Expect argument = with_expectation r b (expectation_in r.table (parsed_expectation argument))
+after_task r b Expect argument = with_expectation r b (expected_task r.table (parsed_expectation argument))
 
 -- a line before the first section
-abbrev pub before_sections : Reading → StormWord → List ℕ → Option Reading
+abbrev pub before_sections : PartialScript → StormWord → List ℕ → Option PartialScript
 before_sections r Tvar argument = declared_more r (variable_of r.table argument)
 before_sections r Client argument = after_client r argument
 before_sections r Submit argument = None
@@ -125,22 +125,22 @@ before_sections r Finish argument = None
 before_sections r Cancel argument = None
 before_sections r Expect argument = None
 
-abbrev pub after_word : Reading → Option Begun → StormWord → List ℕ → Option Reading
+abbrev pub after_word : PartialScript → Option Begun → StormWord → List ℕ → Option PartialScript
 after_word r None word argument = before_sections r word argument
 after_word r (Some b) word argument = after_task r b word argument
 
-abbrev pub after_words : Reading → Option StormWord → List ℕ → Option Reading
+abbrev pub after_words : PartialScript → Option StormWord → List ℕ → Option PartialScript
 after_words r (Some word) argument = after_word r r.begun word argument
 after_words r None argument = None
 
-abbrev pub after_class : Reading → LineClass → Option Reading
+abbrev pub after_class : PartialScript → LineClass → Option PartialScript
 after_class r TooLong = None
 after_class r Silent = Some r
 after_class r NotAscii = None
 after_class r (Words word argument) = after_words r (storm_word_named word) argument
 
 -- a line, judged as those of a run are
-unfoldable pub after_line : Reading → List ℕ → Option Reading
+unfoldable pub after_line : PartialScript → List ℕ → Option PartialScript
 after_line r line = after_class r (line_class line)
 
 -- ---- the script
@@ -149,15 +149,15 @@ abbrev pub most_lines : ℕ
 most_lines = 1048576
 
 -- what a line with its number leads to, or the number where it is faulty
-abbrev pub numbered_result : ℕ → Option Reading → Result Reading ℕ
+abbrev pub numbered_result : ℕ → Option PartialScript → Result PartialScript ℕ
 numbered_result n (Some r) = Ok r
 numbered_result n None = Err n
 
-abbrev pub after_numbered : Reading → ℕ → List ℕ → Result Reading ℕ
+abbrev pub after_numbered : PartialScript → ℕ → List ℕ → Result PartialScript ℕ
 after_numbered r n line = if nat_lt most_lines n then Err n else numbered_result n (after_line r line)
 
 -- the lines from this number on, to the first that is faulty
-abbrev pub after_lines : Result Reading ℕ → ℕ → List (List ℕ) → Result Reading ℕ
+abbrev pub after_lines : Result PartialScript ℕ → ℕ → List (List ℕ) → Result PartialScript ℕ
 after_lines (Err e) n lines = Err e
 after_lines (Ok r) n [] = Ok r
 after_lines (Ok r) n (line ∷ rest) = after_lines (after_numbered r n line) (n + 1) rest
@@ -167,7 +167,7 @@ abbrev pub ended_script : List Declared → List (List Task) → Option Begun �
 ended_script table ended (Some b) next = Ok (record { table = table; sections = ended ++ b.tasks ∷ [] })
 ended_script table ended None next = Err next
 
-abbrev pub script_result : Result Reading ℕ → ℕ → Result StormScript ℕ
+abbrev pub script_result : Result PartialScript ℕ → ℕ → Result StormScript ℕ
 script_result (Ok r) next = ended_script r.table r.ended r.begun next
 script_result (Err n) next = Err n
 

@@ -12,7 +12,7 @@ ghost use Rattle.stm_console.specs.Blocks.{compiled_block};
 ghost use Rattle.stm_console.specs.Declaring.{initial as initial_of};
 ghost use Rattle.stm_console.specs.Refusals.{is_printed};
 ghost use Rattle.stm_console.specs.ScriptReading.{GivesAs};
-ghost use Rattle.stm_console.specs.StormScript.{submission_of as submission_told, expected_at, expectation_in};
+ghost use Rattle.stm_console.specs.StormScript.{submission_of as submission_told, expected_at, expected_task};
 
 use crate::arguments::number_of;
 use crate::block::compile_block;
@@ -130,7 +130,7 @@ fn expected_value(table: &Table, number: u32, init: &Init) -> Result<Task, LineF
 
 /// What an `expect` expects.
 pub fn expectation(alloc: Global, table: &Table, text: &str) -> Result<Task, LineFault>
-    ensures { GivesAs (λ t. t) result (expectation_in table.now (parsed_expectation text.now)) }
+    ensures { GivesAs (λ t. t) result (expected_task table.now (parsed_expectation text.now)) }
 {
     match parse_expectation(alloc, text) {
         Ok(expectation) => match table.find(expectation.name.as_str()) {

@@ -1,10 +1,10 @@
 use Rattle.std.specs.Io.KnownBytes.{prepend_known}
-use Rattle.stm_console.specs.LineReading.{HasBegun}
+use Rattle.stm_console.specs.LineReading.{HasBegunLine}
 use Rattle.stm_console.proofs.line_reader.LineReader.next_line.Given as goal
 
 abbrev pub invariant-parts : goal.invariant-parts
 invariant-parts g l =
-    HasBegun (prepend_known l.initial.self.chunk (g.R.Read.remaining l.initial.self.calls.reader.now))
+    HasBegunLine (prepend_known l.initial.self.chunk (g.R.Read.remaining l.initial.self.calls.reader.now))
     (prepend_known l.self.chunk (g.R.Read.remaining l.self.calls.reader.now)) l.self.line.items
 
 abbrev pub decreases-parts : goal.decreases-parts
