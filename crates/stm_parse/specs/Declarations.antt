@@ -3,7 +3,7 @@ use Rattle.std.specs.Prelude.{ℕ, List, slice_range, string_bytes}
 use Rattle.stm_terms.specs.declared.kinds.Ty.{Ty}
 use Rattle.stm_terms.specs.declared.values.Value.{Value}
 use Rattle.stm_terms.specs.declared.values.Value.TheVariants as V
-use Rattle.stm_terms.specs.ParsedAst.{RawTerm, int, truth, unit, name, bin, raw_term_of}
+use Rattle.stm_terms.specs.ParsedAst.{text_at, RawTerm, int, truth, unit, name, bin, raw_term_of}
 use Rattle.stm_parse.specs.declared.declaration.Init.{Init}
 use Rattle.stm_parse.specs.declared.declaration.Init.TheVariants as I
 use Rattle.stm_parse.specs.declared.declaration.Declaration.{Declaration}
@@ -36,7 +36,7 @@ abbrev pub init_of : List ℕ → RawTerm → ParsedInit
 init_of text (int n at) = literal (V.Int n)
 init_of text (truth b at) = literal (V.Bool b)
 init_of text (unit at) = literal V.Unit
-init_of text (name from to) = named (slice_range text from to) from
+init_of text (name span) = named (text_at text span) span.start
 init_of text (bin o a b) = literal V.Unit
 
 -- the declaration that a tree stands for in a text
