@@ -1,6 +1,6 @@
 -- The check as it is defined takes no memory.
 use Rattle.std.proofs.Common.{◌≢◌, ℕ, Bool, true, false, List, ◌∷◌, Option, Some, None, Result, Ok, Err, IfErr, refl, subst}
-use Rattle.std.specs.Prelude.{slice_range, nat_le}
+use Rattle.std.specs.Prelude.{nat_le}
 use Rattle.stm_terms.specs.declared.kinds.Ty.{Ty}
 use Rattle.stm_terms.specs.Ast.{Act}
 use Rattle.stm_terms.specs.ParsedAst as raw

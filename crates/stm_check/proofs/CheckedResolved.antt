@@ -1,6 +1,6 @@
 -- What the check accepts is the parsed tree with its names resolved.
 use Rattle.std.proofs.Common.{◌≡◌, ℕ, Bool, true, false, List, [], ◌∷◌, length, Option, Some, None, IfOk, refl, ap, ◌∙◌}
-use Rattle.std.specs.Prelude.{slice_range, option_map, nat_le, if◌then◌else◌}
+use Rattle.std.specs.Prelude.{option_map, nat_le, if◌then◌else◌}
 use Rattle.std.specs.Str.{bytes_eq}
 use Rattle.stm_terms.specs.declared.kinds.Ty.{Ty}
 use Rattle.stm_terms.specs.Ast.{Term, bin, Act, write, if_else, or_else, bind, let_in, seq}

@@ -1,6 +1,6 @@
 -- What a checked block keeps.
 use Rattle.std.proofs.Common.{◌≡◌, ℕ, ◌≤◌, List, [], ◌∷◌, Some, Result, Ok, Err, IfOk, sym, subst, arith}
-use Rattle.std.specs.Prelude.{slice_range, nat_le}
+use Rattle.std.specs.Prelude.{nat_le}
 use Rattle.stm_terms.specs.declared.kinds.Ty.{Ty}
 use Rattle.stm_terms.specs.Ast.{Term, Act, return, read, write, make, retry, throw, if_else, or_else, bind, let_in, seq}
 use Rattle.stm_terms.specs.ParsedAst as raw

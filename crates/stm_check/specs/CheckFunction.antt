@@ -1,5 +1,5 @@
 -- The check of a parsed block: the tree with its names resolved and its type, or the first fault from left to right.
-use Rattle.std.specs.Prelude.{◌≡◌, ℕ, Bool, true, List, ◌∷◌, Option, Some, None, Result, Ok, Err, option_map, slice_range, nat_le, if◌then◌else◌}
+use Rattle.std.specs.Prelude.{◌≡◌, ℕ, Bool, true, List, ◌∷◌, Option, Some, None, Result, Ok, Err, option_map, nat_le, if◌then◌else◌}
 use Rattle.stm_terms.specs.declared.expr.Op.{Op}
 use Rattle.stm_terms.specs.declared.expr.Op.TheVariants.{Mul, Add, Sub, Eq, Lt, Le, And, Or}
 use Rattle.stm_terms.specs.declared.kinds.Ty.{Ty}
