@@ -392,7 +392,7 @@ declaration_reader toks = do
   t ← type_at deepest 0 colon.1
   equals ← expect mark.Equals t.1
   e ← init equals.1
-  Ok (record { from = x.0.start; to = x.0.end; ty = t.0; init = e.0 }, e.1)
+  Ok (record { name = span_of x.0; ty = t.0; init = e.0 }, e.1)
 
 -- nothing may follow
 abbrev pub ended : {A : Type 0} → A → List Lexeme → Result A Fault

@@ -176,14 +176,13 @@ pub data IsInit : List At → RawTerm → Type 0 where
 
 -- a declared name by its span, its type, and what it holds at first, as an operand
 pub record DeclarationTree : Type 0 where
-  pub from : ℕ
-  pub to : ℕ
+  pub name : Span
   pub ty : Ty
   pub init : RawTerm
 
 -- NAME ":" type "=" init
 pub data IsDeclaration : List At → DeclarationTree → Type 0 where
-  is_declaration : {x y : Lexeme} (z : Lexeme) {us vs : List At} {t : Ty} {e : RawTerm} → x.sym ≡ sym.Name → IsMark mark.Colon y → IsType 0 0 us t → IsMark mark.Equals z → IsInit vs e → IsDeclaration (at 0 x ∷ at 0 y ∷ (us ++ (at 0 z ∷ vs))) (record { from = x.start; to = x.end; ty = t; init = e })
+  is_declaration : {x y : Lexeme} (z : Lexeme) {us vs : List At} {t : Ty} {e : RawTerm} → x.sym ≡ sym.Name → IsMark mark.Colon y → IsType 0 0 us t → IsMark mark.Equals z → IsInit vs e → IsDeclaration (at 0 x ∷ at 0 y ∷ (us ++ (at 0 z ∷ vs))) (record { name = span_of x; ty = t; init = e })
 
 -- the greatest depth
 abbrev pub deepest : ℕ
