@@ -1,6 +1,6 @@
 -- A parsed tree that resolves to a well typed tree is accepted.
 use Rattle.std.proofs.Common.{◌≡◌, ℕ, Bool, true, false, ◌&&◌, List, ◌∷◌, Option, Some, None, Result, Ok, refl, ap, ap₂, ◌∙◌, sym, subst}
-use Rattle.std.specs.Prelude.{slice_get, slice_range, option_map, nat_le}
+use Rattle.std.specs.Prelude.{slice_get, option_map, nat_le}
 use Rattle.stm_terms.specs.declared.kinds.Ty.{Ty}
 use Rattle.stm_terms.specs.declared.values.Value.{Value}
 use Rattle.stm_terms.specs.declared.values.Value.TheVariants as value
@@ -95,7 +95,7 @@ module _ (table : List Declared) (text : List ℕ) where
   expr_accepted (raw.int n at) ls x t h p = literal_checked ls (value.Int n) int_ty x t refl h p
   expr_accepted (raw.truth b at) ls x t h p = literal_checked ls (value.Bool b) bool_ty x t refl h p
   expr_accepted (raw.unit at) ls x t h p = literal_checked ls value.Unit unit_ty x t refl h p
-  expr_accepted (raw.name from to) ls x t h p = name_checked from ls (slice_range text from to) x t h p
+  expr_accepted (raw.name span) ls x t h p = name_checked span.start ls (raw.text_at text span) x t h p
   expr_accepted (raw.bin op a b) ls (bin or x y) t h p =
       let l = with_type_some (expr_type (table_kinds table) (types_of ls) x) _ t p in
       let m = with_type_some (expr_type (table_kinds table) (types_of ls) y) _ t l.2 in
@@ -159,16 +159,16 @@ module _ (table : List Declared) (text : List ℕ) where
       ok_is (checked table text ls a) _ (y, s.0) (or_else y z, r) (act_accepted a ls y s.0 h.0 s.1)
       (ok_is (checked table text ls b) _ (z, u.0) (or_else y z, r) (act_accepted b ls z u.0 h.1 u.1)
       (some_is (join_types s.0 u.0) _ _ r (or_else y z, r) u.2 refl))
-  act_accepted (raw.bind from to at a b) ls (bind y z) r h p =
+  act_accepted (raw.bind span at a b) ls (bind y z) r h p =
       let s = with_result_some (action_type (table_kinds table) (types_of ls) y) _ r p in
       let t = with_bound_some s.0 _ r s.2 in
-      let inner : Locals = (slice_range text from to, t.0) ∷ ls in
+      let inner : Locals = (raw.text_at text span, t.0) ∷ ls in
       ok_is (checked table text ls a) _ (y, s.0) (bind y z, r) (act_accepted a ls y s.0 h.0 s.1)
       (type_is s.0 _ _ t.0 (bind y z, r) t.1
       (ok_is (checked table text inner b) _ (z, r) (bind y z, r) (act_accepted b inner z r h.1 t.2) refl))
-  act_accepted (raw.let_in from to e b) ls (let_in x z) r h p =
+  act_accepted (raw.let_in span e b) ls (let_in x z) r h p =
       let t = with_type_some (expr_type (table_kinds table) (types_of ls) x) _ r p in
-      let inner : Locals = (slice_range text from to, t.0) ∷ ls in
+      let inner : Locals = (raw.text_at text span, t.0) ∷ ls in
       ok_is (checked_expr table text ls e) _ (x, t.0) (let_in x z, r) (expr_accepted e ls x t.0 h.0 t.1)
       (ok_is (checked table text inner b) _ (z, r) (let_in x z, r) (act_accepted b inner z r h.1 t.2) refl)
   act_accepted (raw.seq a b) ls (seq y z) r h p =

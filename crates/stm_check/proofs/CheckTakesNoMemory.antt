@@ -1,6 +1,6 @@
 -- The check as it is defined takes no memory.
 use Rattle.std.proofs.Common.{◌≢◌, ℕ, Bool, true, false, List, ◌∷◌, Option, Some, None, Result, Ok, Err, IfErr, refl, subst}
-use Rattle.std.specs.Prelude.{slice_range, nat_le}
+use Rattle.std.specs.Prelude.{nat_le}
 use Rattle.stm_terms.specs.declared.kinds.Ty.{Ty}
 use Rattle.stm_terms.specs.Ast.{Act}
 use Rattle.stm_terms.specs.ParsedAst as raw
@@ -56,8 +56,8 @@ module _ (table : List Declared) (text : List ℕ) where
   expr_told (raw.int n at) ls = tt
   expr_told (raw.truth b at) ls = tt
   expr_told (raw.unit at) ls = tt
-  expr_told (raw.name from to) ls =
-      name_told from (innermost (slice_range text from to) ls) (variable table (slice_range text from to))
+  expr_told (raw.name span) ls =
+      name_told span.start (innermost (raw.text_at text span) ls) (variable table (raw.text_at text span))
   expr_told (raw.bin op a b) ls =
       ok_told (checked_expr table text ls a) _ (expr_told a ls) (λ x. unless_told (as_wanted (wanted op) x.1) (Mismatch (raw.place a)) _ (mismatch (raw.place a))
       (ok_told (checked_expr table text ls b) _ (expr_told b ls) (λ y. unless_told (same_ty y.1 (wanted_right (wanted op) x.1)) (Mismatch (raw.place b)) _ (mismatch (raw.place b)) tt)))
@@ -87,12 +87,12 @@ module _ (table : List Declared) (text : List ℕ) where
   told (raw.or_else a at b) ls =
       ok_told (checked table text ls a) _ (told a ls) (λ y. ok_told (checked table text ls b) _ (told b ls) (λ z.
       some_told (join_types y.1 z.1) (Mismatch at) _ (mismatch at) (λ r. tt)))
-  told (raw.bind from to at a b) ls =
+  told (raw.bind span at a b) ls =
       ok_told (checked table text ls a) _ (told a ls) (λ x. type_told x.1 (Untyped at) _ (untyped at) (λ t.
-      ok_told (checked table text ((slice_range text from to, t) ∷ ls) b) _ (told b ((slice_range text from to, t) ∷ ls)) (λ y. tt)))
-  told (raw.let_in from to e b) ls =
+      ok_told (checked table text ((raw.text_at text span, t) ∷ ls) b) _ (told b ((raw.text_at text span, t) ∷ ls)) (λ y. tt)))
+  told (raw.let_in span e b) ls =
       ok_told (checked_expr table text ls e) _ (expr_told e ls) (λ x.
-      ok_told (checked table text ((slice_range text from to, x.1) ∷ ls) b) _ (told b ((slice_range text from to, x.1) ∷ ls)) (λ y. tt))
+      ok_told (checked table text ((raw.text_at text span, x.1) ∷ ls) b) _ (told b ((raw.text_at text span, x.1) ∷ ls)) (λ y. tt))
   told (raw.seq a b) ls =
       ok_told (checked table text ls a) _ (told a ls) (λ x. ok_told (checked table text ls b) _ (told b ls) (λ y. tt))
 

@@ -1,6 +1,6 @@
 -- What the check accepts is the parsed tree with its names resolved.
 use Rattle.std.proofs.Common.{◌≡◌, ℕ, Bool, true, false, List, [], ◌∷◌, length, Option, Some, None, IfOk, refl, ap, ◌∙◌}
-use Rattle.std.specs.Prelude.{slice_range, option_map, nat_le, if◌then◌else◌}
+use Rattle.std.specs.Prelude.{option_map, nat_le, if◌then◌else◌}
 use Rattle.std.specs.Str.{bytes_eq}
 use Rattle.stm_terms.specs.declared.kinds.Ty.{Ty}
 use Rattle.stm_terms.specs.Ast.{Term, bin, Act, write, if_else, or_else, bind, let_in, seq}
@@ -54,8 +54,8 @@ module _ (table : List Declared) (text : List ℕ) where
   expr_named (raw.int n at) ls = refl
   expr_named (raw.truth b at) ls = refl
   expr_named (raw.unit at) ls = refl
-  expr_named (raw.name from to) ls =
-      name_named from ls (slice_range text from to) (innermost (slice_range text from to) ls) refl
+  expr_named (raw.name span) ls =
+      name_named span.start ls (raw.text_at text span) (innermost (raw.text_at text span) ls) refl
   expr_named (raw.bin op a b) ls =
       let P = NamedExpr (names_of ls) (raw.bin op a b) in
       ok_then _ _ (NamedExpr (names_of ls) a) P (expr_named a ls) (λ x p. unless_then (as_wanted (wanted op) x.1) _ _ P (λ f.
@@ -87,14 +87,14 @@ module _ (table : List Declared) (text : List ℕ) where
       let P = NamedAct (names_of ls) (raw.or_else a at b) in
       ok_then _ _ (NamedAct (names_of ls) a) P (act_named a ls) (λ y q. ok_then _ _ (NamedAct (names_of ls) b) P (act_named b ls) (λ z r.
       some_then (join_types y.1 z.1) _ _ P (λ w j. let d : NamedAct (names_of ls) (raw.or_else a at b) (or_else y.0 z.0, w) = (q, r) in d)))
-  act_named (raw.bind from to at a b) ls =
-      let P = NamedAct (names_of ls) (raw.bind from to at a b) in
+  act_named (raw.bind span at a b) ls =
+      let P = NamedAct (names_of ls) (raw.bind span at a b) in
       ok_then _ _ (NamedAct (names_of ls) a) P (act_named a ls) (λ x p. type_then x.1 _ _ P (λ t g.
-      ok_then _ _ (NamedAct (slice_range text from to ∷ names_of ls) b) P (act_named b ((slice_range text from to, t) ∷ ls)) (λ y q. let d : NamedAct (names_of ls) (raw.bind from to at a b) (bind x.0 y.0, y.1) = (p, q) in d)))
-  act_named (raw.let_in from to e b) ls =
-      let P = NamedAct (names_of ls) (raw.let_in from to e b) in
+      ok_then _ _ (NamedAct (raw.text_at text span ∷ names_of ls) b) P (act_named b ((raw.text_at text span, t) ∷ ls)) (λ y q. let d : NamedAct (names_of ls) (raw.bind span at a b) (bind x.0 y.0, y.1) = (p, q) in d)))
+  act_named (raw.let_in span e b) ls =
+      let P = NamedAct (names_of ls) (raw.let_in span e b) in
       ok_then _ _ (NamedExpr (names_of ls) e) P (expr_named e ls) (λ x p.
-      ok_then _ _ (NamedAct (slice_range text from to ∷ names_of ls) b) P (act_named b ((slice_range text from to, x.1) ∷ ls)) (λ y q. let d : NamedAct (names_of ls) (raw.let_in from to e b) (let_in x.0 y.0, y.1) = (p, q) in d))
+      ok_then _ _ (NamedAct (raw.text_at text span ∷ names_of ls) b) P (act_named b ((raw.text_at text span, x.1) ∷ ls)) (λ y q. let d : NamedAct (names_of ls) (raw.let_in span e b) (let_in x.0 y.0, y.1) = (p, q) in d))
   act_named (raw.seq a b) ls =
       let P = NamedAct (names_of ls) (raw.seq a b) in
       ok_then _ _ (NamedAct (names_of ls) a) P (act_named a ls) (λ x p. ok_then _ _ (NamedAct (names_of ls) b) P (act_named b ls) (λ y q. let d : NamedAct (names_of ls) (raw.seq a b) (seq x.0 y.0, y.1) = (p, q) in d))

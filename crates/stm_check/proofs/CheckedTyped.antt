@@ -1,6 +1,6 @@
 -- What the check accepts is well typed.
 use Rattle.std.proofs.Common.{◌≡◌, ℕ, suc, zero, Bool, true, false, ◌&&◌, List, [], ◌∷◌, ◌++◌, length, Option, Some, None, Result, Ok, Err, IfOk, refl, ap, ◌∙◌, sym, subst}
-use Rattle.std.specs.Prelude.{slice_get, slice_range, option_map, nat_le, if◌then◌else◌}
+use Rattle.std.specs.Prelude.{slice_get, option_map, nat_le, if◌then◌else◌}
 use Rattle.std.specs.Str.{bytes_eq}
 use Rattle.stm_terms.specs.declared.kinds.Ty.{Ty}
 use Rattle.stm_terms.specs.declared.expr.Op.{Op}
@@ -134,8 +134,8 @@ module _ (table : List Declared) (text : List ℕ) where
   expr_typed (raw.int n at) ls = refl
   expr_typed (raw.truth b at) ls = refl
   expr_typed (raw.unit at) ls = refl
-  expr_typed (raw.name from to) ls =
-      name_typed from ls (slice_range text from to) (innermost (slice_range text from to) ls) refl
+  expr_typed (raw.name span) ls =
+      name_typed span.start ls (raw.text_at text span) (innermost (raw.text_at text span) ls) refl
   expr_typed (raw.bin op a b) ls =
       ok_then _ _ (TypedExpr ls) (TypedExpr ls) (expr_typed a ls) (λ x p. unless_then _ _ _ (TypedExpr ls) (λ f.
       ok_then _ _ (TypedExpr ls) (TypedExpr ls) (expr_typed b ls) (λ y q. unless_then _ _ _ (TypedExpr ls) (λ g.
@@ -163,11 +163,11 @@ module _ (table : List Declared) (text : List ℕ) where
       let d : TypedAct ls (if_else x.0 y.0 z.0, w) = rw (p, s, q, r) j in d)))))
   typed (raw.or_else a at b) ls =
       ok_then _ _ (TypedAct ls) (TypedAct ls) (typed a ls) (λ y q. ok_then _ _ (TypedAct ls) (TypedAct ls) (typed b ls) (λ z r. some_then (join_types y.1 z.1) _ _ (TypedAct ls) (λ w j. let d : TypedAct ls (or_else y.0 z.0, w) = rw (q, r) j in d)))
-  typed (raw.bind from to at a b) ls =
+  typed (raw.bind span at a b) ls =
       ok_then _ _ (TypedAct ls) (TypedAct ls) (typed a ls) (λ x p. type_then x.1 _ _ (TypedAct ls) (λ t g.
-      ok_then _ _ (TypedAct ((slice_range text from to, t) ∷ ls)) (TypedAct ls) (typed b ((slice_range text from to, t) ∷ ls)) (λ y q. let d : TypedAct ls (bind x.0 y.0, y.1) = rw (p, g) q in d)))
-  typed (raw.let_in from to e b) ls =
+      ok_then _ _ (TypedAct ((raw.text_at text span, t) ∷ ls)) (TypedAct ls) (typed b ((raw.text_at text span, t) ∷ ls)) (λ y q. let d : TypedAct ls (bind x.0 y.0, y.1) = rw (p, g) q in d)))
+  typed (raw.let_in span e b) ls =
       ok_then _ _ (TypedExpr ls) (TypedAct ls) (expr_typed e ls) (λ x p.
-      ok_then _ _ (TypedAct ((slice_range text from to, x.1) ∷ ls)) (TypedAct ls) (typed b ((slice_range text from to, x.1) ∷ ls)) (λ y q. let d : TypedAct ls (let_in x.0 y.0, y.1) = rw p q in d))
+      ok_then _ _ (TypedAct ((raw.text_at text span, x.1) ∷ ls)) (TypedAct ls) (typed b ((raw.text_at text span, x.1) ∷ ls)) (λ y q. let d : TypedAct ls (let_in x.0 y.0, y.1) = rw p q in d))
   typed (raw.seq a b) ls =
       ok_then _ _ (TypedAct ls) (TypedAct ls) (typed a ls) (λ x p. ok_then _ _ (TypedAct ls) (TypedAct ls) (typed b ls) (λ y q. let d : TypedAct ls (seq x.0 y.0, y.1) = rw (p, q) refl in d))

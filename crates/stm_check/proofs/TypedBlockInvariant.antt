@@ -1,6 +1,6 @@
 -- What a checked block keeps.
 use Rattle.std.proofs.Common.{◌≡◌, ℕ, ◌≤◌, List, [], ◌∷◌, Some, Result, Ok, Err, IfOk, sym, subst, arith}
-use Rattle.std.specs.Prelude.{slice_range, nat_le}
+use Rattle.std.specs.Prelude.{nat_le}
 use Rattle.stm_terms.specs.declared.kinds.Ty.{Ty}
 use Rattle.stm_terms.specs.Ast.{Term, Act, return, read, write, make, retry, throw, if_else, or_else, bind, let_in, seq}
 use Rattle.stm_terms.specs.ParsedAst as raw
@@ -55,15 +55,15 @@ module _ (table : List Declared) (text : List ℕ) where
       ok_then _ _ (SmallAct b) (SmallAct (raw.or_else a at b)) (small b ls) (λ z r.
       some_then (join_types y.1 z.1) _ _ (SmallAct (raw.or_else a at b)) (λ w j.
       let d : SmallAct (raw.or_else a at b) (or_else y.0 z.0, w) = omega arith in d)))
-  small (raw.bind from to at a b) ls =
-      ok_then _ _ (SmallAct a) (SmallAct (raw.bind from to at a b)) (small a ls) (λ y q.
-      type_then y.1 _ _ (SmallAct (raw.bind from to at a b)) (λ t g.
-      ok_then _ _ (SmallAct b) (SmallAct (raw.bind from to at a b)) (small b ((slice_range text from to, t) ∷ ls)) (λ z r.
-      let d : SmallAct (raw.bind from to at a b) (bind y.0 z.0, z.1) = omega arith in d)))
-  small (raw.let_in from to e b) ls =
-      ok_then _ _ Anything (SmallAct (raw.let_in from to e b)) (any_expr (checked_expr table text ls e)) (λ x p.
-      ok_then _ _ (SmallAct b) (SmallAct (raw.let_in from to e b)) (small b ((slice_range text from to, x.1) ∷ ls)) (λ z r.
-      let d : SmallAct (raw.let_in from to e b) (let_in x.0 z.0, z.1) = omega arith in d))
+  small (raw.bind span at a b) ls =
+      ok_then _ _ (SmallAct a) (SmallAct (raw.bind span at a b)) (small a ls) (λ y q.
+      type_then y.1 _ _ (SmallAct (raw.bind span at a b)) (λ t g.
+      ok_then _ _ (SmallAct b) (SmallAct (raw.bind span at a b)) (small b ((raw.text_at text span, t) ∷ ls)) (λ z r.
+      let d : SmallAct (raw.bind span at a b) (bind y.0 z.0, z.1) = omega arith in d)))
+  small (raw.let_in span e b) ls =
+      ok_then _ _ Anything (SmallAct (raw.let_in span e b)) (any_expr (checked_expr table text ls e)) (λ x p.
+      ok_then _ _ (SmallAct b) (SmallAct (raw.let_in span e b)) (small b ((raw.text_at text span, x.1) ∷ ls)) (λ z r.
+      let d : SmallAct (raw.let_in span e b) (let_in x.0 z.0, z.1) = omega arith in d))
   small (raw.seq a b) ls =
       ok_then _ _ (SmallAct a) (SmallAct (raw.seq a b)) (small a ls) (λ y q.
       ok_then _ _ (SmallAct b) (SmallAct (raw.seq a b)) (small b ls) (λ z r.

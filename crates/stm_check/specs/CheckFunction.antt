@@ -1,5 +1,5 @@
 -- The check of a parsed block: the tree with its names resolved and its type, or the first fault from left to right.
-use Rattle.std.specs.Prelude.{◌≡◌, ℕ, Bool, true, List, ◌∷◌, Option, Some, None, Result, Ok, Err, option_map, slice_range, nat_le, if◌then◌else◌}
+use Rattle.std.specs.Prelude.{◌≡◌, ℕ, Bool, true, List, ◌∷◌, Option, Some, None, Result, Ok, Err, option_map, nat_le, if◌then◌else◌}
 use Rattle.stm_terms.specs.declared.expr.Op.{Op}
 use Rattle.stm_terms.specs.declared.expr.Op.TheVariants.{Mul, Add, Sub, Eq, Lt, Le, And, Or}
 use Rattle.stm_terms.specs.declared.kinds.Ty.{Ty}
@@ -91,8 +91,8 @@ module _ (table : List Declared) (text : List ℕ) where
   checked_expr ls (raw.int n at) = Ok (lit (value.Int n), int_ty)
   checked_expr ls (raw.truth b at) = Ok (lit (value.Bool b), bool_ty)
   checked_expr ls (raw.unit at) = Ok (lit value.Unit, unit_ty)
-  checked_expr ls (raw.name from to) =
-      resolved from (innermost (slice_range text from to) ls) (variable table (slice_range text from to))
+  checked_expr ls (raw.name span) =
+      resolved span.start (innermost (raw.text_at text span) ls) (variable table (raw.text_at text span))
   checked_expr ls (raw.bin op a b) =
       on_ok (checked_expr ls a) (λ x. unless (as_wanted (wanted op) x.1) (Mismatch (raw.place a))
       (on_ok (checked_expr ls b) (λ y. unless (same_ty y.1 (wanted_right (wanted op) x.1)) (Mismatch (raw.place b))
@@ -119,11 +119,11 @@ module _ (table : List Declared) (text : List ℕ) where
   checked ls (raw.or_else a at b) =
       on_ok (checked ls a) (λ y. on_ok (checked ls b) (λ z. on_some (join_types y.1 z.1) (Mismatch at)
       (λ r. Ok (or_else y.0 z.0, r))))
-  checked ls (raw.bind from to at a b) =
+  checked ls (raw.bind span at a b) =
       on_ok (checked ls a) (λ x. on_type x.1 (Untyped at)
-      (λ t. on_ok (checked ((slice_range text from to, t) ∷ ls) b) (λ y. Ok (bind x.0 y.0, y.1))))
-  checked ls (raw.let_in from to e b) =
-      on_ok (checked_expr ls e) (λ x. on_ok (checked ((slice_range text from to, x.1) ∷ ls) b) (λ y. Ok (let_in x.0 y.0, y.1)))
+      (λ t. on_ok (checked ((raw.text_at text span, t) ∷ ls) b) (λ y. Ok (bind x.0 y.0, y.1))))
+  checked ls (raw.let_in span e b) =
+      on_ok (checked_expr ls e) (λ x. on_ok (checked ((raw.text_at text span, x.1) ∷ ls) b) (λ y. Ok (let_in x.0 y.0, y.1)))
   checked ls (raw.seq a b) = on_ok (checked ls a) (λ x. on_ok (checked ls b) (λ y. Ok (seq x.0 y.0, y.1)))
 
 -- the result of the code is this one, unless memory ran out

@@ -1,6 +1,6 @@
 -- The block that a parsed block stands for: the same tree, with each name the number of a local or of a declared variable.
 -- Types play no part in it.
-use Rattle.std.specs.Prelude.{◌≡◌, ℕ, List, [], ◌∷◌, length, Option, Some, None, slice_range, if◌then◌else◌}
+use Rattle.std.specs.Prelude.{◌≡◌, ℕ, List, [], ◌∷◌, length, Option, Some, None, if◌then◌else◌}
 use Rattle.std.specs.Str.{bytes_eq}
 use Rattle.stm_terms.specs.declared.values.Value.TheVariants as value
 use Rattle.stm_terms.specs.Ast.{Term, lit, local, global, bin, Act, return, read, write, make, retry, throw, if_else, or_else, bind, let_in, seq}
@@ -23,7 +23,7 @@ module _ (table : List Declared) (text : List ℕ) where
   IsTerm ns (raw.int n at) x = x ≡ lit (value.Int n)
   IsTerm ns (raw.truth b at) x = x ≡ lit (value.Bool b)
   IsTerm ns (raw.unit at) x = x ≡ lit value.Unit
-  IsTerm ns (raw.name from to) x = IsNamed ns (slice_range text from to) x
+  IsTerm ns (raw.name span) x = IsNamed ns (raw.text_at text span) x
   IsTerm ns (raw.bin op a b) (bin or x y) = (op ≡ or) × IsTerm ns a x × IsTerm ns b y
   IsTerm ns (raw.bin op a b) x = ⊥
 
@@ -37,7 +37,7 @@ module _ (table : List Declared) (text : List ℕ) where
   IsAct ns (raw.throw e) (throw x) = IsTerm ns e x
   IsAct ns (raw.if_else e a at b) (if_else x y z) = IsTerm ns e x × IsAct ns a y × IsAct ns b z
   IsAct ns (raw.or_else a at b) (or_else y z) = IsAct ns a y × IsAct ns b z
-  IsAct ns (raw.bind from to at a b) (bind y z) = IsAct ns a y × IsAct (slice_range text from to ∷ ns) b z
-  IsAct ns (raw.let_in from to e b) (let_in x z) = IsTerm ns e x × IsAct (slice_range text from to ∷ ns) b z
+  IsAct ns (raw.bind span at a b) (bind y z) = IsAct ns a y × IsAct (raw.text_at text span ∷ ns) b z
+  IsAct ns (raw.let_in span e b) (let_in x z) = IsTerm ns e x × IsAct (raw.text_at text span ∷ ns) b z
   IsAct ns (raw.seq a b) (seq y z) = IsAct ns a y × IsAct ns b z
   IsAct ns w a = ⊥

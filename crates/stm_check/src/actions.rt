@@ -142,9 +142,9 @@ impl Checker<'_> {
         rest: &RawAction,
     ) -> Checked
         requires { CanCheck self.now
-            (raw.bind name.start name.end at (raw_act_of bound.now) (raw_act_of rest.now)) }
+            (raw.bind name at (raw_act_of bound.now) (raw_act_of rest.now)) }
         ensures { ChecksAction self.now
-            (raw.bind name.start name.end at (raw_act_of bound.now) (raw_act_of rest.now))
+            (raw.bind name at (raw_act_of bound.now) (raw_act_of rest.now))
             act_of result uses.old.items uses.new.items }
     {
         let (a, kind) = self.check_part(uses, bound)?;
@@ -171,9 +171,9 @@ impl Checker<'_> {
         rest: &RawAction,
     ) -> Checked
         requires { CanCheck self.now
-            (raw.let_in name.start name.end (raw_term_of value.now) (raw_act_of rest.now)) }
+            (raw.let_in name (raw_term_of value.now) (raw_act_of rest.now)) }
         ensures { ChecksAction self.now
-            (raw.let_in name.start name.end (raw_term_of value.now) (raw_act_of rest.now))
+            (raw.let_in name (raw_term_of value.now) (raw_act_of rest.now))
             act_of result uses.old.items uses.new.items }
     {
         let (a, kind) = self.check_expr(uses, value)?;

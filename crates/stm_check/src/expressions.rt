@@ -1,6 +1,6 @@
 //! The check of expressions.
 
-ghost use Rattle.std.specs.Prelude.{◌≡◌, ◌≤◌, IfOk, length, slice_range};
+ghost use Rattle.std.specs.Prelude.{◌≡◌, ◌≤◌, IfOk, length};
 ghost use Rattle.std.specs.Str.{IsAscii};
 ghost use Rattle.stm_terms.specs.Ast.{term_of};
 ghost use Rattle.stm_terms.specs.ParsedAst as raw;
@@ -34,7 +34,7 @@ pub(crate) fn place(raw: &RawExpr) -> usize
 pub(crate) fn name_at(text: &str, name: Span) -> &str
     requires ascii { IsAscii text.now }
     requires within { IsSpan (length text.now) name.start name.end }
-    ensures { result.now ≡ slice_range text.now name.start name.end }
+    ensures { result.now ≡ raw.text_at text.now name }
 {
     &text[name.start..name.end]
 }
@@ -42,8 +42,8 @@ pub(crate) fn name_at(text: &str, name: Span) -> &str
 impl Checker<'_> {
     /// A name: the innermost local, else a declared variable, which is noted.
     fn check_name(&self, uses: &mut Vec<(u32, Ty)>, name: Span) -> Result<(Expr, Ty), TypeFault>
-        requires { CanLookUp self.now (raw.name name.start name.end) }
-        ensures { ChecksExpr self.now (raw.name name.start name.end)
+        requires { CanLookUp self.now (raw.name name) }
+        ensures { ChecksExpr self.now (raw.name name)
             term_of result uses.old.items uses.new.items }
     {
         let text = name_at(self.text, name);

@@ -1,11 +1,12 @@
 -- The reader of the statements of a do is good, over good readers of actions and expressions.
 use Rattle.std.proofs.Common.{◌≡◌, ℕ, zero, suc, ◌+◌, ◌<◌, ◌≤◌, List, [], ◌∷◌, ◌++◌, length, append-nil, refl, sym, ap, ◌∙◌, subst, arith, Option, Some, None, Ok, Bool, true, false, cond}
+use Rattle.stm_terms.specs.declared.raw.Span.{Span}
 use Rattle.stm_terms.specs.ParsedAst.{RawTerm, RawAct, bind, let_in, seq}
 use Rattle.stm_parse.specs.declared.token.Mark.{Mark}
 use Rattle.stm_parse.specs.declared.token.Mark.TheVariants as mark
 use Rattle.stm_parse.specs.declared.token.Lexeme.{Lexeme}
 use Rattle.stm_parse.specs.Terminals.{is_mark, IsMark}
-use Rattle.stm_parse.specs.Grammar.{At, at, erase, deepest, widest, Placed, IsExpression, IsAction, IsBody, is_do, is_if, is_or_else, is_return, is_read, is_write, is_make, is_throw, is_retry, is_brackets, is_paren, is_bind, is_let, is_seq, is_last}
+use Rattle.stm_parse.specs.Grammar.{span_of, At, at, erase, deepest, widest, Placed, IsExpression, IsAction, IsBody, is_do, is_if, is_or_else, is_return, is_read, is_write, is_make, is_throw, is_retry, is_brackets, is_paren, is_bind, is_let, is_seq, is_last}
 use Rattle.stm_parse.specs.Faults.{Language}
 use Rattle.stm_parse.specs.Descent.{Reader, ◌>>=◌, accept, expect, expect_name, is_name_kind, bound, let_bound, after_action, sequence, body_turn, bodies, body_from}
 use Rattle.stm_parse.proofs.ReaderPromises.{Says, Some_text, Then, then_, Mapped, mapped, says_more, says_map, says_end, says_stop, says_token, says_same_first}
@@ -72,22 +73,22 @@ module _ (expression : Reader RawTerm) (action : Reader Placed) (d : ℕ) (low :
   name_shorter : (toks : List Lexeme) (x : Lexeme × List Lexeme) → expect_name toks ≡ Ok x → length x.1 ≤ length toks
   name_shorter = shorter expect_name (Token d IsName) Any (good_name d low)
 
-  bound_same : (f g : Reader RawAct) (from to : ℕ) (toks : List Lexeme) → Agree (suc (length toks)) f g → bound action f from to toks ≡ bound action g from to toks
+  bound_same : (f g : Reader RawAct) (span : Span) (toks : List Lexeme) → Agree (suc (length toks)) f g → bound action f span toks ≡ bound action g span toks
   unfolding Agree
-  bound_same f g from to toks e =
-      under (λ x. action x.1 >>= λ a. expect mark.Semicolon a.1 >>= λ s. f s.1 >>= λ b. Ok (bind from to a.0.1 a.0.0 b.0, b.1)) (λ x. action x.1 >>= λ a. expect mark.Semicolon a.1 >>= λ s. g s.1 >>= λ b. Ok (bind from to a.0.1 a.0.0 b.0, b.1)) (expect mark.Arrow toks) (λ x p. let l1 = expect_shorter mark.Arrow toks x p in
-      under (λ a. expect mark.Semicolon a.1 >>= λ s. f s.1 >>= λ b. Ok (bind from to a.0.1 a.0.0 b.0, b.1)) (λ a. expect mark.Semicolon a.1 >>= λ s. g s.1 >>= λ b. Ok (bind from to a.0.1 a.0.0 b.0, b.1)) (action x.1) (λ a q. let l2 = action_shorter x.1 a q in
-      under (λ s. f s.1 >>= λ b. Ok (bind from to a.0.1 a.0.0 b.0, b.1)) (λ s. g s.1 >>= λ b. Ok (bind from to a.0.1 a.0.0 b.0, b.1)) (expect mark.Semicolon a.1) (λ s r. let l3 = expect_shorter mark.Semicolon a.1 s r in
-      ap (λ y. y >>= λ b. Ok (bind from to a.0.1 a.0.0 b.0, b.1)) (e s.1 (omega arith)))))
+  bound_same f g span toks e =
+      under (λ x. action x.1 >>= λ a. expect mark.Semicolon a.1 >>= λ s. f s.1 >>= λ b. Ok (bind span a.0.1 a.0.0 b.0, b.1)) (λ x. action x.1 >>= λ a. expect mark.Semicolon a.1 >>= λ s. g s.1 >>= λ b. Ok (bind span a.0.1 a.0.0 b.0, b.1)) (expect mark.Arrow toks) (λ x p. let l1 = expect_shorter mark.Arrow toks x p in
+      under (λ a. expect mark.Semicolon a.1 >>= λ s. f s.1 >>= λ b. Ok (bind span a.0.1 a.0.0 b.0, b.1)) (λ a. expect mark.Semicolon a.1 >>= λ s. g s.1 >>= λ b. Ok (bind span a.0.1 a.0.0 b.0, b.1)) (action x.1) (λ a q. let l2 = action_shorter x.1 a q in
+      under (λ s. f s.1 >>= λ b. Ok (bind span a.0.1 a.0.0 b.0, b.1)) (λ s. g s.1 >>= λ b. Ok (bind span a.0.1 a.0.0 b.0, b.1)) (expect mark.Semicolon a.1) (λ s r. let l3 = expect_shorter mark.Semicolon a.1 s r in
+      ap (λ y. y >>= λ b. Ok (bind span a.0.1 a.0.0 b.0, b.1)) (e s.1 (omega arith)))))
 
   let_same : (f g : Reader RawAct) (toks : List Lexeme) → Agree (suc (length toks)) f g → let_bound expression f toks ≡ let_bound expression g toks
   unfolding Agree
   let_same f g toks h =
-      under (λ x. expect mark.Equals x.1 >>= λ z. expression z.1 >>= λ e. expect mark.Semicolon e.1 >>= λ s. f s.1 >>= λ b. Ok (let_in x.0.start x.0.end e.0 b.0, b.1)) (λ x. expect mark.Equals x.1 >>= λ z. expression z.1 >>= λ e. expect mark.Semicolon e.1 >>= λ s. g s.1 >>= λ b. Ok (let_in x.0.start x.0.end e.0 b.0, b.1)) (expect_name toks) (λ x p. let l0 = name_shorter toks x p in
-      under (λ z. expression z.1 >>= λ e. expect mark.Semicolon e.1 >>= λ s. f s.1 >>= λ b. Ok (let_in x.0.start x.0.end e.0 b.0, b.1)) (λ z. expression z.1 >>= λ e. expect mark.Semicolon e.1 >>= λ s. g s.1 >>= λ b. Ok (let_in x.0.start x.0.end e.0 b.0, b.1)) (expect mark.Equals x.1) (λ z p. let l1 = expect_shorter mark.Equals x.1 z p in
-      under (λ e. expect mark.Semicolon e.1 >>= λ s. f s.1 >>= λ b. Ok (let_in x.0.start x.0.end e.0 b.0, b.1)) (λ e. expect mark.Semicolon e.1 >>= λ s. g s.1 >>= λ b. Ok (let_in x.0.start x.0.end e.0 b.0, b.1)) (expression z.1) (λ e q. let l2 = expression_shorter z.1 e q in
-      under (λ s. f s.1 >>= λ b. Ok (let_in x.0.start x.0.end e.0 b.0, b.1)) (λ s. g s.1 >>= λ b. Ok (let_in x.0.start x.0.end e.0 b.0, b.1)) (expect mark.Semicolon e.1) (λ s r. let l3 = expect_shorter mark.Semicolon e.1 s r in
-      ap (λ y. y >>= λ b. Ok (let_in x.0.start x.0.end e.0 b.0, b.1)) (h s.1 (omega arith))))))
+      under (λ x. expect mark.Equals x.1 >>= λ z. expression z.1 >>= λ e. expect mark.Semicolon e.1 >>= λ s. f s.1 >>= λ b. Ok (let_in (span_of x.0) e.0 b.0, b.1)) (λ x. expect mark.Equals x.1 >>= λ z. expression z.1 >>= λ e. expect mark.Semicolon e.1 >>= λ s. g s.1 >>= λ b. Ok (let_in (span_of x.0) e.0 b.0, b.1)) (expect_name toks) (λ x p. let l0 = name_shorter toks x p in
+      under (λ z. expression z.1 >>= λ e. expect mark.Semicolon e.1 >>= λ s. f s.1 >>= λ b. Ok (let_in (span_of x.0) e.0 b.0, b.1)) (λ z. expression z.1 >>= λ e. expect mark.Semicolon e.1 >>= λ s. g s.1 >>= λ b. Ok (let_in (span_of x.0) e.0 b.0, b.1)) (expect mark.Equals x.1) (λ z p. let l1 = expect_shorter mark.Equals x.1 z p in
+      under (λ e. expect mark.Semicolon e.1 >>= λ s. f s.1 >>= λ b. Ok (let_in (span_of x.0) e.0 b.0, b.1)) (λ e. expect mark.Semicolon e.1 >>= λ s. g s.1 >>= λ b. Ok (let_in (span_of x.0) e.0 b.0, b.1)) (expression z.1) (λ e q. let l2 = expression_shorter z.1 e q in
+      under (λ s. f s.1 >>= λ b. Ok (let_in (span_of x.0) e.0 b.0, b.1)) (λ s. g s.1 >>= λ b. Ok (let_in (span_of x.0) e.0 b.0, b.1)) (expect mark.Semicolon e.1) (λ s r. let l3 = expect_shorter mark.Semicolon e.1 s r in
+      ap (λ y. y >>= λ b. Ok (let_in (span_of x.0) e.0 b.0, b.1)) (h s.1 (omega arith))))))
 
   after_same : (f g : Reader RawAct) (a : RawAct) (toks : List Lexeme) (n : ℕ) → length toks ≤ n → Agree n f g → (o : Option (List Lexeme)) → accept mark.Semicolon toks ≡ o → after_action f a toks o ≡ after_action g a toks o
   unfolding Agree
@@ -102,8 +103,8 @@ module _ (expression : Reader RawTerm) (action : Reader Placed) (d : ℕ) (low :
   turn_same f g [] e = refl
   turn_same f g (x ∷ s) e = of (is_name_kind x.sym) (is_mark mark.Let x.sym)
     where
-      of : (b c : Bool) → cond b (bound action f x.start x.end s) (cond c (let_bound expression f s) (sequence action f (x ∷ s))) ≡ cond b (bound action g x.start x.end s) (cond c (let_bound expression g s) (sequence action g (x ∷ s)))
-      of true c = bound_same f g x.start x.end s e
+      of : (b c : Bool) → cond b (bound action f (span_of x) s) (cond c (let_bound expression f s) (sequence action f (x ∷ s))) ≡ cond b (bound action g (span_of x) s) (cond c (let_bound expression g s) (sequence action g (x ∷ s)))
+      of true c = bound_same f g (span_of x) s e
       of false true = let_same f g s e
       of false false = sequence_same f g (x ∷ s) e
 
@@ -125,32 +126,32 @@ module _ (expression : Reader RawTerm) (action : Reader Placed) (d : ℕ) (low :
   next = body_from expression action
 
   -- what follows a name that is bound
-  abbrev BoundRest : ℕ → ℕ → Language RawAct
-  BoundRest from to = Then (Token d (IsMark mark.Arrow)) (λ y. Then (IsAction d) (λ a. Then (Token d (IsMark mark.Semicolon)) (λ w. Mapped (bind from to a.1 a.0) (IsBody d))))
+  abbrev BoundRest : Span → Language RawAct
+  BoundRest span = Then (Token d (IsMark mark.Arrow)) (λ y. Then (IsAction d) (λ a. Then (Token d (IsMark mark.Semicolon)) (λ w. Mapped (bind span a.1 a.0) (IsBody d))))
 
-  good_bound : (n from to : ℕ) → Good n next (IsBody d) NoSemicolon → Good n (bound action next from to) (BoundRest from to) NoSemicolon
-  good_bound n from to g =
-      good_chain n (expect mark.Arrow) (λ y s. action s >>= λ a. expect mark.Semicolon a.1 >>= λ w. next w.1 >>= λ b. Ok (bind from to a.0.1 a.0.0 b.0, b.1)) (Token d (IsMark mark.Arrow)) (λ y. Then (IsAction d) (λ a. Then (Token d (IsMark mark.Semicolon)) (λ w. Mapped (bind from to a.1 a.0) (IsBody d)))) Any NoSemicolon (good_expect d low mark.Arrow n)
-      (λ y. good_chain n action (λ a s. expect mark.Semicolon s >>= λ w. next w.1 >>= λ b. Ok (bind from to a.1 a.0 b.0, b.1)) (IsAction d) (λ a. Then (Token d (IsMark mark.Semicolon)) (λ w. Mapped (bind from to a.1 a.0) (IsBody d))) Any NoSemicolon (ga n)
-      (λ a. good_chain n (expect mark.Semicolon) (λ w s. next s >>= λ b. Ok (bind from to a.1 a.0 b.0, b.1)) (Token d (IsMark mark.Semicolon)) (λ w. Mapped (bind from to a.1 a.0) (IsBody d)) Any NoSemicolon (good_expect d low mark.Semicolon n)
-      (λ w. good_map n next (bind from to a.1 a.0) (IsBody d) NoSemicolon g)
+  good_bound : (n : ℕ) (span : Span) → Good n next (IsBody d) NoSemicolon → Good n (bound action next span) (BoundRest span) NoSemicolon
+  good_bound n span g =
+      good_chain n (expect mark.Arrow) (λ y s. action s >>= λ a. expect mark.Semicolon a.1 >>= λ w. next w.1 >>= λ b. Ok (bind span a.0.1 a.0.0 b.0, b.1)) (Token d (IsMark mark.Arrow)) (λ y. Then (IsAction d) (λ a. Then (Token d (IsMark mark.Semicolon)) (λ w. Mapped (bind span a.1 a.0) (IsBody d)))) Any NoSemicolon (good_expect d low mark.Arrow n)
+      (λ y. good_chain n action (λ a s. expect mark.Semicolon s >>= λ w. next w.1 >>= λ b. Ok (bind span a.1 a.0 b.0, b.1)) (IsAction d) (λ a. Then (Token d (IsMark mark.Semicolon)) (λ w. Mapped (bind span a.1 a.0) (IsBody d))) Any NoSemicolon (ga n)
+      (λ a. good_chain n (expect mark.Semicolon) (λ w s. next s >>= λ b. Ok (bind span a.1 a.0 b.0, b.1)) (Token d (IsMark mark.Semicolon)) (λ w. Mapped (bind span a.1 a.0) (IsBody d)) Any NoSemicolon (good_expect d low mark.Semicolon n)
+      (λ w. good_map n next (bind span a.1 a.0) (IsBody d) NoSemicolon g)
       (λ w us b rest h f. tt))
       (λ a us b rest h f. tt))
       (λ y us b rest h f. tt)
 
   -- what follows let
   abbrev LetRest : Language RawAct
-  LetRest = Then (Token d IsName) (λ x. Then (Token d (IsMark mark.Equals)) (λ z. Then (IsExpression widest d) (λ e. Then (Token d (IsMark mark.Semicolon)) (λ w. Mapped (let_in x.start x.end e) (IsBody d)))))
+  LetRest = Then (Token d IsName) (λ x. Then (Token d (IsMark mark.Equals)) (λ z. Then (IsExpression widest d) (λ e. Then (Token d (IsMark mark.Semicolon)) (λ w. Mapped (let_in (span_of x) e) (IsBody d)))))
 
   good_let : (n : ℕ) → Good n next (IsBody d) NoSemicolon → Good n (let_bound expression next) LetRest NoSemicolon
   good_let n g =
-      good_chain n expect_name (λ x s. expect mark.Equals s >>= λ z. expression z.1 >>= λ e. expect mark.Semicolon e.1 >>= λ w. next w.1 >>= λ b. Ok (let_in x.start x.end e.0 b.0, b.1)) (Token d IsName) (λ x. Then (Token d (IsMark mark.Equals)) (λ z. Then (IsExpression widest d) (λ e. Then (Token d (IsMark mark.Semicolon)) (λ w. Mapped (let_in x.start x.end e) (IsBody d))))) Any NoSemicolon (good_name d low n)
-      (λ x. good_chain n (expect mark.Equals) (λ z s. expression s >>= λ e. expect mark.Semicolon e.1 >>= λ w. next w.1 >>= λ b. Ok (let_in x.start x.end e.0 b.0, b.1)) (Token d (IsMark mark.Equals)) (λ z. Then (IsExpression widest d) (λ e. Then (Token d (IsMark mark.Semicolon)) (λ w. Mapped (let_in x.start x.end e) (IsBody d)))) Any NoSemicolon (good_expect d low mark.Equals n)
-      (λ z. good_chain n expression (λ e s. expect mark.Semicolon s >>= λ w. next w.1 >>= λ b. Ok (let_in x.start x.end e b.0, b.1)) (IsExpression widest d) (λ e. Then (Token d (IsMark mark.Semicolon)) (λ w. Mapped (let_in x.start x.end e) (IsBody d))) (Follows widest) NoSemicolon (ge n)
-      (λ e. good_chain n (expect mark.Semicolon) (λ w s. next s >>= λ b. Ok (let_in x.start x.end e b.0, b.1)) (Token d (IsMark mark.Semicolon)) (λ w. Mapped (let_in x.start x.end e) (IsBody d)) Any NoSemicolon (good_expect d low mark.Semicolon n)
-      (λ w. good_map n next (let_in x.start x.end e) (IsBody d) NoSemicolon g)
+      good_chain n expect_name (λ x s. expect mark.Equals s >>= λ z. expression z.1 >>= λ e. expect mark.Semicolon e.1 >>= λ w. next w.1 >>= λ b. Ok (let_in (span_of x) e.0 b.0, b.1)) (Token d IsName) (λ x. Then (Token d (IsMark mark.Equals)) (λ z. Then (IsExpression widest d) (λ e. Then (Token d (IsMark mark.Semicolon)) (λ w. Mapped (let_in (span_of x) e) (IsBody d))))) Any NoSemicolon (good_name d low n)
+      (λ x. good_chain n (expect mark.Equals) (λ z s. expression s >>= λ e. expect mark.Semicolon e.1 >>= λ w. next w.1 >>= λ b. Ok (let_in (span_of x) e.0 b.0, b.1)) (Token d (IsMark mark.Equals)) (λ z. Then (IsExpression widest d) (λ e. Then (Token d (IsMark mark.Semicolon)) (λ w. Mapped (let_in (span_of x) e) (IsBody d)))) Any NoSemicolon (good_expect d low mark.Equals n)
+      (λ z. good_chain n expression (λ e s. expect mark.Semicolon s >>= λ w. next w.1 >>= λ b. Ok (let_in (span_of x) e b.0, b.1)) (IsExpression widest d) (λ e. Then (Token d (IsMark mark.Semicolon)) (λ w. Mapped (let_in (span_of x) e) (IsBody d))) (Follows widest) NoSemicolon (ge n)
+      (λ e. good_chain n (expect mark.Semicolon) (λ w s. next s >>= λ b. Ok (let_in (span_of x) e b.0, b.1)) (Token d (IsMark mark.Semicolon)) (λ w. Mapped (let_in (span_of x) e) (IsBody d)) Any NoSemicolon (good_expect d low mark.Semicolon n)
+      (λ w. good_map n next (let_in (span_of x) e) (IsBody d) NoSemicolon g)
       (λ w us b rest h f. tt))
-      (λ e us b rest h f. then_token d (IsMark mark.Semicolon) (λ w. Mapped (let_in x.start x.end e) (IsBody d)) us b h (Follows widest) (mark_follows mark.Semicolon widest (omega arith) refl) rest))
+      (λ e us b rest h f. then_token d (IsMark mark.Semicolon) (λ w. Mapped (let_in (span_of x) e) (IsBody d)) us b h (Follows widest) (mark_follows mark.Semicolon widest (omega arith) refl) rest))
       (λ z us b rest h f. tt))
       (λ x us b rest h f. tt)
 
@@ -204,10 +205,10 @@ module _ (expression : Reader RawTerm) (action : Reader Placed) (d : ℕ) (low :
   Body : ℕ → Type 0
   Body n = Good n next (IsBody d) NoSemicolon
 
-  turns : (x : Lexeme) (s : List Lexeme) (b c : Bool) → is_name_kind x.sym ≡ b → is_mark mark.Let x.sym ≡ c → next (x ∷ s) ≡ cond b (bound action next x.start x.end s) (cond c (let_bound expression next s) (sequence action next (x ∷ s)))
+  turns : (x : Lexeme) (s : List Lexeme) (b c : Bool) → is_name_kind x.sym ≡ b → is_mark mark.Let x.sym ≡ c → next (x ∷ s) ≡ cond b (bound action next (span_of x) s) (cond c (let_bound expression next s) (sequence action next (x ∷ s)))
   unfolding next
   turns x s b c e f =
-      body_more (x ∷ s) ∙ ap (λ b. cond b (bound action next x.start x.end s) (cond (is_mark mark.Let x.sym) (let_bound expression next s) (sequence action next (x ∷ s)))) e ∙ ap (λ c. cond b (bound action next x.start x.end s) (cond c (let_bound expression next s) (sequence action next (x ∷ s)))) f
+      body_more (x ∷ s) ∙ ap (λ b. cond b (bound action next (span_of x) s) (cond (is_mark mark.Let x.sym) (let_bound expression next s) (sequence action next (x ∷ s)))) e ∙ ap (λ c. cond b (bound action next (span_of x) s) (cond c (let_bound expression next s) (sequence action next (x ∷ s)))) f
 
   module _ (n : ℕ) (rec : (m : ℕ) → m < n → Body m) where
     says_body : (toks : List Lexeme) → length toks ≤ n → Says next (IsBody d) toks
@@ -215,7 +216,7 @@ module _ (expression : Reader RawTerm) (action : Reader Placed) (d : ℕ) (low :
     says_body [] l = says_end next (IsBody d) (body_more []) some_body
     says_body (x ∷ s) l = by (is_name_kind x.sym) (is_mark mark.Let x.sym) refl refl
       where
-        bound_to : IsName x → (us : List At) (t : RawAct) → BoundRest x.start x.end us t → IsBody d (at d x ∷ us) t
+        bound_to : IsName x → (us : List At) (t : RawAct) → BoundRest (span_of x) us t → IsBody d (at d x ∷ us) t
         bound_to p us t (then_ _ _ _ (token y q) (then_ _ _ a h (then_ _ _ _ (token w c) (mapped _ b g)))) = is_bind w p q h c g
 
         let_to : IsMark mark.Let x → (us : List At) (t : RawAct) → LetRest us t → IsBody d (at d x ∷ us) t
@@ -223,7 +224,7 @@ module _ (expression : Reader RawTerm) (action : Reader Placed) (d : ℕ) (low :
 
         by : (b c : Bool) → is_name_kind x.sym ≡ b → is_mark mark.Let x.sym ≡ c → Says next (IsBody d) (x ∷ s)
         by true c e f =
-            says_token next (bound action next x.start x.end) (IsBody d) (BoundRest x.start x.end) (at d x) s (allowed d x low) (λ s'. turns x s' true c e f) (bound_to (is_name-true x.sym e)) ((good_bound (length s) x.start x.end (rec (length s) (omega arith))).says s (omega arith))
+            says_token next (bound action next (span_of x)) (IsBody d) (BoundRest (span_of x)) (at d x) s (allowed d x low) (λ s'. turns x s' true c e f) (bound_to (is_name-true x.sym e)) ((good_bound (length s) (span_of x) (rec (length s) (omega arith))).says s (omega arith))
         by false true e f =
             says_token next (let_bound expression next) (IsBody d) LetRest (at d x) s (allowed d x low) (λ s'. turns x s' false true e f) (let_to (is_mark-true mark.Let x.sym f)) ((good_let (length s) (rec (length s) (omega arith))).says s (omega arith))
         by false false e f =
@@ -243,8 +244,8 @@ module _ (expression : Reader RawTerm) (action : Reader Placed) (d : ℕ) (low :
     unfolding Body
     reads_body us t (is_bind {x} {y} w {us = vs} {vs = ws} {a} {b} p q h c g) rest l f =
         let list = at d y ∷ (vs ++ (at d w ∷ ws)) in
-        reads_step next (bound action next x.start x.end) (at d x) list t rest (allowed d x low) (λ s. turns x s true (is_mark mark.Let x.sym) (ap is_name_kind p) refl)
-        ((good_bound (length list + length rest) x.start x.end (rec (length list + length rest) (omega arith))).reads list t rest (omega arith) (then_ (at d y ∷ []) (vs ++ (at d w ∷ ws)) y (token y q) (then_ vs (at d w ∷ ws) a h (then_ (at d w ∷ []) ws w (token w c) (mapped ws b g)))) f)
+        reads_step next (bound action next (span_of x)) (at d x) list t rest (allowed d x low) (λ s. turns x s true (is_mark mark.Let x.sym) (ap is_name_kind p) refl)
+        ((good_bound (length list + length rest) (span_of x) (rec (length list + length rest) (omega arith))).reads list t rest (omega arith) (then_ (at d y ∷ []) (vs ++ (at d w ∷ ws)) y (token y q) (then_ vs (at d w ∷ ws) a h (then_ (at d w ∷ []) ws w (token w c) (mapped ws b g)))) f)
     reads_body us t (is_let {x} {y} {z} w {us = vs} {vs = ws} {e} {b} p q r h c g) rest l f =
         let list = at d y ∷ at d z ∷ (vs ++ (at d w ∷ ws)) in
         reads_step next (let_bound expression next) (at d x) list t rest (allowed d x low) (λ s. turns x s false true (ap is_name_kind p) (is_mark-same mark.Let x.sym p))

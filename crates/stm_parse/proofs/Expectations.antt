@@ -8,7 +8,7 @@ use Rattle.stm_parse.specs.Descent.{◌>>=◌, StopsAs, expect_name, init, whole
 use Rattle.stm_parse.specs.ExpectationFunction.{expectation_reader, expected_tree, expectation_result, parsed_expectation, ExpectationAnswersAreRight}
 use Rattle.stm_parse.specs.Expectations.{ExpectationTree, IsExpectation, is_expectation, expectation_in}
 use Rattle.stm_parse.specs.Faults.{Language, IsText}
-use Rattle.stm_parse.specs.Grammar.{At, at, IsInit}
+use Rattle.stm_parse.specs.Grammar.{At, at, span_of, IsInit}
 use Rattle.stm_parse.specs.ParsedBlock.{IsNameOf, NamesOf}
 use Rattle.stm_parse.specs.ParseResult.{LexesWithinLimits, IsEarly, fault_of_failure}
 use Rattle.stm_parse.specs.UnlessNoMemory.{FailsAs}
@@ -21,7 +21,7 @@ use Rattle.stm_parse.proofs.TypeReaders.{good_init}
 
 -- a name, and what reads what the variable of that name is expected to hold
 abbrev Expecting : Language ExpectationTree
-Expecting = Then (Token 0 IsName) (λ x. Mapped (λ e. record { from = x.start; to = x.end; init = e }) IsInit)
+Expecting = Then (Token 0 IsName) (λ x. Mapped (λ e. record { name = span_of x; init = e }) IsInit)
 
 to_expectation : (us : List At) (e : ExpectationTree) → Expecting us e → IsExpectation us e
 to_expectation us e (then_ _ _ _ (token x p) (mapped _ i g)) = is_expectation p g
@@ -32,14 +32,14 @@ from_expectation us e (is_expectation {x} {us = vs} {e = i} p g) = then_ (at 0 x
 pub good_expectation : (n : ℕ) → Good n expectation_reader IsExpectation Any
 good_expectation n =
     good_same n expectation_reader Expecting IsExpectation Any to_expectation from_expectation
-    (good_chain n expect_name (λ x s. init s >>= λ e. Ok (record { from = x.start; to = x.end; init = e.0 }, e.1)) (Token 0 IsName) (λ x. Mapped (λ e. record { from = x.start; to = x.end; init = e }) IsInit) Any Any (good_name 0 (omega arith) n)
-    (λ x. good_map n init (λ e. record { from = x.start; to = x.end; init = e }) IsInit Any (good_init n))
+    (good_chain n expect_name (λ x s. init s >>= λ e. Ok (record { name = span_of x; init = e.0 }, e.1)) (Token 0 IsName) (λ x. Mapped (λ e. record { name = span_of x; init = e }) IsInit) Any Any (good_name 0 (omega arith) n)
+    (λ x. good_map n init (λ e. record { name = span_of x; init = e }) IsInit Any (good_init n))
     (λ x us t rest h f. tt))
 
-pub kept_expectation : (text : List ℕ) (ls : List Lexeme) (t : ExpectationTree) → IsText IsExpectation ls t → NamesOf text ls → IsSpan (length text) t.from t.to × IsNameOf text t.from t.to × NamesWithin (length text) t.init
+pub kept_expectation : (text : List ℕ) (ls : List Lexeme) (t : ExpectationTree) → IsText IsExpectation ls t → NamesOf text ls → IsSpan (length text) t.name.start t.name.end × IsNameOf text t.name.start t.name.end × NamesWithin (length text) t.init
 kept_expectation text ls t h n = of h.0 t h.1 (named text h.0 (subst (NamesOf text) h.3 n))
   where
-    of : (us : List At) (t : ExpectationTree) → IsExpectation us t → Named text us → IsSpan (length text) t.from t.to × IsNameOf text t.from t.to × NamesWithin (length text) t.init
+    of : (us : List At) (t : ExpectationTree) → IsExpectation us t → Named text us → IsSpan (length text) t.name.start t.name.end × IsNameOf text t.name.start t.name.end × NamesWithin (length text) t.init
     of us t (is_expectation {us = vs} p i) k =
         let m = k.0 p in
         (m.0, m.1, kept_init text vs _ i k.1)

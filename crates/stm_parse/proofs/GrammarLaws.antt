@@ -4,7 +4,7 @@ use Rattle.std.proofs.lemmas.List.Elements.{All-nil, All-cons, All-from_recursio
 use Rattle.std.specs.Prelude.{All}
 use Rattle.stm_terms.specs.declared.expr.Op.{Op}
 use Rattle.stm_terms.specs.declared.expr.Op.TheVariants as op
-use Rattle.stm_terms.specs.ParsedAst.{RawTerm, name, bin, RawAct, return}
+use Rattle.stm_terms.specs.ParsedAst.{RawTerm, bin, RawAct, return}
 use Rattle.stm_parse.specs.declared.token.Mark.{Mark}
 use Rattle.stm_parse.specs.declared.token.Mark.TheVariants as mark
 use Rattle.stm_parse.specs.declared.token.TokenKind.TheVariants as tok
@@ -14,11 +14,11 @@ use Rattle.stm_parse.specs.declared.cursor.Grouping.TheVariants as grouping
 use Rattle.stm_parse.specs.Grammar.{At, at, operator_mark, operator_of, grouping_of, widest, is_name, is_bracketed, IsExpression, is_atom, is_tier, IsTail, no_more, to_left, not_chained, to_right, is_return, IsBlock}
 use Rattle.stm_parse.specs.Faults.{IsText}
 use Rattle.stm_parse.specs.Descent.{block_reader, whole, action_at, inside_act, atom_at, one_level_inside, tier_with, step_from, tail_from, tails}
-use Rattle.stm_parse.specs.Laws.{lexeme, two_operators, Signed, products, sums, comparisons, conjunctions, disjunctions, ToLeft, ToRight, NotChained, Tighter, ProductsGroupToTheLeft, SumsGroupToTheLeft, ComparisonsAreNotChained, ConjunctionsGroupToTheRight, DisjunctionsGroupToTheRight, ProductsBindTightest, SumsBindTighter, ComparisonsBindTighter, ConjunctionsBindTighter}
+use Rattle.stm_parse.specs.Laws.{name_at, lexeme, two_operators, Signed, products, sums, comparisons, conjunctions, disjunctions, ToLeft, ToRight, NotChained, Tighter, ProductsGroupToTheLeft, SumsGroupToTheLeft, ComparisonsAreNotChained, ConjunctionsGroupToTheRight, DisjunctionsGroupToTheRight, ProductsBindTightest, SumsBindTighter, ComparisonsBindTighter, ConjunctionsBindTighter}
 use Rattle.stm_parse.proofs.WholeTextRead.{good_block, only}
 
 -- an operand, as an expression of tier k
-atom : (k d a a' : ℕ) → IsExpression k d (at d (lexeme tok.Name a a') ∷ []) (name a a')
+atom : (k d a a' : ℕ) → IsExpression k d (at d (lexeme tok.Name a a') ∷ []) (name_at a a')
 atom zero d a a' = is_atom (is_name refl)
 atom (suc k) d a a' = is_tier (atom k d a a') no_more
 
@@ -55,9 +55,9 @@ to_the_right k x y l g p q r a a' b b' c c' i j =
     (rise (4 - k) (suc k) widest 1 _ _ (omega arith) (is_tier (atom k 1 a a') (to_right g p (is_tier (atom k 1 b b') (to_right g q (is_tier (atom k 1 c c') no_more))))))
 
 -- two operands of an operator of tier k, as an expression of a wider tier
-pair : (k n : ℕ) (x : Signed) (a a' b b' i j : ℕ) → k < n → IsOf k x → IsExpression n 1 (at 1 (lexeme tok.Name a a') ∷ at 1 (lexeme (tok.Mark x.0) i j) ∷ at 1 (lexeme tok.Name b b') ∷ []) (bin x.1 (name a a') (name b b'))
+pair : (k n : ℕ) (x : Signed) (a a' b b' i j : ℕ) → k < n → IsOf k x → IsExpression n 1 (at 1 (lexeme tok.Name a a') ∷ at 1 (lexeme (tok.Mark x.0) i j) ∷ at 1 (lexeme tok.Name b b') ∷ []) (bin x.1 (name_at a a') (name_at b b'))
 pair k n x a a' b b' i j l p =
-    rise (n - suc k) (suc k) n 1 _ _ (omega arith) (is_tier (atom k 1 a a') (one k 1 (lexeme (tok.Mark x.0) i j) x.1 (at 1 (lexeme tok.Name b b') ∷ []) (name a a') (name b b') p (atom k 1 b b')))
+    rise (n - suc k) (suc k) n 1 _ _ (omega arith) (is_tier (atom k 1 a a') (one k 1 (lexeme (tok.Mark x.0) i j) x.1 (at 1 (lexeme tok.Name b b') ∷ []) (name_at a a') (name_at b b') p (atom k 1 b b')))
 
 tighter : (k n : ℕ) (x y : Signed) → k < n → n < widest → IsOf k x → IsOf n y → Tighter x y
 tighter k n x y l m p q = (left, right)
@@ -65,12 +65,12 @@ tighter k n x y l m p q = (left, right)
     left : ToLeft x y
     left r a a' b b' c c' i j =
         in_brackets x.0 y.0 r a a' b b' c c' i j _
-        (rise (4 - n) (suc n) widest 1 _ _ (omega arith) (is_tier (pair k n x a a' b b' i j l p) (one n 1 (lexeme (tok.Mark y.0) i j) y.1 (at 1 (lexeme tok.Name c c') ∷ []) (bin x.1 (name a a') (name b b')) (name c c') q (atom n 1 c c'))))
+        (rise (4 - n) (suc n) widest 1 _ _ (omega arith) (is_tier (pair k n x a a' b b' i j l p) (one n 1 (lexeme (tok.Mark y.0) i j) y.1 (at 1 (lexeme tok.Name c c') ∷ []) (bin x.1 (name_at a a') (name_at b b')) (name_at c c') q (atom n 1 c c'))))
 
     right : ToRight y x
     right r a a' b b' c c' i j =
         in_brackets y.0 x.0 r a a' b b' c c' i j _
-        (rise (4 - n) (suc n) widest 1 _ _ (omega arith) (is_tier (atom n 1 a a') (one n 1 (lexeme (tok.Mark y.0) i j) y.1 (at 1 (lexeme tok.Name b b') ∷ at 1 (lexeme (tok.Mark x.0) i j) ∷ at 1 (lexeme tok.Name c c') ∷ []) (name a a') (bin x.1 (name b b') (name c c')) q (pair k n x b b' c c' i j l p))))
+        (rise (4 - n) (suc n) widest 1 _ _ (omega arith) (is_tier (atom n 1 a a') (one n 1 (lexeme (tok.Mark y.0) i j) y.1 (at 1 (lexeme tok.Name b b') ∷ at 1 (lexeme (tok.Mark x.0) i j) ∷ at 1 (lexeme tok.Name c c') ∷ []) (name_at a a') (bin x.1 (name_at b b') (name_at c c')) q (pair k n x b b' c c' i j l p))))
 
 -- two signs are not chained, where the descent stops at the second
 unless_read : (x y : Signed) → ((r a a' b b' c c' i j : ℕ) (t : RawAct) → whole block_reader (two_operators x.0 y.0 r a a' b b' c c' i j) ≡ Ok t → ⊥) → NotChained x y

@@ -9,7 +9,7 @@ use Rattle.stm_parse.specs.declared.token.TokenKind.TheVariants as tok
 use Rattle.stm_parse.specs.declared.token.Lexeme.{Lexeme}
 use Rattle.stm_parse.specs.declared.token.ErrorKind.TheVariants as cause
 use Rattle.stm_parse.specs.Terminals.{is_mark, IsMark}
-use Rattle.stm_parse.specs.Grammar.{At, at, at_number, erase, deepest, greatest}
+use Rattle.stm_parse.specs.Grammar.{span_of, At, at, at_number, erase, deepest, greatest}
 use Rattle.stm_parse.specs.Faults.{Language}
 use Rattle.stm_parse.specs.Descent.{Reading, Reader, bad_number, accept, or_accepted, expect, in_reach, close_literal, literal_of, literal, closed, bracketed, short_of, deeper, atom_with}
 use Rattle.stm_parse.proofs.ReaderPromises.{plain-split, Says, Some_text, Mapped, mapped, says_map, says_end, says_refused, says_beyond, says_token, says_one, says_same_first, says_same_end}
@@ -28,7 +28,7 @@ pub data Operand (d : ℕ) (E : Language RawTerm) : List At → RawTerm → Type
   of_true : {x : Lexeme} → IsMark mark.True x → Operand d E (at d x ∷ []) (truth true x.start)
   of_false : {x : Lexeme} → IsMark mark.False x → Operand d E (at d x ∷ []) (truth false x.start)
   of_unit : {x w : Lexeme} → IsMark mark.LParen x → IsMark mark.RParen w → Operand d E (at (suc d) x ∷ at d w ∷ []) (unit x.start)
-  of_name : {x : Lexeme} → x.sym ≡ tok.Name → Operand d E (at d x ∷ []) (name x.start x.end)
+  of_name : {x : Lexeme} → x.sym ≡ tok.Name → Operand d E (at d x ∷ []) (name (span_of x))
   of_bracketed : {x : Lexeme} (w : Lexeme) (us : List At) {e : RawTerm} → IsMark mark.LParen x → E us e → IsMark mark.RParen w → Operand d E (at (suc d) x ∷ (us ++ (at d w ∷ []))) e
 
 -- after "(", which is x
@@ -138,7 +138,7 @@ module _ (d : ℕ) (E : Language RawTerm) where
     where
       of : (q : TokenKind) → x.sym ≡ q → Says (atom_with inner) (Operand d E) (x ∷ s)
       of (tok.Mark m) e = says_short inner low m x s i e
-      of tok.Name e = says_one (atom_with inner) (Operand d E) (name x.start x.end) (at d x) s (allowed d x low) (λ s'. is_short inner x s' tok.Name e refl) (of_name e)
+      of tok.Name e = says_one (atom_with inner) (Operand d E) (name (span_of x)) (at d x) s (allowed d x low) (λ s'. is_short inner x s' tok.Name e refl) (of_name e)
       of tok.Other e = says_refused (atom_with inner) (Operand d E) x s (λ s'. is_short inner x s' tok.Other e refl) some_operand
       of (tok.Number n) e = by (in_reach n) refl
         where

@@ -173,10 +173,10 @@ kept_init text us e (is_false_init p) k = tt
 kept_init text us e (is_unit_init o c) k = tt
 kept_init text us e (is_name_init p) k = (k.0 p).0
 
-pub kept_declaration : (text : List ℕ) (ls : List Lexeme) (t : DeclarationTree) → IsText IsDeclaration ls t → NamesOf text ls → IsSpan (length text) t.from t.to × IsNameOf text t.from t.to × NamesWithin (length text) t.init
+pub kept_declaration : (text : List ℕ) (ls : List Lexeme) (t : DeclarationTree) → IsText IsDeclaration ls t → NamesOf text ls → IsSpan (length text) t.name.start t.name.end × IsNameOf text t.name.start t.name.end × NamesWithin (length text) t.init
 kept_declaration text ls t h n = of h.0 t h.1 (named text h.0 (subst (NamesOf text) h.3 n))
   where
-    of : (us : List At) (t : DeclarationTree) → IsDeclaration us t → Named text us → IsSpan (length text) t.from t.to × IsNameOf text t.from t.to × NamesWithin (length text) t.init
+    of : (us : List At) (t : DeclarationTree) → IsDeclaration us t → Named text us → IsSpan (length text) t.name.start t.name.end × IsNameOf text t.name.start t.name.end × NamesWithin (length text) t.init
     of us t (is_declaration z {us = vs} {vs = ws} p q g c i) k =
         let m = k.0 p in
         (m.0, m.1, kept_init text ws _ i (named_back text vs (at 0 z ∷ ws) k.1.1).1)

@@ -12,7 +12,7 @@ use Rattle.stm_parse.specs.declared.token.Lexeme.{Lexeme}
 use Rattle.stm_parse.specs.declared.token.ErrorKind.TheVariants as cause
 use Rattle.stm_parse.specs.Terminals.{is_mark, IsMark}
 use Rattle.stm_terms.specs.Limits.{most_refs}
-use Rattle.stm_parse.specs.Grammar.{At, at, at_ref, erase, deepest, IsType, is_var, is_bare, IsBareType, is_int, is_bool, is_unit_type, is_bracketed_type, IsInit, is_number_init, is_negative_init, is_true_init, is_false_init, is_unit_init, is_name_init, DeclarationTree, IsDeclaration, is_declaration}
+use Rattle.stm_parse.specs.Grammar.{At, at, at_ref, span_of, erase, deepest, IsType, is_var, is_bare, IsBareType, is_int, is_bool, is_unit_type, is_bracketed_type, IsInit, is_number_init, is_negative_init, is_true_init, is_false_init, is_unit_init, is_name_init, DeclarationTree, IsDeclaration, is_declaration}
 use Rattle.stm_parse.specs.Faults.{Language}
 use Rattle.stm_parse.specs.Descent.{Reading, Reader, ◌>>=◌, accept, or_accepted, expect, expect_name, closed, deeper, refuse, init, tvar_type, bracketed_type, bare_of, bare_with, var_of, type_with, inside_type, bare_at, type_at, declaration_reader}
 use Rattle.stm_parse.proofs.ReaderPromises.{plain-split, Says, Then, then_, Mapped, mapped, says_more, says_map, says_end, says_refused, says_beyond, says_token, says_one, says_same_first, says_same_end}
@@ -242,7 +242,7 @@ good_init n = good_same n init (Operand 0 Nothing) IsInit Any to_init from_init 
 
 -- declarations
 abbrev Declaring : Language DeclarationTree
-Declaring = Then (Token 0 IsName) (λ x. Then (Token 0 (IsMark mark.Colon)) (λ y. Then (IsType 0 0) (λ t. Then (Token 0 (IsMark mark.Equals)) (λ z. Mapped (λ e. record { from = x.start; to = x.end; ty = t; init = e }) IsInit))))
+Declaring = Then (Token 0 IsName) (λ x. Then (Token 0 (IsMark mark.Colon)) (λ y. Then (IsType 0 0) (λ t. Then (Token 0 (IsMark mark.Equals)) (λ z. Mapped (λ e. record { name = span_of x; ty = t; init = e }) IsInit))))
 
 to_declaration : (us : List At) (e : DeclarationTree) → Declaring us e → IsDeclaration us e
 to_declaration us e (then_ _ _ _ (token x p) (then_ _ _ _ (token y q) (then_ _ _ t h (then_ _ _ _ (token z c) (mapped _ i g))))) = is_declaration z p q h c g
@@ -253,11 +253,11 @@ from_declaration us e (is_declaration {x} {y} z {us = vs} {vs = ws} {t} {e = i} 
 pub good_declaration : (n : ℕ) → Good n declaration_reader IsDeclaration Any
 good_declaration n =
     good_same n declaration_reader Declaring IsDeclaration Any to_declaration from_declaration
-    (good_chain n expect_name (λ x s. expect mark.Colon s >>= λ y. type_at 64 0 y.1 >>= λ t. expect mark.Equals t.1 >>= λ z. init z.1 >>= λ e. Ok (record { from = x.start; to = x.end; ty = t.0; init = e.0 }, e.1)) (Token 0 IsName) (λ x. Then (Token 0 (IsMark mark.Colon)) (λ y. Then (IsType 0 0) (λ t. Then (Token 0 (IsMark mark.Equals)) (λ z. Mapped (λ e. record { from = x.start; to = x.end; ty = t; init = e }) IsInit)))) Any Any (good_name 0 (omega arith) n)
-    (λ x. good_chain n (expect mark.Colon) (λ y s. type_at 64 0 s >>= λ t. expect mark.Equals t.1 >>= λ z. init z.1 >>= λ e. Ok (record { from = x.start; to = x.end; ty = t.0; init = e.0 }, e.1)) (Token 0 (IsMark mark.Colon)) (λ y. Then (IsType 0 0) (λ t. Then (Token 0 (IsMark mark.Equals)) (λ z. Mapped (λ e. record { from = x.start; to = x.end; ty = t; init = e }) IsInit))) Any Any (good_expect 0 (omega arith) mark.Colon n)
-    (λ y. good_chain n (type_at 64 0) (λ t s. expect mark.Equals s >>= λ z. init z.1 >>= λ e. Ok (record { from = x.start; to = x.end; ty = t; init = e.0 }, e.1)) (IsType 0 0) (λ t. Then (Token 0 (IsMark mark.Equals)) (λ z. Mapped (λ e. record { from = x.start; to = x.end; ty = t; init = e }) IsInit)) Any Any (good_type 64 0 (omega arith) 0 (omega arith) n)
-    (λ t. good_chain n (expect mark.Equals) (λ z s. init s >>= λ e. Ok (record { from = x.start; to = x.end; ty = t; init = e.0 }, e.1)) (Token 0 (IsMark mark.Equals)) (λ z. Mapped (λ e. record { from = x.start; to = x.end; ty = t; init = e }) IsInit) Any Any (good_expect 0 (omega arith) mark.Equals n)
-    (λ z. good_map n init (λ e. record { from = x.start; to = x.end; ty = t; init = e }) IsInit Any (good_init n))
+    (good_chain n expect_name (λ x s. expect mark.Colon s >>= λ y. type_at deepest 0 y.1 >>= λ t. expect mark.Equals t.1 >>= λ z. init z.1 >>= λ e. Ok (record { name = span_of x; ty = t.0; init = e.0 }, e.1)) (Token 0 IsName) (λ x. Then (Token 0 (IsMark mark.Colon)) (λ y. Then (IsType 0 0) (λ t. Then (Token 0 (IsMark mark.Equals)) (λ z. Mapped (λ e. record { name = span_of x; ty = t; init = e }) IsInit)))) Any Any (good_name 0 (omega arith) n)
+    (λ x. good_chain n (expect mark.Colon) (λ y s. type_at deepest 0 s >>= λ t. expect mark.Equals t.1 >>= λ z. init z.1 >>= λ e. Ok (record { name = span_of x; ty = t.0; init = e.0 }, e.1)) (Token 0 (IsMark mark.Colon)) (λ y. Then (IsType 0 0) (λ t. Then (Token 0 (IsMark mark.Equals)) (λ z. Mapped (λ e. record { name = span_of x; ty = t; init = e }) IsInit))) Any Any (good_expect 0 (omega arith) mark.Colon n)
+    (λ y. good_chain n (type_at deepest 0) (λ t s. expect mark.Equals s >>= λ z. init z.1 >>= λ e. Ok (record { name = span_of x; ty = t; init = e.0 }, e.1)) (IsType 0 0) (λ t. Then (Token 0 (IsMark mark.Equals)) (λ z. Mapped (λ e. record { name = span_of x; ty = t; init = e }) IsInit)) Any Any (good_type 64 0 (omega arith) 0 (omega arith) n)
+    (λ t. good_chain n (expect mark.Equals) (λ z s. init s >>= λ e. Ok (record { name = span_of x; ty = t; init = e.0 }, e.1)) (Token 0 (IsMark mark.Equals)) (λ z. Mapped (λ e. record { name = span_of x; ty = t; init = e }) IsInit) Any Any (good_expect 0 (omega arith) mark.Equals n)
+    (λ z. good_map n init (λ e. record { name = span_of x; ty = t; init = e }) IsInit Any (good_init n))
     (λ z us t rest h f. tt))
     (λ t us v rest h f. tt))
     (λ y us v rest h f. tt))

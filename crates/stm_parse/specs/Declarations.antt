@@ -1,9 +1,9 @@
 -- Declarations without where they lie in memory.
-use Rattle.std.specs.Prelude.{ℕ, List, slice_range, string_bytes}
+use Rattle.std.specs.Prelude.{ℕ, List, string_bytes}
 use Rattle.stm_terms.specs.declared.kinds.Ty.{Ty}
 use Rattle.stm_terms.specs.declared.values.Value.{Value}
 use Rattle.stm_terms.specs.declared.values.Value.TheVariants as V
-use Rattle.stm_terms.specs.ParsedAst.{RawTerm, int, truth, unit, name, bin, raw_term_of}
+use Rattle.stm_terms.specs.ParsedAst.{text_at, RawTerm, int, truth, unit, name, bin, raw_term_of}
 use Rattle.stm_parse.specs.declared.declaration.Init.{Init}
 use Rattle.stm_parse.specs.declared.declaration.Init.TheVariants as I
 use Rattle.stm_parse.specs.declared.declaration.Declaration.{Declaration}
@@ -11,7 +11,7 @@ use Rattle.stm_parse.specs.declared.types.RawDeclaration.{RawDeclaration}
 use Rattle.stm_parse.specs.Grammar.{DeclarationTree}
 
 abbrev pub declaration_tree_of : RawDeclaration → DeclarationTree
-declaration_tree_of d = record { from = d.name.start; to = d.name.end; ty = d.ty; init = raw_term_of d.init }
+declaration_tree_of d = record { name = d.name; ty = d.ty; init = raw_term_of d.init }
 
 -- what a variable holds at first: a value, or the variable of a name that stands at a place
 pub data ParsedInit : Type 0 where
@@ -36,9 +36,9 @@ abbrev pub init_of : List ℕ → RawTerm → ParsedInit
 init_of text (int n at) = literal (V.Int n)
 init_of text (truth b at) = literal (V.Bool b)
 init_of text (unit at) = literal V.Unit
-init_of text (name from to) = named (slice_range text from to) from
+init_of text (name span) = named (text_at text span) span.start
 init_of text (bin o a b) = literal V.Unit
 
 -- the declaration that a tree stands for in a text
 abbrev pub declaration_in : List ℕ → DeclarationTree → ParsedDeclaration
-declaration_in text t = record { name = slice_range text t.from t.to; kind = t.ty; init = init_of text t.init }
+declaration_in text t = record { name = text_at text t.name; kind = t.ty; init = init_of text t.init }

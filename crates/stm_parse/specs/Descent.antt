@@ -1,5 +1,6 @@
 -- What the descent answers for a list of tokens: a tree and the tokens after it, or the fault.
 use Rattle.std.specs.Prelude.{◌≡◌, ℕ, zero, suc, ◌+◌, ◌-◌, List, [], ◌∷◌, length, Bool, true, false, nat_eq, nat_le, nat_lt, Option, Some, None, Result, Ok, Err, if◌then◌else◌, pos, neg_ℤ}
+use Rattle.stm_terms.specs.declared.raw.Span.{Span}
 use Rattle.stm_terms.specs.declared.expr.Op.{Op}
 use Rattle.stm_terms.specs.declared.kinds.Ty.{Ty}
 use Rattle.stm_terms.specs.declared.kinds.Base.TheVariants as base
@@ -17,7 +18,7 @@ use Rattle.stm_parse.specs.declared.cursor.Grouping.{Grouping}
 use Rattle.stm_parse.specs.declared.cursor.Grouping.TheVariants as grouping
 use Rattle.stm_parse.specs.Terminals.{is_mark}
 use Rattle.stm_terms.specs.Limits.{most_refs}
-use Rattle.stm_parse.specs.Grammar.{operator_of, grouping_of, widest, Placed, DeclarationTree, deepest, greatest}
+use Rattle.stm_parse.specs.Grammar.{operator_of, grouping_of, widest, Placed, DeclarationTree, deepest, greatest, span_of}
 
 abbrev pub Reading : Type 0 → Type 0
 Reading A = Result (A × List Lexeme) Fault
@@ -116,7 +117,7 @@ short_marked _ x rest = Err (unexpected (x ∷ rest))
 
 abbrev pub short_of : TokenKind → Lexeme → List Lexeme → Reading RawTerm
 short_of (sym.Number n) x rest = if in_reach n then Ok (int (pos n) x.start, rest) else Err (bad_number (x ∷ rest))
-short_of sym.Name x rest = Ok (name x.start x.end, rest)
+short_of sym.Name x rest = Ok (name (span_of x), rest)
 short_of sym.Other x rest = Err (unexpected (x ∷ rest))
 short_of (sym.Mark m) x rest = short_marked m x rest
 
@@ -225,13 +226,13 @@ if_of expression action place toks = do
   Ok ((if_else e.0 a.0.0 b.0.1 b.0.0, place), b.1)
 
 -- after a name in a body: an arrow, an action, a semicolon, and what next reads
-abbrev pub bound : Reader Placed → Reader RawAct → ℕ → ℕ → Reader RawAct
-bound action next from to toks = do
+abbrev pub bound : Reader Placed → Reader RawAct → Span → Reader RawAct
+bound action next span toks = do
   arrow ← expect mark.Arrow toks
   a ← action arrow.1
   semicolon ← expect mark.Semicolon a.1
   b ← next semicolon.1
-  Ok (bind from to a.0.1 a.0.0 b.0, b.1)
+  Ok (bind span a.0.1 a.0.0 b.0, b.1)
 
 -- after let
 abbrev pub let_bound : Reader RawTerm → Reader RawAct → Reader RawAct
@@ -241,7 +242,7 @@ let_bound expression next toks = do
   e ← expression equals.1
   semicolon ← expect mark.Semicolon e.1
   b ← next semicolon.1
-  Ok (let_in x.0.start x.0.end e.0 b.0, b.1)
+  Ok (let_in (span_of x.0) e.0 b.0, b.1)
 
 abbrev pub after_action : Reader RawAct → RawAct → List Lexeme → Option (List Lexeme) → Reading RawAct
 after_action next a toks None = Ok (a, toks)
@@ -257,7 +258,7 @@ sequence action next toks = do
 
 abbrev pub body_turn : Reader RawTerm → Reader Placed → Reader RawAct → Reader RawAct
 body_turn expression action next [] = Err (unexpected [])
-body_turn expression action next (x ∷ rest) = if is_name_kind x.sym then bound action next x.start x.end rest else (if is_mark mark.Let x.sym then let_bound expression next rest else sequence action next (x ∷ rest))
+body_turn expression action next (x ∷ rest) = if is_name_kind x.sym then bound action next (span_of x) rest else (if is_mark mark.Let x.sym then let_bound expression next rest else sequence action next (x ∷ rest))
 
 -- statements and the last action, at most as many as the clock says
 unfoldable pub bodies : ℕ → Reader RawTerm → Reader Placed → Reader RawAct
@@ -391,7 +392,7 @@ declaration_reader toks = do
   t ← type_at deepest 0 colon.1
   equals ← expect mark.Equals t.1
   e ← init equals.1
-  Ok (record { from = x.0.start; to = x.0.end; ty = t.0; init = e.0 }, e.1)
+  Ok (record { name = span_of x.0; ty = t.0; init = e.0 }, e.1)
 
 -- nothing may follow
 abbrev pub ended : {A : Type 0} → A → List Lexeme → Result A Fault

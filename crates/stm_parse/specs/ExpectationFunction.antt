@@ -3,6 +3,7 @@ use Rattle.std.specs.Prelude.{ℕ, List, Result, Ok, Err}
 use Rattle.stm_parse.specs.declared.fault.ParseFault.{ParseFault}
 use Rattle.stm_parse.specs.Descent.{Reader, ◌>>=◌, expect_name, init}
 use Rattle.stm_parse.specs.Expectations.{ExpectationTree, IsExpectation, ParsedExpectation, expectation_in}
+use Rattle.stm_parse.specs.Grammar.{span_of}
 use Rattle.stm_parse.specs.ParseFunction.{IsAnswer, answered}
 
 -- a whole expectation
@@ -10,7 +11,7 @@ abbrev pub expectation_reader : Reader ExpectationTree
 expectation_reader toks = do
   x ← expect_name toks
   e ← init x.1
-  Ok (record { from = x.0.start; to = x.0.end; init = e.0 }, e.1)
+  Ok (record { name = span_of x.0; init = e.0 }, e.1)
 
 -- an expectation's tree, or the fault that is reported
 unfoldable pub expected_tree : List ℕ → Result ExpectationTree ParseFault

@@ -4,6 +4,7 @@ use Rattle.stm_terms.specs.declared.expr.Op.{Op}
 use Rattle.stm_terms.specs.declared.expr.Op.TheVariants as op
 use Rattle.stm_terms.specs.declared.kinds.Ty.{Ty}
 use Rattle.stm_terms.specs.declared.kinds.Base.TheVariants as base
+use Rattle.stm_terms.specs.declared.raw.Span.{Span}
 use Rattle.stm_terms.specs.Limits.{most_refs}
 use Rattle.stm_terms.specs.ParsedAst.{RawTerm, int, truth, unit, name, bin, RawAct, return, read, write, make, retry, throw, if_else, or_else, bind, let_in, seq}
 use Rattle.stm_parse.specs.declared.token.Mark.{Mark}
@@ -30,6 +31,10 @@ at_ref d k x = record { depth = d; refs = k; reach = 0; lexeme = x }
 
 abbrev pub at_number : ℕ → ℕ → Lexeme → At
 at_number d n x = record { depth = d; refs = 0; reach = n; lexeme = x }
+
+-- where a token stands in the text
+abbrev pub span_of : Lexeme → Span
+span_of x = record { start = x.start; end = x.end }
 
 abbrev pub erase : List At → List Lexeme
 erase [] = []
@@ -77,7 +82,7 @@ mutual
     -- "(" ")"
     is_unit : {d : ℕ} {x w : Lexeme} → IsMark mark.LParen x → IsMark mark.RParen w → IsAtom d (at (suc d) x ∷ at d w ∷ []) (unit x.start)
     -- NAME
-    is_name : {d : ℕ} {x : Lexeme} → x.sym ≡ sym.Name → IsAtom d (at d x ∷ []) (name x.start x.end)
+    is_name : {d : ℕ} {x : Lexeme} → x.sym ≡ sym.Name → IsAtom d (at d x ∷ []) (name (span_of x))
     -- "(" expression ")"
     is_bracketed : {d : ℕ} {x : Lexeme} (w : Lexeme) {us : List At} {e : RawTerm} → IsMark mark.LParen x → IsExpression widest (suc d) us e → IsMark mark.RParen w → IsAtom d (at (suc d) x ∷ (us ++ (at d w ∷ []))) e
 
@@ -131,9 +136,9 @@ mutual
   -- statements and a last action
   pub data IsBody : ℕ → List At → RawAct → Type 0 where
     -- NAME "<-" action ";" body
-    is_bind : {d : ℕ} {x y : Lexeme} (w : Lexeme) {us vs : List At} {a : Placed} {b : RawAct} → x.sym ≡ sym.Name → IsMark mark.Arrow y → IsAction d us a → IsMark mark.Semicolon w → IsBody d vs b → IsBody d (at d x ∷ at d y ∷ (us ++ (at d w ∷ vs))) (bind x.start x.end a.1 a.0 b)
+    is_bind : {d : ℕ} {x y : Lexeme} (w : Lexeme) {us vs : List At} {a : Placed} {b : RawAct} → x.sym ≡ sym.Name → IsMark mark.Arrow y → IsAction d us a → IsMark mark.Semicolon w → IsBody d vs b → IsBody d (at d x ∷ at d y ∷ (us ++ (at d w ∷ vs))) (bind (span_of x) a.1 a.0 b)
     -- "let" NAME "=" expression ";" body
-    is_let : {d : ℕ} {x y z : Lexeme} (w : Lexeme) {us vs : List At} {e : RawTerm} {b : RawAct} → IsMark mark.Let x → y.sym ≡ sym.Name → IsMark mark.Equals z → IsExpression widest d us e → IsMark mark.Semicolon w → IsBody d vs b → IsBody d (at d x ∷ at d y ∷ at d z ∷ (us ++ (at d w ∷ vs))) (let_in y.start y.end e b)
+    is_let : {d : ℕ} {x y z : Lexeme} (w : Lexeme) {us vs : List At} {e : RawTerm} {b : RawAct} → IsMark mark.Let x → y.sym ≡ sym.Name → IsMark mark.Equals z → IsExpression widest d us e → IsMark mark.Semicolon w → IsBody d vs b → IsBody d (at d x ∷ at d y ∷ at d z ∷ (us ++ (at d w ∷ vs))) (let_in (span_of y) e b)
     -- action ";" body
     is_seq : {d : ℕ} (w : Lexeme) {us vs : List At} {a : Placed} {b : RawAct} → IsAction d us a → IsMark mark.Semicolon w → IsBody d vs b → IsBody d (us ++ (at d w ∷ vs)) (seq a.0 b)
     -- action
@@ -167,18 +172,17 @@ pub data IsInit : List At → RawTerm → Type 0 where
   is_true_init : {x : Lexeme} → IsMark mark.True x → IsInit (at 0 x ∷ []) (truth true x.start)
   is_false_init : {x : Lexeme} → IsMark mark.False x → IsInit (at 0 x ∷ []) (truth false x.start)
   is_unit_init : {x w : Lexeme} → IsMark mark.LParen x → IsMark mark.RParen w → IsInit (at 1 x ∷ at 0 w ∷ []) (unit x.start)
-  is_name_init : {x : Lexeme} → x.sym ≡ sym.Name → IsInit (at 0 x ∷ []) (name x.start x.end)
+  is_name_init : {x : Lexeme} → x.sym ≡ sym.Name → IsInit (at 0 x ∷ []) (name (span_of x))
 
 -- a declared name by its span, its type, and what it holds at first, as an operand
 pub record DeclarationTree : Type 0 where
-  pub from : ℕ
-  pub to : ℕ
+  pub name : Span
   pub ty : Ty
   pub init : RawTerm
 
 -- NAME ":" type "=" init
 pub data IsDeclaration : List At → DeclarationTree → Type 0 where
-  is_declaration : {x y : Lexeme} (z : Lexeme) {us vs : List At} {t : Ty} {e : RawTerm} → x.sym ≡ sym.Name → IsMark mark.Colon y → IsType 0 0 us t → IsMark mark.Equals z → IsInit vs e → IsDeclaration (at 0 x ∷ at 0 y ∷ (us ++ (at 0 z ∷ vs))) (record { from = x.start; to = x.end; ty = t; init = e })
+  is_declaration : {x y : Lexeme} (z : Lexeme) {us vs : List At} {t : Ty} {e : RawTerm} → x.sym ≡ sym.Name → IsMark mark.Colon y → IsType 0 0 us t → IsMark mark.Equals z → IsInit vs e → IsDeclaration (at 0 x ∷ at 0 y ∷ (us ++ (at 0 z ∷ vs))) (record { name = span_of x; ty = t; init = e })
 
 -- the greatest depth
 abbrev pub deepest : ℕ

@@ -2,7 +2,7 @@
 use Rattle.std.specs.Prelude.{◌≡◌, ◌≢◌, ℕ, List, [], ◌∷◌, ◌++◌, All}
 use Rattle.stm_terms.specs.declared.expr.Op.{Op}
 use Rattle.stm_terms.specs.declared.expr.Op.TheVariants as op
-use Rattle.stm_terms.specs.ParsedAst.{name, bin, RawAct, return}
+use Rattle.stm_terms.specs.ParsedAst.{RawTerm, name, bin, RawAct, return}
 use Rattle.stm_parse.specs.declared.token.Mark.{Mark}
 use Rattle.stm_parse.specs.declared.token.Mark.TheVariants as mark
 use Rattle.stm_parse.specs.declared.token.TokenKind.{TokenKind}
@@ -82,6 +82,10 @@ EachPair P xs ys = All (λ x. All (P x) ys) xs
 abbrev pub lexeme : TokenKind → ℕ → ℕ → Lexeme
 lexeme s from to = record { sym = s; start = from; end = to }
 
+-- a name, by where it begins and ends
+abbrev pub name_at : ℕ → ℕ → RawTerm
+name_at from to = name (record { start = from; end = to })
+
 -- return ( a o b p c ), wherever its tokens stand
 abbrev pub two_operators : Mark → Mark → ℕ → ℕ → ℕ → ℕ → ℕ → ℕ → ℕ → ℕ → ℕ → List Lexeme
 two_operators o p r a a' b b' c c' i j =
@@ -89,11 +93,11 @@ two_operators o p r a a' b b' c c' i j =
 
 -- a o b p c is (a o b) p c
 abbrev pub ToLeft : Signed → Signed → Type 0
-ToLeft o p = (r a a' b b' c c' i j : ℕ) → IsText IsBlock (two_operators o.0 p.0 r a a' b b' c c' i j) (return (bin p.1 (bin o.1 (name a a') (name b b')) (name c c')))
+ToLeft o p = (r a a' b b' c c' i j : ℕ) → IsText IsBlock (two_operators o.0 p.0 r a a' b b' c c' i j) (return (bin p.1 (bin o.1 (name_at a a') (name_at b b')) (name_at c c')))
 
 -- a o b p c is a o (b p c)
 abbrev pub ToRight : Signed → Signed → Type 0
-ToRight o p = (r a a' b b' c c' i j : ℕ) → IsText IsBlock (two_operators o.0 p.0 r a a' b b' c c' i j) (return (bin o.1 (name a a') (bin p.1 (name b b') (name c c'))))
+ToRight o p = (r a a' b b' c c' i j : ℕ) → IsText IsBlock (two_operators o.0 p.0 r a a' b b' c c' i j) (return (bin o.1 (name_at a a') (bin p.1 (name_at b b') (name_at c c'))))
 
 -- a o b p c is no text
 abbrev pub NotChained : Signed → Signed → Type 0

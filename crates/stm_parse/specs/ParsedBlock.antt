@@ -37,7 +37,7 @@ abbrev pub TermNamesAre : List ℕ → RawTerm → Type 0
 TermNamesAre text (int n at) = Unit {0}
 TermNamesAre text (truth b at) = Unit {0}
 TermNamesAre text (unit at) = Unit {0}
-TermNamesAre text (name from to) = IsNameOf text from to
+TermNamesAre text (name span) = IsNameOf text span.start span.end
 TermNamesAre text (bin op a b) = TermNamesAre text a × TermNamesAre text b
 
 -- each name of an action is a name of the text
@@ -50,8 +50,8 @@ NamesAre text retry = Unit {0}
 NamesAre text (throw e) = TermNamesAre text e
 NamesAre text (if_else e a at b) = TermNamesAre text e × NamesAre text a × NamesAre text b
 NamesAre text (or_else a at b) = NamesAre text a × NamesAre text b
-NamesAre text (bind from to at a b) = IsNameOf text from to × NamesAre text a × NamesAre text b
-NamesAre text (let_in from to e b) = IsNameOf text from to × TermNamesAre text e × NamesAre text b
+NamesAre text (bind span at a b) = IsNameOf text span.start span.end × NamesAre text a × NamesAre text b
+NamesAre text (let_in span e b) = IsNameOf text span.start span.end × TermNamesAre text e × NamesAre text b
 NamesAre text (seq a b) = NamesAre text a × NamesAre text b
 
 -- a box at no place in memory
@@ -62,7 +62,7 @@ abbrev boxed_term : RawTerm → RawExpr
 boxed_term (int n at) = E.Int n at
 boxed_term (truth b at) = E.Bool b at
 boxed_term (unit at) = E.Unit at
-boxed_term (name from to) = E.Name (record { start = from; end = to })
+boxed_term (name span) = E.Name span
 boxed_term (bin op a b) = E.Bin' op nowhere (boxed_term a) nowhere (boxed_term b)
 
 abbrev boxed : RawAct → RawAction
@@ -74,15 +74,15 @@ boxed retry = A.Retry
 boxed (throw e) = A.Throw (boxed_term e)
 boxed (if_else e a at b) = A.If' (boxed_term e) nowhere (boxed a) at nowhere (boxed b)
 boxed (or_else a at b) = A.OrElse' nowhere (boxed a) at nowhere (boxed b)
-boxed (bind from to at a b) = A.Bind' (record { start = from; end = to }) at nowhere (boxed a) nowhere (boxed b)
-boxed (let_in from to e b) = A.Let' (record { start = from; end = to }) (boxed_term e) nowhere (boxed b)
+boxed (bind span at a b) = A.Bind' span at nowhere (boxed a) nowhere (boxed b)
+boxed (let_in span e b) = A.Let' span (boxed_term e) nowhere (boxed b)
 boxed (seq a b) = A.Seq' nowhere (boxed a) nowhere (boxed b)
 
 term_back : (e : RawTerm) → raw_term_of (boxed_term e) ≡ e
 term_back (int n at) = refl
 term_back (truth b at) = refl
 term_back (unit at) = refl
-term_back (name from to) = refl
+term_back (name span) = refl
 term_back (bin op a b) = ap₂ (λ x y. bin op x y) (term_back a) (term_back b)
 
 pub raw_act_back : (a : RawAct) → raw_act_of (boxed a) ≡ a
@@ -94,8 +94,8 @@ raw_act_back retry = refl
 raw_act_back (throw e) = ap throw (term_back e)
 raw_act_back (if_else e a at b) = ap (λ x. if_else x (raw_act_of (boxed a)) at (raw_act_of (boxed b))) (term_back e) ∙ ap₂ (λ x y. if_else e x at y) (raw_act_back a) (raw_act_back b)
 raw_act_back (or_else a at b) = ap₂ (λ x y. or_else x at y) (raw_act_back a) (raw_act_back b)
-raw_act_back (bind from to at a b) = ap₂ (λ x y. bind from to at x y) (raw_act_back a) (raw_act_back b)
-raw_act_back (let_in from to e b) = ap₂ (λ x y. let_in from to x y) (term_back e) (raw_act_back b)
+raw_act_back (bind span at a b) = ap₂ (λ x y. bind span at x y) (raw_act_back a) (raw_act_back b)
+raw_act_back (let_in span e b) = ap₂ (λ x y. let_in span x y) (term_back e) (raw_act_back b)
 raw_act_back (seq a b) = ap₂ (λ x y. seq x y) (raw_act_back a) (raw_act_back b)
 
 abbrev pub raw_code : Coded RawAct

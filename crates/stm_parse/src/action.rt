@@ -244,7 +244,7 @@ fn bound<'t>(
 ) -> Parsed<'t, Box<RawAction>>
     requires { levels ≤ deepest }
     ensures gives { GivesReading boxed_tree result
-        (bound (action_at levels) (body_at levels) name.start name.end toks.now) }
+        (bound (action_at levels) (body_at levels) name toks.now) }
     ensures shorter { IfOk result (λ r. length r.1.now ≤ length toks.now) }
 {
     let toks = expect(Mark::Arrow, toks)?;
