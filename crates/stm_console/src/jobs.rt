@@ -186,6 +186,23 @@ fn deliver_answers(desk: &mut Desk, answers: Vec<Answer>) -> Result<Progress, No
     Ok(so_far)
 }
 
+/// Blocks of so many bytes of text are work for one thread: they take some eighty microseconds, and a thread some forty until
+/// it has begun.
+const BYTES_OF_A_THREAD: usize = 16_384;
+
+/// By how many threads jobs are evaluated: as many as there are workers, but no more than their blocks are worth.
+fn threads_for(threading: Threading, jobs: &[Job]) -> usize
+    ensures some { 0 < result }
+    ensures few { result ≤ 64 }
+{
+    let mut bytes: usize = 0;
+    for job in jobs {
+        bytes = bytes.saturating_add(job.block.block().text().len());
+    }
+    let worth = bytes / BYTES_OF_A_THREAD + 1;
+    worth.min(threading.workers() as usize)
+}
+
 /// Evaluates jobs by threads on a store, and delivers their answers in the order of the jobs.
 fn evaluate_jobs<T: Threads + Sync>(
     desk: &mut Desk,
@@ -204,7 +221,7 @@ fn evaluate_jobs<T: Threads + Sync>(
     ensures grown { HasGrown desk.old desk.new }
     ensures store { (now desk.new).store ≡ (now desk.old).store }
 {
-    let workers = threading.workers() as usize;
+    let workers = threads_for(threading, jobs.as_slice());
     match evaluate_all(rt, alloc, store, jobs, workers, threading.levels()) {
         Ok(answers) => deliver_answers(desk, answers),
         Err((_, refused)) => Err(refused),
