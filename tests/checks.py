@@ -5,15 +5,18 @@ import pathlib
 import transcript
 
 HERE = pathlib.Path(__file__).resolve().parent
-HEADER = b'{"format":1,"vars":'  # how the text of a history begins
+HEADER = b'{"format":2,"vars":'  # how the text of a history begins
 EXAMPLE = "the_example_of_a_history.case"  # it stands in docs/HISTORY.md; its variable has line 2, its events lines 3 to 8
 
 # Of the example: the line, what stands there, what takes its place (all of it, where nothing is named), and the answer.
 CHANGES = [
-    (1, '"format":1', '"format":0', "bad header"),
-    (1, '"format":1', '"format":2', "bad header"),
-    (1, '"format":1', '"format":3', "bad header"),
-    (1, '"format":1', '"format":4', "bad header"),
+    (1, '"format":2', '"format":0', "bad header"),
+    (1, '"format":2', '"format":1', "legal 6 events"),
+    (1, '"format":2', '"format":02', "bad header"),
+    (1, '"format":2', '"format":3', "bad header"),
+    (1, '"format":2', '"format":4', "bad header"),
+    (1, '"format":2', '"format":"2"', "bad header"),
+    (1, '"format":2,', "", "bad header"),
     (1, '"vars":1', '"vars":2', "bad header"),
     (1, '"vars":1', '"vars": 1', "bad header"),
     (1, '"vars":1', '"vars":01', "bad header"),
@@ -21,7 +24,7 @@ CHANGES = [
     (1, '"vars":1', '"vars":1000001', "bad header"),
     (1, '"vars":1', '"vars":0', "bad line 2"),
     (1, '"vars":1', '"vars":1,"vars":1', "bad header"),
-    (1, None, '{"vars":1,"format":1}', "bad header"),
+    (1, None, '{"vars":1,"format":2}', "bad header"),
     (2, '"Int"', '"Bool"', "bad header"),
     (2, '"Int"', '"int"', "bad header"),
     (2, '"Int"', '"Int "', "bad header"),
@@ -37,7 +40,8 @@ CHANGES = [
     (3, "readTVar x", "readTVar\\tx\\n", "legal 6 events"),
     (3, "readTVar x", "readTVar\\u0009x", "bad line 3"),
     (3, "readTVar x", "readTVar\\u000bx", "bad line 3"),
-    (3, "readTVar x", "catch (throw 4) e (return e)", "bad line 3"),
+    (3, "readTVar x", "catch (throw 4) e (return e)", "not legal 5"),
+    (3, "readTVar x", "catch (readTVar x) e (return e)", "legal 6 events"),
     (3, '"client":0', '"client":127', "legal 6 events"),
     (3, '"client":0', '"client":128', "bad line 3"),
     (3, '"client":0', '"client":-1', "bad line 3"),
@@ -105,6 +109,11 @@ def texts():
     quiet = "".join(lines[:-1]).replace("x 5", "x 1").replace("[0,5]", "[0,1]")
     yield "a write of the same value", quiet, "legal 5 events"
     yield "a write of the same value, with nobody stale", quiet.replace('"stale":[1]', '"stale":[]'), "not legal 7"
+    # A `catch` came with format 2.
+    for nested in ("catch (readTVar x) e (return e)", "do { return 1; catch (readTVar x) e (return e) }"):
+        caught = "".join(lines).replace("readTVar x", nested)
+        yield f"{nested!r} in format 2", caught, "legal 6 events"
+        yield f"{nested!r} in format 1", caught.replace('"format":2', '"format":1'), "bad line 3"
     yield "twice", "".join(lines) * 2, "bad line 9"
 
 

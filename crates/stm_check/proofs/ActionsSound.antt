@@ -7,10 +7,11 @@ use Rattle.stm_terms.specs.declared.values.Ref.{Ref}
 use Rattle.stm_terms.specs.declared.values.Ref.TheVariants.{Old, New}
 use Rattle.stm_terms.specs.declared.values.Value.{Value}
 use Rattle.stm_terms.specs.declared.values.Value.TheVariants.{Int, Bool as Truth, Unit as Nil, Var}
-use Rattle.stm_terms.specs.Ast.{Act, return, read, write, make, retry, throw, if_else, or_else, bind, let_in, seq}
+use Rattle.stm_terms.specs.declared.values.Fault.TheVariants.{Thrown, Overflow}
+use Rattle.stm_terms.specs.Ast.{Act, return, read, write, make, retry, throw, if_else, or_else, bind, let_in, seq, catch}
 use Rattle.stm_terms.specs.Value.{Answer}
 use Rattle.stm_terms.specs.Changes.{Variables, Changes, find, put, first_of, view_at, written, cell_written, made}
-use Rattle.stm_terms.specs.Semantics.{Outcome, Returned, Threw, Retried, Stuck, on_answer, then_run, else_run, returned_value, returned_unit, read_at, write_at, thrown, chosen, run}
+use Rattle.stm_terms.specs.Semantics.{Outcome, Returned, Threw, Retried, Stuck, on_answer, then_run, catch_run, else_run, returned_value, returned_unit, read_at, write_at, thrown, chosen, run}
 use Rattle.stm_terms.specs.Typing.{TypeEnv, int_ty, bool_ty, unit_ty, var_ty, deref_ty, same_ty, kind_of, type_of, with_type, ActionType, Gives, Any, join_types, with_result, with_bound, action_type, WellTyped, HaveTypes, AllAbove, Rising}
 use Rattle.stm_check.proofs.ExpressionsSound.{IsOf, and_left, and_right, is_int, is_truth, same_ty_equal, when_true, with_type_some, expr_fine}
 
@@ -267,6 +268,13 @@ module _ (kinds : TypeEnv) (under : Variables) where
   either_fine h r Retried b p q = q
   either_fine h r Stuck b p q = p
 
+  caught_fine : (h : Changes) (r : ActionType) (o : Outcome) (handler : Value → Outcome) → Fine h r o → ((v : Value) → type_of kinds h v ≡ Some int_ty → Fine h r (handler v)) → Fine h r (catch_run o handler)
+  caught_fine h r (Returned v k) handler p f = p
+  caught_fine h r (Threw (Thrown n)) handler p f = f (Int n) refl
+  caught_fine h r (Threw Overflow) handler p f = tt
+  caught_fine h r Retried handler p f = tt
+  caught_fine h r Stuck handler p f = p
+
   at_type : (h : Changes) (r q : ActionType) (o : Outcome) → ((k : Changes) (v : Value) → HasResult k r v → HasResult k q v) → Fine h r o → Fine h q o
   at_type h r q (Returned v k) f p = (f k v p.0, p.1, p.2)
   at_type h r q (Threw e) f p = tt
@@ -374,6 +382,13 @@ module _ (kinds : TypeEnv) (under : Variables) where
       let s = with_result_some _ _ r p in
       return_fine h s.0 r _ _ (run_fine a locals types h s.0 w l s.1)
       (λ v k q m x. from_earlier h k r _ x (run_fine b locals types k r m (locals_kept kinds h k x locals types l) s.2))
+  run_fine (catch a b) locals types h r w l p =
+      let s = with_result_some _ _ r p in
+      let u = with_result_some _ _ r s.2 in
+      caught_fine h r _ _
+      (at_type h s.0 r _ (from_left s.0 u.0 r u.2) (run_fine a locals types h s.0 w l s.1))
+      (λ v q. at_type h u.0 r _ (from_right s.0 u.0 r u.2)
+      (run_fine b (locals ++ v ∷ []) (types ++ int_ty ∷ []) h u.0 w (one_more kinds h locals types v int_ty l q) u.1))
 
   not_stuck : (h : Changes) (r : ActionType) (o : Outcome) → Fine h r o → o ≢ Stuck
   not_stuck h r (Returned v k) p e = cc

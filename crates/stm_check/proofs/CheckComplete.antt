@@ -6,7 +6,7 @@ use Rattle.stm_terms.specs.declared.values.Value.{Value}
 use Rattle.stm_terms.specs.declared.values.Value.TheVariants as value
 use Rattle.stm_terms.specs.declared.expr.Op.{Op}
 use Rattle.stm_terms.specs.declared.expr.Op.TheVariants.{Mul, Add, Sub, Eq, Lt, Le, And, Or}
-use Rattle.stm_terms.specs.Ast.{Term, lit, local, global, bin, Act, return, read, write, make, retry, throw, if_else, or_else, bind, let_in, seq}
+use Rattle.stm_terms.specs.Ast.{Term, lit, local, global, bin, Act, return, read, write, make, retry, throw, if_else, or_else, bind, let_in, seq, catch}
 use Rattle.stm_terms.specs.ParsedAst as raw
 use Rattle.stm_terms.specs.Typing.{int_ty, bool_ty, unit_ty, var_ty, deref_ty, same_ty, literal_type, op_type, operands, expr_type, ActionType, Gives, Any, join_types, action_type}
 use Rattle.stm_store.specs.Tables.{Declared, number_of}
@@ -175,4 +175,11 @@ module _ (table : List Declared) (text : List ℕ) where
       let s = with_result_some (action_type (table_kinds table) (types_of ls) y) _ r p in
       ok_is (checked table text ls a) _ (y, s.0) (seq y z, r) (act_accepted a ls y s.0 h.0 s.1)
       (ok_is (checked table text ls b) _ (z, r) (seq y z, r) (act_accepted b ls z r h.1 s.2) refl)
+  act_accepted (raw.catch a span at b) ls (catch y z) r h p =
+      let s = with_result_some (action_type (table_kinds table) (types_of ls) y) _ r p in
+      let inner : Locals = (raw.text_at text span, int_ty) ∷ ls in
+      let u = with_result_some (action_type (table_kinds table) (types_of inner) z) _ r s.2 in
+      ok_is (checked table text ls a) _ (y, s.0) (catch y z, r) (act_accepted a ls y s.0 h.0 s.1)
+      (ok_is (checked table text inner b) _ (z, u.0) (catch y z, r) (act_accepted b inner z u.0 h.1 u.1)
+      (some_is (join_types s.0 u.0) _ _ r (catch y z, r) u.2 refl))
   act_accepted w ls a r h p = absurd h

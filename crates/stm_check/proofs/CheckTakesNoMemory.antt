@@ -95,6 +95,10 @@ module _ (table : List Declared) (text : List ℕ) where
       ok_told (checked table text ((raw.text_at text span, x.1) ∷ ls) b) _ (told b ((raw.text_at text span, x.1) ∷ ls)) (λ y. tt))
   told (raw.seq a b) ls =
       ok_told (checked table text ls a) _ (told a ls) (λ x. ok_told (checked table text ls b) _ (told b ls) (λ y. tt))
+  told (raw.catch a span at b) ls =
+      ok_told (checked table text ls a) _ (told a ls) (λ y.
+      ok_told (checked table text ((raw.text_at text span, int_ty) ∷ ls) b) _ (told b ((raw.text_at text span, int_ty) ∷ ls)) (λ z.
+      some_told (join_types y.1 z.1) (Mismatch at) _ (mismatch at) (λ r. tt)))
 
 pub faults_are_the_text : CheckNeverSaysNoMemory
 faults_are_the_text table text w ls e =

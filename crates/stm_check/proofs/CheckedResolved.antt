@@ -3,7 +3,7 @@ use Rattle.std.proofs.Common.{◌≡◌, ℕ, Bool, true, false, List, [], ◌�
 use Rattle.std.specs.Prelude.{option_map, nat_le, if◌then◌else◌}
 use Rattle.std.specs.Str.{bytes_eq}
 use Rattle.stm_terms.specs.declared.kinds.Ty.{Ty}
-use Rattle.stm_terms.specs.Ast.{Term, bin, Act, write, if_else, or_else, bind, let_in, seq}
+use Rattle.stm_terms.specs.Ast.{Term, bin, Act, write, if_else, or_else, bind, let_in, seq, catch}
 use Rattle.stm_terms.specs.ParsedAst as raw
 use Rattle.stm_terms.specs.Typing.{TypeEnv, int_ty, bool_ty, unit_ty, deref_ty, same_ty, ActionType, Gives, join_types}
 use Rattle.stm_store.specs.Tables.{Declared, number_of}
@@ -98,3 +98,8 @@ module _ (table : List Declared) (text : List ℕ) where
   act_named (raw.seq a b) ls =
       let P = NamedAct (names_of ls) (raw.seq a b) in
       ok_then _ _ (NamedAct (names_of ls) a) P (act_named a ls) (λ x p. ok_then _ _ (NamedAct (names_of ls) b) P (act_named b ls) (λ y q. let d : NamedAct (names_of ls) (raw.seq a b) (seq x.0 y.0, y.1) = (p, q) in d))
+  act_named (raw.catch a span at b) ls =
+      let P = NamedAct (names_of ls) (raw.catch a span at b) in
+      ok_then _ _ (NamedAct (names_of ls) a) P (act_named a ls) (λ y q.
+      ok_then _ _ (NamedAct (raw.text_at text span ∷ names_of ls) b) P (act_named b ((raw.text_at text span, int_ty) ∷ ls)) (λ z r.
+      some_then (join_types y.1 z.1) _ _ P (λ w j. let d : NamedAct (names_of ls) (raw.catch a span at b) (catch y.0 z.0, w) = (q, r) in d)))

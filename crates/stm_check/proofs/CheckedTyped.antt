@@ -5,7 +5,7 @@ use Rattle.std.specs.Str.{bytes_eq}
 use Rattle.stm_terms.specs.declared.kinds.Ty.{Ty}
 use Rattle.stm_terms.specs.declared.expr.Op.{Op}
 use Rattle.stm_terms.specs.declared.expr.Op.TheVariants.{Mul, Add, Sub, Eq, Lt, Le, And, Or}
-use Rattle.stm_terms.specs.Ast.{Term, bin, Act, return, read, write, make, throw, if_else, or_else, bind, let_in, seq}
+use Rattle.stm_terms.specs.Ast.{Term, bin, Act, return, read, write, make, throw, if_else, or_else, bind, let_in, seq, catch}
 use Rattle.stm_terms.specs.ParsedAst as raw
 use Rattle.stm_terms.specs.Typing.{TypeEnv, int_ty, bool_ty, unit_ty, var_ty, deref_ty, deref_at, same_ty, op_type, expr_type, ActionType, Gives, Any, join_types, when, action_type}
 use Rattle.stm_check.proofs.SameTypes.{ty_same, ty_refl}
@@ -171,3 +171,7 @@ module _ (table : List Declared) (text : List ℕ) where
       ok_then _ _ (TypedAct ((raw.text_at text span, x.1) ∷ ls)) (TypedAct ls) (typed b ((raw.text_at text span, x.1) ∷ ls)) (λ y q. let d : TypedAct ls (let_in x.0 y.0, y.1) = rw p q in d))
   typed (raw.seq a b) ls =
       ok_then _ _ (TypedAct ls) (TypedAct ls) (typed a ls) (λ x p. ok_then _ _ (TypedAct ls) (TypedAct ls) (typed b ls) (λ y q. let d : TypedAct ls (seq x.0 y.0, y.1) = rw (p, q) refl in d))
+  typed (raw.catch a span at b) ls =
+      ok_then _ _ (TypedAct ls) (TypedAct ls) (typed a ls) (λ y q.
+      ok_then _ _ (TypedAct ((raw.text_at text span, int_ty) ∷ ls)) (TypedAct ls) (typed b ((raw.text_at text span, int_ty) ∷ ls)) (λ z r.
+      some_then (join_types y.1 z.1) _ _ (TypedAct ls) (λ w j. let d : TypedAct ls (catch y.0 z.0, w) = rw (q, r) j in d)))

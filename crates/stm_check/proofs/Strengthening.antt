@@ -3,8 +3,8 @@ use Rattle.std.proofs.Common.{◌≡◌, ℕ, Bool, true, false, List, [], ◌�
 use Rattle.std.specs.Prelude.{nat_eq, option_map, if◌then◌else◌}
 use Rattle.std.proofs.lemmas.Bool.{eqb-true, eq-eqb}
 use Rattle.stm_terms.specs.declared.kinds.Ty.{Ty}
-use Rattle.stm_terms.specs.Ast.{Term, lit, local, global, bin, Act, return, read, write, make, retry, throw, if_else, or_else, bind, let_in, seq}
-use Rattle.stm_terms.specs.Typing.{TypeEnv, var_ty, with_type, expr_type, ActionType, Gives, Any, with_result, with_bound, action_type, kinds_in, named_in, named, record_use_as, record_use, record_uses, uses_of}
+use Rattle.stm_terms.specs.Ast.{Term, lit, local, global, bin, Act, return, read, write, make, retry, throw, if_else, or_else, bind, let_in, seq, catch}
+use Rattle.stm_terms.specs.Typing.{TypeEnv, var_ty, with_type, int_ty, expr_type, ActionType, Gives, Any, with_result, with_bound, action_type, kinds_in, named_in, named, record_use_as, record_use, record_uses, uses_of}
 
 -- at each of these variables both say the same
 abbrev pub AgreeAt : TypeEnv → TypeEnv → List ℕ → Type 0
@@ -62,6 +62,8 @@ module _ (k m : TypeEnv) where
       (let_same (expr_type k locals e) _ _ (λ t. act_same b (locals ++ t ∷ []) (agree_right k m (named_in e) (named b) h)))
   act_same (seq a b) locals h =
       rw (act_same a locals (agree_left k m (named a) (named b) h), act_same b locals (agree_right k m (named a) (named b) h)) refl
+  act_same (catch a b) locals h =
+      rw (act_same a locals (agree_left k m (named a) (named b) h), act_same b (locals ++ int_ty ∷ []) (agree_right k m (named a) (named b) h)) refl
 
 pub nat_test : (m n : ℕ) → ((m ≡ n) × (nat_eq m n ≡ true)) ⊎ (nat_eq m n ≡ false)
 nat_test m n = elim (nat_eq m n) as (λ b. nat_eq m n ≡ b → ((m ≡ n) × (nat_eq m n ≡ true)) ⊎ (nat_eq m n ≡ false)) [ true ↦ λ e. inl (eqb-true m n e, e) | false ↦ λ e. inr e ] refl

@@ -2,7 +2,7 @@
 use Rattle.std.proofs.Common.{◌≡◌, ℕ, ◌≤◌, List, [], ◌∷◌, Some, Result, Ok, Err, IfOk, sym, subst, arith}
 use Rattle.std.specs.Prelude.{nat_le}
 use Rattle.stm_terms.specs.declared.kinds.Ty.{Ty}
-use Rattle.stm_terms.specs.Ast.{Term, Act, return, read, write, make, retry, throw, if_else, or_else, bind, let_in, seq}
+use Rattle.stm_terms.specs.Ast.{Term, Act, return, read, write, make, retry, throw, if_else, or_else, bind, let_in, seq, catch}
 use Rattle.stm_terms.specs.ParsedAst as raw
 use Rattle.stm_terms.specs.Typing.{int_ty, bool_ty, unit_ty, var_ty, deref_ty, same_ty, join_types, ActionType, Gives, Any, action_type, kinds_in, uses_of, makes}
 use Rattle.stm_check.proofs.Strengthening.{typed_by_uses}
@@ -68,6 +68,11 @@ module _ (table : List Declared) (text : List ℕ) where
       ok_then _ _ (SmallAct a) (SmallAct (raw.seq a b)) (small a ls) (λ y q.
       ok_then _ _ (SmallAct b) (SmallAct (raw.seq a b)) (small b ls) (λ z r.
       let d : SmallAct (raw.seq a b) (seq y.0 z.0, z.1) = omega arith in d))
+  small (raw.catch a span at b) ls =
+      ok_then _ _ (SmallAct a) (SmallAct (raw.catch a span at b)) (small a ls) (λ y q.
+      ok_then _ _ (SmallAct b) (SmallAct (raw.catch a span at b)) (small b ((raw.text_at text span, int_ty) ∷ ls)) (λ z r.
+      some_then (join_types y.1 z.1) _ _ (SmallAct (raw.catch a span at b)) (λ w j.
+      let d : SmallAct (raw.catch a span at b) (catch y.0 z.0, w) = omega arith in d)))
 
 pub kept_small : (table : List Declared) (text : List ℕ) (w : raw.RawAct) (a : Act) (r : ActionType) → checked table text [] w ≡ Ok (a, r) → makes a ≤ raw.actions w
 kept_small table text w a r e = let h = small table text w [] in subst (λ (o : Result (Act × ActionType) TypeFault). IfOk o (Small (raw.actions w))) e h

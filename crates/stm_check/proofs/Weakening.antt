@@ -4,10 +4,10 @@ use Rattle.std.specs.Prelude.{nat_eq, slice_get, option_map, if◌then◌else◌
 use Rattle.stm_terms.specs.declared.kinds.Ty.{Ty}
 use Rattle.stm_terms.specs.declared.values.Value.{Value}
 use Rattle.stm_terms.specs.Ast.{Term, lit, local, global, bin}
-use Rattle.stm_terms.specs.Ast.{Act, return, read, write, make, retry, throw, if_else, or_else, bind, let_in, seq}
+use Rattle.stm_terms.specs.Ast.{Act, return, read, write, make, retry, throw, if_else, or_else, bind, let_in, seq, catch}
 use Rattle.stm_terms.specs.Changes.{Variables, Changes, no_changes, cell_value}
 use Rattle.stm_terms.specs.Semantics.{Outcome, Returned, Threw, Retried, Stuck, run}
-use Rattle.stm_terms.specs.Typing.{TypeEnv, kinds_in, type_of, var_ty, with_type, expr_type, ActionType, Gives, Any, with_result, with_bound, action_type, WellTyped}
+use Rattle.stm_terms.specs.Typing.{TypeEnv, kinds_in, type_of, int_ty, var_ty, with_type, expr_type, ActionType, Gives, Any, with_result, with_bound, action_type, WellTyped}
 use Rattle.stm_store.specs.Cells.{kinds_of, StoreIsTyped, Covers, CommitFits, Fits}
 use Rattle.stm_check.proofs.ActionsSound.{typed_not_stuck, run_fine, Fine, HasResult}
 use Rattle.stm_terms.specs.declared.verdicts.Verdict.{Verdict}
@@ -61,6 +61,8 @@ module _ (few more : TypeEnv) (known : (i : ℕ) (t : Ty) → few i ≡ Some t �
       type_then _ _ _ _ r (expr_more e locals) (λ t. action_more b (locals ++ t ∷ []) r) p
   action_more (seq a b) locals r p =
       result_then _ _ _ _ r (action_more a locals) (λ s. action_more b locals r) p
+  action_more (catch a b) locals r p =
+      result_then _ _ _ _ r (action_more a locals) (λ s. result_then _ _ _ _ r (action_more b (locals ++ int_ty ∷ [])) (λ u q. q)) p
 
 cell_of : (o : Option (Ty × Value)) (t : Ty) → option_map (λ c. c.0) o ≡ Some t → (c : Ty × Value) × (o ≡ Some c) × (c.0 ≡ t)
 cell_of (Some c) t e = (c, refl, cc)

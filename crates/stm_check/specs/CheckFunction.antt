@@ -4,7 +4,7 @@ use Rattle.stm_terms.specs.declared.expr.Op.{Op}
 use Rattle.stm_terms.specs.declared.expr.Op.TheVariants.{Mul, Add, Sub, Eq, Lt, Le, And, Or}
 use Rattle.stm_terms.specs.declared.kinds.Ty.{Ty}
 use Rattle.stm_terms.specs.declared.values.Value.TheVariants as value
-use Rattle.stm_terms.specs.Ast.{Term, lit, local, global, bin, Act, return, read, write, make, retry, throw, if_else, or_else, bind, let_in, seq}
+use Rattle.stm_terms.specs.Ast.{Term, lit, local, global, bin, Act, return, read, write, make, retry, throw, if_else, or_else, bind, let_in, seq, catch}
 use Rattle.stm_terms.specs.Limits.{most_refs}
 use Rattle.stm_terms.specs.ParsedAst as raw
 use Rattle.stm_terms.specs.Typing.{TypeEnv, int_ty, bool_ty, unit_ty, var_ty, deref_ty, same_ty, ActionType, Gives, Any, join_types}
@@ -125,6 +125,9 @@ module _ (table : List Declared) (text : List ℕ) where
   checked ls (raw.let_in span e b) =
       on_ok (checked_expr ls e) (λ x. on_ok (checked ((raw.text_at text span, x.1) ∷ ls) b) (λ y. Ok (let_in x.0 y.0, y.1)))
   checked ls (raw.seq a b) = on_ok (checked ls a) (λ x. on_ok (checked ls b) (λ y. Ok (seq x.0 y.0, y.1)))
+  checked ls (raw.catch a span at b) =
+      on_ok (checked ls a) (λ y. on_ok (checked ((raw.text_at text span, int_ty) ∷ ls) b)
+      (λ z. on_some (join_types y.1 z.1) (Mismatch at) (λ r. Ok (catch y.0 z.0, r))))
 
 -- the result of the code is this one, unless memory ran out
 abbrev pub ChecksAs : {A B : Type 0} → (A → B) → Result A TypeFault → Result B TypeFault → Type 0

@@ -3,7 +3,7 @@
 use Rattle.std.specs.Prelude.{◌≡◌, ℕ, List, [], ◌∷◌, length, Option, Some, None, if◌then◌else◌}
 use Rattle.std.specs.Str.{bytes_eq}
 use Rattle.stm_terms.specs.declared.values.Value.TheVariants as value
-use Rattle.stm_terms.specs.Ast.{Term, lit, local, global, bin, Act, return, read, write, make, retry, throw, if_else, or_else, bind, let_in, seq}
+use Rattle.stm_terms.specs.Ast.{Term, lit, local, global, bin, Act, return, read, write, make, retry, throw, if_else, or_else, bind, let_in, seq, catch}
 use Rattle.stm_terms.specs.ParsedAst as raw
 use Rattle.stm_store.specs.Tables.{Declared, number_of}
 
@@ -40,4 +40,5 @@ module _ (table : List Declared) (text : List ℕ) where
   IsAct ns (raw.bind span at a b) (bind y z) = IsAct ns a y × IsAct (raw.text_at text span ∷ ns) b z
   IsAct ns (raw.let_in span e b) (let_in x z) = IsTerm ns e x × IsAct (raw.text_at text span ∷ ns) b z
   IsAct ns (raw.seq a b) (seq y z) = IsAct ns a y × IsAct ns b z
+  IsAct ns (raw.catch a span at b) (catch y z) = IsAct ns a y × IsAct (raw.text_at text span ∷ ns) b z
   IsAct ns w a = ⊥

@@ -133,6 +133,36 @@ impl Checker<'_> {
     }
 
     #[cycle(actions)]
+    fn check_catch(
+        &self,
+        uses: &mut Vec<(u32, Ty)>,
+        action: &RawAction,
+        name: Span,
+        at: usize,
+        handler: &RawAction,
+    ) -> Checked
+        requires { CanCheck self.now
+            (raw.catch (raw_act_of action.now) name at (raw_act_of handler.now)) }
+        ensures { ChecksAction self.now
+            (raw.catch (raw_act_of action.now) name at (raw_act_of handler.now))
+            act_of result uses.old.items uses.new.items }
+    {
+        let (a, returned) = self.check_part(uses, action)?;
+        let local = name_at(self.text, name);
+        let inner = Checker {
+            alloc: self.alloc,
+            table: self.table,
+            text: self.text,
+            locals: &Scope::Local(local, INT, self.locals),
+        };
+        let (b, handled) = inner.check_part(uses, handler)?;
+        let Some(kind) = join(returned, handled) else {
+            return Err(TypeFault::Mismatch(at));
+        };
+        Ok((Action::Catch(a, b), kind))
+    }
+
+    #[cycle(actions)]
     fn check_bind(
         &self,
         uses: &mut Vec<(u32, Ty)>,
@@ -252,6 +282,12 @@ impl Checker<'_> {
             } => self.check_bind(uses, *name, *at, bound, rest),
             RawAction::Let { name, value, rest } => { self.check_let(uses, *name, value, rest) }
             RawAction::Seq(statement, rest) => self.check_seq(uses, statement, rest),
+            RawAction::Catch {
+                action,
+                name,
+                at,
+                handler,
+            } => self.check_catch(uses, action, *name, *at, handler),
         }
     }
 }

@@ -17,7 +17,7 @@ use Rattle.stm_history.specs.declared.errors.FinishError.{FinishError}
 use Rattle.stm_history.specs.declared.errors.SubmitError.{SubmitError}
 use Rattle.stm_history.specs.declared.event.What.{What}
 use Rattle.stm_history.specs.Laws.{DeclaredAreCovered, WaitingAreWellTyped, StoresAreTyped, BlocksHaveVerdicts}
-use Rattle.stm_history.specs.Lines.{format_1}
+use Rattle.stm_history.specs.Lines.{latest_format}
 use Rattle.stm_history.specs.Refusals.{missing, blocks_there, overflows, finish_first}
 use Rattle.stm_history.specs.SlowDesk.{Since, Waiter, Slow, under, verdict_on, written_in, is_blocks, is_new, is_current, find_waiter, without_waiter, stale_after, max_waiting}
 use Rattle.stm_history.specs.SlowSettle.{Stop, NoRoom, NoCells, ending, finishes, installs}
@@ -184,4 +184,4 @@ module _ (judged : (table : List Declared) (text : List ℕ) → BlockOrTold tab
   desk_ends d k Reads argument = number_ends _ (number_argument argument) (λ t. waiter_ends (find_waiter t (now d.desk).waiters))
   desk_ends d k Store argument = nothing_ends (store_text d.desk.table (present d)) argument (cells_end d.desk.table (present d))
   desk_ends d k Settle argument = nothing_ends _ argument (settle_ends (slow_settle (called_back d.desk)) (slow_stop (called_back d.desk)))
-  desk_ends d k History argument = nothing_ends _ argument (history_ends format_1 d.desk.table d.desk.history)
+  desk_ends d k History argument = nothing_ends _ argument (history_ends latest_format d.desk.table d.desk.history)

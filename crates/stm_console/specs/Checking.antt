@@ -4,16 +4,15 @@ use Rattle.stm_terms.specs.Texts.{IsPrefixOf}
 use Rattle.stm_history.specs.declared.files.fault.HistoryFault.TheVariants as fault
 use Rattle.stm_history.specs.declared.files.fault.Legal.{Legal}
 use Rattle.stm_history.specs.Judgement.{IsHistory, TellsFault}
-use Rattle.stm_history.specs.Lines.{format_1}
 use Rattle.stm_console.specs.declared.checking.Finding.{Finding}
 use Rattle.stm_console.specs.declared.checking.Finding.TheVariants.{Legal as LegalFound, BadHeader, BadLine, NotLegal}
 
 -- the bytes are the text of a legal history of so many events, or this is their first fault
 abbrev pub IsFinding : List ℕ → Finding → Type 0
-IsFinding bytes (LegalFound events) = (n : Legal) × IsHistory format_1 bytes n × (events ≡ n.events)
-IsFinding bytes BadHeader = TellsFault format_1 fault.BadHeader bytes
-IsFinding bytes (BadLine n) = TellsFault format_1 (fault.BadLine n) bytes
-IsFinding bytes (NotLegal n) = TellsFault format_1 (fault.NotLegal n) bytes
+IsFinding bytes (LegalFound events) = (n : Legal) × IsHistory bytes n × (events ≡ n.events)
+IsFinding bytes BadHeader = TellsFault fault.BadHeader bytes
+IsFinding bytes (BadLine n) = TellsFault (fault.BadLine n) bytes
+IsFinding bytes (NotLegal n) = TellsFault (fault.NotLegal n) bytes
 
 abbrev pub finding_text : Finding → List ℕ
 finding_text (LegalFound events) = codes "legal " ++ decimal events ++ codes " events\n"

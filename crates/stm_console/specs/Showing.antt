@@ -7,7 +7,7 @@ use Rattle.stm_check.specs.TypedBlock.{Block}
 use Rattle.stm_store.specs.declared.cell.Cell.{Cell}
 use Rattle.stm_store.specs.Tables.{Declared}
 use Rattle.stm_history.specs.HistoryText.{history_text as text_of_history}
-use Rattle.stm_history.specs.Lines.{format_1}
+use Rattle.stm_history.specs.Lines.{latest_format}
 use Rattle.stm_history.specs.SlowDesk.{Since, Waiter, Slow, Standing, New, Stale, Current, under, find_waiter, standing}
 use Rattle.stm_desk.specs.Seen.{now}
 use Rattle.stm_console.specs.Arguments.{number_argument, with_number, with_nothing}
@@ -81,7 +81,7 @@ store_answer d argument = with_nothing (store_text d.desk.table (present d)) arg
 -- ---- history
 -- the text of the events so far
 abbrev pub events_text : OpenDesk → List ℕ
-events_text d = text_of_history format_1 d.desk.table d.desk.history
+events_text d = text_of_history latest_format d.desk.table d.desk.history
 
 -- `history`: the events so far, as docs/HISTORY.md has them
 unfoldable pub history_answer : OpenDesk → List ℕ → List ℕ

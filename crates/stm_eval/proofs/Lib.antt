@@ -1,4 +1,5 @@
 pub mod BothBranchesRan
+pub mod CatchLaws
 pub mod DefinedBranches
 pub mod FragmentsAndStores
 pub mod InsertedReads

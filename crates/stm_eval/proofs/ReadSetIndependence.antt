@@ -3,11 +3,12 @@ use Rattle.std.proofs.Common.{ℕ, ◌≡◌, refl, ◌∙◌, ap, ap₂, Option
 use Rattle.stm_terms.specs.declared.values.Ref.TheVariants.{Old, New}
 use Rattle.stm_terms.specs.declared.values.Value.{Value}
 use Rattle.stm_terms.specs.declared.values.Value.TheVariants.{Int, Bool as Truth, Unit as Nil, Var}
-use Rattle.stm_terms.specs.Ast.{Act, return, read, write, make, retry, throw, if_else, or_else, bind, let_in, seq}
+use Rattle.stm_terms.specs.declared.values.Fault.TheVariants.{Thrown, Overflow}
+use Rattle.stm_terms.specs.Ast.{Act, return, read, write, make, retry, throw, if_else, or_else, bind, let_in, seq, catch}
 use Rattle.stm_terms.specs.Value.{Answer, value}
 use Rattle.stm_terms.specs.Changes.{Variables, Changes, find, first_of}
-use Rattle.stm_terms.specs.Semantics.{Outcome, Returned, Threw, Retried, Stuck, on_answer, then_run, else_run, returned_value, read_at, chosen, run}
-use Rattle.stm_terms.specs.ReadSet.{unless_marked, look_read, look_answer, look_chosen, then_look, else_look, looks}
+use Rattle.stm_terms.specs.Semantics.{Outcome, Returned, Threw, Retried, Stuck, on_answer, then_run, else_run, catch_run, returned_value, read_at, chosen, run}
+use Rattle.stm_terms.specs.ReadSet.{unless_marked, look_read, look_answer, look_chosen, then_look, else_look, catch_look, looks}
 use Rattle.stm_eval.specs.Laws.{In, AgreeOn, SameRun}
 
 pub In-left : (i : ℕ) (xs ys : List ℕ) → In i xs → In i (xs ++ ys)
@@ -67,6 +68,14 @@ module _ (S T : Variables) where
   other (Threw f) b b' y y' p agree = (refl, refl)
   other Stuck b b' y y' p agree = (refl, refl)
 
+  -- the handler, at an end of the action
+  handled : (o : Outcome) (k k' : Value → Outcome) (m m' : Value → List ℕ) → ((n : Value) → AgreeOn (m n) S T → Alike (k n) (k' n) (m n) (m' n)) → AgreeOn (catch_look o m) S T → Alike (catch_run o k) (catch_run o k') (catch_look o m) (catch_look o m')
+  handled (Returned v h) k k' m m' p agree = (refl, refl)
+  handled (Threw (Thrown n)) k k' m m' p agree = p (Int n) agree
+  handled (Threw Overflow) k k' m m' p agree = (refl, refl)
+  handled Retried k k' m m' p agree = (refl, refl)
+  handled Stuck k k' m m' p agree = (refl, refl)
+
   -- a first part and what follows it: the looks of both are the looks of the whole
   joined : (o o' : Outcome) (w w' : List ℕ) (go : Outcome → Outcome) (go' : Outcome → Outcome) (look look' : Outcome → List ℕ) → (AgreeOn w S T → Alike o o' w w') → (AgreeOn (look o) S T → Alike (go o) (go' o) (look o) (look' o)) → AgreeOn (w ++ look o) S T → Alike (go o) (go' o') (w ++ look o) (w' ++ look' o')
   joined o o' w w' go go' look look' first second agree =
@@ -103,6 +112,12 @@ module _ (S T : Variables) where
       (λ o. then_look o (λ v g. looks S b locals g)) (λ o. then_look o (λ v g. looks T b locals g))
       (alike a locals h)
       (after (run S a locals h) _ _ _ _ (λ v g. alike b locals g)) agree
+  alike (catch a b) locals h agree =
+      joined (run S a locals h) (run T a locals h) _ _
+      (λ o. catch_run o (λ n. run S b (locals ++ n ∷ []) h)) (λ o. catch_run o (λ n. run T b (locals ++ n ∷ []) h))
+      (λ o. catch_look o (λ n. looks S b (locals ++ n ∷ []) h)) (λ o. catch_look o (λ n. looks T b (locals ++ n ∷ []) h))
+      (alike a locals h)
+      (handled (run S a locals h) _ _ _ _ (λ n. alike b (locals ++ n ∷ []) h)) agree
 
 pub independent : (a : Act) (locals : List Value) (S T : Variables) (h : Changes) → AgreeOn (looks S a locals h) S T → SameRun a locals S T h
 independent a locals S T h agree =

@@ -3,11 +3,12 @@ use Rattle.std.proofs.Common.{ℕ, refl, subst, Option, Some, None, Ok, Err, IsS
 use Rattle.stm_terms.specs.declared.values.Ref.TheVariants.{Old, New}
 use Rattle.stm_terms.specs.declared.values.Value.{Value}
 use Rattle.stm_terms.specs.declared.values.Value.TheVariants.{Int, Bool as Truth, Unit as Nil, Var}
-use Rattle.stm_terms.specs.Ast.{Act, return, read, write, make, retry, throw, if_else, or_else, bind, let_in, seq}
+use Rattle.stm_terms.specs.declared.values.Fault.TheVariants.{Thrown, Overflow}
+use Rattle.stm_terms.specs.Ast.{Act, return, read, write, make, retry, throw, if_else, or_else, bind, let_in, seq, catch}
 use Rattle.stm_terms.specs.Value.{Answer, value}
 use Rattle.stm_terms.specs.Changes.{Variables, Changes, find, first_of}
-use Rattle.stm_terms.specs.Semantics.{Outcome, Returned, Threw, Retried, Stuck, on_answer, then_run, else_run, returned_value, read_at, chosen, run}
-use Rattle.stm_terms.specs.ReadSet.{unless_marked, look_read, look_answer, look_chosen, then_look, else_look, looks}
+use Rattle.stm_terms.specs.Semantics.{Outcome, Returned, Threw, Retried, Stuck, on_answer, then_run, else_run, catch_run, returned_value, read_at, chosen, run}
+use Rattle.stm_terms.specs.ReadSet.{unless_marked, look_read, look_answer, look_chosen, then_look, else_look, catch_look, looks}
 use Rattle.stm_eval.specs.Laws.{In}
 
 abbrev pub IsDefined : Outcome → Type 0
@@ -68,6 +69,13 @@ module _ (S : Variables) where
   other Retried b w y p q d = both w y (p tt) (q d)
   other Stuck b w y p q d = elim d [ ]
 
+  handled : (o : Outcome) (w : List ℕ) (k : Value → Outcome) (m : Value → List ℕ) → (IsDefined o → ArePresent w) → ((n : Value) → IsDefined (k n) → ArePresent (m n)) → IsDefined (catch_run o k) → ArePresent (w ++ catch_look o m)
+  handled (Returned v h) w k m p q d = both w [] (p tt) none
+  handled (Threw (Thrown n)) w k m p q d = both w (m (Int n)) (p tt) (q (Int n) d)
+  handled (Threw Overflow) w k m p q d = both w [] (p tt) none
+  handled Retried w k m p q d = both w [] (p tt) none
+  handled Stuck w k m p q d = elim d [ ]
+
   pub present : (a : Act) (locals : List Value) (h : Changes) → IsDefined (run S a locals h) → ArePresent (looks S a locals h)
   present (return e) locals h d = none
   present (read e) locals h d = behind (value e locals) _ _ (λ v. at v h) d
@@ -80,3 +88,4 @@ module _ (S : Variables) where
   present (bind a b) locals h d = after (run S a locals h) _ _ _ (present a locals h) (λ v g. present b (locals ++ v ∷ []) g) d
   present (let_in e a) locals h d = behind (value e locals) _ _ (λ v. present a (locals ++ v ∷ []) h) d
   present (seq a b) locals h d = after (run S a locals h) _ _ _ (present a locals h) (λ v g. present b locals g) d
+  present (catch a b) locals h d = handled (run S a locals h) _ _ _ (present a locals h) (λ n. present b (locals ++ n ∷ []) h) d

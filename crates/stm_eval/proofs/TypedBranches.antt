@@ -2,17 +2,18 @@
 use Rattle.std.proofs.Common.{◌≡◌, ℕ, Bool, true, false, List, [], ◌∷◌, ◌++◌, ◌≤◌, ◌^◌, inl, arith, Some, None, Ok, Err, refl, sym, ap, ◌∙◌, subst}
 use Rattle.stm_terms.specs.declared.kinds.Ty.{Ty}
 use Rattle.stm_terms.specs.declared.values.Value.{Value}
-use Rattle.stm_terms.specs.declared.values.Value.TheVariants.{Bool as Truth}
-use Rattle.stm_terms.specs.Ast.{Act, return, read, write, make, retry, throw, if_else, or_else, bind, let_in, seq}
+use Rattle.stm_terms.specs.declared.values.Value.TheVariants.{Int, Bool as Truth}
+use Rattle.stm_terms.specs.declared.values.Fault.TheVariants.{Thrown, Overflow}
+use Rattle.stm_terms.specs.Ast.{Act, return, read, write, make, retry, throw, if_else, or_else, bind, let_in, seq, catch}
 use Rattle.stm_terms.specs.Value.{Answer}
 use Rattle.stm_terms.specs.Changes.{Variables, Changes, no_changes, cell_value}
 use Rattle.stm_terms.specs.Semantics.{Outcome, Returned, Threw, Retried, Stuck}
-use Rattle.stm_terms.specs.Typing.{TypeEnv, kinds_in, bool_ty, type_of, ActionType, action_type, WellTyped, makes, HaveTypes}
+use Rattle.stm_terms.specs.Typing.{TypeEnv, kinds_in, int_ty, bool_ty, type_of, ActionType, action_type, WellTyped, makes, HaveTypes}
 use Rattle.stm_store.specs.Cells.{kinds_of, StoreIsTyped, Covers}
 use Rattle.stm_check.proofs.ExpressionsSound.{IsOf, is_truth, same_ty_equal, with_type_some, expr_fine}
 use Rattle.stm_check.proofs.ActionsSound.{if_some, with_result_some, with_bound_some, Extends, locals_kept, one_more, HasResult, Fine, run_fine, typed_not_stuck}
 use Rattle.stm_check.proofs.Weakening.{action_more, covered, store_fine}
-use Rattle.stm_eval.specs.BothBranches.{OnAnswer, OnCondition, OnReturn, AllBranchesDefined, CanRun}
+use Rattle.stm_eval.specs.BothBranches.{OnAnswer, OnCondition, OnReturn, OnThrow, AllBranchesDefined, CanRun}
 
 module _ (kinds : TypeEnv) (under : Variables) where
   after_answer : (h : Changes) (t : Ty) (o : Answer) (go : Value → Type 0) → IsOf kinds h t o → ((v : Value) → type_of kinds h v ≡ Some t → go v) → OnAnswer o go
@@ -33,6 +34,13 @@ module _ (kinds : TypeEnv) (under : Variables) where
   after_run h s (Threw e) go p f = tt
   after_run h s Retried go p f = tt
   after_run h s Stuck go p f = p
+
+  after_throw : (h : Changes) (s : ActionType) (o : Outcome) (go : Value → Type 0) → Fine kinds under h s o → ((n : Value) → type_of kinds h n ≡ Some int_ty → go n) → OnThrow o go
+  after_throw h s (Returned v k) go p f = tt
+  after_throw h s (Threw (Thrown n)) go p f = f (Int n) refl
+  after_throw h s (Threw Overflow) go p f = tt
+  after_throw h s Retried go p f = tt
+  after_throw h s Stuck go p f = p
 
   pub all_defined : (a : Act) (locals : List Value) (types : List Ty) (h : Changes) (r : ActionType) → WellTyped kinds under h → HaveTypes kinds h locals types → action_type kinds types a ≡ Some r → AllBranchesDefined under a locals h
   all_defined (return e) locals types h r w l p = typed_not_stuck kinds under (return e) locals types h r w l p
@@ -70,6 +78,13 @@ module _ (kinds : TypeEnv) (under : Variables) where
         all_defined a locals types h s.0 w l s.1,
         after_run h s.0 _ _ (run_fine kinds under a locals types h s.0 w l s.1)
             (λ v k q m x. all_defined b locals types k r m (locals_kept kinds h k x locals types l) s.2),
+      )
+  all_defined (catch a b) locals types h r w l p =
+      let s = with_result_some _ _ r p in
+      let u = with_result_some _ _ r s.2 in (
+        all_defined a locals types h s.0 w l s.1,
+        after_throw h s.0 _ _ (run_fine kinds under a locals types h s.0 w l s.1)
+            (λ n q. all_defined b (locals ++ n ∷ []) (types ++ int_ty ∷ []) h u.0 w (one_more kinds h locals types n int_ty l q) u.1),
       )
 
 -- so a well typed block can be run on a new log, over a well typed store that covers it

@@ -1,8 +1,9 @@
 -- What the branches of an `orElse` rest on where both are run, and what an action that was run has done to its log.
 use Rattle.std.specs.Prelude.{◌≡◌, ◌≢◌, ◌⊎◌, ℕ, ◌+◌, ◌≤◌, ◌^◌, true, false, List, [], ◌∷◌, ◌++◌, length, Some, None, Ok, Err}
 use Rattle.stm_terms.specs.declared.values.Value.{Value}
-use Rattle.stm_terms.specs.declared.values.Value.TheVariants.{Bool as Truth}
-use Rattle.stm_terms.specs.Ast.{Act, return, read, write, make, retry, throw, if_else, or_else, bind, let_in, seq, act_of}
+use Rattle.stm_terms.specs.declared.values.Value.TheVariants.{Int, Bool as Truth}
+use Rattle.stm_terms.specs.declared.values.Fault.TheVariants.{Thrown, Overflow}
+use Rattle.stm_terms.specs.Ast.{Act, return, read, write, make, retry, throw, if_else, or_else, bind, let_in, seq, catch, act_of}
 use Rattle.stm_terms.specs.Value.{Answer, value}
 use Rattle.stm_terms.specs.Changes.{Variables, Changes, find}
 use Rattle.stm_terms.specs.Semantics.{Returned, Threw, Retried, Stuck, run}
@@ -34,6 +35,14 @@ OnReturn (Threw f) go = Unit {0}
 OnReturn Retried go = Unit {0}
 OnReturn Stuck go = ⊥
 
+-- it holds of the number, where the run threw one
+abbrev pub OnThrow : meaning.Outcome → (Value → Type 0) → Type 0
+OnThrow (Returned v h) go = Unit {0}
+OnThrow (Threw (Thrown n)) go = go (Int n)
+OnThrow (Threw Overflow) go = Unit {0}
+OnThrow Retried go = Unit {0}
+OnThrow Stuck go = ⊥
+
 -- no part of the action that is run is stuck; of an `orElse` both branches count, also where the left one doesn't retry
 abbrev pub AllBranchesDefined : Variables → Act → List Value → Changes → Type 0
 AllBranchesDefined under (return e) locals h = run under (return e) locals h ≢ Stuck
@@ -50,6 +59,8 @@ AllBranchesDefined under (bind a b) locals h =
 AllBranchesDefined under (let_in e b) locals h = OnAnswer (value e locals) (λ v. AllBranchesDefined under b (locals ++ v ∷ []) h)
 AllBranchesDefined under (seq a b) locals h =
     AllBranchesDefined under a locals h × OnReturn (run under a locals h) (λ v k. AllBranchesDefined under b locals k)
+AllBranchesDefined under (catch a b) locals h =
+    AllBranchesDefined under a locals h × OnThrow (run under a locals h) (λ n. AllBranchesDefined under b (locals ++ n ∷ []) h)
 
 -- the same of what a step leaves
 abbrev pub DefinedLeft : Variables → Step → List Value → Changes → Type 0

@@ -1,7 +1,7 @@
 -- The evaluator's answers by the definitions.
 use Rattle.std.specs.Prelude.{ℕ, ◌+◌, suc, List, []}
 use Rattle.stm_terms.specs.declared.values.Value.{Value}
-use Rattle.stm_terms.specs.Ast.{Act, if_else, or_else, bind, let_in, seq, act_of}
+use Rattle.stm_terms.specs.Ast.{Act, if_else, or_else, bind, let_in, seq, catch, act_of}
 use Rattle.stm_terms.specs.Typing.{makes}
 use Rattle.stm_terms.specs.Changes.{Variables, Changes}
 use Rattle.stm_terms.specs.Semantics as meaning
@@ -39,6 +39,7 @@ size (or_else a b) = suc (size a + size b)
 size (bind a b) = suc (size a + size b)
 size (let_in e b) = suc (size b)
 size (seq a b) = suc (size a + size b)
+size (catch a b) = suc (size a + size b)
 size a = 1
 
 abbrev pub size_left : Step → ℕ

@@ -1,11 +1,13 @@
 -- Laws of what blocks do and read.
-use Rattle.std.specs.Prelude.{◌≡◌, ◌↔◌, ◌⊎◌, ℕ, Some, IsSome, List, [], ◌∷◌}
+use Rattle.std.specs.Prelude.{◌≡◌, ◌↔◌, ◌⊎◌, ℕ, ℤ, Some, IsSome, List, [], ◌∷◌, ◌++◌}
 use Rattle.stm_terms.specs.declared.values.Value.{Value}
+use Rattle.stm_terms.specs.declared.values.Value.TheVariants.{Int}
+use Rattle.stm_terms.specs.declared.values.Fault.TheVariants.{Thrown}
 use Rattle.stm_terms.specs.declared.verdicts.Verdict.{Verdict}
-use Rattle.stm_terms.specs.Ast.{Act, retry, or_else}
+use Rattle.stm_terms.specs.Ast.{Term, lit, Act, return, retry, throw, or_else, let_in, catch}
 use Rattle.stm_terms.specs.Typing.{Rising}
 use Rattle.stm_terms.specs.Changes.{Variables, Changes, find}
-use Rattle.stm_terms.specs.Semantics.{run}
+use Rattle.stm_terms.specs.Semantics.{Threw, run}
 use Rattle.stm_terms.specs.ReadSet.{looks, looks_of, reads_of}
 use Rattle.stm_terms.specs.Verdict.{verdict}
 use Rattle.stm_eval.specs.Messages.{Agrees, MessageIsValid, Holds}
@@ -72,3 +74,23 @@ RetryIsLeftUnit = (a : Act) (locals : List Value) (S : Variables) (h : Changes) 
 
 abbrev pub RetryIsRightUnit : Type 0
 RetryIsRightUnit = (a : Act) (locals : List Value) (S : Variables) (h : Changes) → Equivalent (or_else a retry) a locals S h
+
+-- a thrown number is the handler's local
+abbrev pub CatchOfThrow : Type 0
+CatchOfThrow =
+    (n : ℤ) (b : Act) (locals : List Value) (S : Variables) (h : Changes) →
+    Equivalent (catch (throw (lit (Int n))) b) (let_in (lit (Int n)) b) locals S h
+
+abbrev pub CatchOfReturn : Type 0
+CatchOfReturn =
+    (e : Term) (b : Act) (locals : List Value) (S : Variables) (h : Changes) →
+    Equivalent (catch (return e) b) (return e) locals S h
+
+abbrev pub CatchOfRetry : Type 0
+CatchOfRetry = (b : Act) (locals : List Value) (S : Variables) (h : Changes) → Equivalent (catch retry b) retry locals S h
+
+-- the handler runs in the view from before the action: it sees nothing that the action wrote or made
+abbrev pub HandlerSeesNoWrites : Type 0
+HandlerSeesNoWrites =
+    (a b : Act) (n : ℤ) (locals : List Value) (S : Variables) (h : Changes) →
+    run S a locals h ≡ Threw (Thrown n) → run S (catch a b) locals h ≡ run S b (locals ++ Int n ∷ []) h

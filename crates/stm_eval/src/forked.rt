@@ -7,7 +7,7 @@
 ghost use Rattle.std.specs.Prelude.{◌≡◌, ◌≢◌, ◌+◌, ◌<◌, ◌≤◌, ◌^◌, [], List, Some, length, take, OnOk, OnErr, IfOk, IfErr};
 ghost use denote.Param.Send.{IsSync};
 ghost use Rattle.stm_terms.specs.declared.values.Value.{Value as AnyValue};
-ghost use Rattle.stm_terms.specs.Ast.{Act, act_of, or_else};
+ghost use Rattle.stm_terms.specs.Ast.{Act, act_of, or_else, catch};
 ghost use Rattle.stm_terms.specs.Changes.{Variables, cell_value};
 ghost use Rattle.stm_terms.specs.Semantics.{run};
 ghost use Rattle.stm_terms.specs.ReadSet.{looks, insert_reads, reads_of};
@@ -32,7 +32,7 @@ use stm_log::{Log, Reads};
 use stm_store::Frozen;
 use stm_terms::NoMemory;
 use stm_terms::action::Action;
-use stm_terms::values::Value;
+use stm_terms::values::{Fault, Value};
 use stm_terms::verdicts::Verdict;
 
 /// What a branch of an `orElse` works on.
@@ -122,7 +122,60 @@ fn step<'a, R: Threads + Sync>(
             Outcome::Returned(_) => Ok(Step::On(b)),
             end => Ok(Step::Ended(end)),
         },
+        Action::Catch(a, b) => walk_caught(rt, alloc, frozen, a, b, locals, log, levels),
         _ => Ok(Step::Ended(alone(frozen, action, locals, log)?)),
+    }
+}
+
+/// The action of a `catch`, in a frame of its own, with `levels` at once within it. The handler is left to be run where the
+/// action threw a number, with that as one more local, from the view before it; what the action read stays.
+#[cycle(walk)]
+#[tactic(auto, using(crate::proofs::InsertedReads::reads_in_turn))]
+fn walk_caught<'a, R: Threads + Sync>(
+    rt: &R,
+    alloc: Global,
+    frozen: &Frozen,
+    action: &Action,
+    handler: &'a Action,
+    locals: &mut Vec<Value>,
+    log: &mut Log,
+    levels: u32,
+) -> Result<Step<'a>, NoMemory>
+    requires { CanRun (cell_value frozen.now) (catch (act_of action.now) (act_of handler.now))
+        locals.old.items log.old }
+    ensures outcome { IfOk result (λ s.
+        run (cell_value frozen.now) (catch (act_of action.now) (act_of handler.now)) locals.old.items log.old.top
+        ≡ outcome_left (cell_value frozen.now) s locals.new.items log.new.top) }
+    ensures reads { IfOk result (λ s.
+        insert_reads (cell_value frozen.now)
+        (looks (cell_value frozen.now) (catch (act_of action.now) (act_of handler.now)) locals.old.items log.old.top)
+        log.old.reads
+        ≡ insert_reads (cell_value frozen.now)
+        (looks_left (cell_value frozen.now) s locals.new.items log.new.top) log.new.reads) }
+    ensures made { IfOk result (λ s.
+        length log.new.top.news + makes_left s
+        ≤ length log.old.top.news + makes (act_of action.now) + makes (act_of handler.now)) }
+    ensures below { OnOk result (log.new.below ≡ log.old.below) }
+    ensures locals { OnOk result (take (length locals.old.items) locals.new.items ≡ locals.old.items) }
+    ensures smaller { IfOk result (λ s. size_left s ≤ size (act_of handler.now)) }
+    ensures defined { IfOk result (λ s. DefinedLeft (cell_value frozen.now) s locals.new.items log.new.top) }
+    ensures read_set { OnOk result (IsReadSetOf (cell_value frozen.now) log.new.reads) }
+{
+    log.enter()?;
+    match walk(rt, alloc, frozen, action, locals, log, levels)? {
+        Outcome::Returned(v) => {
+            log.keep()?;
+            Ok(Step::Ended(Outcome::Returned(v)))
+        }
+        Outcome::Threw(Fault::Thrown(n)) => {
+            log.discard();
+            locals.push(Value::Int(n))?;
+            Ok(Step::On(handler))
+        }
+        end => {
+            log.discard();
+            Ok(Step::Ended(end))
+        }
     }
 }
 

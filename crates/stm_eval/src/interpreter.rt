@@ -1,10 +1,10 @@
 //! One action after another, on the log.
 //!
 //! A long `do` is walked by a loop, one step at a time. A step calls the evaluator again for the first part of a
-//! statement and for the left branch of `orElse`, so the stack grows with the depth of a block and not with its length.
+//! statement, for the left branch of `orElse` and for the action of `catch`, so the stack grows with the depth of a block and not with its length.
 
 ghost use Rattle.std.specs.Prelude.{◌≡◌, ◌≢◌, ◌+◌, ◌<◌, ◌≤◌, ◌^◌, length, take, OnOk, IfOk};
-ghost use Rattle.stm_terms.specs.Ast.{act_of, term_of, if_else, or_else, bind, let_in, seq};
+ghost use Rattle.stm_terms.specs.Ast.{act_of, term_of, if_else, or_else, bind, let_in, seq, catch};
 ghost use Rattle.stm_terms.specs.Changes.{cell_value};
 ghost use Rattle.stm_terms.specs.Semantics.{run, Stuck};
 ghost use Rattle.stm_terms.specs.ReadSet.{looks, insert_reads};
@@ -20,7 +20,7 @@ use stm_terms::NoMemory;
 use stm_terms::action::Action;
 use stm_terms::eval::eval_expr;
 use stm_terms::expr::Expr;
-use stm_terms::values::Value;
+use stm_terms::values::{Fault, Value};
 
 /// Runs an action on a log. The log's other frames and the locals are left as they were.
 #[cycle(evaluate)]
@@ -82,6 +82,7 @@ fn step<'a>(
         Action::Bind(a, b) => run_bound(frozen, a, b, locals, log),
         Action::Let(e, b) => run_let(frozen, e, b, locals, log),
         Action::Seq(a, b) => run_first(frozen, a, b, locals, log),
+        Action::Catch(a, b) => run_caught(frozen, a, b, locals, log),
     }
 }
 
@@ -230,6 +231,53 @@ fn run_left<'a>(
         Outcome::Retried => {
             log.discard();
             Ok(Step::On(right))
+        }
+    }
+}
+
+/// The action of a `catch`, in a frame of its own. The handler is left to be run where the action threw a number, with that
+/// as one more local, from the view before it; what the action read stays.
+#[cycle(evaluate)]
+#[tactic(auto, using(crate::proofs::InsertedReads::reads_in_turn))]
+fn run_caught<'a>(
+    frozen: &Frozen,
+    action: &Action,
+    handler: &'a Action,
+    locals: &mut Vec<Value>,
+    log: &mut Log,
+) -> Result<Step<'a>, NoMemory>
+    requires defined { run (cell_value frozen.now) (act_of action.now) locals.old.items log.old.top ≢ Stuck }
+    requires room { length log.old.top.news + makes (act_of action.now) ≤ 2 ^ 32 }
+    ensures outcome { IfOk result (λ s.
+        run (cell_value frozen.now) (catch (act_of action.now) (act_of handler.now)) locals.old.items log.old.top
+        ≡ outcome_left (cell_value frozen.now) s locals.new.items log.new.top) }
+    ensures reads { IfOk result (λ s.
+        insert_reads (cell_value frozen.now)
+        (looks (cell_value frozen.now) (catch (act_of action.now) (act_of handler.now)) locals.old.items log.old.top)
+        log.old.reads
+        ≡ insert_reads (cell_value frozen.now)
+        (looks_left (cell_value frozen.now) s locals.new.items log.new.top) log.new.reads) }
+    ensures made { IfOk result (λ s.
+        length log.new.top.news + makes_left s
+        ≤ length log.old.top.news + makes (act_of action.now) + makes (act_of handler.now)) }
+    ensures below { OnOk result (log.new.below ≡ log.old.below) }
+    ensures locals { OnOk result (take (length locals.old.items) locals.new.items ≡ locals.old.items) }
+    ensures smaller { IfOk result (λ s. size_left s ≤ size (act_of handler.now)) }
+{
+    log.enter()?;
+    match evaluate(frozen, action, locals, log)? {
+        Outcome::Returned(v) => {
+            log.keep()?;
+            Ok(Step::Ended(Outcome::Returned(v)))
+        }
+        Outcome::Threw(Fault::Thrown(n)) => {
+            log.discard();
+            locals.push(Value::Int(n))?;
+            Ok(Step::On(handler))
+        }
+        end => {
+            log.discard();
+            Ok(Step::Ended(end))
         }
     }
 }

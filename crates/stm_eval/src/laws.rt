@@ -1,9 +1,9 @@
 //! Laws of what blocks do and read: each function's contract is one, and its body is empty.
 
-ghost use Rattle.stm_eval.specs.Laws.{ReadSetIndependence, StoreToFragment, FragmentToStore, VerdictIsStable, ReadsAgreeWithStore, ReadSetIsExact, OrElseIsAssociative, RetryIsLeftUnit, RetryIsRightUnit};
+ghost use Rattle.stm_eval.specs.Laws.{ReadSetIndependence, StoreToFragment, FragmentToStore, VerdictIsStable, ReadsAgreeWithStore, ReadSetIsExact, OrElseIsAssociative, RetryIsLeftUnit, RetryIsRightUnit, CatchOfThrow, CatchOfReturn, CatchOfRetry, HandlerSeesNoWrites};
 
 /// What an action does depends on the variables that it reads, and on no others. What a discarded left branch read is
-/// among them.
+/// among them, and what an action read before it threw to its handler.
 pub fn read_set_independence()
     ensures { ReadSetIndependence }
 {}
@@ -39,4 +39,24 @@ pub fn or_else_is_associative()
 pub fn retry_is_unit_of_or_else()
     ensures left { RetryIsLeftUnit }
     ensures right { RetryIsRightUnit }
+{}
+
+/// The `catch` of a `throw` is its handler, with the thrown number as its local, in outcome, returned view and reads.
+pub fn catch_of_throw()
+    ensures { CatchOfThrow }
+{}
+
+/// The `catch` of a `return` is the `return`: an overflow in its value passes the handler.
+pub fn catch_of_return()
+    ensures { CatchOfReturn }
+{}
+
+/// The `catch` of a `retry` is the `retry`: a handler doesn't run where the action blocks.
+pub fn catch_of_retry()
+    ensures { CatchOfRetry }
+{}
+
+/// A handler runs in the view from before the action: it sees nothing that the action wrote or made.
+pub fn handler_sees_no_writes()
+    ensures { HandlerSeesNoWrites }
 {}

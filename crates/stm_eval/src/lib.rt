@@ -3,7 +3,7 @@
 //! `block` gives a block's verdict and what it read, on the nested log of `stm_log`. `message` is what an evaluation
 //! tells: its type keeps that the verdict holds wherever the values that were read are found again. `forked` gives the
 //! same message with both branches of an `orElse` at once, by threads. `laws` states why a message holds: what a block
-//! does depends on what it reads alone, left branches that were discarded included.
+//! does depends on what it reads alone, left branches and actions that were rolled back included.
 #![tactic(auto)]
 
 pub mod block;

@@ -7,7 +7,7 @@ use Rattle.std.proofs.KnownBytes.{Appends-trans}
 use Rattle.std.specs.Io.KnownBytes.{Appends}
 use Rattle.stm_store.specs.Tables.{Declared}
 use Rattle.stm_history.specs.declared.event.Event.{Event}
-use Rattle.stm_history.specs.Lines.{format_1, event_line, header_line, variable_line}
+use Rattle.stm_history.specs.Lines.{latest_format, event_line, header_line, variable_line}
 use Rattle.stm_history.specs.HistoryText.{variable_lines, event_lines, history_text, WritesFront}
 use Rattle.stm_terms.specs.Texts.{IsPrefixOf}
 
@@ -62,23 +62,23 @@ event_lines-append [] ys = refl
 event_lines-append (x ∷ xs) ys = ap (λ l. event_line x ++ 10 ∷ l) (event_lines-append xs ys) ∙ sym (append_assoc (event_line x) (10 ∷ event_lines xs) (event_lines ys))
 
 -- the three parts of a history's text
-three : (table : List Declared) (history : List Event) (n : ℕ) → n ≡ length table → history_text format_1 table history ≡ (header_line format_1 n ++ 10 ∷ []) ++ (variable_lines table ++ event_lines history)
+three : (table : List Declared) (history : List Event) (n : ℕ) → n ≡ length table → history_text latest_format table history ≡ (header_line latest_format n ++ 10 ∷ []) ++ (variable_lines table ++ event_lines history)
 three table history n e =
-    append_assoc (header_line format_1 (length table)) (10 ∷ variable_lines table) (event_lines history) ∙ ap (λ m. header_line format_1 m ++ 10 ∷ (variable_lines table ++ event_lines history)) (sym e)
-    ∙ sym (append_assoc (header_line format_1 n) (10 ∷ []) (variable_lines table ++ event_lines history))
+    append_assoc (header_line latest_format (length table)) (10 ∷ variable_lines table) (event_lines history) ∙ ap (λ m. header_line latest_format m ++ 10 ∷ (variable_lines table ++ event_lines history)) (sym e)
+    ∙ sym (append_assoc (header_line latest_format n) (10 ∷ []) (variable_lines table ++ event_lines history))
 
-pub part_1 : (table : List Declared) (history : List Event) (n : ℕ) (a b : Option (List ℕ)) → n ≡ length table → WritesFront a b (header_line format_1 n ++ 10 ∷ []) → WritesFront a b (history_text format_1 table history)
+pub part_1 : (table : List Declared) (history : List Event) (n : ℕ) (a b : Option (List ℕ)) → n ≡ length table → WritesFront a b (header_line latest_format n ++ 10 ∷ []) → WritesFront a b (history_text latest_format table history)
 part_1 table history n a b e p = subst (WritesFront a b) (sym (three table history n e)) (part_within a b _ _ p)
 
-pub part_2 : (table : List Declared) (history : List Event) (n : ℕ) (a b c : Option (List ℕ)) → n ≡ length table → Appends a b (header_line format_1 n ++ 10 ∷ []) → WritesFront b c (variable_lines table) → WritesFront a c (history_text format_1 table history)
+pub part_2 : (table : List Declared) (history : List Event) (n : ℕ) (a b c : Option (List ℕ)) → n ≡ length table → Appends a b (header_line latest_format n ++ 10 ∷ []) → WritesFront b c (variable_lines table) → WritesFront a c (history_text latest_format table history)
 part_2 table history n a b c e p q = subst (WritesFront a c) (sym (three table history n e)) (part_after a b c _ _ p (part_within b c _ _ q))
 
-pub part_3 : (table : List Declared) (history : List Event) (n : ℕ) (a b c d : Option (List ℕ)) → n ≡ length table → Appends a b (header_line format_1 n ++ 10 ∷ []) → Appends b c (variable_lines table) → WritesFront c d (event_lines history)
-    → WritesFront a d (history_text format_1 table history)
+pub part_3 : (table : List Declared) (history : List Event) (n : ℕ) (a b c d : Option (List ℕ)) → n ≡ length table → Appends a b (header_line latest_format n ++ 10 ∷ []) → Appends b c (variable_lines table) → WritesFront c d (event_lines history)
+    → WritesFront a d (history_text latest_format table history)
 part_3 table history n a b c d e p q r = subst (WritesFront a d) (sym (three table history n e)) (part_after a b d _ _ p (part_after b c d _ _ q r))
 
-pub all_3 : (table : List Declared) (history : List Event) (n : ℕ) (a b c d : Option (List ℕ)) → n ≡ length table → Appends a b (header_line format_1 n ++ 10 ∷ []) → Appends b c (variable_lines table) → Appends c d (event_lines history)
-    → Appends a d (history_text format_1 table history)
+pub all_3 : (table : List Declared) (history : List Event) (n : ℕ) (a b c d : Option (List ℕ)) → n ≡ length table → Appends a b (header_line latest_format n ++ 10 ∷ []) → Appends b c (variable_lines table) → Appends c d (event_lines history)
+    → Appends a d (history_text latest_format table history)
 all_3 table history n a b c d e p q r = subst (Appends a d) (sym (three table history n e)) (Appends-trans a b d _ _ p (Appends-trans b c d _ _ q r))
 
 -- ---- the variables of a table

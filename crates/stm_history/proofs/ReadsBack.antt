@@ -1,5 +1,5 @@
 -- The text of a line reads as its value, and the value as what it was written for.
-use Rattle.std.proofs.Common.{◌≡◌, ℕ, ◌≤◌, ◌<◌, ◌^◌, List, [], ◌∷◌, Option, Some, None, refl, sym, ap, ◌∙◌, arith, append-nil, codes, subst, pos, negsuc}
+use Rattle.std.proofs.Common.{◌≡◌, ℕ, ◌≤◌, ◌<◌, ◌^◌, List, [], ◌∷◌, Option, Some, None, refl, sym, ap, ◌∙◌, arith, append-nil, subst, pos, negsuc}
 use Rattle.std.specs.Prelude.{option_and_then}
 use Rattle.std.specs.Str.{IsUtf8}
 use Rattle.std.proofs.lemmas.Str.{IsUtf8-from_ascii}
@@ -25,9 +25,10 @@ use Rattle.stm_store.specs.Tables.{Declared}
 use Rattle.stm_history.specs.declared.event.Event.{Event}
 use Rattle.stm_history.specs.declared.event.What.{What}
 use Rattle.stm_history.specs.declared.event.What.TheVariants.{Submitted, Installed, Finished, Cancelled}
+use Rattle.stm_history.specs.declared.lines.read.Header.{Header}
 use Rattle.stm_history.specs.Fits.{FitsTable, WhatFitsTable, FitsValue, FitsVerdict, FitWrites, FitNews, FitNumbers, FitsVariable, Is32Bit, IsOneLine}
-use Rattle.stm_history.specs.Lines.{number_data, value_data, write_data, new_data, verdict_data, what_data, event_data, header_data, variable_data, event_line, header_line, variable_line}
-use Rattle.stm_history.specs.Fields.{in_32_bits, u32_of, number_field, value_of, write_of, new_of, verdict_of, event_of, declared_from_json}
+use Rattle.stm_history.specs.Lines.{IsFormat, number_data, value_data, write_data, new_data, verdict_data, what_data, event_data, header_data, variable_data, event_line, header_line, variable_line}
+use Rattle.stm_history.specs.Fields.{in_32_bits, u32_of, value_of, write_of, new_of, verdict_of, event_of, header_of, declared_from_json}
 use Rattle.stm_history.proofs.RoundTrips.{RoundTrips, what_round_trips, header_round_trips, variable_round_trips, AllBack, all_back}
 use Rattle.stm_history.proofs.OneLines.{IsInRange, one_line, is_ascii}
 use Rattle.stm_history.proofs.Ranges.{what_in_range, variable_in_range}
@@ -58,8 +59,14 @@ reads_of d g s = let l = one_line d s in record {
 pub event_reads : (table : List Declared) (e : Event) → FitsTable table e → ReadsBack (event_data e)
 event_reads table e f = reads_of (event_data e) (what_round_trips table e.client e.what f.0 f.1) (what_in_range table e.client e.what f.0 f.1)
 
-pub header_reads : (format n : ℕ) → Is32Bit format → Is32Bit n → ReadsBack (header_data format n)
-header_reads format n k h = reads_of (header_data format n) (header_round_trips format n k h) (refl, omega (arith, k), (refl, omega (arith, h), tt))
+-- a format that is read fits the program's type
+format_fits : (format : ℕ) → IsFormat format → Is32Bit format
+format_fits format k = omega (arith, k.1)
+
+pub header_reads : (format n : ℕ) → IsFormat format → Is32Bit n → ReadsBack (header_data format n)
+header_reads format n k h =
+    let f : Is32Bit format = format_fits format k in
+    reads_of (header_data format n) (header_round_trips format n f h) (refl, omega (arith, f), (refl, omega (arith, h), tt))
 
 pub variable_reads : (d : Declared) → FitsVariable d → ReadsBack (variable_data d)
 variable_reads d f = reads_of (variable_data d) (variable_round_trips d f.2) (variable_in_range d f)
@@ -106,8 +113,8 @@ what_back table client (Cancelled ticket) k h = rw (in_32 client (omega arith), 
 event_back : (table : List Declared) (e : Event) → FitsTable table e → event_of table (event_data e) ≡ Some e
 event_back table e f = what_back table e.client e.what f.0 f.1
 
-header_back : (format n : ℕ) → Is32Bit n → number_field (codes "vars") (header_data format n) ≡ Some n
-header_back format n h = in_32 n h
+header_back : (format n : ℕ) → IsFormat format → Is32Bit n → header_of (header_data format n) ≡ Some (record { format = format; vars = n })
+header_back format n k h = let f : Is32Bit format = format_fits format k in rw (in_32 format f, in_32 n h)
 
 variable_back : (d : Declared) → FitsVariable d → declared_from_json (variable_data d) ≡ Some d
 variable_back d f = rw (type_back d.kind f.1, value_back d.value f.2)
@@ -130,9 +137,9 @@ pub event_is : (table : List Declared) (line : List ℕ) (e : Event) (g : Data) 
 unfolding event_line
 event_is table line e g f l some = let same : g ≡ event_data e = same_data line (event_data e) g (event_reads table e f) l some in rw same (event_back table e f)
 
-pub header_is : (line : List ℕ) (format n : ℕ) (g : Data) → Is32Bit format → Is32Bit n → header_line format n ≡ line → read line ≡ Some g → number_field (codes "vars") g ≡ Some n
+pub header_is : (line : List ℕ) (format n : ℕ) (g : Data) → IsFormat format → Is32Bit n → header_line format n ≡ line → read line ≡ Some g → header_of g ≡ Some (record { format = format; vars = n })
 unfolding header_line
-header_is line format n g k f l some = let same : g ≡ header_data format n = same_data line (header_data format n) g (header_reads format n k f) l some in rw same (header_back format n f)
+header_is line format n g k f l some = let same : g ≡ header_data format n = same_data line (header_data format n) g (header_reads format n k f) l some in rw same (header_back format n k f)
 
 pub variable_is : (line : List ℕ) (d : Declared) (g : Data) → FitsVariable d → variable_line d ≡ line → read line ≡ Some g → declared_from_json g ≡ Some d
 unfolding variable_line
@@ -142,7 +149,7 @@ pub event_unread : (table : List Declared) (line : List ℕ) (e : Event) → Fit
 unfolding event_line
 event_unread table line e f l none = unread line (event_data e) (event_reads table e f) l none
 
-pub header_unread : (line : List ℕ) (format n : ℕ) → Is32Bit format → Is32Bit n → header_line format n ≡ line → (IsUtf8 line → read line ≡ None) → ⊥
+pub header_unread : (line : List ℕ) (format n : ℕ) → IsFormat format → Is32Bit n → header_line format n ≡ line → (IsUtf8 line → read line ≡ None) → ⊥
 unfolding header_line
 header_unread line format n k f l none = unread line (header_data format n) (header_reads format n k f) l none
 
@@ -156,7 +163,7 @@ pub event_one_line : (table : List Declared) (e : Event) → FitsTable table e �
 unfolding event_line
 event_one_line table e f = (event_reads table e f).one_line
 
-pub header_one_line : (format n : ℕ) → Is32Bit format → Is32Bit n → IsOneLine (header_line format n)
+pub header_one_line : (format n : ℕ) → IsFormat format → Is32Bit n → IsOneLine (header_line format n)
 unfolding header_line
 header_one_line format n k f = (header_reads format n k f).one_line
 
@@ -172,12 +179,16 @@ event_same table d e f g l =
     let b : event_of table (event_data e) ≡ Some d = event_is table (event_line e) d (event_data e) f l (event_reads table e g).back in
     cc
 
-pub header_same : (format m n : ℕ) → Is32Bit format → Is32Bit m → Is32Bit n → header_line format m ≡ header_line format n → m ≡ n
+one_header : (o : Option Header) (g h : Header) → o ≡ Some g → o ≡ Some h → g ≡ h
+one_header o g h a b = cc
+
+pub header_same : (format format' m n : ℕ) → IsFormat format → IsFormat format' → Is32Bit m → Is32Bit n → header_line format m ≡ header_line format' n → (format ≡ format') × (m ≡ n)
 unfolding header_line
-header_same format m n k f g l =
-    let a : number_field (codes "vars") (header_data format n) ≡ Some n = header_back format n g in
-    let b : number_field (codes "vars") (header_data format n) ≡ Some m = header_is (header_line format n) format m (header_data format n) k f l (header_reads format n k g).back in
-    cc
+header_same format format' m n k k' f g l =
+    let a : header_of (header_data format' n) ≡ Some (record { format = format'; vars = n }) = header_back format' n k' g in
+    let b : header_of (header_data format' n) ≡ Some (record { format = format; vars = m }) = header_is (header_line format' n) format m (header_data format' n) k f l (header_reads format' n k' g).back in
+    let same : record { format = format; vars = m } ≡ record { format = format'; vars = n } = one_header _ _ _ b a in
+    (ap (λ (h : Header). h.format) same, ap (λ (h : Header). h.vars) same)
 
 pub variable_same : (c d : Declared) → FitsVariable c → FitsVariable d → variable_line c ≡ variable_line d → c ≡ d
 unfolding variable_line

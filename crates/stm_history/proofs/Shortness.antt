@@ -17,15 +17,15 @@ use Rattle.stm_terms.specs.Texts.{refs_text, type_text}
 use Rattle.stm_store.specs.Tables.{Declared}
 use Rattle.stm_history.specs.Fits.{FitsValue, FitsVariable}
 use Rattle.stm_history.specs.Judgement.{IsShort}
-use Rattle.stm_history.specs.Lines.{format_1, header_line, variable_line, value_data}
+use Rattle.stm_history.specs.Lines.{IsFormat, header_line, variable_line, value_data}
 use Rattle.stm_history.specs.SlowDesk.{max_cells}
 
-pub header_short : (n : ℕ) → n ≤ max_cells → IsShort (header_line format_1 n)
+pub header_short : (format n : ℕ) → IsFormat format → n ≤ max_cells → IsShort (header_line format n)
 unfolding header_line escape_byte
-header_short n h =
+header_short format n k h =
     let d = length-decimal-le 7 n (omega arith) (omega arith) (omega arith) in
-    let one = length-decimal-le 1 1 (omega arith) (omega arith) (omega arith) in
-    simp length-append (omega (arith, d, one))
+    let f = length-decimal-le 10 format (omega arith) (omega arith) (omega (arith, k.1)) in
+    simp length-append (omega (arith, d, f))
 
 -- ---- a string in quotes is at most six times as long
 

@@ -5,9 +5,9 @@ use Rattle.std.proofs.lemmas.List.{take-append-drop}
 use Rattle.stm_store.specs.Tables.{Declared}
 use Rattle.stm_history.specs.declared.event.Event.{Event}
 use Rattle.stm_history.specs.SlowDesk.{max_cells}
-use Rattle.stm_history.specs.Fits.{FitsTable, FitsVariable}
-use Rattle.stm_history.specs.Lines.{format_1, event_line, header_line, variable_line}
-use Rattle.stm_history.proofs.ReadsBack.{event_one_line, header_one_line, variable_one_line, header_same, variable_same}
+use Rattle.stm_history.specs.Fits.{FitsTable, FitsFormat, FitsVariable}
+use Rattle.stm_history.specs.Lines.{IsFormat, event_line, header_line, variable_line}
+use Rattle.stm_history.proofs.ReadsBack.{event_one_line, header_one_line, variable_one_line, event_same, header_same, variable_same}
 use Rattle.stm_history.specs.HistoryText.{history_text, variable_lines}
 use Rattle.stm_history.specs.Judgement.{IsShort, max_line, MayDeclare, AreVariablesFrom, TellsFault, IsHistory, numbers}
 use Rattle.stm_history.specs.declared.files.fault.HistoryFault.{HistoryFault}
@@ -23,8 +23,8 @@ use Rattle.stm_history.proofs.Cuts.{IsCut, cut_unique, no_cut, no_feed_at_end, n
 use Rattle.stm_history.proofs.Shortness.{header_short, variable_short}
 use Rattle.stm_history.proofs.Standing.{LinesUpTo-line}
 
-header_no_feed : (n : ℕ) → n ≤ max_cells → NoFeed (header_line format_1 n)
-header_no_feed n h = no_feed (header_line format_1 n) (header_one_line format_1 n (omega arith) (omega (arith, h)))
+header_no_feed : (format n : ℕ) → IsFormat format → n ≤ max_cells → NoFeed (header_line format n)
+header_no_feed format n k h = no_feed (header_line format n) (header_one_line format n k (omega (arith, h)))
 
 variable_no_feed : (d : Declared) → FitsVariable d → NoFeed (variable_line d)
 variable_no_feed d f = no_feed (variable_line d) (variable_one_line d f)
@@ -59,37 +59,37 @@ following prior (x ∷ xs) (y ∷ ys) a b h k l e =
     (following (prior ++ x ∷ []) xs ys a b h.1 (subst (λ (z : Declared). AreVariablesFrom (prior ++ z ∷ []) ys) same k.1) (omega arith) c.rest)
 
 -- a refusal by what comes next
-pub TellsFault-strange : (r : CheckerState) (whole rest : List ℕ) → LinesUpTo r whole → NoNext r rest → (0 < length rest ⊎ (strange r ≡ BadHeader)) → TellsFault format_1 (strange r) (whole ++ rest)
-TellsFault-strange at_header whole rest s never some = λ table few vs more e.
-    never (length table) few (header_short (length table) few) (variable_lines table ++ more)
-    (ap (λ w. w ++ rest) (sym s) ∙ e ∙ append_assoc (header_line format_1 (length table)) (10 ∷ variable_lines table) more)
-TellsFault-strange (at_variables n cells) whole rest s never some = λ table few vs more e.
-    let c : IsCut (header_line format_1 n) (variable_lines cells ++ rest) (header_line format_1 (length table)) (variable_lines table ++ more) =
-    cut_unique (header_line format_1 n) _ (header_line format_1 (length table)) _ (header_no_feed n s.3) (header_no_feed (length table) few)
-    (sym (append_assoc (header_line format_1 n) (10 ∷ variable_lines cells) rest) ∙ ap (λ w. w ++ rest) (sym s.0) ∙ e ∙ append_assoc (header_line format_1 (length table)) (10 ∷ variable_lines table) more) in
-    let same : n ≡ length table = header_same format_1 n (length table) (omega arith) (omega (arith, s.3)) (omega (arith, few)) c.line in
-    let f : Following cells rest = following [] cells table rest more s.1 vs (omega (arith, same, s.2)) c.rest in
+pub TellsFault-strange : (r : CheckerState) (whole rest : List ℕ) → LinesUpTo r whole → NoNext r rest → (0 < length rest ⊎ (strange r ≡ BadHeader)) → TellsFault (strange r) (whole ++ rest)
+TellsFault-strange at_header whole rest s never some = λ format k table few vs more e.
+    never format (length table) k few (header_short format (length table) k few) (variable_lines table ++ more)
+    (ap (λ w. w ++ rest) (sym s) ∙ e ∙ append_assoc (header_line format (length table)) (10 ∷ variable_lines table) more)
+TellsFault-strange (at_variables format n cells) whole rest s never some = λ other k table few vs more e.
+    let c : IsCut (header_line format n) (variable_lines cells ++ rest) (header_line other (length table)) (variable_lines table ++ more) =
+    cut_unique (header_line format n) _ (header_line other (length table)) _ (header_no_feed format n s.0 s.4) (header_no_feed other (length table) k few)
+    (sym (append_assoc (header_line format n) (10 ∷ variable_lines cells) rest) ∙ ap (λ w. w ++ rest) (sym s.1) ∙ e ∙ append_assoc (header_line other (length table)) (10 ∷ variable_lines table) more) in
+    let same : n ≡ length table = (header_same format other n (length table) s.0 k (omega (arith, s.4)) (omega (arith, few)) c.line).1 in
+    let f : Following cells rest = following [] cells table rest more s.2 vs (omega (arith, same, s.3)) c.rest in
     never f.variable f.may f.short f.more f.rest
-TellsFault-strange (at_events table history) whole rest s never (inl some) =
-    (table, history, rest, record { text = ap (λ w. w ++ rest) s.0; few = s.2; variables = s.1; events = s.3; legal = s.4 }, refl, some, never)
-TellsFault-strange (at_events table history) whole rest s never (inr e) = absurd (cc)
+TellsFault-strange (at_events format table history) whole rest s never (inl some) =
+    (format, s.0, table, history, rest, record { text = ap (λ w. w ++ rest) s.1; few = s.3; variables = s.2; events = s.4; legal = s.5 }, refl, some, never)
+TellsFault-strange (at_events format table history) whole rest s never (inr e) = absurd (cc)
 
 -- ---- when no line comes next
 
 pub NoNext-line : (r : CheckerState) (line more : List ℕ) → NoFeed line → IsStrange r line → NoNext r (line ++ 10 ∷ more)
-NoNext-line at_header line more h never = λ n few short after e. never n few (sym (cut_unique line more (header_line format_1 n) after h (header_no_feed n few) e).line)
-NoNext-line (at_variables m cells) line more h never = λ d may short after e. never d may (sym (cut_unique line more (variable_line d) after h (variable_no_feed d may.fits) e).line)
-NoNext-line (at_events table history) line more h never = λ g fits short after e. never g fits (sym (cut_unique line more (event_line g) after h (event_no_feed table g fits) e).line)
+NoNext-line at_header line more h never = λ format n k few short after e. never format n k few (sym (cut_unique line more (header_line format n) after h (header_no_feed format n k few) e).line)
+NoNext-line (at_variables format m cells) line more h never = λ d may short after e. never d may (sym (cut_unique line more (variable_line d) after h (variable_no_feed d may.fits) e).line)
+NoNext-line (at_events format table history) line more h never = λ g fits may short after e. never g fits may (sym (cut_unique line more (event_line g) after h (event_no_feed table g fits) e).line)
 
 pub NoNext-long : (r : CheckerState) (line more : List ℕ) → NoFeed line → max_line < length line → NoNext r (line ++ more)
-NoNext-long at_header line more h long = λ n few short after e. no_cut line more (header_line format_1 n) after h (omega arith) e
-NoNext-long (at_variables m cells) line more h long = λ d may short after e. no_cut line more (variable_line d) after h (omega arith) e
-NoNext-long (at_events table history) line more h long = λ g fits short after e. no_cut line more (event_line g) after h (omega arith) e
+NoNext-long at_header line more h long = λ format n k few short after e. no_cut line more (header_line format n) after h (omega arith) e
+NoNext-long (at_variables format m cells) line more h long = λ d may short after e. no_cut line more (variable_line d) after h (omega arith) e
+NoNext-long (at_events format table history) line more h long = λ g fits may short after e. no_cut line more (event_line g) after h (omega arith) e
 
 pub NoNext-end : (r : CheckerState) (line : List ℕ) → NoFeed line → NoNext r line
-NoNext-end at_header line h = λ n few short after e. no_feed_at_end line (header_line format_1 n) after h e
-NoNext-end (at_variables m cells) line h = λ d may short after e. no_feed_at_end line (variable_line d) after h e
-NoNext-end (at_events table history) line h = λ g fits short after e. no_feed_at_end line (event_line g) after h e
+NoNext-end at_header line h = λ format n k few short after e. no_feed_at_end line (header_line format n) after h e
+NoNext-end (at_variables format m cells) line h = λ d may short after e. no_feed_at_end line (variable_line d) after h e
+NoNext-end (at_events format table history) line h = λ g fits may short after e. no_feed_at_end line (event_line g) after h e
 
 -- ---- a byte more
 
@@ -117,55 +117,63 @@ HasTaken-byte r line taken b h k l = record {
 some_more : (line more : List ℕ) (b : ℕ) → 0 < length (line ++ b ∷ more)
 some_more line more b = omega (arith, length-append line (b ∷ more))
 
-tells_at : (e : HistoryFault) (r : CheckerState) (line taken rest : List ℕ) (h : HasTaken r line taken) → e ≡ strange r → TellsFault format_1 (strange r) (h.whole ++ (line ++ rest)) → TellsFault format_1 e (taken ++ rest)
+tells_at : (e : HistoryFault) (r : CheckerState) (line taken rest : List ℕ) (h : HasTaken r line taken) → e ≡ strange r → TellsFault (strange r) (h.whole ++ (line ++ rest)) → TellsFault e (taken ++ rest)
 tells_at e r line taken rest h k t =
-    subst (λ (x : HistoryFault). TellsFault format_1 x (taken ++ rest)) (sym k)
-    (subst (TellsFault format_1 (strange r)) (sym (ap (λ x. x ++ rest) h.taken_is ∙ append_assoc h.whole line rest)) t)
+    subst (λ (x : HistoryFault). TellsFault x (taken ++ rest)) (sym k)
+    (subst (TellsFault (strange r)) (sym (ap (λ x. x ++ rest) h.taken_is ∙ append_assoc h.whole line rest)) t)
 
 -- a line that its feed ended
-pub TellsFault-refused : (r : CheckerState) (line taken more : List ℕ) (e : HistoryFault) → HasTaken r line taken → MayRefuse r line e → TellsFault format_1 e (taken ++ 10 ∷ more)
-TellsFault-refused r line taken more e h (inl none) = subst (λ (x : HistoryFault). TellsFault format_1 x (taken ++ 10 ∷ more)) (sym none) tt
+pub TellsFault-refused : (r : CheckerState) (line taken more : List ℕ) (e : HistoryFault) → HasTaken r line taken → MayRefuse r line e → TellsFault e (taken ++ 10 ∷ more)
+TellsFault-refused r line taken more e h (inl none) = subst (λ (x : HistoryFault). TellsFault x (taken ++ 10 ∷ more)) (sym none) tt
 TellsFault-refused r line taken more e h (inr (inl k)) =
     tells_at e r line taken (10 ∷ more) h k.0 (TellsFault-strange r h.whole (line ++ 10 ∷ more) h.lines (NoNext-line r line more h.one_line k.1) (inl (some_more line more 10)))
 TellsFault-refused at_header line taken more e h (inr (inr k)) = absurd k
-TellsFault-refused (at_variables n cells) line taken more e h (inr (inr k)) = absurd k
-TellsFault-refused (at_events table history) line taken more e h (inr (inr k)) =
+TellsFault-refused (at_variables format n cells) line taken more e h (inr (inr k)) = absurd k
+TellsFault-refused (at_events format table history) line taken more e h (inr (inr k)) =
     let s = h.lines in
-    subst (λ (x : HistoryFault). TellsFault format_1 x (taken ++ 10 ∷ more)) (sym k.4) (
+    subst (λ (x : HistoryFault). TellsFault x (taken ++ 10 ∷ more)) (sym k.5) (
+      format,
+      s.0,
       table,
       history,
       k.0,
       more,
-      record { text = ap (λ x. x ++ 10 ∷ more) h.taken_is ∙ append_assoc h.whole line (10 ∷ more) ∙ ap (λ x. x ++ (line ++ 10 ∷ more)) s.0 ∙ ap (λ x. history_text format_1 table history ++ (x ++ 10 ∷ more)) (sym k.1); few = s.2; variables = s.1; events = s.3; legal = s.4 },
+      record { text = ap (λ x. x ++ 10 ∷ more) h.taken_is ∙ append_assoc h.whole line (10 ∷ more) ∙ ap (λ x. x ++ (line ++ 10 ∷ more)) s.1 ∙ ap (λ x. history_text format table history ++ (x ++ 10 ∷ more)) (sym k.1); few = s.3; variables = s.2; events = s.4; legal = s.5 },
       refl,
       k.2,
       k.3,
+      k.4,
     )
 
 -- a line too long
-pub TellsFault-long : (r : CheckerState) (line taken more : List ℕ) (b : ℕ) → HasTaken r line taken → b ≢ 10 → max_line ≤ length line → TellsFault format_1 (strange r) (taken ++ b ∷ more)
+pub TellsFault-long : (r : CheckerState) (line taken more : List ℕ) (b : ℕ) → HasTaken r line taken → b ≢ 10 → max_line ≤ length line → TellsFault (strange r) (taken ++ b ∷ more)
 TellsFault-long r line taken more b h k l =
     let same : (line ++ b ∷ []) ++ more ≡ line ++ b ∷ more = append_assoc line (b ∷ []) more in
     let never : NoNext r (line ++ b ∷ more) = subst (NoNext r) same (NoNext-long r (line ++ b ∷ []) more (nofeed-push line b h.one_line k) (omega (arith, length-append line (b ∷ [])))) in
     tells_at (strange r) r line taken (b ∷ more) h refl (TellsFault-strange r h.whole (line ++ b ∷ more) h.lines never (inl (some_more line more b)))
 
 -- the end of the bytes
-pub TellsFault-end : (r : CheckerState) (line taken : List ℕ) → HasTaken r line taken → (0 < length line ⊎ (strange r ≡ BadHeader)) → TellsFault format_1 (strange r) taken
-TellsFault-end r line taken h some = subst (TellsFault format_1 (strange r)) (sym h.taken_is) (TellsFault-strange r h.whole line h.lines (NoNext-end r line h.one_line) some)
+pub TellsFault-end : (r : CheckerState) (line taken : List ℕ) → HasTaken r line taken → (0 < length line ⊎ (strange r ≡ BadHeader)) → TellsFault (strange r) taken
+TellsFault-end r line taken h some = subst (TellsFault (strange r)) (sym h.taken_is) (TellsFault-strange r h.whole line h.lines (NoNext-end r line h.one_line) some)
 
-pub IsHistory-end : (table : List Declared) (history : List Event) (line taken : List ℕ) (n : Legal) → HasTaken (at_events table history) line taken → line ≡ [] → n ≡ numbers table history → IsHistory format_1 taken n
-IsHistory-end table history line taken n h e k =
+pub IsHistory-end : (format : ℕ) (table : List Declared) (history : List Event) (line taken : List ℕ) (n : Legal) → HasTaken (at_events format table history) line taken → line ≡ [] → n ≡ numbers table history → IsHistory taken n
+IsHistory-end format table history line taken n h e k =
     let s = h.lines in
-    (table, history, record { text = h.taken_is ∙ ap (λ x. h.whole ++ x) e ∙ ap (λ x. x ++ []) s.0; few = s.2; variables = s.1; events = s.3; legal = s.4 }, k)
+    (format, s.0, table, history, record { text = h.taken_is ∙ ap (λ x. h.whole ++ x) e ∙ ap (λ x. x ++ []) s.1; few = s.3; variables = s.2; events = s.4; legal = s.5 }, k)
 
 -- a first line that promises too much
-pub too_many : (m : ℕ) (line : List ℕ) → header_line format_1 m ≡ line → m < 2 ^ 32 → max_cells < m → IsStrange at_header line
-too_many m line e small many = λ n few k. let same : m ≡ n = header_same format_1 m n (omega arith) small (omega arith) (e ∙ sym k) in omega (arith, same)
+pub too_many : (format m : ℕ) (line : List ℕ) → IsFormat format → header_line format m ≡ line → m < 2 ^ 32 → max_cells < m → IsStrange at_header line
+too_many format m line read e small many = λ other n k few l.
+    let same : m ≡ n = (header_same format other m n read k small (omega arith) (e ∙ sym l)).1 in omega (arith, same)
+
+-- a line of an event that the format lacks
+pub unfit : (format : ℕ) (table : List Declared) (history : List Event) (e : Event) → FitsTable table e → (FitsFormat format e → ⊥) → IsStrange (at_events format table history) (event_line e)
+unfit format table history e f none = λ d fits may k. none (subst (FitsFormat format) (event_same table d e fits f k) may)
 
 -- ---- the same, as the code has it
 
 pub refused_byte : (s s' : Stage) (line line' taken more : List ℕ) (b : ℕ) (e : HistoryFault) → b ≡ 10 → s' ≡ s → line' ≡ line
-    → ((p : CheckerState) → IsStage s' p → MayRefuse p line' e) → Reached s line taken → TellsFault format_1 e (taken ++ b ∷ more)
+    → ((p : CheckerState) → IsStage s' p → MayRefuse p line' e) → Reached s line taken → TellsFault e (taken ++ b ∷ more)
 refused_byte s s' line line' taken more b e b10 es el h r =
     let stage : IsStage s' r.progress = subst (λ (x : Stage). IsStage x r.progress) (sym es) r.stage in
     rw b10 (TellsFault-refused r.progress line taken more e r.held (subst (λ (l : List ℕ). MayRefuse r.progress l e) el (h r.progress stage)))
@@ -181,35 +189,38 @@ fed_byte s s' t line line' left taken b b10 es el e h r =
 pub byte_more : (s : Stage) (line taken : List ℕ) (b : ℕ) → Reached s line taken → b ≢ 10 → length line < max_line → Reached s (line ++ b ∷ []) (taken ++ b ∷ [])
 byte_more s line taken b r k l = record { progress = r.progress; stage = r.stage; held = HasTaken-byte r.progress line taken b r.held k l }
 
-pub ends_early : (s : Stage) (line taken : List ℕ) (e : HistoryFault) → ((p : CheckerState) → IsStage s p → e ≡ strange p) → Reached s line taken → (0 < length line ⊎ (e ≡ BadHeader)) → TellsFault format_1 e taken
-ends_early s line taken e k r (inl some) = let same = k r.progress r.stage in subst (λ (x : HistoryFault). TellsFault format_1 x taken) (sym same) (TellsFault-end r.progress line taken r.held (inl some))
-ends_early s line taken e k r (inr bad) = let same = k r.progress r.stage in subst (λ (x : HistoryFault). TellsFault format_1 x taken) (sym same) (TellsFault-end r.progress line taken r.held (inr (sym same ∙ bad)))
+pub ends_early : (s : Stage) (line taken : List ℕ) (e : HistoryFault) → ((p : CheckerState) → IsStage s p → e ≡ strange p) → Reached s line taken → (0 < length line ⊎ (e ≡ BadHeader)) → TellsFault e taken
+ends_early s line taken e k r (inl some) = let same = k r.progress r.stage in subst (λ (x : HistoryFault). TellsFault x taken) (sym same) (TellsFault-end r.progress line taken r.held (inl some))
+ends_early s line taken e k r (inr bad) = let same = k r.progress r.stage in subst (λ (x : HistoryFault). TellsFault x taken) (sym same) (TellsFault-end r.progress line taken r.held (inr (sym same ∙ bad)))
 
-pub too_long : (s : Stage) (line taken more : List ℕ) (b : ℕ) (e : HistoryFault) → ((p : CheckerState) → IsStage s p → e ≡ strange p) → Reached s line taken → b ≢ 10 → max_line ≤ length line → TellsFault format_1 e (taken ++ b ∷ more)
-too_long s line taken more b e k r n l = subst (λ (x : HistoryFault). TellsFault format_1 x (taken ++ b ∷ more)) (sym (k r.progress r.stage)) (TellsFault-long r.progress line taken more b r.held n l)
+pub too_long : (s : Stage) (line taken more : List ℕ) (b : ℕ) (e : HistoryFault) → ((p : CheckerState) → IsStage s p → e ≡ strange p) → Reached s line taken → b ≢ 10 → max_line ≤ length line → TellsFault e (taken ++ b ∷ more)
+too_long s line taken more b e k r n l = subst (λ (x : HistoryFault). TellsFault x (taken ++ b ∷ more)) (sym (k r.progress r.stage)) (TellsFault-long r.progress line taken more b r.held n l)
 
 -- a stage with variables is at fault in the head
-pub declaring_strange : (s : Stage) (vars : ℕ) (names : List Declared) (p : CheckerState) → s ≡ Declaring vars names → IsStage s p → BadHeader ≡ strange p
-declaring_strange s vars names at_header e i = refl
-declaring_strange s vars names (at_variables n table) e i = refl
-declaring_strange s vars names (at_events table history) e i = let never : IsStage (Declaring vars names) (at_events table history) = subst (λ (x : Stage). IsStage x (at_events table history)) e i in absurd never
+pub declaring_strange : (s : Stage) (format vars : ℕ) (names : List Declared) (p : CheckerState) → s ≡ Declaring format vars names → IsStage s p → BadHeader ≡ strange p
+declaring_strange s format vars names at_header e i = refl
+declaring_strange s format vars names (at_variables other n table) e i = refl
+declaring_strange s format vars names (at_events other table history) e i =
+    let never : IsStage (Declaring format vars names) (at_events other table history) = subst (λ (x : Stage). IsStage x (at_events other table history)) e i in absurd never
 
-leads_by : (names : List Declared) (r : Replayer) (line : List ℕ) (s : Stage) (p : CheckerState) → IsStage (Running names r) p → ((H : List Event) → Follows names H r → LeadsToStage (at_events names H) line s) → LeadsToStage p line s
-leads_by names r line s at_header i f = absurd i
-leads_by names r line s (at_variables n table) i f = absurd i
-leads_by names r line s (at_events table history) i f =
-    subst (λ (x : List Declared). LeadsToStage (at_events x history) line s) i.0 (f history (subst (λ (x : List Declared). Follows x history r) (sym i.0) i.1))
+leads_by : (format : ℕ) (names : List Declared) (r : Replayer) (line : List ℕ) (s : Stage) (p : CheckerState) → IsStage (Running format names r) p
+    → ((H : List Event) → Follows names H r → LeadsToStage (at_events format names H) line s) → LeadsToStage p line s
+leads_by format names r line s at_header i f = absurd i
+leads_by format names r line s (at_variables other n table) i f = absurd i
+leads_by format names r line s (at_events other table history) i f =
+    subst (λ (x : ℕ). LeadsToStage (at_events x table history) line s) i.0
+    (subst (λ (x : List Declared). LeadsToStage (at_events format x history) line s) i.1 (f history (subst (λ (x : List Declared). Follows x history r) (sym i.1) i.2)))
 
 -- a line among the events, whatever the progress is called
-pub run_leads : (o : Result Stage HistoryFault) (names : List Declared) (r : Replayer) (line : List ℕ) → IfOk o (λ s. (H : List Event) → Follows names H r → LeadsToStage (at_events names H) line s)
-    → IfOk o (λ s. (p : CheckerState) → IsStage (Running names r) p → LeadsToStage p line s)
-run_leads (Ok s) names r line f = λ p i. leads_by names r line s p i f
-run_leads (Err e) names r line f = tt
+pub run_leads : (o : Result Stage HistoryFault) (format : ℕ) (names : List Declared) (r : Replayer) (line : List ℕ) → IfOk o (λ s. (H : List Event) → Follows names H r → LeadsToStage (at_events format names H) line s)
+    → IfOk o (λ s. (p : CheckerState) → IsStage (Running format names r) p → LeadsToStage p line s)
+run_leads (Ok s) format names r line f = λ p i. leads_by format names r line s p i f
+run_leads (Err e) format names r line f = tt
 
 split : (bytes : List ℕ) (i : ℕ) (more : List ℕ) → i < length bytes → bytes ++ more ≡ take i bytes ++ (get_or bytes i 0 ∷ (drop (i + 1) bytes ++ more))
 split bytes i more h =
     let next : drop i bytes ≡ get_or bytes i 0 ∷ drop (i + 1) bytes = rw add-one (drop-cons bytes i 0 h) in
     ap (λ l. l ++ more) (sym (take-append-drop i bytes)) ∙ append_assoc (take i bytes) (drop i bytes) more ∙ ap (λ l. take i bytes ++ (l ++ more)) next
 
-pub told_within : (taken bytes more : List ℕ) (i : ℕ) (e : HistoryFault) → i < length bytes → TellsFault format_1 e ((taken ++ take i bytes) ++ (get_or bytes i 0 ∷ (drop (i + 1) bytes ++ more))) → TellsFault format_1 e (taken ++ (bytes ++ more))
-told_within taken bytes more i e h t = subst (TellsFault format_1 e) (append_assoc taken (take i bytes) _ ∙ ap (λ x. taken ++ x) (sym (split bytes i more h))) t
+pub told_within : (taken bytes more : List ℕ) (i : ℕ) (e : HistoryFault) → i < length bytes → TellsFault e ((taken ++ take i bytes) ++ (get_or bytes i 0 ∷ (drop (i + 1) bytes ++ more))) → TellsFault e (taken ++ (bytes ++ more))
+told_within taken bytes more i e h t = subst (TellsFault e) (append_assoc taken (take i bytes) _ ∙ ap (λ x. taken ++ x) (sym (split bytes i more h))) t

@@ -3,8 +3,8 @@ use Rattle.std.proofs.Common.{◌≡◌, ℕ, ◌≤◌, ◌<◌, List, [], ◌�
 use Rattle.stm_store.specs.Tables.{Declared}
 use Rattle.stm_history.specs.declared.event.Event.{Event}
 use Rattle.stm_history.specs.SlowDesk.{IsLegal, LegalFrom, Slow, max_cells, max_events, initial_state, after}
-use Rattle.stm_history.specs.Fits.{FitsTable}
-use Rattle.stm_history.specs.Lines.{format_1, event_line, header_line, variable_line}
+use Rattle.stm_history.specs.Fits.{FitsTable, FitsFormat}
+use Rattle.stm_history.specs.Lines.{IsFormat, event_line, header_line, variable_line}
 use Rattle.stm_history.proofs.ReadsBack.{event_one_line, header_one_line, variable_one_line, header_same, variable_same, event_same}
 use Rattle.stm_history.specs.declared.files.fault.HistoryFault.TheVariants.{BadHeader}
 use Rattle.stm_history.specs.HistoryText.{head_text, history_text, variable_lines, event_lines}
@@ -13,7 +13,7 @@ use Rattle.stm_history.specs.FileLaws.{NumbersAreFixed, TextsAreOfOneHistory, Hi
 use Rattle.stm_history.proofs.Cuts.{IsCut, cut_unique, no_feed}
 use Rattle.stm_history.proofs.Written.{few_variables}
 
--- ---- the tables
+-- ---- the formats and the tables
 pub record IsOneTable (xs ys : List Declared) (a b : List ℕ) : Type 0 where
   pub tables : xs ≡ ys
   pub rest : a ≡ b
@@ -30,91 +30,105 @@ tables prior (x ∷ xs) (y ∷ ys) a b h k l e =
     let r = tables (prior ++ x ∷ []) xs ys a b h.1 (subst (λ (z : Declared). AreVariablesFrom (prior ++ z ∷ []) ys) same k.1) (omega (arith, l)) c.rest in
     record { tables = ap (λ (z : List Declared). x ∷ z) r.tables ∙ ap (λ (z : Declared). z ∷ ys) (sym same); rest = r.rest }
 
-one_table : (T U : List Declared) (H K : List Event) (a b : List ℕ) → AreVariables T → AreVariables U → history_text format_1 T H ++ a ≡ history_text format_1 U K ++ b → IsOneTable T U (event_lines H ++ a) (event_lines K ++ b)
-one_table T U H K a b f g e =
-    let flat : (V : List Declared) (J : List Event) (r : List ℕ) → history_text format_1 V J ++ r ≡ header_line format_1 (length V) ++ 10 ∷ (variable_lines V ++ (event_lines J ++ r)) = λ V J r.
-    ap (λ x. x ++ r) (append_assoc (header_line format_1 (length V)) (10 ∷ variable_lines V) (event_lines J)) ∙ append_assoc (header_line format_1 (length V)) (10 ∷ (variable_lines V ++ event_lines J)) r
-    ∙ ap (λ x. header_line format_1 (length V) ++ 10 ∷ x) (append_assoc (variable_lines V) (event_lines J) r) in
+pub record IsOneHead (p q : ℕ) (xs ys : List Declared) (a b : List ℕ) : Type 0 where
+  pub formats : p ≡ q
+  pub variables : IsOneTable xs ys a b
+
+one_head : (p q : ℕ) (T U : List Declared) (H K : List Event) (a b : List ℕ) → IsFormat p → IsFormat q → AreVariables T → AreVariables U → history_text p T H ++ a ≡ history_text q U K ++ b
+    → IsOneHead p q T U (event_lines H ++ a) (event_lines K ++ b)
+one_head p q T U H K a b i j f g e =
+    let flat : (n : ℕ) (V : List Declared) (J : List Event) (r : List ℕ) → history_text n V J ++ r ≡ header_line n (length V) ++ 10 ∷ (variable_lines V ++ (event_lines J ++ r)) = λ n V J r.
+    ap (λ x. x ++ r) (append_assoc (header_line n (length V)) (10 ∷ variable_lines V) (event_lines J)) ∙ append_assoc (header_line n (length V)) (10 ∷ (variable_lines V ++ event_lines J)) r
+    ∙ ap (λ x. header_line n (length V) ++ 10 ∷ x) (append_assoc (variable_lines V) (event_lines J) r) in
     let few : length T ≤ max_cells = few_variables T f in
     let many : length U ≤ max_cells = few_variables U g in
-    let c = cut_unique (header_line format_1 (length T)) _ (header_line format_1 (length U)) _ (no_feed _ (header_one_line format_1 (length T) (omega arith) (omega (arith, few)))) (no_feed _ (header_one_line format_1 (length U) (omega arith) (omega (arith, many))))
-    (sym (flat T H a) ∙ e ∙ flat U K b) in
-    let same : length T ≡ length U = header_same format_1 (length T) (length U) (omega arith) (omega (arith, few)) (omega (arith, many)) c.line in
-    tables [] T U _ _ f g same c.rest
+    let c = cut_unique (header_line p (length T)) _ (header_line q (length U)) _ (no_feed _ (header_one_line p (length T) i (omega (arith, few)))) (no_feed _ (header_one_line q (length U) j (omega (arith, many))))
+    (sym (flat p T H a) ∙ e ∙ flat q U K b) in
+    let same : (p ≡ q) × (length T ≡ length U) = header_same p q (length T) (length U) i j (omega (arith, few)) (omega (arith, many)) c.line in
+    record { formats = same.0; variables = tables [] T U _ _ f g same.1 c.rest }
 
 -- ---- the events
 -- a whole history, and another reading of its bytes that has come less far: an event of the history comes next
-pub record IsNext (T : List Declared) (H K : List Event) (rest : List ℕ) : Type 0 where
+pub record IsNext (p : ℕ) (T : List Declared) (H K : List Event) (rest : List ℕ) : Type 0 where
   pub event : Event
   pub later : List Event
   pub whole : H ≡ K ++ event ∷ later
   pub fits : FitsTable T event
+  pub may : FitsFormat p event
   pub short : IsShort (event_line event)
   pub text : rest ≡ event_line event ++ 10 ∷ event_lines later
 
 -- either the same events and nothing left, or an event next
-data Compared (T : List Declared) (H K : List Event) (rest : List ℕ) : Type 0 where
-  all : H ≡ K → rest ≡ [] → Compared T H K rest
-  more : IsNext T H K rest → Compared T H K rest
+data Compared (p : ℕ) (T : List Declared) (H K : List Event) (rest : List ℕ) : Type 0 where
+  all : H ≡ K → rest ≡ [] → Compared p T H K rest
+  more : IsNext p T H K rest → Compared p T H K rest
 
-cons_compared : (T : List Declared) (x : Event) (H K : List Event) (rest : List ℕ) → Compared T H K rest → Compared T (x ∷ H) (x ∷ K) rest
-cons_compared T x H K rest (all e f) = all (ap (λ (z : List Event). x ∷ z) e) f
-cons_compared T x H K rest (more n) = more (record { event = n.event; later = n.later; whole = ap (λ (z : List Event). x ∷ z) n.whole; fits = n.fits; short = n.short; text = n.text })
+cons_compared : (p : ℕ) (T : List Declared) (x : Event) (H K : List Event) (rest : List ℕ) → Compared p T H K rest → Compared p T (x ∷ H) (x ∷ K) rest
+cons_compared p T x H K rest (all e f) = all (ap (λ (z : List Event). x ∷ z) e) f
+cons_compared p T x H K rest (more n) =
+    more (record { event = n.event; later = n.later; whole = ap (λ (z : List Event). x ∷ z) n.whole; fits = n.fits; may = n.may; short = n.short; text = n.text })
 
-compared : (T : List Declared) (H K : List Event) (rest : List ℕ) → AreEvents T H → AreEvents T K → event_lines H ++ [] ≡ event_lines K ++ rest → Compared T H K rest
-compared T [] [] rest h k e = all refl (sym e)
-compared T (x ∷ H) [] rest h k e = more (record { event = x; later = H; whole = refl; fits = h.0; short = h.1; text = sym e ∙ append-nil _ })
-compared T [] (y ∷ K) rest h k e =
+compared : (p : ℕ) (T : List Declared) (H K : List Event) (rest : List ℕ) → AreEvents p T H → AreEvents p T K → event_lines H ++ [] ≡ event_lines K ++ rest → Compared p T H K rest
+compared p T [] [] rest h k e = all refl (sym e)
+compared p T (x ∷ H) [] rest h k e = more (record { event = x; later = H; whole = refl; fits = h.0; may = h.1; short = h.2; text = sym e ∙ append-nil _ })
+compared p T [] (y ∷ K) rest h k e =
     let l : 0 ≡ length ((event_line y ++ 10 ∷ event_lines K) ++ rest) = ap length e in
     let m = length-append (event_line y ++ 10 ∷ event_lines K) rest in
     let n = length-append (event_line y) (10 ∷ event_lines K) in
     absurd (omega (arith, l, m, n))
-compared T (x ∷ H) (y ∷ K) rest h k e =
+compared p T (x ∷ H) (y ∷ K) rest h k e =
     let c : IsCut (event_line x) (event_lines H ++ []) (event_line y) (event_lines K ++ rest) =
     cut_unique (event_line x) _ (event_line y) _ (no_feed _ (event_one_line T x h.0)) (no_feed _ (event_one_line T y k.0))
     (sym (append_assoc (event_line x) (10 ∷ event_lines H) []) ∙ e ∙ append_assoc (event_line y) (10 ∷ event_lines K) rest) in
     let same : x ≡ y = event_same T x y h.0 k.0 c.line in
-    subst (λ (z : Event). Compared T (x ∷ H) (z ∷ K) rest) same (cons_compared T x H K rest (compared T H K rest h.2 k.2 c.rest))
+    subst (λ (z : Event). Compared p T (x ∷ H) (z ∷ K) rest) same (cons_compared p T x H K rest (compared p T H K rest h.3 k.3 c.rest))
+
+-- events over one table are those over another that is the same
+events_of : (p q : ℕ) (T U : List Declared) (H : List Event) → p ≡ q → T ≡ U → AreEvents p T H → AreEvents q U H
+events_of p q T U H d e h = subst (λ (z : List Declared). AreEvents q z H) e (subst (λ (z : ℕ). AreEvents z T H) d h)
 
 -- two readings of the bytes of a history
-both : (bytes : List ℕ) (T U : List Declared) (H K : List Event) (rest : List ℕ) → BeginsWithHistory format_1 bytes T H [] → BeginsWithHistory format_1 bytes U K rest → (T ≡ U) × Compared U H K rest
-both bytes T U H K rest f g =
-    let t = one_table T U H K [] rest f.variables g.variables (sym f.text ∙ g.text) in
-    (t.tables, compared U H K rest (subst (λ (z : List Declared). AreEvents z H) t.tables f.events) g.events t.rest)
+both : (bytes : List ℕ) (p q : ℕ) (T U : List Declared) (H K : List Event) (rest : List ℕ) → IsFormat p → IsFormat q → BeginsWithHistory p bytes T H [] → BeginsWithHistory q bytes U K rest
+    → (T ≡ U) × Compared q U H K rest
+both bytes p q T U H K rest i j f g =
+    let t = one_head p q T U H K [] rest i j f.variables g.variables (sym f.text ∙ g.text) in
+    let tables : T ≡ U = (t.variables).tables in
+    (tables, compared q U H K rest (events_of p q T U H t.formats tables f.events) g.events (t.variables).rest)
 
 -- ---- whole texts
-same_events : (U : List Declared) (H K : List Event) → Compared U H K [] → H ≡ K
-same_events U H K (all e f) = e
-same_events U H K (more n) =
+same_events : (q : ℕ) (U : List Declared) (H K : List Event) → Compared q U H K [] → H ≡ K
+same_events q U H K (all e f) = e
+same_events q U H K (more n) =
     let l : 0 ≡ length (event_line n.event ++ 10 ∷ event_lines n.later) = ap length n.text in
     let m = length-append (event_line n.event) (10 ∷ event_lines n.later) in
     absurd (omega (arith, l, m))
 
 pub texts_are_of_one_history : TextsAreOfOneHistory
-texts_are_of_one_history T U H K f g h k e =
-    let t = one_table T U H K [] [] f g (ap (λ (x : List ℕ). x ++ []) e) in
-    (t.tables, same_events U H K (compared U H K [] (subst (λ (z : List Declared). AreEvents z H) t.tables h) k t.rest))
+texts_are_of_one_history p q T U H K i j f g h k e =
+    let t = one_head p q T U H K [] [] i j f g (ap (λ (x : List ℕ). x ++ []) e) in
+    let tables : T ≡ U = (t.variables).tables in
+    (t.formats, tables, same_events q U H K (compared q U H K [] (events_of p q T U H t.formats tables h) k (t.variables).rest))
 
 pub numbers_are_fixed : NumbersAreFixed
 numbers_are_fixed bytes m n a c =
-    let b = both bytes a.0 c.0 a.1 c.1 [] a.2 c.2 in
-    a.3 ∙ ap (λ (z : List Declared). numbers z a.1) b.0 ∙ ap (numbers c.0) (same_events c.0 a.1 c.1 b.1) ∙ sym c.3
+    let b = both bytes a.0 c.0 a.2 c.2 a.3 c.3 [] a.1 c.1 a.4 c.4 in
+    a.5 ∙ ap (λ (z : List Declared). numbers z a.3) b.0 ∙ ap (numbers c.2) (same_events c.0 c.2 a.3 c.3 b.1) ∙ sym c.5
 
 -- a legal history goes on legally: each front of it is legal
 front_legal : (s : Slow) (K later : List Event) (e : Event) → LegalFrom s (K ++ e ∷ later) → LegalFrom s (K ++ e ∷ [])
 front_legal s [] later e l = (l.0, tt)
 front_legal s (x ∷ K) later e l = (l.0, front_legal (after s x.what) K later e l.1)
 
-bad_by : (U : List Declared) (H K : List Event) (rest : List ℕ) → Compared U H K rest → 0 < length rest → NoEventNext U rest → ⊥
-bad_by U H K rest (all e f) some never = let l : length rest ≡ 0 = ap length f in absurd (omega (arith, l, some))
-bad_by U H K rest (more n) some never = never n.event n.fits n.short (event_lines n.later) n.text
+bad_by : (q : ℕ) (U : List Declared) (H K : List Event) (rest : List ℕ) → Compared q U H K rest → 0 < length rest → NoEventNext q U rest → ⊥
+bad_by q U H K rest (all e f) some never = let l : length rest ≡ 0 = ap length f in absurd (omega (arith, l, some))
+bad_by q U H K rest (more n) some never = never n.event n.fits n.may n.short (event_lines n.later) n.text
 
-refused_by : (U : List Declared) (H K : List Event) (e : Event) (text : List ℕ) → Compared U H K (event_line e ++ 10 ∷ text) → FitsTable U e → IsLegal U H → IsIllegal U K e → ⊥
-refused_by U H K e text (all q f) fits legal illegal =
+refused_by : (q : ℕ) (U : List Declared) (H K : List Event) (e : Event) (text : List ℕ) → Compared q U H K (event_line e ++ 10 ∷ text) → FitsTable U e → IsLegal U H → IsIllegal U K e → ⊥
+refused_by q U H K e text (all w f) fits legal illegal =
     let l : length (event_line e ++ 10 ∷ text) ≡ 0 = ap length f in
     let m = length-append (event_line e) (10 ∷ text) in
     omega (arith, l, m)
-refused_by U H K e text (more n) fits legal illegal =
+refused_by q U H K e text (more n) fits legal illegal =
     let c = cut_unique (event_line e) text (event_line n.event) (event_lines n.later) (no_feed _ (event_one_line U e fits)) (no_feed _ (event_one_line U n.event n.fits)) n.text in
     let same : e ≡ n.event = event_same U e n.event fits n.fits c.line in
     let whole : H ≡ K ++ e ∷ n.later = n.whole ∙ ap (λ (z : Event). K ++ z ∷ n.later) (sym same) in
@@ -125,15 +139,15 @@ refused_by U H K e text (more n) fits legal illegal =
     illegal (record { each = front_legal (initial_state U) K n.later e h; few = omega (arith, few, l, m) })
 
 -- the header and the variables of a history are those of a table
-header_by : (bytes : List ℕ) (T : List Declared) (H : List Event) → BeginsWithHistory format_1 bytes T H [] → TellsFault format_1 BadHeader bytes → ⊥
-header_by bytes T H f t =
-    t T f.few f.variables (event_lines H ++ []) (f.text ∙ append_assoc (head_text format_1 (length T) T) (event_lines H) [])
+header_by : (bytes : List ℕ) (p : ℕ) (T : List Declared) (H : List Event) → IsFormat p → BeginsWithHistory p bytes T H [] → TellsFault BadHeader bytes → ⊥
+header_by bytes p T H i f t =
+    t p i T f.few f.variables (event_lines H ++ []) (f.text ∙ append_assoc (head_text p (length T) T) (event_lines H) [])
 
 pub histories_are_taken : HistoriesAreTaken
 histories_are_taken bytes n k a = (
-  header_by bytes a.0 a.1 a.2,
-  (λ t. bad_by t.0 a.1 t.1 t.2 (both bytes a.0 t.0 a.1 t.1 t.2 a.2 t.3).1 t.5 t.6),
+  header_by bytes a.0 a.2 a.3 a.1 a.4,
+  (λ t. bad_by t.0 t.2 a.3 t.3 t.4 (both bytes a.0 t.0 a.2 t.2 a.3 t.3 t.4 a.1 t.1 a.4 t.5).1 t.7 t.8),
   (λ t.
-      let b = both bytes a.0 t.0 a.1 t.1 (event_line t.2 ++ 10 ∷ t.3) a.2 t.4 in
-      refused_by t.0 a.1 t.1 t.2 t.3 b.1 t.6 (subst (λ (z : List Declared). IsLegal z a.1) b.0 (a.2).legal) t.7),
+      let b = both bytes a.0 t.0 a.2 t.2 a.3 t.3 (event_line t.4 ++ 10 ∷ t.5) a.1 t.1 a.4 t.6 in
+      refused_by t.0 t.2 a.3 t.3 t.4 t.5 b.1 t.8 (subst (λ (z : List Declared). IsLegal z a.3) b.0 (a.4).legal) t.10),
 )

@@ -10,14 +10,14 @@ use Rattle.stm_history.specs.Checking.{at_variables, IsStrange, MayRefuse}
 use Rattle.stm_history.specs.Stages.{refused_by}
 
 -- a line of a variable that the table refuses is none of one that it takes
-pub undeclared : (n : ℕ) (table : List Declared) (c : Declared) (line : List ℕ) (e : DeclareError) → variable_line c ≡ line → FitsVariable c → Some e ≡ declare_refusal table c.name c.kind c.value → IsStrange (at_variables n table) line
-undeclared n table c line e l f told = λ d may k.
+pub undeclared : (format n : ℕ) (table : List Declared) (c : Declared) (line : List ℕ) (e : DeclareError) → variable_line c ≡ line → FitsVariable c → Some e ≡ declare_refusal table c.name c.kind c.value → IsStrange (at_variables format n table) line
+undeclared format n table c line e l f told = λ d may k.
     let same : d ≡ c = variable_same d c may.fits f (k ∙ sym l) in
     let none : declare_refusal table c.name c.kind c.value ≡ None = subst (λ (x : Declared). declare_refusal table x.name x.kind x.value ≡ None) same may.may in
     cc
 
-pub declare_fault : (n : ℕ) (table : List Declared) (c : Declared) (line : List ℕ) (e : DeclareError) → variable_line c ≡ line → FitsVariable c → refusal_of (Err e) ≡ declare_refusal table c.name c.kind c.value → MayRefuse (at_variables n table) line (refused_by e)
-declare_fault n table c line declare.NoMemory l f told = inl refl
-declare_fault n table c line declare.Twice l f told = inr (inl (refl, undeclared n table c line declare.Twice l f told))
-declare_fault n table c line declare.TypeOfValue l f told = inr (inl (refl, undeclared n table c line declare.TypeOfValue l f told))
-declare_fault n table c line declare.TableFull l f told = inr (inl (refl, undeclared n table c line declare.TableFull l f told))
+pub declare_fault : (format n : ℕ) (table : List Declared) (c : Declared) (line : List ℕ) (e : DeclareError) → variable_line c ≡ line → FitsVariable c → refusal_of (Err e) ≡ declare_refusal table c.name c.kind c.value → MayRefuse (at_variables format n table) line (refused_by e)
+declare_fault format n table c line declare.NoMemory l f told = inl refl
+declare_fault format n table c line declare.Twice l f told = inr (inl (refl, undeclared format n table c line declare.Twice l f told))
+declare_fault format n table c line declare.TypeOfValue l f told = inr (inl (refl, undeclared format n table c line declare.TypeOfValue l f told))
+declare_fault format n table c line declare.TableFull l f told = inr (inl (refl, undeclared format n table c line declare.TableFull l f told))

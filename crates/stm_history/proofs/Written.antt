@@ -10,7 +10,6 @@ use Rattle.stm_history.specs.FileLaws.{WhatIsWrittenIsTaken}
 use Rattle.stm_history.specs.Fits.{AreInRange}
 use Rattle.stm_history.specs.HistoryText.{history_text}
 use Rattle.stm_history.specs.Judgement.{AreVariables, AreVariablesFrom}
-use Rattle.stm_history.specs.Lines.{format_1}
 use Rattle.stm_history.specs.SlowDesk.{max_cells}
 
 -- what a variable that is not refused shows
@@ -58,6 +57,6 @@ pub few_variables : (table : List Declared) → AreVariables table → length ta
 few_variables table a = let few = few_from [] table a (omega arith) in omega (arith, few)
 
 pub what_is_written_is_taken : WhatIsWrittenIsTaken
-what_is_written_is_taken table history declared range events legal =
+what_is_written_is_taken format table history read declared range events legal =
     let variables : AreVariables table = variables_from [] table declared range in
-    (table, history, record { text = sym (append-nil (history_text format_1 table history)); few = few_variables table variables; variables = variables; events = events; legal = legal }, refl)
+    (format, read, table, history, record { text = sym (append-nil (history_text format table history)); few = few_variables table variables; variables = variables; events = events; legal = legal }, refl)

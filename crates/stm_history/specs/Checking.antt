@@ -4,10 +4,10 @@ use Rattle.stm_store.specs.Tables.{Declared}
 use Rattle.stm_history.specs.declared.event.Event.{Event}
 use Rattle.stm_history.specs.declared.files.fault.HistoryFault.{HistoryFault}
 use Rattle.stm_history.specs.declared.files.fault.HistoryFault.TheVariants.{BadHeader, BadLine, NotLegal, NoMemory}
-use Rattle.stm_history.specs.Fits.{FitsTable}
+use Rattle.stm_history.specs.Fits.{FitsTable, FitsFormat}
 use Rattle.stm_history.specs.HistoryText.{head_text, history_text}
 use Rattle.stm_history.specs.Judgement.{IsShort, MayDeclare, AreVariables, AreEvents, NoEventNext, IsIllegal, next_line}
-use Rattle.stm_history.specs.Lines.{format_1, event_line, header_line, variable_line}
+use Rattle.stm_history.specs.Lines.{IsFormat, event_line, header_line, variable_line}
 use Rattle.stm_history.specs.SlowDesk.{IsLegal, max_cells}
 
 -- no byte is a line feed
@@ -15,39 +15,41 @@ abbrev pub NoFeed : List ℕ → Type 0
 NoFeed [] = Unit {0}
 NoFeed (x ∷ xs) = (x ≢ 10) × NoFeed xs
 
--- how far the lines have come: before the first; among those of the variables, of which so many were promised; among those
--- of the events
+-- how far the lines have come: before the first; in a format, among those of the variables, of which so many were promised; in
+-- a format, among those of the events
 pub data CheckerState : Type 0 where
   at_header : CheckerState
-  at_variables : ℕ → List Declared → CheckerState
-  at_events : List Declared → List Event → CheckerState
+  at_variables : ℕ → ℕ → List Declared → CheckerState
+  at_events : ℕ → List Declared → List Event → CheckerState
 
-abbrev pub with_table : ℕ → List Declared → CheckerState
-with_table n table = if nat_lt (length table) n then at_variables n table else at_events table []
+abbrev pub with_table : ℕ → ℕ → List Declared → CheckerState
+with_table format n table = if nat_lt (length table) n then at_variables format n table else at_events format table []
 
 -- the line leads on to this progress
 abbrev pub LeadsTo : CheckerState → List ℕ → CheckerState → Type 0
-LeadsTo at_header line q = (n : ℕ) × (header_line format_1 n ≡ line) × (n ≤ max_cells) × (q ≡ with_table n [])
-LeadsTo (at_variables n table) line q = (d : Declared) × (variable_line d ≡ line) × MayDeclare table d × (q ≡ with_table n (table ++ d ∷ []))
-LeadsTo (at_events table history) line q = (e : Event) × (event_line e ≡ line) × FitsTable table e × IsLegal table (history ++ e ∷ []) × (q ≡ at_events table (history ++ e ∷ []))
+LeadsTo at_header line q = (format : ℕ) × (n : ℕ) × IsFormat format × (header_line format n ≡ line) × (n ≤ max_cells) × (q ≡ with_table format n [])
+LeadsTo (at_variables format n table) line q = (d : Declared) × (variable_line d ≡ line) × MayDeclare table d × (q ≡ with_table format n (table ++ d ∷ []))
+LeadsTo (at_events format table history) line q =
+    (e : Event) × (event_line e ≡ line) × FitsTable table e × FitsFormat format e × IsLegal table (history ++ e ∷ []) × (q ≡ at_events format table (history ++ e ∷ []))
 
 -- the line is none that may stand here, whatever the machine allows
 abbrev pub IsStrange : CheckerState → List ℕ → Type 0
-IsStrange at_header line = (n : ℕ) → n ≤ max_cells → header_line format_1 n ≢ line
-IsStrange (at_variables n table) line = (d : Declared) → MayDeclare table d → variable_line d ≢ line
-IsStrange (at_events table history) line = (e : Event) → FitsTable table e → event_line e ≢ line
+IsStrange at_header line = (format n : ℕ) → IsFormat format → n ≤ max_cells → header_line format n ≢ line
+IsStrange (at_variables format n table) line = (d : Declared) → MayDeclare table d → variable_line d ≢ line
+IsStrange (at_events format table history) line = (e : Event) → FitsTable table e → FitsFormat format e → event_line e ≢ line
 
 -- the fault of a strange line
 abbrev pub strange : CheckerState → HistoryFault
 strange at_header = BadHeader
-strange (at_variables n table) = BadHeader
-strange (at_events table history) = BadLine (next_line table history)
+strange (at_variables format n table) = BadHeader
+strange (at_events format table history) = BadLine (next_line table history)
 
 -- the line is that of an event which can't follow
 abbrev pub Forbids : CheckerState → List ℕ → HistoryFault → Type 0
 Forbids at_header line f = ⊥
-Forbids (at_variables n table) line f = ⊥
-Forbids (at_events table history) line f = (e : Event) × (event_line e ≡ line) × FitsTable table e × IsIllegal table history e × (f ≡ NotLegal (next_line table history))
+Forbids (at_variables format n table) line f = ⊥
+Forbids (at_events format table history) line f =
+    (e : Event) × (event_line e ≡ line) × FitsTable table e × FitsFormat format e × IsIllegal table history e × (f ≡ NotLegal (next_line table history))
 
 -- why a line may be refused
 abbrev pub MayRefuse : CheckerState → List ℕ → HistoryFault → Type 0
@@ -56,15 +58,15 @@ MayRefuse p line f = (f ≡ NoMemory) ⊎ (((f ≡ strange p) × IsStrange p lin
 -- the text is whole lines that led to this progress
 abbrev pub LinesUpTo : CheckerState → List ℕ → Type 0
 LinesUpTo at_header text = text ≡ []
-LinesUpTo (at_variables n table) text = (text ≡ head_text format_1 n table) × AreVariables table × (length table < n) × (n ≤ max_cells)
-LinesUpTo (at_events table history) text =
-    (text ≡ history_text format_1 table history) × AreVariables table × (length table ≤ max_cells) × AreEvents table history × IsLegal table history
+LinesUpTo (at_variables format n table) text = IsFormat format × (text ≡ head_text format n table) × AreVariables table × (length table < n) × (n ≤ max_cells)
+LinesUpTo (at_events format table history) text =
+    IsFormat format × (text ≡ history_text format table history) × AreVariables table × (length table ≤ max_cells) × AreEvents format table history × IsLegal table history
 
 -- no line that may stand here comes next
 abbrev pub NoNext : CheckerState → List ℕ → Type 0
-NoNext at_header rest = (n : ℕ) → n ≤ max_cells → IsShort (header_line format_1 n) → (more : List ℕ) → rest ≢ header_line format_1 n ++ 10 ∷ more
-NoNext (at_variables n table) rest = (d : Declared) → MayDeclare table d → IsShort (variable_line d) → (more : List ℕ) → rest ≢ variable_line d ++ 10 ∷ more
-NoNext (at_events table history) rest = NoEventNext table rest
+NoNext at_header rest = (format n : ℕ) → IsFormat format → n ≤ max_cells → IsShort (header_line format n) → (more : List ℕ) → rest ≢ header_line format n ++ 10 ∷ more
+NoNext (at_variables format n table) rest = (d : Declared) → MayDeclare table d → IsShort (variable_line d) → (more : List ℕ) → rest ≢ variable_line d ++ 10 ∷ more
+NoNext (at_events format table history) rest = NoEventNext format table rest
 
 -- what was taken is whole lines up to this progress, and then a line that has begun
 pub record HasTaken (p : CheckerState) (line taken : List ℕ) : Type 0 where

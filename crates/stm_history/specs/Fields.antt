@@ -18,6 +18,7 @@ use Rattle.stm_store.specs.Tables.{Declared}
 use Rattle.stm_history.specs.declared.event.Event.{Event}
 use Rattle.stm_history.specs.declared.event.What.{What}
 use Rattle.stm_history.specs.declared.event.What.TheVariants.{Submitted, Installed, Finished, Cancelled}
+use Rattle.stm_history.specs.declared.lines.read.Header.{Header}
 use Rattle.stm_check.specs.TypedBlock.{Block}
 use Rattle.stm_check.specs.WholeBlocks.{BlockFault, checked_block}
 
@@ -124,6 +125,10 @@ abbrev pub event_of : List Declared → Data → Option Event
 event_of table d =
     option_and_then (λ kind. option_and_then (λ client. option_and_then (λ ticket. option_map (λ w. record { client = client; what = w }) (what_of table d kind ticket)) (number_field (codes "ticket") d)) (client_of d))
     (text_field (codes "event") d)
+
+-- a first line, whether or not its format is read
+abbrev pub header_of : Data → Option Header
+header_of d = option_and_then (λ format. option_map (λ n. record { format = format; vars = n }) (number_field (codes "vars") d)) (number_field (codes "format") d)
 
 abbrev pub declared_from_json : Data → Option Declared
 declared_from_json d =

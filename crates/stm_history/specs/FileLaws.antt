@@ -8,7 +8,7 @@ use Rattle.stm_history.specs.declared.files.fault.Legal.{Legal}
 use Rattle.stm_history.specs.Fits.{FitsTable, AreInRange, IsOneLine}
 use Rattle.stm_history.specs.HistoryText.{history_text}
 use Rattle.stm_history.specs.Judgement.{IsHistory, TellsFault, AreVariables, AreEvents, numbers}
-use Rattle.stm_history.specs.Lines.{format_1, event_line}
+use Rattle.stm_history.specs.Lines.{IsFormat, event_line}
 use Rattle.stm_history.specs.SlowDesk.{IsLegal}
 
 -- different events have different lines, without a line feed
@@ -20,25 +20,25 @@ EventsAreLines = (table : List Declared) (e : Event) → FitsTable table e → I
 
 -- the numbers of a history are fixed by its text
 abbrev pub NumbersAreFixed : Type 0
-NumbersAreFixed = (bytes : List ℕ) (m n : Legal) → IsHistory format_1 bytes m → IsHistory format_1 bytes n → m ≡ n
+NumbersAreFixed = (bytes : List ℕ) (m n : Legal) → IsHistory bytes m → IsHistory bytes n → m ≡ n
 
--- No two histories over tables have one text, be they legal or not. The variables of each table may be declared in turn, and
--- each event fits its table and has a short line.
+-- No two histories over tables have one text, be they legal or not, and no history has one text in two formats. The variables of
+-- each table may be declared in turn, and each event fits its table and its format and has a short line.
 abbrev pub TextsAreOfOneHistory : Type 0
 TextsAreOfOneHistory =
-    (table table' : List Declared) (history history' : List Event) → AreVariables table → AreVariables table'
-    → AreEvents table history → AreEvents table' history'
-    → history_text format_1 table history ≡ history_text format_1 table' history' → (table ≡ table') × (history ≡ history')
+    (format format' : ℕ) (table table' : List Declared) (history history' : List Event) → IsFormat format → IsFormat format'
+    → AreVariables table → AreVariables table' → AreEvents format table history → AreEvents format' table' history'
+    → history_text format table history ≡ history_text format' table' history' → (format ≡ format') × (table ≡ table') × (history ≡ history')
 
 -- no fault can be told of the text of a legal history
 abbrev pub HistoriesAreTaken : Type 0
 HistoriesAreTaken =
-    (bytes : List ℕ) (n : Legal) (k : ℕ) → IsHistory format_1 bytes n
-    → (TellsFault format_1 BadHeader bytes → ⊥) × (TellsFault format_1 (BadLine k) bytes → ⊥) × (TellsFault format_1 (NotLegal k) bytes → ⊥)
+    (bytes : List ℕ) (n : Legal) (k : ℕ) → IsHistory bytes n
+    → (TellsFault BadHeader bytes → ⊥) × (TellsFault (BadLine k) bytes → ⊥) × (TellsFault (NotLegal k) bytes → ⊥)
 
--- The text of a legal history is one of its numbers. The table is one that declarations make, and its values are in the range of
--- the program's types; each event fits the table, and its line is short.
+-- The text of a legal history in a format that is read is one of its numbers. The table is one that declarations make, and its
+-- values are in the range of the program's types; each event fits the table and the format, and its line is short.
 abbrev pub WhatIsWrittenIsTaken : Type 0
 WhatIsWrittenIsTaken =
-    (table : List Declared) (history : List Event) → AreDeclared table → AreInRange table → AreEvents table history → IsLegal table history
-    → IsHistory format_1 (history_text format_1 table history) (numbers table history)
+    (format : ℕ) (table : List Declared) (history : List Event) → IsFormat format → AreDeclared table → AreInRange table → AreEvents format table history → IsLegal table history
+    → IsHistory (history_text format table history) (numbers table history)

@@ -1,6 +1,6 @@
 -- What can stand in a line: numbers that fit the program's types, a client that there may be, types of at most 8 `TVar`,
--- and blocks that are their texts parsed and checked.
-use Rattle.std.specs.Prelude.{◌≡◌, ◌≢◌, ℕ, ◌<◌, ◌≤◌, ◌^◌, ℤ, pos, negsuc, List, [], ◌∷◌, Ok, ⊤, IsTrue}
+-- and blocks that are their texts parsed and checked, of the actions that the format has.
+use Rattle.std.specs.Prelude.{◌≡◌, ◌≢◌, ℕ, ◌<◌, ◌≤◌, ◌^◌, ℤ, pos, negsuc, List, [], ◌∷◌, Ok, ⊤, IsTrue, false}
 use Rattle.stm_terms.specs.declared.kinds.Ty.{Ty}
 use Rattle.stm_terms.specs.declared.values.Value.{Value}
 use Rattle.stm_terms.specs.declared.values.Value.TheVariants as value
@@ -8,6 +8,7 @@ use Rattle.stm_terms.specs.declared.values.Ref.TheVariants.{Old, New}
 use Rattle.stm_terms.specs.declared.values.Fault.TheVariants.{Thrown, Overflow}
 use Rattle.stm_terms.specs.declared.verdicts.Verdict.{Verdict}
 use Rattle.stm_terms.specs.declared.verdicts.Verdict.TheVariants.{Commits, Throws, Blocks}
+use Rattle.stm_terms.specs.Ast.{has_catch}
 use Rattle.stm_terms.specs.Names.{is_name_text}
 use Rattle.stm_store.specs.Tables.{Declared}
 use Rattle.stm_history.specs.declared.event.Event.{Event}
@@ -56,6 +57,16 @@ WhatFitsTable table (Cancelled ticket) = Is32Bit ticket
 
 abbrev pub FitsTable : List Declared → Event → Type 0
 FitsTable table e = (e.client < max_clients) × WhatFitsTable table e.what
+
+-- what may stand in a history of the format: in format 1 no block has a `catch`
+abbrev pub WhatFitsFormat : ℕ → What → Type 0
+WhatFitsFormat format (Submitted ticket block) = format ≡ 1 → has_catch block.tree ≡ false
+WhatFitsFormat format (Installed ticket v) = ⊤
+WhatFitsFormat format (Finished ticket v first_new stale) = ⊤
+WhatFitsFormat format (Cancelled ticket) = ⊤
+
+abbrev pub FitsFormat : ℕ → Event → Type 0
+FitsFormat format e = WhatFitsFormat format e.what
 
 -- a variable by itself, whatever stands before it
 abbrev pub FitsVariable : Declared → Type 0

@@ -5,9 +5,9 @@ use Rattle.stm_history.specs.declared.event.Event.{Event}
 use Rattle.stm_history.specs.declared.files.fault.HistoryFault.{HistoryFault}
 use Rattle.stm_history.specs.declared.files.fault.HistoryFault.TheVariants.{ReadFault, BadHeader, BadLine, NotLegal, NoMemory}
 use Rattle.stm_history.specs.declared.files.fault.Legal.{Legal}
-use Rattle.stm_history.specs.Fits.{FitsTable, FitsVariable}
+use Rattle.stm_history.specs.Fits.{FitsTable, FitsFormat, FitsVariable}
 use Rattle.stm_history.specs.HistoryText.{head_text, history_text}
-use Rattle.stm_history.specs.Lines.{event_line}
+use Rattle.stm_history.specs.Lines.{IsFormat, event_line}
 use Rattle.stm_history.specs.SlowDesk.{state, IsLegal, max_cells}
 
 -- the most bytes of a line, its line feed not counted
@@ -30,17 +30,17 @@ AreVariablesFrom before (d ∷ ds) = MayDeclare before d × AreVariablesFrom (be
 abbrev pub AreVariables : List Declared → Type 0
 AreVariables table = AreVariablesFrom [] table
 
--- each event can stand in a line over the table, and its line is short
-abbrev pub AreEvents : List Declared → List Event → Type 0
-AreEvents table [] = ⊤
-AreEvents table (e ∷ es) = FitsTable table e × IsShort (event_line e) × AreEvents table es
+-- each event can stand in a line over the table and in a history of the format, and its line is short
+abbrev pub AreEvents : ℕ → List Declared → List Event → Type 0
+AreEvents format table [] = ⊤
+AreEvents format table (e ∷ es) = FitsTable table e × FitsFormat format e × IsShort (event_line e) × AreEvents format table es
 
--- the bytes are the text of a legal history, and then the rest
+-- the bytes are the text of a legal history in the format, and then the rest
 pub record BeginsWithHistory (format : ℕ) (bytes : List ℕ) (table : List Declared) (history : List Event) (rest : List ℕ) : Type 0 where
   pub text : bytes ≡ history_text format table history ++ rest
   pub few : length table ≤ max_cells
   pub variables : AreVariables table
-  pub events : AreEvents table history
+  pub events : AreEvents format table history
   pub legal : IsLegal table history
 
 -- the number of the line after these, the first line being number 1
@@ -51,30 +51,32 @@ next_line table history = length table + length history + 2
 abbrev pub numbers : List Declared → List Event → Legal
 numbers table history = record { events = length history; waiting = length (state table history).waiters; cells = length (state table history).store }
 
--- the bytes are the text of a legal history with these numbers
-abbrev pub IsHistory : ℕ → List ℕ → Legal → Type 0
-IsHistory format bytes n = (table : List Declared) × (history : List Event) × BeginsWithHistory format bytes table history [] × (n ≡ numbers table history)
+-- the bytes are the text of a legal history with these numbers, in a format that is read
+abbrev pub IsHistory : List ℕ → Legal → Type 0
+IsHistory bytes n =
+    (format : ℕ) × IsFormat format × (table : List Declared) × (history : List Event) × BeginsWithHistory format bytes table history [] × (n ≡ numbers table history)
 
--- no line of an event comes next: a line that is no event's, a line too long, or the end in mid-line
-abbrev pub NoEventNext : List Declared → List ℕ → Type 0
-NoEventNext table rest = (e : Event) → FitsTable table e → IsShort (event_line e) → (more : List ℕ) → rest ≢ event_line e ++ 10 ∷ more
+-- no line of an event comes next: a line of no event that the format has, a line too long, or the end in mid-line
+abbrev pub NoEventNext : ℕ → List Declared → List ℕ → Type 0
+NoEventNext format table rest = (e : Event) → FitsTable table e → FitsFormat format e → IsShort (event_line e) → (more : List ℕ) → rest ≢ event_line e ++ 10 ∷ more
 
 -- the event can't follow
 abbrev pub IsIllegal : List Declared → List Event → Event → Type 0
 IsIllegal table history e = IsLegal table (history ++ e ∷ []) → ⊥
 
 -- What is reported of bytes that are no legal history: the first fault. The first line and those of the variables are at fault
--- where the bytes begin with those of no table; a later line where a legal history stands before it.
-abbrev pub TellsFault : ℕ → HistoryFault → List ℕ → Type 0
-TellsFault format ReadFault bytes = ⊤
-TellsFault format NoMemory bytes = ⊤
-TellsFault format BadHeader bytes =
-    (table : List Declared) → length table ≤ max_cells → AreVariables table → (more : List ℕ) → bytes ≢ head_text format (length table) table ++ more
-TellsFault format (BadLine n) bytes =
-    (table : List Declared) × (history : List Event) × (rest : List ℕ) × BeginsWithHistory format bytes table history rest × (n ≡ next_line table history) × (0 < length rest) × NoEventNext table rest
-TellsFault format (NotLegal n) bytes =
-    (table : List Declared) × (history : List Event) × (e : Event) × (more : List ℕ) × BeginsWithHistory format bytes table history (event_line e ++ 10 ∷ more) × (n ≡ next_line table history)
-    × FitsTable table e × IsIllegal table history e
+-- where the bytes begin with those of no table in any format that is read; a later line where a legal history stands before it.
+abbrev pub TellsFault : HistoryFault → List ℕ → Type 0
+TellsFault ReadFault bytes = ⊤
+TellsFault NoMemory bytes = ⊤
+TellsFault BadHeader bytes =
+    (format : ℕ) → IsFormat format → (table : List Declared) → length table ≤ max_cells → AreVariables table → (more : List ℕ) → bytes ≢ head_text format (length table) table ++ more
+TellsFault (BadLine n) bytes =
+    (format : ℕ) × IsFormat format × (table : List Declared) × (history : List Event) × (rest : List ℕ) × BeginsWithHistory format bytes table history rest × (n ≡ next_line table history)
+    × (0 < length rest) × NoEventNext format table rest
+TellsFault (NotLegal n) bytes =
+    (format : ℕ) × IsFormat format × (table : List Declared) × (history : List Event) × (e : Event) × (more : List ℕ)
+    × BeginsWithHistory format bytes table history (event_line e ++ 10 ∷ more) × (n ≡ next_line table history) × FitsTable table e × FitsFormat format e × IsIllegal table history e
 
 -- what replaying tells of a list that isn't legal: the first event, counted from 1, that can't follow those before it
 abbrev pub Refuses : HistoryFault → List Declared → List Event → Type 0

@@ -1,5 +1,5 @@
 -- The lines of a history, without their line feeds: each is the compact text of a JSON value.
-use Rattle.std.specs.Prelude.{ℕ, List, map, codes}
+use Rattle.std.specs.Prelude.{ℕ, ◌≤◌, List, map, codes}
 use Rattle.serde_json.specs.Data.{Data, null, boolean, number, unsigned, string, array, object, item, no_items, member, no_members}
 use Rattle.serde_json.specs.Find.{of_integer}
 use Rattle.serde_json.specs.View.{items_of}
@@ -17,9 +17,13 @@ use Rattle.stm_history.specs.declared.event.Event.{Event}
 use Rattle.stm_history.specs.declared.event.What.{What}
 use Rattle.stm_history.specs.declared.event.What.TheVariants.{Submitted, Installed, Finished, Cancelled}
 
--- the format of histories that is written and read
-abbrev pub format_1 : ℕ
-format_1 = 1
+-- the format of histories that is written, the latest of those that are read
+abbrev pub latest_format : ℕ
+latest_format = 2
+
+-- the formats that are read
+abbrev pub IsFormat : ℕ → Type 0
+IsFormat format = (1 ≤ format) × (format ≤ latest_format)
 
 abbrev pub number_data : ℕ → Data
 number_data n = number (unsigned n)

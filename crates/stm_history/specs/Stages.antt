@@ -13,14 +13,14 @@ use Rattle.stm_history.specs.SlowDesk.{max_cells}
 -- the stage stands for the progress
 abbrev pub IsStage : Stage → CheckerState → Type 0
 IsStage Before at_header = Unit {0}
-IsStage Before (at_variables n table) = ⊥
-IsStage Before (at_events table history) = ⊥
-IsStage (Declaring vars names) at_header = ⊥
-IsStage (Declaring vars names) (at_variables n table) = (vars ≡ n) × (names ≡ table)
-IsStage (Declaring vars names) (at_events table history) = ⊥
-IsStage (Running names r) at_header = ⊥
-IsStage (Running names r) (at_variables n table) = ⊥
-IsStage (Running names r) (at_events table history) = (names ≡ table) × Follows table history r
+IsStage Before (at_variables f n table) = ⊥
+IsStage Before (at_events f table history) = ⊥
+IsStage (Declaring format vars names) at_header = ⊥
+IsStage (Declaring format vars names) (at_variables f n table) = (format ≡ f) × (vars ≡ n) × (names ≡ table)
+IsStage (Declaring format vars names) (at_events f table history) = ⊥
+IsStage (Running format names r) at_header = ⊥
+IsStage (Running format names r) (at_variables f n table) = ⊥
+IsStage (Running format names r) (at_events f table history) = (format ≡ f) × (names ≡ table) × Follows table history r
 
 -- the line leads from this progress on to one that the stage stands for
 abbrev pub LeadsToStage : CheckerState → List ℕ → Stage → Type 0
@@ -29,8 +29,8 @@ LeadsToStage p line s = (q : CheckerState) × LeadsTo p line q × IsStage s q
 -- the numbers of a progress are as small as those of a history
 abbrev pub CountsWithinLimits : CheckerState → Type 0
 CountsWithinLimits at_header = Unit {0}
-CountsWithinLimits (at_variables n table) = (length table < n) × (n ≤ max_cells)
-CountsWithinLimits (at_events table history) = length table ≤ max_cells
+CountsWithinLimits (at_variables format n table) = (length table < n) × (n ≤ max_cells)
+CountsWithinLimits (at_events format table history) = length table ≤ max_cells
 
 -- what was taken led to this stage, and to this line that has begun
 pub record Reached (s : Stage) (line taken : List ℕ) : Type 0 where

@@ -1,6 +1,6 @@
 -- The readers of actions are good at each level.
 use Rattle.std.proofs.Common.{◌≡◌, ℕ, zero, suc, ◌+◌, ◌-◌, ◌≤◌, List, [], ◌∷◌, ◌++◌, refl, ap, arith, Option, Some, None, Ok, Err, Bool, true, false, cond, inl}
-use Rattle.stm_terms.specs.ParsedAst.{RawTerm, truth, RawAct, return, read, write, make, retry, throw, if_else, or_else}
+use Rattle.stm_terms.specs.ParsedAst.{RawTerm, truth, RawAct, return, read, write, make, retry, throw, if_else, or_else, catch}
 use Rattle.stm_parse.specs.declared.token.Mark.{Mark}
 use Rattle.stm_parse.specs.declared.token.Mark.TheVariants as mark
 use Rattle.stm_parse.specs.declared.token.TokenKind.{TokenKind}
@@ -8,11 +8,11 @@ use Rattle.stm_parse.specs.declared.token.TokenKind.TheVariants as tok
 use Rattle.stm_parse.specs.declared.token.Lexeme.{Lexeme}
 use Rattle.stm_parse.specs.declared.token.ErrorKind.TheVariants as cause
 use Rattle.stm_parse.specs.Terminals.{is_mark, IsMark}
-use Rattle.stm_parse.specs.Grammar.{At, at, deepest, widest, Placed, IsAtom, is_true, IsExpression, is_atom, is_tier, no_more, IsAction, IsParen, IsBody, is_do, is_if, is_or_else, is_return, is_read, is_write, is_make, is_throw, is_retry, is_brackets, is_paren, is_last}
+use Rattle.stm_parse.specs.Grammar.{span_of, At, at, deepest, widest, Placed, IsAtom, is_true, IsExpression, is_atom, is_tier, no_more, IsAction, IsParen, IsBody, is_do, is_if, is_or_else, is_catch, is_return, is_read, is_write, is_make, is_throw, is_retry, is_brackets, is_paren, is_last}
 use Rattle.stm_parse.specs.Faults.{Language}
-use Rattle.stm_parse.specs.Descent.{Reader, ◌>>=◌, unexpected, expect, closed, deeper, Level, paren_with, or_else_of, if_of, block, one_operand, two_operands, action_of, action_with, tier_at, atom_at, inside_act, action_at, body_at, body_turn}
+use Rattle.stm_parse.specs.Descent.{Reader, ◌>>=◌, unexpected, expect, expect_name, closed, deeper, Level, paren_with, or_else_of, catch_of, if_of, block, one_operand, two_operands, action_of, action_with, tier_at, atom_at, inside_act, action_at, body_at, body_turn}
 use Rattle.stm_parse.proofs.ReaderPromises.{Says, Some_text, Then, then_, Mapped, mapped, says_end, says_refused, says_beyond, says_token, says_one}
-use Rattle.stm_parse.proofs.ReaderCorrect.{Reads, reads_step, reads_beyond, only_deep, Good, good_chain, good_map, good_expect, each_says, each_reads, is_mark-true, is_mark-same, Any, some_mark, Token, token, allowed}
+use Rattle.stm_parse.proofs.ReaderCorrect.{Reads, reads_step, reads_beyond, only_deep, Good, good_chain, good_map, good_expect, good_name, each_says, each_reads, is_mark-true, is_mark-same, IsName, Any, some_mark, some_name, Token, token, allowed}
 use Rattle.stm_parse.proofs.PrecedenceTiers.{Follows}
 use Rattle.stm_parse.proofs.ExpressionReaders.{Closing, good_closed, mark_follows, good_atom, good_tier}
 use Rattle.stm_parse.proofs.BodyReaders.{then_token, map_token, NoSemicolon, behind_mark, good_body, body_more as body_more_over}
@@ -114,6 +114,18 @@ module _ (d place : ℕ) where
       (λ a. good_map n l.paren (λ b. (or_else a.0 b.1 b.0, place)) (IsParen (suc (suc d)) d) Any (g.paren d (omega arith) n))
       (λ a us t rest h f. tt)
 
+  abbrev CatchRest : Language Placed
+  CatchRest = Then (IsParen (suc (suc d)) (suc d)) (λ a. Then (Token (suc d) IsName) (λ y. Mapped (λ b. (catch a.0 (span_of y) b.1 b.0, place)) (IsParen (suc (suc d)) d)))
+
+  good_catch : (l : Level) → IsGood (suc d) l → (n : ℕ) → Good n (catch_of l.paren place) CatchRest Any
+  good_catch l g n =
+      let low = g.low in
+      good_chain n l.paren (λ a s. expect_name s >>= λ y. l.paren y.1 >>= λ b. Ok ((catch a.0 (span_of y.0) b.0.1 b.0.0, place), b.1)) (IsParen (suc (suc d)) (suc d)) (λ a. Then (Token (suc d) IsName) (λ y. Mapped (λ b. (catch a.0 (span_of y) b.1 b.0, place)) (IsParen (suc (suc d)) d))) Any Any (g.paren (suc d) low n)
+      (λ a. good_chain n expect_name (λ y s. l.paren s >>= λ b. Ok ((catch a.0 (span_of y) b.0.1 b.0.0, place), b.1)) (Token (suc d) IsName) (λ y. Mapped (λ b. (catch a.0 (span_of y) b.1 b.0, place)) (IsParen (suc (suc d)) d)) Any Any (good_name (suc d) low n)
+      (λ y. good_map n l.paren (λ b. (catch a.0 (span_of y) b.1 b.0, place)) (IsParen (suc (suc d)) d) Any (g.paren d (omega arith) n))
+      (λ y us t rest h f. tt))
+      (λ a us t rest h f. tt)
+
 module _ (atom : Reader RawTerm) (one : Option Level) (d : ℕ) (low : d ≤ deepest) (good : (n : ℕ) → Good n atom (IsAtom d) Any) (i : LevelOf one (suc d)) where
   r : Reader Placed
   r = action_with atom one
@@ -162,6 +174,9 @@ module _ (atom : Reader RawTerm) (one : Option Level) (d : ℕ) (low : d ≤ dee
   or_else_to : (x : Lexeme) → IsMark mark.OrElse x → (us : List At) (t : Placed) → OrElseRest d x.start us t → IsAction d (at (suc d) x ∷ us) t
   or_else_to x p us t (then_ _ _ a h (mapped _ b k)) = is_or_else p h k
 
+  catch_to : (x : Lexeme) → IsMark mark.Catch x → (us : List At) (t : Placed) → CatchRest d x.start us t → IsAction d (at (suc d) x ∷ us) t
+  catch_to x p us t (then_ _ _ a h (then_ _ _ _ (token y q) (mapped _ b k))) = is_catch y p h q k
+
   open_to : (x : Lexeme) → IsMark mark.LParen x → (us : List At) (t : Placed) → Closing d (IsAction (suc d)) us t → IsAction d (at (suc d) x ∷ us) t
   open_to x p us t (then_ _ _ a h (mapped _ _ (token w c))) = is_brackets (is_paren w p h c)
 
@@ -189,6 +204,8 @@ module _ (atom : Reader RawTerm) (one : Option Level) (d : ℕ) (low : d ≤ dee
       (c.0 ++ (at (suc d) (some_mark mark.Then) ∷ ((at (suc d) (some_mark mark.Retry) ∷ []) ++ (at (suc d) (some_mark mark.Else) ∷ at (suc d) (some_mark mark.Retry) ∷ [])))) (if_else c.1 retry 0 retry, x.start) (is_if (some_mark mark.Then) (some_mark mark.Else) e c.2 refl (some_action (suc d)) refl (some_action (suc d))) s
   says_marked mark.OrElse x s e =
       says_deeper x (λ l. or_else_of l.paren x.start) (OrElseRest d x.start) (λ s. first (tok.Mark mark.OrElse) x s e) (good_or_else d x.start) (or_else_to x e) _ _ (is_or_else e (some_paren (suc (suc d)) (suc d) (some_mark mark.LParen) refl) (some_paren (suc (suc d)) d (some_mark mark.LParen) refl)) s
+  says_marked mark.Catch x s e =
+      says_deeper x (λ l. catch_of l.paren x.start) (CatchRest d x.start) (λ s. first (tok.Mark mark.Catch) x s e) (good_catch d x.start) (catch_to x e) _ _ (is_catch some_name e (some_paren (suc (suc d)) (suc d) (some_mark mark.LParen) refl) refl (some_paren (suc (suc d)) d (some_mark mark.LParen) refl)) s
   says_marked mark.LParen x s e =
       says_deeper x (λ l. closed l.action) (Closing d (IsAction (suc d))) (λ s. first (tok.Mark mark.LParen) x s e) good_open (open_to x e) (at (suc d) (some_mark mark.Retry) ∷ at d (some_mark mark.RParen) ∷ []) (retry, 0) (is_brackets (some_paren (suc d) d x e)) s
   says_marked mark.Return x s e = says_one_operand x return (λ s. first (tok.Mark mark.Return) x s e) (λ us t h. is_return e h) s
@@ -223,6 +240,9 @@ module _ (atom : Reader RawTerm) (one : Option Level) (d : ℕ) (low : d ≤ dee
       (then_ vs (at (suc d) y ∷ (ws ++ (at (suc d) z ∷ zs))) e h (then_ (at (suc d) y ∷ []) (ws ++ (at (suc d) z ∷ zs)) y (token y q) (then_ ws (at (suc d) z ∷ zs) a j (then_ (at (suc d) z ∷ []) zs z (token z c) (mapped zs b k)))))
   reads_action us t (is_or_else {x} {us = vs} {vs = ws} {a} {b} p h k) rest =
       reads_deeper x (λ l. or_else_of l.paren x.start) (OrElseRest d x.start) (λ s. first (tok.Mark mark.OrElse) x s p) (good_or_else d x.start) (vs ++ ws) t rest (then_ vs ws a h (mapped ws b k))
+  reads_action us t (is_catch {x} y {us = vs} {vs = ws} {a} {b} p h q k) rest =
+      reads_deeper x (λ l. catch_of l.paren x.start) (CatchRest d x.start) (λ s. first (tok.Mark mark.Catch) x s p) (good_catch d x.start) (vs ++ (at (suc d) y ∷ ws)) t rest
+      (then_ vs (at (suc d) y ∷ ws) a h (then_ (at (suc d) y ∷ []) ws y (token y q) (mapped ws b k)))
   reads_action us t (is_return {x} {us = vs} {e} p h) rest = reads_one x return (λ s. first (tok.Mark mark.Return) x s p) vs e h rest
   reads_action us t (is_read {x} {us = vs} {e} p h) rest = reads_one x read (λ s. first (tok.Mark mark.ReadTVar) x s p) vs e h rest
   reads_action us t (is_make {x} {us = vs} {e} p h) rest = reads_one x make (λ s. first (tok.Mark mark.NewTVar) x s p) vs e h rest

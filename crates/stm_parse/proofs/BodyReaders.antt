@@ -6,7 +6,7 @@ use Rattle.stm_parse.specs.declared.token.Mark.{Mark}
 use Rattle.stm_parse.specs.declared.token.Mark.TheVariants as mark
 use Rattle.stm_parse.specs.declared.token.Lexeme.{Lexeme}
 use Rattle.stm_parse.specs.Terminals.{is_mark, IsMark}
-use Rattle.stm_parse.specs.Grammar.{span_of, At, at, erase, deepest, widest, Placed, IsExpression, IsAction, IsBody, is_do, is_if, is_or_else, is_return, is_read, is_write, is_make, is_throw, is_retry, is_brackets, is_paren, is_bind, is_let, is_seq, is_last}
+use Rattle.stm_parse.specs.Grammar.{span_of, At, at, erase, deepest, widest, Placed, IsExpression, IsAction, IsBody, is_do, is_if, is_or_else, is_catch, is_return, is_read, is_write, is_make, is_throw, is_retry, is_brackets, is_paren, is_bind, is_let, is_seq, is_last}
 use Rattle.stm_parse.specs.Faults.{Language}
 use Rattle.stm_parse.specs.Descent.{Reader, ◌>>=◌, accept, expect, expect_name, is_name_kind, bound, let_bound, after_action, sequence, body_turn, bodies, body_from}
 use Rattle.stm_parse.proofs.ReaderPromises.{Says, Some_text, Then, then_, Mapped, mapped, says_more, says_map, says_end, says_stop, says_token, says_same_first}
@@ -44,6 +44,7 @@ starts : {d : ℕ} {us : List At} {a : Placed} → IsAction d us a → Starts us
 starts (is_do w p q b c) = (_, _, refl, ap is_name_kind p, ap (is_mark mark.Let) p)
 starts (is_if y z p e q a r b) = (_, _, refl, ap is_name_kind p, ap (is_mark mark.Let) p)
 starts (is_or_else p a b) = (_, _, refl, ap is_name_kind p, ap (is_mark mark.Let) p)
+starts (is_catch y p a q b) = (_, _, refl, ap is_name_kind p, ap (is_mark mark.Let) p)
 starts (is_return p a) = (_, _, refl, ap is_name_kind p, ap (is_mark mark.Let) p)
 starts (is_read p a) = (_, _, refl, ap is_name_kind p, ap (is_mark mark.Let) p)
 starts (is_write p a b) = (_, _, refl, ap is_name_kind p, ap (is_mark mark.Let) p)

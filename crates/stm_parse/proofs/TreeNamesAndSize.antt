@@ -15,7 +15,7 @@ use Rattle.stm_parse.specs.Faults.{IsText}
 use Rattle.stm_parse.specs.ParseResult.{most_tokens}
 use Rattle.stm_parse.proofs.ReaderPromises.{plain-length}
 use Rattle.stm_parse.specs.ParsedBlock.{IsNameOf, NameSpanIsName, NamesOf, TermNamesAre, NamesAre}
-use Rattle.stm_parse.specs.Grammar.{At, at, erase, Placed, IsAtom, is_number, is_negative, is_true, is_false, is_unit, is_name, is_bracketed, IsExpression, is_atom, is_tier, IsTail, no_more, to_left, not_chained, to_right, IsAction, is_do, is_if, is_or_else, is_return, is_read, is_write, is_make, is_throw, is_retry, is_brackets, IsParen, is_paren, IsBody, is_bind, is_let, is_seq, is_last, IsBlock, IsInit, is_number_init, is_negative_init, is_true_init, is_false_init, is_unit_init, is_name_init, DeclarationTree, IsDeclaration, is_declaration}
+use Rattle.stm_parse.specs.Grammar.{At, at, erase, Placed, IsAtom, is_number, is_negative, is_true, is_false, is_unit, is_name, is_bracketed, IsExpression, is_atom, is_tier, IsTail, no_more, to_left, not_chained, to_right, IsAction, is_do, is_if, is_or_else, is_catch, is_return, is_read, is_write, is_make, is_throw, is_retry, is_brackets, IsParen, is_paren, IsBody, is_bind, is_let, is_seq, is_last, IsBlock, IsInit, is_number_init, is_negative_init, is_true_init, is_false_init, is_unit_init, is_name_init, DeclarationTree, IsDeclaration, is_declaration}
 
 -- each name is one of the text
 abbrev pub Named : List ℕ → List At → Type 0
@@ -110,6 +110,15 @@ mutual
       let m2 = l.2 in
       let s = length-append us vs in
       ((k.0, l.0), (k.1, l.1), omega arith)
+  kept_action text (is_catch {d} y {us} {vs} p a q b) h =
+      let h1 = named_back text us (at (suc d) y ∷ vs) h.1 in
+      let k = kept_paren text a (named_front text us (at (suc d) y ∷ vs) h.1) in
+      let n = h1.0 q in
+      let l = kept_paren text b h1.1 in
+      let m1 = k.2 in
+      let m2 = l.2 in
+      let s = length-append us (at (suc d) y ∷ vs) in
+      ((k.0, n.0, l.0), (k.1, n.1, l.1), omega arith)
   kept_action text (is_return p a) h = let r = kept_atom text a h.1 in (r.0, r.1, omega arith)
   kept_action text (is_read p a) h = let r = kept_atom text a h.1 in (r.0, r.1, omega arith)
   kept_action text (is_write {us} {vs} p a b) h =

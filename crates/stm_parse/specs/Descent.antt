@@ -4,7 +4,7 @@ use Rattle.stm_terms.specs.declared.raw.Span.{Span}
 use Rattle.stm_terms.specs.declared.expr.Op.{Op}
 use Rattle.stm_terms.specs.declared.kinds.Ty.{Ty}
 use Rattle.stm_terms.specs.declared.kinds.Base.TheVariants as base
-use Rattle.stm_terms.specs.ParsedAst.{RawTerm, int, truth, unit, name, bin, RawAct, return, read, write, make, retry, throw, if_else, or_else, bind, let_in, seq}
+use Rattle.stm_terms.specs.ParsedAst.{RawTerm, int, truth, unit, name, bin, RawAct, return, read, write, make, retry, throw, if_else, or_else, bind, let_in, seq, catch}
 use Rattle.stm_parse.specs.declared.token.Mark.{Mark}
 use Rattle.stm_parse.specs.declared.token.Mark.TheVariants as mark
 use Rattle.stm_parse.specs.declared.token.TokenKind.{TokenKind}
@@ -215,6 +215,14 @@ or_else_of paren place toks = do
   b ← paren a.1
   Ok ((or_else a.0.0 b.0.1 b.0.0, place), b.1)
 
+-- after catch at the place given
+abbrev pub catch_of : Reader Placed → ℕ → Reader Placed
+catch_of paren place toks = do
+  a ← paren toks
+  x ← expect_name a.1
+  b ← paren x.1
+  Ok ((catch a.0.0 (span_of x.0) b.0.1 b.0.0, place), b.1)
+
 -- after if at the place given
 abbrev pub if_of : Reader RawTerm → Reader Placed → ℕ → Reader Placed
 if_of expression action place toks = do
@@ -293,6 +301,7 @@ abbrev pub action_marked : Reader RawTerm → Option Level → Mark → Lexeme �
 action_marked atom one mark.Do x rest = deeper one (λ l. block l.body x.start rest) (x ∷ rest)
 action_marked atom one mark.If x rest = deeper one (λ l. if_of l.expression l.action x.start rest) (x ∷ rest)
 action_marked atom one mark.OrElse x rest = deeper one (λ l. or_else_of l.paren x.start rest) (x ∷ rest)
+action_marked atom one mark.Catch x rest = deeper one (λ l. catch_of l.paren x.start rest) (x ∷ rest)
 action_marked atom one mark.LParen x rest = deeper one (λ l. closed l.action rest) (x ∷ rest)
 action_marked atom one mark.Return x rest = one_operand atom return x.start rest
 action_marked atom one mark.ReadTVar x rest = one_operand atom read x.start rest

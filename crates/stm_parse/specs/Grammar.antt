@@ -6,7 +6,7 @@ use Rattle.stm_terms.specs.declared.kinds.Ty.{Ty}
 use Rattle.stm_terms.specs.declared.kinds.Base.TheVariants as base
 use Rattle.stm_terms.specs.declared.raw.Span.{Span}
 use Rattle.stm_terms.specs.Limits.{most_refs}
-use Rattle.stm_terms.specs.ParsedAst.{RawTerm, int, truth, unit, name, bin, RawAct, return, read, write, make, retry, throw, if_else, or_else, bind, let_in, seq}
+use Rattle.stm_terms.specs.ParsedAst.{RawTerm, int, truth, unit, name, bin, RawAct, return, read, write, make, retry, throw, if_else, or_else, bind, let_in, seq, catch}
 use Rattle.stm_parse.specs.declared.token.Mark.{Mark}
 use Rattle.stm_parse.specs.declared.token.Mark.TheVariants as mark
 use Rattle.stm_parse.specs.declared.token.TokenKind.{TokenKind}
@@ -114,6 +114,8 @@ mutual
     is_if : {d : ℕ} {x : Lexeme} (y z : Lexeme) {us vs ws : List At} {e : RawTerm} {a b : Placed} → IsMark mark.If x → IsExpression widest (suc d) us e → IsMark mark.Then y → IsAction (suc d) vs a → IsMark mark.Else z → IsAction (suc d) ws b → IsAction d (at (suc d) x ∷ (us ++ (at (suc d) y ∷ (vs ++ (at (suc d) z ∷ ws))))) (if_else e a.0 b.1 b.0, x.start)
     -- "orElse" "(" action ")" "(" action ")"
     is_or_else : {d : ℕ} {x : Lexeme} {us vs : List At} {a b : Placed} → IsMark mark.OrElse x → IsParen (suc (suc d)) (suc d) us a → IsParen (suc (suc d)) d vs b → IsAction d (at (suc d) x ∷ (us ++ vs)) (or_else a.0 b.1 b.0, x.start)
+    -- "catch" "(" action ")" NAME "(" action ")"
+    is_catch : {d : ℕ} {x : Lexeme} (y : Lexeme) {us vs : List At} {a b : Placed} → IsMark mark.Catch x → IsParen (suc (suc d)) (suc d) us a → y.sym ≡ sym.Name → IsParen (suc (suc d)) d vs b → IsAction d (at (suc d) x ∷ (us ++ (at (suc d) y ∷ vs))) (catch a.0 (span_of y) b.1 b.0, x.start)
     -- "return" operand
     is_return : {d : ℕ} {x : Lexeme} {us : List At} {e : RawTerm} → IsMark mark.Return x → IsAtom d us e → IsAction d (at d x ∷ us) (return e, x.start)
     -- "readTVar" operand

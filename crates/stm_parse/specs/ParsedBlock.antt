@@ -9,7 +9,7 @@ use Rattle.stm_terms.specs.declared.raw.RawExpr.{RawExpr}
 use Rattle.stm_terms.specs.declared.raw.RawExpr.TheVariants as E
 use Rattle.stm_terms.specs.declared.raw.RawAction.{RawAction}
 use Rattle.stm_terms.specs.declared.raw.RawAction.TheVariants as A
-use Rattle.stm_terms.specs.ParsedAst.{IsSpan, RawTerm, int, truth, unit, name, bin, RawAct, return, read, write, make, retry, throw, if_else, or_else, bind, let_in, seq, raw_term_of, raw_act_of}
+use Rattle.stm_terms.specs.ParsedAst.{IsSpan, RawTerm, int, truth, unit, name, bin, RawAct, return, read, write, make, retry, throw, if_else, or_else, bind, let_in, seq, catch, raw_term_of, raw_act_of}
 use Rattle.stm_terms.specs.contracts.raw.RawAction as tree
 use Rattle.stm_parse.specs.declared.token.TokenKind.TheVariants as tok
 use Rattle.stm_parse.specs.declared.token.Lexeme.{Lexeme}
@@ -53,6 +53,7 @@ NamesAre text (or_else a at b) = NamesAre text a × NamesAre text b
 NamesAre text (bind span at a b) = IsNameOf text span.start span.end × NamesAre text a × NamesAre text b
 NamesAre text (let_in span e b) = IsNameOf text span.start span.end × TermNamesAre text e × NamesAre text b
 NamesAre text (seq a b) = NamesAre text a × NamesAre text b
+NamesAre text (catch a span at b) = NamesAre text a × IsNameOf text span.start span.end × NamesAre text b
 
 -- a box at no place in memory
 abbrev nowhere : Box (Unit {0})
@@ -77,6 +78,7 @@ boxed (or_else a at b) = A.OrElse' nowhere (boxed a) at nowhere (boxed b)
 boxed (bind span at a b) = A.Bind' span at nowhere (boxed a) nowhere (boxed b)
 boxed (let_in span e b) = A.Let' span (boxed_term e) nowhere (boxed b)
 boxed (seq a b) = A.Seq' nowhere (boxed a) nowhere (boxed b)
+boxed (catch a span at b) = A.Catch' nowhere (boxed a) span at nowhere (boxed b)
 
 term_back : (e : RawTerm) → raw_term_of (boxed_term e) ≡ e
 term_back (int n at) = refl
@@ -97,6 +99,7 @@ raw_act_back (or_else a at b) = ap₂ (λ x y. or_else x at y) (raw_act_back a) 
 raw_act_back (bind span at a b) = ap₂ (λ x y. bind span at x y) (raw_act_back a) (raw_act_back b)
 raw_act_back (let_in span e b) = ap₂ (λ x y. let_in span x y) (term_back e) (raw_act_back b)
 raw_act_back (seq a b) = ap₂ (λ x y. seq x y) (raw_act_back a) (raw_act_back b)
+raw_act_back (catch a span at b) = ap₂ (λ x y. catch x span at y) (raw_act_back a) (raw_act_back b)
 
 abbrev pub raw_code : Coded RawAct
 raw_code = code_by RawAction tree.the_row.coded boxed raw_act_of raw_act_back

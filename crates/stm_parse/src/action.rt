@@ -7,7 +7,7 @@ ghost use Rattle.stm_terms.specs.ParsedAst.{RawAct, raw_act_of, return, read, ma
 ghost use Rattle.stm_parse.specs.Grammar.{Placed, deepest, widest};
 ghost use Rattle.stm_parse.specs.declared.token.Lexeme.{Lexeme};
 ghost use Rattle.stm_parse.specs.DescentResults.{GivesReading, boxed_tree, placed_tree};
-ghost use Rattle.stm_parse.specs.Descent.{atom_at, tier_at, action_at, paren_at, body_at, closed, block, if_of, or_else_of, bound, let_bound, sequence, two_operands};
+ghost use Rattle.stm_parse.specs.Descent.{atom_at, tier_at, action_at, paren_at, body_at, closed, block, if_of, or_else_of, catch_of, bound, let_bound, sequence, two_operands};
 
 use crate::cursor::{
     Parsed, accept, expect, expect_name, is_name_kind, one_level_deeper, unexpected,
@@ -80,6 +80,10 @@ fn boxed_action<'t>(
         Mark::OrElse => {
             let inner = one_level_deeper(levels, toks)?;
             or_else(alloc, inner, first.start, rest)
+        }
+        Mark::Catch => {
+            let inner = one_level_deeper(levels, toks)?;
+            catch(alloc, inner, first.start, rest)
         }
         Mark::LParen => {
             let inner = one_level_deeper(levels, toks)?;
@@ -168,6 +172,31 @@ fn or_else<'t>(
     let ((first, _), rest) = paren(alloc, levels, toks)?;
     let ((second, at), rest) = paren(alloc, levels, rest)?;
     placed(alloc, RawAction::OrElse { first, at, second }, place, rest)
+}
+
+// After catch.
+#[cycle(actions)]
+fn catch<'t>(
+    alloc: Global,
+    levels: u8,
+    place: usize,
+    toks: &'t [Lexeme],
+) -> Parsed<'t, (Box<RawAction>, usize)>
+    requires { levels ≤ deepest }
+    ensures gives { GivesReading placed_tree result (catch_of (paren_at levels) place toks.now) }
+    ensures shorter { IfOk result (λ r. length r.1.now ≤ length toks.now) }
+{
+    let ((action, _), rest) = paren(alloc, levels, toks)?;
+    let (name, rest) = expect_name(rest)?;
+    let ((handler, at), rest) = paren(alloc, levels, rest)?;
+    let name = name.span();
+    let caught = RawAction::Catch {
+        action,
+        name,
+        at,
+        handler,
+    };
+    placed(alloc, caught, place, rest)
 }
 
 // After if.

@@ -1,12 +1,12 @@
 -- The trees without where they lie in memory.
-use Rattle.std.specs.Prelude.{ℕ}
+use Rattle.std.specs.Prelude.{ℕ, Bool, true, false, ◌||◌}
 use Rattle.stm_terms.specs.declared.kinds.Ty.{Ty}
 use Rattle.stm_terms.specs.declared.values.Value.{Value}
 use Rattle.stm_terms.specs.declared.expr.Op.{Op}
 use Rattle.stm_terms.specs.declared.expr.Expr.{Expr}
 use Rattle.stm_terms.specs.declared.expr.Expr.TheVariants.{Lit, Local, Global, Bin'}
 use Rattle.stm_terms.specs.declared.action.Action.{Action}
-use Rattle.stm_terms.specs.declared.action.Action.TheVariants.{Return, Read, Write, Make, Retry, Throw, If', OrElse', Bind', Let', Seq'}
+use Rattle.stm_terms.specs.declared.action.Action.TheVariants.{Return, Read, Write, Make, Retry, Throw, If', OrElse', Bind', Let', Seq', Catch'}
 
 -- an expression
 pub data Term : Type 0 where
@@ -15,7 +15,7 @@ pub data Term : Type 0 where
   global : ℕ → Term
   bin : Op → Term → Term → Term
 
--- an action; `bind` and `let_in` add a local
+-- an action; `bind` and `let_in` add a local to the rest, `catch` to the handler
 pub data Act : Type 0 where
   return : Term → Act
   read : Term → Act
@@ -28,6 +28,7 @@ pub data Act : Type 0 where
   bind : Act → Act → Act
   let_in : Term → Act → Act
   seq : Act → Act → Act
+  catch : Act → Act → Act
 
 abbrev pub term_of : Expr → Term
 term_of (Lit v) = lit v
@@ -47,3 +48,14 @@ act_of (OrElse' p a q b) = or_else (act_of a) (act_of b)
 act_of (Bind' p a q b) = bind (act_of a) (act_of b)
 act_of (Let' e p b) = let_in (term_of e) (act_of b)
 act_of (Seq' p a q b) = seq (act_of a) (act_of b)
+act_of (Catch' p a q b) = catch (act_of a) (act_of b)
+
+-- whether some part of the action is a `catch`
+abbrev pub has_catch : Act → Bool
+has_catch (if_else e a b) = has_catch a || has_catch b
+has_catch (or_else a b) = has_catch a || has_catch b
+has_catch (bind a b) = has_catch a || has_catch b
+has_catch (let_in e b) = has_catch b
+has_catch (seq a b) = has_catch a || has_catch b
+has_catch (catch a b) = true
+has_catch a = false

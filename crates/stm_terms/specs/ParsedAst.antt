@@ -28,6 +28,7 @@ pub data RawAct : Type 0 where
   bind : Span → ℕ → RawAct → RawAct → RawAct
   let_in : Span → RawTerm → RawAct → RawAct
   seq : RawAct → RawAct → RawAct
+  catch : RawAct → Span → ℕ → RawAct → RawAct
 
 abbrev pub raw_term_of : RawExpr → RawTerm
 raw_term_of (E.Int n at) = int n at
@@ -48,6 +49,7 @@ raw_act_of (A.OrElse' p a at q b) = or_else (raw_act_of a) at (raw_act_of b)
 raw_act_of (A.Bind' span at p a q b) = bind span at (raw_act_of a) (raw_act_of b)
 raw_act_of (A.Let' span e p b) = let_in span (raw_term_of e) (raw_act_of b)
 raw_act_of (A.Seq' p a q b) = seq (raw_act_of a) (raw_act_of b)
+raw_act_of (A.Catch' p a span at q b) = catch (raw_act_of a) span at (raw_act_of b)
 
 -- where an expression begins
 abbrev pub place : RawTerm → ℕ
@@ -84,6 +86,7 @@ SpansWithin n (or_else a at b) = SpansWithin n a × SpansWithin n b
 SpansWithin n (bind span at a b) = IsSpan n span.start span.end × SpansWithin n a × SpansWithin n b
 SpansWithin n (let_in span e b) = IsSpan n span.start span.end × NamesWithin n e × SpansWithin n b
 SpansWithin n (seq a b) = SpansWithin n a × SpansWithin n b
+SpansWithin n (catch a span at b) = SpansWithin n a × IsSpan n span.start span.end × SpansWithin n b
 
 -- how many actions there are
 abbrev pub actions : RawAct → ℕ
@@ -92,4 +95,5 @@ actions (or_else a at b) = 1 + actions a + actions b
 actions (bind span at a b) = 1 + actions a + actions b
 actions (let_in span e b) = 1 + actions b
 actions (seq a b) = 1 + actions a + actions b
+actions (catch a span at b) = 1 + actions a + actions b
 actions a = 1

@@ -3,8 +3,9 @@ use Rattle.std.specs.Prelude.{ℕ, true, false, List, [], ◌∷◌, ◌++◌, O
 use Rattle.stm_terms.specs.declared.values.Ref.{Ref}
 use Rattle.stm_terms.specs.declared.values.Ref.TheVariants.{Old, New}
 use Rattle.stm_terms.specs.declared.values.Value.{Value}
-use Rattle.stm_terms.specs.declared.values.Value.TheVariants.{Int, Bool as Truth, Unit as Nil, Var}
-use Rattle.stm_terms.specs.Ast.{Act, return, read, write, make, retry, throw, if_else, or_else, bind, let_in, seq}
+use Rattle.stm_terms.specs.declared.values.Value.TheVariants.{Int, Bool as Truth, Var}
+use Rattle.stm_terms.specs.declared.values.Fault.TheVariants.{Thrown, Overflow}
+use Rattle.stm_terms.specs.Ast.{Act, return, read, write, make, retry, throw, if_else, or_else, bind, let_in, seq, catch}
 use Rattle.stm_terms.specs.Value.{Answer, value}
 use Rattle.stm_terms.specs.Changes.{Variables, Changes, no_changes, find, put}
 use Rattle.stm_terms.specs.Semantics.{Outcome, Returned, Threw, Retried, Stuck, run}
@@ -44,8 +45,15 @@ else_look (Threw f) is = []
 else_look Retried is = is
 else_look Stuck is = []
 
+abbrev pub catch_look : Outcome → (Value → List ℕ) → List ℕ
+catch_look (Returned v h) handler = []
+catch_look (Threw (Thrown n)) handler = handler (Int n)
+catch_look (Threw Overflow) handler = []
+catch_look Retried handler = []
+catch_look Stuck handler = []
+
 -- the variables that the action reads while they are unmarked, in the order of the reads; those of a left branch that
--- retried stay
+-- retried stay, and those of an action that threw to its handler
 abbrev pub looks : Variables → Act → List Value → Changes → List ℕ
 looks under (return e) locals h = []
 looks under (read e) locals h = look_answer (value e locals) (look_read h)
@@ -59,6 +67,8 @@ looks under (bind a b) locals h =
     looks under a locals h ++ then_look (run under a locals h) (λ v k. looks under b (locals ++ v ∷ []) k)
 looks under (let_in e b) locals h = look_answer (value e locals) (λ v. looks under b (locals ++ v ∷ []) h)
 looks under (seq a b) locals h = looks under a locals h ++ then_look (run under a locals h) (λ v k. looks under b locals k)
+looks under (catch a b) locals h =
+    looks under a locals h ++ catch_look (run under a locals h) (λ n. looks under b (locals ++ n ∷ []) h)
 
 -- a variable with its value, put where it belongs in a list that rises
 abbrev pub insert_read : ℕ → Option Value → List (ℕ × Value) → List (ℕ × Value)

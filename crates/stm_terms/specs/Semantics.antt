@@ -1,11 +1,11 @@
 -- What an action does, run alone in a view.
-use Rattle.std.specs.Prelude.{ℕ, true, false, List, [], ◌∷◌, ◌++◌, Option, Some, None, Ok, Err, length}
+use Rattle.std.specs.Prelude.{true, false, List, [], ◌∷◌, ◌++◌, Option, Some, None, Ok, Err, length}
 use Rattle.stm_terms.specs.declared.values.Ref.TheVariants.{New}
 use Rattle.stm_terms.specs.declared.values.Value.{Value}
 use Rattle.stm_terms.specs.declared.values.Value.TheVariants.{Int, Bool as Truth, Unit as Nil, Var}
 use Rattle.stm_terms.specs.declared.values.Fault.{Fault}
-use Rattle.stm_terms.specs.declared.values.Fault.TheVariants.{Thrown}
-use Rattle.stm_terms.specs.Ast.{Act, return, read, write, make, retry, throw, if_else, or_else, bind, let_in, seq}
+use Rattle.stm_terms.specs.declared.values.Fault.TheVariants.{Thrown, Overflow}
+use Rattle.stm_terms.specs.Ast.{Act, return, read, write, make, retry, throw, if_else, or_else, bind, let_in, seq, catch}
 use Rattle.stm_terms.specs.Value.{Answer, value}
 use Rattle.stm_terms.specs.Changes.{Variables, Changes, view_at, written, made}
 
@@ -28,6 +28,14 @@ then_run (Returned v h) go = go v h
 then_run (Threw f) go = Threw f
 then_run Retried go = Retried
 then_run Stuck go = Stuck
+
+-- the handler's run, of the number, where the action threw one; an overflow and a retry are those of the whole
+abbrev pub catch_run : Outcome → (Value → Outcome) → Outcome
+catch_run (Returned v h) handler = Returned v h
+catch_run (Threw (Thrown n)) handler = handler (Int n)
+catch_run (Threw Overflow) handler = Threw Overflow
+catch_run Retried handler = Retried
+catch_run Stuck handler = Stuck
 
 -- the right branch where the left one retried
 abbrev pub else_run : Outcome → Outcome → Outcome
@@ -74,3 +82,4 @@ run under (or_else a b) locals h = else_run (run under a locals h) (run under b 
 run under (bind a b) locals h = then_run (run under a locals h) (λ v k. run under b (locals ++ v ∷ []) k)
 run under (let_in e b) locals h = on_answer (value e locals) (λ v. run under b (locals ++ v ∷ []) h)
 run under (seq a b) locals h = then_run (run under a locals h) (λ v k. run under b locals k)
+run under (catch a b) locals h = catch_run (run under a locals h) (λ n. run under b (locals ++ n ∷ []) h)

@@ -1,5 +1,5 @@
 -- The printed text of values, types and verdicts.
-use Rattle.std.specs.Prelude.{◌≡◌, ℕ, zero, suc, Bool, true, false, List, [], ◌∷◌, ◌++◌, if◌then◌else◌, codes, decimal, MatchResult, Result}
+use Rattle.std.specs.Prelude.{◌≡◌, ℕ, zero, suc, List, [], ◌∷◌, ◌++◌, if◌then◌else◌, codes, decimal, MatchResult, Result}
 use Rattle.std.specs.Fmt.{signed_decimal}
 use Rattle.stm_terms.specs.declared.kinds.Base.{Base}
 use Rattle.stm_terms.specs.declared.kinds.Base.TheVariants.{Int as IntType, Bool as BoolType, Unit as UnitType}

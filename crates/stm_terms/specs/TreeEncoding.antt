@@ -1,5 +1,5 @@
 -- A code for the trees, by the code of those with boxes.
-use Rattle.std.specs.Prelude.{◌≡◌, ℕ, refl}
+use Rattle.std.specs.Prelude.{◌≡◌, refl}
 use Rattle.std.specs.Global.{Box}
 use denote.RawPtr.{null_ptr}
 use Rattle.std.specs.Coded.{Coded, code_by}
@@ -7,8 +7,8 @@ use Rattle.std.proofs.Common.{ap, ap₂, ◌∙◌}
 use Rattle.stm_terms.specs.declared.expr.Expr.{Expr}
 use Rattle.stm_terms.specs.declared.expr.Expr.TheVariants.{Lit, Local, Global, Bin'}
 use Rattle.stm_terms.specs.declared.action.Action.{Action}
-use Rattle.stm_terms.specs.declared.action.Action.TheVariants.{Return, Read, Write, Make, Retry, Throw, If', OrElse', Bind', Let', Seq'}
-use Rattle.stm_terms.specs.Ast.{Term, lit, local, global, bin, Act, return, read, write, make, retry, throw, if_else, or_else, bind, let_in, seq, term_of, act_of}
+use Rattle.stm_terms.specs.declared.action.Action.TheVariants.{Return, Read, Write, Make, Retry, Throw, If', OrElse', Bind', Let', Seq', Catch'}
+use Rattle.stm_terms.specs.Ast.{Term, lit, local, global, bin, Act, return, read, write, make, retry, throw, if_else, or_else, bind, let_in, seq, catch, term_of, act_of}
 use Rattle.stm_terms.specs.contracts.action.Action as tree
 
 -- a box at no place in memory
@@ -33,6 +33,7 @@ boxed (or_else a b) = OrElse' nowhere (boxed a) nowhere (boxed b)
 boxed (bind a b) = Bind' nowhere (boxed a) nowhere (boxed b)
 boxed (let_in e b) = Let' (boxed_term e) nowhere (boxed b)
 boxed (seq a b) = Seq' nowhere (boxed a) nowhere (boxed b)
+boxed (catch a b) = Catch' nowhere (boxed a) nowhere (boxed b)
 
 term_back : (e : Term) → term_of (boxed_term e) ≡ e
 term_back (lit v) = refl
@@ -52,6 +53,7 @@ act_back (or_else a b) = ap₂ (λ x y. or_else x y) (act_back a) (act_back b)
 act_back (bind a b) = ap₂ (λ x y. bind x y) (act_back a) (act_back b)
 act_back (let_in e b) = ap₂ (λ x y. let_in x y) (term_back e) (act_back b)
 act_back (seq a b) = ap₂ (λ x y. seq x y) (act_back a) (act_back b)
+act_back (catch a b) = ap₂ (λ x y. catch x y) (act_back a) (act_back b)
 
 abbrev pub act_code : Coded Act
 act_code = code_by Action tree.the_row.coded boxed act_of act_back

@@ -10,7 +10,7 @@ use Rattle.stm_terms.specs.declared.values.Value.TheVariants.{Int, Bool as Truth
 use Rattle.stm_terms.specs.declared.expr.Op.{Op}
 use Rattle.stm_terms.specs.declared.expr.Op.TheVariants.{Mul, Add, Sub, Eq, Lt, Le, And, Or}
 use Rattle.stm_terms.specs.Changes.{Variables, Changes, find}
-use Rattle.stm_terms.specs.Ast.{Term, lit, local, global, bin, Act, return, read, write, make, retry, throw, if_else, or_else, bind, let_in, seq}
+use Rattle.stm_terms.specs.Ast.{Term, lit, local, global, bin, Act, return, read, write, make, retry, throw, if_else, or_else, bind, let_in, seq, catch}
 
 -- the types of the store's variables
 abbrev pub TypeEnv : Type 0
@@ -96,7 +96,7 @@ pub data ActionType : Type 0 where
   Gives : Ty → ActionType
   Any : ActionType
 
--- what two branches have in common
+-- what two branches have in common, or an action and its handler
 abbrev pub join_types : ActionType → ActionType → Option ActionType
 join_types Any r = Some r
 join_types (Gives t) Any = Some (Gives t)
@@ -131,6 +131,8 @@ action_type kinds locals (bind a b) =
     with_result (action_type kinds locals a) (λ r. with_bound r (λ t. action_type kinds (locals ++ t ∷ []) b))
 action_type kinds locals (let_in e b) = with_type (expr_type kinds locals e) (λ t. action_type kinds (locals ++ t ∷ []) b)
 action_type kinds locals (seq a b) = with_result (action_type kinds locals a) (λ r. action_type kinds locals b)
+action_type kinds locals (catch a b) =
+    with_result (action_type kinds locals a) (λ r. with_result (action_type kinds (locals ++ int_ty ∷ []) b) (join_types r))
 
 -- a block's result type, with none for any
 abbrev pub result_type : Option Ty → ActionType
@@ -161,6 +163,7 @@ named (or_else a b) = named a ++ named b
 named (bind a b) = named a ++ named b
 named (let_in e b) = named_in e ++ named b
 named (seq a b) = named a ++ named b
+named (catch a b) = named a ++ named b
 
 abbrev pub record_use_as : Option Ty → Option Ty → ℕ → List (ℕ × Ty) → List (ℕ × Ty)
 record_use_as (Some u) k i us = us
@@ -187,6 +190,7 @@ makes (or_else a b) = makes a + makes b
 makes (bind a b) = makes a + makes b
 makes (let_in e b) = makes b
 makes (seq a b) = makes a + makes b
+makes (catch a b) = makes a + makes b
 makes a = 0
 
 -- the keys of a list rise

@@ -55,4 +55,11 @@ pub enum RawAction {
         rest: Box<RawAction>,
     },
     Seq(Box<RawAction>, Box<RawAction>),
+    /// An action, a name, and the handler, with its place, which sees the number that was thrown under the name.
+    Catch {
+        action: Box<RawAction>,
+        name: Span,
+        at: usize,
+        handler: Box<RawAction>,
+    },
 }

@@ -39,6 +39,7 @@ impl Action {
             (Action::Bind(a, b), Action::Bind(c, d)) => a.same(c) && b.same(d),
             (Action::Let(e, a), Action::Let(f, c)) => same_expr(e, f) && a.same(c),
             (Action::Seq(a, b), Action::Seq(c, d)) => a.same(c) && b.same(d),
+            (Action::Catch(a, b), Action::Catch(c, d)) => a.same(c) && b.same(d),
             _ => false,
         }
     }

@@ -4,10 +4,10 @@ ghost use Rattle.std.specs.Prelude.{◌≡◌, ◌++◌, ◌∷◌, [], ◌≤�
 ghost use Rattle.stm_store.specs.Tables.{Declared};
 ghost use Rattle.stm_history.specs.declared.event.Event.{Event as AnyEvent};
 ghost use Rattle.stm_history.specs.Checking.{CheckerState, at_header, at_variables, at_events, LeadsTo, MayRefuse, strange};
-ghost use Rattle.stm_history.specs.Fits.{FitsTable};
+ghost use Rattle.stm_history.specs.Fits.{FitsTable, FitsFormat};
 ghost use Rattle.stm_history.specs.Following.{Follows};
 ghost use Rattle.stm_history.specs.Judgement.{IsHistory, TellsFault, next_line};
-ghost use Rattle.stm_history.specs.Lines.{format_1, event_line};
+ghost use Rattle.stm_history.specs.Lines.{event_line};
 ghost use Rattle.stm_history.specs.SlowDesk.{max_cells, max_events, IsLegal};
 ghost use Rattle.stm_history.specs.Stages.{IsStage, CountsWithinLimits, LeadsToStage, Reached, refused_by};
 ghost use Rattle.stm_history.specs.Checking.{with_table as progress_with};
@@ -16,6 +16,7 @@ use crate::event::Event;
 use crate::files::fault::{HistoryFault, Legal};
 use crate::files::replayer::Replayer;
 use crate::files::stepping::StepError;
+use crate::lines::formats::fits_format;
 use crate::lines::read::{LineError, read_event, read_header, read_variable};
 use crate::lines::variable::Variable;
 use std::alloc::Global;
@@ -28,25 +29,42 @@ const MAX_LINE: usize = 1_048_576;
 
 const MAX_CELLS: u32 = 1_000_000;
 
-/// How far the lines have come: before the first; among the variables, of which so many were promised; among the events.
+/// How far the lines have come: before the first; in a format, among the variables, of which so many were promised; in a
+/// format, among the events.
 #[derive(Drop)]
 pub(crate) enum Stage {
     Before,
-    Declaring { vars: u32, table: Table },
-    Running { table: Table, replayer: Replayer },
+    Declaring {
+        format: u32,
+        vars: u32,
+        table: Table,
+    },
+    Running {
+        format: u32,
+        table: Table,
+        replayer: Replayer,
+    },
 }
 
-/// The stage where so many variables were promised and these are there.
-fn with_table(alloc: Global, vars: u32, table: Table) -> Result<Stage, HistoryFault>
+/// The stage in a format where so many variables were promised and these are there.
+fn with_table(alloc: Global, format: u32, vars: u32, table: Table) -> Result<Stage, HistoryFault>
     requires { length table ≤ vars }
-    ensures stage { IfOk result (λ s. IsStage s (progress_with vars table)) }
+    ensures stage { IfOk result (λ s. IsStage s (progress_with format vars table)) }
     ensures err { IfErr result (λ e. e ≡ HistoryFault.NoMemory) }
 {
     if table.len() < vars as usize {
-        return Ok(Stage::Declaring { vars, table });
+        return Ok(Stage::Declaring {
+            format,
+            vars,
+            table,
+        });
     }
     match Replayer::open(alloc, &table) {
-        Ok(replayer) => Ok(Stage::Running { table, replayer }),
+        Ok(replayer) => Ok(Stage::Running {
+            format,
+            table,
+            replayer,
+        }),
         Err(_) => Err(HistoryFault::NoMemory),
     }
 }
@@ -57,9 +75,9 @@ fn take_header(alloc: Global, line: &[u8]) -> Result<Stage, HistoryFault>
     ensures refused { IfErr result (λ e. MayRefuse at_header line.now e) }
 {
     match read_header(alloc, line) {
-        Ok(vars) => {
-            if vars <= MAX_CELLS {
-                with_table(alloc, vars, Table::empty(alloc))
+        Ok(header) => {
+            if header.vars <= MAX_CELLS {
+                with_table(alloc, header.format, header.vars, Table::empty(alloc))
             } else {
                 Err(HistoryFault::BadHeader)
             }
@@ -83,18 +101,19 @@ fn declare_refused(error: DeclareError) -> HistoryFault
 /// Takes a variable's line.
 fn take_variable(
     alloc: Global,
+    format: u32,
     vars: u32,
     mut table: Table,
     line: &[u8],
 ) -> Result<Stage, HistoryFault>
     requires { length table < vars }
-    ensures leads { IfOk result (λ s. LeadsToStage (at_variables vars table) line.now s) }
-    ensures refused { IfErr result (λ e. MayRefuse (at_variables vars table) line.now e) }
+    ensures leads { IfOk result (λ s. LeadsToStage (at_variables format vars table) line.now s) }
+    ensures refused { IfErr result (λ e. MayRefuse (at_variables format vars table) line.now e) }
 {
     match read_variable(alloc, line) {
         Ok(variable) => {
             match table.declare(&variable.name, variable.kind, variable.value) {
-                Ok(_) => with_table(alloc, vars, table),
+                Ok(_) => with_table(alloc, format, vars, table),
                 Err(error) => Err(declare_refused(error)),
             }
         }
@@ -112,11 +131,23 @@ fn line_number(table: &Table, replayer: &Replayer) -> u32
 }
 
 /// Takes an event that was read from the line of this number.
-fn take_event(replayer: &mut Replayer, event: &Event, number: u32) -> Result<(), HistoryFault>
+fn take_event(
+    format: u32,
+    replayer: &mut Replayer,
+    event: &Event,
+    number: u32,
+) -> Result<(), HistoryFault>
     requires { (T : List Declared) × (H : List AnyEvent) × Follows T H replayer.old }
-    ensures done { OnOk result ((T : List Declared) (H : List AnyEvent) → Follows T H replayer.old → Follows T (H ++ event.now ∷ []) replayer.new) }
-    ensures refused { IfErr result (λ e. (T : List Declared) (H : List AnyEvent) → Follows T H replayer.old → FitsTable T event.now → number ≡ next_line T H → MayRefuse (at_events T H) (event_line event.now) e) }
+    ensures done { OnOk result ((T : List Declared) (H : List AnyEvent) → Follows T H replayer.old
+        → Follows T (H ++ event.now ∷ []) replayer.new) }
+    ensures fits { OnOk result (FitsFormat format event.now) }
+    ensures refused { IfErr result (λ e. (T : List Declared) (H : List AnyEvent)
+        → Follows T H replayer.old → FitsTable T event.now → number ≡ next_line T H
+        → MayRefuse (at_events format T H) (event_line event.now) e) }
 {
+    if !fits_format(format, event) {
+        return Err(HistoryFault::BadLine(number));
+    }
     match replayer.step(event) {
         Ok(()) => Ok(()),
         Err(StepError::NotAllowed) => Err(HistoryFault::NotLegal(number)),
@@ -127,18 +158,22 @@ fn take_event(replayer: &mut Replayer, event: &Event, number: u32) -> Result<(),
 /// Takes an event's line.
 fn take_event_line(
     alloc: Global,
+    format: u32,
     table: &Table,
     replayer: &mut Replayer,
     line: &[u8],
 ) -> Result<(), HistoryFault>
     requires { (H : List AnyEvent) × Follows table.now H replayer.old }
     ensures leads { OnOk result ((H : List AnyEvent) → Follows table.now H replayer.old
-        → (e : AnyEvent) × LeadsTo (at_events table.now H) line.now (at_events table.now (H ++ e ∷ [])) × Follows table.now (H ++ e ∷ []) replayer.new) }
-    ensures refused { IfErr result (λ e. (H : List AnyEvent) → Follows table.now H replayer.old → MayRefuse (at_events table.now H) line.now e) }
+        → (e : AnyEvent)
+        × LeadsTo (at_events format table.now H) line.now (at_events format table.now (H ++ e ∷ []))
+        × Follows table.now (H ++ e ∷ []) replayer.new) }
+    ensures refused { IfErr result (λ e. (H : List AnyEvent) → Follows table.now H replayer.old
+        → MayRefuse (at_events format table.now H) line.now e) }
 {
     let number = line_number(table, replayer);
     match read_event(alloc, table, line) {
-        Ok(event) => take_event(replayer, &event, number),
+        Ok(event) => take_event(format, replayer, &event, number),
         Err(LineError::Bad) => Err(HistoryFault::BadLine(number)),
         Err(LineError::NoMemory) => Err(HistoryFault::NoMemory),
     }
@@ -147,16 +182,23 @@ fn take_event_line(
 /// Takes a line among the events.
 fn run_on(
     alloc: Global,
+    format: u32,
     table: Table,
     mut replayer: Replayer,
     line: &[u8],
 ) -> Result<Stage, HistoryFault>
     requires { (H : List AnyEvent) × Follows table H replayer }
-    ensures leads { IfOk result (λ s. (H : List AnyEvent) → Follows table H replayer → LeadsToStage (at_events table H) line.now s) }
-    ensures refused { IfErr result (λ e. (H : List AnyEvent) → Follows table H replayer → MayRefuse (at_events table H) line.now e) }
+    ensures leads { IfOk result (λ s. (H : List AnyEvent) → Follows table H replayer
+        → LeadsToStage (at_events format table H) line.now s) }
+    ensures refused { IfErr result (λ e. (H : List AnyEvent) → Follows table H replayer
+        → MayRefuse (at_events format table H) line.now e) }
 {
-    match take_event_line(alloc, &table, &mut replayer, line) {
-        Ok(()) => Ok(Stage::Running { table, replayer }),
+    match take_event_line(alloc, format, &table, &mut replayer, line) {
+        Ok(()) => Ok(Stage::Running {
+            format,
+            table,
+            replayer,
+        }),
         Err(error) => Err(error),
     }
 }
@@ -169,8 +211,16 @@ fn take_line(alloc: Global, stage: Stage, line: &[u8]) -> Result<Stage, HistoryF
 {
     match stage {
         Stage::Before => take_header(alloc, line),
-        Stage::Declaring { vars, table } => take_variable(alloc, vars, table, line),
-        Stage::Running { table, replayer } => run_on(alloc, table, replayer, line),
+        Stage::Declaring {
+            format,
+            vars,
+            table,
+        } => take_variable(alloc, format, vars, table, line),
+        Stage::Running {
+            format,
+            table,
+            replayer,
+        } => run_on(alloc, format, table, replayer, line),
     }
 }
 
@@ -182,7 +232,11 @@ fn strange_fault(stage: &Stage) -> HistoryFault
     match stage {
         Stage::Before => HistoryFault::BadHeader,
         Stage::Declaring { .. } => HistoryFault::BadHeader,
-        Stage::Running { table, replayer } => HistoryFault::BadLine(line_number(table, replayer)),
+        Stage::Running {
+            table,
+            replayer,
+            ..
+        } => HistoryFault::BadLine(line_number(table, replayer)),
     }
 }
 
@@ -211,7 +265,7 @@ impl Checker {
         ensures done { OnOk result ((taken : List ℕ) → Reached self.old.stage self.old.line.items taken
             → Reached self.new.stage self.new.line.items (taken ++ byte ∷ [])) }
         ensures fault { IfErr result (λ e. (taken more : List ℕ) → Reached self.old.stage self.old.line.items taken
-            → TellsFault format_1 e (taken ++ byte ∷ more)) }
+            → TellsFault e (taken ++ byte ∷ more)) }
     {
         if byte == b'\n' {
             let stage = mem::replace(&mut self.stage, Stage::Before);
@@ -234,7 +288,7 @@ impl Checker {
         ensures done { OnOk result ((taken : List ℕ) → Reached self.old.stage self.old.line.items taken
             → Reached self.new.stage self.new.line.items (taken ++ bytes.now)) }
         ensures fault { IfErr result (λ e. (taken more : List ℕ) → Reached self.old.stage self.old.line.items taken
-            → TellsFault format_1 e (taken ++ (bytes.now ++ more))) }
+            → TellsFault e (taken ++ (bytes.now ++ more))) }
     {
         for byte in bytes {
             self.take_byte(*byte)?;
@@ -245,8 +299,10 @@ impl Checker {
     /// Judges where the bytes end.
     fn end(&self) -> Result<Legal, HistoryFault>
         requires { (taken : List ℕ) × Reached self.now.stage self.now.line.items taken }
-        ensures ok { IfOk result (λ n. (taken : List ℕ) → Reached self.now.stage self.now.line.items taken → IsHistory format_1 taken n) }
-        ensures fault { IfErr result (λ e. (taken : List ℕ) → Reached self.now.stage self.now.line.items taken → TellsFault format_1 e taken) }
+        ensures ok { IfOk result (λ n. (taken : List ℕ) → Reached self.now.stage self.now.line.items taken
+            → IsHistory taken n) }
+        ensures fault { IfErr result (λ e. (taken : List ℕ) → Reached self.now.stage self.now.line.items taken
+            → TellsFault e taken) }
     {
         if !self.line.is_empty() {
             return Err(strange_fault(&self.stage));
@@ -259,13 +315,13 @@ impl Checker {
     }
 }
 
-/// Judges the bytes of a reader as a history of format 1, line by line; docs/HISTORY.md has the format. A line is never kept
+/// Judges the bytes of a reader as a history of format 1 or 2, line by line; docs/HISTORY.md has the formats. A line is never kept
 /// beyond 1,048,576 bytes, and the reader is called 4,294,967,295 times at most. `ReadFault` where the reader fails.
 pub fn check_history<R: Read>(alloc: Global, reader: &mut R) -> Result<Legal, HistoryFault>
     // The bytes are the text of a legal history, and the numbers are its own.
-    ensures ok { IfOk result (λ n. IfSome (R.remaining reader.old) (λ bytes. IsHistory format_1 bytes n)) }
+    ensures ok { IfOk result (λ n. IfSome (R.remaining reader.old) (λ bytes. IsHistory bytes n)) }
     // Otherwise the first fault of the bytes is reported.
-    ensures fault { IfErr result (λ e. IfSome (R.remaining reader.old) (λ bytes. TellsFault format_1 e bytes)) }
+    ensures fault { IfErr result (λ e. IfSome (R.remaining reader.old) (λ bytes. TellsFault e bytes)) }
 {
     let mut checker = Checker::new(alloc);
     let mut buffer = [0u8; 8_192];

@@ -13,7 +13,7 @@ pub fn numbers_are_fixed()
     ensures { NumbersAreFixed }
 {}
 
-/// No two histories over tables have one text.
+/// No two histories over tables have one text, and no history has one text in two formats.
 pub fn texts_are_of_one_history()
     ensures { TextsAreOfOneHistory }
 {}
@@ -23,7 +23,7 @@ pub fn histories_are_taken()
     ensures { HistoriesAreTaken }
 {}
 
-/// What `write_history` writes of a legal history, `check_history` takes.
+/// What `write_history` writes of a legal history, `check_history` takes, and so its text in each format that is read.
 pub fn what_is_written_is_taken()
     ensures { WhatIsWrittenIsTaken }
 {}

@@ -1,10 +1,11 @@
 //! Histories, written.
 
 ghost use Rattle.std.specs.Prelude.{◌≡◌, ◌<◌, ◌++◌, ◌∷◌, [], ◌≤◌, ℕ, List, OnOk, OnErr, IfSome, slice_get, length, string_bytes};
-ghost use Rattle.stm_history.specs.Lines.{format_1, header_line};
+ghost use Rattle.stm_history.specs.Lines.{latest_format, header_line};
 ghost use Rattle.stm_history.specs.HistoryText.{variable_lines, event_lines, history_text, WritesText};
 
 use crate::event::Event;
+use crate::lines::formats::LATEST_FORMAT;
 use crate::lines::write::{event_text, header_text, variable_text};
 use std::alloc::Global;
 use std::io::Write;
@@ -69,9 +70,10 @@ fn write_event<W: Write>(alloc: Global, writer: &mut W, event: &Event) -> Result
 }
 
 fn write_header<W: Write>(alloc: Global, writer: &mut W, vars: u32) -> Result<(), WriteFault>
-    ensures { WritesText result (W.contents writer.old) (W.contents writer.new) (header_line format_1 vars ++ 10 ∷ []) }
+    ensures { WritesText result (W.contents writer.old) (W.contents writer.new)
+        (header_line latest_format vars ++ 10 ∷ []) }
 {
-    match header_text(alloc, vars) {
+    match header_text(alloc, LATEST_FORMAT, vars) {
         Ok(line) => write_line(writer, line),
         Err(_) => Err(WriteFault::NoMemory),
     }
@@ -105,7 +107,7 @@ fn write_events<W: Write>(
     Ok(())
 }
 
-/// Writes a whole history.
+/// Writes a whole history, in the latest format.
 pub fn write_history<W: Write>(
     alloc: Global,
     writer: &mut W,
@@ -113,7 +115,8 @@ pub fn write_history<W: Write>(
     history: &[Event],
 ) -> Result<(), WriteFault>
     // The whole text was written, or after a fault a part from its front.
-    ensures { WritesText result (W.contents writer.old) (W.contents writer.new) (history_text format_1 table.now history.now) }
+    ensures { WritesText result (W.contents writer.old) (W.contents writer.new)
+        (history_text latest_format table.now history.now) }
 {
     match write_header(alloc, writer, table.len() as u32) {
         Ok(()) => {}

@@ -2,6 +2,7 @@
 
 mod build;
 mod fields;
+pub(crate) mod formats;
 mod parts;
 pub mod read;
 pub mod variable;

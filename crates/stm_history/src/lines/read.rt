@@ -5,13 +5,14 @@ ghost use Rattle.serde_json.specs.View.{view};
 ghost use Rattle.stm_history.specs.declared.event.Event.{Event as AnyEvent};
 ghost use Rattle.stm_store.specs.Tables.{Declared};
 ghost use Rattle.stm_history.specs.Fields.{block_of_text};
-ghost use Rattle.stm_history.specs.Fields.{event_of as event_meant, what_of as what_meant, client_of, submitted_of, installed_of, finished_of, number_field, declared_from_json as variable_meant, type_in as type_meant, text_field};
+ghost use Rattle.stm_history.specs.Fields.{event_of as event_meant, header_of as header_meant, what_of as what_meant, client_of, submitted_of, installed_of, finished_of, number_field, declared_from_json as variable_meant, type_in as type_meant, text_field};
 ghost use Rattle.stm_history.specs.Fits.{Is32Bit, FitsTable, WhatFitsTable, FitsValue, FitsVariable};
-ghost use Rattle.stm_history.specs.Lines.{format_1, event_line, header_line, variable_line};
+ghost use Rattle.stm_history.specs.Lines.{IsFormat, event_line, header_line, variable_line};
 ghost use Rattle.stm_history.specs.Variables.{declared};
 
 use crate::event::{Event, What};
 use crate::lines::fields::{number_at, text_at, type_of, value_at};
+use crate::lines::formats::is_format;
 use crate::lines::parts::numbers_at;
 use crate::lines::variable::Variable;
 use crate::lines::verdicts::verdict_at;
@@ -182,23 +183,41 @@ pub fn read_event(alloc: Global, table: &Table, line: &[u8]) -> Result<Event, Li
     }
 }
 
-/// Reads the first line, exactly where it is one: the number of variables that it promises.
-pub fn read_header(alloc: Global, line: &[u8]) -> Result<u32, LineError>
-    ensures ok { IfOk result (λ n. header_line format_1 n ≡ line.now) }
-    ensures small { IfOk result (λ n. Is32Bit n) }
-    ensures bad { IsErrOf result LineError.Bad → (n : ℕ) → Is32Bit n → header_line format_1 n ≢ line.now }
+/// What the first line says: the format, and how many variables' lines follow.
+#[derive(Clone, Copy)]
+pub struct Header {
+    pub format: u32,
+    pub vars: u32,
+}
+
+/// What the value says as a first line, whether or not the format is read.
+fn header_of(json: &Json) -> Option<Header>
+    ensures value { result ≡ header_meant (view json.now) }
+    ensures fits { IfSome result (λ h. Is32Bit h.vars) }
+{
+    let format = number_at(json, "format")?;
+    let vars = number_at(json, "vars")?;
+    Some(Header { format, vars })
+}
+
+/// Reads the first line, exactly where it is one of a format that is read.
+pub fn read_header(alloc: Global, line: &[u8]) -> Result<Header, LineError>
+    ensures ok { IfOk result (λ h. IsFormat h.format × (header_line h.format h.vars ≡ line.now)) }
+    ensures small { IfOk result (λ h. Is32Bit h.vars) }
+    ensures bad { IsErrOf result LineError.Bad → (format n : ℕ) → IsFormat format → Is32Bit n
+        → header_line format n ≢ line.now }
 {
     let json = match Json::from_slice(alloc, line) {
         Ok(json) => json,
         Err(e) if e.is_memory() => return Err(LineError::NoMemory),
         Err(_) => return Err(LineError::Bad),
     };
-    let Some(vars) = number_at(&json, "vars") else {
+    let Some(header) = header_of(&json) else {
         return Err(LineError::Bad);
     };
-    let again = header_text(alloc, vars)?;
-    if again.as_bytes() == line {
-        Ok(vars)
+    let again = header_text(alloc, header.format, header.vars)?;
+    if is_format(header.format) && again.as_bytes() == line {
+        Ok(header)
     } else {
         Err(LineError::Bad)
     }

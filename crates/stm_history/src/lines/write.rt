@@ -3,7 +3,7 @@
 ghost use Rattle.std.specs.Prelude.{◌≡◌, string_bytes, IfOk};
 ghost use Rattle.serde_json.specs.View.{view};
 ghost use Rattle.stm_history.specs.declared.event.What.TheVariants.{Submitted, Installed, Finished, Cancelled};
-ghost use Rattle.stm_history.specs.Lines.{what_data, event_data, event_line, format_1, header_data, header_line, variable_data, variable_line};
+ghost use Rattle.stm_history.specs.Lines.{what_data, event_data, event_line, header_data, header_line, variable_data, variable_line};
 
 use crate::event::{Event, What};
 use crate::lines::build::{numbers_json, type_text, value_json, verdict_json};
@@ -92,18 +92,18 @@ pub fn event_text(alloc: Global, event: &Event) -> Result<String, NoMemory>
     event_json(alloc, event)?.to_string(alloc)
 }
 
-fn header_json(alloc: Global, vars: u32) -> Result<Json, NoMemory>
-    ensures { IfOk result (λ v. view v ≡ header_data format_1 vars) }
+fn header_json(alloc: Global, format: u32, vars: u32) -> Result<Json, NoMemory>
+    ensures { IfOk result (λ v. view v ≡ header_data format vars) }
 {
-    json!(in alloc; {"format": 1u32, "vars": vars})
+    json!(in alloc; {"format": format, "vars": vars})
 }
 
-/// The first line, for so many variables.
+/// The first line, of this format and for so many variables.
 #[tactic(auto, unfolding(crate::specs::Lines::header_line))]
-pub fn header_text(alloc: Global, vars: u32) -> Result<String, NoMemory>
-    ensures { IfOk result (λ s. string_bytes s ≡ header_line format_1 vars) }
+pub fn header_text(alloc: Global, format: u32, vars: u32) -> Result<String, NoMemory>
+    ensures { IfOk result (λ s. string_bytes s ≡ header_line format vars) }
 {
-    let header = header_json(alloc, vars)?;
+    let header = header_json(alloc, format, vars)?;
     header.to_string(alloc)
 }
 

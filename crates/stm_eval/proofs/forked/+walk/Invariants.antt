@@ -31,6 +31,9 @@ decreases-walk g l = 8 * size (act_of l.action.now) + 1
 abbrev pub decreases-step : goal.decreases-step
 decreases-step g l = 8 * size (act_of l.action.now)
 
+abbrev pub decreases-walk_caught : goal.decreases-walk_caught
+decreases-walk_caught g l = 8 * size (act_of l.action.now) + 8 * size (act_of l.handler.now) + 2
+
 abbrev pub decreases-run_or_else : goal.decreases-run_or_else
 decreases-run_or_else g l = 8 * size (act_of l.left.now) + 8 * size (act_of l.right.now) + 6
 

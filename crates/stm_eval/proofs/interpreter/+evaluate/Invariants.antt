@@ -36,3 +36,6 @@ decreases-run_bound l = 3 * size (act_of l.bound.now) + 3 * size (act_of l.rest.
 
 abbrev pub decreases-run_first : goal.decreases-run_first
 decreases-run_first l = 3 * size (act_of l.first.now) + 3 * size (act_of l.rest.now) + 2
+
+abbrev pub decreases-run_caught : goal.decreases-run_caught
+decreases-run_caught l = 3 * size (act_of l.action.now) + 3 * size (act_of l.handler.now) + 2

@@ -16,6 +16,10 @@ pub boxed_action-returns-in_err-inner-in-OrElse-clause-gives : goal.boxed_action
 unfolding action_at
 boxed_action-returns-in_err-inner-in-OrElse-clause-gives t c = grind (arith, inside_act_none)
 
+pub boxed_action-returns-in_err-inner-in-Catch-clause-gives : goal.boxed_action-returns-in_err-inner-in-Catch-clause-gives
+unfolding action_at
+boxed_action-returns-in_err-inner-in-Catch-clause-gives t c = grind (arith, inside_act_none)
+
 pub boxed_action-returns-in_err-inner-in-LParen-clause-gives : goal.boxed_action-returns-in_err-inner-in-LParen-clause-gives
 unfolding action_at
 boxed_action-returns-in_err-inner-in-LParen-clause-gives t c = grind (arith, inside_act_none)
@@ -33,6 +37,10 @@ boxed_action-returns-in_ok-inner-in-If-clause-gives t c =
 pub boxed_action-returns-in_ok-inner-in-OrElse-clause-gives : goal.boxed_action-returns-in_ok-inner-in-OrElse-clause-gives
 unfolding action_at
 boxed_action-returns-in_ok-inner-in-OrElse-clause-gives t c = grind (arith, inside_act_some)
+
+pub boxed_action-returns-in_ok-inner-in-Catch-clause-gives : goal.boxed_action-returns-in_ok-inner-in-Catch-clause-gives
+unfolding action_at
+boxed_action-returns-in_ok-inner-in-Catch-clause-gives t c = grind (arith, inside_act_some)
 
 pub boxed_action-returns-in_ok-inner-in-LParen-clause-gives : goal.boxed_action-returns-in_ok-inner-in-LParen-clause-gives
 unfolding action_at

@@ -14,6 +14,9 @@ decreases-paren l = 4 * length l.toks.now + 0
 abbrev pub decreases-or_else : goal.decreases-or_else
 decreases-or_else l = 4 * length l.toks.now + 1
 
+abbrev pub decreases-catch : goal.decreases-catch
+decreases-catch l = 4 * length l.toks.now + 1
+
 abbrev pub decreases-if_then_else : goal.decreases-if_then_else
 decreases-if_then_else l = 4 * length l.toks.now + 1
 

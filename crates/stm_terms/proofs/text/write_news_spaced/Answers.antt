@@ -1,4 +1,4 @@
-use Rattle.std.proofs.Common.{rules, codes, subst, sym, List, ℕ, ◌++◌, append_assoc, string_bytes}
+use Rattle.std.proofs.Common.{rules, codes, subst, sym, ◌++◌, append_assoc, string_bytes}
 use Rattle.std.proofs.lemmas.Result.{err_from_is_err_and}
 use Rattle.stm_terms.specs.Texts.{AppendsText, new_text}
 use Rattle.stm_terms.proofs.Appending.{AppendsText-fails, spaced-next}

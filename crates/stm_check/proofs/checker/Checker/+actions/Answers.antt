@@ -10,6 +10,9 @@ check_if-returns t c = record { says = grind (arith, common_steps); uses = grind
 pub check_or_else-returns : goal.check_or_else-returns
 check_or_else-returns t c = record { says = grind (arith, common_steps); uses = grind (arith, record_uses_append); low = grind (arith, common_steps) }
 
+pub check_catch-returns : goal.check_catch-returns
+check_catch-returns t c = record { says = grind (arith, common_steps); uses = grind (arith, record_uses_append); low = grind (arith, common_steps) }
+
 pub check_bind-returns : goal.check_bind-returns
 check_bind-returns t c = record { says = grind (arith, common_steps); uses = grind (arith, record_uses_append); low = grind (arith, common_steps) }
 

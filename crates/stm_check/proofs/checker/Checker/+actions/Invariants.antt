@@ -14,6 +14,9 @@ decreases-check_if l = 3 * (actions (raw_act_of l.first.now) + actions (raw_act_
 abbrev pub decreases-check_or_else : goal.decreases-check_or_else
 decreases-check_or_else l = 3 * (actions (raw_act_of l.first.now) + actions (raw_act_of l.second.now)) + 2
 
+abbrev pub decreases-check_catch : goal.decreases-check_catch
+decreases-check_catch l = 3 * (actions (raw_act_of l.action.now) + actions (raw_act_of l.handler.now)) + 2
+
 abbrev pub decreases-check_bind : goal.decreases-check_bind
 decreases-check_bind l = 3 * (actions (raw_act_of l.bound.now) + actions (raw_act_of l.rest.now)) + 2
 

@@ -1,25 +1,34 @@
-use Rattle.std.proofs.Common.{◌≡◌, Some, None, sym, ap, ◌∙◌, codes, arith}
+use Rattle.std.proofs.Common.{◌≡◌, Some, None, sym, ap, ◌∙◌, subst}
 use Rattle.std.proofs.lemmas.Slice.Eq.{bytes_eq-Decides}
 use Rattle.serde_json.specs.View.{view}
-use Rattle.stm_history.specs.Lines.{format_1, header_line}
-use Rattle.stm_history.specs.Fields.{number_field}
+use Rattle.stm_history.specs.declared.lines.read.Header.{Header}
+use Rattle.stm_history.specs.Lines.{IsFormat, header_line}
+use Rattle.stm_history.specs.Fields.{header_of}
 use Rattle.stm_history.proofs.ReadsBack.{header_unread, header_is}
 use Rattle.stm_history.proofs.lines.read.read_header.Goals as goal
+use Rattle.stm_history.proofs.lines.read.read_header.Goals.{else-is_format-via-then-is_format+else-eq, else-is_format-via-else-is_format}
 
 pub returns-in-Err-2-clause-bad : goal.returns-in-Err-2-clause-bad
-returns-in-Err-2-clause-bad c = λ _ n f e. header_unread c.args.line.now format_1 n (omega arith) f e (c.in-Err.ensures.err (λ m. cc (c.is_memory.ensures.1 m)))
+returns-in-Err-2-clause-bad c = λ _ format n k f e. header_unread c.args.line.now format n k f e (c.in-Err.ensures.err (λ m. cc (c.is_memory.ensures.1 m)))
 
 pub returns-in_default-clause-bad : goal.returns-in_default-clause-bad
-returns-in_default-clause-bad c = λ _ n f e.
-    let h = header_is c.args.line.now format_1 n (view c.in-Ok.json) (omega arith) f e c.in-Ok.ensures.ok.1 in
-    let none : None ≡ number_field (codes "vars") (view c.in-Ok.json) = sym c.in_default.is ∙ c.number_at.ensures.value in
+returns-in_default-clause-bad c = λ _ format n k f e.
+    let h = header_is c.args.line.now format n (view c.in-Ok.json) k f e c.in-Ok.ensures.ok.1 in
+    let none : None ≡ header_of (view c.in-Ok.json) = sym c.in_default.is ∙ c.header_of.ensures.value in
     cc
 
 pub returns-clause-bad : goal.returns-clause-bad
-returns-clause-bad c = λ _ n f e.
-    let h = header_is c.args.line.now format_1 n (view c.in-Ok.json) (omega arith) f e c.in-Ok.ensures.ok.1 in
-    let some : Some c.in-Some.vars ≡ number_field (codes "vars") (view c.in-Ok.json) = sym c.in-Some.is ∙ c.number_at.ensures.value in
-    let same : c.in-Some.vars ≡ n = cc in
-    let text : c.as_bytes.result.now ≡ c.args.line.now = c.as_bytes.ensures.value ∙ c.in_ok-again.ensures ∙ ap (header_line format_1) same ∙ e in
-    let yes = (bytes_eq-Decides c.as_bytes.result.now c.args.line.now).1 text in
-    cc (yes, c.if-eq.ensures)
+returns-clause-bad c = λ _ format n k f e.
+    let h = header_is c.args.line.now format n (view c.in-Ok.json) k f e c.in-Ok.ensures.ok.1 in
+    let some : Some c.in-Some.header ≡ header_of (view c.in-Ok.json) = sym c.in-Some.is ∙ c.header_of.ensures.value in
+    let same : c.in-Some.header ≡ record { format = format; vars = n } = cc in
+    elim c.else-is_format.branch [
+      | else-is_format-via-then-is_format+else-eq w ↦
+          let text : w.as_bytes.result.now ≡ c.args.line.now = w.as_bytes.ensures.value ∙ c.in_ok-again.ensures ∙ ap (λ (x : Header). header_line x.format x.vars) same ∙ e in
+          let yes = (bytes_eq-Decides w.as_bytes.result.now c.args.line.now).1 text in
+          cc (yes, w.if-eq.ensures)
+      | else-is_format-via-else-is_format w ↦
+          let read : IsFormat (c.in-Some.header).format = subst (λ (x : Header). IsFormat x.format) (sym same) k in
+          let yes = c.is_format.ensures.1 read in
+          cc (yes, w.if-is_format.false)
+    ]

@@ -9,4 +9,4 @@ returns-then-not-is_empty-clause-fault c = λ taken h.
     ends_early _ _ taken _ c.strange_fault.ensures h (inl some)
 
 pub returns-in-Declaring-clause-fault : goal.returns-in-Declaring-clause-fault
-returns-in-Declaring-clause-fault c = λ taken h. ends_early _ _ taken BadHeader (λ p i. declaring_strange _ _ _ p c.in-Declaring.is i) h (inr refl)
+returns-in-Declaring-clause-fault c = λ taken h. ends_early _ _ taken BadHeader (λ p i. declaring_strange _ _ _ _ p c.in-Declaring.is i) h (inr refl)

@@ -1,0 +1,8 @@
+use Rattle.std.proofs.Common.{inl, inr, ap}
+use Rattle.stm_history.specs.declared.files.fault.HistoryFault.TheVariants.{BadLine}
+use Rattle.stm_history.proofs.Telling.{unfit}
+use Rattle.stm_history.proofs.files.check.take_event.Goals as goal
+
+pub returns-then-not-fits_format-clause-refused : goal.returns-then-not-fits_format-clause-refused
+returns-then-not-fits_format-clause-refused c = λ T H h f n.
+    inr (inl (ap BadLine n, unfit c.args.format T H c.args.event.now f (λ may. let yes = c.fits_format.ensures.1 may in cc (yes, c.if-not-fits_format.true))))

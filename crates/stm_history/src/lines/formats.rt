@@ -1,0 +1,34 @@
+//! The formats of histories: which are read, which is written, and what may stand in each.
+
+ghost use Rattle.std.specs.Prelude.{◌↔◌, IsTrue};
+ghost use Rattle.stm_history.specs.Fits.{FitsFormat};
+ghost use Rattle.stm_history.specs.Lines.{IsFormat};
+
+use crate::event::{Event, What};
+
+/// The first format, in which no block has a `catch`.
+pub(crate) const FIRST_FORMAT: u32 = 1;
+
+/// The format that is written, the latest of those that are read.
+pub(crate) const LATEST_FORMAT: u32 = 2;
+
+/// Whether histories of the format are read.
+pub(crate) fn is_format(format: u32) -> bool
+    ensures { IsTrue result ↔ IsFormat format }
+{
+    FIRST_FORMAT <= format && format <= LATEST_FORMAT
+}
+
+/// Whether the event may stand in a history of the format.
+pub(crate) fn fits_format(format: u32, event: &Event) -> bool
+    ensures { IsTrue result ↔ FitsFormat format event.now }
+{
+    match &event.what {
+        What::Submitted { block, .. } => {
+            format != FIRST_FORMAT || !block.block().action().has_catch()
+        }
+        What::Installed { .. } => true,
+        What::Finished { .. } => true,
+        What::Cancelled { .. } => true,
+    }
+}
