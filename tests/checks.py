@@ -5,18 +5,18 @@ import pathlib
 import transcript
 
 HERE = pathlib.Path(__file__).resolve().parent
-HEADER = b'{"format":2,"vars":'  # how the text of a history begins
+HEADER = b'{"format":3,"vars":'  # how the text of a history begins
 EXAMPLE = "the_example_of_a_history.case"  # it stands in docs/HISTORY.md; its variable has line 2, its events lines 3 to 8
 
 # Of the example: the line, what stands there, what takes its place (all of it, where nothing is named), and the answer.
 CHANGES = [
-    (1, '"format":2', '"format":0', "bad header"),
-    (1, '"format":2', '"format":1', "legal 6 events"),
-    (1, '"format":2', '"format":02', "bad header"),
-    (1, '"format":2', '"format":3', "bad header"),
-    (1, '"format":2', '"format":4', "bad header"),
-    (1, '"format":2', '"format":"2"', "bad header"),
-    (1, '"format":2,', "", "bad header"),
+    (1, '"format":3', '"format":0', "bad header"),
+    (1, '"format":3', '"format":1', "legal 6 events"),
+    (1, '"format":3', '"format":2', "legal 6 events"),
+    (1, '"format":3', '"format":03', "bad header"),
+    (1, '"format":3', '"format":4', "bad header"),
+    (1, '"format":3', '"format":"3"', "bad header"),
+    (1, '"format":3,', "", "bad header"),
     (1, '"vars":1', '"vars":2', "bad header"),
     (1, '"vars":1', '"vars": 1', "bad header"),
     (1, '"vars":1', '"vars":01', "bad header"),
@@ -24,7 +24,7 @@ CHANGES = [
     (1, '"vars":1', '"vars":1000001', "bad header"),
     (1, '"vars":1', '"vars":0', "bad line 2"),
     (1, '"vars":1', '"vars":1,"vars":1', "bad header"),
-    (1, None, '{"vars":1,"format":2}', "bad header"),
+    (1, None, '{"vars":1,"format":3}', "bad header"),
     (2, '"Int"', '"Bool"', "bad header"),
     (2, '"Int"', '"int"', "bad header"),
     (2, '"Int"', '"Int "', "bad header"),
@@ -105,15 +105,17 @@ def texts():
         line = lines[number - 1]
         changed = new + "\n" if old is None else line.replace(old, new, 1)
         yield f"line {number} as {changed[:60]!r}", "".join(lines[: number - 1] + [changed] + lines[number:]), answer
-    # A write of the same value makes its readers stale.
+    # A write of the value that is there makes nobody stale, from format 3 on.
     quiet = "".join(lines[:-1]).replace("x 5", "x 1").replace("[0,5]", "[0,1]")
-    yield "a write of the same value", quiet, "legal 5 events"
-    yield "a write of the same value, with nobody stale", quiet.replace('"stale":[1]', '"stale":[]'), "not legal 7"
+    for format, one, nobody in ((1, "legal 5 events", "not legal 7"), (2, "legal 5 events", "not legal 7"), (3, "not legal 7", "legal 5 events")):
+        text = quiet.replace('"format":3', f'"format":{format}')
+        yield f"a write of the same value in format {format}", text, one
+        yield f"and with nobody stale in format {format}", text.replace('"stale":[1]', '"stale":[]'), nobody
     # A `catch` came with format 2.
     for nested in ("catch (readTVar x) e (return e)", "do { return 1; catch (readTVar x) e (return e) }"):
         caught = "".join(lines).replace("readTVar x", nested)
-        yield f"{nested!r} in format 2", caught, "legal 6 events"
-        yield f"{nested!r} in format 1", caught.replace('"format":2', '"format":1'), "bad line 3"
+        for format, answer in ((1, "bad line 3"), (2, "legal 6 events"), (3, "legal 6 events")):
+            yield f"{nested!r} in format {format}", caught.replace('"format":3', f'"format":{format}'), answer
     yield "twice", "".join(lines) * 2, "bad line 9"
 
 

@@ -150,7 +150,7 @@ class Settled:
 
 @dataclass(frozen=True)
 class Cell:
-    """A variable: its name, None for one that a block made; type as text, value, and how often a block wrote it."""
+    """A variable: its name, None for one that a block made; type as text, value, and how often a block changed it."""
 
     variable: Ref
     name: str | None

@@ -206,7 +206,7 @@ class Answers(OnProgram):
 
 
 HISTORY = """\
-{"format":2,"vars":1}
+{"format":3,"vars":1}
 {"init":1,"name":"x","type":"Int"}
 {"block":"readTVar x","client":0,"event":"submitted","ticket":1}
 {"block":"writeTVar x 5","client":0,"event":"submitted","ticket":2}
@@ -231,8 +231,8 @@ class Histories(OnProgram):
 
     def test_of_nothing(self):
         with Desk(program) as desk:
-            self.assertEqual(desk.history(), '{"format":2,"vars":0}\n')
-            self.assertEqual(desk.history(), '{"format":2,"vars":0}\n')
+            self.assertEqual(desk.history(), '{"format":3,"vars":0}\n')
+            self.assertEqual(desk.history(), '{"format":3,"vars":0}\n')
 
     def test_is_checked(self):
         desk = self.start()
@@ -560,7 +560,7 @@ class Ends(OnProgram):
             "1 new\n2 new\nwaiting 1": lambda desk: desk.show(),
             "1 odd\nwaiting 1": lambda desk: desk.show(),
             "commits writes none news none result ()\nx": lambda desk: desk.history(),
-            '{"format":2,"vars":0}\ncommits writes none news none result 1': lambda desk: desk.history(),
+            '{"format":3,"vars":0}\ncommits writes none news none result 1': lambda desk: desk.history(),
         }
         for answer, call in calls.items():
             path = self.stand_in("read line", f"cat <<'END'\n{answer}\nEND", "sleep 1000")

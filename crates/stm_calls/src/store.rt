@@ -115,6 +115,22 @@ fn answer_show(store: &Store, id: u32, out: &mut String) -> Result<(), AllocErro
     writeln!(out, " count {}", store.count(id))
 }
 
+/// Answers with the variables that a verdict changes.
+fn answer_changes(store: &Store, verdict: &Verdict, out: &mut String) -> Result<(), AllocError> {
+    if !store.fits(verdict) {
+        return say("refused misfit", out);
+    }
+    let changed = store.changes(verdict)?;
+    out.push_str("changes")?;
+    if changed.is_empty() {
+        out.push_str(" none")?;
+    }
+    for variable in changed.as_slice() {
+        write!(out, " {variable}")?;
+    }
+    out.push_str("\n")
+}
+
 /// Answers a call of the store.
 pub fn answer(
     store: &mut Store,
@@ -128,6 +144,7 @@ pub fn answer(
         "len" => say_count(store.len(), out),
         "show" => answer_show(store, number(rest), out),
         "covers" => answer_covers(store, alloc, rest, out),
+        "changes" => answer_changes(store, verdict, out),
         "fits" => say_whether(store.fits(verdict), out),
         "apply" => apply(store, verdict, out),
         _ => say("no such call", out),

@@ -23,9 +23,11 @@ CanCheck checker a =
     IsAscii checker.text.now × raw.SpansWithin (length checker.text.now) a
     × (length (scope checker.locals.now) + raw.actions a ≤ 2 ^ 32) × ScopeHasFewRefs (scope checker.locals.now)
 
+-- what the check of an expression finds, by the names that the checker can look up
 abbrev pub expr_found : Checker → raw.RawTerm → Result (Term × Ty) TypeFault
 expr_found checker e = checked_expr checker.table.now checker.text.now (scope checker.locals.now) e
 
+-- so too of an action
 abbrev pub act_found : Checker → raw.RawAct → Result (Act × ActionType) TypeFault
 act_found checker a = checked checker.table.now checker.text.now (scope checker.locals.now) a
 
@@ -33,6 +35,7 @@ act_found checker a = checked checker.table.now checker.text.now (scope checker.
 abbrev pub recorded_expr : Checker → Term → List (ℕ × Ty) → List (ℕ × Ty)
 recorded_expr checker e uses = record_uses (table_kinds checker.table.now) (named_in e) uses
 
+-- so too those of an action
 abbrev pub recorded_act : Checker → Act → List (ℕ × Ty) → List (ℕ × Ty)
 recorded_act checker a uses = record_uses (table_kinds checker.table.now) (named a) uses
 
@@ -41,13 +44,15 @@ abbrev pub HasFewRefs : Option Ty → Type 0
 HasFewRefs o = IfSome o (λ t. t.refs ≤ most_refs + 1)
 
 -- the check of an expression, seen by view: what it answers, which variables it notes, and how deep its type is
-pub record ChecksExpr {X : Type 0} (checker : Checker) (e : raw.RawTerm) (view : X → Term) (result : Result (X × Ty) TypeFault) (before after : List (ℕ × Ty)) : Type 0 where
+pub record ChecksExpr {X : Type 0} (checker : Checker) (e : raw.RawTerm) (view : X → Term)
+    (result : Result (X × Ty) TypeFault) (before after : List (ℕ × Ty)) : Type 0 where
   pub says : ChecksAs (λ r. (view r.0, r.1)) result (expr_found checker e)
   pub uses : IfOk result (λ r. after ≡ recorded_expr checker (view r.0) before)
   pub low : IfOk result (λ r. r.1.refs ≤ most_refs + 1)
 
 -- so too of an action
-pub record ChecksAction {X : Type 0} (checker : Checker) (a : raw.RawAct) (view : X → Act) (result : Result (X × Option Ty) TypeFault) (before after : List (ℕ × Ty)) : Type 0 where
+pub record ChecksAction {X : Type 0} (checker : Checker) (a : raw.RawAct) (view : X → Act)
+    (result : Result (X × Option Ty) TypeFault) (before after : List (ℕ × Ty)) : Type 0 where
   pub says : ChecksAs (λ r. (view r.0, result_type r.1)) result (act_found checker a)
   pub uses : IfOk result (λ r. after ≡ recorded_act checker (view r.0) before)
   pub low : IfOk result (λ r. HasFewRefs r.1)

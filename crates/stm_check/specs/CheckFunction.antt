@@ -36,6 +36,7 @@ given And = bool_ty
 given Or = bool_ty
 given Eq = bool_ty
 
+-- whether an operand's type is the one that is wanted, where one is
 abbrev pub as_wanted : Option Ty → Ty → Bool
 as_wanted (Some w) t = same_ty t w
 as_wanted None t = true
@@ -68,6 +69,7 @@ on_type Any fault go = Err fault
 abbrev pub table_kinds : List Declared → TypeEnv
 table_kinds table = kinds_of (declared_cells table)
 
+-- a variable by its number, where it has one, with the type of its cell
 abbrev pub with_kind : TypeEnv → Option ℕ → Option (ℕ × Ty)
 with_kind kinds (Some i) = option_map (λ t. (i, t)) (kinds i)
 with_kind kinds None = None
@@ -76,6 +78,7 @@ with_kind kinds None = None
 abbrev pub variable : List Declared → List ℕ → Option (ℕ × Ty)
 variable table name = with_kind (table_kinds table) (number_of name table)
 
+-- a name that is no local is a reference to a declared variable; a name of neither is unknown
 abbrev pub declared_as : ℕ → Option (ℕ × Ty) → Result (Term × Ty) TypeFault
 declared_as at (Some v) = Ok (global v.0, var_ty v.1)
 declared_as at None = Err (Unknown at)
@@ -108,7 +111,8 @@ module _ (table : List Declared) (text : List ℕ) where
       (λ t. on_ok (checked_expr ls e) (λ y. unless (same_ty y.1 t) (Mismatch (raw.place e))
       (Ok (write x.0 y.0, Gives unit_ty)))))
   checked ls (raw.make e) =
-      on_ok (checked_expr ls e) (λ x. unless (nat_le x.1.refs most_refs) (TypeTooDeep (raw.place e)) (Ok (make x.1 x.0, Gives (var_ty x.1))))
+      on_ok (checked_expr ls e) (λ x. unless (nat_le x.1.refs most_refs) (TypeTooDeep (raw.place e))
+      (Ok (make x.1 x.0, Gives (var_ty x.1))))
   checked ls raw.retry = Ok (retry, Any)
   checked ls (raw.throw e) =
       on_ok (checked_expr ls e) (λ x. unless (same_ty x.1 int_ty) (Mismatch (raw.place e)) (Ok (throw x.0, Any)))

@@ -24,14 +24,16 @@ Progress =
     → WellTyped kinds under h → HaveTypes kinds h locals types → action_type kinds types a ≡ Some r
     → run under a locals h ≢ Stuck
 
--- what it returns has the type of its result, and the view that it leaves is well typed; one of any type never returns
+-- a returned value has the type of the result; an action of any type never returns
 abbrev pub OfType : TypeEnv → Changes → ActionType → Value → Type 0
 OfType kinds h (Gives t) v = type_of kinds h v ≡ Some t
 OfType kinds h Any v = ⊥
 
+-- what a well typed action returns has the type of its result, and the view that it leaves is well typed
 abbrev pub Preservation : Type 0
 Preservation =
-    (kinds : TypeEnv) (under : Variables) (a : Act) (locals : List Value) (types : List Ty) (h : Changes) (r : ActionType) (v : Value) (k : Changes)
+    (kinds : TypeEnv) (under : Variables) (a : Act) (locals : List Value) (types : List Ty) (h : Changes) (r : ActionType)
+    (v : Value) (k : Changes)
     → WellTyped kinds under h → HaveTypes kinds h locals types → action_type kinds types a ≡ Some r
     → run under a locals h ≡ Returned v k
     → OfType kinds k r v × WellTyped kinds under k

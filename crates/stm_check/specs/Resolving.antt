@@ -19,6 +19,7 @@ module _ (table : List Declared) (text : List ℕ) where
   IsNamed ns name (global i) = (number_in name ns ≡ None) × (number_of name table ≡ Some i)
   IsNamed ns name x = ⊥
 
+  -- an expression is this term, with each name resolved
   abbrev pub IsTerm : List (List ℕ) → raw.RawTerm → Term → Type 0
   IsTerm ns (raw.int n at) x = x ≡ lit (value.Int n)
   IsTerm ns (raw.truth b at) x = x ≡ lit (value.Bool b)
@@ -27,7 +28,7 @@ module _ (table : List Declared) (text : List ℕ) where
   IsTerm ns (raw.bin op a b) (bin or x y) = (op ≡ or) × IsTerm ns a x × IsTerm ns b y
   IsTerm ns (raw.bin op a b) x = ⊥
 
-  -- the type of a new variable is left open
+  -- so too of an action; the type of a new variable is left open
   abbrev pub IsAct : List (List ℕ) → raw.RawAct → Act → Type 0
   IsAct ns (raw.return e) (return x) = IsTerm ns e x
   IsAct ns (raw.read e) (read x) = IsTerm ns e x

@@ -10,6 +10,7 @@ use Rattle.stm_check.specs.declared.scope.Scope.TheVariants as S
 abbrev pub Locals : Type 0
 Locals = List (List ℕ × Ty)
 
+-- the locals that the code keeps
 abbrev pub scope : Scope → Locals
 scope S.Empty = []
 scope (S.Local' name kind p outer) = (name.now, kind) ∷ scope outer

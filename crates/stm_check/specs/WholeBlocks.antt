@@ -21,10 +21,18 @@ abbrev pub given_type : ActionType → Option Ty
 given_type (Gives t) = Some t
 given_type Any = None
 
+-- the block of a text whose tree is well typed, or the fault of its types
 abbrev pub block_if_typed : List Declared → List ℕ → Result (Act × ActionType) TypeFault → Result Block BlockFault
-block_if_typed table text (Ok c) = Ok (record { tree = c.0; text = text; result_type = given_type c.1; uses = uses_of (table_kinds table) c.0 })
+block_if_typed table text (Ok c) =
+    Ok (record {
+      tree = c.0;
+      text = text;
+      result_type = given_type c.1;
+      uses = uses_of (table_kinds table) c.0;
+    })
 block_if_typed table text (Err e) = Err (NotTyped e)
 
+-- the block of a text that is of the grammar, or the fault of the grammar
 abbrev pub block_if_parsed : List Declared → List ℕ → Result raw.RawAct ParseFault → Result Block BlockFault
 block_if_parsed table text (Ok t) = block_if_typed table text (checked table text [] t)
 block_if_parsed table text (Err e) = Err (NotParsed e)

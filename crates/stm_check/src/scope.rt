@@ -50,6 +50,7 @@ pub(crate) fn find_variable(table: &Table, name: &str) -> Option<(u32, Ty)>
     ensures kind { IfSome result (λ v. table_kinds table.now v.0 ≡ Some v.1) }
     ensures low { IfSome result (λ v. v.1.refs ≤ most_refs) }
 {
+    // The table's types are known to have at most `most_refs` `TVar` by this.
     let _count = table.len();
     match table.find(name) {
         Some(id) => Some((id, table.kind(id))),

@@ -11,6 +11,7 @@ use Rattle.stm_check.specs.TypedBlock.{Block}
 use Rattle.stm_eval.specs.Laws.{VerdictIsStable}
 use Rattle.stm_store.specs.declared.cell.Cell.{Cell}
 use Rattle.stm_store.specs.Tables.{Declared}
+use Rattle.stm_history.specs.declared.staleness.StalenessRule.TheVariants.{Changed}
 use Rattle.stm_history.specs.declared.event.Event.{Event}
 use Rattle.stm_history.specs.declared.event.What.TheVariants.{Installed}
 use Rattle.stm_history.specs.declared.errors.DeliverError.{DeliverError}
@@ -79,7 +80,7 @@ module _ (stay : BlocksStay) (stable : VerdictIsStable) where
   -- ---- a delivery
   same_block : (d : Seen) (jobs : List HandedOut) (j : HandedOut) (w : Waiter) → WasTaken d.table d.history j → find_waiter j.ticket (now d).waiters ≡ Some w → Stands d jobs → w.block ≡ j.block
   same_block d jobs j w t f k =
-      stay d.table t.before t.more j.ticket t.one w (subst (IsLegal d.table) t.whole k.legal) t.found
+      stay Changed d.table t.before t.more j.ticket t.one w (subst (IsLegal d.table) t.whole k.legal) t.found
       (subst (λ (h : List Event). find_waiter j.ticket (state d.table h).waiters ≡ Some w) t.whole f) ∙ t.block
 
   installs_by : (d : Seen) (jobs : List HandedOut) (j : HandedOut) (w : Waiter) (v : Option Verdict) → WasTaken d.table d.history j → find_waiter j.ticket (now d).waiters ≡ Some w

@@ -11,6 +11,7 @@ use Rattle.stm_check.specs.TypedBlock.{Block}
 use Rattle.stm_eval.specs.declared.job.Job.{Job}
 use Rattle.stm_eval.specs.declared.message.Evaluated.{Evaluated}
 use Rattle.stm_eval.specs.EvaluatedFields.{message_ticket, message_block, message_reads, message_verdict}
+use Rattle.stm_history.specs.declared.staleness.StalenessRule.TheVariants.{Changed}
 use Rattle.stm_history.specs.declared.errors.DeliverError.{DeliverError}
 use Rattle.stm_history.specs.declared.event.Event.{Event}
 use Rattle.stm_history.specs.declared.event.What.TheVariants.{Installed}
@@ -37,7 +38,7 @@ same_block None b e = absurd cc
 stays : BlocksStay → (d : Seen) (cells : List (Ty × Value)) (j : Job) → IsLegal d.table d.history → JobStands d (handed_out cells j) → (w : Waiter) → find_waiter j.ticket (now d).waiters ≡ Some w → w.block ≡ j.block
 stays law d cells j legal s w e =
     let v = same_block (find_waiter j.ticket (state d.table s.before).waiters) j.block s.waited in
-    law d.table s.before s.more j.ticket v.0 w (subst (λ (h : List Event). IsLegal d.table h) s.history legal) v.1
+    law Changed d.table s.before s.more j.ticket v.0 w (subst (λ (h : List Event). IsLegal d.table h) s.history legal) v.1
     (subst (λ (h : List Event). find_waiter j.ticket (state d.table h).waiters ≡ Some w) s.history e) ∙ v.2
 
 first_told : (d : Seen) (j : Job) (o : Option Waiter) (told : Option DeliverError) (reads : List (ℕ × Value)) → ((w : Waiter) → o ≡ Some w → w.block ≡ j.block)

@@ -9,8 +9,9 @@ use Rattle.stm_terms.specs.Texts.{list_text, write_text, value_text, verdict_tex
 use Rattle.stm_check.specs.Laws.{VerdictFits}
 use Rattle.stm_check.specs.TypedBlock.{Block}
 use Rattle.stm_store.specs.declared.cell.Cell.{Cell}
-use Rattle.stm_store.specs.Cells.{StoreIsTyped, plains, renumbered}
+use Rattle.stm_store.specs.Cells.{StoreIsTyped, plains, renumbered, changed_by}
 use Rattle.stm_store.specs.Tables.{Declared}
+use Rattle.stm_history.specs.declared.staleness.StalenessRule.TheVariants.{Changed}
 use Rattle.stm_history.specs.declared.errors.CancelError.{CancelError}
 use Rattle.stm_history.specs.declared.errors.DeliverError.{DeliverError}
 use Rattle.stm_history.specs.declared.errors.FinishError.{FinishError}
@@ -19,7 +20,7 @@ use Rattle.stm_history.specs.declared.event.What.{What}
 use Rattle.stm_history.specs.Laws.{DeclaredAreCovered, WaitingAreWellTyped, StoresAreTyped, BlocksHaveVerdicts}
 use Rattle.stm_history.specs.Lines.{latest_format}
 use Rattle.stm_history.specs.Refusals.{missing, blocks_there, overflows, finish_first}
-use Rattle.stm_history.specs.SlowDesk.{Since, Waiter, Slow, under, verdict_on, written_in, is_blocks, is_new, is_current, find_waiter, without_waiter, stale_after, max_waiting}
+use Rattle.stm_history.specs.SlowDesk.{Since, Waiter, Slow, under, verdict_on, is_blocks, is_new, is_current, find_waiter, without_waiter, stale_after, max_waiting}
 use Rattle.stm_history.specs.SlowSettle.{Stop, NoRoom, NoCells, ending, finishes, installs}
 use Rattle.stm_desk.specs.Refusals.{submit_refusal, finish_refusal, cancel_refusal}
 use Rattle.stm_desk.specs.Seen.{Seen, now, is_full}
@@ -141,26 +142,26 @@ cells_end table cells = (cell_lines table 0 cells ++ codes "cells " ++ decimal (
 
 module _ (judged : (table : List Declared) (text : List ℕ) → BlockOrTold table (compiled_block table text)) (fits : VerdictFits) (cover : DeclaredAreCovered) (wait : WaitingAreWellTyped) (stay_typed : StoresAreTyped) (verdicts : BlocksHaveVerdicts) where
   store_typed : (d : Seen) (jobs : List HandedOut) → Stands d jobs → StoreIsTyped (plains (now d).store)
-  store_typed d jobs k = stay_typed d.table d.history k.table_typed k.typed k.legal
+  store_typed d jobs k = stay_typed Changed d.table d.history k.table_typed k.typed k.legal
 
   -- a well typed block whose variables are declared has a verdict on the present store
   tried_ends : (d : OpenDesk) → Stands d.desk d.jobs → (r : Result Block Refusal) → BlockOrTold d.desk.table r → EndsALine (tried_text (present d) r)
   tried_ends d k (Ok b) h =
-      let v = fits (plains (present d)) b.uses b.tree h.0.0 (store_typed d.desk d.jobs k) (cover d.desk.table d.desk.history b.uses k.legal h.1) h.0.1 in
+      let v = fits (plains (present d)) b.uses b.tree h.0.0 (store_typed d.desk d.jobs k) (cover Changed d.desk.table d.desk.history b.uses k.legal h.1) h.0.1 in
       verdict_ends v.0 (verdict_on (present d) b) v.1
   tried_ends d k (Err x) h = refusal_ends x h
 
   -- and so has a block that waits
   ending_ends : (s : Slow) (t : ℕ) (w : Waiter) (v : Verdict) (o : Option Verdict) → o ≡ Some v → blocks_there o ≡ false → EndsALine (finish_event_line (ending s t o))
   ending_ends s t w v None e h = absurd cc
-  ending_ends s t w v (Some x) e h = effect_ends t (length s.store) x (stale_after (written_in x) (without_waiter t s.waiters)) h
+  ending_ends s t w v (Some x) e h = effect_ends t (length s.store) x (stale_after (changed_by s.store x) (without_waiter t s.waiters)) h
 
   finishing_ends : (d : Seen) (jobs : List HandedOut) (t : ℕ) (o : Option Waiter) → find_waiter t (now d).waiters ≡ o → finish_first (now d).store (is_full d) o ≡ None → Stands d jobs → EndsALine (finish_event_line (finish_of (now d) t o))
   finishing_ends d jobs t None f e k = absurd cc
   finishing_ends d jobs t (Some w) f e k =
       let o = verdict_on (now d).store w.block in
-      let typed = wait d.table d.history t w k.typed f in
-      let v = verdicts d.table d.history t w typed.0 k.legal (store_typed d jobs k) f typed.1 in
+      let typed = wait Changed d.table d.history t w k.typed f in
+      let v = verdicts Changed d.table d.history t w typed.0 k.legal (store_typed d jobs k) f typed.1 in
       let may = may_end (is_new w) (is_current w) (blocks_there o) (is_full d) (overflows (now d).store o) e in
       ending_ends (now d) t w v.0 o v.1 may.ends
 

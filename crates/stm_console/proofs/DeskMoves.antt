@@ -6,7 +6,7 @@ use Rattle.stm_terms.specs.declared.kinds.Ty.{Ty}
 use Rattle.stm_terms.specs.declared.values.Value.{Value}
 use Rattle.stm_terms.specs.declared.verdicts.Verdict.{Verdict}
 use Rattle.stm_store.specs.declared.cell.Cell.{Cell}
-use Rattle.stm_store.specs.Cells.{plains, Covers, kinds_of, made_by}
+use Rattle.stm_store.specs.Cells.{plains, Covers, kinds_of, made_by, changed_by}
 use Rattle.stm_store.specs.Tables.{is_type}
 use Rattle.stm_check.specs.TypedBlock.{Block}
 use Rattle.stm_history.specs.declared.event.What.TheVariants.{Submitted, Finished, Cancelled}
@@ -18,7 +18,7 @@ use Rattle.stm_history.specs.declared.errors.CancelError.{CancelError}
 use Rattle.stm_history.specs.declared.errors.CancelError.TheVariants as cancel
 use Rattle.stm_history.specs.Laws.{IsWellTyped}
 use Rattle.stm_history.specs.Refusals.{missing, submit_first, blocks_there, overflows, finish_first, cancel_first}
-use Rattle.stm_history.specs.SlowDesk.{Waiter, verdict_on, written_in, is_new, is_current, find_waiter, without_waiter, stale_after, max_cells, max_waiting, MayFinish}
+use Rattle.stm_history.specs.SlowDesk.{Waiter, verdict_on, is_new, is_current, find_waiter, without_waiter, stale_after, max_cells, max_waiting, MayFinish}
 use Rattle.stm_history.specs.SlowSettle.{ending}
 use Rattle.stm_desk.specs.Refusals.{submit_refusal, finish_refusal, cancel_refusal}
 use Rattle.stm_desk.specs.Seen.{Seen, now, is_full}
@@ -125,7 +125,7 @@ finishes_by : (d : Seen) (jobs : List HandedOut) (t : ℕ) (w : Waiter) (v : Opt
 finishes_by d jobs t w None f e m k = k
 finishes_by d jobs t w (Some v) f e m k =
     let s = now d in
-    let stale = stale_after (written_in v) (without_waiter t s.waiters) in
+    let stale = stale_after (changed_by s.store v) (without_waiter t s.waiters) in
     let may : MayFinish s t w v (length s.store) stale = record {
       current = m.is;
       verdict_is = e;

@@ -3,7 +3,7 @@ use Rattle.std.proofs.Common.{◌≡◌, ◌≢◌, ℕ, Bool, Result, Ok, Err, 
 use Rattle.std.specs.Prelude.{map}
 use Rattle.stm_terms.specs.declared.kinds.Ty.{Ty}
 use Rattle.stm_terms.specs.declared.values.Value.{Value}
-use Rattle.stm_store.specs.Cells.{plains}
+use Rattle.stm_store.specs.Cells.{plains, changed_by}
 use Rattle.stm_store.specs.Tables.{Declared}
 use Rattle.stm_terms.specs.declared.verdicts.Verdict.{Verdict}
 use Rattle.stm_check.specs.TypedBlock.{Block}
@@ -17,7 +17,7 @@ use Rattle.stm_history.specs.declared.event.What.TheVariants.{Submitted, Finishe
 use Rattle.stm_history.specs.JobsHandedOut.{block_at, AreJobs, AreCovered}
 use Rattle.stm_history.specs.Machine.{event}
 use Rattle.stm_history.specs.Plans.{IsPlan}
-use Rattle.stm_history.specs.SlowDesk.{Slow, IsLegal, state, state_from, after, initial_state, written_in, stale_after, without_waiter}
+use Rattle.stm_history.specs.SlowDesk.{Slow, IsLegal, state, state_from, after, initial_state, stale_after, without_waiter}
 use Rattle.stm_history.specs.SlowSettle.{ending, finishes}
 use Rattle.stm_desk.specs.Seen.{Seen, now, with_event}
 use Rattle.stm_desk.specs.declared.errors.SettleStop.{SettleStop}
@@ -213,4 +213,4 @@ stopped_state d e NoMemory f n s h = absurd (h refl)
 pub planned_event : (s : Slow) (t : ℕ) (v : Verdict) (n : ℕ) (stale : List ℕ) → IsPlan s t v n stale → finish_event s t ≡ Some (Finished t v n stale)
 planned_event s t v n stale p =
     ap (finish_of s t) p.found ∙ ap (ending s t) p.may.verdict_is
-    ∙ ap (λ (k : ℕ). Some (Finished t v k (stale_after (written_in v) (without_waiter t s.waiters)))) (sym p.may.first_new) ∙ ap (λ (ts : List ℕ). Some (Finished t v n ts)) (sym p.may.listed)
+    ∙ ap (λ (k : ℕ). Some (Finished t v k (stale_after (changed_by s.store v) (without_waiter t s.waiters)))) (sym p.may.first_new) ∙ ap (λ (ts : List ℕ). Some (Finished t v n ts)) (sym p.may.listed)

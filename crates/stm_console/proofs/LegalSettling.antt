@@ -3,12 +3,13 @@ use Rattle.std.proofs.Common.{◌≡◌, ℕ, zero, suc, ◌+◌, ◌-◌, ◌<�
 use Rattle.std.specs.Prelude.{nat_eq, nat_le, IsSomeAnd}
 use Rattle.std.proofs.lemmas.Bool.Decides.{nat_tests}
 use Rattle.stm_terms.specs.declared.verdicts.Verdict.{Verdict}
-use Rattle.stm_store.specs.Cells.{made_by}
+use Rattle.stm_store.specs.Cells.{made_by, changed_by}
+use Rattle.stm_history.specs.declared.staleness.StalenessRule.TheVariants.{Changed}
 use Rattle.stm_history.specs.declared.event.What.{What}
 use Rattle.stm_history.specs.declared.event.What.TheVariants.{Finished}
 use Rattle.stm_history.specs.Laws.{AreRising, TicketsRise, SubmitsWellTyped}
 use Rattle.stm_history.specs.Machine.{event}
-use Rattle.stm_history.specs.SlowDesk.{Waiter, Slow, verdict_on, written_in, is_blocks, is_current, find_waiter, without_waiter, stale_after, max_cells, after, Allows, MayInstall, MayFinish, initial_state}
+use Rattle.stm_history.specs.SlowDesk.{Waiter, Slow, verdict_on, is_blocks, is_current, find_waiter, without_waiter, stale_after, max_cells, after, Allows, MayInstall, MayFinish, initial_state}
 use Rattle.stm_history.specs.SlowSettle.{lowest, is_due, ends, can_end, installing, ending, next_of, next_what, has_cells, settle_on, settling}
 use Rattle.stm_desk.specs.Seen.{Seen, now, with_event}
 use Rattle.stm_desk.specs.Settling.{with_whats}
@@ -79,7 +80,7 @@ room_by s t v stale e = grind (arith, nat_tests)
 ends_next : (s : Slow) (w : Waiter) (v : Option Verdict) → find_waiter w.ticket s.waiters ≡ Some w → is_due w ≡ false → ends v ≡ true → verdict_on s.store w.block ≡ v → IsAllowed s (ending s w.ticket v)
 ends_next s w None f h g e = tt
 ends_next s w (Some v) f h g e = λ room.
-    let stale = stale_after (written_in v) (without_waiter w.ticket s.waiters) in
+    let stale = stale_after (changed_by s.store v) (without_waiter w.ticket s.waiters) in
     let may : MayFinish s w.ticket w v (length s.store) stale = record {
       current = not_false (is_current w) h;
       verdict_is = e;
@@ -126,4 +127,4 @@ module _ (rise : TicketsRise) where
   pub settled_stands : (room : ℕ) (jobs : List HandedOut) → StandsAfter room jobs
   settled_stands zero jobs d h k = k
   settled_stands (suc room) jobs d h k =
-      settles_on room d jobs (next_what (now d)) (settled_stands room jobs) h (next_allowed (now d) (rise d.table d.history k.legal).rising) k
+      settles_on room d jobs (next_what (now d)) (settled_stands room jobs) h (next_allowed (now d) (rise Changed d.table d.history k.legal).rising) k

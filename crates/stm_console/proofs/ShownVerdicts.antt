@@ -7,14 +7,16 @@ use Rattle.stm_check.specs.Laws.{CheckNeverSaysNoMemory}
 use Rattle.stm_check.specs.TypedBlock.{Block}
 use Rattle.stm_eval.specs.Laws.{VerdictIsStable}
 use Rattle.stm_parse.specs.ParseFunction.{BlockAnswersAreRight, DeclarationAnswersAreRight}
+use Rattle.stm_store.specs.Cells.{changed_by}
 use Rattle.stm_store.specs.declared.cell.Cell.{Cell}
 use Rattle.stm_store.specs.Tables.{Declared}
+use Rattle.stm_history.specs.declared.staleness.StalenessRule.TheVariants.{Changed}
 use Rattle.stm_history.specs.declared.event.Event.{Event}
 use Rattle.stm_history.specs.declared.event.What.{What}
 use Rattle.stm_history.specs.declared.event.What.TheVariants.{Submitted, Installed, Finished, Cancelled}
 use Rattle.stm_history.specs.Laws.{AreRising, TicketsRise, BlocksStay, CheckedAreWellTyped, WeakIsPresent}
 use Rattle.stm_history.specs.SlowDesk as slow
-use Rattle.stm_history.specs.SlowDesk.{Since, Waiter, Slow, verdict_on, written_in, is_stale_since, find_waiter, without_waiter, delivered, after_writes, after, MayInstall, Allows, initial_state, state_from, state, standing, weak_since, LegalFrom, IsLegal}
+use Rattle.stm_history.specs.SlowDesk.{Since, Waiter, Slow, verdict_on, is_stale_since, find_waiter, without_waiter, delivered, after_writes, after, MayInstall, Allows, initial_state, state_from, state, standing, weak_since, LegalFrom, IsLegal}
 use Rattle.stm_console.specs.Console.{initial_console}
 use Rattle.stm_console.specs.ConsoleState.{present_desk}
 use Rattle.stm_console.specs.Laws.{state_after_lines, HasVerdict, VerdictsAreShown}
@@ -34,13 +36,13 @@ with_one : (ws : List Waiter) (w : Waiter) → AllEvaluated ws → IsEvaluated w
 with_one [] w h k = (k, tt)
 with_one (x ∷ xs) w h k = (h.0, with_one xs w h.1 k)
 
-marked_one : (wrote : List ℕ) (block : Block) (o : Option Since) → IsEvaluated block o → IsEvaluated block (slow.wrote_more wrote o)
-marked_one wrote block None h = h
-marked_one wrote block (Some s) h = h
+marked_one : (woken : List ℕ) (block : Block) (o : Option Since) → IsEvaluated block o → IsEvaluated block (slow.woken_more woken o)
+marked_one woken block None h = h
+marked_one woken block (Some s) h = h
 
-marked : (wrote : List ℕ) (ws : List Waiter) → AllEvaluated ws → AllEvaluated (map (after_writes wrote) ws)
-marked wrote [] h = h
-marked wrote (w ∷ ws) h = (marked_one wrote w.block w.since h.0, marked wrote ws h.1)
+marked : (woken : List ℕ) (ws : List Waiter) → AllEvaluated ws → AllEvaluated (map (after_writes woken) ws)
+marked woken [] h = h
+marked woken (w ∷ ws) h = (marked_one woken w.block w.since h.0, marked woken ws h.1)
 
 without_one : (b : Bool) (w : Waiter) (ws vs : List Waiter) → AllEvaluated (w ∷ ws) → AllEvaluated vs → AllEvaluated (cond b ws (w ∷ vs))
 without_one true w ws vs h k = h.1
@@ -69,7 +71,7 @@ has_one s v (Some w) a = a.verdict_is
 evaluated_after : (s : Slow) (d : What) → Allows s d → AllEvaluated s.waiters → AllEvaluated (after s d).waiters
 evaluated_after s (Submitted t block) a h = with_one s.waiters _ h tt
 evaluated_after s (Installed t v) a h = delivered_all t s.store v s.waiters h (has_one s v (find_waiter t s.waiters) a)
-evaluated_after s (Finished t v n stale) a h = marked (written_in v) (without_waiter t s.waiters) (without t s.waiters h)
+evaluated_after s (Finished t v n stale) a h = marked (changed_by s.store v) (without_waiter t s.waiters) (without t s.waiters h)
 evaluated_after s (Cancelled t) a h = without t s.waiters h
 
 evaluated_from : (s : Slow) (es : List Event) → LegalFrom s es → AllEvaluated s.waiters → AllEvaluated (state_from s es).waiters
@@ -110,9 +112,9 @@ module _ (rise : TicketsRise) (weak : WeakIsPresent) where
       → HasVerdict (standing (state table history).store w)
   stands_with_verdict table history l i w e =
       let s = state table history in
-      let found : find_waiter w.ticket s.waiters ≡ Some w = (there s.next 0 s.waiters i w (rise table history l).rising e).found in
+      let found : find_waiter w.ticket s.waiters ≡ Some w = (there s.next 0 s.waiters i w (rise Changed table history l).rising e).found in
       let evaluated : IsEvaluated w.block w.since = evaluated_at s.waiters i w (evaluated_from (initial_state table) history l.each tt) e in
-      subst HasVerdict (sym (weak table history w.ticket w l found)) (weak_has w.block w.since evaluated)
+      subst HasVerdict (sym (weak Changed table history w.ticket w l found)) (weak_has w.block w.since evaluated)
 
   module _ (blocks : BlockAnswersAreRight) (declarations : DeclarationAnswersAreRight) (faults : CheckNeverSaysNoMemory) (stable : VerdictIsStable) (stay : BlocksStay) (checked : CheckedAreWellTyped) where
     pub shown : VerdictsAreShown

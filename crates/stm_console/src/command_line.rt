@@ -76,7 +76,7 @@ Commands on standard input, one a line. A line that begins with `--` is a commen
       show
   reads T                  What the block under a ticket read when it was last evaluated: `reads #0=1`
       reads 1
-  store                    Prints each variable with its value and how often it was written, then `cells 1`
+  store                    Prints each variable with its value and how often it was changed, then `cells 1`
       store
   settle                   Evaluates and finishes until nothing can go on: `settled 2 evaluations 3`
       settle
@@ -84,7 +84,7 @@ Commands on standard input, one a line. A line that begins with `--` is a commen
       history
 
 A verdict is `commits writes W news N result V` (#0=2 writes 2 to variable 0), `throws 4`, `throws overflow`, or `blocks`
-where the block retries. A ticket is new until its first delivery, then current, and stale once a finish wrote a variable
+where the block retries. A ticket is new until its first delivery, then current, and stale once a finish changed a variable
 that its block read. New and stale tickets are queued for `take` and `eval`, or out as jobs.
 A line that can't be taken prints `refused NAME`, with the place of its cause where it has one.
 

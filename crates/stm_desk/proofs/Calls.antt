@@ -1,5 +1,5 @@
 -- What a call that nothing refuses may do, and that it keeps the desk what its history makes.
-use Rattle.std.proofs.Common.{◌≡◌, ◌≢◌, ℕ, ◌+◌, ◌<◌, ◌≤◌, Bool, true, false, not, cond, List, [], ◌∷◌, ◌++◌, length, Option, Some, None, refl, sym, ap, subst, ◌∙◌, arith, length-append}
+use Rattle.std.proofs.Common.{◌≡◌, ℕ, ◌<◌, Bool, true, false, not, cond, List, [], ◌∷◌, ◌++◌, length, Option, Some, None, refl, sym, ap, subst, ◌∙◌, arith, length-append}
 use Rattle.std.specs.Prelude.{nat_le, IsSomeAnd, if◌then◌else◌}
 use Rattle.std.proofs.lemmas.Bool.Decides.{nat_tests}
 use Rattle.stm_terms.specs.declared.values.Value.{Value}
@@ -13,11 +13,10 @@ use Rattle.stm_history.specs.declared.errors.DeliverError.TheVariants as deliver
 use Rattle.stm_history.specs.declared.errors.FinishError.TheVariants as finish
 use Rattle.stm_history.specs.declared.event.Event.{Event}
 use Rattle.stm_history.specs.declared.event.What.{What}
-use Rattle.stm_history.specs.SlowDesk.{Waiter, Slow, is_new, is_current, verdict_on, find_waiter, state, max_events, max_clients}
+use Rattle.stm_history.specs.SlowDesk.{Waiter, is_new, is_current, verdict_on, find_waiter, state, max_events, max_clients}
 use Rattle.stm_history.specs.Machine.{Parts, StandsFor, MovesTo, CanWait, CanInstall, CanFinish, CanLeave, event}
 use Rattle.stm_history.specs.Plans.{IsPlan}
-use Rattle.stm_history.specs.Refusals.{submit_first, submit_refused, cancel_first, cancel_refused, blocks_there, overflows, finish_first, finish_refused, overtaken_first, install_first, DeliverTold, TellsDelivery as Tells}
-use Rattle.stm_desk.specs.Seen.{Seen, is_full}
+use Rattle.stm_history.specs.Refusals.{submit_first, submit_refused, cancel_first, cancel_refused, blocks_there, overflows, finish_first, finish_refused, overtaken_first, DeliverTold, TellsDelivery as Tells}
 use Rattle.stm_desk.specs.Kept.{DeskInvariant}
 
 -- ---- a call that nothing refuses has room in the history

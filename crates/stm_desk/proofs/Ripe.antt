@@ -1,22 +1,25 @@
 -- The candidates: each ticket of a block that is current and can end is among them.
-use Rattle.std.proofs.Common.{◌≡◌, ℕ, ◌<◌, ◌≤◌, Bool, true, false, not, ◌&&◌, ◌||◌, cond, List, [], ◌∷◌, ◌++◌, map, drop, Option, Some, None, IsSome, refl, sym, ap, subst, ◌∙◌, arith, eqb-true}
+use Rattle.std.proofs.Common.{◌≡◌, ℕ, ◌<◌, ◌≤◌, Bool, true, false, not, ◌&&◌, ◌||◌, cond, List, [], ◌∷◌, map, drop, Option, Some, None, IsSome, refl, sym, ap, subst, ◌∙◌, arith, eqb-true}
 use Rattle.std.specs.Prelude.{nat_eq, nat_le, slice_get, option_map, Result, Ok, Err, IfOk}
 use Rattle.std.proofs.lemmas.Bool.Decides.{nat_tests}
 use Rattle.stm_terms.specs.declared.verdicts.Verdict.{Verdict}
 use Rattle.stm_check.specs.TypedBlock.{Block}
 use Rattle.stm_eval.specs.declared.message.Evaluated.{Evaluated}
-use Rattle.stm_eval.specs.EvaluatedFields.{message_ticket, message_block, message_reads, message_verdict}
+use Rattle.stm_eval.specs.EvaluatedFields.{message_ticket, message_verdict}
 use Rattle.stm_queue.specs.SortedTickets.{member}
+use Rattle.stm_store.specs.Cells.{changed_by}
 use Rattle.stm_store.specs.Tables.{Declared}
 use Rattle.stm_history.specs.declared.event.Event.{Event}
 use Rattle.stm_history.specs.declared.event.What.{What}
-use Rattle.stm_history.specs.declared.event.What.TheVariants.{Submitted, Installed, Finished, Cancelled}
-use Rattle.stm_history.specs.SlowDesk.{Since, Waiter, Slow, Standing, verdict_on, written_in, is_blocks, is_stale_since, current_since, is_current, wrote_more, after_writes, find_waiter, without_waiter, with_delivery, after, initial_state, state, IsLegal, standing_since, weak_since}
+use Rattle.stm_history.specs.declared.event.What.TheVariants.{Installed, Finished}
+use Rattle.stm_history.specs.declared.staleness.StalenessRule.{StalenessRule}
+use Rattle.stm_history.specs.declared.staleness.StalenessRule.TheVariants.{Changed}
+use Rattle.stm_history.specs.SlowDesk.{Since, Waiter, Slow, Standing, verdict_on, is_blocks, is_stale_since, current_since, is_current, woken_more, after_writes, find_waiter, without_waiter, with_delivery, after, initial_state, state, state_by, IsLegal, standing_since, weak_since}
 use Rattle.stm_history.specs.SlowDesk as slow
 use Rattle.stm_history.specs.SlowSettle.{lowest, is_due, ends, can_end}
 use Rattle.stm_history.specs.Laws.{AreRising}
 use Rattle.stm_history.specs.SettleChoices.{ended_since, ended_then, is_ripe, AreCandidates, next_due, next_end}
-use Rattle.stm_history.specs.Machine.{Parts, StandsFor, event}
+use Rattle.stm_history.specs.Machine.{Parts, StandsFor, StandsForBy, event}
 use Rattle.stm_history.specs.JobsHandedOut.{IsPresent}
 use Rattle.stm_history.proofs.Folds.{state-push}
 use Rattle.stm_history.proofs.Rising.{waiter_without, waiter_delivered, waiter_marks}
@@ -100,7 +103,7 @@ ends_by d w (Some s) c e =
     ap ends (same_current (verdict_on (now d).store w.block) (verdict_on s.store_then w.block) r)
 
 pub same_ends : (d : Seen) (t : ℕ) (w : Waiter) → IsLegal d.table d.history → find_waiter t (now d).waiters ≡ Some w → is_current w ≡ true → can_end (now d).store w ≡ ended_since w.block w.since
-same_ends d t w l e c = ends_by d w w.since c (weak_is_present d.table d.history t w l e)
+same_ends d t w l e c = ends_by d w w.since c (weak_is_present Changed d.table d.history t w l e)
 
 ripe_by : (d : Seen) (t : ℕ) (w : Waiter) → IsLegal d.table d.history → find_waiter t (now d).waiters ≡ Some w → is_current w ≡ true → can_end (now d).store w ≡ true → is_ripe (find_waiter t (now d).waiters) ≡ true
 ripe_by d t w l e c h = rw (e, c, ← same_ends d t w l e c, h) refl
@@ -186,8 +189,8 @@ due_message d t m l n p =
     }
 
 pub if_due : {E : Type 0} (d : Seen) (parts : Parts) (t : ℕ) (r : Result Evaluated E) → StandsFor d.table d.history parts → next_due (now d) ≡ Some t
-    → IfOk r (λ m. (T : List Declared) (H : List Event) → StandsFor T H parts → IsPresent (state T H) t m) → IfOk r (λ m. IsDueMessage (now d) t m)
-if_due d parts t (Ok m) k n p = due_message d t m k.legal n (p d.table d.history k)
+    → IfOk r (λ m. (R : StalenessRule) (T : List Declared) (H : List Event) → StandsForBy R T H parts → IsPresent (state_by R T H) t m) → IfOk r (λ m. IsDueMessage (now d) t m)
+if_due d parts t (Ok m) k n p = due_message d t m k.legal n (p Changed d.table d.history k)
 if_due d parts t (Err e) k n p = tt
 
 -- ---- candidates after an event
@@ -210,30 +213,30 @@ candidates_install s t v one cs cs' a w r keeps add = λ u h.
     install_by u t (nat_eq u t) s v one (find_waiter u s.waiters) cs cs' refl (a u) (λ q. subst (λ (x : ℕ). find_waiter x s.waiters ≡ Some one) (sym (eqb-true u t q)) w) r (keeps u) add
     (sym (ap is_ripe (waiter_delivered t u s.store s.waiters)) ∙ h)
 
-ended_more : (wrote : List ℕ) (b : Block) (o : Option Since) → ended_since b (wrote_more wrote o) ≡ ended_since b o
-ended_more wrote b None = refl
-ended_more wrote b (Some s) = refl
+ended_more : (woken : List ℕ) (b : Block) (o : Option Since) → ended_since b (woken_more woken o) ≡ ended_since b o
+ended_more woken b None = refl
+ended_more woken b (Some s) = refl
 
 and_both : (a b : Bool) → a ≡ true → b ≡ true → (a && b) ≡ true
 and_both true b e h = h
 and_both false b e h = cc
 
-ripe_back : (wrote : List ℕ) (o : Option Waiter) → is_ripe (option_map (after_writes wrote) o) ≡ true → is_ripe o ≡ true
-ripe_back wrote None h = cc
-ripe_back wrote (Some w) h =
-    and_both (is_current w) (ended_since w.block w.since) (still_current wrote w.block w.since (and_left (current_since w.block (wrote_more wrote w.since)) _ h))
-    (sym (ended_more wrote w.block w.since) ∙ and_right (current_since w.block (wrote_more wrote w.since)) _ h)
+ripe_back : (woken : List ℕ) (o : Option Waiter) → is_ripe (option_map (after_writes woken) o) ≡ true → is_ripe o ≡ true
+ripe_back woken None h = cc
+ripe_back woken (Some w) h =
+    and_both (is_current w) (ended_since w.block w.since) (still_current woken w.block w.since (and_left (current_since w.block (woken_more woken w.since)) _ h))
+    (sym (ended_more woken w.block w.since) ∙ and_right (current_since w.block (woken_more woken w.since)) _ h)
 
 gone_back : (b : Bool) (o : Option Waiter) → is_ripe (cond b None o) ≡ true → is_ripe o ≡ true
 gone_back true o h = cc
 gone_back false o h = h
 
-finish_back : (s : Slow) (n t : ℕ) (wrote : List ℕ) (u : ℕ) → AreRising n 0 s.waiters → is_ripe (find_waiter u (map (after_writes wrote) (without_waiter t s.waiters))) ≡ true → is_ripe (find_waiter u s.waiters) ≡ true
-finish_back s n t wrote u r h =
-    gone_back (nat_eq u t) (find_waiter u s.waiters) (sym (ap is_ripe (waiter_without t u n 0 s.waiters r)) ∙ ripe_back wrote (find_waiter u (without_waiter t s.waiters)) (sym (ap is_ripe (waiter_marks u wrote (without_waiter t s.waiters))) ∙ h))
+finish_back : (s : Slow) (n t : ℕ) (woken : List ℕ) (u : ℕ) → AreRising n 0 s.waiters → is_ripe (find_waiter u (map (after_writes woken) (without_waiter t s.waiters))) ≡ true → is_ripe (find_waiter u s.waiters) ≡ true
+finish_back s n t woken u r h =
+    gone_back (nat_eq u t) (find_waiter u s.waiters) (sym (ap is_ripe (waiter_without t u n 0 s.waiters r)) ∙ ripe_back woken (find_waiter u (without_waiter t s.waiters)) (sym (ap is_ripe (waiter_marks u woken (without_waiter t s.waiters))) ∙ h))
 
 after_one : (d new : Seen) (client : ℕ) (x : What) → new ≡ with_event d (event client x) → after (now d) x ≡ now new
-after_one d new client x e = sym (ap now e ∙ state-push (initial_state d.table) d.history (event client x))
+after_one d new client x e = sym (ap now e ∙ state-push Changed (initial_state d.table) d.history (event client x))
 
 pub installed_candidates : (d new : Seen) (client t : ℕ) (m : Evaluated) (cs cs' : List ℕ) → IsLegal d.table d.history → IsDueMessage (now d) t m → new ≡ with_event d (event client (Installed (message_ticket m) (message_verdict m)))
     → AreCandidates (now d) cs → ((u : ℕ) → member u cs ≡ true → member u cs' ≡ true) → (is_blocks (message_verdict m) ≡ false → member t cs' ≡ true) → AreCandidates (now new) cs'
@@ -247,4 +250,4 @@ installed_candidates d new client t m cs cs' l f e a keeps add =
 pub finished_candidates : (d new : Seen) (client t n : ℕ) (v : Verdict) (stale cs : List ℕ) → IsLegal d.table d.history → new ≡ with_event d (event client (Finished t v n stale)) → AreCandidates (now d) cs → AreCandidates (now new) cs
 finished_candidates d new client t n v stale cs l e a =
     subst (λ (z : Slow). AreCandidates z cs) (after_one d new client (Finished t v n stale) e)
-    (λ u h. a u (finish_back (now d) _ t (written_in v) u (rising_now d l) h))
+    (λ u h. a u (finish_back (now d) _ t (changed_by (now d).store v) u (rising_now d l) h))

@@ -1,37 +1,21 @@
 -- A run of events of settling, and its end.
-use Rattle.std.proofs.Common.{◌≡◌, ℕ, zero, suc, ◌+◌, ◌-◌, ◌<◌, ◌≤◌, Bool, true, false, not, cond, List, [], ◌∷◌, ◌++◌, filter, length, Option, Some, None, Err, refl, sym, ap, subst, ◌∙◌, arith, append_assoc, length-append, add-zero}
-use Rattle.std.specs.Prelude.{nat_eq, is_some, IsSomeAnd, nat_le, option_map}
+use Rattle.std.proofs.Common.{◌≡◌, ℕ, zero, suc, ◌+◌, ◌-◌, ◌<◌, ◌≤◌, Bool, true, false, not, cond, List, [], ◌∷◌, ◌++◌, filter, length, Option, Some, None, refl, sym, ap, subst, ◌∙◌, arith, append_assoc, length-append, add-zero}
+use Rattle.std.specs.Prelude.{nat_eq, is_some}
 use Rattle.std.proofs.lemmas.List.Elements.{filter-append}
-use Rattle.std.proofs.lemmas.Bool.Decides.{nat_tests}
-use Rattle.stm_terms.specs.declared.verdicts.Verdict.{Verdict}
-use Rattle.stm_terms.specs.ReadSet.{reads_of}
 use Rattle.stm_store.specs.declared.cell.Cell.{Cell}
-use Rattle.stm_store.specs.Cells.{made_by}
-use Rattle.stm_eval.specs.declared.message.Evaluated.{Evaluated}
-use Rattle.stm_eval.specs.EvaluatedFields.{message_ticket, message_block, message_reads, message_verdict}
-use Rattle.stm_history.specs.declared.event.Event.{Event}
 use Rattle.stm_history.specs.declared.event.What.{What}
-use Rattle.stm_history.specs.declared.event.What.TheVariants.{Submitted, Installed, Finished, Cancelled}
-use Rattle.stm_history.specs.SlowDesk.{Since, Waiter, Slow, MayFinish, under, verdict_on, written_in, is_blocks, is_new_since, is_new, current_since, is_current, find_waiter, without_waiter, stale_after, after, initial_state, state_from, IsLegal, max_cells}
-use Rattle.stm_history.specs.SlowSettle.{lowest, is_due, ends, can_end, installing, ending, next_of, next_what, has_cells, settle_on, settling, Stop, NoRoom, NoCells, stop_on, settle_stop, is_finish, is_install, finishes, installs}
-use Rattle.stm_history.specs.Laws.{AreRising}
-use Rattle.stm_history.proofs.Folds.{state-push, IsLegalPush, legal_split}
-use Rattle.stm_history.proofs.Rising.{rising_state}
+use Rattle.stm_history.specs.declared.staleness.StalenessRule.TheVariants.{Changed}
+use Rattle.stm_history.specs.SlowDesk.{Waiter, Slow, verdict_on, is_current, find_waiter, after, initial_state, state_from}
+use Rattle.stm_history.specs.SlowSettle.{lowest, is_due, ends, can_end, next_what, has_cells, settling, Stop, NoRoom, NoCells, settle_stop, is_finish, is_install, finishes, installs}
+use Rattle.stm_history.proofs.Folds.{state-push}
 use Rattle.stm_desk.specs.declared.errors.SettleWhy.{SettleWhy}
 use Rattle.stm_desk.specs.declared.errors.SettleWhy.TheVariants.{HistoryFull, CellsFull, NoMemory}
-use Rattle.stm_history.specs.declared.errors.DeliverError.{DeliverError}
-use Rattle.stm_history.specs.declared.errors.DeliverError.TheVariants as deliver
-use Rattle.stm_history.specs.declared.errors.FinishError.{FinishError}
-use Rattle.stm_history.specs.declared.errors.FinishError.TheVariants as finish
-use Rattle.stm_history.specs.SettleChoices.{some_out, next_due, next_end}
+use Rattle.stm_history.specs.SettleChoices.{some_out}
 use Rattle.stm_history.specs.Machine.{event}
-use Rattle.stm_history.specs.Refusals.{differing, overtaken_first, install_first, deliver_error, blocks_there, overflows, finish_first, finish_told}
-use Rattle.stm_history.proofs.Heads.{lowest_waits, lowest_holds}
-use Rattle.stm_desk.specs.Seen.{Seen, now, with_event, is_full}
-use Rattle.stm_desk.specs.Refusals.{TellsDeskDelivery, finish_refusal, left_by}
-use Rattle.stm_desk.specs.Settling.{slow_settle, slow_stop, with_whats, called_back, HasSettled, HasBegun, IsFull, IsCrowded, StopTold, AllBlock}
-use Rattle.stm_desk.specs.Steps.{IsDueMessage, IsNextEvent, WhyTold, StopsDelivery, delivery_why, StopsFinish, finish_why}
-use Rattle.stm_desk.proofs.Settles.{out_after, out_recalled, reads_differ_nowhere}
+use Rattle.stm_desk.specs.Seen.{Seen, now, with_event}
+use Rattle.stm_desk.specs.Settling.{slow_settle, slow_stop, with_whats, called_back, HasSettled, HasBegun, StopTold, AllBlock}
+use Rattle.stm_desk.specs.Steps.{IsNextEvent, WhyTold}
+use Rattle.stm_desk.proofs.Settles.{out_after, out_recalled}
 
 -- ---- all events
 settling_more : (room left : ℕ) (s : Slow) (x : What) → room ≡ suc left → next_what s ≡ Some x → has_cells s x ≡ true → settling room s ≡ x ∷ settling left (after s x)
@@ -82,13 +66,13 @@ count_more p xs ys = rw filter-append (length-append (filter p xs) (filter p ys)
 
 next_left : (client : ℕ) (d new : Seen) (x : What) → next_what (now d) ≡ Some x → has_cells (now d) x ≡ true → length d.history < d.limit → new ≡ with_event d (event client x) → x ∷ slow_settle new ≡ slow_settle d
 next_left client d new x n h room e =
-    let p : state_from (initial_state d.table) (d.history ++ event client x ∷ []) ≡ after (now d) x = state-push (initial_state d.table) d.history (event client x) in
+    let p : state_from (initial_state d.table) (d.history ++ event client x ∷ []) ≡ after (now d) x = state-push Changed (initial_state d.table) d.history (event client x) in
     let left : d.limit - length d.history ≡ suc (d.limit - length (d.history ++ event client x ∷ [])) = omega (arith, length-append d.history (event client x ∷ [])) in
     sym (rw e (settling_more _ _ (now d) x left n h ∙ ap (λ (s : Slow). x ∷ settling (d.limit - length (d.history ++ event client x ∷ [])) s) (sym p)))
 
 stop_left : (client : ℕ) (d new : Seen) (x : What) → next_what (now d) ≡ Some x → has_cells (now d) x ≡ true → length d.history < d.limit → new ≡ with_event d (event client x) → slow_stop new ≡ slow_stop d
 stop_left client d new x n h room e =
-    let p : state_from (initial_state d.table) (d.history ++ event client x ∷ []) ≡ after (now d) x = state-push (initial_state d.table) d.history (event client x) in
+    let p : state_from (initial_state d.table) (d.history ++ event client x ∷ []) ≡ after (now d) x = state-push Changed (initial_state d.table) d.history (event client x) in
     let left : d.limit - length d.history ≡ suc (d.limit - length (d.history ++ event client x ∷ [])) = omega (arith, length-append d.history (event client x ∷ [])) in
     rw e (ap (settle_stop (d.limit - length (d.history ++ event client x ∷ []))) p ∙ sym (stopping_more _ _ (now d) x left n h))
 

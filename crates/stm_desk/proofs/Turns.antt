@@ -1,37 +1,30 @@
 -- One event of settling, and a run of them.
-use Rattle.std.proofs.Common.{◌≡◌, ℕ, zero, suc, ◌+◌, ◌-◌, ◌<◌, ◌≤◌, Bool, true, false, not, cond, List, [], ◌∷◌, ◌++◌, filter, length, Option, Some, None, Err, refl, sym, ap, subst, ◌∙◌, arith, append_assoc, length-append, add-zero}
-use Rattle.std.specs.Prelude.{is_some, IsSomeAnd, nat_le, option_map}
-use Rattle.std.proofs.lemmas.List.Elements.{filter-append}
+use Rattle.std.proofs.Common.{◌≡◌, ℕ, ◌+◌, ◌<◌, ◌≤◌, Bool, true, false, not, cond, List, [], ◌∷◌, length, Option, Some, None, Err, refl, sym, ap, subst, ◌∙◌, arith}
+use Rattle.std.specs.Prelude.{is_some, nat_le, option_map}
 use Rattle.std.proofs.lemmas.Bool.Decides.{nat_tests}
 use Rattle.stm_terms.specs.declared.verdicts.Verdict.{Verdict}
-use Rattle.stm_terms.specs.ReadSet.{reads_of}
-use Rattle.stm_store.specs.declared.cell.Cell.{Cell}
-use Rattle.stm_store.specs.Cells.{made_by}
+use Rattle.stm_store.specs.Cells.{made_by, changed_by}
 use Rattle.stm_eval.specs.declared.message.Evaluated.{Evaluated}
 use Rattle.stm_eval.specs.EvaluatedFields.{message_ticket, message_block, message_reads, message_verdict}
-use Rattle.stm_history.specs.declared.event.Event.{Event}
-use Rattle.stm_history.specs.declared.event.What.{What}
-use Rattle.stm_history.specs.declared.event.What.TheVariants.{Submitted, Installed, Finished, Cancelled}
-use Rattle.stm_history.specs.SlowDesk.{Since, Waiter, Slow, MayFinish, under, verdict_on, written_in, is_blocks, is_new_since, is_new, current_since, is_current, find_waiter, without_waiter, stale_after, after, initial_state, state_from, IsLegal, max_cells}
-use Rattle.stm_history.specs.SlowSettle.{lowest, is_due, ends, can_end, installing, ending, next_of, next_what, has_cells, settle_on, settling, is_finish, is_install, finishes, installs}
+use Rattle.stm_history.specs.declared.event.What.TheVariants.{Installed, Finished}
+use Rattle.stm_history.specs.declared.staleness.StalenessRule.TheVariants.{Changed}
+use Rattle.stm_history.specs.SlowDesk.{Since, Waiter, Slow, MayFinish, under, verdict_on, is_blocks, is_new_since, is_new, current_since, is_current, find_waiter, without_waiter, stale_after, initial_state, IsLegal, max_cells}
+use Rattle.stm_history.specs.SlowSettle.{lowest, is_due, ends, can_end, next_what}
 use Rattle.stm_history.specs.Laws.{AreRising}
-use Rattle.stm_history.proofs.Folds.{state-push, IsLegalPush, legal_split}
+use Rattle.stm_history.proofs.Folds.{state-push, legal_split}
 use Rattle.stm_history.proofs.Rising.{rising_state}
-use Rattle.stm_desk.specs.declared.errors.SettleWhy.{SettleWhy}
-use Rattle.stm_desk.specs.declared.errors.SettleWhy.TheVariants.{HistoryFull, CellsFull, NoMemory}
 use Rattle.stm_history.specs.declared.errors.DeliverError.{DeliverError}
 use Rattle.stm_history.specs.declared.errors.DeliverError.TheVariants as deliver
 use Rattle.stm_history.specs.declared.errors.FinishError.{FinishError}
 use Rattle.stm_history.specs.declared.errors.FinishError.TheVariants as finish
-use Rattle.stm_history.specs.SettleChoices.{some_out, next_due, next_end}
+use Rattle.stm_history.specs.SettleChoices.{next_due, next_end}
 use Rattle.stm_history.specs.Machine.{event}
-use Rattle.stm_history.specs.Refusals.{differing, overtaken_first, install_first, deliver_error, blocks_there, overflows, finish_first, finish_told}
+use Rattle.stm_history.specs.Refusals.{differing, install_first, deliver_error, overflows, finish_told}
 use Rattle.stm_history.proofs.Heads.{lowest_waits, lowest_holds}
 use Rattle.stm_desk.specs.Seen.{Seen, now, with_event, is_full}
 use Rattle.stm_desk.specs.Refusals.{TellsDeskDelivery, finish_refusal, left_by}
-use Rattle.stm_desk.specs.Settling.{slow_settle, with_whats, called_back, HasSettled, HasBegun, IsFull, IsCrowded, StopTold, AllBlock}
 use Rattle.stm_desk.specs.Steps.{IsDueMessage, IsNextEvent, WhyTold, StopsDelivery, delivery_why, StopsFinish, finish_why}
-use Rattle.stm_desk.proofs.Settles.{out_after, out_recalled, reads_differ_nowhere}
+use Rattle.stm_desk.proofs.Settles.{reads_differ_nowhere}
 
 -- ---- the blocks that come next
 pub record Found (p : Waiter → Bool) (s : Slow) (t : ℕ) : Type 0 where
@@ -53,7 +46,7 @@ none_at p s h = by (lowest p s.waiters) h where
   by (Some w) e = cc
 
 pub rising_now : (d : Seen) → IsLegal d.table d.history → AreRising (now d).next 0 (now d).waiters
-rising_now d l = rising_state d.table d.history l
+rising_now d l = rising_state Changed d.table d.history l
 
 pub found_waits : (p : Waiter → Bool) (d : Seen) (one : Waiter) → IsLegal d.table d.history → lowest p (now d).waiters ≡ Some one → find_waiter one.ticket (now d).waiters ≡ Some one
 found_waits p d one l f = lowest_waits p _ 0 (now d).waiters one (rising_now d l) f
@@ -146,7 +139,7 @@ left_same d t deliver.NoMemory s = refl
 
 -- the store stays
 pub store_install : (d new : Seen) (client t : ℕ) (v : Verdict) → new ≡ with_event d (event client (Installed t v)) → (now new).store ≡ (now d).store
-store_install d new client t v e = ap (λ (x : Seen). (now x).store) e ∙ ap (λ (s : Slow). s.store) (state-push (initial_state d.table) d.history (event client (Installed t v)))
+store_install d new client t v e = ap (λ (x : Seen). (now x).store) e ∙ ap (λ (s : Slow). s.store) (state-push Changed (initial_state d.table) d.history (event client (Installed t v)))
 
 -- ---- a finish
 pub record Ends (d : Seen) (t : ℕ) : Type 0 where
@@ -200,7 +193,7 @@ end_told d t f =
     let b : is_new f.one ≡ false = old_by f.one f.current in
     rw (f.waits, b, f.current, f.verdict_is, f.ends) refl
 
-end_next : (d : Seen) (t : ℕ) → (f : Ends d t) → next_what (now d) ≡ Some (Finished t f.verdict (length (now d).store) (stale_after (written_in f.verdict) (without_waiter t (now d).waiters)))
+end_next : (d : Seen) (t : ℕ) → (f : Ends d t) → next_what (now d) ≡ Some (Finished t f.verdict (length (now d).store) (stale_after (changed_by (now d).store f.verdict) (without_waiter t (now d).waiters)))
 end_next d t f = rw (f.none, f.first, f.verdict_is, f.ticket) refl
 
 not_full_by : (a b : Bool) → None ≡ last_refusal a b → a ≡ false
@@ -221,7 +214,7 @@ pub next_finish : (d new : Seen) (client t : ℕ) (v : Verdict) (n : ℕ) (stale
 next_finish d new client t v n stale l none some e m told =
     let s = now d in
     let f = ends_at d t l none some in
-    let p = legal_split (initial_state d.table) d.history (event client (Finished t v n stale)) (subst (λ (x : Seen). IsLegal x.table x.history) e m).each in
+    let p = legal_split Changed (initial_state d.table) d.history (event client (Finished t v n stale)) (subst (λ (x : Seen). IsLegal x.table x.history) e m).each in
     let a : MayFinish s t f.one v n stale = (let q = p.allowed.what in rw f.waits at q) in
     let q : f.verdict ≡ v = same_verdict f.verdict v (sym f.verdict_is ∙ a.verdict_is) in
     let g : next_what s ≡ Some (Finished t v n stale) = end_next d t f ∙ rw (a.first_new, a.listed, q) refl in
@@ -266,7 +259,7 @@ why_finish_by d t false true finish.HistoryFull f p q k s h = cc
 why_finish_by d t false false finish.HistoryFull f p q k s h = cc
 why_finish_by d t true b finish.CellsFull f p q k s h = cc
 why_finish_by d t false true finish.CellsFull f p q k s h = record {
-  what = Finished t f.verdict (length (now d).store) (stale_after (written_in f.verdict) (without_waiter t (now d).waiters));
+  what = Finished t f.verdict (length (now d).store) (stale_after (changed_by (now d).store f.verdict) (without_waiter t (now d).waiters));
   left = end_next d t f;
   room = room_of d p;
   crowded = unnot _ q;

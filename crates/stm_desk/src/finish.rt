@@ -11,7 +11,7 @@ ghost use Rattle.stm_desk.specs.Seen.{now, with_event};
 ghost use Rattle.stm_desk.specs.Refusals.{finish_refusal};
 
 use crate::desk::Desk;
-use stm_history::{Event, FinishError, Plan, Tickets, What};
+use stm_history::{Event, FinishError, Plan, StalenessRule, Tickets, What};
 use stm_store::Applied;
 use stm_terms::NoMemory;
 use stm_terms::verdicts::Verdict;
@@ -58,7 +58,8 @@ impl Desk {
         ensures plan { IfOk result (λ p. IsPlan (now self.now) ticket p.verdict p.first_new p.stale) }
         ensures legal { IsLegal self.now.table self.now.history }
     {
-        self.machine.plan(ticket, self.is_full())
+        self.machine
+            .plan(ticket, self.is_full(), StalenessRule::Changed)
     }
 
     /// The finish by its plan: its event joins the history, and the list that is lent. All memory is taken before the first

@@ -83,7 +83,8 @@ pub record CanRun (under : Variables) (a : Act) (locals : List Value) (log : Log
   pub reads : IsReadSetOf under log.reads
 
 -- run on the log, the action ends so, and leaves these locals and this log; the frames below and the locals are as they were
-pub record RunsTo (under : Variables) (a : Act) (locals : List Value) (old : Logged) (e : Outcome) (after : List Value) (new : Logged) : Type 0 where
+pub record RunsTo (under : Variables) (a : Act) (locals : List Value) (old : Logged)
+    (e : Outcome) (after : List Value) (new : Logged) : Type 0 where
   pub outcome : run under a locals old.top ≡ outcome e new.top
   pub reads : new.reads ≡ insert_reads under (looks under a locals old.top) old.reads
   pub made : length new.top.news ≤ length old.top.news + makes a

@@ -1,11 +1,12 @@
 -- The evaluator's answers by the definitions.
-use Rattle.std.specs.Prelude.{ℕ, ◌+◌, suc, List, []}
+use Rattle.std.specs.Prelude.{◌≡◌, ℕ, ◌+◌, ◌≤◌, suc, List, [], length}
 use Rattle.stm_terms.specs.declared.values.Value.{Value}
 use Rattle.stm_terms.specs.Ast.{Act, if_else, or_else, bind, let_in, seq, catch, act_of}
 use Rattle.stm_terms.specs.Typing.{makes}
 use Rattle.stm_terms.specs.Changes.{Variables, Changes}
 use Rattle.stm_terms.specs.Semantics as meaning
-use Rattle.stm_terms.specs.ReadSet.{looks}
+use Rattle.stm_terms.specs.ReadSet.{looks, insert_reads}
+use Rattle.stm_log.specs.LogModel.{Logged}
 use Rattle.stm_eval.specs.declared.outcome.Outcome.{Outcome}
 use Rattle.stm_eval.specs.declared.outcome.Outcome.TheVariants.{Returned, Threw, Retried}
 use Rattle.stm_eval.specs.declared.outcome.Step.{Step}
@@ -42,6 +43,18 @@ size (seq a b) = suc (size a + size b)
 size (catch a b) = suc (size a + size b)
 size a = 1
 
+-- how many actions stand in what is left
 abbrev pub size_left : Step → ℕ
 size_left (On rest) = size (act_of rest.now)
 size_left (Ended e) = 0
+
+-- run on the log, a step leaves so much of the action, with these locals and this log: what is left ends as the action does,
+-- and with what it reads and makes, the reads are the action's and the cells no more; the frames below are as they were
+pub record StepsTo (under : Variables) (a : Act) (locals : List Value) (old : Logged)
+    (s : Step) (after : List Value) (new : Logged) : Type 0 where
+  pub outcome : meaning.run under a locals old.top ≡ outcome_left under s after new.top
+  pub reads :
+      insert_reads under (looks under a locals old.top) old.reads
+      ≡ insert_reads under (looks_left under s after new.top) new.reads
+  pub made : length new.top.news + makes_left s ≤ length old.top.news + makes a
+  pub below : new.below ≡ old.below

@@ -40,7 +40,9 @@ ReadSetIndependence =
 
 -- what a block does on a store, it does on the fragment of what it read there, and it reads all of that fragment
 abbrev pub StoreToFragment : Type 0
-StoreToFragment = (block : Act) (S : Variables) (told : Verdict) → verdict S block ≡ Some told → MessageIsValid block (reads_of S block) told
+StoreToFragment =
+    (block : Act) (S : Variables) (told : Verdict) →
+    verdict S block ≡ Some told → MessageIsValid block (reads_of S block) told
 
 -- what a block does on the fragment of what it read, it does on each store with these values
 abbrev pub FragmentToStore : Type 0
@@ -64,14 +66,17 @@ ReadSetIsExact =
     (block : Act) (S : Variables) (told : Verdict) → verdict S block ≡ Some told →
     (i : ℕ) → In i (looks_of S block) ↔ IsSome (find i (reads_of S block))
 
+-- of three branches it makes no difference which two are taken together
 abbrev pub OrElseIsAssociative : Type 0
 OrElseIsAssociative =
     (a b c : Act) (locals : List Value) (S : Variables) (h : Changes) →
     Equivalent (or_else (or_else a b) c) (or_else a (or_else b c)) locals S h
 
+-- a left branch that retries at once changes nothing
 abbrev pub RetryIsLeftUnit : Type 0
 RetryIsLeftUnit = (a : Act) (locals : List Value) (S : Variables) (h : Changes) → Equivalent (or_else retry a) a locals S h
 
+-- and neither does a right one
 abbrev pub RetryIsRightUnit : Type 0
 RetryIsRightUnit = (a : Act) (locals : List Value) (S : Variables) (h : Changes) → Equivalent (or_else a retry) a locals S h
 
@@ -81,11 +86,13 @@ CatchOfThrow =
     (n : ℤ) (b : Act) (locals : List Value) (S : Variables) (h : Changes) →
     Equivalent (catch (throw (lit (Int n))) b) (let_in (lit (Int n)) b) locals S h
 
+-- a `return` has no use for a handler, even where its value overflows
 abbrev pub CatchOfReturn : Type 0
 CatchOfReturn =
     (e : Term) (b : Act) (locals : List Value) (S : Variables) (h : Changes) →
     Equivalent (catch (return e) b) (return e) locals S h
 
+-- and neither has a `retry`
 abbrev pub CatchOfRetry : Type 0
 CatchOfRetry = (b : Act) (locals : List Value) (S : Variables) (h : Changes) → Equivalent (catch retry b) retry locals S h
 

@@ -29,8 +29,11 @@ fn run_whole(
 ) -> Result<Outcome, NoMemory>
     requires defined { run (cell_value frozen.now) (act_of action.now) [] log.old.top ≢ Stuck }
     requires room { length log.old.top.news + makes (act_of action.now) ≤ 2 ^ 32 }
-    ensures outcome { IfOk result (λ e. run (cell_value frozen.now) (act_of action.now) [] log.old.top ≡ outcome e log.new.top) }
-    ensures reads { OnOk result (log.new.reads ≡ insert_reads (cell_value frozen.now) (looks (cell_value frozen.now) (act_of action.now) [] log.old.top) log.old.reads) }
+    ensures outcome { IfOk result (λ e.
+        run (cell_value frozen.now) (act_of action.now) [] log.old.top ≡ outcome e log.new.top) }
+    ensures reads { OnOk result (log.new.reads
+        ≡ insert_reads (cell_value frozen.now)
+        (looks (cell_value frozen.now) (act_of action.now) [] log.old.top) log.old.reads) }
     ensures below { OnOk result (log.new.below ≡ log.old.below) }
 {
     let mut locals = Vec::new(alloc);
@@ -39,7 +42,8 @@ fn run_whole(
 
 /// The verdict of a log that ended so, and what it read.
 pub(crate) fn judged(ends: Ends, end: Outcome) -> (Verdict, Reads)
-    ensures verdict { verdict_from (outcome end (record { writes = ends.writes; news = ends.news })) ≡ Some result.0 }
+    ensures verdict { verdict_from
+        (outcome end (record { writes = ends.writes; news = ends.news })) ≡ Some result.0 }
     ensures reads { result.1 ≡ ends.reads }
 {
     let Ends {
@@ -69,7 +73,8 @@ pub fn try_action(
 ) -> Result<(Verdict, Reads), NoMemory>
     requires defined { run (cell_value frozen.now) (act_of action.now) [] no_changes ≢ Stuck }
     requires room { makes (act_of action.now) ≤ 2 ^ 32 }
-    ensures verdict { IfOk result (λ r. verdict (cell_value frozen.now) (act_of action.now) ≡ Some r.0) }
+    ensures verdict { IfOk result (λ r.
+        verdict (cell_value frozen.now) (act_of action.now) ≡ Some r.0) }
     ensures reads { IfOk result (λ r. r.1 ≡ reads_of (cell_value frozen.now) (act_of action.now)) }
 {
     let mut log = Log::start(alloc);

@@ -21,9 +21,12 @@ use stm_terms::verdicts::Verdict;
 /// Evaluates a block on a store that has the variables which it names. After `NoMemory` the job is as it was.
 pub fn evaluate(alloc: Global, job: Job, frozen: &Frozen) -> Result<Evaluated, (Job, NoMemory)>
     requires { Covers frozen.now job.block.uses }
-    ensures job { IfOk result (λ m. (message_ticket m ≡ job.ticket) × (message_block m ≡ job.block)) }
-    ensures verdict { IfOk result (λ m. verdict (cell_value frozen.now) job.block.tree ≡ Some (message_verdict m)) }
-    ensures reads { IfOk result (λ m. message_reads m ≡ reads_of (cell_value frozen.now) job.block.tree) }
+    ensures job { IfOk result (λ m.
+        (message_ticket m ≡ job.ticket) × (message_block m ≡ job.block)) }
+    ensures verdict { IfOk result (λ m.
+        verdict (cell_value frozen.now) job.block.tree ≡ Some (message_verdict m)) }
+    ensures reads { IfOk result (λ m.
+        message_reads m ≡ reads_of (cell_value frozen.now) job.block.tree) }
     ensures refused { IfErr result (λ e. e.0 ≡ job) }
 {
     match try_block(alloc, frozen, job.block.block()) {
@@ -66,7 +69,9 @@ impl Evaluated {
     /// reads the same, and its verdict is the message's.
     pub fn reads(&self) -> &Reads
         ensures value { result.now ≡ message_reads self.now }
-        ensures holds { (S : Variables) → Agrees (message_reads self.now) S → Holds (message_block self.now).tree S (message_reads self.now) (message_verdict self.now) }
+        ensures holds { (S : Variables) → Agrees (message_reads self.now) S
+            → Holds (message_block self.now).tree S
+            (message_reads self.now) (message_verdict self.now) }
     {
         &self.reads
     }
@@ -74,7 +79,9 @@ impl Evaluated {
     /// The verdict, which is the block's on all variables that have the values which it read.
     pub fn verdict(&self) -> &Verdict
         ensures value { result.now ≡ message_verdict self.now }
-        ensures holds { (S : Variables) → Agrees (message_reads self.now) S → Holds (message_block self.now).tree S (message_reads self.now) (message_verdict self.now) }
+        ensures holds { (S : Variables) → Agrees (message_reads self.now) S
+            → Holds (message_block self.now).tree S
+            (message_reads self.now) (message_verdict self.now) }
     {
         &self.verdict
     }

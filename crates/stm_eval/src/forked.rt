@@ -4,19 +4,17 @@
 //! be started: the left one goes on with the log, in a frame, and the right one with a copy that was made before. Where
 //! the left one retried, what it read is joined to what the right one read. Else nothing of the right one counts.
 
-ghost use Rattle.std.specs.Prelude.{◌≡◌, ◌≢◌, ◌+◌, ◌<◌, ◌≤◌, ◌^◌, [], List, Some, length, take, OnOk, OnErr, IfOk, IfErr};
+ghost use Rattle.std.specs.Prelude.{◌≡◌, ◌≢◌, ◌+◌, ◌<◌, ◌≤◌, [], List, Some, length, take, OnOk, OnErr, IfOk, IfErr};
 ghost use denote.Param.Send.{IsSync};
 ghost use Rattle.stm_terms.specs.declared.values.Value.{Value as AnyValue};
 ghost use Rattle.stm_terms.specs.Ast.{Act, act_of, or_else, catch};
 ghost use Rattle.stm_terms.specs.Changes.{Variables, cell_value};
-ghost use Rattle.stm_terms.specs.Semantics.{run};
-ghost use Rattle.stm_terms.specs.ReadSet.{looks, insert_reads, reads_of};
+ghost use Rattle.stm_terms.specs.ReadSet.{reads_of};
 ghost use Rattle.stm_terms.specs.Verdict.{verdict};
-ghost use Rattle.stm_terms.specs.Typing.{makes};
 ghost use Rattle.stm_store.specs.Cells.{Covers};
 ghost use Rattle.stm_log.specs.LogModel.{Logged};
 ghost use Rattle.stm_eval.specs.EvaluatedFields.{message_ticket, message_block, message_reads, message_verdict};
-ghost use Rattle.stm_eval.specs.InterpreterSteps.{outcome, outcome_left, looks_left, makes_left, size, size_left};
+ghost use Rattle.stm_eval.specs.InterpreterSteps.{size, size_left, StepsTo};
 ghost use Rattle.stm_eval.specs.BothBranches.{DefinedLeft, IsReadSetOf, CanRun, RunsTo, entered};
 
 use crate::block::judged;
@@ -88,20 +86,13 @@ fn step<'a, R: Threads + Sync>(
 ) -> Result<Step<'a>, NoMemory>
     requires levels { 0 < levels }
     requires run { CanRun (cell_value frozen.now) (act_of action.now) locals.old.items log.old }
-    ensures outcome { IfOk result (λ s.
-        run (cell_value frozen.now) (act_of action.now) locals.old.items log.old.top
-        ≡ outcome_left (cell_value frozen.now) s locals.new.items log.new.top) }
-    ensures reads { IfOk result (λ s.
-        insert_reads (cell_value frozen.now)
-        (looks (cell_value frozen.now) (act_of action.now) locals.old.items log.old.top) log.old.reads
-        ≡ insert_reads (cell_value frozen.now)
-        (looks_left (cell_value frozen.now) s locals.new.items log.new.top) log.new.reads) }
-    ensures made { IfOk result (λ s.
-        length log.new.top.news + makes_left s ≤ length log.old.top.news + makes (act_of action.now)) }
-    ensures below { OnOk result (log.new.below ≡ log.old.below) }
-    ensures locals { OnOk result (take (length locals.old.items) locals.new.items ≡ locals.old.items) }
+    ensures steps { IfOk result (λ s. StepsTo (cell_value frozen.now) (act_of action.now)
+        locals.old.items log.old s locals.new.items log.new) }
+    ensures locals { OnOk result (
+        take (length locals.old.items) locals.new.items ≡ locals.old.items) }
     ensures smaller { IfOk result (λ s. size_left s < size (act_of action.now)) }
-    ensures defined { IfOk result (λ s. DefinedLeft (cell_value frozen.now) s locals.new.items log.new.top) }
+    ensures defined { IfOk result (λ s.
+        DefinedLeft (cell_value frozen.now) s locals.new.items log.new.top) }
     ensures read_set { OnOk result (IsReadSetOf (cell_value frozen.now) log.new.reads) }
 {
     match action {
@@ -143,22 +134,14 @@ fn walk_caught<'a, R: Threads + Sync>(
 ) -> Result<Step<'a>, NoMemory>
     requires { CanRun (cell_value frozen.now) (catch (act_of action.now) (act_of handler.now))
         locals.old.items log.old }
-    ensures outcome { IfOk result (λ s.
-        run (cell_value frozen.now) (catch (act_of action.now) (act_of handler.now)) locals.old.items log.old.top
-        ≡ outcome_left (cell_value frozen.now) s locals.new.items log.new.top) }
-    ensures reads { IfOk result (λ s.
-        insert_reads (cell_value frozen.now)
-        (looks (cell_value frozen.now) (catch (act_of action.now) (act_of handler.now)) locals.old.items log.old.top)
-        log.old.reads
-        ≡ insert_reads (cell_value frozen.now)
-        (looks_left (cell_value frozen.now) s locals.new.items log.new.top) log.new.reads) }
-    ensures made { IfOk result (λ s.
-        length log.new.top.news + makes_left s
-        ≤ length log.old.top.news + makes (act_of action.now) + makes (act_of handler.now)) }
-    ensures below { OnOk result (log.new.below ≡ log.old.below) }
-    ensures locals { OnOk result (take (length locals.old.items) locals.new.items ≡ locals.old.items) }
+    ensures steps { IfOk result (λ s. StepsTo (cell_value frozen.now)
+        (catch (act_of action.now) (act_of handler.now))
+        locals.old.items log.old s locals.new.items log.new) }
+    ensures locals { OnOk result (
+        take (length locals.old.items) locals.new.items ≡ locals.old.items) }
     ensures smaller { IfOk result (λ s. size_left s ≤ size (act_of handler.now)) }
-    ensures defined { IfOk result (λ s. DefinedLeft (cell_value frozen.now) s locals.new.items log.new.top) }
+    ensures defined { IfOk result (λ s.
+        DefinedLeft (cell_value frozen.now) s locals.new.items log.new.top) }
     ensures read_set { OnOk result (IsReadSetOf (cell_value frozen.now) log.new.reads) }
 {
     log.enter()?;
@@ -211,7 +194,8 @@ fn run_or_else<R: Threads + Sync>(
     requires run { CanRun (cell_value frozen.now) (or_else (act_of left.now) (act_of right.now))
         locals.old.items log.old }
     ensures { IfOk result (λ e. RunsTo (cell_value frozen.now)
-        (or_else (act_of left.now) (act_of right.now)) locals.old.items log.old e locals.new.items log.new) }
+        (or_else (act_of left.now) (act_of right.now))
+        locals.old.items log.old e locals.new.items log.new) }
 {
     match fork(alloc, locals, log) {
         Ok((left_state, right_state)) => {
@@ -290,15 +274,17 @@ fn run_both<R: Threads + Sync>(
             requires sync { IsSync R.row }
             requires run { CanRun (cell_value frozen.now) (act_of left.now)
                 left_state.locals.items left_state.log }
-            ensures { IfOk result.0 (λ e. RunsTo (cell_value frozen.entry.now) (act_of left.entry.now)
-                left_state.locals.items left_state.log e result.1.locals.items result.1.log) }
+            ensures { IfOk result.0 (λ e. RunsTo (cell_value frozen.entry.now)
+                (act_of left.entry.now) left_state.locals.items left_state.log e
+                result.1.locals.items result.1.log) }
         { run_branch(rt, alloc, frozen, left, left_state, levels) },
         move || -> (Result<Outcome, NoMemory>, BranchState)
             requires sync { IsSync R.row }
             requires run { CanRun (cell_value frozen.now) (act_of right.now)
                 right_state.locals.items right_state.log }
-            ensures { IfOk result.0 (λ e. RunsTo (cell_value frozen.entry.now) (act_of right.entry.now)
-                right_state.locals.items right_state.log e result.1.locals.items result.1.log) }
+            ensures { IfOk result.0 (λ e. RunsTo (cell_value frozen.entry.now)
+                (act_of right.entry.now) right_state.locals.items right_state.log e
+                result.1.locals.items result.1.log) }
         { run_branch(rt, alloc, frozen, right, right_state, levels) },
     );
     choose(
@@ -351,8 +337,10 @@ fn choose(
     requires { OnOk left_end (left_state.old.log.below ≢ []) }
     // over any variables, branches, locals and log that the two were run on
     ensures { (S : Variables) (a b : Act) (vs : List AnyValue) (h : Logged) → IsReadSetOf S h.reads
-        → IfOk left_end (λ e. RunsTo S a vs (entered h) e left_state.old.locals.items left_state.old.log)
-        → IfOk right_end (λ e. RunsTo S b vs h e right_state.old.locals.items right_state.old.log)
+        → IfOk left_end (λ e. RunsTo S a vs (entered h) e
+        left_state.old.locals.items left_state.old.log)
+        → IfOk right_end (λ e. RunsTo S b vs h e
+        right_state.old.locals.items right_state.old.log)
         → IfOk result (λ e. RunsTo S (or_else a b) vs h e locals.new.items log.new) }
 {
     match left_end? {
@@ -396,7 +384,8 @@ fn run_whole_forked<R: Threads + Sync>(
     levels: u32,
 ) -> Result<Outcome, NoMemory>
     requires { CanRun (cell_value frozen.now) (act_of action.now) [] log.old }
-    ensures { IfOk result (λ e. RunsTo (cell_value frozen.now) (act_of action.now) [] log.old e [] log.new) }
+    ensures { IfOk result (λ e. RunsTo (cell_value frozen.now) (act_of action.now)
+        [] log.old e [] log.new) }
 {
     let mut locals = Vec::new(alloc);
     walk(rt, alloc, frozen, action, &mut locals, log, levels)
@@ -435,9 +424,12 @@ pub fn evaluate_forked<R: Threads + Sync>(
 ) -> Result<Evaluated, (Job, NoMemory)>
     requires levels { levels ≤ 8 }
     requires covered { Covers frozen.now job.block.uses }
-    ensures job { IfOk result (λ m. (message_ticket m ≡ job.ticket) × (message_block m ≡ job.block)) }
-    ensures verdict { IfOk result (λ m. verdict (cell_value frozen.now) job.block.tree ≡ Some (message_verdict m)) }
-    ensures reads { IfOk result (λ m. message_reads m ≡ reads_of (cell_value frozen.now) job.block.tree) }
+    ensures job { IfOk result (λ m.
+        (message_ticket m ≡ job.ticket) × (message_block m ≡ job.block)) }
+    ensures verdict { IfOk result (λ m.
+        verdict (cell_value frozen.now) job.block.tree ≡ Some (message_verdict m)) }
+    ensures reads { IfOk result (λ m.
+        message_reads m ≡ reads_of (cell_value frozen.now) job.block.tree) }
     ensures refused { IfErr result (λ e. e.0 ≡ job) }
 {
     match try_forked(rt, alloc, frozen, job.block.block(), levels) {

@@ -1,7 +1,8 @@
 //! One action after another, on the log.
 //!
 //! A long `do` is walked by a loop, one step at a time. A step calls the evaluator again for the first part of a
-//! statement, for the left branch of `orElse` and for the action of `catch`, so the stack grows with the depth of a block and not with its length.
+//! statement, for the left branch of `orElse` and for the action of `catch`, so the stack grows with the depth of a block
+//! and not with its length.
 
 ghost use Rattle.std.specs.Prelude.{◌≡◌, ◌≢◌, ◌+◌, ◌<◌, ◌≤◌, ◌^◌, length, take, OnOk, IfOk};
 ghost use Rattle.stm_terms.specs.Ast.{act_of, term_of, if_else, or_else, bind, let_in, seq, catch};
@@ -10,7 +11,7 @@ ghost use Rattle.stm_terms.specs.Semantics.{run, Stuck};
 ghost use Rattle.stm_terms.specs.ReadSet.{looks, insert_reads};
 ghost use Rattle.stm_terms.specs.Typing.{makes};
 ghost use Rattle.stm_eval.specs.BothBranches.{AllBranchesDefined, DefinedLeft};
-ghost use Rattle.stm_eval.specs.InterpreterSteps.{outcome, outcome_left, looks_left, makes_left, size, size_left};
+ghost use Rattle.stm_eval.specs.InterpreterSteps.{outcome, outcome_left, looks_left, makes_left, size, size_left, StepsTo};
 
 use crate::outcome::{Outcome, Step};
 use crate::primitives::{run_make, run_read, run_return, run_throw, run_write};
@@ -30,11 +31,18 @@ pub(crate) fn evaluate(
     locals: &mut Vec<Value>,
     log: &mut Log,
 ) -> Result<Outcome, NoMemory>
-    requires defined { run (cell_value frozen.now) (act_of action.now) locals.old.items log.old.top ≢ Stuck }
+    requires defined { run (cell_value frozen.now) (act_of action.now)
+        locals.old.items log.old.top ≢ Stuck }
     requires room { length log.old.top.news + makes (act_of action.now) ≤ 2 ^ 32 }
-    ensures outcome { IfOk result (λ e. run (cell_value frozen.now) (act_of action.now) locals.old.items log.old.top ≡ outcome e log.new.top) }
-    ensures reads { OnOk result (log.new.reads ≡ insert_reads (cell_value frozen.now) (looks (cell_value frozen.now) (act_of action.now) locals.old.items log.old.top) log.old.reads) }
-    ensures made { OnOk result (length log.new.top.news ≤ length log.old.top.news + makes (act_of action.now)) }
+    ensures outcome { IfOk result (λ e.
+        run (cell_value frozen.now) (act_of action.now) locals.old.items log.old.top
+        ≡ outcome e log.new.top) }
+    ensures reads { OnOk result (log.new.reads
+        ≡ insert_reads (cell_value frozen.now)
+        (looks (cell_value frozen.now) (act_of action.now) locals.old.items log.old.top)
+        log.old.reads) }
+    ensures made { OnOk result (
+        length log.new.top.news ≤ length log.old.top.news + makes (act_of action.now)) }
     ensures below { OnOk result (log.new.below ≡ log.old.below) }
     ensures locals { OnOk result (locals.new.items ≡ locals.old.items) }
 {
@@ -59,15 +67,13 @@ fn step<'a>(
     locals: &mut Vec<Value>,
     log: &mut Log,
 ) -> Result<Step<'a>, NoMemory>
-    requires defined { run (cell_value frozen.now) (act_of action.now) locals.old.items log.old.top ≢ Stuck }
+    requires defined { run (cell_value frozen.now) (act_of action.now)
+        locals.old.items log.old.top ≢ Stuck }
     requires room { length log.old.top.news + makes (act_of action.now) ≤ 2 ^ 32 }
-    ensures outcome { IfOk result (λ s. run (cell_value frozen.now) (act_of action.now) locals.old.items log.old.top
-        ≡ outcome_left (cell_value frozen.now) s locals.new.items log.new.top) }
-    ensures reads { IfOk result (λ s. insert_reads (cell_value frozen.now) (looks (cell_value frozen.now) (act_of action.now) locals.old.items log.old.top) log.old.reads
-        ≡ insert_reads (cell_value frozen.now) (looks_left (cell_value frozen.now) s locals.new.items log.new.top) log.new.reads) }
-    ensures made { IfOk result (λ s. length log.new.top.news + makes_left s ≤ length log.old.top.news + makes (act_of action.now)) }
-    ensures below { OnOk result (log.new.below ≡ log.old.below) }
-    ensures locals { OnOk result (take (length locals.old.items) locals.new.items ≡ locals.old.items) }
+    ensures steps { IfOk result (λ s. StepsTo (cell_value frozen.now) (act_of action.now)
+        locals.old.items log.old s locals.new.items log.new) }
+    ensures locals { OnOk result (
+        take (length locals.old.items) locals.new.items ≡ locals.old.items) }
     ensures smaller { IfOk result (λ s. size_left s < size (act_of action.now)) }
 {
     match action {
@@ -95,14 +101,22 @@ pub(crate) fn run_choice<'a>(
     locals: &[Value],
     log: &Log,
 ) -> Step<'a>
-    requires { run (cell_value frozen.now) (if_else (term_of condition.now) (act_of first.now) (act_of second.now)) locals.now log.now.top ≢ Stuck }
-    ensures outcome { run (cell_value frozen.now) (if_else (term_of condition.now) (act_of first.now) (act_of second.now)) locals.now log.now.top
+    requires { run (cell_value frozen.now)
+        (if_else (term_of condition.now) (act_of first.now) (act_of second.now))
+        locals.now log.now.top ≢ Stuck }
+    ensures outcome { run (cell_value frozen.now)
+        (if_else (term_of condition.now) (act_of first.now) (act_of second.now))
+        locals.now log.now.top
         ≡ outcome_left (cell_value frozen.now) result locals.now log.now.top }
-    ensures reads { looks (cell_value frozen.now) (if_else (term_of condition.now) (act_of first.now) (act_of second.now)) locals.now log.now.top
+    ensures reads { looks (cell_value frozen.now)
+        (if_else (term_of condition.now) (act_of first.now) (act_of second.now))
+        locals.now log.now.top
         ≡ looks_left (cell_value frozen.now) result locals.now log.now.top }
     ensures made { makes_left result ≤ makes (act_of first.now) + makes (act_of second.now) }
     ensures smaller { size_left result ≤ size (act_of first.now) + size (act_of second.now) }
-    ensures defined { AllBranchesDefined (cell_value frozen.now) (if_else (term_of condition.now) (act_of first.now) (act_of second.now)) locals.now log.now.top
+    ensures defined { AllBranchesDefined (cell_value frozen.now)
+        (if_else (term_of condition.now) (act_of first.now) (act_of second.now))
+        locals.now log.now.top
         → DefinedLeft (cell_value frozen.now) result locals.now log.now.top }
 {
     match eval_expr(condition, locals) {
@@ -121,15 +135,23 @@ pub(crate) fn run_let<'a>(
     locals: &mut Vec<Value>,
     log: &Log,
 ) -> Result<Step<'a>, NoMemory>
-    requires { run (cell_value frozen.now) (let_in (term_of value.now) (act_of rest.now)) locals.old.items log.now.top ≢ Stuck }
-    ensures outcome { IfOk result (λ s. run (cell_value frozen.now) (let_in (term_of value.now) (act_of rest.now)) locals.old.items log.now.top
+    requires { run (cell_value frozen.now) (let_in (term_of value.now) (act_of rest.now))
+        locals.old.items log.now.top ≢ Stuck }
+    ensures outcome { IfOk result (λ s.
+        run (cell_value frozen.now) (let_in (term_of value.now) (act_of rest.now))
+        locals.old.items log.now.top
         ≡ outcome_left (cell_value frozen.now) s locals.new.items log.now.top) }
-    ensures reads { IfOk result (λ s. looks (cell_value frozen.now) (let_in (term_of value.now) (act_of rest.now)) locals.old.items log.now.top
+    ensures reads { IfOk result (λ s.
+        looks (cell_value frozen.now) (let_in (term_of value.now) (act_of rest.now))
+        locals.old.items log.now.top
         ≡ looks_left (cell_value frozen.now) s locals.new.items log.now.top) }
     ensures made { IfOk result (λ s. makes_left s ≤ makes (act_of rest.now)) }
-    ensures locals { OnOk result (take (length locals.old.items) locals.new.items ≡ locals.old.items) }
+    ensures locals { OnOk result (
+        take (length locals.old.items) locals.new.items ≡ locals.old.items) }
     ensures smaller { IfOk result (λ s. size_left s ≤ size (act_of rest.now)) }
-    ensures defined { IfOk result (λ s. AllBranchesDefined (cell_value frozen.now) (let_in (term_of value.now) (act_of rest.now)) locals.old.items log.now.top
+    ensures defined { IfOk result (λ s.
+        AllBranchesDefined (cell_value frozen.now) (let_in (term_of value.now) (act_of rest.now))
+        locals.old.items log.now.top
         → DefinedLeft (cell_value frozen.now) s locals.new.items log.now.top) }
 {
     match eval_expr(value, locals) {
@@ -150,15 +172,14 @@ fn run_bound<'a>(
     locals: &mut Vec<Value>,
     log: &mut Log,
 ) -> Result<Step<'a>, NoMemory>
-    requires defined { run (cell_value frozen.now) (bind (act_of bound.now) (act_of rest.now)) locals.old.items log.old.top ≢ Stuck }
+    requires defined { run (cell_value frozen.now) (bind (act_of bound.now) (act_of rest.now))
+        locals.old.items log.old.top ≢ Stuck }
     requires room { length log.old.top.news + makes (act_of bound.now) ≤ 2 ^ 32 }
-    ensures outcome { IfOk result (λ s. run (cell_value frozen.now) (bind (act_of bound.now) (act_of rest.now)) locals.old.items log.old.top
-        ≡ outcome_left (cell_value frozen.now) s locals.new.items log.new.top) }
-    ensures reads { IfOk result (λ s. insert_reads (cell_value frozen.now) (looks (cell_value frozen.now) (bind (act_of bound.now) (act_of rest.now)) locals.old.items log.old.top) log.old.reads
-        ≡ insert_reads (cell_value frozen.now) (looks_left (cell_value frozen.now) s locals.new.items log.new.top) log.new.reads) }
-    ensures made { IfOk result (λ s. length log.new.top.news + makes_left s ≤ length log.old.top.news + makes (act_of bound.now) + makes (act_of rest.now)) }
-    ensures below { OnOk result (log.new.below ≡ log.old.below) }
-    ensures locals { OnOk result (take (length locals.old.items) locals.new.items ≡ locals.old.items) }
+    ensures steps { IfOk result (λ s. StepsTo (cell_value frozen.now)
+        (bind (act_of bound.now) (act_of rest.now))
+        locals.old.items log.old s locals.new.items log.new) }
+    ensures locals { OnOk result (
+        take (length locals.old.items) locals.new.items ≡ locals.old.items) }
     ensures smaller { IfOk result (λ s. size_left s ≤ size (act_of rest.now)) }
 {
     match evaluate(frozen, bound, locals, log)? {
@@ -179,14 +200,12 @@ fn run_first<'a>(
     locals: &mut Vec<Value>,
     log: &mut Log,
 ) -> Result<Step<'a>, NoMemory>
-    requires defined { run (cell_value frozen.now) (seq (act_of first.now) (act_of rest.now)) locals.old.items log.old.top ≢ Stuck }
+    requires defined { run (cell_value frozen.now) (seq (act_of first.now) (act_of rest.now))
+        locals.old.items log.old.top ≢ Stuck }
     requires room { length log.old.top.news + makes (act_of first.now) ≤ 2 ^ 32 }
-    ensures outcome { IfOk result (λ s. run (cell_value frozen.now) (seq (act_of first.now) (act_of rest.now)) locals.old.items log.old.top
-        ≡ outcome_left (cell_value frozen.now) s locals.new.items log.new.top) }
-    ensures reads { IfOk result (λ s. insert_reads (cell_value frozen.now) (looks (cell_value frozen.now) (seq (act_of first.now) (act_of rest.now)) locals.old.items log.old.top) log.old.reads
-        ≡ insert_reads (cell_value frozen.now) (looks_left (cell_value frozen.now) s locals.new.items log.new.top) log.new.reads) }
-    ensures made { IfOk result (λ s. length log.new.top.news + makes_left s ≤ length log.old.top.news + makes (act_of first.now) + makes (act_of rest.now)) }
-    ensures below { OnOk result (log.new.below ≡ log.old.below) }
+    ensures steps { IfOk result (λ s. StepsTo (cell_value frozen.now)
+        (seq (act_of first.now) (act_of rest.now))
+        locals.old.items log.old s locals.new.items log.new) }
     ensures locals { OnOk result (locals.new.items ≡ locals.old.items) }
     ensures smaller { IfOk result (λ s. size_left s ≤ size (act_of rest.now)) }
 {
@@ -207,14 +226,12 @@ fn run_left<'a>(
     locals: &mut Vec<Value>,
     log: &mut Log,
 ) -> Result<Step<'a>, NoMemory>
-    requires defined { run (cell_value frozen.now) (act_of left.now) locals.old.items log.old.top ≢ Stuck }
+    requires defined { run (cell_value frozen.now) (act_of left.now)
+        locals.old.items log.old.top ≢ Stuck }
     requires room { length log.old.top.news + makes (act_of left.now) ≤ 2 ^ 32 }
-    ensures outcome { IfOk result (λ s. run (cell_value frozen.now) (or_else (act_of left.now) (act_of right.now)) locals.old.items log.old.top
-        ≡ outcome_left (cell_value frozen.now) s locals.new.items log.new.top) }
-    ensures reads { IfOk result (λ s. insert_reads (cell_value frozen.now) (looks (cell_value frozen.now) (or_else (act_of left.now) (act_of right.now)) locals.old.items log.old.top) log.old.reads
-        ≡ insert_reads (cell_value frozen.now) (looks_left (cell_value frozen.now) s locals.new.items log.new.top) log.new.reads) }
-    ensures made { IfOk result (λ s. length log.new.top.news + makes_left s ≤ length log.old.top.news + makes (act_of left.now) + makes (act_of right.now)) }
-    ensures below { OnOk result (log.new.below ≡ log.old.below) }
+    ensures steps { IfOk result (λ s. StepsTo (cell_value frozen.now)
+        (or_else (act_of left.now) (act_of right.now))
+        locals.old.items log.old s locals.new.items log.new) }
     ensures locals { OnOk result (locals.new.items ≡ locals.old.items) }
     ensures smaller { IfOk result (λ s. size_left s ≤ size (act_of right.now)) }
 {
@@ -246,22 +263,14 @@ fn run_caught<'a>(
     locals: &mut Vec<Value>,
     log: &mut Log,
 ) -> Result<Step<'a>, NoMemory>
-    requires defined { run (cell_value frozen.now) (act_of action.now) locals.old.items log.old.top ≢ Stuck }
+    requires defined { run (cell_value frozen.now) (act_of action.now)
+        locals.old.items log.old.top ≢ Stuck }
     requires room { length log.old.top.news + makes (act_of action.now) ≤ 2 ^ 32 }
-    ensures outcome { IfOk result (λ s.
-        run (cell_value frozen.now) (catch (act_of action.now) (act_of handler.now)) locals.old.items log.old.top
-        ≡ outcome_left (cell_value frozen.now) s locals.new.items log.new.top) }
-    ensures reads { IfOk result (λ s.
-        insert_reads (cell_value frozen.now)
-        (looks (cell_value frozen.now) (catch (act_of action.now) (act_of handler.now)) locals.old.items log.old.top)
-        log.old.reads
-        ≡ insert_reads (cell_value frozen.now)
-        (looks_left (cell_value frozen.now) s locals.new.items log.new.top) log.new.reads) }
-    ensures made { IfOk result (λ s.
-        length log.new.top.news + makes_left s
-        ≤ length log.old.top.news + makes (act_of action.now) + makes (act_of handler.now)) }
-    ensures below { OnOk result (log.new.below ≡ log.old.below) }
-    ensures locals { OnOk result (take (length locals.old.items) locals.new.items ≡ locals.old.items) }
+    ensures steps { IfOk result (λ s. StepsTo (cell_value frozen.now)
+        (catch (act_of action.now) (act_of handler.now))
+        locals.old.items log.old s locals.new.items log.new) }
+    ensures locals { OnOk result (
+        take (length locals.old.items) locals.new.items ≡ locals.old.items) }
     ensures smaller { IfOk result (λ s. size_left s ≤ size (act_of handler.now)) }
 {
     log.enter()?;

@@ -4,6 +4,9 @@
 //! tells: its type keeps that the verdict holds wherever the values that were read are found again. `forked` gives the
 //! same message with both branches of an `orElse` at once, by threads. `laws` states why a message holds: what a block
 //! does depends on what it reads alone, left branches and actions that were rolled back included.
+//!
+//! What a reader has to believe stands in `specs/`: `Messages` (when a message is true, and what holds of a block on a store),
+//! `EvaluatedFields` (the parts of a message) and `Laws`.
 #![tactic(auto)]
 
 pub mod block;

@@ -20,6 +20,8 @@ pub struct Evaluated {
     pub(crate) block: SharedBlock,
     pub(crate) reads: Reads,
     pub(crate) verdict: Verdict,
-    pub ghost defined: { verdict_on (of_fragment reads) block.tree ≡ Some verdict } by { Prim.hlevel props },
-    pub ghost all_read: { reads_of (of_fragment reads) block.tree ≡ reads } by { Prim.hlevel props },
+    pub ghost defined: { verdict_on (of_fragment reads) block.tree
+        ≡ Some verdict } by { Prim.hlevel props },
+    pub ghost all_read: { reads_of (of_fragment reads) block.tree
+        ≡ reads } by { Prim.hlevel props },
 }

@@ -18,8 +18,10 @@ use stm_terms::values::{Fault, Value};
 
 /// `return value`.
 pub(crate) fn run_return(frozen: &Frozen, value: &Expr, locals: &[Value], log: &Log) -> Outcome
-    requires { run (cell_value frozen.now) (return (term_of value.now)) locals.now log.now.top ≢ Stuck }
-    ensures { run (cell_value frozen.now) (return (term_of value.now)) locals.now log.now.top ≡ outcome result log.now.top }
+    requires { run (cell_value frozen.now) (return (term_of value.now))
+        locals.now log.now.top ≢ Stuck }
+    ensures { run (cell_value frozen.now) (return (term_of value.now)) locals.now log.now.top
+        ≡ outcome result log.now.top }
 {
     match eval_expr(value, locals) {
         Ok(v) => Outcome::Returned(v),
@@ -35,8 +37,13 @@ pub(crate) fn run_read(
     log: &mut Log,
 ) -> Result<Outcome, NoMemory>
     requires { run (cell_value frozen.now) (read (term_of at.now)) locals.now log.old.top ≢ Stuck }
-    ensures outcome { IfOk result (λ e. run (cell_value frozen.now) (read (term_of at.now)) locals.now log.old.top ≡ outcome e log.new.top) }
-    ensures reads { OnOk result (log.new.reads ≡ insert_reads (cell_value frozen.now) (looks (cell_value frozen.now) (read (term_of at.now)) locals.now log.old.top) log.old.reads) }
+    ensures outcome { IfOk result (λ e.
+        run (cell_value frozen.now) (read (term_of at.now)) locals.now log.old.top
+        ≡ outcome e log.new.top) }
+    ensures reads { OnOk result (log.new.reads
+        ≡ insert_reads (cell_value frozen.now)
+        (looks (cell_value frozen.now) (read (term_of at.now)) locals.now log.old.top)
+        log.old.reads) }
     ensures made { OnOk result (length log.new.top.news ≡ length log.old.top.news) }
     ensures below { OnOk result (log.new.below ≡ log.old.below) }
 {
@@ -55,8 +62,12 @@ pub(crate) fn run_write(
     locals: &[Value],
     log: &mut Log,
 ) -> Result<Outcome, NoMemory>
-    requires { run (cell_value frozen.now) (write (term_of at.now) (term_of value.now)) locals.now log.old.top ≢ Stuck }
-    ensures outcome { IfOk result (λ e. run (cell_value frozen.now) (write (term_of at.now) (term_of value.now)) locals.now log.old.top ≡ outcome e log.new.top) }
+    requires { run (cell_value frozen.now) (write (term_of at.now) (term_of value.now))
+        locals.now log.old.top ≢ Stuck }
+    ensures outcome { IfOk result (λ e.
+        run (cell_value frozen.now) (write (term_of at.now) (term_of value.now))
+        locals.now log.old.top
+        ≡ outcome e log.new.top) }
     ensures reads { OnOk result (log.new.reads ≡ log.old.reads) }
     ensures made { OnOk result (length log.new.top.news ≡ length log.old.top.news) }
     ensures below { OnOk result (log.new.below ≡ log.old.below) }
@@ -84,9 +95,12 @@ pub(crate) fn run_make(
     locals: &[Value],
     log: &mut Log,
 ) -> Result<Outcome, NoMemory>
-    requires defined { run (cell_value frozen.now) (make kind (term_of value.now)) locals.now log.old.top ≢ Stuck }
+    requires defined { run (cell_value frozen.now) (make kind (term_of value.now))
+        locals.now log.old.top ≢ Stuck }
     requires room { length log.old.top.news < 2 ^ 32 }
-    ensures outcome { IfOk result (λ e. run (cell_value frozen.now) (make kind (term_of value.now)) locals.now log.old.top ≡ outcome e log.new.top) }
+    ensures outcome { IfOk result (λ e.
+        run (cell_value frozen.now) (make kind (term_of value.now)) locals.now log.old.top
+        ≡ outcome e log.new.top) }
     ensures reads { OnOk result (log.new.reads ≡ log.old.reads) }
     ensures made { OnOk result (length log.new.top.news ≤ length log.old.top.news + 1) }
     ensures below { OnOk result (log.new.below ≡ log.old.below) }
@@ -99,8 +113,10 @@ pub(crate) fn run_make(
 
 /// `throw number`.
 pub(crate) fn run_throw(frozen: &Frozen, number: &Expr, locals: &[Value], log: &Log) -> Outcome
-    requires { run (cell_value frozen.now) (throw (term_of number.now)) locals.now log.now.top ≢ Stuck }
-    ensures { run (cell_value frozen.now) (throw (term_of number.now)) locals.now log.now.top ≡ outcome result log.now.top }
+    requires { run (cell_value frozen.now) (throw (term_of number.now))
+        locals.now log.now.top ≢ Stuck }
+    ensures { run (cell_value frozen.now) (throw (term_of number.now)) locals.now log.now.top
+        ≡ outcome result log.now.top }
 {
     match eval_expr(number, locals) {
         Ok(Value::Int(n)) => Outcome::Threw(Fault::Thrown(n)),

@@ -11,12 +11,13 @@ use Rattle.stm_watch.specs.Pairs.{Pairs, WithoutReads}
 use Rattle.stm_queue.specs.Queue.{has_ticket, with_ticket, without_ticket}
 use Rattle.stm_history.specs.declared.event.Event.{Event}
 use Rattle.stm_history.specs.declared.event.What.TheVariants.{Submitted, Cancelled}
-use Rattle.stm_history.specs.SlowDesk.{Waiter, Slow, find_waiter, initial_state, state, Allows, max_waiting}
+use Rattle.stm_history.specs.declared.staleness.StalenessRule.{StalenessRule}
+use Rattle.stm_history.specs.SlowDesk.{Waiter, Slow, find_waiter, initial_state, state_by, AllowsBy, max_waiting}
 use Rattle.stm_history.specs.Laws.{AreRising}
 use Rattle.stm_history.proofs.Rising.{rising_state, next_le}
 use Rattle.stm_history.specs.declared.waiting.Waiting.{Waiting}
 use Rattle.stm_history.specs.Entries.{kept_at, lose, AllBelow, AreDue, kept_reads}
-use Rattle.stm_history.specs.Machine.{Parts, StandsFor, CanWait, CanLeave, MovesTo}
+use Rattle.stm_history.specs.Machine.{Parts, StandsForBy, CanWaitBy, CanLeaveBy, MovesToBy}
 use Rattle.stm_history.specs.QueueAndIndex.{due_of}
 use Rattle.stm_history.specs.Refusals.{missing, submit_first, cancel_first}
 use Rattle.stm_history.proofs.Due.{IsSame, IsFound, found, below_due}
@@ -45,12 +46,12 @@ lost_by (Some x) p f e = cc
 pub lost : (t : ℕ) (es : List (ℕ × Waiting)) (ws : List Waiter) → AreDue es ws → kept_at t es ≡ None → find_waiter t ws ≡ None
 lost t es ws d e = lost_by (kept_at t es) (find_waiter t ws) (found t es ws d) e
 
-module _ (table : List Declared) (history : List Event) (m : Parts) (k : StandsFor table history m) where
+module _ (rule : StalenessRule) (table : List Declared) (history : List Event) (m : Parts) (k : StandsForBy rule table history m) where
   abbrev pub s : Slow
-  s = state table history
+  s = state_by rule table history
 
   pub kept_rising : AreRising s.next 0 s.waiters
-  kept_rising = rising_state table history k.legal
+  kept_rising = rising_state rule table history k.legal
 
   rising_next : AreRising m.next 0 s.waiters
   rising_next = subst (λ (n : ℕ). AreRising n 0 s.waiters) (sym k.stands.next_is) kept_rising
@@ -59,7 +60,7 @@ module _ (table : List Declared) (history : List Event) (m : Parts) (k : StandsF
   below_next = below_due m.next 0 m.entries s.waiters k.stands.entries_are rising_next
 
   pub ticket_small : m.next + 1 < 2 ^ 32
-  ticket_small = let a = k.legal.few in let c = k.stands.next_is in omega (arith, next_le (initial_state table) history)
+  ticket_small = let a = k.legal.few in let c = k.stands.next_is in omega (arith, next_le rule (initial_state table) history)
 
   pub next_absent : has_ticket m.next m.pending ≡ false
   next_absent = k.stands.queue m.next ∙ ap due_of (not_yet m.next m.next 0 s.waiters (omega arith) rising_next)
@@ -91,15 +92,15 @@ may_submit None false false e = record { covers = refl; few = refl; room = refl 
 pub below_limit : (limit n : ℕ) → nat_le limit n ≡ false → n < limit
 below_limit limit n e = grind (arith, nat_tests)
 
-pub moves_wait : (table : List Declared) (history : List Event) (m : Parts) (b : Block) → CanWait table history m b
-    → MovesTo table history (Submitted m.next b) (record { store = m.store; next = m.next + 1; entries = m.entries ++ (m.next, record { block = b; held = None }) ∷ []; pending = with_ticket m.next m.pending; watch = m.watch })
-moves_wait table history m b c =
-    let s = state table history in
+pub moves_wait : (rule : StalenessRule) (table : List Declared) (history : List Event) (m : Parts) (b : Block) → CanWaitBy rule table history m b
+    → MovesToBy rule table history (Submitted m.next b) (record { store = m.store; next = m.next + 1; entries = m.entries ++ (m.next, record { block = b; held = None }) ∷ []; pending = with_ticket m.next m.pending; watch = m.watch })
+moves_wait rule table history m b c =
+    let s = state_by rule table history in
     let k = c.stands in
     let p : MaySubmit (missing (plains s.store) b.uses) (nat_le max_waiting (length s.waiters)) false = may_submit _ _ _ (sym c.allowed) in
-    moves_to table history m _ (Submitted m.next b) k c.room
+    moves_to rule table history m _ (Submitted m.next b) k c.room
     (k.stands.next_is, none_missing (plains s.store) b.uses p.covers, below_limit max_waiting (length s.waiters) p.few)
-    (stands_submit s m.store m.next m.entries m.pending m.watch b (kept_rising table history m k) k.stands)
+    (stands_submit rule s m.store m.next m.entries m.pending m.watch b (kept_rising rule table history m k) k.stands)
 
 -- ---- cancel
 pub record MayCancel (o : Option Waiter) (full : Bool) : Type 0 where
@@ -112,12 +113,12 @@ may_cancel None full e = cc
 may_cancel (Some w) true e = cc
 may_cancel (Some w) false e = record { one = w; found = refl; room = refl }
 
-pub moves_leave : (table : List Declared) (history : List Event) (m : Parts) (watch' : Pairs) (t : ℕ) → CanLeave table history m t → WithoutReads m.watch t (kept_reads (kept_at t m.entries)) watch'
-    → MovesTo table history (Cancelled t) (record { store = m.store; next = m.next; entries = lose t m.entries; pending = without_ticket t m.pending; watch = watch' })
-moves_leave table history m watch' t c q =
-    let s = state table history in
+pub moves_leave : (rule : StalenessRule) (table : List Declared) (history : List Event) (m : Parts) (watch' : Pairs) (t : ℕ) → CanLeaveBy rule table history m t → WithoutReads m.watch t (kept_reads (kept_at t m.entries)) watch'
+    → MovesToBy rule table history (Cancelled t) (record { store = m.store; next = m.next; entries = lose t m.entries; pending = without_ticket t m.pending; watch = watch' })
+moves_leave rule table history m watch' t c q =
+    let s = state_by rule table history in
     let k = c.stands in
     let p : MayCancel (find_waiter t s.waiters) false = may_cancel _ _ (sym c.allowed) in
-    let a : Allows s (Cancelled t) = rw p.found tt in
-    moves_to table history m _ (Cancelled t) k c.room a
-    (stands_cancel s m.store m.next m.entries m.pending m.watch watch' t (kept_rising table history m k) k.stands q)
+    let a : AllowsBy rule s (Cancelled t) = rw p.found tt in
+    moves_to rule table history m _ (Cancelled t) k c.room a
+    (stands_cancel rule s m.store m.next m.entries m.pending m.watch watch' t (kept_rising rule table history m k) k.stands q)

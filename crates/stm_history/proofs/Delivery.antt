@@ -20,12 +20,13 @@ use Rattle.stm_queue.specs.Queue.{Entry, has_ticket, without_ticket}
 use Rattle.stm_queue.proofs.Membership.{has_marked}
 use Rattle.stm_history.specs.declared.event.Event.{Event}
 use Rattle.stm_history.specs.declared.event.What.TheVariants.{Installed}
-use Rattle.stm_history.specs.SlowDesk.{Waiter, Slow, under, is_current, find_waiter, state, Allows}
+use Rattle.stm_history.specs.declared.staleness.StalenessRule.{StalenessRule}
+use Rattle.stm_history.specs.SlowDesk.{Waiter, Slow, under, is_current, find_waiter, state_by, AllowsBy}
 use Rattle.stm_history.specs.declared.waiting.Held.{Held}
 use Rattle.stm_history.specs.declared.errors.DeliverError.{DeliverError}
 use Rattle.stm_history.specs.declared.errors.DeliverError.TheVariants as deliver
 use Rattle.stm_history.specs.Entries.{with_held}
-use Rattle.stm_history.specs.Machine.{Parts, StandsFor, CanInstall, MovesTo}
+use Rattle.stm_history.specs.Machine.{Parts, StandsForBy, CanInstallBy, MovesToBy}
 use Rattle.stm_history.specs.QueueAndIndex.{due_of}
 use Rattle.stm_history.specs.Refusals.{has_value, differing, overtaken_first, install_first, DeliverTold, pending_left}
 use Rattle.stm_history.proofs.Moves.{moves_to, stands_install}
@@ -143,13 +144,13 @@ accepted_at s full t block reads (Some w) e d q =
 pub accepted : (s : Slow) (full : Bool) (t : ℕ) (block : Block) (reads : List (ℕ × Value)) → DeliverTold None s.store full (find_waiter t s.waiters) block reads → IsSomeAnd (find_waiter t s.waiters) (λ w. w.block.tree ≡ block.tree) → Accepted s full t block reads
 accepted s full t block reads d q = accepted_at s full t block reads (find_waiter t s.waiters) refl d q
 
-pub moves_install : (table : List Declared) (history : List Event) (m : Parts) (watch' : Pairs) (message : Evaluated) → CanInstall table history m message
+pub moves_install : (rule : StalenessRule) (table : List Declared) (history : List Event) (m : Parts) (watch' : Pairs) (message : Evaluated) → CanInstallBy rule table history m message
     → ((S : Variables) → Agrees (message_reads message) S → Holds (message_block message).tree S (message_reads message) (message_verdict message))
     → WithReads m.watch (message_ticket message) (message_reads message) watch'
-    → MovesTo table history (Installed (message_ticket message) (message_verdict message))
+    → MovesToBy rule table history (Installed (message_ticket message) (message_verdict message))
     (record { store = m.store; next = m.next; entries = with_held (message_ticket message) (record { reads = message_reads message; verdict = message_verdict message }) m.entries; pending = without_ticket (message_ticket message) m.pending; watch = watch' })
-moves_install table history m watch' message c truth q =
-    let s = state table history in
+moves_install rule table history m watch' message c truth q =
+    let s = state_by rule table history in
     let k = c.stands in
     let t = message_ticket message in
     let block = message_block message in
@@ -157,9 +158,9 @@ moves_install table history m watch' message c truth q =
     let a : Accepted s false t block h.reads = accepted s false t block h.reads c.allowed c.same in
     let there : Holds block.tree (under s.store) h.reads h.verdict = truth (under s.store) (none_differs (under s.store) h.reads a.may.agrees) in
     let holds : Holds a.one.block.tree (under s.store) h.reads h.verdict = subst (λ x. Holds x (under s.store) h.reads h.verdict) (sym a.same) there in
-    let may : Allows s (Installed t h.verdict) = rw a.found (record { not_current = a.may.stale; verdict_is = holds.verdict_is }) in
-    moves_to table history m _ (Installed t h.verdict) k c.room may
-    (stands_install s m.store m.next m.entries m.pending m.watch watch' t a.one h k.stands a.found a.may.stale holds q)
+    let may : AllowsBy rule s (Installed t h.verdict) = rw a.found (record { not_current = a.may.stale; verdict_is = holds.verdict_is }) in
+    moves_to rule table history m _ (Installed t h.verdict) k c.room may
+    (stands_install rule s m.store m.next m.entries m.pending m.watch watch' t a.one h k.stands a.found a.may.stale holds q)
 
 -- ---- the queue after a message that was overtaken
 pub has_left : (u t : ℕ) (e : DeliverError) (es : List Entry) → has_ticket u (pending_left e t es) ≡ has_ticket u es
@@ -171,9 +172,9 @@ has_left u t deliver.HistoryFull es = refl
 has_left u t deliver.NoMemory es = refl
 
 -- what has the same tickets queued or out stands for the same history
-pub requeued : (table : List Declared) (history : List Event) (m : Parts) (ps : List Entry) → ((u : ℕ) → has_ticket u ps ≡ has_ticket u m.pending) → StandsFor table history m
-    → StandsFor table history (record m { pending = ps })
-requeued table history m ps same k = record {
+pub requeued : (rule : StalenessRule) (table : List Declared) (history : List Event) (m : Parts) (ps : List Entry) → ((u : ℕ) → has_ticket u ps ≡ has_ticket u m.pending) → StandsForBy rule table history m
+    → StandsForBy rule table history (record m { pending = ps })
+requeued rule table history m ps same k = record {
   legal = k.legal;
   stands = record {
     store_is = k.stands.store_is;

@@ -4,7 +4,7 @@ use Rattle.std.specs.Prelude.{nat_eq}
 use Rattle.stm_store.specs.declared.cell.Cell.{Cell}
 use Rattle.stm_check.specs.TypedBlock.{Block}
 use Rattle.stm_eval.specs.Messages.{Holds}
-use Rattle.stm_history.specs.SlowDesk.{Since, Waiter, under, find_waiter, without_waiter, with_delivery, delivered, wrote_more, after_writes}
+use Rattle.stm_history.specs.SlowDesk.{Since, Waiter, under, find_waiter, without_waiter, with_delivery, delivered, woken_more, after_writes}
 use Rattle.stm_history.specs.Laws.{AreRising}
 use Rattle.stm_history.specs.declared.waiting.Held.{Held}
 use Rattle.stm_history.specs.declared.waiting.Waiting.{Waiting}
@@ -63,17 +63,17 @@ due_lose t (e ∷ es) (w ∷ ws) d =
     subst (λ (b : Bool). AreDue (cond b es (e ∷ lose t es)) (cond (nat_eq t w.ticket) ws (w ∷ without_waiter t ws))) (sym (ap (λ (n : ℕ). nat_eq t n) d.0.ticket))
     (lose_step (nat_eq t w.ticket) e w es (lose t es) ws (without_waiter t ws) d.0 d.1 (due_lose t es ws d.1))
 
-held_more : (wrote : List ℕ) (b : Block) (h : Option Held) (o : Option Since) → IsHeld b h o → IsHeld b h (wrote_more wrote o)
-held_more wrote b None None i = i
-held_more wrote b None (Some s) i = absurd i
-held_more wrote b (Some h) None i = absurd i
-held_more wrote b (Some h) (Some s) i = i
+held_more : (woken : List ℕ) (b : Block) (h : Option Held) (o : Option Since) → IsHeld b h o → IsHeld b h (woken_more woken o)
+held_more woken b None None i = i
+held_more woken b None (Some s) i = absurd i
+held_more woken b (Some h) None i = absurd i
+held_more woken b (Some h) (Some s) i = i
 
-pub due_marks : (wrote : List ℕ) (es : List (ℕ × Waiting)) (ws : List Waiter) → AreDue es ws → AreDue es (map (after_writes wrote) ws)
-due_marks wrote [] [] d = tt
-due_marks wrote [] (w ∷ ws) d = absurd d
-due_marks wrote (e ∷ es) [] d = absurd d
-due_marks wrote (e ∷ es) (w ∷ ws) d = (record { ticket = d.0.ticket; block = d.0.block; held = held_more wrote w.block e.1.held w.since d.0.held }, due_marks wrote es ws d.1)
+pub due_marks : (woken : List ℕ) (es : List (ℕ × Waiting)) (ws : List Waiter) → AreDue es ws → AreDue es (map (after_writes woken) ws)
+due_marks woken [] [] d = tt
+due_marks woken [] (w ∷ ws) d = absurd d
+due_marks woken (e ∷ es) [] d = absurd d
+due_marks woken (e ∷ es) (w ∷ ws) d = (record { ticket = d.0.ticket; block = d.0.block; held = held_more woken w.block e.1.held w.since d.0.held }, due_marks woken es ws d.1)
 
 -- a delivery to the block under a ticket, which does on the store what the delivery says
 abbrev HoldsAt : ℕ → Held → List Cell → Option Waiter → Type 0

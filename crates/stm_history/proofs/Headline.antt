@@ -4,10 +4,11 @@ use Rattle.stm_terms.specs.ReadSet.{reads_of}
 use Rattle.stm_store.specs.declared.cell.Cell.{Cell}
 use Rattle.stm_store.specs.Tables.{Declared}
 use Rattle.stm_history.specs.declared.event.Event.{Event}
-use Rattle.stm_history.specs.SlowDesk.{Since, Waiter, Standing, under, verdict_on, looked_on, intersects, is_stale_since, is_new_since, current_since, is_current, find_waiter, state, standing_since, weak_since, IsLegal}
+use Rattle.stm_history.specs.declared.staleness.StalenessRule.{StalenessRule}
+use Rattle.stm_history.specs.SlowDesk.{Since, Waiter, Standing, under, verdict_on, looked_on, intersects, is_stale_since, is_new_since, current_since, is_current, find_waiter, state_by, standing_since, weak_since, IsLegalBy}
 use Rattle.stm_history.specs.SlowDesk.{Stale, Current}
 use Rattle.stm_history.specs.Laws.{WeakIsPresent}
-use Rattle.stm_history.specs.Headline.{written_in_events, Headline, IsKnown, Fresh, Evaluated, IsMarkedRightly}
+use Rattle.stm_history.specs.Headline.{waking_from, state_then_by, HeadlineBy, IsKnownBy, Fresh, Evaluated, IsMarkedRightlyBy}
 use Rattle.stm_history.proofs.Since.{IsSince, Tracks, tracked_state}
 use Rattle.stm_history.proofs.Serial.{store_is_serial}
 use Rattle.stm_history.proofs.Fresh.{current_holds}
@@ -20,30 +21,30 @@ from_current : (a : Bool) → not a ≡ true → a ≡ false
 from_current true e = cc
 from_current false e = refl
 
-marked_by : (table : List Declared) (history : List Event) (t : ℕ) (w : Waiter) (s : Since) → IsLegal table history → find_waiter t (state table history).waiters ≡ Some w → w.since ≡ Some s
-    → (k : IsSince table history t w.block s) → IsMarkedRightly table history t w k.delivery
-marked_by table history t w s l f e k =
+marked_by : (rule : StalenessRule) (table : List Declared) (history : List Event) (t : ℕ) (w : Waiter) (s : Since) → IsLegalBy rule table history → find_waiter t (state_by rule table history).waiters ≡ Some w → w.since ≡ Some s
+    → (k : IsSince rule table history t w.block s) → IsMarkedRightlyBy rule table history t w k.delivery
+marked_by rule table history t w s l f e k =
     let c : is_current w ≡ not (is_stale_since w.block s) = ap (current_since w.block) e in
     record {
       evaluated = subst (λ (x : List Cell). verdict_on x w.block ≡ Some k.delivery.verdict) k.store k.verdict;
       marked =
           ap not c ∙ twice (is_stale_since w.block s)
-          ∙ ap (λ (x : List ℕ). intersects x (looked_on s.store_then w.block)) k.wrote
-          ∙ ap (λ (x : List Cell). intersects (written_in_events k.delivery.later) (looked_on x w.block)) k.store;
+          ∙ ap (λ (x : List ℕ). intersects x (looked_on s.store_then w.block)) k.woken
+          ∙ ap (λ (x : List Cell). intersects (waking_from rule (state_then_by rule table history t k.delivery) k.delivery.later) (looked_on x w.block)) k.store;
       present = λ p.
-          (current_holds table history t w s (reads_of (under s.store_then) w.block.tree) k.delivery.verdict l f e (from_current (is_stale_since w.block s) (sym c ∙ p))
+          (current_holds rule table history t w s (reads_of (under s.store_then) w.block.tree) k.delivery.verdict l f e (from_current (is_stale_since w.block s) (sym c ∙ p))
           (record { verdict_is = k.verdict; reads_are = refl })).verdict_is;
     }
 
-known_by : (table : List Declared) (history : List Event) (t : ℕ) (w : Waiter) (o : Option Since) → IsLegal table history → find_waiter t (state table history).waiters ≡ Some w → w.since ≡ o
-    → Tracks table history t w.block o → IsKnown table history t w
-known_by table history t w None l f e k = Fresh (ap is_new_since e) k
-known_by table history t w (Some s) l f e k = Evaluated (ap is_new_since e) k.delivery (marked_by table history t w s l f e k)
+known_by : (rule : StalenessRule) (table : List Declared) (history : List Event) (t : ℕ) (w : Waiter) (o : Option Since) → IsLegalBy rule table history → find_waiter t (state_by rule table history).waiters ≡ Some w → w.since ≡ o
+    → Tracks rule table history t w.block o → IsKnownBy rule table history t w
+known_by rule table history t w None l f e k = Fresh (ap is_new_since e) k
+known_by rule table history t w (Some s) l f e k = Evaluated (ap is_new_since e) k.delivery (marked_by rule table history t w s l f e k)
 
-pub headline : Headline
-headline table history l = record {
-  blocks = λ t w f. known_by table history t w w.since l f refl ((tracked_state table history l).each t w f);
-  store = store_is_serial table history l;
+pub headline : (rule : StalenessRule) → HeadlineBy rule
+headline rule table history l = record {
+  blocks = λ t w f. known_by rule table history t w w.since l f refl ((tracked_state rule table history l).each t w f);
+  store = store_is_serial rule table history l;
 }
 
 -- ---- the weak status is the status
@@ -51,15 +52,15 @@ stands_by : (a : Bool) (then now present : Standing) → (a ≡ false → now �
 stands_by true then now present e = refl
 stands_by false then now present e = e refl
 
-weak_by : (table : List Declared) (history : List Event) (t : ℕ) (w : Waiter) (o : Option Since) → IsLegal table history → find_waiter t (state table history).waiters ≡ Some w → w.since ≡ o → Tracks table history t w.block o
-    → standing_since (state table history).store w.block o ≡ weak_since w.block o
-weak_by table history t w None l f e k = refl
-weak_by table history t w (Some s) l f e k =
-    let store = (state table history).store in
+weak_by : (rule : StalenessRule) (table : List Declared) (history : List Event) (t : ℕ) (w : Waiter) (o : Option Since) → IsLegalBy rule table history → find_waiter t (state_by rule table history).waiters ≡ Some w → w.since ≡ o → Tracks rule table history t w.block o
+    → standing_since (state_by rule table history).store w.block o ≡ weak_since w.block o
+weak_by rule table history t w None l f e k = refl
+weak_by rule table history t w (Some s) l f e k =
+    let store = (state_by rule table history).store in
     stands_by (is_stale_since w.block s) (Stale (verdict_on s.store_then w.block)) (Current (verdict_on store w.block)) (Current (verdict_on s.store_then w.block))
     (λ n.
     let c : is_current w ≡ true = ap (current_since w.block) e ∙ ap not n in
-    ap Current ((marked_by table history t w s l f e k).present c ∙ sym k.verdict))
+    ap Current ((marked_by rule table history t w s l f e k).present c ∙ sym k.verdict))
 
 pub weak_is_present : WeakIsPresent
-weak_is_present table history t w l f = weak_by table history t w w.since l f refl ((tracked_state table history l).each t w f)
+weak_is_present rule table history t w l f = weak_by rule table history t w w.since l f refl ((tracked_state rule table history l).each t w f)

@@ -16,34 +16,35 @@ use Rattle.stm_queue.proofs.Merging.{has_with}
 use Rattle.stm_history.specs.declared.event.Event.{Event}
 use Rattle.stm_history.specs.declared.event.What.{What}
 use Rattle.stm_history.specs.declared.event.What.TheVariants.{Submitted, Installed, Finished, Cancelled}
-use Rattle.stm_history.specs.SlowDesk.{Waiter, Slow, under, is_current, written_in, stale_after, after_writes, find_waiter, without_waiter, after, Allows, initial_state, state, max_events}
+use Rattle.stm_history.specs.declared.staleness.StalenessRule.{StalenessRule}
+use Rattle.stm_history.specs.SlowDesk.{Waiter, Slow, under, is_current, waking, stale_after, after_writes, find_waiter, without_waiter, after_by, AllowsBy, initial_state, state_by, max_events}
 use Rattle.stm_history.specs.Laws.{AreRising}
 use Rattle.stm_history.proofs.Folds.{state-push, is_legal-push}
 use Rattle.stm_history.proofs.Rising.{rising_without, waiter_without, waiter_delivered, waiter_marks, waiter_push}
 use Rattle.stm_history.specs.declared.waiting.Held.{Held}
 use Rattle.stm_history.specs.declared.waiting.Waiting.{Waiting}
 use Rattle.stm_history.specs.Entries.{kept_at, lose, with_held, AreDue, held_reads, kept_reads}
-use Rattle.stm_history.specs.Machine.{Parts, StandsFor, MovesTo, event}
+use Rattle.stm_history.specs.Machine.{Parts, StandsForBy, MovesToBy, event}
 use Rattle.stm_history.specs.QueueAndIndex.{with_tickets, due_of, watches_of, read_since}
 use Rattle.stm_history.specs.MachineInvariant.{Stands}
 use Rattle.stm_history.proofs.Due.{IsFound, found, due_push, due_lose, due_marks, due_held, held_are}
 use Rattle.stm_history.proofs.Points.{not_yet, has_with_tickets, queue_push, index_push, queue_delivered, index_delivered, queue_gone, index_gone, stale_of, queue_finished, index_finished, has_stale}
 
 -- what holds what the slow desk has after one event more stands for the longer history
-pub moves_to : (table : List Declared) (history : List Event) (m m' : Parts) (what : What) → StandsFor table history m → length history < max_events → Allows (state table history) what
-    → Stands (after (state table history) what) m'.store m'.next m'.entries m'.pending m'.watch → MovesTo table history what m'
-moves_to table history m m' what k room a s client low = record {
-  legal = is_legal-push table history (event client what) k.legal (omega (arith, room)) (record { client = low; what = a });
-  stands = subst (λ (x : Slow). Stands x m'.store m'.next m'.entries m'.pending m'.watch) (sym (state-push (initial_state table) history (event client what))) s;
+pub moves_to : (rule : StalenessRule) (table : List Declared) (history : List Event) (m m' : Parts) (what : What) → StandsForBy rule table history m → length history < max_events → AllowsBy rule (state_by rule table history) what
+    → Stands (after_by rule (state_by rule table history) what) m'.store m'.next m'.entries m'.pending m'.watch → MovesToBy rule table history what m'
+moves_to rule table history m m' what k room a s client low = record {
+  legal = is_legal-push rule table history (event client what) k.legal (omega (arith, room)) (record { client = low; what = a });
+  stands = subst (λ (x : Slow). Stands x m'.store m'.next m'.entries m'.pending m'.watch) (sym (state-push rule (initial_state table) history (event client what))) s;
 }
 
 same_number : (u t : ℕ) → nat_eq u t ≡ true → u ≡ t
 same_number u t h = eqb-true u t h
 
-pub stands_submit : (s : Slow) (store : List Cell) (next : ℕ) (es : List (ℕ × Waiting)) (ps : List Entry) (watch : Pairs) (b : Block)
+pub stands_submit : (rule : StalenessRule) (s : Slow) (store : List Cell) (next : ℕ) (es : List (ℕ × Waiting)) (ps : List Entry) (watch : Pairs) (b : Block)
     → AreRising s.next 0 s.waiters → Stands s store next es ps watch
-    → Stands (after s (Submitted next b)) store (next + 1) (es ++ (next, record { block = b; held = None }) ∷ []) (with_ticket next ps) watch
-stands_submit s store next es ps watch b r k =
+    → Stands (after_by rule s (Submitted next b)) store (next + 1) (es ++ (next, record { block = b; held = None }) ∷ []) (with_ticket next ps) watch
+stands_submit rule s store next es ps watch b r k =
     let one : Waiter = record { ticket = next; block = b; since = None } in
     let low : AreRising next 0 s.waiters = subst (λ (n : ℕ). AreRising n 0 s.waiters) (sym k.next_is) r in
     let there = λ (u : ℕ). waiter_push u next 0 one s.waiters refl low in
@@ -58,11 +59,11 @@ stands_submit s store next es ps watch b r k =
           ∙ sym (ap (λ (o : Option Waiter). watches_of o v) (there u));
     }
 
-pub stands_install : (s : Slow) (store : List Cell) (next : ℕ) (es : List (ℕ × Waiting)) (ps : List Entry) (watch watch' : Pairs) (t : ℕ) (w : Waiter) (h : Held)
+pub stands_install : (rule : StalenessRule) (s : Slow) (store : List Cell) (next : ℕ) (es : List (ℕ × Waiting)) (ps : List Entry) (watch watch' : Pairs) (t : ℕ) (w : Waiter) (h : Held)
     → Stands s store next es ps watch → find_waiter t s.waiters ≡ Some w → is_current w ≡ false → Holds w.block.tree (under s.store) h.reads h.verdict
     → WithReads watch t h.reads watch'
-    → Stands (after s (Installed t h.verdict)) store next (with_held t h es) (without_ticket t ps) watch'
-stands_install s store next es ps watch watch' t w h k f n holds q =
+    → Stands (after_by rule s (Installed t h.verdict)) store next (with_held t h es) (without_ticket t ps) watch'
+stands_install rule s store next es ps watch watch' t w h k f n holds q =
     let there = λ (u : ℕ). waiter_delivered t u s.store s.waiters in
     record {
       store_is = k.store_is;
@@ -89,10 +90,10 @@ reads_there u es ws w d e = same (kept_at u es) (find_waiter u ws) (found u es w
       let e : y ≡ w = cc in
       subst (λ (z : Waiter). held_reads x.held ≡ read_since z.block z.since) e (held_are y.block x.held y.since f.held)
 
-pub stands_cancel : (s : Slow) (store : List Cell) (next : ℕ) (es : List (ℕ × Waiting)) (ps : List Entry) (watch watch' : Pairs) (t : ℕ)
+pub stands_cancel : (rule : StalenessRule) (s : Slow) (store : List Cell) (next : ℕ) (es : List (ℕ × Waiting)) (ps : List Entry) (watch watch' : Pairs) (t : ℕ)
     → AreRising s.next 0 s.waiters → Stands s store next es ps watch → WithoutReads watch t (kept_reads (kept_at t es)) watch'
-    → Stands (after s (Cancelled t)) store next (lose t es) (without_ticket t ps) watch'
-stands_cancel s store next es ps watch watch' t r k q =
+    → Stands (after_by rule s (Cancelled t)) store next (lose t es) (without_ticket t ps) watch'
+stands_cancel rule s store next es ps watch watch' t r k q =
     let there = λ (u : ℕ). waiter_without t u s.next 0 s.waiters r in
     record {
       store_is = k.store_is;
@@ -115,12 +116,12 @@ pub record IsUnwatched (t : ℕ) (stale : List ℕ) (es : List (ℕ × Waiting))
 current_not_due : (o : Option Waiter) (w : Waiter) → o ≡ Some w → is_current w ≡ true → due_of o ≡ false
 current_not_due o w e c = ap due_of e ∙ ap not c
 
-pub stands_finish : (s : Slow) (store store' : List Cell) (next : ℕ) (es : List (ℕ × Waiting)) (ps : List Entry) (watch watch' : Pairs) (t : ℕ) (w : Waiter) (v : Verdict) (n : ℕ) (stale : List ℕ)
+pub stands_finish : (rule : StalenessRule) (s : Slow) (store store' : List Cell) (next : ℕ) (es : List (ℕ × Waiting)) (ps : List Entry) (watch watch' : Pairs) (t : ℕ) (w : Waiter) (v : Verdict) (n : ℕ) (stale : List ℕ)
     → AreRising s.next 0 s.waiters → Stands s store next es ps watch → find_waiter t s.waiters ≡ Some w → is_current w ≡ true
-    → stale ≡ stale_after (written_in v) (without_waiter t s.waiters) → store' ≡ applied store v → IsUnwatched t stale es watch watch'
-    → Stands (after s (Finished t v n stale)) store' next (lose t es) (with_tickets stale ps) watch'
-stands_finish s store store' next es ps watch watch' t w v n stale r k f c listed store_is q =
-    let W = written_in v in
+    → stale ≡ stale_after (waking rule s.store v) (without_waiter t s.waiters) → store' ≡ applied store v → IsUnwatched t stale es watch watch'
+    → Stands (after_by rule s (Finished t v n stale)) store' next (lose t es) (with_tickets stale ps) watch'
+stands_finish rule s store store' next es ps watch watch' t w v n stale r k f c listed store_is q =
+    let W = waking rule s.store v in
     let ws = without_waiter t s.waiters in
     let there = λ (u : ℕ). waiter_marks u W ws ∙ ap (option_map (after_writes W)) (waiter_without t u s.next 0 s.waiters r) in
     let has_listed : (u : ℕ) → list_any (nat_eq u) stale ≡ stale_of W (cond (nat_eq u t) None (find_waiter u s.waiters)) = λ u.

@@ -11,7 +11,7 @@ use Rattle.stm_check.specs.TypedBlock.{Block}
 use Rattle.stm_watch.specs.Pairs.{is_read}
 use Rattle.stm_queue.specs.Queue.{Entry, has_ticket, with_ticket}
 use Rattle.stm_queue.proofs.Merging.{has_with}
-use Rattle.stm_history.specs.SlowDesk.{Since, Waiter, under, looked_on, intersects, current_since, is_current, wrote_more, after_writes, becomes_stale, stale_after, find_waiter, with_delivery}
+use Rattle.stm_history.specs.SlowDesk.{Since, Waiter, under, looked_on, intersects, current_since, is_current, woken_more, after_writes, becomes_stale, stale_after, find_waiter, with_delivery}
 use Rattle.stm_history.specs.Laws.{AreRising}
 use Rattle.stm_history.specs.QueueAndIndex.{with_tickets, due_of, read_since, watches_of}
 
@@ -108,25 +108,25 @@ pub index_gone : (d x r : Bool) (v : ℕ) (o : Option Waiter) (reads : List (ℕ
 index_gone true x r v o reads e same s = rw e (index_here r v o reads (same refl) s)
 index_gone false x r v o reads e same s = stay_bools x ∙ e
 
--- ---- writes
-read_more : (wrote : List ℕ) (b : Block) (o : Option Since) → read_since b (wrote_more wrote o) ≡ read_since b o
-read_more wrote b None = refl
-read_more wrote b (Some s) = refl
+-- ---- a finish
+read_more : (woken : List ℕ) (b : Block) (o : Option Since) → read_since b (woken_more woken o) ≡ read_since b o
+read_more woken b None = refl
+read_more woken b (Some s) = refl
 
 -- whether the block under a ticket becomes stale
 abbrev pub stale_of : List ℕ → Option Waiter → Bool
-stale_of wrote None = false
-stale_of wrote (Some w) = becomes_stale wrote w
+stale_of woken None = false
+stale_of woken (Some w) = becomes_stale woken w
 
--- what was current after the writes was so before them
+-- what is current after a finish was so before it
 still_bools : (a b : Bool) → not (a || b) ≡ true → not a ≡ true
 still_bools true b h = h
 still_bools false b h = refl
 
-pub still_current : (wrote : List ℕ) (b : Block) (o : Option Since) → current_since b (wrote_more wrote o) ≡ true → current_since b o ≡ true
-still_current wrote b None h = h
-still_current wrote b (Some s) h =
-    still_bools (intersects s.wrote (looked_on s.store_then b)) (intersects wrote (looked_on s.store_then b)) (ap not (sym (meets-append s.wrote wrote (looked_on s.store_then b))) ∙ h)
+pub still_current : (woken : List ℕ) (b : Block) (o : Option Since) → current_since b (woken_more woken o) ≡ true → current_since b o ≡ true
+still_current woken b None h = h
+still_current woken b (Some s) h =
+    still_bools (intersects s.woken (looked_on s.store_then b)) (intersects woken (looked_on s.store_then b)) (ap not (sym (meets-append s.woken woken (looked_on s.store_then b))) ∙ h)
 
 due_bools : (a b : Bool) → (b ≡ true → a ≡ true) → ((a && not b) || not a) ≡ not b
 due_bools true true h = refl
@@ -134,13 +134,13 @@ due_bools true false h = refl
 due_bools false true h = sym (h refl)
 due_bools false false h = refl
 
-queue_written : (wrote : List ℕ) (o : Option Waiter) → (stale_of wrote o || due_of o) ≡ due_of (option_map (after_writes wrote) o)
-queue_written wrote None = refl
-queue_written wrote (Some w) = due_bools (is_current w) (is_current (after_writes wrote w)) (still_current wrote w.block w.since)
+queue_written : (woken : List ℕ) (o : Option Waiter) → (stale_of woken o || due_of o) ≡ due_of (option_map (after_writes woken) o)
+queue_written woken None = refl
+queue_written woken (Some w) = due_bools (is_current w) (is_current (after_writes woken w)) (still_current woken w.block w.since)
 
-pub queue_finished : (d x : Bool) (wrote : List ℕ) (o : Option Waiter) → x ≡ due_of o → (d ≡ true → x ≡ false) → (stale_of wrote (cond d None o) || x) ≡ due_of (option_map (after_writes wrote) (cond d None o))
-queue_finished true x wrote o e current = current refl
-queue_finished false x wrote o e current = rw e (queue_written wrote o)
+pub queue_finished : (d x : Bool) (woken : List ℕ) (o : Option Waiter) → x ≡ due_of o → (d ≡ true → x ≡ false) → (stale_of woken (cond d None o) || x) ≡ due_of (option_map (after_writes woken) (cond d None o))
+queue_finished true x woken o e current = current refl
+queue_finished false x woken o e current = rw e (queue_written woken o)
 
 index_bools : (c d r : Bool) → (d ≡ true → c ≡ true) → ((c && r) && not ((c && not d) && r)) ≡ (d && r)
 index_bools true true true h = refl
@@ -150,38 +150,38 @@ index_bools true false false h = refl
 index_bools false true r h = absurd (cc (h refl))
 index_bools false false r h = refl
 
-index_written : (r : Bool) (v : ℕ) (wrote : List ℕ) (o : Option Waiter) → ((w : Waiter) → o ≡ Some w → r ≡ is_read (read_since w.block w.since) v) → (watches_of o v && not (stale_of wrote o && r)) ≡ watches_of (option_map (after_writes wrote) o) v
-index_written r v wrote None same = refl
-index_written r v wrote (Some w) same =
+index_written : (r : Bool) (v : ℕ) (woken : List ℕ) (o : Option Waiter) → ((w : Waiter) → o ≡ Some w → r ≡ is_read (read_since w.block w.since) v) → (watches_of o v && not (stale_of woken o && r)) ≡ watches_of (option_map (after_writes woken) o) v
+index_written r v woken None same = refl
+index_written r v woken (Some w) same =
     let s : r ≡ is_read (read_since w.block w.since) v = same w refl in
-    rw (s, read_more wrote w.block w.since) (index_bools (is_current w) (is_current (after_writes wrote w)) (is_read (read_since w.block w.since) v) (still_current wrote w.block w.since))
+    rw (s, read_more woken w.block w.since) (index_bools (is_current w) (is_current (after_writes woken w)) (is_read (read_since w.block w.since) v) (still_current woken w.block w.since))
 
 and_false : (a : Bool) → (a && false) ≡ false
 and_false true = refl
 and_false false = refl
 
 -- x: what the index had; then the pairs of what becomes stale were taken away, then those of the block that finished
-pub index_finished : (d x q r : Bool) (v : ℕ) (wrote : List ℕ) (o : Option Waiter) → x ≡ watches_of o v
+pub index_finished : (d x q r : Bool) (v : ℕ) (woken : List ℕ) (o : Option Waiter) → x ≡ watches_of o v
     → (d ≡ true → (w : Waiter) → o ≡ Some w → q ≡ is_read (read_since w.block w.since) v) → (d ≡ false → (w : Waiter) → o ≡ Some w → r ≡ is_read (read_since w.block w.since) v)
-    → ((x && not (stale_of wrote (cond d None o) && r)) && not (d && q)) ≡ watches_of (option_map (after_writes wrote) (cond d None o)) v
-index_finished true x q r v wrote o e same_q same_r = rw (e, stay_bools (watches_of o v)) (here o q (same_q refl)) where
+    → ((x && not (stale_of woken (cond d None o) && r)) && not (d && q)) ≡ watches_of (option_map (after_writes woken) (cond d None o)) v
+index_finished true x q r v woken o e same_q same_r = rw (e, stay_bools (watches_of o v)) (here o q (same_q refl)) where
   here : (p : Option Waiter) (q : Bool) → ((w : Waiter) → p ≡ Some w → q ≡ is_read (read_since w.block w.since) v) → (watches_of p v && not q) ≡ false
   here None q same = refl
   here (Some w) q same = rw (same w refl) (gone_bools (is_current w) (is_read (read_since w.block w.since) v))
-index_finished false x q r v wrote o e same_q same_r = stay_bools (x && not (stale_of wrote o && r)) ∙ rw e (index_written r v wrote o (same_r refl))
+index_finished false x q r v woken o e same_q same_r = stay_bools (x && not (stale_of woken o && r)) ∙ rw e (index_written r v woken o (same_r refl))
 
 -- ---- which tickets become stale
-stale_step : (d c : Bool) (u n k : ℕ) (wrote : List ℕ) (w : Waiter) (ws : List Waiter) → nat_eq u w.ticket ≡ d → becomes_stale wrote w ≡ c → AreRising n k (w ∷ ws)
-    → list_any (nat_eq u) (stale_after wrote ws) ≡ stale_of wrote (find_waiter u ws)
-    → list_any (nat_eq u) (map (λ x. x.ticket) (cond c (w ∷ filter (becomes_stale wrote) ws) (filter (becomes_stale wrote) ws))) ≡ stale_of wrote (cond d (Some w) (find_waiter u ws))
-stale_step true true u n k wrote w ws e s r more = rw (e, s) refl
-stale_step true false u n k wrote w ws e s r more =
+stale_step : (d c : Bool) (u n k : ℕ) (woken : List ℕ) (w : Waiter) (ws : List Waiter) → nat_eq u w.ticket ≡ d → becomes_stale woken w ≡ c → AreRising n k (w ∷ ws)
+    → list_any (nat_eq u) (stale_after woken ws) ≡ stale_of woken (find_waiter u ws)
+    → list_any (nat_eq u) (map (λ x. x.ticket) (cond c (w ∷ filter (becomes_stale woken) ws) (filter (becomes_stale woken) ws))) ≡ stale_of woken (cond d (Some w) (find_waiter u ws))
+stale_step true true u n k woken w ws e s r more = rw (e, s) refl
+stale_step true false u n k woken w ws e s r more =
     let l : u ≤ w.ticket = grind (arith, nat_tests) in
     let m : find_waiter u ws ≡ None = not_above u n w.ticket ws l r.2 in
-    more ∙ ap (stale_of wrote) m ∙ sym s
-stale_step false true u n k wrote w ws e s r more = rw e more
-stale_step false false u n k wrote w ws e s r more = more
+    more ∙ ap (stale_of woken) m ∙ sym s
+stale_step false true u n k woken w ws e s r more = rw e more
+stale_step false false u n k woken w ws e s r more = more
 
-pub has_stale : (u n k : ℕ) (wrote : List ℕ) (ws : List Waiter) → AreRising n k ws → list_any (nat_eq u) (stale_after wrote ws) ≡ stale_of wrote (find_waiter u ws)
-has_stale u n k wrote [] r = refl
-has_stale u n k wrote (w ∷ ws) r = stale_step (nat_eq u w.ticket) (becomes_stale wrote w) u n k wrote w ws refl refl r (has_stale u n w.ticket wrote ws r.2)
+pub has_stale : (u n k : ℕ) (woken : List ℕ) (ws : List Waiter) → AreRising n k ws → list_any (nat_eq u) (stale_after woken ws) ≡ stale_of woken (find_waiter u ws)
+has_stale u n k woken [] r = refl
+has_stale u n k woken (w ∷ ws) r = stale_step (nat_eq u w.ticket) (becomes_stale woken w) u n k woken w ws refl refl r (has_stale u n w.ticket woken ws r.2)

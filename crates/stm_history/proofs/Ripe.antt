@@ -7,11 +7,12 @@ use Rattle.stm_queue.specs.SortedTickets.{member}
 use Rattle.stm_history.specs.declared.event.Event.{Event}
 use Rattle.stm_history.specs.declared.waiting.Held.{Held}
 use Rattle.stm_history.specs.declared.waiting.Waiting.{Waiting}
-use Rattle.stm_history.specs.SlowDesk.{Since, Waiter, Slow, is_stale_since, current_since, is_current, find_waiter, state}
+use Rattle.stm_history.specs.declared.staleness.StalenessRule.{StalenessRule}
+use Rattle.stm_history.specs.SlowDesk.{Since, Waiter, Slow, is_stale_since, current_since, is_current, find_waiter, state_by}
 use Rattle.stm_history.specs.SlowSettle.{ends, can_end}
 use Rattle.stm_history.specs.SettleChoices.{ended_since, ended_then, is_ripe, AreCandidates}
 use Rattle.stm_history.specs.Entries.{kept_at, AreDue, IsHeld, held_ends, kept_ends, ends_under}
-use Rattle.stm_history.specs.Machine.{Parts, StandsFor}
+use Rattle.stm_history.specs.Machine.{Parts, StandsForBy}
 use Rattle.stm_history.proofs.Due.{IsFound, found}
 use Rattle.stm_history.proofs.Fresh.{current_holds}
 
@@ -52,7 +53,7 @@ pub begin_candidates : (s : Slow) (es : List (ℕ × Waiting)) (cs : List ℕ) �
 begin_candidates s es cs d c = λ t h. c t (kept_under t es (ripe_kept t es s.waiters d h))
 
 -- ---- the kept verdict is that of the present store
-module _ (table : List Declared) (history : List Event) (m : Parts) (k : StandsFor table history m) where
+module _ (rule : StalenessRule) (table : List Declared) (history : List Event) (m : Parts) (k : StandsForBy rule table history m) where
   not_stale : (b : Block) (o : Option Since) (s : Since) → o ≡ Some s → current_since b o ≡ true → is_stale_since b s ≡ false
   not_stale b None s e c = cc
   not_stale b (Some z) s e c = let q : z ≡ s = cc in subst (λ (x : Since). is_stale_since b x ≡ false) q (flip (is_stale_since b z) c) where
@@ -64,31 +65,31 @@ module _ (table : List Declared) (history : List Event) (m : Parts) (k : StandsF
   no_since b None e c = cc
   no_since b (Some s) e c = cc
 
-  ends_by : (t : ℕ) (w : Waiter) → find_waiter t (state table history).waiters ≡ Some w → is_current w ≡ true → (h : Option Held) (o : Option Since) → w.since ≡ o → IsHeld w.block h o
-      → can_end (state table history).store w ≡ ended_since w.block o
+  ends_by : (t : ℕ) (w : Waiter) → find_waiter t (state_by rule table history).waiters ≡ Some w → is_current w ≡ true → (h : Option Held) (o : Option Since) → w.since ≡ o → IsHeld w.block h o
+      → can_end (state_by rule table history).store w ≡ ended_since w.block o
   ends_by t w e c None None q i = absurd (no_since w.block w.since q c)
   ends_by t w e c None (Some s) q i = absurd i
   ends_by t w e c (Some h) None q i = absurd i
   ends_by t w e c (Some h) (Some s) q i =
-      let p = current_holds table history t w s h.reads h.verdict k.legal e q (not_stale w.block w.since s q c) i in
+      let p = current_holds rule table history t w s h.reads h.verdict k.legal e q (not_stale w.block w.since s q c) i in
       ap ends (p.verdict_is ∙ sym i.verdict_is)
 
-  ends_found : (t : ℕ) (w : Waiter) (o : Option Waiting) → find_waiter t (state table history).waiters ≡ Some w → is_current w ≡ true → IsFound o (Some w) → can_end (state table history).store w ≡ ended_since w.block w.since
+  ends_found : (t : ℕ) (w : Waiter) (o : Option Waiting) → find_waiter t (state_by rule table history).waiters ≡ Some w → is_current w ≡ true → IsFound o (Some w) → can_end (state_by rule table history).store w ≡ ended_since w.block w.since
   ends_found t w None e c f = absurd f
   ends_found t w (Some x) e c f = ends_by t w e c x.held w.since refl f.held
 
-  pub same_ends : (t : ℕ) (w : Waiter) → find_waiter t (state table history).waiters ≡ Some w → is_current w ≡ true → can_end (state table history).store w ≡ ended_since w.block w.since
-  same_ends t w e c = ends_found t w (kept_at t m.entries) e c (subst (IsFound (kept_at t m.entries)) e (found t m.entries (state table history).waiters k.stands.entries_are))
+  pub same_ends : (t : ℕ) (w : Waiter) → find_waiter t (state_by rule table history).waiters ≡ Some w → is_current w ≡ true → can_end (state_by rule table history).store w ≡ ended_since w.block w.since
+  same_ends t w e c = ends_found t w (kept_at t m.entries) e c (subst (IsFound (kept_at t m.entries)) e (found t m.entries (state_by rule table history).waiters k.stands.entries_are))
 
 -- ---- what ends, as it is asked
-pub ends_then : (table : List Declared) (history : List Event) (m : Parts) → StandsFor table history m → (t : ℕ) → kept_ends (kept_at t m.entries) ≡ ended_then (find_waiter t (state table history).waiters)
-ends_then table history m k t = kept_is (kept_at t m.entries) (find_waiter t (state table history).waiters) (found t m.entries (state table history).waiters k.stands.entries_are)
+pub ends_then : (rule : StalenessRule) (table : List Declared) (history : List Event) (m : Parts) → StandsForBy rule table history m → (t : ℕ) → kept_ends (kept_at t m.entries) ≡ ended_then (find_waiter t (state_by rule table history).waiters)
+ends_then rule table history m k t = kept_is (kept_at t m.entries) (find_waiter t (state_by rule table history).waiters) (found t m.entries (state_by rule table history).waiters k.stands.entries_are)
 
-pub ends_now : (table : List Declared) (history : List Event) (m : Parts) → StandsFor table history m → (t : ℕ) (w : Waiter) → find_waiter t (state table history).waiters ≡ Some w → is_current w ≡ true
-    → kept_ends (kept_at t m.entries) ≡ can_end (state table history).store w
-ends_now table history m k t w e c = ends_then table history m k t ∙ ap ended_then e ∙ sym (same_ends table history m k t w e c)
+pub ends_now : (rule : StalenessRule) (table : List Declared) (history : List Event) (m : Parts) → StandsForBy rule table history m → (t : ℕ) (w : Waiter) → find_waiter t (state_by rule table history).waiters ≡ Some w → is_current w ≡ true
+    → kept_ends (kept_at t m.entries) ≡ can_end (state_by rule table history).store w
+ends_now rule table history m k t w e c = ends_then rule table history m k t ∙ ap ended_then e ∙ sym (same_ends rule table history m k t w e c)
 
-pub if_begin : {E : Type 0} (m : Parts) (es : List (ℕ × Waiting)) (r : Result (List ℕ) E) → ((table : List Declared) (history : List Event) → StandsFor table history m → AreDue es (state table history).waiters)
-    → IfOk r (λ cs. (t : ℕ) → ends_under t es ≡ true → member t cs ≡ true) → IfOk r (λ cs. (table : List Declared) (history : List Event) → StandsFor table history m → AreCandidates (state table history) cs)
-if_begin m es (Ok cs) d h = λ table history k. begin_candidates (state table history) es cs (d table history k) h
+pub if_begin : {E : Type 0} (m : Parts) (es : List (ℕ × Waiting)) (r : Result (List ℕ) E) → ((rule : StalenessRule) (table : List Declared) (history : List Event) → StandsForBy rule table history m → AreDue es (state_by rule table history).waiters)
+    → IfOk r (λ cs. (t : ℕ) → ends_under t es ≡ true → member t cs ≡ true) → IfOk r (λ cs. (rule : StalenessRule) (table : List Declared) (history : List Event) → StandsForBy rule table history m → AreCandidates (state_by rule table history) cs)
+if_begin m es (Ok cs) d h = λ rule table history k. begin_candidates (state_by rule table history) es cs (d rule table history k) h
 if_begin m es (Err e) d h = tt

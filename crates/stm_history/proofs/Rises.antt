@@ -65,33 +65,33 @@ weaker : (j k : ℕ) (xs : List ℕ) → j ≤ k → RisesAbove k xs → RisesAb
 weaker j k [] l r = tt
 weaker j k (x ∷ xs) l r = let m : k < x = r.0 in (omega arith, r.1)
 
-stale_above_step : (b : Bool) (k : ℕ) (wrote : List ℕ) (w : Waiter) (ws : List Waiter) → k < w.ticket → RisesAbove w.ticket (stale_after wrote ws)
-    → RisesAbove k (map (λ x. x.ticket) (cond b (w ∷ filter (becomes_stale wrote) ws) (filter (becomes_stale wrote) ws)))
-stale_above_step true k wrote w ws l r = (l, r)
-stale_above_step false k wrote w ws l r = weaker k w.ticket (stale_after wrote ws) (omega arith) r
+stale_above_step : (b : Bool) (k : ℕ) (woken : List ℕ) (w : Waiter) (ws : List Waiter) → k < w.ticket → RisesAbove w.ticket (stale_after woken ws)
+    → RisesAbove k (map (λ x. x.ticket) (cond b (w ∷ filter (becomes_stale woken) ws) (filter (becomes_stale woken) ws)))
+stale_above_step true k woken w ws l r = (l, r)
+stale_above_step false k woken w ws l r = weaker k w.ticket (stale_after woken ws) (omega arith) r
 
-stale_above : (n k : ℕ) (wrote : List ℕ) (ws : List Waiter) → AreRising n k ws → RisesAbove k (stale_after wrote ws)
-stale_above n k wrote [] r = tt
-stale_above n k wrote (w ∷ ws) r = stale_above_step (becomes_stale wrote w) k wrote w ws r.0 (stale_above n w.ticket wrote ws r.2)
+stale_above : (n k : ℕ) (woken : List ℕ) (ws : List Waiter) → AreRising n k ws → RisesAbove k (stale_after woken ws)
+stale_above n k woken [] r = tt
+stale_above n k woken (w ∷ ws) r = stale_above_step (becomes_stale woken w) k woken w ws r.0 (stale_above n w.ticket woken ws r.2)
 
-pub stale_rising : (n k : ℕ) (wrote : List ℕ) (ws : List Waiter) → AreRising n k ws → IsRising (stale_after wrote ws)
-stale_rising n k wrote ws r = above k (stale_after wrote ws) (stale_above n k wrote ws r) where
+pub stale_rising : (n k : ℕ) (woken : List ℕ) (ws : List Waiter) → AreRising n k ws → IsRising (stale_after woken ws)
+stale_rising n k woken ws r = above k (stale_after woken ws) (stale_above n k woken ws r) where
   above : (k : ℕ) (zs : List ℕ) → RisesAbove k zs → IsRising zs
   above k [] r = tt
   above k (z ∷ zs) r = r.1
 
--- ---- the tickets that watch the written variables, without the one that finishes
-without_bools : (d : Bool) (wrote : List ℕ) (o : Option Waiter) → (not d && stale_of wrote o) ≡ stale_of wrote (cond d None o)
-without_bools true wrote o = refl
-without_bools false wrote o = refl
+-- ---- the tickets that watch the variables of a finish, without the one that finishes
+without_bools : (d : Bool) (woken : List ℕ) (o : Option Waiter) → (not d && stale_of woken o) ≡ stale_of woken (cond d None o)
+without_bools true woken o = refl
+without_bools false woken o = refl
 
-pub stale_is : (watch : Pairs) (es : List (ℕ × Waiting)) (ws : List Waiter) (wrote ts : List ℕ) (n t : ℕ) → AreDue es ws → AreWatched watch ws → AreRising n 0 ws
-    → IsRising ts → ((u : ℕ) → list_any (nat_eq u) ts ≡ (not (nat_eq u t) && watches watch wrote u))
-    → ts ≡ stale_after wrote (without_waiter t ws)
-stale_is watch es ws wrote ts n t d i r inc h =
-    rising_same ts (stale_after wrote (without_waiter t ws)) inc (stale_rising n 0 wrote (without_waiter t ws) (rising_without t n 0 ws r))
-    (λ u. h u ∙ ap (λ (b : Bool). not (nat_eq u t) && b) (watches_stale watch es ws wrote u d i) ∙ without_bools (nat_eq u t) wrote (find_waiter u ws)
-    ∙ sym (has_stale u n 0 wrote (without_waiter t ws) (rising_without t n 0 ws r) ∙ ap (stale_of wrote) (waiter_without t u n 0 ws r)))
+pub stale_is : (watch : Pairs) (es : List (ℕ × Waiting)) (ws : List Waiter) (woken ts : List ℕ) (n t : ℕ) → AreDue es ws → AreWatched watch ws → AreRising n 0 ws
+    → IsRising ts → ((u : ℕ) → list_any (nat_eq u) ts ≡ (not (nat_eq u t) && watches watch woken u))
+    → ts ≡ stale_after woken (without_waiter t ws)
+stale_is watch es ws woken ts n t d i r inc h =
+    rising_same ts (stale_after woken (without_waiter t ws)) inc (stale_rising n 0 woken (without_waiter t ws) (rising_without t n 0 ws r))
+    (λ u. h u ∙ ap (λ (b : Bool). not (nat_eq u t) && b) (watches_stale watch es ws woken u d i) ∙ without_bools (nat_eq u t) woken (find_waiter u ws)
+    ∙ sym (has_stale u n 0 woken (without_waiter t ws) (rising_without t n 0 ws r) ∙ ap (stale_of woken) (waiter_without t u n 0 ws r)))
 
 -- ---- a ticket of a rising list is queued: the others are still to be queued
 above_other : (u x : ℕ) (rest : List ℕ) (b : Bool) → nat_eq u x ≡ b → RisesAbove x rest → list_any (nat_eq u) rest ≡ true → b ≡ false

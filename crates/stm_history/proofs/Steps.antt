@@ -14,42 +14,43 @@ use Rattle.stm_history.specs.declared.event.Event.{Event}
 use Rattle.stm_history.specs.declared.event.What.{What}
 use Rattle.stm_history.specs.declared.event.What.TheVariants.{Submitted, Installed, Finished, Cancelled}
 use Rattle.stm_history.specs.Following.{HasRoom}
-use Rattle.stm_history.specs.Machine.{Parts, MovesTo, event}
-use Rattle.stm_history.specs.Plans.{IsPlan}
+use Rattle.stm_history.specs.Machine.{Parts, MovesToBy, event}
+use Rattle.stm_history.specs.Plans.{IsPlanBy}
 use Rattle.stm_history.specs.Refusals.{submit_refused, cancel_refused, differing, DeliverTold, TellsDelivery, finish_refused}
-use Rattle.stm_history.specs.SlowDesk.{Waiter, Slow, under, verdict_on, find_waiter, without_waiter, stale_after, written_in, MayInstall, MayFinish, Allows, initial_state, state, IsLegal, max_events, max_clients, after}
+use Rattle.stm_history.specs.declared.staleness.StalenessRule.{StalenessRule}
+use Rattle.stm_history.specs.SlowDesk.{Waiter, Slow, under, verdict_on, find_waiter, without_waiter, stale_after, waking, MayInstall, MayFinishBy, AllowsBy, initial_state, state_by, IsLegalBy, max_events, max_clients, after_by}
 use Rattle.stm_history.specs.JobsHandedOut.{IsPresent, block_at}
 use Rattle.stm_history.proofs.Allowed.{wait_allowed, leave_allowed, finish_allowed}
 use Rattle.stm_history.proofs.Folds.{legal_split, state-push}
 
-module _ (table : List Declared) (history : List Event) (client : ℕ) (what : What) (a : IsLegal table (history ++ event client what ∷ [])) where
+module _ (rule : StalenessRule) (table : List Declared) (history : List Event) (client : ℕ) (what : What) (a : IsLegalBy rule table (history ++ event client what ∷ [])) where
   -- the slow desk allows it
-  pub allowed : Allows (state table history) what
-  allowed = (legal_split (initial_state table) history (event client what) a.each).allowed.what
+  pub allowed : AllowsBy rule (state_by rule table history) what
+  allowed = (legal_split rule (initial_state table) history (event client what) a.each).allowed.what
 
   pub client_low : client < max_clients
-  client_low = (legal_split (initial_state table) history (event client what) a.each).allowed.client
+  client_low = (legal_split rule (initial_state table) history (event client what) a.each).allowed.client
 
   pub before_full : length history < max_events
   before_full = let l = length-append history (event client what ∷ []) in omega (arith, a.few, l)
 
 -- ---- submit
 
-pub no_submit : (table : List Declared) (history : List Event) (client t : ℕ) (b : Block) → IsLegal table (history ++ event client (Submitted t b) ∷ []) → submit_refused (state table history) false b ≡ None
-no_submit table history client t b a = wait_allowed (state table history) t b (allowed table history client (Submitted t b) a)
+pub no_submit : (rule : StalenessRule) (table : List Declared) (history : List Event) (client t : ℕ) (b : Block) → IsLegalBy rule table (history ++ event client (Submitted t b) ∷ []) → submit_refused (state_by rule table history) false b ≡ None
+no_submit rule table history client t b a = wait_allowed rule (state_by rule table history) t b (allowed rule table history client (Submitted t b) a)
 
-pub submit_same : (table : List Declared) (history : List Event) (client other t u : ℕ) (b c : Block) → IsLegal table (history ++ event client (Submitted t b) ∷ []) → IsLegal table (history ++ event other (Submitted u c) ∷ []) → t ≡ u
-submit_same table history client other t u b c k l = (allowed table history client (Submitted t b) k).0 ∙ sym (allowed table history other (Submitted u c) l).0
+pub submit_same : (rule : StalenessRule) (table : List Declared) (history : List Event) (client other t u : ℕ) (b c : Block) → IsLegalBy rule table (history ++ event client (Submitted t b) ∷ []) → IsLegalBy rule table (history ++ event other (Submitted u c) ∷ []) → t ≡ u
+submit_same rule table history client other t u b c k l = (allowed rule table history client (Submitted t b) k).0 ∙ sym (allowed rule table history other (Submitted u c) l).0
 
 -- ---- cancel
 
-pub no_cancel : (table : List Declared) (history : List Event) (client t : ℕ) → IsLegal table (history ++ event client (Cancelled t) ∷ []) → cancel_refused (state table history) false t ≡ None
-no_cancel table history client t a = leave_allowed (state table history) t (allowed table history client (Cancelled t) a)
+pub no_cancel : (rule : StalenessRule) (table : List Declared) (history : List Event) (client t : ℕ) → IsLegalBy rule table (history ++ event client (Cancelled t) ∷ []) → cancel_refused (state_by rule table history) false t ≡ None
+no_cancel rule table history client t a = leave_allowed rule (state_by rule table history) t (allowed rule table history client (Cancelled t) a)
 
 -- ---- finish
 
-pub no_finish : (table : List Declared) (history : List Event) (client t : ℕ) (v : Verdict) (n : ℕ) (stale : List ℕ) → IsLegal table (history ++ event client (Finished t v n stale) ∷ []) → finish_refused (state table history) false t ≡ None
-no_finish table history client t v n stale a = finish_allowed (state table history) t v n stale (allowed table history client (Finished t v n stale) a)
+pub no_finish : (rule : StalenessRule) (table : List Declared) (history : List Event) (client t : ℕ) (v : Verdict) (n : ℕ) (stale : List ℕ) → IsLegalBy rule table (history ++ event client (Finished t v n stale) ∷ []) → finish_refused (state_by rule table history) false t ≡ None
+no_finish rule table history client t v n stale a = finish_allowed rule (state_by rule table history) t v n stale (allowed rule table history client (Finished t v n stale) a)
 
 -- the fields are those of the block
 pub record AreSame (v u : Verdict) (n m : ℕ) (k l : List ℕ) : Type 0 where
@@ -60,24 +61,24 @@ pub record AreSame (v u : Verdict) (n m : ℕ) (k l : List ℕ) : Type 0 where
 some_same : {A : Type 0} (x y : A) (o : Option A) → o ≡ Some x → o ≡ Some y → x ≡ y
 some_same x y o e f = cc
 
-finish_same_by : (s : Slow) (t : ℕ) (v u : Verdict) (n m : ℕ) (k l : List ℕ) (o : Option Waiter) → IsSomeAnd o (λ w. MayFinish s t w v n k) → IsSomeAnd o (λ w. MayFinish s t w u m l) → AreSame v u n m k l
-finish_same_by s t v u n m k l None f g = absurd f
-finish_same_by s t v u n m k l (Some w) f g =
+finish_same_by : (rule : StalenessRule) (s : Slow) (t : ℕ) (v u : Verdict) (n m : ℕ) (k l : List ℕ) (o : Option Waiter) → IsSomeAnd o (λ w. MayFinishBy rule s t w v n k) → IsSomeAnd o (λ w. MayFinishBy rule s t w u m l) → AreSame v u n m k l
+finish_same_by rule s t v u n m k l None f g = absurd f
+finish_same_by rule s t v u n m k l (Some w) f g =
     let e : v ≡ u = some_same v u (verdict_on s.store w.block) f.verdict_is g.verdict_is in
     record {
       verdicts = e;
       firsts = f.first_new ∙ sym g.first_new;
-      tickets = f.listed ∙ ap (λ (x : Verdict). stale_after (written_in x) (without_waiter t s.waiters)) e ∙ sym g.listed;
+      tickets = f.listed ∙ ap (λ (x : Verdict). stale_after (waking rule s.store x) (without_waiter t s.waiters)) e ∙ sym g.listed;
     }
 
-plan_may : (s : Slow) (t : ℕ) (v : Verdict) (n : ℕ) (stale : List ℕ) → IsPlan s t v n stale → IsSomeAnd (find_waiter t s.waiters) (λ w. MayFinish s t w v n stale)
-plan_may s t v n stale p = subst (λ (o : Option Waiter). IsSomeAnd o (λ w. MayFinish s t w v n stale)) (sym p.found) p.may
+plan_may : (rule : StalenessRule) (s : Slow) (t : ℕ) (v : Verdict) (n : ℕ) (stale : List ℕ) → IsPlanBy rule s t v n stale → IsSomeAnd (find_waiter t s.waiters) (λ w. MayFinishBy rule s t w v n stale)
+plan_may rule s t v n stale p = subst (λ (o : Option Waiter). IsSomeAnd o (λ w. MayFinishBy rule s t w v n stale)) (sym p.found) p.may
 
 -- a legal finish has the fields of the plan
-pub finish_same : (table : List Declared) (history : List Event) (client t : ℕ) (v u : Verdict) (n m : ℕ) (k l : List ℕ)
-    → IsPlan (state table history) t v n k → IsLegal table (history ++ event client (Finished t u m l) ∷ []) → AreSame v u n m k l
-finish_same table history client t v u n m k l p g =
-    finish_same_by (state table history) t v u n m k l (find_waiter t (state table history).waiters) (plan_may (state table history) t v n k p) (allowed table history client (Finished t u m l) g)
+pub finish_same : (rule : StalenessRule) (table : List Declared) (history : List Event) (client t : ℕ) (v u : Verdict) (n m : ℕ) (k l : List ℕ)
+    → IsPlanBy rule (state_by rule table history) t v n k → IsLegalBy rule table (history ++ event client (Finished t u m l) ∷ []) → AreSame v u n m k l
+finish_same rule table history client t v u n m k l p g =
+    finish_same_by rule (state_by rule table history) t v u n m k l (find_waiter t (state_by rule table history).waiters) (plan_may rule (state_by rule table history) t v n k p) (allowed rule table history client (Finished t u m l) g)
 
 -- ---- install
 
@@ -90,10 +91,10 @@ install_by s v told w (Some x) m f a e d k =
     let trees : x.block.tree ≡ (message_block m).tree = ap (λ (y : Waiter). y.block.tree) q ∙ ap (λ (y : Block). y.tree) (sym e) in
     k.1 trees ∙ rw (a.not_current, d) refl
 
-pub no_install : (table : List Declared) (history : List Event) (client : ℕ) (v : Verdict) (told : Option DeliverError) (m : Evaluated) → IsLegal table (history ++ event client (Installed (message_ticket m) v) ∷ [])
-    → IsPresent (state table history) (message_ticket m) m → TellsDelivery told (state table history) false (message_ticket m) (message_block m) (message_reads m) → told ≡ None
-no_install table history client v told m a p k =
-    install_by (state table history) v told p.one (find_waiter (message_ticket m) (state table history).waiters) m p.found (allowed table history client (Installed (message_ticket m) v) a) p.block p.differs k
+pub no_install : (rule : StalenessRule) (table : List Declared) (history : List Event) (client : ℕ) (v : Verdict) (told : Option DeliverError) (m : Evaluated) → IsLegalBy rule table (history ++ event client (Installed (message_ticket m) v) ∷ [])
+    → IsPresent (state_by rule table history) (message_ticket m) m → TellsDelivery told (state_by rule table history) false (message_ticket m) (message_block m) (message_reads m) → told ≡ None
+no_install rule table history client v told m a p k =
+    install_by (state_by rule table history) v told p.one (find_waiter (message_ticket m) (state_by rule table history).waiters) m p.found (allowed rule table history client (Installed (message_ticket m) v) a) p.block p.differs k
 
 install_same_by : (s : Slow) (v u : Verdict) (w : Waiter) (o : Option Waiter) → o ≡ Some w → IsSomeAnd o (λ w. MayInstall s w v) → verdict_on s.store w.block ≡ Some u → u ≡ v
 install_same_by s v u w None f m e = absurd m
@@ -102,16 +103,16 @@ install_same_by s v u w (Some x) f m e =
     some_same u v (verdict_on s.store w.block) e (ap (λ (y : Waiter). verdict_on s.store y.block) (sym q) ∙ m.verdict_is)
 
 -- a legal verdict is the one that the message brings
-pub install_same : (table : List Declared) (history : List Event) (client : ℕ) (v : Verdict) (m : Evaluated) → IsLegal table (history ++ event client (Installed (message_ticket m) v) ∷ []) → IsPresent (state table history) (message_ticket m) m → message_verdict m ≡ v
-install_same table history client v m a p =
-    install_same_by (state table history) v (message_verdict m) p.one (find_waiter (message_ticket m) (state table history).waiters) p.found (allowed table history client (Installed (message_ticket m) v) a) p.verdict
+pub install_same : (rule : StalenessRule) (table : List Declared) (history : List Event) (client : ℕ) (v : Verdict) (m : Evaluated) → IsLegalBy rule table (history ++ event client (Installed (message_ticket m) v) ∷ []) → IsPresent (state_by rule table history) (message_ticket m) m → message_verdict m ≡ v
+install_same rule table history client v m a p =
+    install_same_by (state_by rule table history) v (message_verdict m) p.one (find_waiter (message_ticket m) (state_by rule table history).waiters) p.found (allowed rule table history client (Installed (message_ticket m) v) a) p.verdict
 
 none_waits : (s : Slow) (v : Verdict) (o : Option Waiter) → IsSomeAnd o (λ w. MayInstall s w v) → option_map (λ w. w.block) o ≢ None
 none_waits s v None m e = m
 none_waits s v (Some w) m e = cc
 
-pub no_block : (table : List Declared) (history : List Event) (client t : ℕ) (v : Verdict) → IsLegal table (history ++ event client (Installed t v) ∷ []) → block_at (state table history) t ≢ None
-no_block table history client t v a = none_waits (state table history) v (find_waiter t (state table history).waiters) (allowed table history client (Installed t v) a)
+pub no_block : (rule : StalenessRule) (table : List Declared) (history : List Event) (client t : ℕ) (v : Verdict) → IsLegalBy rule table (history ++ event client (Installed t v) ∷ []) → block_at (state_by rule table history) t ≢ None
+no_block rule table history client t v a = none_waits (state_by rule table history) v (find_waiter t (state_by rule table history).waiters) (allowed rule table history client (Installed t v) a)
 
 -- ---- the store stays, but for a finish
 
@@ -121,35 +122,35 @@ KeepsStore (Installed t v) = Unit {0}
 KeepsStore (Finished t v n stale) = ⊥
 KeepsStore (Cancelled t) = Unit {0}
 
-after_keeps : (s : Slow) (what : What) → KeepsStore what → (after s what).store ≡ s.store
-after_keeps s (Submitted t b) k = refl
-after_keeps s (Installed t v) k = refl
-after_keeps s (Finished t v n stale) k = absurd k
-after_keeps s (Cancelled t) k = refl
+after_keeps : (rule : StalenessRule) (s : Slow) (what : What) → KeepsStore what → (after_by rule s what).store ≡ s.store
+after_keeps rule s (Submitted t b) k = refl
+after_keeps rule s (Installed t v) k = refl
+after_keeps rule s (Finished t v n stale) k = absurd k
+after_keeps rule s (Cancelled t) k = refl
 
-pub store_kept : (table : List Declared) (history : List Event) (what : What) (m n : Parts) → KeepsStore what → HasRoom table history m → MovesTo table history what n → n.store ≡ m.store
-store_kept table history what m n k h moved =
+pub store_kept : (rule : StalenessRule) (table : List Declared) (history : List Event) (what : What) (m n : Parts) → KeepsStore what → HasRoom rule table history m → MovesToBy rule table history what n → n.store ≡ m.store
+store_kept rule table history what m n k h moved =
     let after_it = moved 0 (omega arith) in
-    after_it.stands.store_is ∙ ap (λ (s : Slow). s.store) (state-push (initial_state table) history (event 0 what)) ∙ after_keeps (state table history) what k ∙ sym h.stands.stands.store_is
+    after_it.stands.store_is ∙ ap (λ (s : Slow). s.store) (state-push rule (initial_state table) history (event 0 what)) ∙ after_keeps rule (state_by rule table history) what k ∙ sym h.stands.stands.store_is
 
 -- a call that may be refused keeps the store where it is not
-pub copy_kept : {E : Type 0} (r : Result Unit E) (table : List Declared) (history : List Event) (what : What) (m n : Parts) (copy : Option (List (Ty × Value))) → KeepsStore what → HasRoom table history m
-    → OnOk r ((T : List Declared) (H : List Event) → HasRoom T H m → MovesTo T H what n) → IfSome copy (λ cells. cells ≡ plains m.store) → OnOk r (IfSome copy (λ cells. cells ≡ plains n.store))
-copy_kept (Ok x) table history what m n None k h moved c = tt
-copy_kept (Ok x) table history what m n (Some cells) k h moved c = c ∙ ap plains (sym (store_kept table history what m n k h (moved table history h)))
-copy_kept (Err e) table history what m n copy k h moved c = tt
+pub copy_kept : (rule : StalenessRule) {E : Type 0} (r : Result Unit E) (table : List Declared) (history : List Event) (what : What) (m n : Parts) (copy : Option (List (Ty × Value))) → KeepsStore what → HasRoom rule table history m
+    → OnOk r ((R : StalenessRule) (T : List Declared) (H : List Event) → HasRoom R T H m → MovesToBy R T H what n) → IfSome copy (λ cells. cells ≡ plains m.store) → OnOk r (IfSome copy (λ cells. cells ≡ plains n.store))
+copy_kept rule (Ok x) table history what m n None k h moved c = tt
+copy_kept rule (Ok x) table history what m n (Some cells) k h moved c = c ∙ ap plains (sym (store_kept rule table history what m n k h (moved rule table history h)))
+copy_kept rule (Err e) table history what m n copy k h moved c = tt
 
-made_by_copy : (table : List Declared) (history : List Event) (what : What) (m n : Parts) (copy : Option (List (Ty × Value))) → KeepsStore what → HasRoom table history m → MovesTo table history what n → copy ≡ Some (plains m.store)
+made_by_copy : (rule : StalenessRule) (table : List Declared) (history : List Event) (what : What) (m n : Parts) (copy : Option (List (Ty × Value))) → KeepsStore what → HasRoom rule table history m → MovesToBy rule table history what n → copy ≡ Some (plains m.store)
     → IfSome copy (λ cells. cells ≡ plains n.store)
-made_by_copy table history what m n None k h moved c = tt
-made_by_copy table history what m n (Some cells) k h moved c =
+made_by_copy rule table history what m n None k h moved c = tt
+made_by_copy rule table history what m n (Some cells) k h moved c =
     let same : cells ≡ plains m.store = cc in
-    same ∙ ap plains (sym (store_kept table history what m n k h moved))
+    same ∙ ap plains (sym (store_kept rule table history what m n k h moved))
 
-pub copy_made : {E : Type 0} (r : Result Unit E) (table : List Declared) (history : List Event) (what : What) (m n : Parts) (copy : Option (List (Ty × Value))) → KeepsStore what → HasRoom table history m
-    → OnOk r ((T : List Declared) (H : List Event) → HasRoom T H m → MovesTo T H what n) → OnOk r (copy ≡ Some (plains m.store)) → OnOk r (IfSome copy (λ cells. cells ≡ plains n.store))
-copy_made (Ok x) table history what m n copy k h moved c = made_by_copy table history what m n copy k h (moved table history h) c
-copy_made (Err e) table history what m n copy k h moved c = tt
+pub copy_made : (rule : StalenessRule) {E : Type 0} (r : Result Unit E) (table : List Declared) (history : List Event) (what : What) (m n : Parts) (copy : Option (List (Ty × Value))) → KeepsStore what → HasRoom rule table history m
+    → OnOk r ((R : StalenessRule) (T : List Declared) (H : List Event) → HasRoom R T H m → MovesToBy R T H what n) → OnOk r (copy ≡ Some (plains m.store)) → OnOk r (IfSome copy (λ cells. cells ≡ plains n.store))
+copy_made rule (Ok x) table history what m n copy k h moved c = made_by_copy rule table history what m n copy k h (moved rule table history h) c
+copy_made rule (Err e) table history what m n copy k h moved c = tt
 
 pub map_none : {A B : Type 0} (f : A → B) (o : Option A) → is_some o ≡ false → option_map f o ≡ None
 map_none f None e = refl

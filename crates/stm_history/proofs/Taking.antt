@@ -15,10 +15,11 @@ use Rattle.stm_eval.specs.EvaluatedFields.{message_ticket, message_block, messag
 use Rattle.stm_queue.specs.Queue.{Entry, has_ticket, first_queued, sent_out}
 use Rattle.stm_queue.proofs.Membership.{has_sent_out}
 use Rattle.stm_history.specs.declared.event.Event.{Event}
-use Rattle.stm_history.specs.SlowDesk.{Waiter, Slow, under, find_waiter, state}
+use Rattle.stm_history.specs.declared.staleness.StalenessRule.{StalenessRule}
+use Rattle.stm_history.specs.SlowDesk.{Waiter, Slow, under, find_waiter, state_by}
 use Rattle.stm_history.specs.declared.waiting.Waiting.{Waiting}
 use Rattle.stm_history.specs.Entries.{kept_at, AreDue}
-use Rattle.stm_history.specs.Machine.{Parts, StandsFor}
+use Rattle.stm_history.specs.Machine.{Parts, StandsForBy}
 use Rattle.stm_history.specs.QueueAndIndex.{due_of}
 use Rattle.stm_history.specs.JobsHandedOut.{sent, block_at, AreJobs, IsKeptJob, AreKept, AreCovered, IsPresent}
 use Rattle.stm_history.specs.Refusals.{differing}
@@ -62,9 +63,9 @@ due_waits o None f d e = cc
 due_waits None (Some w) f d e = f
 due_waits (Some x) (Some w) f d e = cc
 
-pub queued_wait : (table : List Declared) (history : List Event) (m : Parts) → StandsFor table history m → (t : ℕ) → has_ticket t m.pending ≡ true → kept_at t m.entries ≢ None
-queued_wait table history m k t h =
-    let ws = (state table history).waiters in
+pub queued_wait : (rule : StalenessRule) (table : List Declared) (history : List Event) (m : Parts) → StandsForBy rule table history m → (t : ℕ) → has_ticket t m.pending ≡ true → kept_at t m.entries ≢ None
+queued_wait rule table history m k t h =
+    let ws = (state_by rule table history).waiters in
     due_waits (kept_at t m.entries) (find_waiter t ws) (found t m.entries ws k.stands.entries_are) (sym (k.stands.queue t) ∙ h)
 
 job_step : (o : Option Waiting) (p : Option Waiter) (b : Block) → IsFound o p → option_map (λ w. w.block) o ≡ Some b → option_map (λ w. w.block) p ≡ Some b
@@ -91,23 +92,23 @@ some_kept None None f s e = cc
 some_kept None (Some w) f s e = f
 some_kept (Some x) p f s e = cc
 
-pub kept_waits : (table : List Declared) (history : List Event) (m : Parts) → StandsFor table history m → (t : ℕ) → IsSome (find_waiter t (state table history).waiters) → kept_at t m.entries ≢ None
-kept_waits table history m k t s = let ws = (state table history).waiters in some_kept (kept_at t m.entries) (find_waiter t ws) (found t m.entries ws k.stands.entries_are) s
+pub kept_waits : (rule : StalenessRule) (table : List Declared) (history : List Event) (m : Parts) → StandsForBy rule table history m → (t : ℕ) → IsSome (find_waiter t (state_by rule table history).waiters) → kept_at t m.entries ≢ None
+kept_waits rule table history m k t s = let ws = (state_by rule table history).waiters in some_kept (kept_at t m.entries) (find_waiter t ws) (found t m.entries ws k.stands.entries_are) s
 
-pub job_covered : (table : List Declared) (history : List Event) (m : Parts) → StandsFor table history m → (j : Job) → IsKeptJob m.entries j → Covers (plains (state table history).store) j.block.uses
-job_covered table history m k j a =
-    let s = state table history in
-    (are_covered s (j ∷ []) (λ t w e. blocks_are_covered table history t w k.legal e) (are_jobs s m.entries (j ∷ []) k.stands.entries_are (a, tt))).0
+pub job_covered : (rule : StalenessRule) (table : List Declared) (history : List Event) (m : Parts) → StandsForBy rule table history m → (j : Job) → IsKeptJob m.entries j → Covers (plains (state_by rule table history).store) j.block.uses
+job_covered rule table history m k j a =
+    let s = state_by rule table history in
+    (are_covered s (j ∷ []) (λ t w e. blocks_are_covered rule table history t w k.legal e) (are_jobs s m.entries (j ∷ []) k.stands.entries_are (a, tt))).0
 
 waits_at : (s : Slow) (t : ℕ) (b : Block) (o : Option Waiter) → find_waiter t s.waiters ≡ o → option_map (λ w. w.block) o ≡ Some b → (one : Waiter) × (find_waiter t s.waiters ≡ Some one) × (one.block ≡ b)
 waits_at s t b None e h = cc
 waits_at s t b (Some w) e h = let q : w.block ≡ b = cc in (w, e, q)
 
-pub is_present : (table : List Declared) (history : List Event) (m : Parts) → StandsFor table history m → (t : ℕ) (j : Job) (message : Evaluated) (cells : List (Ty × Value))
+pub is_present : (rule : StalenessRule) (table : List Declared) (history : List Event) (m : Parts) → StandsForBy rule table history m → (t : ℕ) (j : Job) (message : Evaluated) (cells : List (Ty × Value))
     → cells ≡ plains m.store → j.ticket ≡ t → IsKeptJob m.entries j → message_ticket message ≡ j.ticket → message_block message ≡ j.block
-    → verdict (cell_value cells) j.block.tree ≡ Some (message_verdict message) → message_reads message ≡ reads_of (cell_value cells) j.block.tree → IsPresent (state table history) t message
-is_present table history m k t j message cells c i a mt mb mv mr =
-    let s = state table history in
+    → verdict (cell_value cells) j.block.tree ≡ Some (message_verdict message) → message_reads message ≡ reads_of (cell_value cells) j.block.tree → IsPresent (state_by rule table history) t message
+is_present rule table history m k t j message cells c i a mt mb mv mr =
+    let s = state_by rule table history in
     let there : block_at s t ≡ Some j.block = subst (λ (u : ℕ). block_at s u ≡ Some j.block) i (are_jobs s m.entries (j ∷ []) k.stands.entries_are (a, tt)).0 in
     let one = waits_at s t j.block (find_waiter t s.waiters) refl there in
     let same : cells ≡ plains s.store = c ∙ ap plains k.stands.store_is in

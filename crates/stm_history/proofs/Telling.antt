@@ -6,17 +6,17 @@ use Rattle.stm_store.specs.Tables.{Declared}
 use Rattle.stm_history.specs.declared.event.Event.{Event}
 use Rattle.stm_history.specs.SlowDesk.{max_cells}
 use Rattle.stm_history.specs.Fits.{FitsTable, FitsFormat, FitsVariable}
-use Rattle.stm_history.specs.Lines.{IsFormat, event_line, header_line, variable_line}
+use Rattle.stm_history.specs.Lines.{IsFormat, rule_of, event_line, header_line, variable_line}
 use Rattle.stm_history.proofs.ReadsBack.{event_one_line, header_one_line, variable_one_line, event_same, header_same, variable_same}
 use Rattle.stm_history.specs.HistoryText.{history_text, variable_lines}
-use Rattle.stm_history.specs.Judgement.{IsShort, max_line, MayDeclare, AreVariablesFrom, TellsFault, IsHistory, numbers}
+use Rattle.stm_history.specs.Judgement.{IsShort, max_line, MayDeclare, AreVariablesFrom, TellsFault, IsHistory, numbers_by}
 use Rattle.stm_history.specs.declared.files.fault.HistoryFault.{HistoryFault}
 use Rattle.stm_history.specs.declared.files.fault.HistoryFault.TheVariants.{BadHeader}
 use Rattle.stm_history.specs.declared.files.fault.Legal.{Legal}
 use Rattle.stm_history.specs.declared.files.check.Stage.{Stage}
 use Rattle.stm_history.specs.declared.files.check.Stage.TheVariants.{Declaring, Running}
 use Rattle.stm_history.specs.declared.files.replayer.Replayer.{Replayer}
-use Rattle.stm_history.specs.Following.{Follows}
+use Rattle.stm_history.specs.Following.{FollowsIn}
 use Rattle.stm_history.specs.Checking.{CheckerState, at_header, at_variables, at_events, LeadsTo, LinesUpTo, NoNext, NoFeed, IsStrange, strange, MayRefuse, HasTaken}
 use Rattle.stm_history.specs.Stages.{IsStage, Reached, LeadsToStage}
 use Rattle.stm_history.proofs.Cuts.{IsCut, cut_unique, no_cut, no_feed_at_end, nofeed-push, no_feed}
@@ -156,7 +156,7 @@ TellsFault-long r line taken more b h k l =
 pub TellsFault-end : (r : CheckerState) (line taken : List ℕ) → HasTaken r line taken → (0 < length line ⊎ (strange r ≡ BadHeader)) → TellsFault (strange r) taken
 TellsFault-end r line taken h some = subst (TellsFault (strange r)) (sym h.taken_is) (TellsFault-strange r h.whole line h.lines (NoNext-end r line h.one_line) some)
 
-pub IsHistory-end : (format : ℕ) (table : List Declared) (history : List Event) (line taken : List ℕ) (n : Legal) → HasTaken (at_events format table history) line taken → line ≡ [] → n ≡ numbers table history → IsHistory taken n
+pub IsHistory-end : (format : ℕ) (table : List Declared) (history : List Event) (line taken : List ℕ) (n : Legal) → HasTaken (at_events format table history) line taken → line ≡ [] → n ≡ numbers_by (rule_of format) table history → IsHistory taken n
 IsHistory-end format table history line taken n h e k =
     let s = h.lines in
     (format, s.0, table, history, record { text = h.taken_is ∙ ap (λ x. h.whole ++ x) e ∙ ap (λ x. x ++ []) s.1; few = s.3; variables = s.2; events = s.4; legal = s.5 }, k)
@@ -204,15 +204,15 @@ declaring_strange s format vars names (at_events other table history) e i =
     let never : IsStage (Declaring format vars names) (at_events other table history) = subst (λ (x : Stage). IsStage x (at_events other table history)) e i in absurd never
 
 leads_by : (format : ℕ) (names : List Declared) (r : Replayer) (line : List ℕ) (s : Stage) (p : CheckerState) → IsStage (Running format names r) p
-    → ((H : List Event) → Follows names H r → LeadsToStage (at_events format names H) line s) → LeadsToStage p line s
+    → ((H : List Event) → FollowsIn format names H r → LeadsToStage (at_events format names H) line s) → LeadsToStage p line s
 leads_by format names r line s at_header i f = absurd i
 leads_by format names r line s (at_variables other n table) i f = absurd i
 leads_by format names r line s (at_events other table history) i f =
     subst (λ (x : ℕ). LeadsToStage (at_events x table history) line s) i.0
-    (subst (λ (x : List Declared). LeadsToStage (at_events format x history) line s) i.1 (f history (subst (λ (x : List Declared). Follows x history r) (sym i.1) i.2)))
+    (subst (λ (x : List Declared). LeadsToStage (at_events format x history) line s) i.1 (f history (subst (λ (x : List Declared). FollowsIn format x history r) (sym i.1) (subst (λ (x : ℕ). FollowsIn x table history r) (sym i.0) i.2))))
 
 -- a line among the events, whatever the progress is called
-pub run_leads : (o : Result Stage HistoryFault) (format : ℕ) (names : List Declared) (r : Replayer) (line : List ℕ) → IfOk o (λ s. (H : List Event) → Follows names H r → LeadsToStage (at_events format names H) line s)
+pub run_leads : (o : Result Stage HistoryFault) (format : ℕ) (names : List Declared) (r : Replayer) (line : List ℕ) → IfOk o (λ s. (H : List Event) → FollowsIn format names H r → LeadsToStage (at_events format names H) line s)
     → IfOk o (λ s. (p : CheckerState) → IsStage (Running format names r) p → LeadsToStage p line s)
 run_leads (Ok s) format names r line f = λ p i. leads_by format names r line s p i f
 run_leads (Err e) format names r line f = tt

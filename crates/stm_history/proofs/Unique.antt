@@ -2,13 +2,14 @@
 use Rattle.std.proofs.Common.{◌≡◌, ℕ, ◌≤◌, ◌<◌, List, [], ◌∷◌, ◌++◌, length, refl, sym, ap, ◌∙◌, subst, arith, append_assoc, append-nil, length-append}
 use Rattle.stm_store.specs.Tables.{Declared}
 use Rattle.stm_history.specs.declared.event.Event.{Event}
-use Rattle.stm_history.specs.SlowDesk.{IsLegal, LegalFrom, Slow, max_cells, max_events, initial_state, after}
+use Rattle.stm_history.specs.declared.staleness.StalenessRule.{StalenessRule}
+use Rattle.stm_history.specs.SlowDesk.{IsLegalBy, LegalFromBy, Slow, max_cells, max_events, initial_state, after_by}
 use Rattle.stm_history.specs.Fits.{FitsTable, FitsFormat}
-use Rattle.stm_history.specs.Lines.{IsFormat, event_line, header_line, variable_line}
+use Rattle.stm_history.specs.Lines.{IsFormat, rule_of, event_line, header_line, variable_line}
 use Rattle.stm_history.proofs.ReadsBack.{event_one_line, header_one_line, variable_one_line, header_same, variable_same, event_same}
 use Rattle.stm_history.specs.declared.files.fault.HistoryFault.TheVariants.{BadHeader}
 use Rattle.stm_history.specs.HistoryText.{head_text, history_text, variable_lines, event_lines}
-use Rattle.stm_history.specs.Judgement.{IsShort, AreVariables, AreVariablesFrom, AreEvents, BeginsWithHistory, NoEventNext, IsIllegal, TellsFault, numbers}
+use Rattle.stm_history.specs.Judgement.{IsShort, AreVariables, AreVariablesFrom, AreEvents, BeginsWithHistory, NoEventNext, IsIllegalBy, TellsFault, numbers_by}
 use Rattle.stm_history.specs.FileLaws.{NumbersAreFixed, TextsAreOfOneHistory, HistoriesAreTaken}
 use Rattle.stm_history.proofs.Cuts.{IsCut, cut_unique, no_feed}
 use Rattle.stm_history.proofs.Written.{few_variables}
@@ -89,11 +90,11 @@ events_of p q T U H d e h = subst (λ (z : List Declared). AreEvents q z H) e (s
 
 -- two readings of the bytes of a history
 both : (bytes : List ℕ) (p q : ℕ) (T U : List Declared) (H K : List Event) (rest : List ℕ) → IsFormat p → IsFormat q → BeginsWithHistory p bytes T H [] → BeginsWithHistory q bytes U K rest
-    → (T ≡ U) × Compared q U H K rest
+    → (T ≡ U) × Compared q U H K rest × (p ≡ q)
 both bytes p q T U H K rest i j f g =
     let t = one_head p q T U H K [] rest i j f.variables g.variables (sym f.text ∙ g.text) in
     let tables : T ≡ U = (t.variables).tables in
-    (tables, compared q U H K rest (events_of p q T U H t.formats tables f.events) g.events (t.variables).rest)
+    (tables, compared q U H K rest (events_of p q T U H t.formats tables f.events) g.events (t.variables).rest, t.formats)
 
 -- ---- whole texts
 same_events : (q : ℕ) (U : List Declared) (H K : List Event) → Compared q U H K [] → H ≡ K
@@ -112,18 +113,19 @@ texts_are_of_one_history p q T U H K i j f g h k e =
 pub numbers_are_fixed : NumbersAreFixed
 numbers_are_fixed bytes m n a c =
     let b = both bytes a.0 c.0 a.2 c.2 a.3 c.3 [] a.1 c.1 a.4 c.4 in
-    a.5 ∙ ap (λ (z : List Declared). numbers z a.3) b.0 ∙ ap (numbers c.2) (same_events c.0 c.2 a.3 c.3 b.1) ∙ sym c.5
+    a.5 ∙ ap (λ (z : ℕ). numbers_by (rule_of z) a.2 a.3) b.2 ∙ ap (λ (z : List Declared). numbers_by (rule_of c.0) z a.3) b.0
+    ∙ ap (numbers_by (rule_of c.0) c.2) (same_events c.0 c.2 a.3 c.3 b.1) ∙ sym c.5
 
 -- a legal history goes on legally: each front of it is legal
-front_legal : (s : Slow) (K later : List Event) (e : Event) → LegalFrom s (K ++ e ∷ later) → LegalFrom s (K ++ e ∷ [])
-front_legal s [] later e l = (l.0, tt)
-front_legal s (x ∷ K) later e l = (l.0, front_legal (after s x.what) K later e l.1)
+front_legal : (rule : StalenessRule) (s : Slow) (K later : List Event) (e : Event) → LegalFromBy rule s (K ++ e ∷ later) → LegalFromBy rule s (K ++ e ∷ [])
+front_legal rule s [] later e l = (l.0, tt)
+front_legal rule s (x ∷ K) later e l = (l.0, front_legal rule (after_by rule s x.what) K later e l.1)
 
 bad_by : (q : ℕ) (U : List Declared) (H K : List Event) (rest : List ℕ) → Compared q U H K rest → 0 < length rest → NoEventNext q U rest → ⊥
 bad_by q U H K rest (all e f) some never = let l : length rest ≡ 0 = ap length f in absurd (omega (arith, l, some))
 bad_by q U H K rest (more n) some never = never n.event n.fits n.may n.short (event_lines n.later) n.text
 
-refused_by : (q : ℕ) (U : List Declared) (H K : List Event) (e : Event) (text : List ℕ) → Compared q U H K (event_line e ++ 10 ∷ text) → FitsTable U e → IsLegal U H → IsIllegal U K e → ⊥
+refused_by : (q : ℕ) (U : List Declared) (H K : List Event) (e : Event) (text : List ℕ) → Compared q U H K (event_line e ++ 10 ∷ text) → FitsTable U e → IsLegalBy (rule_of q) U H → IsIllegalBy (rule_of q) U K e → ⊥
 refused_by q U H K e text (all w f) fits legal illegal =
     let l : length (event_line e ++ 10 ∷ text) ≡ 0 = ap length f in
     let m = length-append (event_line e) (10 ∷ text) in
@@ -132,11 +134,11 @@ refused_by q U H K e text (more n) fits legal illegal =
     let c = cut_unique (event_line e) text (event_line n.event) (event_lines n.later) (no_feed _ (event_one_line U e fits)) (no_feed _ (event_one_line U n.event n.fits)) n.text in
     let same : e ≡ n.event = event_same U e n.event fits n.fits c.line in
     let whole : H ≡ K ++ e ∷ n.later = n.whole ∙ ap (λ (z : Event). K ++ z ∷ n.later) (sym same) in
-    let h : LegalFrom (initial_state U) (K ++ e ∷ n.later) = subst (λ (z : List Event). LegalFrom (initial_state U) z) whole legal.each in
+    let h : LegalFromBy (rule_of q) (initial_state U) (K ++ e ∷ n.later) = subst (λ (z : List Event). LegalFromBy (rule_of q) (initial_state U) z) whole legal.each in
     let few : length (K ++ e ∷ n.later) ≤ max_events = subst (λ (z : List Event). length z ≤ max_events) whole legal.few in
     let l = length-append K (e ∷ n.later) in
     let m = length-append K (e ∷ []) in
-    illegal (record { each = front_legal (initial_state U) K n.later e h; few = omega (arith, few, l, m) })
+    illegal (record { each = front_legal (rule_of q) (initial_state U) K n.later e h; few = omega (arith, few, l, m) })
 
 -- the header and the variables of a history are those of a table
 header_by : (bytes : List ℕ) (p : ℕ) (T : List Declared) (H : List Event) → IsFormat p → BeginsWithHistory p bytes T H [] → TellsFault BadHeader bytes → ⊥
@@ -149,5 +151,5 @@ histories_are_taken bytes n k a = (
   (λ t. bad_by t.0 t.2 a.3 t.3 t.4 (both bytes a.0 t.0 a.2 t.2 a.3 t.3 t.4 a.1 t.1 a.4 t.5).1 t.7 t.8),
   (λ t.
       let b = both bytes a.0 t.0 a.2 t.2 a.3 t.3 (event_line t.4 ++ 10 ∷ t.5) a.1 t.1 a.4 t.6 in
-      refused_by t.0 t.2 a.3 t.3 t.4 t.5 b.1 t.8 (subst (λ (z : List Declared). IsLegal z a.3) b.0 (a.4).legal) t.10),
+      refused_by t.0 t.2 a.3 t.3 t.4 t.5 b.1 t.8 (subst (λ (z : List Declared). IsLegalBy (rule_of t.0) z a.3) b.0 (subst (λ (z : ℕ). IsLegalBy (rule_of z) a.2 a.3) b.2 (a.4).legal)) t.10),
 )

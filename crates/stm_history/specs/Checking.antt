@@ -6,9 +6,9 @@ use Rattle.stm_history.specs.declared.files.fault.HistoryFault.{HistoryFault}
 use Rattle.stm_history.specs.declared.files.fault.HistoryFault.TheVariants.{BadHeader, BadLine, NotLegal, NoMemory}
 use Rattle.stm_history.specs.Fits.{FitsTable, FitsFormat}
 use Rattle.stm_history.specs.HistoryText.{head_text, history_text}
-use Rattle.stm_history.specs.Judgement.{IsShort, MayDeclare, AreVariables, AreEvents, NoEventNext, IsIllegal, next_line}
-use Rattle.stm_history.specs.Lines.{IsFormat, event_line, header_line, variable_line}
-use Rattle.stm_history.specs.SlowDesk.{IsLegal, max_cells}
+use Rattle.stm_history.specs.Judgement.{IsShort, MayDeclare, AreVariables, AreEvents, NoEventNext, IsIllegalBy, next_line}
+use Rattle.stm_history.specs.Lines.{IsFormat, rule_of, event_line, header_line, variable_line}
+use Rattle.stm_history.specs.SlowDesk.{IsLegalBy, max_cells}
 
 -- no byte is a line feed
 abbrev pub NoFeed : List ℕ → Type 0
@@ -30,7 +30,7 @@ abbrev pub LeadsTo : CheckerState → List ℕ → CheckerState → Type 0
 LeadsTo at_header line q = (format : ℕ) × (n : ℕ) × IsFormat format × (header_line format n ≡ line) × (n ≤ max_cells) × (q ≡ with_table format n [])
 LeadsTo (at_variables format n table) line q = (d : Declared) × (variable_line d ≡ line) × MayDeclare table d × (q ≡ with_table format n (table ++ d ∷ []))
 LeadsTo (at_events format table history) line q =
-    (e : Event) × (event_line e ≡ line) × FitsTable table e × FitsFormat format e × IsLegal table (history ++ e ∷ []) × (q ≡ at_events format table (history ++ e ∷ []))
+    (e : Event) × (event_line e ≡ line) × FitsTable table e × FitsFormat format e × IsLegalBy (rule_of format) table (history ++ e ∷ []) × (q ≡ at_events format table (history ++ e ∷ []))
 
 -- the line is none that may stand here, whatever the machine allows
 abbrev pub IsStrange : CheckerState → List ℕ → Type 0
@@ -49,7 +49,7 @@ abbrev pub Forbids : CheckerState → List ℕ → HistoryFault → Type 0
 Forbids at_header line f = ⊥
 Forbids (at_variables format n table) line f = ⊥
 Forbids (at_events format table history) line f =
-    (e : Event) × (event_line e ≡ line) × FitsTable table e × FitsFormat format e × IsIllegal table history e × (f ≡ NotLegal (next_line table history))
+    (e : Event) × (event_line e ≡ line) × FitsTable table e × FitsFormat format e × IsIllegalBy (rule_of format) table history e × (f ≡ NotLegal (next_line table history))
 
 -- why a line may be refused
 abbrev pub MayRefuse : CheckerState → List ℕ → HistoryFault → Type 0
@@ -60,7 +60,7 @@ abbrev pub LinesUpTo : CheckerState → List ℕ → Type 0
 LinesUpTo at_header text = text ≡ []
 LinesUpTo (at_variables format n table) text = IsFormat format × (text ≡ head_text format n table) × AreVariables table × (length table < n) × (n ≤ max_cells)
 LinesUpTo (at_events format table history) text =
-    IsFormat format × (text ≡ history_text format table history) × AreVariables table × (length table ≤ max_cells) × AreEvents format table history × IsLegal table history
+    IsFormat format × (text ≡ history_text format table history) × AreVariables table × (length table ≤ max_cells) × AreEvents format table history × IsLegalBy (rule_of format) table history
 
 -- no line that may stand here comes next
 abbrev pub NoNext : CheckerState → List ℕ → Type 0

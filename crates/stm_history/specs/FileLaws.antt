@@ -7,9 +7,9 @@ use Rattle.stm_history.specs.declared.files.fault.HistoryFault.TheVariants.{BadH
 use Rattle.stm_history.specs.declared.files.fault.Legal.{Legal}
 use Rattle.stm_history.specs.Fits.{FitsTable, AreInRange, IsOneLine}
 use Rattle.stm_history.specs.HistoryText.{history_text}
-use Rattle.stm_history.specs.Judgement.{IsHistory, TellsFault, AreVariables, AreEvents, numbers}
-use Rattle.stm_history.specs.Lines.{IsFormat, event_line}
-use Rattle.stm_history.specs.SlowDesk.{IsLegal}
+use Rattle.stm_history.specs.Judgement.{IsHistory, TellsFault, AreVariables, AreEvents, numbers_by}
+use Rattle.stm_history.specs.Lines.{IsFormat, rule_of, event_line}
+use Rattle.stm_history.specs.SlowDesk.{IsLegalBy}
 
 -- different events have different lines, without a line feed
 abbrev pub EachLineIsOneEvent : Type 0
@@ -36,9 +36,9 @@ HistoriesAreTaken =
     (bytes : List ℕ) (n : Legal) (k : ℕ) → IsHistory bytes n
     → (TellsFault BadHeader bytes → ⊥) × (TellsFault (BadLine k) bytes → ⊥) × (TellsFault (NotLegal k) bytes → ⊥)
 
--- The text of a legal history in a format that is read is one of its numbers. The table is one that declarations make, and its
+-- The text of a history in a format that is read, legal by the rule of the format, is one of its numbers. The table is one that declarations make, and its
 -- values are in the range of the program's types; each event fits the table and the format, and its line is short.
 abbrev pub WhatIsWrittenIsTaken : Type 0
 WhatIsWrittenIsTaken =
-    (format : ℕ) (table : List Declared) (history : List Event) → IsFormat format → AreDeclared table → AreInRange table → AreEvents format table history → IsLegal table history
-    → IsHistory (history_text format table history) (numbers table history)
+    (format : ℕ) (table : List Declared) (history : List Event) → IsFormat format → AreDeclared table → AreInRange table → AreEvents format table history
+    → IsLegalBy (rule_of format) table history → IsHistory (history_text format table history) (numbers_by (rule_of format) table history)

@@ -5,21 +5,28 @@ use Rattle.stm_store.specs.Tables.{Declared}
 use Rattle.stm_history.specs.declared.event.Event.{Event}
 use Rattle.stm_history.specs.declared.event.What.{What}
 use Rattle.stm_history.specs.declared.files.replayer.Replayer.{Replayer}
-use Rattle.stm_history.specs.Judgement.{IsIllegal}
-use Rattle.stm_history.specs.Machine.{Parts, StandsFor, event}
+use Rattle.stm_history.specs.declared.staleness.StalenessRule.{StalenessRule}
+use Rattle.stm_history.specs.Judgement.{IsIllegalBy}
+use Rattle.stm_history.specs.Lines.{rule_of}
+use Rattle.stm_history.specs.Machine.{Parts, StandsForBy, event}
 use Rattle.stm_history.specs.SlowDesk.{max_events}
 
 -- the machine stands for the history, which has room for an event more
-pub record HasRoom (table : List Declared) (history : List Event) (m : Parts) : Type 0 where
-  pub stands : StandsFor table history m
+pub record HasRoom (rule : StalenessRule) (table : List Declared) (history : List Event) (m : Parts) : Type 0 where
+  pub stands : StandsForBy rule table history m
   pub room : length history < max_events
 
 -- this can't happen next, whichever client's it is
-abbrev pub WhatIsIllegal : List Declared → List Event → What → Type 0
-WhatIsIllegal table history what = (client : ℕ) → IsIllegal table history (event client what)
+abbrev pub WhatIsIllegal : StalenessRule → List Declared → List Event → What → Type 0
+WhatIsIllegal rule table history what = (client : ℕ) → IsIllegalBy rule table history (event client what)
 
 -- the events so far are this history; a copy, where there is one, is of the present store
 pub record Follows (table : List Declared) (history : List Event) (r : Replayer) : Type 0 where
-  pub stands : StandsFor table history r.machine
+  pub stands : StandsForBy r.rule table history r.machine
   pub counted : r.events ≡ length history
   pub copied : IfSome r.copy (λ cells. cells ≡ plains r.machine.store)
+
+-- and they go by the rule of the format
+pub record FollowsIn (format : ℕ) (table : List Declared) (history : List Event) (r : Replayer) : Type 0 where
+  pub follows : Follows table history r
+  pub rule : r.rule ≡ rule_of format

@@ -7,8 +7,10 @@ use Rattle.stm_history.specs.declared.files.fault.HistoryFault.TheVariants.{Read
 use Rattle.stm_history.specs.declared.files.fault.Legal.{Legal}
 use Rattle.stm_history.specs.Fits.{FitsTable, FitsFormat, FitsVariable}
 use Rattle.stm_history.specs.HistoryText.{head_text, history_text}
-use Rattle.stm_history.specs.Lines.{IsFormat, event_line}
-use Rattle.stm_history.specs.SlowDesk.{state, IsLegal, max_cells}
+use Rattle.stm_history.specs.Lines.{IsFormat, rule_of, event_line}
+use Rattle.stm_history.specs.declared.staleness.StalenessRule.{StalenessRule}
+use Rattle.stm_history.specs.declared.staleness.StalenessRule.TheVariants.{Changed}
+use Rattle.stm_history.specs.SlowDesk.{state_by, IsLegal, IsLegalBy, max_cells}
 
 -- the most bytes of a line, its line feed not counted
 abbrev pub max_line : ℕ
@@ -35,34 +37,40 @@ abbrev pub AreEvents : ℕ → List Declared → List Event → Type 0
 AreEvents format table [] = ⊤
 AreEvents format table (e ∷ es) = FitsTable table e × FitsFormat format e × IsShort (event_line e) × AreEvents format table es
 
--- the bytes are the text of a legal history in the format, and then the rest
+-- the bytes are the text of a history in the format, legal by the rule of the format, and then the rest
 pub record BeginsWithHistory (format : ℕ) (bytes : List ℕ) (table : List Declared) (history : List Event) (rest : List ℕ) : Type 0 where
   pub text : bytes ≡ history_text format table history ++ rest
   pub few : length table ≤ max_cells
   pub variables : AreVariables table
   pub events : AreEvents format table history
-  pub legal : IsLegal table history
+  pub legal : IsLegalBy (rule_of format) table history
 
 -- the number of the line after these, the first line being number 1
 abbrev pub next_line : List Declared → List Event → ℕ
 next_line table history = length table + length history + 2
 
 -- how many events there are, how many blocks wait after them, and how many variables the store has
+abbrev pub numbers_by : StalenessRule → List Declared → List Event → Legal
+numbers_by rule table history = record { events = length history; waiting = length (state_by rule table history).waiters; cells = length (state_by rule table history).store }
+
 abbrev pub numbers : List Declared → List Event → Legal
-numbers table history = record { events = length history; waiting = length (state table history).waiters; cells = length (state table history).store }
+numbers = numbers_by Changed
 
 -- the bytes are the text of a legal history with these numbers, in a format that is read
 abbrev pub IsHistory : List ℕ → Legal → Type 0
 IsHistory bytes n =
-    (format : ℕ) × IsFormat format × (table : List Declared) × (history : List Event) × BeginsWithHistory format bytes table history [] × (n ≡ numbers table history)
+    (format : ℕ) × IsFormat format × (table : List Declared) × (history : List Event) × BeginsWithHistory format bytes table history [] × (n ≡ numbers_by (rule_of format) table history)
 
 -- no line of an event comes next: a line of no event that the format has, a line too long, or the end in mid-line
 abbrev pub NoEventNext : ℕ → List Declared → List ℕ → Type 0
 NoEventNext format table rest = (e : Event) → FitsTable table e → FitsFormat format e → IsShort (event_line e) → (more : List ℕ) → rest ≢ event_line e ++ 10 ∷ more
 
 -- the event can't follow
+abbrev pub IsIllegalBy : StalenessRule → List Declared → List Event → Event → Type 0
+IsIllegalBy rule table history e = IsLegalBy rule table (history ++ e ∷ []) → ⊥
+
 abbrev pub IsIllegal : List Declared → List Event → Event → Type 0
-IsIllegal table history e = IsLegal table (history ++ e ∷ []) → ⊥
+IsIllegal = IsIllegalBy Changed
 
 -- What is reported of bytes that are no legal history: the first fault. The first line and those of the variables are at fault
 -- where the bytes begin with those of no table in any format that is read; a later line where a legal history stands before it.
@@ -76,7 +84,7 @@ TellsFault (BadLine n) bytes =
     × (0 < length rest) × NoEventNext format table rest
 TellsFault (NotLegal n) bytes =
     (format : ℕ) × IsFormat format × (table : List Declared) × (history : List Event) × (e : Event) × (more : List ℕ)
-    × BeginsWithHistory format bytes table history (event_line e ++ 10 ∷ more) × (n ≡ next_line table history) × FitsTable table e × FitsFormat format e × IsIllegal table history e
+    × BeginsWithHistory format bytes table history (event_line e ++ 10 ∷ more) × (n ≡ next_line table history) × FitsTable table e × FitsFormat format e × IsIllegalBy (rule_of format) table history e
 
 -- what replaying tells of a list that isn't legal: the first event, counted from 1, that can't follow those before it
 abbrev pub Refuses : HistoryFault → List Declared → List Event → Type 0

@@ -1,5 +1,5 @@
 -- The lines of a history, without their line feeds: each is the compact text of a JSON value.
-use Rattle.std.specs.Prelude.{ℕ, ◌≤◌, List, map, codes}
+use Rattle.std.specs.Prelude.{ℕ, ◌≤◌, nat_le, if◌then◌else◌, List, map, codes}
 use Rattle.serde_json.specs.Data.{Data, null, boolean, number, unsigned, string, array, object, item, no_items, member, no_members}
 use Rattle.serde_json.specs.Find.{of_integer}
 use Rattle.serde_json.specs.View.{items_of}
@@ -16,14 +16,20 @@ use Rattle.stm_store.specs.Tables.{Declared}
 use Rattle.stm_history.specs.declared.event.Event.{Event}
 use Rattle.stm_history.specs.declared.event.What.{What}
 use Rattle.stm_history.specs.declared.event.What.TheVariants.{Submitted, Installed, Finished, Cancelled}
+use Rattle.stm_history.specs.declared.staleness.StalenessRule.{StalenessRule}
+use Rattle.stm_history.specs.declared.staleness.StalenessRule.TheVariants.{Written, Changed}
 
 -- the format of histories that is written, the latest of those that are read
 abbrev pub latest_format : ℕ
-latest_format = 2
+latest_format = 3
 
 -- the formats that are read
 abbrev pub IsFormat : ℕ → Type 0
 IsFormat format = (1 ≤ format) × (format ≤ latest_format)
+
+-- the rule by which the blocks of a history become stale: in formats 1 and 2 a block wakes the readers of all that it wrote
+abbrev pub rule_of : ℕ → StalenessRule
+rule_of format = if nat_le 3 format then Changed else Written
 
 abbrev pub number_data : ℕ → Data
 number_data n = number (unsigned n)

@@ -1,4 +1,5 @@
--- What a machine holds, the histories that it stands for, and which events it may be led on by.
+-- What a machine holds, the histories that it stands for, by a rule of what makes blocks stale, and which events it may be
+-- led on by.
 use Rattle.std.specs.Prelude.{◌≡◌, ℕ, Bool, false, ◌<◌, List, [], ◌∷◌, ◌++◌, length, None, IsSomeAnd}
 use Rattle.stm_terms.specs.declared.verdicts.Verdict.{Verdict}
 use Rattle.stm_store.specs.declared.cell.Cell.{Cell}
@@ -10,8 +11,10 @@ use Rattle.stm_watch.specs.Pairs.{Pairs}
 use Rattle.stm_history.specs.declared.event.Event.{Event}
 use Rattle.stm_history.specs.declared.event.What.{What}
 use Rattle.stm_history.specs.declared.waiting.Waiting.{Waiting}
-use Rattle.stm_history.specs.SlowDesk.{find_waiter, state, IsLegal, max_events, max_clients}
-use Rattle.stm_history.specs.Plans.{IsPlan}
+use Rattle.stm_history.specs.declared.staleness.StalenessRule.{StalenessRule}
+use Rattle.stm_history.specs.declared.staleness.StalenessRule.TheVariants.{Changed}
+use Rattle.stm_history.specs.SlowDesk.{find_waiter, state_by, IsLegalBy, max_events, max_clients}
+use Rattle.stm_history.specs.Plans.{IsPlanBy}
 use Rattle.stm_history.specs.Refusals.{submit_refused, cancel_refused, finish_refused, TellsDelivery}
 use Rattle.stm_history.specs.MachineInvariant.{Stands}
 
@@ -24,39 +27,57 @@ pub record Parts : Type 0 where
   pub watch : Pairs
 
 -- the history of the table is legal, and the parts are what it leads to
-pub record StandsFor (table : List Declared) (history : List Event) (m : Parts) : Type 0 where
-  pub legal : IsLegal table history
-  pub stands : Stands (state table history) m.store m.next m.entries m.pending m.watch
+pub record StandsForBy (rule : StalenessRule) (table : List Declared) (history : List Event) (m : Parts) : Type 0 where
+  pub legal : IsLegalBy rule table history
+  pub stands : Stands (state_by rule table history) m.store m.next m.entries m.pending m.watch
+
+abbrev pub StandsFor : List Declared → List Event → Parts → Type 0
+StandsFor = StandsForBy Changed
 
 abbrev pub event : ℕ → What → Event
 event client what = record { client = client; what = what }
 
 -- the parts are what the history leads to with this event more, whichever client's it is
+abbrev pub MovesToBy : StalenessRule → List Declared → List Event → What → Parts → Type 0
+MovesToBy rule table history what m = (client : ℕ) → client < max_clients → StandsForBy rule table (history ++ event client what ∷ []) m
+
 abbrev pub MovesTo : List Declared → List Event → What → Parts → Type 0
-MovesTo table history what m = (client : ℕ) → client < max_clients → StandsFor table (history ++ event client what ∷ []) m
+MovesTo = MovesToBy Changed
 
 -- the block may be submitted next
-pub record CanWait (table : List Declared) (history : List Event) (m : Parts) (block : Block) : Type 0 where
-  pub stands : StandsFor table history m
+pub record CanWaitBy (rule : StalenessRule) (table : List Declared) (history : List Event) (m : Parts) (block : Block) : Type 0 where
+  pub stands : StandsForBy rule table history m
   pub room : length history < max_events
-  pub allowed : submit_refused (state table history) false block ≡ None
+  pub allowed : submit_refused (state_by rule table history) false block ≡ None
+
+abbrev pub CanWait : List Declared → List Event → Parts → Block → Type 0
+CanWait = CanWaitBy Changed
 
 -- the message may be installed next: it is of the block that waits, and nothing refuses it
-pub record CanInstall (table : List Declared) (history : List Event) (m : Parts) (message : Evaluated) : Type 0 where
-  pub stands : StandsFor table history m
+pub record CanInstallBy (rule : StalenessRule) (table : List Declared) (history : List Event) (m : Parts) (message : Evaluated) : Type 0 where
+  pub stands : StandsForBy rule table history m
   pub room : length history < max_events
-  pub allowed : TellsDelivery None (state table history) false (message_ticket message) (message_block message) (message_reads message)
-  pub same : IsSomeAnd (find_waiter (message_ticket message) (state table history).waiters) (λ w. w.block.tree ≡ (message_block message).tree)
+  pub allowed : TellsDelivery None (state_by rule table history) false (message_ticket message) (message_block message) (message_reads message)
+  pub same : IsSomeAnd (find_waiter (message_ticket message) (state_by rule table history).waiters) (λ w. w.block.tree ≡ (message_block message).tree)
+
+abbrev pub CanInstall : List Declared → List Event → Parts → Evaluated → Type 0
+CanInstall = CanInstallBy Changed
 
 -- the block under the ticket may finish next, by this plan
-pub record CanFinish (table : List Declared) (history : List Event) (m : Parts) (t : ℕ) (verdict : Verdict) (first_new : ℕ) (stale : List ℕ) : Type 0 where
-  pub stands : StandsFor table history m
+pub record CanFinishBy (rule : StalenessRule) (table : List Declared) (history : List Event) (m : Parts) (t : ℕ) (verdict : Verdict) (first_new : ℕ) (stale : List ℕ) : Type 0 where
+  pub stands : StandsForBy rule table history m
   pub room : length history < max_events
-  pub allowed : finish_refused (state table history) false t ≡ None
-  pub plan : IsPlan (state table history) t verdict first_new stale
+  pub allowed : finish_refused (state_by rule table history) false t ≡ None
+  pub plan : IsPlanBy rule (state_by rule table history) t verdict first_new stale
+
+abbrev pub CanFinish : List Declared → List Event → Parts → ℕ → Verdict → ℕ → List ℕ → Type 0
+CanFinish = CanFinishBy Changed
 
 -- the block under the ticket may be cancelled next
-pub record CanLeave (table : List Declared) (history : List Event) (m : Parts) (t : ℕ) : Type 0 where
-  pub stands : StandsFor table history m
+pub record CanLeaveBy (rule : StalenessRule) (table : List Declared) (history : List Event) (m : Parts) (t : ℕ) : Type 0 where
+  pub stands : StandsForBy rule table history m
   pub room : length history < max_events
-  pub allowed : cancel_refused (state table history) false t ≡ None
+  pub allowed : cancel_refused (state_by rule table history) false t ≡ None
+
+abbrev pub CanLeave : List Declared → List Event → Parts → ℕ → Type 0
+CanLeave = CanLeaveBy Changed

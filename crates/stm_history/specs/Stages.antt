@@ -7,7 +7,7 @@ use Rattle.stm_history.specs.declared.files.check.Stage.TheVariants.{Before, Dec
 use Rattle.stm_history.specs.declared.files.fault.HistoryFault.{HistoryFault}
 use Rattle.stm_history.specs.declared.files.fault.HistoryFault.TheVariants.{BadHeader, NoMemory}
 use Rattle.stm_history.specs.Checking.{CheckerState, at_header, at_variables, at_events, LeadsTo, HasTaken}
-use Rattle.stm_history.specs.Following.{Follows}
+use Rattle.stm_history.specs.Following.{FollowsIn}
 use Rattle.stm_history.specs.SlowDesk.{max_cells}
 
 -- the stage stands for the progress
@@ -20,7 +20,7 @@ IsStage (Declaring format vars names) (at_variables f n table) = (format ≡ f) 
 IsStage (Declaring format vars names) (at_events f table history) = ⊥
 IsStage (Running format names r) at_header = ⊥
 IsStage (Running format names r) (at_variables f n table) = ⊥
-IsStage (Running format names r) (at_events f table history) = (format ≡ f) × (names ≡ table) × Follows table history r
+IsStage (Running format names r) (at_events f table history) = (format ≡ f) × (names ≡ table) × FollowsIn f table history r
 
 -- the line leads from this progress on to one that the stage stands for
 abbrev pub LeadsToStage : CheckerState → List ℕ → Stage → Type 0

@@ -8,15 +8,17 @@ ghost use Rattle.stm_watch.specs.Pairs.{watches};
 ghost use Rattle.stm_queue.specs.SortedTickets.{IsRising};
 ghost use Rattle.stm_history.specs.declared.event.Event.{Event};
 ghost use Rattle.stm_history.specs.declared.event.What.{What as AnyWhat};
-ghost use Rattle.stm_history.specs.SlowDesk.{state, is_blocks, written_in};
-ghost use Rattle.stm_history.specs.Machine.{StandsFor, CanFinish, MovesTo};
+ghost use Rattle.stm_history.specs.declared.staleness.StalenessRule.{StalenessRule as AnyRule};
+ghost use Rattle.stm_history.specs.SlowDesk.{state_by, is_blocks, waking};
+ghost use Rattle.stm_history.specs.Machine.{StandsForBy, CanFinishBy, MovesToBy};
 ghost use Rattle.stm_history.specs.QueueAndIndex.{with_tickets};
-ghost use Rattle.stm_history.specs.Plans.{IsPlan};
+ghost use Rattle.stm_history.specs.Plans.{IsPlanBy};
 ghost use Rattle.stm_history.specs.Refusals.{overflows, finish_refused, finish_told};
 
 use crate::errors::FinishError;
 use crate::index::{forget, queue_all, stale_tickets, unwatch_all};
 use crate::machine::Machine;
+use crate::staleness::StalenessRule;
 use crate::tickets::Tickets;
 use std::alloc::Global;
 use stm_queue::Pending;
@@ -63,6 +65,7 @@ fn news_of(verdict: &Verdict) -> usize
 /// The copy of the verdict, the number and the tickets that a finish needs.
 fn make_plan(
     alloc: Global,
+    rule: StalenessRule,
     store: &Store,
     watch: &Watch,
     verdict: &Verdict,
@@ -71,9 +74,9 @@ fn make_plan(
     ensures verdict { IfOk result (λ p. p.verdict ≡ verdict.now) }
     ensures first_new { IfOk result (λ p. p.first_new ≡ length store.now) }
     ensures rising { IfOk result (λ p. IsRising p.stale) }
-    ensures watchers { IfOk result (λ p. (u : ℕ) → list_any (nat_eq u) p.stale ≡ (not (nat_eq u ticket) && watches watch.now (written_in verdict.now) u)) }
+    ensures watchers { IfOk result (λ p. (u : ℕ) → list_any (nat_eq u) p.stale ≡ (not (nat_eq u ticket) && watches watch.now (waking rule store.now verdict.now) u)) }
 {
-    let stale = Tickets::from_vec(stale_tickets(alloc, watch, verdict, ticket)?);
+    let stale = Tickets::from_vec(stale_tickets(alloc, rule, store, watch, verdict, ticket)?);
     let verdict = verdict.copy(alloc)?;
     Ok(Plan {
         verdict,
@@ -104,10 +107,11 @@ fn take_effect(
 }
 
 impl Machine {
-    /// Why the block can't be finished, or what its finish is to do. `full` says that the history has no room for an event.
-    pub fn plan(&self, ticket: u32, full: bool) -> Result<Plan, FinishError>
-        ensures told { (T : List Declared) (H : List Event) → StandsFor T H self.now → finish_told result ≡ finish_refused (state T H) full ticket }
-        ensures plan { IfOk result (λ p. (T : List Declared) (H : List Event) → StandsFor T H self.now → IsPlan (state T H) ticket p.verdict p.first_new p.stale) }
+    /// Why the block can't be finished, or what its finish is to do, by the rule that the history goes by. `full` says that the
+    /// history has no room for an event.
+    pub fn plan(&self, ticket: u32, full: bool, rule: StalenessRule) -> Result<Plan, FinishError>
+        ensures told { (T : List Declared) (H : List Event) → StandsForBy rule T H self.now → finish_told result ≡ finish_refused (state_by rule T H) full ticket }
+        ensures plan { IfOk result (λ p. (T : List Declared) (H : List Event) → StandsForBy rule T H self.now → IsPlanBy rule (state_by rule T H) ticket p.verdict p.first_new p.stale) }
     {
         let waiting = match self.waiting.get(ticket) {
             Some(waiting) => waiting,
@@ -132,7 +136,14 @@ impl Machine {
         if overflows_store(&self.store, &held.verdict) {
             return Err(FinishError::CellsFull);
         }
-        match make_plan(self.alloc, &self.store, &self.watch, &held.verdict, ticket) {
+        match make_plan(
+            self.alloc,
+            rule,
+            &self.store,
+            &self.watch,
+            &held.verdict,
+            ticket,
+        ) {
             Ok(plan) => Ok(plan),
             Err(_) => Err(FinishError::NoMemory),
         }
@@ -140,8 +151,8 @@ impl Machine {
 
     /// The block takes effect by its plan and waits no more. Its stale tickets are queued.
     pub fn finish(&mut self, ticket: u32, plan: &Plan) -> Result<Applied, NoMemory>
-        requires { (T : List Declared) × (H : List Event) × CanFinish T H self.old ticket plan.now.verdict plan.now.first_new plan.now.stale }
-        ensures moved { OnOk result ((T : List Declared) (H : List Event) → CanFinish T H self.old ticket plan.now.verdict plan.now.first_new plan.now.stale → MovesTo T H (AnyWhat.Finished ticket plan.now.verdict plan.now.first_new plan.now.stale) self.new) }
+        requires { (R : AnyRule) × (T : List Declared) × (H : List Event) × CanFinishBy R T H self.old ticket plan.now.verdict plan.now.first_new plan.now.stale }
+        ensures moved { OnOk result ((R : AnyRule) (T : List Declared) (H : List Event) → CanFinishBy R T H self.old ticket plan.now.verdict plan.now.first_new plan.now.stale → MovesToBy R T H (AnyWhat.Finished ticket plan.now.verdict plan.now.first_new plan.now.stale) self.new) }
         ensures applied { IfOk result (λ a. a ≡ told_of self.old.store plan.now.verdict) }
         ensures pending { OnOk result (self.new.pending ≡ with_tickets plan.now.stale self.old.pending) }
         ensures err { OnErr result (self.new ≡ self.old) }

@@ -5,13 +5,15 @@ ghost use Rattle.std.specs.List.{list_any};
 ghost use Rattle.stm_watch.specs.Pairs.{has_pair, is_read, watches, WithoutReads};
 ghost use Rattle.stm_queue.specs.Queue.{has_ticket};
 ghost use Rattle.stm_queue.specs.SortedTickets.{IsRising, delete};
-ghost use Rattle.stm_history.specs.SlowDesk.{written_in};
+ghost use Rattle.stm_history.specs.SlowDesk.{written_in, waking};
 ghost use Rattle.stm_history.specs.Entries.{kept_at, kept_reads, lose};
 ghost use Rattle.stm_history.specs.QueueAndIndex.{with_tickets};
 
+use crate::staleness::StalenessRule;
 use crate::waiting::{Waiting, WaitingBlocks};
 use std::alloc::{AllocError as NoMemory, Global};
 use stm_queue::Pending;
+use stm_store::Store;
 use stm_terms::values::Value;
 use stm_terms::verdicts::Verdict;
 use stm_watch::Watch;
@@ -45,17 +47,34 @@ fn drop_ticket(tickets: &mut Vec<u32>, ticket: u32)
     tickets.retain(|other| ticket != *other);
 }
 
-/// The tickets that watch a variable which the verdict writes, rising, but for the one that finishes.
+/// The variables by which a verdict makes their readers stale when it takes effect on the store.
+fn waking_variables(
+    alloc: Global,
+    rule: StalenessRule,
+    store: &Store,
+    verdict: &Verdict,
+) -> Result<Vec<u32>, NoMemory>
+    ensures { IfOk result (λ vs. vs.items ≡ waking rule store.now verdict.now) }
+{
+    match rule {
+        StalenessRule::Written => written_variables(alloc, verdict),
+        StalenessRule::Changed => store.changes(verdict),
+    }
+}
+
+/// The tickets that watch a variable by which the verdict makes its readers stale, rising, but for the one that finishes.
 pub(crate) fn stale_tickets(
     alloc: Global,
+    rule: StalenessRule,
+    store: &Store,
     watch: &Watch,
     verdict: &Verdict,
     ticket: u32,
 ) -> Result<Vec<u32>, NoMemory>
     ensures rising { IfOk result (λ ts. IsRising ts.items) }
-    ensures watchers { IfOk result (λ ts. (u : ℕ) → list_any (nat_eq u) ts.items ≡ (not (nat_eq u ticket) && watches watch.now (written_in verdict.now) u)) }
+    ensures watchers { IfOk result (λ ts. (u : ℕ) → list_any (nat_eq u) ts.items ≡ (not (nat_eq u ticket) && watches watch.now (waking rule store.now verdict.now) u)) }
 {
-    let variables = written_variables(alloc, verdict)?;
+    let variables = waking_variables(alloc, rule, store, verdict)?;
     let mut tickets = watch.watchers(&variables)?;
     drop_ticket(&mut tickets, ticket);
     Ok(tickets)

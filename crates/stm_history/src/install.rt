@@ -8,8 +8,9 @@ ghost use Rattle.stm_queue.specs.Queue.{without_ticket};
 ghost use Rattle.stm_eval.specs.EvaluatedFields.{message_ticket, message_block, message_reads, message_verdict};
 ghost use Rattle.stm_history.specs.declared.event.Event.{Event};
 ghost use Rattle.stm_history.specs.declared.event.What.{What as AnyWhat};
-ghost use Rattle.stm_history.specs.SlowDesk.{under, find_waiter, state};
-ghost use Rattle.stm_history.specs.Machine.{StandsFor, CanInstall, MovesTo};
+ghost use Rattle.stm_history.specs.declared.staleness.StalenessRule.{StalenessRule as AnyRule};
+ghost use Rattle.stm_history.specs.SlowDesk.{under, find_waiter, state_by};
+ghost use Rattle.stm_history.specs.Machine.{StandsForBy, CanInstallBy, MovesToBy};
 ghost use Rattle.stm_history.specs.Refusals.{differing, has_value, install_told, TellsDelivery};
 
 use crate::errors::DeliverError;
@@ -71,8 +72,8 @@ fn watch_reads(watch: &mut Watch, message: &Evaluated) -> Result<(), NoMemory>
 impl Machine {
     /// Why the message can't be installed, an out-of-memory error aside. `full` says that the history has no room for an event.
     pub fn may_install(&self, message: &Evaluated, full: bool) -> Result<(), DeliverError>
-        ensures told { (T : List Declared) (H : List Event) → StandsFor T H self.now → TellsDelivery (install_told result) (state T H) full (message_ticket message.now) (message_block message.now) (message_reads message.now) }
-        ensures same { OnOk result ((T : List Declared) (H : List Event) → StandsFor T H self.now → IsSomeAnd (find_waiter (message_ticket message.now) (state T H).waiters) (λ w. w.block.tree ≡ (message_block message.now).tree)) }
+        ensures told { (R : AnyRule) (T : List Declared) (H : List Event) → StandsForBy R T H self.now → TellsDelivery (install_told result) (state_by R T H) full (message_ticket message.now) (message_block message.now) (message_reads message.now) }
+        ensures same { OnOk result ((R : AnyRule) (T : List Declared) (H : List Event) → StandsForBy R T H self.now → IsSomeAnd (find_waiter (message_ticket message.now) (state_by R T H).waiters) (λ w. w.block.tree ≡ (message_block message.now).tree)) }
     {
         let ticket = message.ticket();
         let waiting = match self.waiting.get(ticket) {
@@ -97,8 +98,8 @@ impl Machine {
 
     /// Installs a message: its block is current from then on, neither queued nor out. A refusal hands the message back.
     pub fn install(&mut self, message: Evaluated) -> Result<(), (Evaluated, NoMemory)>
-        requires { (T : List Declared) × (H : List Event) × CanInstall T H self.old message }
-        ensures moved { OnOk result ((T : List Declared) (H : List Event) → CanInstall T H self.old message → MovesTo T H (AnyWhat.Installed (message_ticket message) (message_verdict message)) self.new) }
+        requires { (R : AnyRule) × (T : List Declared) × (H : List Event) × CanInstallBy R T H self.old message }
+        ensures moved { OnOk result ((R : AnyRule) (T : List Declared) (H : List Event) → CanInstallBy R T H self.old message → MovesToBy R T H (AnyWhat.Installed (message_ticket message) (message_verdict message)) self.new) }
         ensures pending { OnOk result (self.new.pending ≡ without_ticket (message_ticket message) self.old.pending) }
         ensures back { IfErr result (λ e. e.0 ≡ message) }
         ensures err { OnErr result (self.new ≡ self.old) }

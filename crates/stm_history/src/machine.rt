@@ -1,7 +1,8 @@
 //! The machine, and how it opens.
 
 ghost use Rattle.std.specs.Prelude.{◌≡◌, List, [], IfOk};
-ghost use Rattle.stm_history.specs.Machine.{StandsFor};
+ghost use Rattle.stm_history.specs.declared.staleness.StalenessRule.{StalenessRule as AnyRule};
+ghost use Rattle.stm_history.specs.Machine.{StandsForBy};
 
 use crate::waiting::WaitingBlocks;
 use std::alloc::Global;
@@ -42,7 +43,7 @@ impl Machine {
 
     /// A machine with the variables of a table, on which no block waits.
     pub fn open(alloc: Global, table: &Table) -> Result<Machine, NoMemory>
-        ensures stands { IfOk result (λ m. StandsFor table.now [] m) }
+        ensures stands { IfOk result (λ m. (R : AnyRule) → StandsForBy R table.now [] m) }
         ensures pending { IfOk result (λ m. m.pending ≡ []) }
     {
         Ok(Machine {

@@ -5,9 +5,10 @@ ghost use Rattle.stm_store.specs.Cells.{plains};
 ghost use Rattle.stm_store.specs.Tables.{Declared};
 ghost use Rattle.stm_queue.specs.Queue.{has_ticket, queued, is_out, marked, recalled};
 ghost use Rattle.stm_history.specs.declared.event.Event.{Event};
-ghost use Rattle.stm_history.specs.SlowDesk.{state};
+ghost use Rattle.stm_history.specs.declared.staleness.StalenessRule.{StalenessRule as AnyRule};
+ghost use Rattle.stm_history.specs.SlowDesk.{state_by};
 ghost use Rattle.stm_history.specs.Entries.{kept_at};
-ghost use Rattle.stm_history.specs.Machine.{StandsFor};
+ghost use Rattle.stm_history.specs.Machine.{StandsForBy};
 ghost use Rattle.stm_history.specs.Refusals.{pending_left};
 ghost use Rattle.stm_history.specs.JobsHandedOut.{sent, AreJobs, AreCovered, AreKept, IsKeptJob};
 
@@ -85,14 +86,14 @@ impl Machine {
     /// The jobs of the n lowest queued tickets, or of all of them, which are out from then on, and an unchanging copy of the
     /// present store, which has their variables.
     pub fn take(&mut self, n: usize) -> Result<(Frozen, Vec<Job>), NoMemory>
-        requires { (T : List Declared) × (H : List Event) × StandsFor T H self.old }
+        requires { (R : AnyRule) × (T : List Declared) × (H : List Event) × StandsForBy R T H self.old }
         ensures tickets { IfOk result (λ r. map (λ j. j.ticket) r.1.items ≡ take n (queued self.old.pending)) }
-        ensures blocks { IfOk result (λ r. (T : List Declared) (H : List Event) → StandsFor T H self.old → AreJobs (state T H) r.1.items) }
+        ensures blocks { IfOk result (λ r. (R : AnyRule) (T : List Declared) (H : List Event) → StandsForBy R T H self.old → AreJobs (state_by R T H) r.1.items) }
         ensures store { IfOk result (λ r. r.0 ≡ plains self.old.store) }
         ensures covered { IfOk result (λ r. AreCovered r.0 r.1.items) }
         ensures few { IfOk result (λ r. vec_len r.1 ≤ n) }
         ensures out { IfOk result (λ r. self.new ≡ record self.old { pending = sent (length r.1.items) self.old.pending }) }
-        ensures kept { (T : List Declared) (H : List Event) → StandsFor T H self.old → StandsFor T H self.new }
+        ensures kept { (R : AnyRule) (T : List Declared) (H : List Event) → StandsForBy R T H self.old → StandsForBy R T H self.new }
         ensures err { OnErr result (self.new ≡ self.old) }
     {
         let frozen = self.store.freeze()?;
@@ -105,7 +106,7 @@ impl Machine {
     pub fn hand_back(&mut self, ticket: u32) -> bool
         ensures was { result ≡ is_out ticket self.old.pending }
         ensures queued { self.new ≡ record self.old { pending = marked ticket false self.old.pending } }
-        ensures kept { (T : List Declared) (H : List Event) → StandsFor T H self.old → StandsFor T H self.new }
+        ensures kept { (R : AnyRule) (T : List Declared) (H : List Event) → StandsForBy R T H self.old → StandsForBy R T H self.new }
     {
         self.pending.hand_back(ticket)
     }
@@ -113,7 +114,7 @@ impl Machine {
     /// A message of the ticket was refused. Where it was overtaken and its ticket is out, the ticket is queued again.
     pub fn after_refusal(&mut self, refusal: DeliverError, ticket: u32)
         ensures left { self.new ≡ record self.old { pending = pending_left refusal ticket self.old.pending } }
-        ensures kept { (T : List Declared) (H : List Event) → StandsFor T H self.old → StandsFor T H self.new }
+        ensures kept { (R : AnyRule) (T : List Declared) (H : List Event) → StandsForBy R T H self.old → StandsForBy R T H self.new }
     {
         queue_overtaken(&mut self.pending, refusal, ticket);
     }
@@ -121,7 +122,7 @@ impl Machine {
     /// Every ticket that is out is queued again.
     pub fn recall(&mut self)
         ensures recalled { self.new ≡ record self.old { pending = recalled self.old.pending } }
-        ensures kept { (T : List Declared) (H : List Event) → StandsFor T H self.old → StandsFor T H self.new }
+        ensures kept { (R : AnyRule) (T : List Declared) (H : List Event) → StandsForBy R T H self.old → StandsForBy R T H self.new }
     {
         self.pending.recall();
     }

@@ -5,10 +5,11 @@ ghost use Rattle.stm_store.specs.Cells.{plains};
 ghost use Rattle.stm_store.specs.Tables.{Declared};
 ghost use Rattle.stm_queue.specs.Queue.{first_queued};
 ghost use Rattle.stm_history.specs.declared.event.Event.{Event};
-ghost use Rattle.stm_history.specs.SlowDesk.{Waiter, is_current, find_waiter, state};
+ghost use Rattle.stm_history.specs.declared.staleness.StalenessRule.{StalenessRule as AnyRule};
+ghost use Rattle.stm_history.specs.SlowDesk.{Waiter, is_current, find_waiter, state_by};
 ghost use Rattle.stm_history.specs.SlowSettle.{can_end};
 ghost use Rattle.stm_history.specs.SettleChoices.{some_out, next_due, ended_then, AreCandidates};
-ghost use Rattle.stm_history.specs.Machine.{StandsFor};
+ghost use Rattle.stm_history.specs.Machine.{StandsForBy};
 ghost use Rattle.stm_history.specs.JobsHandedOut.{IsPresent};
 
 use crate::machine::Machine;
@@ -29,7 +30,7 @@ impl Machine {
     /// The lowest ticket of a block that is new or stale, where no ticket is out.
     pub fn first_queued(&self) -> Option<u32>
         requires { some_out self.now.pending ≡ false }
-        ensures { (T : List Declared) (H : List Event) → StandsFor T H self.now → result ≡ next_due (state T H) }
+        ensures { (R : AnyRule) (T : List Declared) (H : List Event) → StandsForBy R T H self.now → result ≡ next_due (state_by R T H) }
     {
         let _rising = self.pending.has_room(0);
         self.pending.queued_at(0)
@@ -37,9 +38,9 @@ impl Machine {
 
     /// What the block under a ticket does on the present store, of which an unchanging copy is given.
     pub fn evaluated(&self, frozen: &Frozen, ticket: u32) -> Result<Evaluated, NoMemory>
-        requires waits { (T : List Declared) × (H : List Event) × StandsFor T H self.now × IsSome (find_waiter ticket (state T H).waiters) }
+        requires waits { (R : AnyRule) × (T : List Declared) × (H : List Event) × StandsForBy R T H self.now × IsSome (find_waiter ticket (state_by R T H).waiters) }
         requires store { frozen.now ≡ plains self.now.store }
-        ensures { IfOk result (λ m. (T : List Declared) (H : List Event) → StandsFor T H self.now → IsPresent (state T H) ticket m) }
+        ensures { IfOk result (λ m. (R : AnyRule) (T : List Declared) (H : List Event) → StandsForBy R T H self.now → IsPresent (state_by R T H) ticket m) }
     {
         let job = job_of(&self.waiting, ticket)?;
         match evaluate(self.alloc, job, frozen) {
@@ -50,8 +51,8 @@ impl Machine {
 
     /// Whether a block waits under the ticket whose last delivery brought a verdict that doesn't block.
     pub fn ends(&self, ticket: u32) -> bool
-        ensures then { (T : List Declared) (H : List Event) → StandsFor T H self.now → result ≡ ended_then (find_waiter ticket (state T H).waiters) }
-        ensures present { (T : List Declared) (H : List Event) (w : Waiter) → StandsFor T H self.now → find_waiter ticket (state T H).waiters ≡ Some w → is_current w ≡ true → result ≡ can_end (state T H).store w }
+        ensures then { (R : AnyRule) (T : List Declared) (H : List Event) → StandsForBy R T H self.now → result ≡ ended_then (find_waiter ticket (state_by R T H).waiters) }
+        ensures present { (R : AnyRule) (T : List Declared) (H : List Event) (w : Waiter) → StandsForBy R T H self.now → find_waiter ticket (state_by R T H).waiters ≡ Some w → is_current w ≡ true → result ≡ can_end (state_by R T H).store w }
     {
         match self.waiting.get(ticket) {
             None => false,
@@ -61,7 +62,7 @@ impl Machine {
 
     /// The tickets of the blocks that are current and can end, and maybe others.
     pub fn ending(&self) -> Result<TicketSet, NoMemory>
-        ensures { IfOk result (λ s. (T : List Declared) (H : List Event) → StandsFor T H self.now → AreCandidates (state T H) s) }
+        ensures { IfOk result (λ s. (R : AnyRule) (T : List Declared) (H : List Event) → StandsForBy R T H self.now → AreCandidates (state_by R T H) s) }
     {
         self.waiting.ending(self.alloc)
     }

@@ -75,8 +75,13 @@ impl Log {
     /// All reads of a log are of one content.
     pub fn read(&mut self, frozen: &Frozen, at: Ref) -> Result<Value, NoMemory>
         requires { view_at (cell_value frozen.now) self.old.top at ≢ None }
-        ensures value { IfOk result (λ v. view_at (cell_value frozen.now) self.old.top at ≡ Some v) }
-        ensures ok { OnOk result (self.new ≡ record self.old { reads = insert_reads (cell_value frozen.now) (looked_at self.old.top at) self.old.reads }) }
+        ensures value { IfOk result (λ v.
+            view_at (cell_value frozen.now) self.old.top at ≡ Some v) }
+        ensures ok { OnOk result (self.new
+            ≡ record self.old {
+              reads = insert_reads (cell_value frozen.now)
+                  (looked_at self.old.top at) self.old.reads;
+            }) }
         ensures err { OnErr result (self.new ≡ self.old) }
     {
         match at {
@@ -108,7 +113,8 @@ impl Log {
     pub fn make(&mut self, kind: Ty, value: Value) -> Result<Ref, NoMemory>
         requires { length self.old.top.news < 2 ^ 32 }
         ensures made { IfOk result (λ r. r ≡ Ref.New (length self.old.top.news)) }
-        ensures ok { OnOk result (self.new ≡ record self.old { top = made self.old.top kind value }) }
+        ensures ok { OnOk result (self.new
+            ≡ record self.old { top = made self.old.top kind value }) }
         ensures err { OnErr result (self.new ≡ self.old) }
     {
         self.top.make(kind, value)
@@ -116,7 +122,8 @@ impl Log {
 
     /// Opens a frame, which sees what the one below it sees.
     pub fn enter(&mut self) -> Result<(), NoMemory>
-        ensures ok { OnOk result (self.new ≡ record self.old { below = self.old.top ∷ self.old.below }) }
+        ensures ok { OnOk result (self.new
+            ≡ record self.old { below = self.old.top ∷ self.old.below }) }
         ensures err { OnErr result (self.new ≡ self.old) }
     {
         let frame = self.top.copy()?;
@@ -148,7 +155,8 @@ impl Log {
     /// What the log has in the end. It needs no memory, and is never refused.
     pub fn finish(self) -> Result<Ends, NoMemory>
         requires { self.below ≡ [] }
-        ensures { result ≡ Ok (record { writes = self.top.writes; news = self.top.news; reads = self.reads }) }
+        ensures { result
+            ≡ Ok (record { writes = self.top.writes; news = self.top.news; reads = self.reads }) }
     {
         let Log {
             top,
@@ -176,7 +184,8 @@ impl Log {
 
     /// Adds the reads of a log over the same content.
     pub fn join_reads(&mut self, other: &Log) -> Result<(), NoMemory>
-        ensures ok { OnOk result (self.new ≡ record self.old { reads = joined_reads other.now.reads self.old.reads }) }
+        ensures ok { OnOk result (self.new
+            ≡ record self.old { reads = joined_reads other.now.reads self.old.reads }) }
         ensures err { OnErr result (self.new ≡ self.old) }
     {
         let mut reads = self.reads.copy()?;

@@ -5,6 +5,7 @@ use Rattle.stm_terms.specs.Names.{is_lower, is_upper, is_digit, is_word_byte}
 use Rattle.stm_parse.specs.declared.token.Mark.{Mark}
 use Rattle.stm_parse.specs.declared.token.Mark.TheVariants as mark
 
+-- an ASCII letter
 abbrev pub is_letter : ℕ → Bool
 is_letter b = is_lower b || is_upper b
 
@@ -45,12 +46,15 @@ symbol_mark (a ∷ []) = single_mark a
 symbol_mark (a ∷ b ∷ []) = pair_mark a b
 symbol_mark (a ∷ b ∷ c ∷ rest) = None
 
+-- how many bytes of a word stand at the front
 abbrev pub word_len : List ℕ → ℕ
 word_len bytes = length (take_while is_word_byte bytes)
 
+-- how many digits stand at the front
 abbrev pub number_len : List ℕ → ℕ
 number_len bytes = length (take_while is_digit bytes)
 
+-- what a digit counts; another byte counts nothing
 abbrev pub digit_value : ℕ → ℕ
 digit_value b = if is_digit b then b - 48 else 0
 
@@ -73,4 +77,7 @@ greatest_written = 9223372036854775808
 
 -- the number of these digits, if they are not too many and it is not too great
 unfoldable pub number_of_digits : List ℕ → Option ℕ
-number_of_digits bytes = if nat_lt most_digits (length bytes) then None else (if nat_lt greatest_written (decimal 0 bytes) then None else Some (decimal 0 bytes))
+number_of_digits bytes =
+    if nat_lt most_digits (length bytes) then None
+    else (if nat_lt greatest_written (decimal 0 bytes) then None
+    else Some (decimal 0 bytes))

@@ -10,6 +10,7 @@ use Rattle.stm_parse.specs.declared.declaration.Declaration.{Declaration}
 use Rattle.stm_parse.specs.declared.types.RawDeclaration.{RawDeclaration}
 use Rattle.stm_parse.specs.Grammar.{DeclarationTree}
 
+-- a tree of the descent without where it lies in memory
 abbrev pub declaration_tree_of : RawDeclaration → DeclarationTree
 declaration_tree_of d = record { name = d.name; ty = d.ty; init = raw_term_of d.init }
 
@@ -24,10 +25,12 @@ pub record ParsedDeclaration : Type 0 where
   pub kind : Ty
   pub init : ParsedInit
 
+-- a first value without where it lies in memory
 abbrev pub parsed_initial : Init → ParsedInit
 parsed_initial (I.Literal v) = literal v
 parsed_initial (I.Name n at) = named (string_bytes n) at
 
+-- a declaration without where it lies in memory
 abbrev pub declaration_of : Declaration → ParsedDeclaration
 declaration_of d = record { name = string_bytes d.name; kind = d.ty; init = parsed_initial d.init }
 

@@ -16,7 +16,9 @@ pub record ExpectationTree : Type 0 where
 
 -- NAME init
 pub data IsExpectation : List At → ExpectationTree → Type 0 where
-  is_expectation : {x : Lexeme} {us : List At} {e : RawTerm} → x.sym ≡ sym.Name → IsInit us e → IsExpectation (at 0 x ∷ us) (record { name = span_of x; init = e })
+  is_expectation : {x : Lexeme} {us : List At} {e : RawTerm}
+      → x.sym ≡ sym.Name → IsInit us e
+      → IsExpectation (at 0 x ∷ us) (record { name = span_of x; init = e })
 
 -- a tree of the descent without where it lies in memory
 abbrev pub expectation_tree_of : RawExpectation → ExpectationTree

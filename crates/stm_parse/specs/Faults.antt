@@ -31,7 +31,9 @@ IsBeyond cause.BadNumber u = greatest < u.reach
 
 -- after the tokens q, the token x goes on with a text, in which it is past a limit
 abbrev pub IsPast : {A : Type 0} → Language A → ErrorKind → List Lexeme → Lexeme → Type 0
-IsPast {A} L c q x = (us ws : List At) × (u : At) × (t : A) × L (us ++ (u ∷ ws)) t × WithinLimits us × (q ≡ erase us) × (u.lexeme ≡ x) × IsBeyond c u
+IsPast {A} L c q x =
+    (us ws : List At) × (u : At) × (t : A) × L (us ++ (u ∷ ws)) t
+    × WithinLimits us × (q ≡ erase us) × (u.lexeme ≡ x) × IsBeyond c u
 
 -- after the tokens q, the first of the tokens s is at fault; with none left, q is no text
 abbrev pub AtFault : {A : Type 0} → Language A → ErrorKind → List Lexeme → List Lexeme → Type 0

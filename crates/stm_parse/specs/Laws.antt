@@ -15,14 +15,20 @@ use Rattle.stm_parse.specs.Grammar.{IsBlock, DeclarationTree, IsDeclaration}
 use Rattle.stm_parse.specs.Faults.{Language, IsText}
 use Rattle.stm_parse.specs.ParseResult.{IsTextOf, IsReported}
 
+-- tokens are a text of one block at most
 abbrev pub BlocksAreUnambiguous : Type 0
-BlocksAreUnambiguous = (ls : List Lexeme) (t u : RawAct) → IsText IsBlock ls t → IsText IsBlock ls u → t ≡ u
+BlocksAreUnambiguous =
+    (ls : List Lexeme) (t u : RawAct) → IsText IsBlock ls t → IsText IsBlock ls u → t ≡ u
 
+-- tokens are a text of one declaration at most
 abbrev pub DeclarationsAreUnambiguous : Type 0
-DeclarationsAreUnambiguous = (ls : List Lexeme) (t u : DeclarationTree) → IsText IsDeclaration ls t → IsText IsDeclaration ls u → t ≡ u
+DeclarationsAreUnambiguous =
+    (ls : List Lexeme) (t u : DeclarationTree) → IsText IsDeclaration ls t → IsText IsDeclaration ls u → t ≡ u
 
+-- tokens are a text of one expectation at most
 abbrev pub ExpectationsAreUnambiguous : Type 0
-ExpectationsAreUnambiguous = (ls : List Lexeme) (t u : ExpectationTree) → IsText IsExpectation ls t → IsText IsExpectation ls u → t ≡ u
+ExpectationsAreUnambiguous =
+    (ls : List Lexeme) (t u : ExpectationTree) → IsText IsExpectation ls t → IsText IsExpectation ls u → t ≡ u
 
 -- two faults that are reported of a text, neither of them an out-of-memory error, are one
 abbrev pub OneFault : {A : Type 0} → Language A → Type 0
@@ -32,21 +38,27 @@ OneFault L = (text : List ℕ) (e f : ParseFault) → e ≢ NoMemory → f ≢ N
 abbrev pub TextOrFault : {A : Type 0} → Language A → Type 0
 TextOrFault {A} L = (text : List ℕ) (t : A) (e : ParseFault) → IsTextOf L text t → IsReported L text e → e ≡ NoMemory
 
+-- no two faults are reported of a text that is read as a block, out-of-memory errors apart
 abbrev pub EachBlockFaultIsOne : Type 0
 EachBlockFaultIsOne = OneFault IsBlock
 
+-- nor of one that is read as a declaration
 abbrev pub EachDeclarationFaultIsOne : Type 0
 EachDeclarationFaultIsOne = OneFault IsDeclaration
 
+-- nor of one that is read as an expectation
 abbrev pub EachExpectationFaultIsOne : Type 0
 EachExpectationFaultIsOne = OneFault IsExpectation
 
+-- no fault is reported of the text of a block, an out-of-memory error apart
 abbrev pub BlockOrFault : Type 0
 BlockOrFault = TextOrFault IsBlock
 
+-- nor of that of a declaration
 abbrev pub DeclarationOrFault : Type 0
 DeclarationOrFault = TextOrFault IsDeclaration
 
+-- nor of that of an expectation
 abbrev pub ExpectationOrFault : Type 0
 ExpectationOrFault = TextOrFault IsExpectation
 
@@ -89,48 +101,66 @@ name_at from to = name (record { start = from; end = to })
 -- return ( a o b p c ), wherever its tokens stand
 abbrev pub two_operators : Mark → Mark → ℕ → ℕ → ℕ → ℕ → ℕ → ℕ → ℕ → ℕ → ℕ → List Lexeme
 two_operators o p r a a' b b' c c' i j =
-    lexeme (tok.Mark mark.Return) r j ∷ lexeme (tok.Mark mark.LParen) i j ∷ lexeme tok.Name a a' ∷ lexeme (tok.Mark o) i j ∷ lexeme tok.Name b b' ∷ lexeme (tok.Mark p) i j ∷ lexeme tok.Name c c' ∷ lexeme (tok.Mark mark.RParen) i j ∷ []
+    lexeme (tok.Mark mark.Return) r j ∷ lexeme (tok.Mark mark.LParen) i j
+    ∷ lexeme tok.Name a a' ∷ lexeme (tok.Mark o) i j ∷ lexeme tok.Name b b' ∷ lexeme (tok.Mark p) i j ∷ lexeme tok.Name c c'
+    ∷ lexeme (tok.Mark mark.RParen) i j ∷ []
 
 -- a o b p c is (a o b) p c
 abbrev pub ToLeft : Signed → Signed → Type 0
-ToLeft o p = (r a a' b b' c c' i j : ℕ) → IsText IsBlock (two_operators o.0 p.0 r a a' b b' c c' i j) (return (bin p.1 (bin o.1 (name_at a a') (name_at b b')) (name_at c c')))
+ToLeft o p =
+    (r a a' b b' c c' i j : ℕ)
+    → IsText IsBlock (two_operators o.0 p.0 r a a' b b' c c' i j)
+    (return (bin p.1 (bin o.1 (name_at a a') (name_at b b')) (name_at c c')))
 
 -- a o b p c is a o (b p c)
 abbrev pub ToRight : Signed → Signed → Type 0
-ToRight o p = (r a a' b b' c c' i j : ℕ) → IsText IsBlock (two_operators o.0 p.0 r a a' b b' c c' i j) (return (bin o.1 (name_at a a') (bin p.1 (name_at b b') (name_at c c'))))
+ToRight o p =
+    (r a a' b b' c c' i j : ℕ)
+    → IsText IsBlock (two_operators o.0 p.0 r a a' b b' c c' i j)
+    (return (bin o.1 (name_at a a') (bin p.1 (name_at b b') (name_at c c'))))
 
 -- a o b p c is no text
 abbrev pub NotChained : Signed → Signed → Type 0
-NotChained o p = (r a a' b b' c c' i j : ℕ) (t : RawAct) → IsText IsBlock (two_operators o.0 p.0 r a a' b b' c c' i j) t → ⊥
+NotChained o p =
+    (r a a' b b' c c' i j : ℕ) (t : RawAct)
+    → IsText IsBlock (two_operators o.0 p.0 r a a' b b' c c' i j) t → ⊥
 
 -- a o b p c is (a o b) p c, and a p b o c is a p (b o c)
 abbrev pub Tighter : Signed → Signed → Type 0
 Tighter o p = ToLeft o p × ToRight p o
 
+-- a * b * c is (a * b) * c
 abbrev pub ProductsGroupToTheLeft : Type 0
 ProductsGroupToTheLeft = EachPair ToLeft products products
 
+-- a - b + c is (a - b) + c, and so for each two of + and -
 abbrev pub SumsGroupToTheLeft : Type 0
 SumsGroupToTheLeft = EachPair ToLeft sums sums
 
+-- a == b < c is no text, and so for each two of ==, < and <=
 abbrev pub ComparisonsAreNotChained : Type 0
 ComparisonsAreNotChained = EachPair NotChained comparisons comparisons
 
+-- a && b && c is a && (b && c)
 abbrev pub ConjunctionsGroupToTheRight : Type 0
 ConjunctionsGroupToTheRight = EachPair ToRight conjunctions conjunctions
 
+-- a || b || c is a || (b || c)
 abbrev pub DisjunctionsGroupToTheRight : Type 0
 DisjunctionsGroupToTheRight = EachPair ToRight disjunctions disjunctions
 
--- each operator binds tighter than all of the tiers after its own
+-- * binds tighter than all other operators
 abbrev pub ProductsBindTightest : Type 0
 ProductsBindTightest = EachPair Tighter products (sums ++ comparisons ++ conjunctions ++ disjunctions)
 
+-- + and - bind tighter than ==, <, <=, && and ||
 abbrev pub SumsBindTighter : Type 0
 SumsBindTighter = EachPair Tighter sums (comparisons ++ conjunctions ++ disjunctions)
 
+-- ==, < and <= bind tighter than && and ||
 abbrev pub ComparisonsBindTighter : Type 0
 ComparisonsBindTighter = EachPair Tighter comparisons (conjunctions ++ disjunctions)
 
+-- && binds tighter than ||
 abbrev pub ConjunctionsBindTighter : Type 0
 ConjunctionsBindTighter = EachPair Tighter conjunctions disjunctions

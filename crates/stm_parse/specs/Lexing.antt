@@ -46,6 +46,7 @@ value_mark word =
     else (if bytes_eq word (codes "TVar") then Some mark.TVar
     else None))))
 
+-- the mark of a word in one list, else in another
 abbrev pub or_mark : Option Mark → Option Mark → Option Mark
 or_mark None m = m
 or_mark (Some k) m = Some k
@@ -54,14 +55,17 @@ or_mark (Some k) m = Some k
 abbrev pub word_mark : List ℕ → Option Mark
 word_mark word = or_mark (control_mark word) (or_mark (action_mark word) (value_mark word))
 
+-- a mark, if the bytes are one, else this kind
 abbrev pub mark_or : Option Mark → TokenKind → TokenKind
 mark_or None s = s
 mark_or (Some m) s = tok.Mark m
 
+-- a number, if the bytes are one within the limits
 abbrev pub number_or : Option ℕ → TokenKind
 number_or None = tok.Other
 number_or (Some n) = tok.Number n
 
+-- what the grammar sees in a token of this class, by its bytes
 abbrev pub token_kind_of : TokenClass → List ℕ → TokenKind
 token_kind_of kind.Word bytes = mark_or (word_mark bytes) (if is_name_text bytes then tok.Name else tok.Other)
 token_kind_of kind.Number bytes = number_or (number_of_digits bytes)

@@ -1,20 +1,23 @@
+-- What a reader has to believe: tokens, the grammar, which fault is reported, what callers see of trees, and the laws.
 pub mod Bytes
 pub mod Declarations
-pub mod Descent
-pub mod DescentResults
-pub mod ExpectationFunction
 pub mod Expectations
 pub mod Faults
-pub mod Front
 pub mod Grammar
 pub mod Laws
-pub mod LexerStep
 pub mod Lexing
 pub mod MaximalMunch
-pub mod ParseFunction
 pub mod ParseResult
 pub mod ParsedBlock
 pub mod Terminals
-pub mod Tokenizer
 pub mod TypeTexts
 pub mod UnlessNoMemory
+-- The one answer for a text, which contracts name too, as a function: laws say that it is right.
+pub mod ExpectationFunction
+pub mod ParseFunction
+pub mod Tokenizer
+-- The words inside, for the descent and for the front of a text.
+pub mod Descent
+pub mod DescentResults
+pub mod Front
+pub mod LexerStep

@@ -19,14 +19,19 @@ abbrev pub IsAnswer : {A : Type 0} → Language A → List ℕ → Result A Pars
 IsAnswer L text (Ok t) = IsTextOf L text t
 IsAnswer L text (Err e) = (e ≢ fault.NoMemory) × IsReported L text e
 
+-- what was read of these tokens, with a fault told by its place in the text
 abbrev pub located : {A : Type 0} → List Lexeme → Result A Fault → Result A ParseFault
 located ls (Ok t) = Ok t
 located ls (Err f) = Err (fault_of_cause f.cause (slice_get ls (length ls - f.left)))
 
+-- the answer for a text, by its tokens or by their first fault
 abbrev pub of_tokens : {A : Type 0} → Reader A → List ℕ → Result (List Token) ParseFault → Result A ParseFault
 of_tokens r text (Err e) = Err e
-of_tokens r text (Ok ts) = if nat_lt most_tokens (length ts) then Err fault.TooLarge else located (lexemes_of text ts) (whole r (lexemes_of text ts))
+of_tokens r text (Ok ts) =
+    if nat_lt most_tokens (length ts) then Err fault.TooLarge
+    else located (lexemes_of text ts) (whole r (lexemes_of text ts))
 
+-- the answer for a text that is read so: what was read, or the fault that is reported
 unfoldable pub answered : {A : Type 0} → Reader A → List ℕ → Result A ParseFault
 answered r text = if nat_lt most_bytes (length text) then Err fault.TooLarge else of_tokens r text (tokens_of text)
 
@@ -38,6 +43,7 @@ parsed_block text = answered block_reader text
 unfoldable pub declared_tree : List ℕ → Result DeclarationTree ParseFault
 declared_tree text = answered declaration_reader text
 
+-- what a tree stands for in a text; a fault stays
 abbrev pub declaration_result : List ℕ → Result DeclarationTree ParseFault → Result ParsedDeclaration ParseFault
 declaration_result text (Ok t) = Ok (declaration_in text t)
 declaration_result text (Err e) = Err e
@@ -46,8 +52,10 @@ declaration_result text (Err e) = Err e
 unfoldable pub parsed_declaration : List ℕ → Result ParsedDeclaration ParseFault
 parsed_declaration text = declaration_result text (declared_tree text)
 
+-- the answer for each text that is read as a block is right by the grammar
 abbrev pub BlockAnswersAreRight : Type 0
 BlockAnswersAreRight = (text : List ℕ) → IsAnswer IsBlock text (parsed_block text)
 
+-- so is that for each text that is read as a declaration
 abbrev pub DeclarationAnswersAreRight : Type 0
 DeclarationAnswersAreRight = (text : List ℕ) → IsAnswer IsDeclaration text (declared_tree text)

@@ -34,7 +34,9 @@ IsTextOf L text t = (ls : List Lexeme) × LexesWithinLimits text ls × IsText L 
 
 -- the token that begins at this place is the first at fault
 abbrev pub FirstAtFault : {A : Type 0} → Language A → List ℕ → ErrorKind → ℕ → Type 0
-FirstAtFault L text c place = (ls q s : List Lexeme) × (x : Lexeme) × LexesWithinLimits text ls × (ls ≡ q ++ (x ∷ s)) × (x.start ≡ place) × Begins L q × AtFault L c q (x ∷ s)
+FirstAtFault L text c place =
+    (ls q s : List Lexeme) × (x : Lexeme) × LexesWithinLimits text ls
+    × (ls ≡ q ++ (x ∷ s)) × (x.start ≡ place) × Begins L q × AtFault L c q (x ∷ s)
 
 -- no token is at fault, and the tokens are no text
 abbrev pub EndsTooSoon : {A : Type 0} → Language A → List ℕ → Type 0
@@ -42,7 +44,9 @@ EndsTooSoon {A} L text = (ls : List Lexeme) × LexesWithinLimits text ls × Begi
 
 -- the fault that is reported of tokens, before any of the grammar
 abbrev pub IsEarly : List ℕ → ParseFault → Type 0
-IsEarly text fault.TooLarge = (most_bytes < length text) ⊎ (ls : List Lexeme) × (length text ≤ most_bytes) × Lexes text ls × (most_tokens < length ls)
+IsEarly text fault.TooLarge =
+    (most_bytes < length text)
+    ⊎ (ls : List Lexeme) × (length text ≤ most_bytes) × Lexes text ls × (most_tokens < length ls)
 IsEarly text (fault.BadByte n) = (length text ≤ most_bytes) × IsTokenization 0 text (Err (fault.BadByte n))
 IsEarly text (fault.BadNumber n) = (length text ≤ most_bytes) × IsTokenization 0 text (Err (fault.BadNumber n))
 IsEarly text (fault.NameTooLong n) = (length text ≤ most_bytes) × IsTokenization 0 text (Err (fault.NameTooLong n))
@@ -51,7 +55,8 @@ IsEarly text fault.EndOfText = ⊥
 IsEarly text fault.TooDeep = ⊥
 IsEarly text fault.NoMemory = Unit {0}
 
--- the fault that is reported: too many bytes; the first fault of the tokens; too many tokens; the first token at fault; an early end
+-- the fault that is reported: too many bytes; the first fault of the tokens; too many tokens; the first token at fault; an
+-- early end
 abbrev pub IsReported : {A : Type 0} → Language A → List ℕ → ParseFault → Type 0
 IsReported L text fault.TooLarge = IsEarly text fault.TooLarge
 IsReported L text (fault.BadByte n) = IsEarly text (fault.BadByte n)

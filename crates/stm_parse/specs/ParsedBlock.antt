@@ -59,6 +59,7 @@ NamesAre text (catch a span at b) = NamesAre text a × IsNameOf text span.start 
 abbrev nowhere : Box (Unit {0})
 nowhere = record { ptr = null_ptr; alloc = record { memory = record { seal = tt } }; value = tt }
 
+-- an expression with its parts in such boxes
 abbrev boxed_term : RawTerm → RawExpr
 boxed_term (int n at) = E.Int n at
 boxed_term (truth b at) = E.Bool b at
@@ -66,6 +67,7 @@ boxed_term (unit at) = E.Unit at
 boxed_term (name span) = E.Name span
 boxed_term (bin op a b) = E.Bin' op nowhere (boxed_term a) nowhere (boxed_term b)
 
+-- so too an action
 abbrev boxed : RawAct → RawAction
 boxed (return e) = A.Return (boxed_term e)
 boxed (read e) = A.Read (boxed_term e)
@@ -94,12 +96,15 @@ raw_act_back (write r e) = ap₂ (λ x y. write x y) (term_back r) (term_back e)
 raw_act_back (make e) = ap make (term_back e)
 raw_act_back retry = refl
 raw_act_back (throw e) = ap throw (term_back e)
-raw_act_back (if_else e a at b) = ap (λ x. if_else x (raw_act_of (boxed a)) at (raw_act_of (boxed b))) (term_back e) ∙ ap₂ (λ x y. if_else e x at y) (raw_act_back a) (raw_act_back b)
+raw_act_back (if_else e a at b) =
+    ap (λ x. if_else x (raw_act_of (boxed a)) at (raw_act_of (boxed b))) (term_back e)
+    ∙ ap₂ (λ x y. if_else e x at y) (raw_act_back a) (raw_act_back b)
 raw_act_back (or_else a at b) = ap₂ (λ x y. or_else x at y) (raw_act_back a) (raw_act_back b)
 raw_act_back (bind span at a b) = ap₂ (λ x y. bind span at x y) (raw_act_back a) (raw_act_back b)
 raw_act_back (let_in span e b) = ap₂ (λ x y. let_in span x y) (term_back e) (raw_act_back b)
 raw_act_back (seq a b) = ap₂ (λ x y. seq x y) (raw_act_back a) (raw_act_back b)
 raw_act_back (catch a span at b) = ap₂ (λ x y. catch x span at y) (raw_act_back a) (raw_act_back b)
 
+-- parsed trees are values that contracts can speak of, by the trees of the code
 abbrev pub raw_code : Coded RawAct
 raw_code = code_by RawAction tree.the_row.coded boxed raw_act_of raw_act_back

@@ -43,9 +43,11 @@ code mark.Star = 31
 code mark.AndAnd = 32
 code mark.OrOr = 33
 
+-- whether a mark is a reserved word
 abbrev pub is_word_mark : Mark → Bool
 is_word_mark m = nat_lt (code m) 18
 
+-- whether a token is this mark
 abbrev pub is_mark : Mark → TokenKind → Bool
 is_mark m (sym.Mark k) = nat_eq (code k) (code m)
 is_mark m (sym.Number n) = false

@@ -10,38 +10,50 @@ use Rattle.stm_parse.specs.Front as front
 use Rattle.stm_parse.specs.declared.fault.ParseFault.{ParseFault}
 use Rattle.stm_parse.specs.declared.fault.ParseFault.TheVariants as fault
 
--- what stands at the front of some bytes
+-- a symbol of one byte, or a bad byte
 abbrev pub one_symbol : Option Mark → Front
 one_symbol None = front.BadByte
 one_symbol (Some m) = front.Found kind.Symbol 1
 
+-- a symbol of two bytes, else one of the first byte alone
 abbrev pub two_symbol : Option Mark → ℕ → Front
 two_symbol (Some m) a = front.Found kind.Symbol 2
 two_symbol None a = one_symbol (symbol_mark (a ∷ []))
 
+-- the longest symbol at the front, or a bad byte
 abbrev pub symbol_front : List ℕ → Front
 symbol_front [] = front.BadByte
 symbol_front (a ∷ []) = one_symbol (symbol_mark (a ∷ []))
 symbol_front (a ∷ b ∷ rest) = two_symbol (symbol_mark (a ∷ b ∷ [])) a
 
+-- a word of n bytes, or one past the limit
 abbrev pub word_front : ℕ → Front
 word_front n = if nat_lt longest_word n then front.LongName else front.Found kind.Word n
 
+-- a number of n digits, or one past the limits
 abbrev pub number_front : ℕ → Option ℕ → Front
 number_front n None = front.BadNumber
 number_front n (Some v) = front.Found kind.Number n
 
+-- what stands at the front of bytes that begin with b
 abbrev pub front_by : ℕ → List ℕ → Front
-front_by b bytes = if is_blank b then front.Blank else (if is_letter b then word_front (word_len bytes) else (if is_digit b then number_front (number_len bytes) (number_of_digits (take (number_len bytes) bytes)) else symbol_front bytes))
+front_by b bytes =
+    if is_blank b then front.Blank
+    else (if is_letter b then word_front (word_len bytes)
+    else (if is_digit b then number_front (number_len bytes) (number_of_digits (take (number_len bytes) bytes))
+    else symbol_front bytes))
 
+-- what stands at the front of some bytes
 unfoldable pub front_of : List ℕ → Front
 front_of [] = front.BadByte
 front_of (b ∷ rest) = front_by b (b ∷ rest)
 
+-- these tokens and then the others, or the fault among the others
 abbrev pub with_front : List Token → Result (List Token) ParseFault → Result (List Token) ParseFault
 with_front before (Ok ts) = Ok (before ++ ts)
 with_front before (Err e) = Err e
 
+-- what is reported from a place on: what stands at the front there, and then what go gives
 abbrev pub next : Front → ℕ → (ℕ → Result (List Token) ParseFault) → Result (List Token) ParseFault
 next front.Blank place go = go 0
 next (front.Found kind n) place go = with_front (record { kind = kind; start = place; end = place + n } ∷ []) (go (n - 1))

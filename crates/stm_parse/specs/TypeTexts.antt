@@ -12,4 +12,6 @@ declaring t = codes "a : " ++ (type_text t ++ codes " = a")
 
 -- a declaration that is written with a type's text declares a variable of that type
 abbrev pub TypesAreReadBack : Type 0
-TypesAreReadBack = (t : Ty) → t.refs ≤ most_refs → (at : ℕ) × (parsed_declaration (declaring t) ≡ Ok (record { name = codes "a"; kind = t; init = named (codes "a") at }))
+TypesAreReadBack =
+    (t : Ty) → t.refs ≤ most_refs
+    → (at : ℕ) × (parsed_declaration (declaring t) ≡ Ok (record { name = codes "a"; kind = t; init = named (codes "a") at }))

@@ -52,7 +52,6 @@ impl Raw {
         ensures text { result.now ≡ self.now.text }
         ensures ascii { IsAscii self.now.text }
     {
-        let _action = &self.action;
         self.text.as_str()
     }
 

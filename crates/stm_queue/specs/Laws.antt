@@ -14,9 +14,11 @@ RemovedAreGone = (u t : ℕ) (es : List Entry) → has_ticket u (without_ticket 
 abbrev pub MarksKeepTickets : Type 0
 MarksKeepTickets = (u t : ℕ) (out : Bool) (es : List Entry) → has_ticket u (marked t out es) ≡ has_ticket u es
 
+-- who is there stays so where a queued ticket is taken
 abbrev pub SendingKeepsTickets : Type 0
 SendingKeepsTickets = (u : ℕ) (sent : Option ℕ) (es : List Entry) → has_ticket u (sent_out sent es) ≡ has_ticket u es
 
+-- and where all tickets are called back
 abbrev pub RecallKeepsTickets : Type 0
 RecallKeepsTickets = (u : ℕ) (es : List Entry) → has_ticket u (recalled es) ≡ has_ticket u es
 

@@ -21,7 +21,8 @@ pub record IsKept (queued out : List ℕ) (room queued_len out_len queued_capaci
   pub out_room : queued_len + out_len + room ≤ out_capacity
 
 -- while tickets are called back, the queue is kept, and calling all of them back gives what it gave at first
-pub record IsCalledBack (first : Queue) (queued out : List ℕ) (room queued_len out_len queued_capacity out_capacity : ℕ) : Type 0 where
+pub record IsCalledBack (first : Queue) (queued out : List ℕ)
+    (room queued_len out_len queued_capacity out_capacity : ℕ) : Type 0 where
   pub kept : IsKept queued out room queued_len out_len queued_capacity out_capacity
   pub same : recalled (merged queued out) ≡ recalled first.entries
   pub same_room : room ≡ first.room

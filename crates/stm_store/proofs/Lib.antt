@@ -1,4 +1,5 @@
 pub mod ApplyPreservesTyping
+pub mod ChangedVariables
 pub mod Declaring
 pub mod FitsDecided
 pub mod FreshNumbersInRange

@@ -28,11 +28,11 @@ get-set_other (x ∷ cs) zero (suc j) d e = refl
 get-set_other (x ∷ cs) (suc i) zero d e = refl
 get-set_other (x ∷ cs) (suc i) (suc j) d e = get-set_other cs i j d (unequal i j e)
 
-write-here : (n : ℕ) (cs : List Cell) (i : ℕ) (v : Value) (o : Option Cell) → slice_get cs i ≡ o → slice_get (with_write n cs i v o) i ≡ option_map (rewritten n v) o
+pub write-here : (n : ℕ) (cs : List Cell) (i : ℕ) (v : Value) (o : Option Cell) → slice_get cs i ≡ o → slice_get (with_write n cs i v o) i ≡ option_map (rewritten n v) o
 write-here n cs i v (Some c) e = get-set_same cs i c (rewritten n v c) e
 write-here n cs i v None e = e
 
-write-other : (n : ℕ) (cs : List Cell) (i j : ℕ) (v : Value) (o : Option Cell) → nat_eq i j ≡ false → slice_get (with_write n cs i v o) j ≡ slice_get cs j
+pub write-other : (n : ℕ) (cs : List Cell) (i j : ℕ) (v : Value) (o : Option Cell) → nat_eq i j ≡ false → slice_get (with_write n cs i v o) j ≡ slice_get cs j
 write-other n cs i j v (Some c) e = get-set_other cs i j (rewritten n v c) e
 write-other n cs i j v None e = refl
 
@@ -72,7 +72,7 @@ unwritten-writes n [] cs i none = refl
 unwritten-writes n (w ∷ ws) cs i none =
     unwritten_step (nat_eq w.0 i) n i w ws cs refl none (unwritten-writes n ws (with_write n cs w.0 w.1 (slice_get cs w.0)) i)
 
-before : (cs ds : List Cell) (i : ℕ) (c : Cell) → slice_get cs i ≡ Some c → slice_get (cs ++ ds) i ≡ Some c
+pub before : (cs ds : List Cell) (i : ℕ) (c : Cell) → slice_get cs i ≡ Some c → slice_get (cs ++ ds) i ≡ Some c
 before [] ds i c e = absurd (cc)
 before (x ∷ cs) ds zero c e = e
 before (x ∷ cs) ds (suc i) c e = before cs ds i c e

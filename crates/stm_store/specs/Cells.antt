@@ -1,5 +1,5 @@
 -- The cells of a store: what a block may rest on, when a verdict fits them, and what applying it does to them.
-use Rattle.std.specs.Prelude.{◌≡◌, ℕ, ◌+◌, ◌-◌, ◌^◌, ◌<◌, ◌≤◌, min, List, [], ◌∷◌, ◌++◌, Option, Some, None, map, length, slice_set, slice_get, option_map}
+use Rattle.std.specs.Prelude.{◌≡◌, ℕ, ◌+◌, ◌-◌, ◌^◌, ◌<◌, ◌≤◌, min, Bool, false, not, if◌then◌else◌, List, [], ◌∷◌, ◌++◌, Option, Some, None, map, filter, length, slice_set, slice_get, option_map}
 use Rattle.stm_terms.specs.declared.kinds.Ty.{Ty}
 use Rattle.stm_terms.specs.declared.values.Ref.{Ref}
 use Rattle.stm_terms.specs.declared.values.Ref.TheVariants.{Old, New}
@@ -8,6 +8,7 @@ use Rattle.stm_terms.specs.declared.values.Value.TheVariants.{Int, Bool as Truth
 use Rattle.stm_terms.specs.declared.verdicts.Verdict.{Verdict}
 use Rattle.stm_terms.specs.declared.verdicts.Verdict.TheVariants.{Commits, Throws, Blocks}
 use Rattle.stm_terms.specs.Changes.{no_changes, find}
+use Rattle.stm_terms.specs.Value.{same_value}
 use Rattle.stm_terms.specs.Typing.{TypeEnv, type_of, Rising}
 use Rattle.stm_store.specs.declared.cell.Cell.{Cell}
 use Rattle.stm_store.specs.declared.ready.Applied.{Applied}
@@ -75,9 +76,9 @@ renumbered n (Var r) = Var (renumbered_ref n r)
 abbrev pub counted : ℕ → ℕ
 counted n = min (n + 1) (2 ^ 64 - 1)
 
--- a cell that is written once more
+-- a cell that a value is written to: it is counted once more, unless the value is the one that it has
 abbrev pub rewritten : ℕ → Value → Cell → Cell
-rewritten n v c = record { kind = c.kind; value = renumbered n v; count = counted c.count }
+rewritten n v c = record { kind = c.kind; value = renumbered n v; count = if same_value (renumbered n v) c.value then c.count else counted c.count }
 
 -- the cells with the i-th written, if it is there
 abbrev pub with_write : ℕ → List Cell → ℕ → Value → Option Cell → List Cell
@@ -93,7 +94,7 @@ with_writes n (w ∷ ws) cells = with_writes n ws (with_write n cells w.0 w.1 (s
 abbrev pub new_cell : ℕ → Ty × Value → Cell
 new_cell n c = record { kind = c.0; value = renumbered n c.1; count = 0 }
 
--- the cells after a verdict: its writes made and counted, its new cells at the end
+-- the cells after a verdict: its writes made, those that change a value counted, and its new cells at the end
 abbrev pub applied : List Cell → Verdict → List Cell
 applied cells (Commits writes news result) = with_writes (length cells) writes cells ++ map (new_cell (length cells)) news
 applied cells (Throws f) = cells
@@ -126,8 +127,19 @@ abbrev pub after_write : ℕ → Option Value → Cell → Cell
 after_write n (Some v) c = rewritten n v c
 after_write n None c = c
 
--- What applying a verdict means, variable by variable: one that the verdict writes has the value written and is counted
--- once more, any other is as it was; and the new cells come after them, in order.
+-- the value of a cell becomes another one
+abbrev pub changes_value : ℕ → Option Cell → Value → Bool
+changes_value n None v = false
+changes_value n (Some c) v = not (same_value (renumbered n v) c.value)
+
+-- the variables that a verdict changes: it writes them, and their value afterwards is another one
+abbrev pub changed_by : List Cell → Verdict → List ℕ
+changed_by cells (Commits writes news result) = map (λ w. w.0) (filter (λ w. changes_value (length cells) (slice_get cells w.0) w.1) writes)
+changed_by cells (Throws f) = []
+changed_by cells Blocks = []
+
+-- What applying a verdict means, variable by variable: one that the verdict writes has the value written and, where that is
+-- another value, is counted once more; any other is as it was; and the new cells come after them, in order.
 pub record IsApplied (old : List Cell) (verdict : Verdict) (new : List Cell) : Type 0 where
   pub olds : (i : ℕ) → i < length old → slice_get new i ≡ option_map (after_write (length old) (written_by verdict i)) (slice_get old i)
   pub news : (k : ℕ) → slice_get new (length old + k) ≡ option_map (new_cell (length old)) (slice_get (made_by verdict) k)

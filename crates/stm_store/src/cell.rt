@@ -1,12 +1,13 @@
 //! A cell of a store.
 
-ghost use Rattle.std.specs.Prelude.{◌≡◌};
+ghost use Rattle.std.specs.Prelude.{◌≡◌, if◌then◌else◌};
+ghost use Rattle.stm_terms.specs.Value.{same_value};
 ghost use Rattle.stm_store.specs.Cells.{counted};
 
 use stm_terms::kinds::Ty;
 use stm_terms::values::Value;
 
-/// A variable's type, its value, and how many finished blocks wrote it; the count stays at its greatest value.
+/// A variable's type, its value, and how many finished blocks changed it; the count stays at its greatest value.
 #[derive(Clone, Copy, PartialEq, Eq, Debug)]
 pub struct Cell {
     pub kind: Ty,
@@ -15,16 +16,20 @@ pub struct Cell {
 }
 
 impl Cell {
-    /// The cell after one more block has written this value.
+    /// The cell after one more block has written this value, which counts where it is another one.
     pub fn written(self, value: Value) -> Cell
         ensures kind { result.kind ≡ self.kind }
         ensures value { result.value ≡ value }
-        ensures count { result.count ≡ counted self.count }
+        ensures count { result.count ≡ (if same_value value self.value then self.count else counted self.count) }
     {
-        Cell {
-            kind: self.kind,
-            value,
-            count: self.count.saturating_add(1),
+        if value == self.value {
+            self
+        } else {
+            Cell {
+                kind: self.kind,
+                value,
+                count: self.count.saturating_add(1),
+            }
         }
     }
 }

@@ -40,6 +40,10 @@ impl CellList {
         }
     }
 
+    pub(crate) fn allocator(&self) -> Global {
+        self.parts.allocator()
+    }
+
     pub(crate) fn len(&self) -> usize
         ensures { result ≡ length self.now }
     {

@@ -44,6 +44,10 @@ impl Chunks {
         }
     }
 
+    pub(crate) fn allocator(&self) -> Global {
+        *self.parts.allocator()
+    }
+
     pub(crate) fn len(&self) -> usize
         ensures { result ≡ length self.now }
     {

@@ -1,6 +1,6 @@
 //! What applying a verdict keeps, as laws of the definitions: the body of each function is empty.
 
-ghost use Rattle.stm_store.specs.Laws.{TypesStay, CoveredStay, UnwrittenStay, FittingAreApplied, FittingKeepTypes, FittingKeepStores, OpenedAreDeclared};
+ghost use Rattle.stm_store.specs.Laws.{TypesStay, CoveredStay, UnwrittenStay, FittingAreApplied, FittingKeepTypes, FittingKeepStores, OpenedAreDeclared, ChangedDiffer, UnchangedStay};
 
 /// Every verdict leaves the variables that are there, with their types; what was covered stays covered.
 pub fn types_stay()
@@ -11,6 +11,13 @@ pub fn types_stay()
 /// A variable that a verdict doesn't write keeps its value and its count.
 pub fn unwritten_stay()
     ensures { UnwrittenStay }
+{}
+
+/// A variable that a verdict that fits changes is one whose value is another one afterwards; one that a verdict doesn't
+/// change keeps its value and its count.
+pub fn changed_differ()
+    ensures differ { ChangedDiffer }
+    ensures unchanged { UnchangedStay }
 {}
 
 /// What a verdict that fits leaves, variable by variable.

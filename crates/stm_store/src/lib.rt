@@ -4,6 +4,7 @@
 pub mod cell;
 mod cell_list;
 mod change;
+mod changed;
 mod chunk;
 mod chunks;
 mod covers;

@@ -19,7 +19,7 @@ pub(crate) fn renumber(len: u32, value: Value) -> Value
     }
 }
 
-/// A cell that is written once more.
+/// A cell that a value is written to.
 pub(crate) fn rewrite(len: u32, value: Value, cell: Cell) -> Cell
     requires { HasNumber len value }
     ensures { result ≡ rewritten len value cell }

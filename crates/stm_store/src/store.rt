@@ -1,13 +1,15 @@
 //! The store.
 
 ghost use Rattle.std.specs.Prelude.{◌≡◌, ◌+◌, ◌<◌, ◌≤◌, ◌↔◌, Some, length, slice_get, option_map, IsTrue, IfOk, IfErr, OnOk, OnErr, IsErrOf};
+ghost use Rattle.std.specs.List.Sorted.{IsStrictlyIncreasing};
 ghost use Rattle.stm_terms.specs.Changes.{cell_value};
-ghost use Rattle.stm_store.specs.Cells.{StoreIsTyped, StoreHasAtMost8Refs, Covers, Fits, IsApplied, kinds_of, plains, applied, result_there, made_by, applied_answer};
+ghost use Rattle.stm_store.specs.Cells.{StoreIsTyped, StoreHasAtMost8Refs, Covers, Fits, IsApplied, kinds_of, plains, applied, changed_by, result_there, made_by, applied_answer};
 ghost use Rattle.stm_store.specs.Tables.{opened};
 
 use crate::cell::Cell;
 use crate::cell_list::CellList;
 use crate::change::perform;
+use crate::changed::changed_variables;
 use crate::covers::covers;
 use crate::fits::fits;
 use crate::frozen::Frozen;
@@ -20,7 +22,7 @@ use stm_terms::kinds::Ty;
 use stm_terms::values::Value;
 use stm_terms::verdicts::Verdict;
 
-/// The variables with their types, their values, and how many finished blocks wrote each.
+/// The variables with their types, their values, and how many finished blocks changed each.
 #[derive(Drop)]
 pub struct Store {
     cells: CellList,
@@ -84,7 +86,7 @@ impl Store {
         self.cells.get(id as usize).kind
     }
 
-    /// How many finished blocks wrote a variable; the greatest number where it is that many or more.
+    /// How many finished blocks changed a variable; the greatest number where it is that many or more.
     pub fn count(&self, id: u32) -> u64
         requires { id < length self.now }
         ensures { option_map (λ c. c.count) (slice_get self.now id) ≡ Some result }
@@ -112,6 +114,15 @@ impl Store {
         ensures { IsTrue result ↔ Fits (plains self.now) verdict.now }
     {
         fits(&self.cells, verdict)
+    }
+
+    /// The variables that a verdict changes: those that it writes and whose value afterwards is another one. They rise where
+    /// the verdict can be applied.
+    pub fn changes(&self, verdict: &Verdict) -> Result<Vec<u32>, NoMemory>
+        ensures changed { IfOk result (λ vs. vs.items ≡ changed_by self.now verdict.now) }
+        ensures rising { Fits (plains self.now) verdict.now → IfOk result (λ vs. IsStrictlyIncreasing vs.items) }
+    {
+        changed_variables(&self.cells, verdict)
     }
 
     /// Makes the writes and the new variables of a verdict that fits.

@@ -30,12 +30,14 @@ pub data Act : Type 0 where
   seq : Act → Act → Act
   catch : Act → Act → Act
 
+-- the expression of a tree in memory
 abbrev pub term_of : Expr → Term
 term_of (Lit v) = lit v
 term_of (Local i) = local i
 term_of (Global i) = global i
 term_of (Bin' op p a q b) = bin op (term_of a) (term_of b)
 
+-- the action of a tree in memory
 abbrev pub act_of : Action → Act
 act_of (Return e) = return (term_of e)
 act_of (Read e) = read (term_of e)

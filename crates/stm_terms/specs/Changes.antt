@@ -26,6 +26,7 @@ pub record Changes : Type 0 where
   pub writes : List (ℕ × Value)
   pub news : List (Ty × Value)
 
+-- what a block has changed when it begins
 abbrev pub no_changes : Changes
 no_changes = record { writes = []; news = [] }
 

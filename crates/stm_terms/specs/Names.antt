@@ -2,6 +2,7 @@
 use Rattle.std.specs.Prelude.{ℕ, Bool, false, not, ◌&&◌, ◌||◌, nat_le, nat_eq, List, [], ◌∷◌, length, codes}
 use Rattle.std.specs.List.{list_all}
 use Rattle.std.specs.Str.{bytes_eq}
+use Rattle.stm_terms.specs.Limits.{longest_name}
 
 -- a to z
 abbrev pub is_lower : ℕ → Bool
@@ -42,10 +43,11 @@ is_value_word word =
 abbrev pub is_reserved : List ℕ → Bool
 is_reserved word = is_control_word word || is_action_word word || is_value_word word
 
+-- the first letter is a small one
 abbrev pub starts_lower : List ℕ → Bool
 starts_lower [] = false
 starts_lower (b ∷ bs) = is_lower b
 
--- a word that begins with a small letter, isn't reserved, and has at most 32 bytes
+-- a word that begins with a small letter, isn't reserved, and has at most `longest_name` bytes
 unfoldable pub is_name_text : List ℕ → Bool
-is_name_text word = starts_lower word && list_all is_word_byte word && not (is_reserved word) && nat_le (length word) 32
+is_name_text word = starts_lower word && list_all is_word_byte word && not (is_reserved word) && nat_le (length word) longest_name

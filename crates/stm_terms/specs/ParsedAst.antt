@@ -30,6 +30,7 @@ pub data RawAct : Type 0 where
   seq : RawAct → RawAct → RawAct
   catch : RawAct → Span → ℕ → RawAct → RawAct
 
+-- the expression of a parsed tree in memory
 abbrev pub raw_term_of : RawExpr → RawTerm
 raw_term_of (E.Int n at) = int n at
 raw_term_of (E.Bool b at) = truth b at
@@ -37,6 +38,7 @@ raw_term_of (E.Unit at) = unit at
 raw_term_of (E.Name span) = name span
 raw_term_of (E.Bin' op p a q b) = bin op (raw_term_of a) (raw_term_of b)
 
+-- the action of a parsed tree in memory
 abbrev pub raw_act_of : RawAction → RawAct
 raw_act_of (A.Return e) = return (raw_term_of e)
 raw_act_of (A.Read e) = read (raw_term_of e)
@@ -63,6 +65,7 @@ place (bin op a b) = place a
 abbrev pub text_at : List ℕ → Span → List ℕ
 text_at text span = slice_range text span.start span.end
 
+-- the ends of a span lie in order within n bytes
 abbrev pub IsSpan : ℕ → ℕ → ℕ → Type 0
 IsSpan n from to = (from ≤ to) × (to ≤ n)
 
@@ -74,6 +77,7 @@ NamesWithin n (unit at) = Unit {0}
 NamesWithin n (name span) = IsSpan n span.start span.end
 NamesWithin n (bin op a b) = NamesWithin n a × NamesWithin n b
 
+-- and so is each name of an action
 abbrev pub SpansWithin : ℕ → RawAct → Type 0
 SpansWithin n (return e) = NamesWithin n e
 SpansWithin n (read e) = NamesWithin n e

@@ -10,6 +10,7 @@ use Rattle.stm_terms.specs.Value.{Answer, value}
 use Rattle.stm_terms.specs.Changes.{Variables, Changes, no_changes, find, put}
 use Rattle.stm_terms.specs.Semantics.{Outcome, Returned, Threw, Retried, Stuck, run}
 
+-- the variable, read underneath unless the block has a value of its own for it
 abbrev pub unless_marked : ℕ → Option Value → List ℕ
 unless_marked i (Some v) = []
 unless_marked i None = i ∷ []
@@ -19,32 +20,38 @@ abbrev pub looked_at : Changes → Ref → List ℕ
 looked_at h (Old i) = unless_marked i (find i h.writes)
 looked_at h (New k) = []
 
+-- what `readTVar` reads at a value
 abbrev pub look_read : Changes → Value → List ℕ
 look_read h (Var r) = looked_at h r
 look_read h v = []
 
+-- what is read after an expression that has a value; after a fault nothing is
 abbrev pub look_answer : Answer → (Value → List ℕ) → List ℕ
 look_answer (Some (Ok v)) go = go v
 look_answer (Some (Err f)) go = []
 look_answer None go = []
 
+-- what is read by the branch that the condition chooses
 abbrev pub look_chosen : Value → List ℕ → List ℕ → List ℕ
 look_chosen (Truth true) is js = is
 look_chosen (Truth false) is js = js
 look_chosen v is js = []
 
+-- what is read after a first part that returned
 abbrev pub then_look : Outcome → (Value → Changes → List ℕ) → List ℕ
 then_look (Returned v h) go = go v h
 then_look (Threw f) go = []
 then_look Retried go = []
 then_look Stuck go = []
 
+-- what the right branch reads, where the left one retried
 abbrev pub else_look : Outcome → List ℕ → List ℕ
 else_look (Returned v h) is = []
 else_look (Threw f) is = []
 else_look Retried is = is
 else_look Stuck is = []
 
+-- what the handler reads, where the action threw a number
 abbrev pub catch_look : Outcome → (Value → List ℕ) → List ℕ
 catch_look (Returned v h) handler = []
 catch_look (Threw (Thrown n)) handler = handler (Int n)
@@ -61,7 +68,8 @@ looks under (write r e) locals h = []
 looks under (make t e) locals h = []
 looks under retry locals h = []
 looks under (throw e) locals h = []
-looks under (if_else e a b) locals h = look_answer (value e locals) (λ v. look_chosen v (looks under a locals h) (looks under b locals h))
+looks under (if_else e a b) locals h =
+    look_answer (value e locals) (λ v. look_chosen v (looks under a locals h) (looks under b locals h))
 looks under (or_else a b) locals h = looks under a locals h ++ else_look (run under a locals h) (looks under b locals h)
 looks under (bind a b) locals h =
     looks under a locals h ++ then_look (run under a locals h) (λ v k. looks under b (locals ++ v ∷ []) k)
@@ -75,6 +83,7 @@ abbrev pub insert_read : ℕ → Option Value → List (ℕ × Value) → List (
 insert_read i (Some v) reads = put i v reads
 insert_read i None reads = reads
 
+-- each variable that is underneath, with its value, put among the reads
 abbrev pub insert_reads : Variables → List ℕ → List (ℕ × Value) → List (ℕ × Value)
 insert_reads under [] reads = reads
 insert_reads under (i ∷ is) reads = insert_reads under is (insert_read i (under i) reads)

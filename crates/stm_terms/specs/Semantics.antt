@@ -44,26 +44,32 @@ else_run (Threw f) right = Threw f
 else_run Retried right = right
 else_run Stuck right = Stuck
 
+-- a read returns the value that it finds, and changes nothing
 abbrev pub returned_value : Option Value → Changes → Outcome
 returned_value (Some v) h = Returned v h
 returned_value None h = Stuck
 
+-- a write returns `()` in the changed view
 abbrev pub returned_unit : Option Changes → Outcome
 returned_unit (Some h) = Returned Nil h
 returned_unit None = Stuck
 
+-- what `readTVar` does at a value; stuck unless it is a reference
 abbrev pub read_at : Variables → Changes → Value → Outcome
 read_at under h (Var r) = returned_value (view_at under h r) h
 read_at under h v = Stuck
 
+-- what `writeTVar` does at a value; stuck unless it is a reference
 abbrev pub write_at : Changes → Value → Value → Outcome
 write_at h (Var r) v = returned_unit (written h r v)
 write_at h w v = Stuck
 
+-- what `throw` does with a value; stuck unless it is a number
 abbrev pub thrown : Value → Outcome
 thrown (Int n) = Threw (Thrown n)
 thrown v = Stuck
 
+-- the branch that a condition chooses
 abbrev pub chosen : Value → Outcome → Outcome → Outcome
 chosen (Truth true) a b = a
 chosen (Truth false) a b = b

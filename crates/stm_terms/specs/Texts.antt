@@ -26,16 +26,19 @@ abbrev pub AppendsText : {E : Type 0} → Result (Unit {0}) E → List ℕ → L
 AppendsText result old new text =
     MatchResult result (λ _. new ≡ old ++ text) (λ _. AppendsPart old new text)
 
+-- a reference, as `#2` of the store or `new0` of the block
 abbrev pub ref_text : Ref → List ℕ
 ref_text (Old i) = codes "#" ++ decimal i
 ref_text (New k) = codes "new" ++ decimal k
 
+-- a value, as `-3`, `True`, `()` or a reference
 abbrev pub value_text : Value → List ℕ
 value_text (IntValue n) = signed_decimal n
 value_text (BoolValue b) = if b then codes "True" else codes "False"
 value_text UnitValue = codes "()"
 value_text (VarValue r) = ref_text r
 
+-- a type without `TVar`
 abbrev pub base_text : Base → List ℕ
 base_text IntType = codes "Int"
 base_text BoolType = codes "Bool"
@@ -47,21 +50,25 @@ refs_text base zero = base_text base
 refs_text base (suc zero) = codes "TVar " ++ base_text base
 refs_text base (suc (suc n)) = codes "TVar (" ++ refs_text base (suc n) ++ codes ")"
 
+-- a type, as `TVar (TVar Int)`
 unfoldable pub type_text : Ty → List ℕ
 type_text ty = refs_text ty.base ty.refs
 
--- a list with single spaces between, or `none`
+-- items, each after a space
 abbrev pub spaced : {X : Type 0} → (X → List ℕ) → List X → List ℕ
 spaced text [] = []
 spaced text (x ∷ xs) = codes " " ++ text x ++ spaced text xs
 
+-- a list with single spaces between, or `none`
 abbrev pub list_text : {X : Type 0} → (X → List ℕ) → List X → List ℕ
 list_text text [] = codes "none"
 list_text text (x ∷ xs) = text x ++ spaced text xs
 
+-- a variable with its value, as `#0=2`
 abbrev pub write_text : ℕ × Value → List ℕ
 write_text w = codes "#" ++ decimal w.0 ++ codes "=" ++ value_text w.1
 
+-- the number that was thrown, or `overflow`
 abbrev pub fault_text : Fault → List ℕ
 fault_text (Thrown n) = signed_decimal n
 fault_text Overflow = codes "overflow"
@@ -74,6 +81,7 @@ new_text n = value_text n.1
 unfoldable pub changes_text : List (ℕ × Value) → List (Ty × Value) → List ℕ
 changes_text writes news = list_text write_text writes ++ codes " news " ++ list_text new_text news
 
+-- what a block returns
 unfoldable pub result_text : Value → List ℕ
 result_text value = codes " result " ++ value_text value
 
@@ -81,6 +89,7 @@ result_text value = codes " result " ++ value_text value
 abbrev pub commits_text : List (ℕ × Value) → List (Ty × Value) → Value → List ℕ
 commits_text writes news result = codes "commits writes " ++ changes_text writes news ++ result_text result
 
+-- a verdict, as `throws 4` or `blocks`
 abbrev pub verdict_text : Verdict → List ℕ
 verdict_text (Commits writes news result) = commits_text writes news result
 verdict_text (Throws fault) = codes "throws " ++ fault_text fault

@@ -15,12 +15,14 @@ use Rattle.stm_terms.specs.contracts.action.Action as tree
 abbrev nowhere : Box (Unit {0})
 nowhere = record { ptr = null_ptr; alloc = record { memory = record { seal = tt } }; value = tt }
 
+-- an expression in boxes that lie nowhere
 abbrev boxed_term : Term → Expr
 boxed_term (lit v) = Lit v
 boxed_term (local i) = Local i
 boxed_term (global i) = Global i
 boxed_term (bin op a b) = Bin' op nowhere (boxed_term a) nowhere (boxed_term b)
 
+-- an action in such boxes
 abbrev boxed : Act → Action
 boxed (return e) = Return (boxed_term e)
 boxed (read e) = Read (boxed_term e)
@@ -35,12 +37,14 @@ boxed (let_in e b) = Let' (boxed_term e) nowhere (boxed b)
 boxed (seq a b) = Seq' nowhere (boxed a) nowhere (boxed b)
 boxed (catch a b) = Catch' nowhere (boxed a) nowhere (boxed b)
 
+-- out of its boxes an expression is the one that was put in
 term_back : (e : Term) → term_of (boxed_term e) ≡ e
 term_back (lit v) = refl
 term_back (local i) = refl
 term_back (global i) = refl
 term_back (bin op a b) = ap₂ (λ x y. bin op x y) (term_back a) (term_back b)
 
+-- and so is an action
 pub act_back : (a : Act) → act_of (boxed a) ≡ a
 act_back (return e) = ap return (term_back e)
 act_back (read e) = ap read (term_back e)
@@ -48,12 +52,15 @@ act_back (write r e) = ap₂ (λ x y. write x y) (term_back r) (term_back e)
 act_back (make t e) = ap (λ x. make t x) (term_back e)
 act_back retry = refl
 act_back (throw e) = ap throw (term_back e)
-act_back (if_else e a b) = ap (λ x. if_else x (act_of (boxed a)) (act_of (boxed b))) (term_back e) ∙ ap₂ (λ x y. if_else e x y) (act_back a) (act_back b)
+act_back (if_else e a b) =
+    ap (λ x. if_else x (act_of (boxed a)) (act_of (boxed b))) (term_back e)
+    ∙ ap₂ (λ x y. if_else e x y) (act_back a) (act_back b)
 act_back (or_else a b) = ap₂ (λ x y. or_else x y) (act_back a) (act_back b)
 act_back (bind a b) = ap₂ (λ x y. bind x y) (act_back a) (act_back b)
 act_back (let_in e b) = ap₂ (λ x y. let_in x y) (term_back e) (act_back b)
 act_back (seq a b) = ap₂ (λ x y. seq x y) (act_back a) (act_back b)
 act_back (catch a b) = ap₂ (λ x y. catch x y) (act_back a) (act_back b)
 
+-- actions have a code, since those in boxes have one
 abbrev pub act_code : Coded Act
 act_code = code_by Action tree.the_row.coded boxed act_of act_back

@@ -10,18 +10,22 @@ use Rattle.stm_terms.specs.declared.values.Value.TheVariants.{Int, Bool as Truth
 use Rattle.stm_terms.specs.declared.expr.Op.{Op}
 use Rattle.stm_terms.specs.declared.expr.Op.TheVariants.{Mul, Add, Sub, Eq, Lt, Le, And, Or}
 use Rattle.stm_terms.specs.Changes.{Variables, Changes, find}
+use Rattle.stm_terms.specs.Limits.{most_refs}
 use Rattle.stm_terms.specs.Ast.{Term, lit, local, global, bin, Act, return, read, write, make, retry, throw, if_else, or_else, bind, let_in, seq, catch}
 
 -- the types of the store's variables
 abbrev pub TypeEnv : Type 0
 TypeEnv = ℕ → Option Ty
 
+-- the type `Int`
 abbrev pub int_ty : Ty
 int_ty = record { base = IntBase; refs = 0 }
 
+-- the type `Bool`
 abbrev pub bool_ty : Ty
 bool_ty = record { base = BoolBase; refs = 0 }
 
+-- the type `()`
 abbrev pub unit_ty : Ty
 unit_ty = record { base = UnitBase; refs = 0 }
 
@@ -34,15 +38,18 @@ abbrev pub deref_at : BaseTy → ℕ → Option Ty
 deref_at b zero = None
 deref_at b (suc n) = Some (record { base = b; refs = n })
 
+-- none where the type is not one of references
 abbrev pub deref_ty : Ty → Option Ty
 deref_ty t = deref_at t.base t.refs
 
+-- the two are one base
 abbrev pub same_base : BaseTy → BaseTy → Bool
 same_base IntBase IntBase = true
 same_base BoolBase BoolBase = true
 same_base UnitBase UnitBase = true
 same_base a b = false
 
+-- the two are one type
 abbrev pub same_ty : Ty → Ty → Bool
 same_ty t u = same_base t.base u.base && nat_eq t.refs u.refs
 
@@ -70,9 +77,11 @@ abbrev pub with_type : {A : Type 0} → Option Ty → (Ty → Option A) → Opti
 with_type (Some t) go = go t
 with_type None go = None
 
+-- what an operator gives that wants both operands of one type
 abbrev pub operands : Ty → Ty → Ty → Ty → Option Ty
 operands wanted given t u = if same_ty t wanted && same_ty u wanted then Some given else None
 
+-- the type that an operator gives at operands of these types, none where it takes no such ones
 abbrev pub op_type : Op → Ty → Ty → Option Ty
 op_type Mul t u = operands int_ty int_ty t u
 op_type Add t u = operands int_ty int_ty t u
@@ -102,6 +111,7 @@ join_types Any r = Some r
 join_types (Gives t) Any = Some (Gives t)
 join_types (Gives t) (Gives u) = if same_ty t u then Some (Gives t) else None
 
+-- goes on with the type of an action
 abbrev pub with_result : Option ActionType → (ActionType → Option ActionType) → Option ActionType
 with_result (Some r) go = go r
 with_result None go = None
@@ -111,20 +121,26 @@ abbrev pub with_bound : ActionType → (Ty → Option ActionType) → Option Act
 with_bound (Gives t) go = go t
 with_bound Any go = None
 
+-- the type, where what it rests on holds
 abbrev pub when : Bool → ActionType → Option ActionType
 when b r = if b then Some r else None
 
+-- the type of an action, from those of the variables and the locals; none where it is ill typed
 abbrev pub action_type : TypeEnv → List Ty → Act → Option ActionType
 action_type kinds locals (return e) = with_type (expr_type kinds locals e) (λ t. Some (Gives t))
 action_type kinds locals (read e) = with_type (expr_type kinds locals e) (λ t. with_type (deref_ty t) (λ u. Some (Gives u)))
 action_type kinds locals (write r e) =
-    with_type (expr_type kinds locals r) (λ t. with_type (expr_type kinds locals e) (λ u. when (same_ty t (var_ty u)) (Gives unit_ty)))
+    with_type (expr_type kinds locals r)
+    (λ t. with_type (expr_type kinds locals e) (λ u. when (same_ty t (var_ty u)) (Gives unit_ty)))
 action_type kinds locals (make t e) =
-    with_type (expr_type kinds locals e) (λ u. when (same_ty t u && nat_le t.refs 8) (Gives (var_ty t)))
+    with_type (expr_type kinds locals e) (λ u. when (same_ty t u && nat_le t.refs most_refs) (Gives (var_ty t)))
 action_type kinds locals retry = Some Any
 action_type kinds locals (throw e) = with_type (expr_type kinds locals e) (λ t. when (same_ty t int_ty) Any)
 action_type kinds locals (if_else e a b) =
-    with_type (expr_type kinds locals e) (λ t. if same_ty t bool_ty then with_result (action_type kinds locals a) (λ r. with_result (action_type kinds locals b) (join_types r)) else None)
+    with_type (expr_type kinds locals e)
+    (λ t. if same_ty t bool_ty
+    then with_result (action_type kinds locals a) (λ r. with_result (action_type kinds locals b) (join_types r))
+    else None)
 action_type kinds locals (or_else a b) =
     with_result (action_type kinds locals a) (λ r. with_result (action_type kinds locals b) (join_types r))
 action_type kinds locals (bind a b) =
@@ -151,6 +167,7 @@ named_in (local i) = []
 named_in (global i) = i ∷ []
 named_in (bin op a b) = named_in a ++ named_in b
 
+-- the variables that an action names, so too
 abbrev pub named : Act → List ℕ
 named (return e) = named_in e
 named (read e) = named_in e
@@ -165,6 +182,7 @@ named (let_in e b) = named_in e ++ named b
 named (seq a b) = named a ++ named b
 named (catch a b) = named a ++ named b
 
+-- adds a variable of a known type that was not named before
 abbrev pub record_use_as : Option Ty → Option Ty → ℕ → List (ℕ × Ty) → List (ℕ × Ty)
 record_use_as (Some u) k i us = us
 record_use_as None (Some t) i us = us ++ (i, t) ∷ []
@@ -179,6 +197,7 @@ abbrev pub record_uses : TypeEnv → List ℕ → List (ℕ × Ty) → List (ℕ
 record_uses kinds [] us = us
 record_uses kinds (i ∷ is) us = record_uses kinds is (record_use kinds i us)
 
+-- the variables that an action names, each once, with its type
 abbrev pub uses_of : TypeEnv → Act → List (ℕ × Ty)
 uses_of kinds a = record_uses kinds (named a) []
 
@@ -193,11 +212,12 @@ makes (seq a b) = makes a + makes b
 makes (catch a b) = makes a + makes b
 makes a = 0
 
--- the keys of a list rise
+-- each key of a list is above n
 abbrev pub AllAbove : ℕ → List (ℕ × Value) → Type 0
 AllAbove n [] = Unit {0}
 AllAbove n (e ∷ es) = (n < e.0) × AllAbove n es
 
+-- the keys of a list rise
 abbrev pub Rising : List (ℕ × Value) → Type 0
 Rising [] = Unit {0}
 Rising (e ∷ es) = AllAbove e.0 es × Rising es
@@ -208,7 +228,7 @@ pub record WellTyped (kinds : TypeEnv) (under : Variables) (h : Changes) : Type 
   pub store : (i : ℕ) (t : Ty) → kinds i ≡ Some t → (v : Value) × (under i ≡ Some v) × (type_of kinds h v ≡ Some t)
   pub writes : (i : ℕ) (v : Value) → find i h.writes ≡ Some v → (t : Ty) × (kinds i ≡ Some t) × (type_of kinds h v ≡ Some t)
   pub rising : Rising h.writes
-  pub news : (k : ℕ) (c : Ty × Value) → slice_get h.news k ≡ Some c → (type_of kinds h c.1 ≡ Some c.0) × (c.0.refs ≤ 8)
+  pub news : (k : ℕ) (c : Ty × Value) → slice_get h.news k ≡ Some c → (type_of kinds h c.1 ≡ Some c.0) × (c.0.refs ≤ most_refs)
 
 -- values of these types, in order
 abbrev pub HaveTypes : TypeEnv → Changes → List Value → List Ty → Type 0

@@ -1,8 +1,11 @@
 //! The language of atomic blocks: types, values, trees and verdicts, the value of an expression, and printed texts.
 //!
 //! The meaning of a block, which everything above is proved against, stands in `specs/`: `Ast` (the trees that the
-//! definitions speak of), `Value` (the value of an expression), `Changes` and `Semantics` (what an action does), `ReadSet` (what it
-//! reads), `Verdict`, `Typing` and `Texts`.
+//! definitions speak of), `Value` (the value of an expression), `Changes` (what a block sees and has changed) and `Semantics`
+//! (what an action does), `ReadSet` (what it reads), `Verdict` (what a block does on a store) and `Typing` (the types of
+//! expressions and actions, and when a block's view is well typed). Beside it stand `ParsedAst` (the trees that a text writes,
+//! with names and places), `Names` (which words are names), `Limits` (how long and how deep) and `Texts` (what is printed of
+//! types, values and verdicts).
 #![tactic(auto)]
 
 pub mod action;
@@ -23,7 +26,7 @@ pub use eval::eval_expr;
 pub use expr::{Expr, Op};
 pub use kinds::{Base, Ty};
 pub use lists::{News, Writes};
-pub use naming::is_name;
+pub use naming::{LONGEST_NAME, is_name};
 pub use raw::{RawAction, RawExpr, Span};
 pub use std::alloc::AllocError as NoMemory;
 pub use text::{write_number, write_type, write_value, write_verdict};

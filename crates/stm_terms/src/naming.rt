@@ -1,8 +1,11 @@
 //! Names of variables and locals.
 
-ghost use Rattle.std.specs.Prelude.{◌≡◌, string_bytes};
+ghost use Rattle.std.specs.Prelude.{◌≡◌};
 ghost use Rattle.stm_terms.specs.Names.{is_name_text, is_reserved, is_control_word, is_action_word, is_value_word, is_word_byte, is_lower, starts_lower};
 ghost use Rattle.std.specs.List.{list_all};
+
+/// The most bytes of a name.
+pub const LONGEST_NAME: usize = 32;
 
 fn is_small_letter(byte: u8) -> bool
     ensures { result ≡ is_lower byte }
@@ -70,7 +73,7 @@ fn all_may_follow(bytes: &[u8]) -> bool
     bytes.iter().all(|byte| may_follow(*byte))
 }
 
-/// Whether a text is a name: a word of at most 32 bytes that begins with a small letter and isn't reserved.
+/// Whether a text is a name: a word of at most `LONGEST_NAME` bytes that begins with a small letter and isn't reserved.
 ///
 /// A word is a letter and then letters, digits, `_` and `'` (docs/LANGUAGE.md, "Tokens").
 #[tactic(auto, unfolding(crate::specs::Names::is_name_text))]
@@ -81,5 +84,5 @@ pub fn is_name(text: &str) -> bool
     starts_with_small_letter(bytes)
         && all_may_follow(bytes)
         && !is_reserved_word(text)
-        && bytes.len() <= 32
+        && bytes.len() <= LONGEST_NAME
 }

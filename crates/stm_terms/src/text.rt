@@ -1,5 +1,5 @@
 //! The printed text of values, types and verdicts, appended to a `String`.
-ghost use Rattle.std.specs.Prelude.{◌≡◌, ◌++◌, ◌∷◌, [], ℕ, List, OnOk, OnErr, string_bytes, codes, decimal};
+ghost use Rattle.std.specs.Prelude.{string_bytes, decimal};
 ghost use Rattle.std.specs.Fmt.{signed_decimal};
 ghost use Rattle.stm_terms.specs.Texts.{AppendsText, spaced, ref_text, value_text, base_text, type_text, refs_text, write_text, new_text, list_text, fault_text, changes_text, result_text, commits_text, verdict_text};
 
@@ -19,7 +19,8 @@ pub fn write_number(number: u32, out: &mut String) -> Result<(), NoMemory>
 
 /// Appends a signed number in decimal.
 fn write_int(number: i64, out: &mut String) -> Result<(), NoMemory>
-    ensures { AppendsText result (string_bytes out.old) (string_bytes out.new) (signed_decimal number) }
+    ensures { AppendsText result (string_bytes out.old) (string_bytes out.new)
+        (signed_decimal number) }
 {
     let mut buffer = Buffer::new();
     out.push_str(buffer.format(number))
@@ -27,7 +28,8 @@ fn write_int(number: i64, out: &mut String) -> Result<(), NoMemory>
 
 /// Appends a reference.
 fn write_ref(reference: Ref, out: &mut String) -> Result<(), NoMemory>
-    ensures { AppendsText result (string_bytes out.old) (string_bytes out.new) (ref_text reference) }
+    ensures { AppendsText result (string_bytes out.old) (string_bytes out.new)
+        (ref_text reference) }
 {
     match reference {
         Ref::Old(number) => {
@@ -66,7 +68,8 @@ fn write_base(base: Base, out: &mut String) -> Result<(), NoMemory>
 
 /// Appends the given number of `TVar` around a base.
 fn write_refs(base: Base, refs: u8, out: &mut String) -> Result<(), NoMemory>
-    ensures { AppendsText result (string_bytes out.old) (string_bytes out.new) (refs_text base refs) }
+    ensures { AppendsText result (string_bytes out.old) (string_bytes out.new)
+        (refs_text base refs) }
 {
     match refs {
         0 => write_base(base, out),
@@ -91,7 +94,8 @@ pub fn write_type(ty: Ty, out: &mut String) -> Result<(), NoMemory>
 
 /// Appends a write of a verdict, as `#0=2`.
 fn write_write(write: &(u32, Value), out: &mut String) -> Result<(), NoMemory>
-    ensures { AppendsText result (string_bytes out.old) (string_bytes out.new) (write_text write.now) }
+    ensures { AppendsText result (string_bytes out.old) (string_bytes out.new)
+        (write_text write.now) }
 {
     out.push_str("#")?;
     write_number(write.0, out)?;
@@ -101,7 +105,8 @@ fn write_write(write: &(u32, Value), out: &mut String) -> Result<(), NoMemory>
 
 /// Appends writes, each after a space.
 fn write_spaced(writes: &[(u32, Value)], out: &mut String) -> Result<(), NoMemory>
-    ensures { AppendsText result (string_bytes out.old) (string_bytes out.new) (spaced write_text writes.now) }
+    ensures { AppendsText result (string_bytes out.old) (string_bytes out.new)
+        (spaced write_text writes.now) }
 {
     for write in writes {
         out.push_str(" ")?;
@@ -112,7 +117,8 @@ fn write_spaced(writes: &[(u32, Value)], out: &mut String) -> Result<(), NoMemor
 
 /// Appends variables with their values, as `#0=2 #3=True`: the writes of a verdict, or what a block read.
 pub fn write_writes(writes: &[(u32, Value)], out: &mut String) -> Result<(), NoMemory>
-    ensures { AppendsText result (string_bytes out.old) (string_bytes out.new) (list_text write_text writes.now) }
+    ensures { AppendsText result (string_bytes out.old) (string_bytes out.new)
+        (list_text write_text writes.now) }
 {
     match writes {
         [] => out.push_str("none"),
@@ -134,7 +140,8 @@ fn write_fault(fault: Fault, out: &mut String) -> Result<(), NoMemory>
 
 /// Appends the values of new variables, each after a space.
 fn write_news_spaced(news: &[(Ty, Value)], out: &mut String) -> Result<(), NoMemory>
-    ensures { AppendsText result (string_bytes out.old) (string_bytes out.new) (spaced new_text news.now) }
+    ensures { AppendsText result (string_bytes out.old) (string_bytes out.new)
+        (spaced new_text news.now) }
 {
     for new in news {
         out.push_str(" ")?;
@@ -145,7 +152,8 @@ fn write_news_spaced(news: &[(Ty, Value)], out: &mut String) -> Result<(), NoMem
 
 /// Appends the values of new variables.
 fn write_news(news: &[(Ty, Value)], out: &mut String) -> Result<(), NoMemory>
-    ensures { AppendsText result (string_bytes out.old) (string_bytes out.new) (list_text new_text news.now) }
+    ensures { AppendsText result (string_bytes out.old) (string_bytes out.new)
+        (list_text new_text news.now) }
 {
     match news {
         [] => out.push_str("none"),
@@ -163,7 +171,8 @@ fn write_changes(
     news: &[(Ty, Value)],
     out: &mut String,
 ) -> Result<(), NoMemory>
-    ensures { AppendsText result (string_bytes out.old) (string_bytes out.new) (changes_text writes.now news.now) }
+    ensures { AppendsText result (string_bytes out.old) (string_bytes out.new)
+        (changes_text writes.now news.now) }
 {
     write_writes(writes, out)?;
     out.push_str(" news ")?;
@@ -186,7 +195,8 @@ fn write_commit(
     value: Value,
     out: &mut String,
 ) -> Result<(), NoMemory>
-    ensures { AppendsText result (string_bytes out.old) (string_bytes out.new) (commits_text writes.now news.now value) }
+    ensures { AppendsText result (string_bytes out.old) (string_bytes out.new)
+        (commits_text writes.now news.now value) }
 {
     out.push_str("commits writes ")?;
     write_changes(writes, news, out)?;
@@ -197,7 +207,8 @@ fn write_commit(
 ///
 /// After `NoMemory` a part of the text from its front was appended.
 pub fn write_verdict(verdict: &Verdict, out: &mut String) -> Result<(), NoMemory>
-    ensures { AppendsText result (string_bytes out.old) (string_bytes out.new) (verdict_text verdict.now) }
+    ensures { AppendsText result (string_bytes out.old) (string_bytes out.new)
+        (verdict_text verdict.now) }
 {
     match verdict {
         Verdict::Commits {

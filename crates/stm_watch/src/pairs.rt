@@ -18,7 +18,9 @@ fn has_pair(pairs: &BTreeSet<(u32, u32)>, variable: u32, ticket: u32) -> bool
 
 /// Adds a pair, unless it is there.
 fn add_pair(pairs: &mut BTreeSet<(u32, u32)>, variable: u32, ticket: u32) -> Result<(), NoMemory>
-    ensures ok { OnOk result ((v t : ℕ) → lists pairs.new.keys v t ≡ (lists pairs.old.keys v t || (nat_eq v variable && nat_eq t ticket))) }
+    ensures ok { OnOk result ((v t : ℕ) →
+        lists pairs.new.keys v t
+        ≡ (lists pairs.old.keys v t || (nat_eq v variable && nat_eq t ticket))) }
     ensures err { OnErr result (pairs.new.keys ≡ pairs.old.keys) }
 {
     let _ = pairs.insert((variable, ticket))?;
@@ -27,7 +29,9 @@ fn add_pair(pairs: &mut BTreeSet<(u32, u32)>, variable: u32, ticket: u32) -> Res
 
 /// Takes a pair away, if it is there.
 fn remove_pair(pairs: &mut BTreeSet<(u32, u32)>, variable: u32, ticket: u32)
-    ensures { (v t : ℕ) → lists pairs.new.keys v t ≡ (lists pairs.old.keys v t && not (nat_eq v variable && nat_eq t ticket)) }
+    ensures { (v t : ℕ) →
+        lists pairs.new.keys v t
+        ≡ (lists pairs.old.keys v t && not (nat_eq v variable && nat_eq t ticket)) }
 {
     pairs.remove(&(variable, ticket));
 }
@@ -39,7 +43,9 @@ pub(crate) fn unwatched(
     ticket: u32,
     reads: &[(u32, Value)],
 ) -> Result<Vec<u32>, NoMemory>
-    ensures { IfOk result (λ vs. (v : ℕ) → list_any (nat_eq v) vs.items ≡ (is_read reads.now v && not (lists pairs.now.keys v ticket))) }
+    ensures { IfOk result (λ vs. (v : ℕ) →
+        list_any (nat_eq v) vs.items
+        ≡ (is_read reads.now v && not (lists pairs.now.keys v ticket))) }
 {
     let mut fresh = Vec::with_capacity(alloc, reads.len())?;
     for (variable, _) in reads {
@@ -56,8 +62,13 @@ pub(crate) fn add_all(
     ticket: u32,
     variables: &[u32],
 ) -> Result<(), NoMemory>
-    ensures ok { OnOk result ((v t : ℕ) → lists pairs.new.keys v t ≡ (lists pairs.old.keys v t || (nat_eq t ticket && list_any (nat_eq v) variables.now))) }
-    ensures err { OnErr result ((v t : ℕ) → (lists pairs.new.keys v t && not (nat_eq t ticket && list_any (nat_eq v) variables.now)) ≡ (lists pairs.old.keys v t && not (nat_eq t ticket && list_any (nat_eq v) variables.now))) }
+    ensures ok { OnOk result ((v t : ℕ) →
+        lists pairs.new.keys v t
+        ≡ (lists pairs.old.keys v t || (nat_eq t ticket && list_any (nat_eq v) variables.now))) }
+    ensures err { OnErr result ((v t : ℕ) →
+        (lists pairs.new.keys v t && not (nat_eq t ticket && list_any (nat_eq v) variables.now))
+        ≡ (lists pairs.old.keys v t
+        && not (nat_eq t ticket && list_any (nat_eq v) variables.now))) }
 {
     for variable in variables {
         add_pair(pairs, *variable, ticket)?;
@@ -67,7 +78,10 @@ pub(crate) fn add_all(
 
 /// Takes away the pair of each variable with the ticket.
 pub(crate) fn remove_all(pairs: &mut BTreeSet<(u32, u32)>, ticket: u32, variables: &[u32])
-    ensures { (v t : ℕ) → lists pairs.new.keys v t ≡ (lists pairs.old.keys v t && not (nat_eq t ticket && list_any (nat_eq v) variables.now)) }
+    ensures { (v t : ℕ) →
+        lists pairs.new.keys v t
+        ≡ (lists pairs.old.keys v t
+        && not (nat_eq t ticket && list_any (nat_eq v) variables.now)) }
 {
     for variable in variables {
         remove_pair(pairs, *variable, ticket);
@@ -76,7 +90,9 @@ pub(crate) fn remove_all(pairs: &mut BTreeSet<(u32, u32)>, ticket: u32, variable
 
 /// Takes away the pair of each variable read with the ticket.
 pub(crate) fn remove_reads(pairs: &mut BTreeSet<(u32, u32)>, ticket: u32, reads: &[(u32, Value)])
-    ensures { (v t : ℕ) → lists pairs.new.keys v t ≡ (lists pairs.old.keys v t && not (nat_eq t ticket && is_read reads.now v)) }
+    ensures { (v t : ℕ) →
+        lists pairs.new.keys v t
+        ≡ (lists pairs.old.keys v t && not (nat_eq t ticket && is_read reads.now v)) }
 {
     for (variable, _) in reads {
         remove_pair(pairs, *variable, ticket);
@@ -90,7 +106,10 @@ pub(crate) fn push_watchers(
     tickets: &mut Vec<u32>,
 ) -> Result<(), NoMemory>
     requires { AreTickets pairs.now.keys }
-    ensures { OnOk result ((t : ℕ) → list_any (nat_eq t) tickets.new.items ≡ (list_any (nat_eq t) tickets.old.items || list_any (λ v. lists pairs.now.keys v t) variables.now)) }
+    ensures { OnOk result ((t : ℕ) →
+        list_any (nat_eq t) tickets.new.items
+        ≡ (list_any (nat_eq t) tickets.old.items
+        || list_any (λ v. lists pairs.now.keys v t) variables.now)) }
 {
     for variable in variables {
         push_watchers_of(pairs, *variable, tickets)?;
@@ -104,7 +123,9 @@ fn push_watchers_of(
     tickets: &mut Vec<u32>,
 ) -> Result<(), NoMemory>
     requires { AreTickets pairs.now.keys }
-    ensures { OnOk result ((t : ℕ) → list_any (nat_eq t) tickets.new.items ≡ (list_any (nat_eq t) tickets.old.items || lists pairs.now.keys variable t)) }
+    ensures { OnOk result ((t : ℕ) →
+        list_any (nat_eq t) tickets.new.items
+        ≡ (list_any (nat_eq t) tickets.old.items || lists pairs.now.keys variable t)) }
 {
     for pair in pairs.range((variable, 0)..=(variable, u32::MAX)) {
         tickets.push(pair.1)?;

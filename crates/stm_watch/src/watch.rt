@@ -70,7 +70,8 @@ impl Watch {
     /// The tickets that watch some of these variables, rising, each once.
     pub fn watchers(&self, variables: &[u32]) -> Result<Vec<u32>, NoMemory>
         ensures rising { IfOk result (λ ts. IsStrictlyIncreasing ts.items) }
-        ensures watchers { IfOk result (λ ts. (t : ℕ) → list_any (nat_eq t) ts.items ≡ watches self.now variables.now t) }
+        ensures watchers { IfOk result (λ ts. (t : ℕ) →
+            list_any (nat_eq t) ts.items ≡ watches self.now variables.now t) }
     {
         let mut tickets = Vec::new(self.alloc);
         push_watchers(&self.pairs, variables, &mut tickets)?;

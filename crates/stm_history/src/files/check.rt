@@ -5,7 +5,7 @@ ghost use Rattle.stm_store.specs.Tables.{Declared};
 ghost use Rattle.stm_history.specs.declared.event.Event.{Event as AnyEvent};
 ghost use Rattle.stm_history.specs.Checking.{CheckerState, at_header, at_variables, at_events, LeadsTo, MayRefuse, strange};
 ghost use Rattle.stm_history.specs.Fits.{FitsTable, FitsFormat};
-ghost use Rattle.stm_history.specs.Following.{Follows};
+ghost use Rattle.stm_history.specs.Following.{Follows, FollowsIn};
 ghost use Rattle.stm_history.specs.Judgement.{IsHistory, TellsFault, next_line};
 ghost use Rattle.stm_history.specs.Lines.{event_line};
 ghost use Rattle.stm_history.specs.SlowDesk.{max_cells, max_events, IsLegal};
@@ -16,7 +16,7 @@ use crate::event::Event;
 use crate::files::fault::{HistoryFault, Legal};
 use crate::files::replayer::Replayer;
 use crate::files::stepping::StepError;
-use crate::lines::formats::fits_format;
+use crate::lines::formats::{fits_format, staleness_rule};
 use crate::lines::read::{LineError, read_event, read_header, read_variable};
 use crate::lines::variable::Variable;
 use std::alloc::Global;
@@ -59,7 +59,7 @@ fn with_table(alloc: Global, format: u32, vars: u32, table: Table) -> Result<Sta
             table,
         });
     }
-    match Replayer::open(alloc, &table) {
+    match Replayer::open(alloc, staleness_rule(format), &table) {
         Ok(replayer) => Ok(Stage::Running {
             format,
             table,
@@ -137,12 +137,12 @@ fn take_event(
     event: &Event,
     number: u32,
 ) -> Result<(), HistoryFault>
-    requires { (T : List Declared) × (H : List AnyEvent) × Follows T H replayer.old }
-    ensures done { OnOk result ((T : List Declared) (H : List AnyEvent) → Follows T H replayer.old
-        → Follows T (H ++ event.now ∷ []) replayer.new) }
+    requires { (T : List Declared) × (H : List AnyEvent) × FollowsIn format T H replayer.old }
+    ensures done { OnOk result ((T : List Declared) (H : List AnyEvent) → FollowsIn format T H replayer.old
+        → FollowsIn format T (H ++ event.now ∷ []) replayer.new) }
     ensures fits { OnOk result (FitsFormat format event.now) }
     ensures refused { IfErr result (λ e. (T : List Declared) (H : List AnyEvent)
-        → Follows T H replayer.old → FitsTable T event.now → number ≡ next_line T H
+        → FollowsIn format T H replayer.old → FitsTable T event.now → number ≡ next_line T H
         → MayRefuse (at_events format T H) (event_line event.now) e) }
 {
     if !fits_format(format, event) {
@@ -163,12 +163,12 @@ fn take_event_line(
     replayer: &mut Replayer,
     line: &[u8],
 ) -> Result<(), HistoryFault>
-    requires { (H : List AnyEvent) × Follows table.now H replayer.old }
-    ensures leads { OnOk result ((H : List AnyEvent) → Follows table.now H replayer.old
+    requires { (H : List AnyEvent) × FollowsIn format table.now H replayer.old }
+    ensures leads { OnOk result ((H : List AnyEvent) → FollowsIn format table.now H replayer.old
         → (e : AnyEvent)
         × LeadsTo (at_events format table.now H) line.now (at_events format table.now (H ++ e ∷ []))
-        × Follows table.now (H ++ e ∷ []) replayer.new) }
-    ensures refused { IfErr result (λ e. (H : List AnyEvent) → Follows table.now H replayer.old
+        × FollowsIn format table.now (H ++ e ∷ []) replayer.new) }
+    ensures refused { IfErr result (λ e. (H : List AnyEvent) → FollowsIn format table.now H replayer.old
         → MayRefuse (at_events format table.now H) line.now e) }
 {
     let number = line_number(table, replayer);
@@ -187,10 +187,10 @@ fn run_on(
     mut replayer: Replayer,
     line: &[u8],
 ) -> Result<Stage, HistoryFault>
-    requires { (H : List AnyEvent) × Follows table H replayer }
-    ensures leads { IfOk result (λ s. (H : List AnyEvent) → Follows table H replayer
+    requires { (H : List AnyEvent) × FollowsIn format table H replayer }
+    ensures leads { IfOk result (λ s. (H : List AnyEvent) → FollowsIn format table H replayer
         → LeadsToStage (at_events format table H) line.now s) }
-    ensures refused { IfErr result (λ e. (H : List AnyEvent) → Follows table H replayer
+    ensures refused { IfErr result (λ e. (H : List AnyEvent) → FollowsIn format table H replayer
         → MayRefuse (at_events format table H) line.now e) }
 {
     match take_event_line(alloc, format, &table, &mut replayer, line) {
@@ -315,7 +315,7 @@ impl Checker {
     }
 }
 
-/// Judges the bytes of a reader as a history of format 1 or 2, line by line; docs/HISTORY.md has the formats. A line is never kept
+/// Judges the bytes of a reader as a history of format 1, 2 or 3, line by line; docs/HISTORY.md has the formats. A line is never kept
 /// beyond 1,048,576 bytes, and the reader is called 4,294,967,295 times at most. `ReadFault` where the reader fails.
 pub fn check_history<R: Read>(alloc: Global, reader: &mut R) -> Result<Legal, HistoryFault>
     // The bytes are the text of a legal history, and the numbers are its own.

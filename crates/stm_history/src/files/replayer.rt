@@ -4,6 +4,7 @@ ghost use Rattle.std.specs.Prelude.{◌≡◌, List, [], IfOk};
 
 use crate::files::fault::Legal;
 use crate::machine::Machine;
+use crate::staleness::StalenessRule;
 use std::alloc::Global;
 use stm_store::{Frozen, Table};
 use stm_terms::NoMemory;
@@ -11,10 +12,11 @@ use stm_terms::NoMemory;
 /// The most events of a history.
 pub(crate) const MAX_EVENTS: u32 = 1_048_576;
 
-/// The machine that the events so far lead to, how many they are, and an unchanging copy of the present store, where one was
+/// The rule that a history goes by, the machine that its events so far lead to, how many they are, and an unchanging copy of the present store, where one was
 /// made after the last finish.
 #[derive(Drop)]
 pub(crate) struct Replayer {
+    pub rule: StalenessRule,
     pub machine: Machine,
     pub events: u32,
     pub copy: Option<Frozen>,
@@ -24,13 +26,19 @@ impl Replayer {
     ghost use Rattle.stm_store.specs.Tables.{Declared};
     ghost use Rattle.stm_history.specs.declared.event.Event.{Event};
     ghost use Rattle.stm_history.specs.Following.{Follows};
-    ghost use Rattle.stm_history.specs.Judgement.{numbers};
+    ghost use Rattle.stm_history.specs.Judgement.{numbers_by};
 
     /// The variables of a table, and no event.
-    pub(crate) fn open(alloc: Global, table: &Table) -> Result<Replayer, NoMemory>
-        ensures { IfOk result (λ r. Follows table.now [] r) }
+    pub(crate) fn open(
+        alloc: Global,
+        rule: StalenessRule,
+        table: &Table,
+    ) -> Result<Replayer, NoMemory>
+        ensures follows { IfOk result (λ r. Follows table.now [] r) }
+        ensures rule { IfOk result (λ r. r.rule ≡ rule) }
     {
         Ok(Replayer {
+            rule,
             machine: Machine::open(alloc, table)?,
             events: 0,
             copy: None,
@@ -40,7 +48,7 @@ impl Replayer {
     /// The numbers of the history so far.
     pub(crate) fn numbers(&self) -> Legal
         requires { (T : List Declared) × (H : List Event) × Follows T H self.now }
-        ensures { (T : List Declared) (H : List Event) → Follows T H self.now → result ≡ numbers T H }
+        ensures { (T : List Declared) (H : List Event) → Follows T H self.now → result ≡ numbers_by self.now.rule T H }
     {
         Legal {
             events: self.events,

@@ -8,17 +8,18 @@ use crate::event::Event;
 use crate::files::fault::{HistoryFault, Legal};
 use crate::files::replayer::Replayer;
 use crate::files::stepping::StepError;
+use crate::staleness::StalenessRule;
 use std::alloc::Global;
 use stm_store::Table;
 
-/// Judges a list of events over a table. `NotLegal` counts the events from 1.
+/// Judges a list of events over a table, by the present rule. `NotLegal` counts the events from 1.
 pub fn replay(alloc: Global, table: &Table, history: &[Event]) -> Result<Legal, HistoryFault>
     // The list is legal, and the numbers are its own.
     ensures ok { IfOk result (λ n. IsLegal table.now history.now × (n ≡ numbers table.now history.now)) }
     // Otherwise the first event that isn't allowed is reported.
     ensures fault { IfErr result (λ e. Refuses e table.now history.now) }
 {
-    let mut replayer = match Replayer::open(alloc, table) {
+    let mut replayer = match Replayer::open(alloc, StalenessRule::Changed, table) {
         Ok(replayer) => replayer,
         Err(_) => return Err(HistoryFault::NoMemory),
     };

@@ -7,11 +7,12 @@ ghost use Rattle.stm_eval.specs.EvaluatedFields.{message_ticket, message_verdict
 ghost use Rattle.stm_history.specs.declared.event.Event.{Event as AnyEvent};
 ghost use Rattle.stm_history.specs.declared.event.What.TheVariants.{Submitted, Installed, Finished, Cancelled};
 ghost use Rattle.stm_history.specs.declared.finish.Plan.{Plan as AnyPlan};
+ghost use Rattle.stm_history.specs.declared.staleness.StalenessRule.{StalenessRule as AnyRule};
 ghost use Rattle.stm_history.specs.Following.{HasRoom, WhatIsIllegal, Follows};
-ghost use Rattle.stm_history.specs.Judgement.{IsIllegal};
-ghost use Rattle.stm_history.specs.Machine.{CanInstall, CanFinish, MovesTo};
+ghost use Rattle.stm_history.specs.Judgement.{IsIllegalBy};
+ghost use Rattle.stm_history.specs.Machine.{CanInstallBy, CanFinishBy, MovesToBy};
 ghost use Rattle.stm_history.specs.Refusals.{submit_told, cancel_told, finish_told, deliver_error};
-ghost use Rattle.stm_history.specs.SlowDesk.{state, max_events};
+ghost use Rattle.stm_history.specs.SlowDesk.{state_by, max_events};
 ghost use Rattle.stm_history.specs.JobsHandedOut.{IsPresent};
 
 use crate::errors::{CancelError, DeliverError, FinishError, SubmitError};
@@ -20,6 +21,7 @@ use crate::files::replayer::{MAX_EVENTS, Replayer};
 use crate::finish::Plan;
 use crate::machine::Machine;
 use crate::same::same_numbers;
+use crate::staleness::StalenessRule;
 use stm_check::SharedBlock;
 use stm_eval::Evaluated;
 use stm_store::Frozen;
@@ -94,9 +96,9 @@ fn deliver_refused(error: DeliverError) -> StepError
 
 /// The block is submitted, under the next ticket.
 fn submitted(machine: &mut Machine, ticket: u32, block: &SharedBlock) -> Result<(), StepError>
-    requires { (T : List Declared) × (H : List AnyEvent) × HasRoom T H machine.old }
-    ensures done { OnOk result ((T : List Declared) (H : List AnyEvent) → HasRoom T H machine.old → MovesTo T H (Submitted ticket block.now) machine.new) }
-    ensures not_allowed { IsErrOf result StepError.NotAllowed → (T : List Declared) (H : List AnyEvent) → HasRoom T H machine.old → WhatIsIllegal T H (Submitted ticket block.now) }
+    requires { (R : AnyRule) × (T : List Declared) × (H : List AnyEvent) × HasRoom R T H machine.old }
+    ensures done { OnOk result ((R : AnyRule) (T : List Declared) (H : List AnyEvent) → HasRoom R T H machine.old → MovesToBy R T H (Submitted ticket block.now) machine.new) }
+    ensures not_allowed { IsErrOf result StepError.NotAllowed → (R : AnyRule) (T : List Declared) (H : List AnyEvent) → HasRoom R T H machine.old → WhatIsIllegal R T H (Submitted ticket block.now) }
 {
     match machine.may_wait(block, false) {
         Ok(()) => {}
@@ -113,9 +115,9 @@ fn submitted(machine: &mut Machine, ticket: u32, block: &SharedBlock) -> Result<
 
 /// The block is cancelled.
 fn cancelled(machine: &mut Machine, ticket: u32) -> Result<(), StepError>
-    requires { (T : List Declared) × (H : List AnyEvent) × HasRoom T H machine.old }
-    ensures done { OnOk result ((T : List Declared) (H : List AnyEvent) → HasRoom T H machine.old → MovesTo T H (Cancelled ticket) machine.new) }
-    ensures not_allowed { IsErrOf result StepError.NotAllowed → (T : List Declared) (H : List AnyEvent) → HasRoom T H machine.old → WhatIsIllegal T H (Cancelled ticket) }
+    requires { (R : AnyRule) × (T : List Declared) × (H : List AnyEvent) × HasRoom R T H machine.old }
+    ensures done { OnOk result ((R : AnyRule) (T : List Declared) (H : List AnyEvent) → HasRoom R T H machine.old → MovesToBy R T H (Cancelled ticket) machine.new) }
+    ensures not_allowed { IsErrOf result StepError.NotAllowed → (R : AnyRule) (T : List Declared) (H : List AnyEvent) → HasRoom R T H machine.old → WhatIsIllegal R T H (Cancelled ticket) }
 {
     match machine.may_leave(ticket, false) {
         Ok(()) => {
@@ -145,10 +147,9 @@ fn finish_by(
     first_new: u32,
     stale: &[u32],
 ) -> Result<(), StepError>
-    requires room { (T : List Declared) × (H : List AnyEvent) × HasRoom T H machine.old }
-    requires may { (T : List Declared) (H : List AnyEvent) → HasRoom T H machine.old → CanFinish T H machine.old ticket plan.now.verdict plan.now.first_new plan.now.stale }
-    ensures done { OnOk result ((T : List Declared) (H : List AnyEvent) → HasRoom T H machine.old → MovesTo T H (Finished ticket verdict.now first_new stale.now) machine.new) }
-    ensures not_allowed { IsErrOf result StepError.NotAllowed → (T : List Declared) (H : List AnyEvent) → HasRoom T H machine.old → WhatIsIllegal T H (Finished ticket verdict.now first_new stale.now) }
+    requires { (R : AnyRule) × (T : List Declared) × (H : List AnyEvent) × CanFinishBy R T H machine.old ticket plan.now.verdict plan.now.first_new plan.now.stale }
+    ensures done { OnOk result ((R : AnyRule) (T : List Declared) (H : List AnyEvent) → CanFinishBy R T H machine.old ticket plan.now.verdict plan.now.first_new plan.now.stale → MovesToBy R T H (Finished ticket verdict.now first_new stale.now) machine.new) }
+    ensures not_allowed { IsErrOf result StepError.NotAllowed → (R : AnyRule) (T : List Declared) (H : List AnyEvent) → CanFinishBy R T H machine.old ticket plan.now.verdict plan.now.first_new plan.now.stale → WhatIsIllegal R T H (Finished ticket verdict.now first_new stale.now) }
 {
     if !is_plan(plan, verdict, first_new, stale) {
         return Err(StepError::NotAllowed);
@@ -162,16 +163,17 @@ fn finish_by(
 /// The block finishes, with these fields.
 fn finished(
     machine: &mut Machine,
+    rule: StalenessRule,
     ticket: u32,
     verdict: &Verdict,
     first_new: u32,
     stale: &[u32],
 ) -> Result<(), StepError>
-    requires { (T : List Declared) × (H : List AnyEvent) × HasRoom T H machine.old }
-    ensures done { OnOk result ((T : List Declared) (H : List AnyEvent) → HasRoom T H machine.old → MovesTo T H (Finished ticket verdict.now first_new stale.now) machine.new) }
-    ensures not_allowed { IsErrOf result StepError.NotAllowed → (T : List Declared) (H : List AnyEvent) → HasRoom T H machine.old → WhatIsIllegal T H (Finished ticket verdict.now first_new stale.now) }
+    requires { (T : List Declared) × (H : List AnyEvent) × HasRoom rule T H machine.old }
+    ensures done { OnOk result ((T : List Declared) (H : List AnyEvent) → HasRoom rule T H machine.old → MovesToBy rule T H (Finished ticket verdict.now first_new stale.now) machine.new) }
+    ensures not_allowed { IsErrOf result StepError.NotAllowed → (T : List Declared) (H : List AnyEvent) → HasRoom rule T H machine.old → WhatIsIllegal rule T H (Finished ticket verdict.now first_new stale.now) }
 {
-    match machine.plan(ticket, false) {
+    match machine.plan(ticket, false, rule) {
         Ok(plan) => finish_by(machine, ticket, &plan, verdict, first_new, stale),
         Err(error) => Err(finish_refused(error)),
     }
@@ -179,10 +181,10 @@ fn finished(
 
 /// Whether the message may be installed, and brings this verdict.
 fn may_bring(machine: &Machine, message: &Evaluated, verdict: &Verdict) -> Result<(), StepError>
-    requires present { (T : List Declared) (H : List AnyEvent) → HasRoom T H machine.now → IsPresent (state T H) (message_ticket message.now) message.now }
-    ensures may { OnOk result ((T : List Declared) (H : List AnyEvent) → HasRoom T H machine.now → CanInstall T H machine.now message.now) }
+    requires present { (R : AnyRule) (T : List Declared) (H : List AnyEvent) → HasRoom R T H machine.now → IsPresent (state_by R T H) (message_ticket message.now) message.now }
+    ensures may { OnOk result ((R : AnyRule) (T : List Declared) (H : List AnyEvent) → HasRoom R T H machine.now → CanInstallBy R T H machine.now message.now) }
     ensures verdict { OnOk result (message_verdict message.now ≡ verdict.now) }
-    ensures not_allowed { IsErrOf result StepError.NotAllowed → (T : List Declared) (H : List AnyEvent) → HasRoom T H machine.now → WhatIsIllegal T H (Installed (message_ticket message.now) verdict.now) }
+    ensures not_allowed { IsErrOf result StepError.NotAllowed → (R : AnyRule) (T : List Declared) (H : List AnyEvent) → HasRoom R T H machine.now → WhatIsIllegal R T H (Installed (message_ticket message.now) verdict.now) }
 {
     if !message.verdict().same(verdict) {
         return Err(StepError::NotAllowed);
@@ -199,10 +201,10 @@ fn install_message(
     message: Evaluated,
     verdict: &Verdict,
 ) -> Result<(), StepError>
-    requires room { (T : List Declared) × (H : List AnyEvent) × HasRoom T H machine.old }
-    requires present { (T : List Declared) (H : List AnyEvent) → HasRoom T H machine.old → IsPresent (state T H) (message_ticket message) message }
-    ensures done { OnOk result ((T : List Declared) (H : List AnyEvent) → HasRoom T H machine.old → MovesTo T H (Installed (message_ticket message) verdict.now) machine.new) }
-    ensures not_allowed { IsErrOf result StepError.NotAllowed → (T : List Declared) (H : List AnyEvent) → HasRoom T H machine.old → WhatIsIllegal T H (Installed (message_ticket message) verdict.now) }
+    requires room { (R : AnyRule) × (T : List Declared) × (H : List AnyEvent) × HasRoom R T H machine.old }
+    requires present { (R : AnyRule) (T : List Declared) (H : List AnyEvent) → HasRoom R T H machine.old → IsPresent (state_by R T H) (message_ticket message) message }
+    ensures done { OnOk result ((R : AnyRule) (T : List Declared) (H : List AnyEvent) → HasRoom R T H machine.old → MovesToBy R T H (Installed (message_ticket message) verdict.now) machine.new) }
+    ensures not_allowed { IsErrOf result StepError.NotAllowed → (R : AnyRule) (T : List Declared) (H : List AnyEvent) → HasRoom R T H machine.old → WhatIsIllegal R T H (Installed (message_ticket message) verdict.now) }
 {
     match may_bring(machine, &message, verdict) {
         Ok(()) => match machine.install(message) {
@@ -220,10 +222,10 @@ fn installed(
     ticket: u32,
     verdict: &Verdict,
 ) -> Result<(), StepError>
-    requires room { (T : List Declared) × (H : List AnyEvent) × HasRoom T H machine.old }
+    requires room { (R : AnyRule) × (T : List Declared) × (H : List AnyEvent) × HasRoom R T H machine.old }
     requires copied { copy.now ≡ plains machine.old.store }
-    ensures done { OnOk result ((T : List Declared) (H : List AnyEvent) → HasRoom T H machine.old → MovesTo T H (Installed ticket verdict.now) machine.new) }
-    ensures not_allowed { IsErrOf result StepError.NotAllowed → (T : List Declared) (H : List AnyEvent) → HasRoom T H machine.old → WhatIsIllegal T H (Installed ticket verdict.now) }
+    ensures done { OnOk result ((R : AnyRule) (T : List Declared) (H : List AnyEvent) → HasRoom R T H machine.old → MovesToBy R T H (Installed ticket verdict.now) machine.new) }
+    ensures not_allowed { IsErrOf result StepError.NotAllowed → (R : AnyRule) (T : List Declared) (H : List AnyEvent) → HasRoom R T H machine.old → WhatIsIllegal R T H (Installed ticket verdict.now) }
 {
     if machine.block(ticket).is_none() {
         return Err(StepError::NotAllowed);
@@ -248,12 +250,13 @@ fn keep_copy(machine: &Machine, copy: &mut Option<Frozen>) -> Result<(), NoMemor
 impl Replayer {
     /// A verdict is installed.
     fn install(&mut self, ticket: u32, verdict: &Verdict) -> Result<(), StepError>
-        requires room { (T : List Declared) × (H : List AnyEvent) × HasRoom T H self.old.machine }
+        requires room { (R : AnyRule) × (T : List Declared) × (H : List AnyEvent) × HasRoom R T H self.old.machine }
         requires copied { IfSome self.old.copy (λ cells. cells ≡ plains self.old.machine.store) }
-        ensures done { OnOk result ((T : List Declared) (H : List AnyEvent) → HasRoom T H self.old.machine → MovesTo T H (Installed ticket verdict.now) self.new.machine) }
-        ensures not_allowed { IsErrOf result StepError.NotAllowed → (T : List Declared) (H : List AnyEvent) → HasRoom T H self.old.machine → WhatIsIllegal T H (Installed ticket verdict.now) }
+        ensures done { OnOk result ((R : AnyRule) (T : List Declared) (H : List AnyEvent) → HasRoom R T H self.old.machine → MovesToBy R T H (Installed ticket verdict.now) self.new.machine) }
+        ensures not_allowed { IsErrOf result StepError.NotAllowed → (R : AnyRule) (T : List Declared) (H : List AnyEvent) → HasRoom R T H self.old.machine → WhatIsIllegal R T H (Installed ticket verdict.now) }
         ensures copied { OnOk result (self.new.copy ≡ Some (plains self.old.machine.store)) }
         ensures events { self.new.events ≡ self.old.events }
+        ensures rule { self.new.rule ≡ self.old.rule }
     {
         keep_copy(&self.machine, &mut self.copy)?;
         match &self.copy {
@@ -264,12 +267,13 @@ impl Replayer {
 
     /// What happens next. A finish lets go of the copy first, so that the store changes in place.
     fn act(&mut self, what: &What) -> Result<(), StepError>
-        requires room { (T : List Declared) × (H : List AnyEvent) × HasRoom T H self.old.machine }
+        requires room { (T : List Declared) × (H : List AnyEvent) × HasRoom self.old.rule T H self.old.machine }
         requires copied { IfSome self.old.copy (λ cells. cells ≡ plains self.old.machine.store) }
-        ensures done { OnOk result ((T : List Declared) (H : List AnyEvent) → HasRoom T H self.old.machine → MovesTo T H what.now self.new.machine) }
-        ensures not_allowed { IsErrOf result StepError.NotAllowed → (T : List Declared) (H : List AnyEvent) → HasRoom T H self.old.machine → WhatIsIllegal T H what.now }
+        ensures done { OnOk result ((T : List Declared) (H : List AnyEvent) → HasRoom self.old.rule T H self.old.machine → MovesToBy self.old.rule T H what.now self.new.machine) }
+        ensures not_allowed { IsErrOf result StepError.NotAllowed → (T : List Declared) (H : List AnyEvent) → HasRoom self.old.rule T H self.old.machine → WhatIsIllegal self.old.rule T H what.now }
         ensures copied { OnOk result (IfSome self.new.copy (λ cells. cells ≡ plains self.new.machine.store)) }
         ensures events { self.new.events ≡ self.old.events }
+        ensures rule { self.new.rule ≡ self.old.rule }
     {
         match what {
             What::Submitted { ticket, block } => submitted(&mut self.machine, *ticket, block),
@@ -283,6 +287,7 @@ impl Replayer {
                 self.copy = None;
                 finished(
                     &mut self.machine,
+                    self.rule,
                     *ticket,
                     verdict,
                     *first_new,
@@ -297,7 +302,8 @@ impl Replayer {
     pub(crate) fn step(&mut self, event: &Event) -> Result<(), StepError>
         requires { (T : List Declared) × (H : List AnyEvent) × Follows T H self.old }
         ensures done { OnOk result ((T : List Declared) (H : List AnyEvent) → Follows T H self.old → Follows T (H ++ event.now ∷ []) self.new) }
-        ensures not_allowed { IsErrOf result StepError.NotAllowed → (T : List Declared) (H : List AnyEvent) → Follows T H self.old → IsIllegal T H event.now }
+        ensures not_allowed { IsErrOf result StepError.NotAllowed → (T : List Declared) (H : List AnyEvent) → Follows T H self.old → IsIllegalBy self.old.rule T H event.now }
+        ensures rule { OnOk result (self.new.rule ≡ self.old.rule) }
     {
         if event.client >= 128 || self.events >= MAX_EVENTS {
             return Err(StepError::NotAllowed);

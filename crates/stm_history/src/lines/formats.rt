@@ -1,22 +1,37 @@
 //! The formats of histories: which are read, which is written, and what may stand in each.
 
-ghost use Rattle.std.specs.Prelude.{◌↔◌, IsTrue};
+ghost use Rattle.std.specs.Prelude.{◌≡◌, ◌↔◌, IsTrue};
 ghost use Rattle.stm_history.specs.Fits.{FitsFormat};
-ghost use Rattle.stm_history.specs.Lines.{IsFormat};
+ghost use Rattle.stm_history.specs.Lines.{IsFormat, rule_of};
 
 use crate::event::{Event, What};
+use crate::staleness::StalenessRule;
 
 /// The first format, in which no block has a `catch`.
 pub(crate) const FIRST_FORMAT: u32 = 1;
 
 /// The format that is written, the latest of those that are read.
-pub(crate) const LATEST_FORMAT: u32 = 2;
+pub(crate) const LATEST_FORMAT: u32 = 3;
 
 /// Whether histories of the format are read.
 pub(crate) fn is_format(format: u32) -> bool
     ensures { IsTrue result ↔ IsFormat format }
 {
     FIRST_FORMAT <= format && format <= LATEST_FORMAT
+}
+
+/// The first format whose histories go by what blocks changed.
+const FIRST_BY_CHANGES: u32 = 3;
+
+/// The rule by which the blocks of a history become stale.
+pub(crate) fn staleness_rule(format: u32) -> StalenessRule
+    ensures { result ≡ rule_of format }
+{
+    if format >= FIRST_BY_CHANGES {
+        StalenessRule::Changed
+    } else {
+        StalenessRule::Written
+    }
 }
 
 /// Whether the event may stand in a history of the format.

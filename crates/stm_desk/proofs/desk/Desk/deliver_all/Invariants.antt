@@ -1,6 +1,5 @@
 use Rattle.std.proofs.Common.{◌≡◌, ◌-◌, false, length}
 use Rattle.stm_store.specs.Cells.{plains}
-use Rattle.stm_history.specs.SlowDesk.{IsLegal}
 use Rattle.stm_desk.specs.Seen.{now}
 use Rattle.stm_history.specs.SettleChoices.{some_out, AreCandidates}
 use Rattle.stm_desk.specs.Settling.{HasBegun}

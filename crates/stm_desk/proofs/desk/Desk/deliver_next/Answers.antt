@@ -1,5 +1,4 @@
-use Rattle.std.proofs.Common.{◌≡◌, ◌∙◌, ℕ, true, refl, sym, ap, subst}
-use Rattle.stm_queue.specs.SortedTickets.{member}
+use Rattle.std.proofs.Common.{◌∙◌, refl, sym, ap, subst}
 use Rattle.stm_desk.specs.Seen.{Seen, now}
 use Rattle.stm_history.specs.SettleChoices.{AreCandidates}
 use Rattle.stm_desk.proofs.Turns.{stops_delivery, why_delivery, left_same, next_install, store_install}

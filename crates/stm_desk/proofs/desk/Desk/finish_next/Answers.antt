@@ -1,8 +1,5 @@
 use Rattle.stm_desk.proofs.Turns.{stops_finish, why_finish, next_finish}
 use Rattle.stm_desk.proofs.Ripe.{finished_candidates}
-use Rattle.stm_history.specs.SettleChoices.{AreCandidates}
-use Rattle.stm_desk.specs.Seen.{now}
-use Rattle.std.proofs.Common.{rules, sym, subst}
 use Rattle.stm_desk.proofs.desk.Desk.finish_next.Goals as goal
 use Rattle.stm_desk.proofs.desk.Desk.finish_next.Goals.{in-Ok, in-Err}
 

@@ -1,10 +1,7 @@
-use Rattle.std.proofs.Common.{◌≡◌, ◌∙◌, None, arith, sym, subst}
-use Rattle.stm_history.specs.SlowDesk.{Slow}
-use Rattle.stm_history.specs.SlowSettle.{lowest, is_due, can_end, next_what}
-use Rattle.stm_desk.specs.Seen.{Seen, now}
-use Rattle.stm_history.specs.SettleChoices.{AreCandidates}
-use Rattle.stm_desk.specs.Settling.{called_back, HasBegun, StopTold}
-use Rattle.stm_desk.specs.Steps.{WhyTold}
+use Rattle.std.proofs.Common.{◌∙◌, arith, sym}
+use Rattle.stm_history.specs.SlowSettle.{is_due, can_end}
+use Rattle.stm_desk.specs.Seen.{now}
+use Rattle.stm_desk.specs.Settling.{called_back}
 use Rattle.stm_desk.proofs.Turns.{none_at}
 use Rattle.stm_desk.proofs.Runs.{all_block, nothing_next, begun_here, begun_round, begun_finish, settled_end, stop_told, finished_fits, evaluated_fits, less_after, out_one, out_back}
 use Rattle.stm_desk.proofs.desk.Desk.settle.Goals as goal

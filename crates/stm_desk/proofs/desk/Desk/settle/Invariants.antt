@@ -1,5 +1,4 @@
 use Rattle.std.proofs.Common.{◌≡◌, ◌-◌, false, length}
-use Rattle.stm_history.specs.SlowDesk.{IsLegal}
 use Rattle.stm_desk.specs.Seen.{now}
 use Rattle.stm_history.specs.SettleChoices.{some_out, AreCandidates}
 use Rattle.stm_desk.specs.Settling.{called_back, HasBegun}

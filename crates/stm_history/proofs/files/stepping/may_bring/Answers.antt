@@ -5,14 +5,14 @@ use Rattle.stm_history.proofs.Steps.{no_install, install_same}
 use Rattle.stm_history.proofs.files.stepping.may_bring.Goals as goal
 
 pub returns-then-not-same-clause-not_allowed : goal.returns-then-not-same-clause-not_allowed
-returns-then-not-same-clause-not_allowed c = λ n T H h client a.
-    let same = install_same T H client c.args.verdict.now c.args.message.now a (c.requires.present T H h) in
+returns-then-not-same-clause-not_allowed c = λ n R T H h client a.
+    let same = install_same R T H client c.args.verdict.now c.args.message.now a (c.requires.present R T H h) in
     let yes = c.same.ensures.1 (c.verdict.ensures.value ∙ same) in
     let no_ = c.if-not-same.true in
     grind (arith, common_steps)
 
 pub returns-in-Err-clause-not_allowed : goal.returns-in-Err-clause-not_allowed
-returns-in-Err-clause-not_allowed c = λ n T H h client a.
-    let none = no_install T H client c.args.verdict.now (deliver_error c.in-Err.error) c.args.message.now a (c.requires.present T H h) (c.in-Err.ensures.told T H h.stands) in
+returns-in-Err-clause-not_allowed c = λ n R T H h client a.
+    let none = no_install R T H client c.args.verdict.now (deliver_error c.in-Err.error) c.args.message.now a (c.requires.present R T H h) (c.in-Err.ensures.told R T H h.stands) in
     let memory = c.deliver_refused.ensures none in
     cc

@@ -1,31 +1,31 @@
 use Rattle.std.proofs.Common.{◌≡◌, ◌∙◌, Some, None, sym, ap, subst}
 use Rattle.std.specs.Option.{option_copied}
 use Rattle.stm_history.specs.Entries.{kept_at}
-use Rattle.stm_history.specs.Machine.{StandsFor}
+use Rattle.stm_history.specs.Machine.{StandsForBy}
 use Rattle.stm_history.specs.Entries.{kept_ends}
 use Rattle.stm_history.proofs.Ripe.{ends_then, ends_now}
 use Rattle.stm_history.proofs.machine.Machine.ends.Goals as goal
 
 pub returns-in-None-clause-then : goal.returns-in-None-clause-then
-returns-in-None-clause-then c = λ T H h.
-    let k = subst (StandsFor T H) (sym c.self.view_is) h in
+returns-in-None-clause-then c = λ R T H h.
+    let k = subst (StandsForBy R T H) (sym c.self.view_is) h in
     let e : kept_at c.args.ticket c.self.inside.waiting ≡ None = sym c.get.ensures ∙ ap option_copied c.in-None.is in
-    ap kept_ends (sym e) ∙ ends_then T H _ k c.args.ticket
+    ap kept_ends (sym e) ∙ ends_then R T H _ k c.args.ticket
 
 pub returns-in-None-clause-present : goal.returns-in-None-clause-present
-returns-in-None-clause-present c = λ T H w h f d.
-    let k = subst (StandsFor T H) (sym c.self.view_is) h in
+returns-in-None-clause-present c = λ R T H w h f d.
+    let k = subst (StandsForBy R T H) (sym c.self.view_is) h in
     let e : kept_at c.args.ticket c.self.inside.waiting ≡ None = sym c.get.ensures ∙ ap option_copied c.in-None.is in
-    ap kept_ends (sym e) ∙ ends_now T H _ k c.args.ticket w f d
+    ap kept_ends (sym e) ∙ ends_now R T H _ k c.args.ticket w f d
 
 pub returns-in-Some-clause-then : goal.returns-in-Some-clause-then
-returns-in-Some-clause-then c = λ T H h.
-    let k = subst (StandsFor T H) (sym c.self.view_is) h in
+returns-in-Some-clause-then c = λ R T H h.
+    let k = subst (StandsForBy R T H) (sym c.self.view_is) h in
     let e : kept_at c.args.ticket c.self.inside.waiting ≡ Some c.in-Some.waiting.now = sym c.get.ensures ∙ ap option_copied c.in-Some.is in
-    c.ends.ensures ∙ ap kept_ends (sym e) ∙ ends_then T H _ k c.args.ticket
+    c.ends.ensures ∙ ap kept_ends (sym e) ∙ ends_then R T H _ k c.args.ticket
 
 pub returns-in-Some-clause-present : goal.returns-in-Some-clause-present
-returns-in-Some-clause-present c = λ T H w h f d.
-    let k = subst (StandsFor T H) (sym c.self.view_is) h in
+returns-in-Some-clause-present c = λ R T H w h f d.
+    let k = subst (StandsForBy R T H) (sym c.self.view_is) h in
     let e : kept_at c.args.ticket c.self.inside.waiting ≡ Some c.in-Some.waiting.now = sym c.get.ensures ∙ ap option_copied c.in-Some.is in
-    c.ends.ensures ∙ ap kept_ends (sym e) ∙ ends_now T H _ k c.args.ticket w f d
+    c.ends.ensures ∙ ap kept_ends (sym e) ∙ ends_now R T H _ k c.args.ticket w f d

@@ -4,7 +4,7 @@ use Rattle.stm_watch.specs.Pairs.{pair_cmp}
 use Rattle.stm_history.proofs.machine.Machine.open.Goals as goal
 
 pub returns-clause-stands : goal.returns-clause-stands
-returns-clause-stands c = record {
+returns-clause-stands c = λ R. record {
   legal = record { each = tt; few = omega arith };
   stands = rw (c.in_ok-open.ensures, c.empty.ensures, c.empty-2.ensures, c.empty-3.ensures) (record {
     store_is = refl;

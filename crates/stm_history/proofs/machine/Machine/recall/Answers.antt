@@ -1,10 +1,10 @@
 use Rattle.std.proofs.Common.{sym, subst}
-use Rattle.stm_history.specs.Machine.{StandsFor}
+use Rattle.stm_history.specs.Machine.{StandsForBy}
 use Rattle.stm_queue.proofs.Membership.{has_recalled}
 use Rattle.stm_history.proofs.Delivery.{requeued}
 use Rattle.stm_history.proofs.machine.Machine.recall.Goals as goal
 
 pub returns-clause-kept : goal.returns-clause-kept
-returns-clause-kept c = λ T H h.
-    let k = subst (StandsFor T H) (sym c.self.view_is) h in
-    rw c.recall.ensures (requeued T H _ _ (λ u. has_recalled u c.self.inside.pending.entries) k)
+returns-clause-kept c = λ R T H h.
+    let k = subst (StandsForBy R T H) (sym c.self.view_is) h in
+    rw c.recall.ensures (requeued R T H _ _ (λ u. has_recalled u c.self.inside.pending.entries) k)
