@@ -20,12 +20,13 @@ RUNS = [
 ]
 
 
-def runs(root=ROOT):
+def runs(root=ROOT, quick=False):
     """The runs on built programs that are there: what each shows, and its command in the repository."""
     found = []
     for shown, script, program in RUNS:
         if (root / script).exists():
-            found.append((shown, [sys.executable, script] + [f"crates/{program}/out/{program}"] * bool(program)))
+            words = [f"crates/{program}/out/{program}"] if program else ["--quick"] * (quick and script == "tests/refused")
+            found.append((shown, [sys.executable, script] + words))
     return found
 
 
@@ -72,7 +73,7 @@ def of_runs(programs):
     texts += [ROOT / it for it in ("clients", "tools/timeline", "examples", "README.md", "docs")]
     key = lambda: repository.digest(*(it.digest() for it in programs), *map(repository.contents, texts))
     after = [f"proof {it.name}" for it in programs]
-    return [parts.Part(shown, lambda jobs, it=command: on_programs(it), [key], after) for shown, command in runs()]
+    return [parts.Part(shown, lambda jobs, it=command: on_programs(it), [key], after) for shown, command in runs(quick=True)]
 
 
 def all_parts(again=()):

@@ -1,6 +1,7 @@
 //! The calls that change a desk, each on its own.
 
 ghost use Rattle.std.specs.Prelude.{◌<◌};
+ghost use Rattle.stm_history.specs.SlowDesk.{max_clients};
 
 use crate::desks::Counts;
 use crate::words::{number, range, say, say_count, say_whether};
@@ -19,7 +20,7 @@ pub fn submit(
     block: SharedBlock,
     out: &mut String,
 ) -> Result<(), AllocError>
-    requires { client < 128 }
+    requires { client < max_clients }
 {
     match desk.submit(client, block) {
         Ok(ticket) => writeln!(out, "ticket {ticket}"),
@@ -36,7 +37,7 @@ pub fn fill(
     count: usize,
     out: &mut String,
 ) -> Result<(), AllocError>
-    requires { client < 128 }
+    requires { client < max_clients }
 {
     for _ in desk.waiting()..count {
         match desk.submit(client, block.share()?) {
@@ -73,7 +74,7 @@ pub fn say_finish(finish: &Finish, out: &mut String) -> Result<(), AllocError> {
 
 /// Finishes the block of a ticket.
 pub fn finish(desk: &mut Desk, client: u32, ticket: u32, out: &mut String) -> Result<(), AllocError>
-    requires { client < 128 }
+    requires { client < max_clients }
 {
     match desk.finish(client, ticket) {
         Ok(done) => say_finish(&done, out),
@@ -84,7 +85,7 @@ pub fn finish(desk: &mut Desk, client: u32, ticket: u32, out: &mut String) -> Re
 
 /// Cancels the block of a ticket.
 pub fn cancel(desk: &mut Desk, client: u32, ticket: u32, out: &mut String) -> Result<(), AllocError>
-    requires { client < 128 }
+    requires { client < max_clients }
 {
     match desk.cancel(client, ticket) {
         Ok(()) => say("done", out),
@@ -147,7 +148,7 @@ pub fn settle(
     client: u32,
     out: &mut String,
 ) -> Result<(), AllocError>
-    requires { client < 128 }
+    requires { client < max_clients }
 {
     match desk.settle(client) {
         Ok(done) => say_settled(settled, done, "", out),

@@ -2,6 +2,7 @@
 
 ghost use Rattle.std.specs.Prelude.{◌<◌, IfOk, OnOk};
 ghost use Rattle.stm_store.specs.Cells.{Covers};
+ghost use Rattle.stm_history.specs.SlowDesk.{max_clients};
 ghost use Rattle.stm_history.specs.JobsHandedOut.{AreCovered};
 
 use crate::words::say;
@@ -13,8 +14,8 @@ use stm_eval::{Evaluated, Job, evaluate};
 use stm_pool::{Answer, evaluate_all};
 use stm_store::Frozen;
 
-/// The jobs of the last call that took some, the copy of the store beside them, the messages made of them, and how many
-/// messages were accepted and refused since the jobs were taken.
+/// The jobs of the last call that took some, the copy of the store beside them, the messages made
+/// of them, and how many messages were accepted and refused since the jobs were taken.
 #[derive(Drop)]
 pub struct Work {
     frozen: Option<Frozen>,
@@ -208,7 +209,7 @@ fn deliver_one(
     place: &mut Option<Evaluated>,
     client: u32,
 ) -> Option<Result<(), DeliverError>>
-    requires { client < 128 }
+    requires { client < max_clients }
 {
     match place.take() {
         None => None,
@@ -230,7 +231,7 @@ pub fn deliver(
     number: u32,
     out: &mut String,
 ) -> Result<(), AllocError>
-    requires { client < 128 }
+    requires { client < max_clients }
 {
     let place = (number as usize).wrapping_sub(1);
     match work.messages.as_mut_slice().get_mut(place) {
@@ -244,14 +245,15 @@ pub fn deliver(
     }
 }
 
-/// Delivers all messages that are left, and answers how many were accepted and refused since the jobs were taken.
+/// Delivers all messages that are left, and answers how many were accepted and refused since the
+/// jobs were taken.
 pub fn deliver_all(
     desk: &mut Desk,
     work: &mut Work,
     client: u32,
     out: &mut String,
 ) -> Result<(), AllocError>
-    requires { client < 128 }
+    requires { client < max_clients }
 {
     for place in 0..work.messages.len() {
         match deliver_one(desk, &mut work.messages[place], client) {
@@ -269,7 +271,7 @@ pub fn deliver_all(
 
 /// Evaluates the queued blocks and delivers them, one after another.
 pub fn eval(desk: &mut Desk, client: u32, alloc: Global, out: &mut String) -> Result<(), AllocError>
-    requires { client < 128 }
+    requires { client < max_clients }
 {
     for _ in 0..desk.waiting() {
         if !desk.has_queued() {
@@ -289,7 +291,7 @@ fn eval_first(
     client: u32,
     alloc: Global,
 ) -> Result<Option<DeliverError>, AllocError>
-    requires { client < 128 }
+    requires { client < max_clients }
 {
     let (frozen, jobs) = desk.take(1)?;
     match jobs.as_slice().first() {
@@ -314,7 +316,7 @@ fn deliver_first(
     message: Evaluated,
     ticket: u32,
 ) -> Result<Option<DeliverError>, AllocError>
-    requires { client < 128 }
+    requires { client < max_clients }
 {
     match desk.deliver(client, message) {
         Ok(()) => Ok(None),

@@ -1,6 +1,7 @@
 //! Calls of the desk, and of a second one beside it.
 
 ghost use Rattle.std.specs.Prelude.{◌<◌};
+ghost use Rattle.stm_history.specs.SlowDesk.{max_clients};
 
 use crate::blocks::typed;
 use crate::desk_work::{self, Work};
@@ -103,7 +104,7 @@ fn answer_submit(
     text: &str,
     out: &mut String,
 ) -> Result<(), AllocError>
-    requires { client < 128 }
+    requires { client < max_clients }
 {
     match script(alloc, table, text, out)? {
         Some(block) => desk_calls::submit(desk, client, block, out),
@@ -119,7 +120,7 @@ fn answer_fill(
     text: &str,
     out: &mut String,
 ) -> Result<(), AllocError>
-    requires { client < 128 }
+    requires { client < max_clients }
 {
     let (count, text) = first_word(text);
     match script(alloc, table, text, out)? {
@@ -138,7 +139,7 @@ fn answer_change(
     text: &str,
     out: &mut String,
 ) -> Result<(), AllocError>
-    requires { client < 128 }
+    requires { client < max_clients }
 {
     let (call, rest) = first_word(text);
     match call {

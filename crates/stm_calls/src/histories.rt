@@ -136,8 +136,9 @@ fn judge_failing(
     say_judgement(check_history(alloc, &mut reader), out)
 }
 
-/// Writes the history of the desk to a writer of sixteen bytes a call that fails after so many. Answers whether all was
-/// written, and whether what was written is a part of what was gathered, from its front.
+/// Writes the history of the desk to a writer of sixteen bytes a call that fails after so many.
+/// Answers whether all was written, and whether what was written is a part of what was gathered,
+/// from its front.
 fn write_failing(
     gathered: &Gathered,
     desk: &Desk,

@@ -1,9 +1,10 @@
-//! Calls of the crates by a script: each line of standard input is a call, and its answer goes on standard output.
+//! Calls of the crates by a script: each line of standard input is a call, and its answer goes on
+//! standard output.
 //!
-//! The first word of a line names a module, the second a call of it (tests/README.md lists them). A premise of a call is
-//! asked for first, and where it doesn't hold the answer is `refused` with the reason. A call that is refused memory is
-//! made again, or told as `no memory` with the number of its line and left at that, as `memory again` and `memory once`
-//! say.
+//! The first word of a line names a module, the second a call of it (tests/README.md lists them). A
+//! premise of a call is asked for first, and where it doesn't hold the answer is `refused` with the
+//! reason. A call that is refused memory is made again, or told as `no memory` with the number of
+//! its line and left at that, as `memory again` and `memory once` say.
 #![tactic(auto)]
 
 mod blocks;

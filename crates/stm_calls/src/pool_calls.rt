@@ -214,7 +214,8 @@ impl<'a, L: Ledger, R: Wait> Gate<R> for Counting<'a, L> {
     }
 }
 
-/// Works with the last pass until so many deliveries were made, behind a gate that first says no so many times.
+/// Works with the last pass until so many deliveries were made, behind a gate that first says no so
+/// many times.
 pub fn work<L: Ledger, R: Wait + Threads + Sync>(
     shared: &SharedDesk<L>,
     passes: &mut Vec<Pass<L>>,

@@ -54,8 +54,8 @@ impl<R: Wait + Clock> Gate<R> for Held {
     }
 }
 
-/// What the thread of a worker is given. It is one value, since what a closure may hold that goes to another thread is found
-/// by a search, which ends before it has gone through five values.
+/// What the thread of a worker is given. It is one value, since what a closure may hold that goes
+/// to another thread is found by a search, which ends before it has gone through five values.
 #[derive(Drop)]
 struct Errand<'a, L: Ledger, R> {
     rt: &'a R,
@@ -68,8 +68,8 @@ struct Errand<'a, L: Ledger, R> {
 /// A pass, and how its worker ended.
 type Ended<L> = (Pass<L>, WorkEnd);
 
-/// A worker, which stops the desk when it ends, so that nobody waits for it in vain. Where memory ran out for it, the other
-/// one is held no longer.
+/// A worker, which stops the desk when it ends, so that nobody waits for it in vain. Where memory
+/// ran out for it, the other one is held no longer.
 fn run_worker<'a, L: Ledger, R: Threads + Wait + Clock + Sync>(
     errand: Errand<'a, L, R>,
 ) -> Ended<L> {
@@ -88,7 +88,8 @@ fn run_worker<'a, L: Ledger, R: Threads + Wait + Clock + Sync>(
     (pass, end)
 }
 
-/// Two workers in threads of their own, until there are four events; nothing where a thread can't be started.
+/// Two workers in threads of their own, until there are four events; nothing where a thread can't
+/// be started.
 fn two_workers<L: Ledger + Send + Sync, R: Threads + Wait + Clock + Sync>(
     rt: &R,
     alloc: Global,

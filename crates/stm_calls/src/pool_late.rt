@@ -19,7 +19,8 @@ use stm_store::{Frozen, Table};
 /// How many events the desk takes.
 const EVENTS: u32 = 100_000;
 
-/// How often a message was accepted, refused as that of a current ticket, and refused for another reason.
+/// How often a message was accepted, refused as that of a current ticket, and refused for another
+/// reason.
 #[derive(Clone, Copy)]
 struct Told {
     accepted: u32,
@@ -145,7 +146,8 @@ fn with_waiting(
     Ok(desk)
 }
 
-/// Takes all jobs, has three threads deliver each, and answers with what they were told and whether the history is legal.
+/// Takes all jobs, has three threads deliver each, and answers with what they were told and whether
+/// the history is legal.
 fn answer_desk<R: Threads + Wait + Sync>(
     desk: Desk,
     rt: &R,
@@ -169,7 +171,8 @@ fn answer_desk<R: Threads + Wait + Sync>(
     say_replay(&desk, alloc, out)
 }
 
-/// The block waits so many times on a desk of its own, and three threads deliver a message of each of its tickets.
+/// The block waits so many times on a desk of its own, and three threads deliver a message of each
+/// of its tickets.
 pub fn answer<R: Threads + Wait + Sync>(
     rt: &R,
     table: &Table,

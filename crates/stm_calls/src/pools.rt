@@ -1,6 +1,8 @@
-//! A shared desk in one thread: a line opens it on the declared variables, and makes calls of it one after another.
+//! A shared desk in one thread: a line opens it on the declared variables, and makes calls of it
+//! one after another.
 
 ghost use Rattle.std.specs.Prelude.{◌≡◌, ◌≤◌};
+ghost use Rattle.stm_history.specs.SlowDesk.{max_clients, max_events};
 
 use crate::histories::say_replay;
 use crate::pool_calls::{answer_shared, work};
@@ -21,7 +23,8 @@ use stm_store::Table;
 /// How many passes a shared desk may have.
 const PASSES: u32 = 128;
 
-/// The shared desk, until it is closed, its passes, the messages that were made, and the variables that blocks may name.
+/// The shared desk, until it is closed, its passes, the messages that were made, and the variables
+/// that blocks may name.
 #[derive(Drop)]
 struct Session<L: Ledger> {
     shared: Option<SharedDesk<L>>,
@@ -136,8 +139,8 @@ fn answer_with<L: Ledger, R: Wait + Threads + Sync>(
 ) -> Result<(), AllocError>
     requires name { blank.name ≡ L.name }
     requires parts { (blank.parts ≡ L.parts) × (blank.parts ≡ passes) }
-    requires passes { passes ≤ 128 }
-    requires limit { limit ≤ 1048576 }
+    requires passes { passes ≤ max_clients }
+    requires limit { limit ≤ max_events }
 {
     let (shared, passes) = SharedDesk::<L>::open(alloc, blank, table, passes, limit)?;
     let mut session = Session {
@@ -159,14 +162,15 @@ fn answer_open<R: Wait + Threads + Sync>(
     calls: Calls<'_>,
     out: &mut String,
 ) -> Result<(), AllocError>
-    requires passes { passes ≤ 128 }
-    requires limit { limit ≤ 1048576 }
+    requires passes { passes ≤ max_clients }
+    requires limit { limit ≤ max_events }
 {
     let blank = Blank::new(u64::from(passes));
     answer_with::<Brand, R>(rt, alloc, blank, table, passes, limit, calls, out)
 }
 
-/// Answers a line of calls of a shared desk, behind the numbers of its passes and of the events that it takes.
+/// Answers a line of calls of a shared desk, behind the numbers of its passes and of the events
+/// that it takes.
 pub fn answer<R: Wait + Threads + Sync>(
     rt: &R,
     table: &Table,

@@ -12,6 +12,7 @@ use Rattle.stm_console.specs.declared.reply.Reply.TheVariants as reply
 use Rattle.stm_console.specs.Refusals.{is_printed}
 use Rattle.stm_console.specs.Showing.{events_text}
 
+-- the judgement of a line, as the definitions have it
 abbrev pub line_class_of : Judgement → LineClass
 line_class_of judgement.TooLong = TooLong
 line_class_of judgement.Silent = Silent

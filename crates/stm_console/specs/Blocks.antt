@@ -19,6 +19,7 @@ use Rattle.stm_console.specs.declared.refusal.Refusal.TheVariants.{Parsing, Typi
 use Rattle.stm_console.specs.OpenDesk.{OpenDesk, present}
 use Rattle.stm_console.specs.Refusals.{refusal_text, submit_error_text}
 
+-- a checked block, or its fault as the console refuses it
 abbrev pub block_or_refusal : Result Block BlockFault → Result Block Refusal
 block_or_refusal (Ok b) = Ok b
 block_or_refusal (Err (NotParsed e)) = Err (Parsing e)
@@ -33,6 +34,7 @@ unfoldable pub verdict_line : Option Verdict → List ℕ
 verdict_line (Some v) = verdict_text v ++ 10 ∷ []
 verdict_line None = []
 
+-- the verdict of a block that was compiled, or why its text is refused
 abbrev pub tried_text : List Cell → Result Block Refusal → List ℕ
 tried_text cells (Ok block) = verdict_line (verdict_on cells block)
 tried_text cells (Err e) = refusal_text e
@@ -41,9 +43,11 @@ tried_text cells (Err e) = refusal_text e
 unfoldable pub try_answer : OpenDesk → List ℕ → List ℕ
 try_answer d argument = tried_text (present d) (compiled_block d.desk.table argument)
 
+-- the variables that were read, each with its value, as a line
 unfoldable pub reads_line : List (ℕ × Value) → List ℕ
 reads_line reads = codes "reads " ++ list_text write_text reads ++ 10 ∷ []
 
+-- what a block that was compiled reads, or why its text is refused
 abbrev pub looked_text : List Cell → Result Block Refusal → List ℕ
 looked_text cells (Ok block) = reads_line (reads_of (under cells) block.tree)
 looked_text cells (Err e) = refusal_text e
@@ -52,21 +56,26 @@ looked_text cells (Err e) = refusal_text e
 unfoldable pub looks_answer : OpenDesk → List ℕ → List ℕ
 looks_answer d argument = looked_text (present d) (compiled_block d.desk.table argument)
 
+-- the line that tells a new ticket
 unfoldable pub ticket_line : ℕ → List ℕ
 ticket_line ticket = codes "ticket " ++ decimal ticket ++ 10 ∷ []
 
+-- the ticket of a block that was submitted, or why it is refused
 abbrev pub submitted_text : Seen → Option SubmitError → List ℕ
 submitted_text d None = ticket_line (now d).next
 submitted_text d (Some e) = submit_error_text e
 
+-- the desk after a block was submitted, or refused
 abbrev pub submitted : Seen → Block → Option SubmitError → Seen
 submitted d block None = with_event d (event 0 (Submitted (now d).next block))
 submitted d block (Some e) = d
 
+-- what `submit` tells of a text: the ticket of its block, or why text or block are refused
 abbrev pub submit_text : Seen → Result Block Refusal → List ℕ
 submit_text d (Ok block) = submitted_text d (submit_refusal d block)
 submit_text d (Err e) = refusal_text e
 
+-- the desk after `submit` of a text; as it was, where text or block are refused
 abbrev pub after_submit : Seen → Result Block Refusal → Seen
 after_submit d (Ok block) = submitted d block (submit_refusal d block)
 after_submit d (Err e) = d
@@ -75,5 +84,6 @@ after_submit d (Err e) = d
 unfoldable pub submit_answer : OpenDesk → List ℕ → List ℕ
 submit_answer d argument = submit_text d.desk (compiled_block d.desk.table argument)
 
+-- the open desk after `submit`
 unfoldable pub submit_state : OpenDesk → List ℕ → OpenDesk
 submit_state d argument = record d { desk = after_submit d.desk (compiled_block d.desk.table argument) }

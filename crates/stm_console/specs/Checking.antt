@@ -14,6 +14,7 @@ IsFinding bytes BadHeader = TellsFault fault.BadHeader bytes
 IsFinding bytes (BadLine n) = TellsFault (fault.BadLine n) bytes
 IsFinding bytes (NotLegal n) = TellsFault (fault.NotLegal n) bytes
 
+-- the line that is printed of a finding
 abbrev pub finding_text : Finding → List ℕ
 finding_text (LegalFound events) = codes "legal " ++ decimal events ++ codes " events\n"
 finding_text BadHeader = codes "bad header\n"

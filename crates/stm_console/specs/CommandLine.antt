@@ -33,21 +33,26 @@ number_option name low high default = record (new_rule name) {
   parser = Some (Signed (pos low) (pos high));
 }
 
+-- a command with the options of a run: `--workers`, `--levels` and `--max-events`
 abbrev pub with_options : App → App
 with_options command = with_rule (with_rule (with_rule command
     (number_option (codes "workers") 1 64 (codes "2")))
     (number_option (codes "levels") 0 8 (codes "0")))
     (number_option (codes "max-events") 0 max_events (codes "1048576"))
 
+-- `run` with its options
 abbrev pub run_command : App
 run_command = with_options (new_app (codes "run"))
 
+-- `storm` with its options
 abbrev pub storm_command : App
 storm_command = with_options (new_app (codes "storm"))
 
+-- `check`, which takes no option
 abbrev pub check_command : App
 check_command = new_app (codes "check")
 
+-- the program with all its commands
 abbrev pub command_line : App
 command_line = with_subcommand (with_subcommand (with_subcommand (new_app (codes "stmdesk"))
     run_command.top) storm_command.top) check_command.top
@@ -64,6 +69,7 @@ is_mistake DisplayHelp = false
 is_mistake DisplayVersion = false
 is_mistake _ = true
 
+-- there is something to tell, and all of it is that the words are wrong
 abbrev pub are_mistakes : Kinds → Bool
 are_mistakes [] = false
 are_mistakes (kind ∷ kinds) = list_all is_mistake (kind ∷ kinds)
@@ -72,6 +78,7 @@ are_mistakes (kind ∷ kinds) = list_all is_mistake (kind ∷ kinds)
 abbrev pub has_mistake : List (List ℕ) → Bool
 has_mistake words = are_mistakes (answers_of words)
 
+-- all that there is to tell is help
 abbrev pub is_help : Kinds → Bool
 is_help (DisplayHelp ∷ []) = true
 is_help _ = false
@@ -86,6 +93,7 @@ asks_for_help words = is_help (answers_of words)
 abbrev pub number_of_text : List ℕ → Option ℕ
 number_of_text text = if is_unsigned_in 0 4294967295 text then Some (digits_value 10 (without_leading_plus text)) else None
 
+-- a number from low to high; what is meant otherwise, where none is said or it is outside
 abbrev pub number_within : ℕ → ℕ → ℕ → Option ℕ → ℕ
 number_within low high otherwise None = otherwise
 number_within low high otherwise (Some n) = if nat_le low n && nat_le n high then n else otherwise
@@ -95,6 +103,7 @@ abbrev pub number_said : List ℕ → ℕ → ℕ → ℕ → List Row → ℕ
 number_said name low high otherwise rows =
     number_within low high otherwise (option_and_then number_of_text (one_of name rows))
 
+-- the options that are said for a run or a storm, with the defaults for the others
 abbrev pub options_said : List Row → Options
 options_said rows = record {
   workers = number_said (codes "workers") 1 64 2 rows;

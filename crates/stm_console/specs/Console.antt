@@ -77,24 +77,29 @@ abbrev pub command_answer : Console → Command → List ℕ → List ℕ
 command_answer s Tvar argument = tvar_answer s argument
 command_answer s command argument = desk_answer (present_desk s) command argument
 
+-- what the console knows after a command
 abbrev pub command_state : Console → Command → List ℕ → Console
 command_state s Tvar argument = tvar_state s argument
 command_state s command argument = Open (desk_after (present_desk s) command argument)
 
+-- an unknown word is refused
 abbrev pub answer_to_command : Console → Option Command → List ℕ → List ℕ
 answer_to_command s (Some command) argument = command_answer s command argument
 answer_to_command s None argument = refused (codes "Command")
 
+-- and changes nothing
 abbrev pub state_after_command : Console → Option Command → List ℕ → Console
 state_after_command s (Some command) argument = command_state s command argument
 state_after_command s None argument = s
 
+-- what is written for a line, by its judgement
 abbrev pub answer_to_class : Console → LineClass → List ℕ
 answer_to_class s TooLong = refused (codes "LineTooLong")
 answer_to_class s Silent = []
 answer_to_class s NotAscii = refused (codes "NotAscii")
 answer_to_class s (Words word argument) = answer_to_command s (command_named word) argument
 
+-- what the console knows after a line, by its judgement
 abbrev pub state_after_class : Console → LineClass → Console
 state_after_class s TooLong = s
 state_after_class s Silent = s

@@ -20,19 +20,23 @@ abbrev pub reference_to : ℕ → Option ℕ → Result Value Refusal
 reference_to place (Some i) = Ok (Var (Old i))
 reference_to place None = Err (Unknown place)
 
+-- the first value that a declaration gives its variable, or why it is refused
 abbrev pub initial : List Declared → ParsedInit → Result Value Refusal
 initial table (literal v) = Ok v
 initial table (named name place) = reference_to place (number_of name table)
 
+-- the variable, unless the table refuses it
 abbrev pub unless_refused : Declared → Option DeclareError → Result Declared Refusal
 unless_refused d None = Ok d
 unless_refused d (Some e) = Err (Refused e)
 
+-- the variable of this name, type and first value, or why it is refused
 abbrev pub with_initial_value : List Declared → List ℕ → Ty → Result Value Refusal → Result Declared Refusal
 with_initial_value table name kind (Ok v) =
     unless_refused (record { name = name; kind = kind; value = v }) (declare_refusal table name kind v)
 with_initial_value table name kind (Err e) = Err e
 
+-- the variable of a declaration that was parsed, or why it is refused
 abbrev pub on_declaration : List Declared → Result ParsedDeclaration ParseFault → Result Declared Refusal
 on_declaration table (Ok d) = with_initial_value table d.name d.kind (initial table d.init)
 on_declaration table (Err e) = Err (Parsing e)
@@ -42,13 +46,16 @@ on_declaration table (Err e) = Err (Parsing e)
 unfoldable pub variable_of : List Declared → List ℕ → Result Declared Refusal
 variable_of table text = on_declaration table (parsed_declaration text)
 
+-- the line that tells the number and the name of a new variable
 unfoldable pub tvar_line : ℕ → List ℕ → List ℕ
 tvar_line number name = codes "tvar #" ++ decimal number ++ 32 ∷ name ++ 10 ∷ []
 
+-- what `tvar` tells: the number and the name of the new variable, or why it is refused
 abbrev pub declared_text : ℕ → Result Declared Refusal → List ℕ
 declared_text number (Ok d) = tvar_line number d.name
 declared_text number (Err e) = refusal_text e
 
+-- the table with the new variable; as it was, where that is refused
 abbrev pub with_variable : List Declared → Result Declared Refusal → List Declared
 with_variable table (Ok d) = table ++ d ∷ []
 with_variable table (Err e) = table
@@ -58,6 +65,7 @@ abbrev pub tvar_answer : Console → List ℕ → List ℕ
 tvar_answer (Declaring table limit) argument = declared_text (length table) (variable_of table argument)
 tvar_answer (Open d) argument = refused (codes "Late")
 
+-- what the console knows after `tvar`
 abbrev pub tvar_state : Console → List ℕ → Console
 tvar_state (Declaring table limit) argument = Declaring (with_variable table (variable_of table argument)) limit
 tvar_state (Open d) argument = Open d

@@ -17,6 +17,8 @@ use Rattle.stm_pool.specs.Answers.{AnswersJob}
 use Rattle.stm_desk.specs.Refusals.{left_by}
 use Rattle.stm_desk.specs.Seen.{Seen, now, with_event}
 use Rattle.stm_console.specs.declared.jobs.HandedOut.{HandedOut}
+use Rattle.stm_console.specs.declared.jobs.Progress.{Progress}
+use Rattle.stm_console.specs.Delivering.{Delivered}
 
 -- a job that is kept with the store at its `take`
 abbrev pub handed_out : List (Ty × Value) → Job → HandedOut
@@ -31,6 +33,7 @@ pub record JobStands (d : Seen) (j : HandedOut) : Type 0 where
   pub history : d.history ≡ before ++ more
   pub waited : block_at (state d.table before) j.ticket ≡ Some j.block
 
+-- each of the jobs does
 abbrev pub JobsStand : Seen → List HandedOut → Type 0
 JobsStand d [] = Unit {0}
 JobsStand d (j ∷ js) = JobStands d j × JobsStand d js
@@ -65,3 +68,11 @@ AnswerJobs [] cells [] = Unit {0}
 AnswerJobs [] cells (a ∷ rest) = ⊥
 AnswerJobs (j ∷ js) cells [] = ⊥
 AnswerJobs (j ∷ js) cells (a ∷ rest) = AnswersJob j cells a × AnswerJobs js cells rest
+
+-- how far the delivery of jobs came, with the desk as it then is
+abbrev pub delivered_so_far : Seen → Progress → Delivered
+delivered_so_far d p = record { desk = d; count = p.count; stop = p.stop }
+
+-- the same before the first
+abbrev pub none_delivered : Seen → Delivered
+none_delivered d = record { desk = d; count = 0; stop = None }

@@ -72,7 +72,8 @@ StormsAreAccepted = (name : List ℕ)
 abbrev pub StormsAreAsRuns : Type 0
 StormsAreAsRuns = (name : List ℕ) (rest : List (List ℕ))
     → (answers_of (name ∷ codes "storm" ∷ rest) ≡ answers_of (name ∷ codes "run" ∷ rest))
-    × ((options : Options) → request_of (name ∷ codes "run" ∷ rest) ≡ Run options → request_of (name ∷ codes "storm" ∷ rest) ≡ Storm options)
+    × ((options : Options) → request_of (name ∷ codes "run" ∷ rest) ≡ Run options
+    → request_of (name ∷ codes "storm" ∷ rest) ≡ Storm options)
 
 -- `check` after the program's name asks for a check, and there is nothing to tell of it
 abbrev pub ChecksAreAccepted : Type 0
@@ -107,6 +108,7 @@ OthersAreRefused = (name : List ℕ) (n : ℕ) → n < 2 ^ 64
 abbrev pub run_twice : List ℕ → List ℕ → List ℕ → List ℕ → List (List ℕ)
 run_twice name option first second = name ∷ codes "run" ∷ (option ++ first) ∷ (option ++ second) ∷ []
 
+-- so none of the options may stand twice
 abbrev pub NoOptionTwice : Type 0
 NoOptionTwice = (name first second : List ℕ)
     → IsTrue (has_mistake (run_twice name (codes "--workers=") first second))

@@ -1,4 +1,5 @@
--- What a reader has to believe: what the console writes for an input, command by command.
+-- What a reader has to believe: what each command answers, what a check and a storm write, what the words ask for, the
+-- exit statuses, and the laws.
 pub mod Arguments
 pub mod Blocks
 pub mod Checking
@@ -18,9 +19,10 @@ pub mod Refusals
 pub mod Showing
 pub mod StormScript
 pub mod StormText
--- The words inside.
+-- The words inside, for what the code keeps between two steps, and for inputs that it takes in parts.
 pub mod Abstraction
 pub mod Kept
+pub mod LentDesk
 pub mod LineReading
 pub mod ScriptReading
 pub mod StormEnd

@@ -29,6 +29,7 @@ refused_at name place = codes "refused " ++ name ++ 32 ∷ decimal place ++ 10 �
 unfoldable pub refused_variable : List ℕ → ℕ → List ℕ
 refused_variable name number = codes "refused " ++ name ++ codes " #" ++ decimal number ++ 10 ∷ []
 
+-- what is printed of a fault of the grammar
 abbrev pub parse_fault_text : ParseFault → List ℕ
 parse_fault_text (parse.BadByte n) = refused_at (codes "BadByte") n
 parse_fault_text (parse.BadNumber n) = refused_at (codes "BadNumber") n
@@ -39,6 +40,7 @@ parse_fault_text parse.TooDeep = refused (codes "TooDeep")
 parse_fault_text parse.TooLarge = refused (codes "TooLarge")
 parse_fault_text parse.NoMemory = []
 
+-- what is printed of a fault of types
 abbrev pub type_fault_text : TypeFault → List ℕ
 type_fault_text (typed.Unknown n) = refused_at (codes "Unknown") n
 type_fault_text (typed.Mismatch n) = refused_at (codes "Mismatch") n
@@ -47,18 +49,21 @@ type_fault_text (typed.Untyped n) = refused_at (codes "Untyped") n
 type_fault_text (typed.TypeTooDeep n) = refused_at (codes "TypeTooDeep") n
 type_fault_text typed.NoMemory = []
 
+-- why the table refuses a declaration
 abbrev pub declare_error_text : DeclareError → List ℕ
 declare_error_text declare.Twice = refused (codes "Twice")
 declare_error_text declare.TypeOfValue = refused (codes "TypeOfValue")
 declare_error_text declare.TableFull = refused (codes "TableFull")
 declare_error_text declare.NoMemory = []
 
+-- why a block isn't submitted
 abbrev pub submit_error_text : SubmitError → List ℕ
 submit_error_text (submit.Foreign i) = refused_variable (codes "Foreign") i
 submit_error_text submit.WaitingFull = refused (codes "WaitingFull")
 submit_error_text submit.HistoryFull = refused (codes "HistoryFull")
 submit_error_text submit.NoMemory = []
 
+-- why a verdict isn't delivered
 abbrev pub deliver_error_text : DeliverError → List ℕ
 deliver_error_text deliver.Gone = refused (codes "Gone")
 deliver_error_text deliver.OtherBlock = refused (codes "OtherBlock")
@@ -67,6 +72,7 @@ deliver_error_text (deliver.Overtaken i) = refused_variable (codes "Overtaken") 
 deliver_error_text deliver.HistoryFull = refused (codes "HistoryFull")
 deliver_error_text deliver.NoMemory = []
 
+-- why a block isn't finished
 abbrev pub finish_error_text : FinishError → List ℕ
 finish_error_text finish.NoTicket = refused (codes "NoTicket")
 finish_error_text finish.NotEvaluated = refused (codes "NotEvaluated")
@@ -76,6 +82,7 @@ finish_error_text finish.HistoryFull = refused (codes "HistoryFull")
 finish_error_text finish.CellsFull = refused (codes "CellsFull")
 finish_error_text finish.NoMemory = []
 
+-- why a block isn't cancelled
 abbrev pub cancel_error_text : CancelError → List ℕ
 cancel_error_text cancel.NoTicket = refused (codes "NoTicket")
 cancel_error_text cancel.HistoryFull = refused (codes "HistoryFull")

@@ -16,10 +16,12 @@ use Rattle.stm_console.specs.OpenDesk.{OpenDesk, present}
 use Rattle.stm_console.specs.Refusals.{refused}
 
 -- ---- show
+-- a verdict, which a block that was evaluated has
 abbrev pub shown_verdict : Option Verdict → List ℕ
 shown_verdict (Some v) = verdict_text v
 shown_verdict None = []
 
+-- how a block stands, with its last verdict
 abbrev pub standing_text : Standing → List ℕ
 standing_text New = codes " new"
 standing_text (Stale v) = codes " stale " ++ shown_verdict v
@@ -29,10 +31,12 @@ standing_text (Current v) = codes " current " ++ shown_verdict v
 unfoldable pub waiter_line : List Cell → Waiter → List ℕ
 waiter_line store w = decimal w.ticket ++ standing_text (standing store w) ++ 10 ∷ []
 
+-- how each of the blocks waits on the present store, a line each
 abbrev pub waiter_lines : List Cell → List Waiter → List ℕ
 waiter_lines store [] = []
 waiter_lines store (w ∷ ws) = waiter_line store w ++ waiter_lines store ws
 
+-- how each waiting block stands, and how many wait
 unfoldable pub show_text : Slow → List ℕ
 show_text s = waiter_lines s.store s.waiters ++ codes "waiting " ++ decimal (length s.waiters) ++ 10 ∷ []
 
@@ -41,10 +45,12 @@ unfoldable pub show_answer : OpenDesk → List ℕ → List ℕ
 show_answer d argument = with_nothing (show_text (now d.desk)) argument
 
 -- ---- reads
+-- what a block read at its last delivery, or that there was none
 abbrev pub read_text : Block → Option Since → List ℕ
 read_text block (Some s) = reads_line (reads_of (under s.store_then) block.tree)
 read_text block None = refused (codes "NotEvaluated")
 
+-- the same of the block of a waiter, or that the ticket has none
 abbrev pub waiter_reads_text : Option Waiter → List ℕ
 waiter_reads_text (Some w) = read_text w.block w.since
 waiter_reads_text None = refused (codes "NoTicket")
@@ -61,8 +67,10 @@ name_text None = []
 
 -- what a cell is and holds
 unfoldable pub content_text : Cell → List ℕ
-content_text c = codes ": " ++ type_text c.kind ++ codes " = " ++ value_text c.value ++ codes " count " ++ decimal c.count ++ 10 ∷ []
+content_text c =
+    codes ": " ++ type_text c.kind ++ codes " = " ++ value_text c.value ++ codes " count " ++ decimal c.count ++ 10 ∷ []
 
+-- the line of a variable: its number, its name where it was declared, and what its cell is and holds
 unfoldable pub cell_line : ℕ → Option Declared → Cell → List ℕ
 cell_line number d c = codes "#" ++ decimal number ++ 32 ∷ name_text d ++ content_text c
 
@@ -71,6 +79,7 @@ abbrev pub cell_lines : List Declared → ℕ → List Cell → List ℕ
 cell_lines table number [] = []
 cell_lines table number (c ∷ cs) = cell_line number (slice_get table number) c ++ cell_lines table (number + 1) cs
 
+-- the lines of all variables, and how many there are
 unfoldable pub store_text : List Declared → List Cell → List ℕ
 store_text table cells = cell_lines table 0 cells ++ codes "cells " ++ decimal (length cells) ++ 10 ∷ []
 

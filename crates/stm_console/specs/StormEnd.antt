@@ -11,5 +11,6 @@ replay_text NotClosed = failed_lines None
 replay_text (NotLegal events) = failed_lines (Some events)
 replay_text (Legal events) = events_line events ++ codes "replay ok" ++ 10 ∷ []
 
+-- all lines: those of the clients, and what the replay found
 abbrev pub end_text : List Counts → Replay → List ℕ
 end_text counts replay = client_lines 0 counts ++ replay_text replay

@@ -68,15 +68,22 @@ most_sections = 64
 abbrev pub after_client : PartialScript → List ℕ → Option PartialScript
 after_client r argument =
     if (length argument == 0) && nat_lt (length (sections_so_far r.ended r.begun)) most_sections
-    then Some (record { table = r.table; ended = sections_so_far r.ended r.begun; begun = Some (record { tasks = []; submissions = 0 }) })
+    then Some (record {
+      table = r.table;
+      ended = sections_so_far r.ended r.begun;
+      begun = Some (record { tasks = []; submissions = 0 });
+    })
     else None
 
 -- a task more in the section under way
 abbrev pub with_task : PartialScript → Begun → Task → PartialScript
 with_task r b t = record r { begun = Some (record b { tasks = b.tasks ++ t ∷ [] }) }
 
+-- `submit`: the submission of a block more; none where the block's text is refused
 abbrev pub with_block : PartialScript → Begun → Result Block Refusal → Option PartialScript
-with_block r b (Ok block) = Some (record r { begun = Some (record { tasks = b.tasks ++ task.Submit block ∷ []; submissions = b.submissions + 1 }) })
+with_block r b (Ok block) = Some (record r {
+  begun = Some (record { tasks = b.tasks ++ task.Submit block ∷ []; submissions = b.submissions + 1 });
+})
 with_block r b (Err e) = None
 
 -- the submission of a number, counted from 0, where the number, counted from 1, is one of those before
@@ -84,6 +91,7 @@ abbrev pub submission_of : ℕ → Option ℕ → Option ℕ
 submission_of submissions (Some n) = if nat_lt 0 n && nat_le n submissions then Some (n - 1) else None
 submission_of submissions None = None
 
+-- `finish` and `cancel`: a task more for one of the submissions before, if there is such a one
 abbrev pub with_submission : PartialScript → Begun → (ℕ → Task) → Option ℕ → Option PartialScript
 with_submission r b make (Some k) = Some (with_task r b (make k))
 with_submission r b make None = None
@@ -94,6 +102,7 @@ expected_at table i (Some d) (Ok v) = if is_of (declared_cells table) v d.kind t
 expected_at table i (Some d) (Err e) = None
 expected_at table i None v = None
 
+-- what is expected of a variable by its number; none where its name is unknown
 abbrev pub expected_of : List Declared → ParsedExpectation → Option ℕ → Option Task
 expected_of table e (Some i) = expected_at table i (slice_get table i) (initial table e.value)
 expected_of table e None = None
@@ -103,6 +112,7 @@ abbrev pub expected_task : List Declared → Result ParsedExpectation ParseFault
 expected_task table (Ok e) = expected_of table e (number_of e.name table)
 expected_task table (Err e) = None
 
+-- `expect`: an expectation more
 abbrev pub with_expectation : PartialScript → Begun → Option Task → Option PartialScript
 with_expectation r b (Some t) = Some (with_task r b t)
 with_expectation r b None = None
@@ -125,14 +135,17 @@ before_sections r Finish argument = None
 before_sections r Cancel argument = None
 before_sections r Expect argument = None
 
+-- a line whose word is known
 abbrev pub after_word : PartialScript → Option Begun → StormWord → List ℕ → Option PartialScript
 after_word r None word argument = before_sections r word argument
 after_word r (Some b) word argument = after_task r b word argument
 
+-- a line by its word; an unknown one is faulty
 abbrev pub after_words : PartialScript → Option StormWord → List ℕ → Option PartialScript
 after_words r (Some word) argument = after_word r r.begun word argument
 after_words r None argument = None
 
+-- a line by its judgement
 abbrev pub after_class : PartialScript → LineClass → Option PartialScript
 after_class r TooLong = None
 after_class r Silent = Some r
@@ -153,6 +166,7 @@ abbrev pub numbered_result : ℕ → Option PartialScript → Result PartialScri
 numbered_result n (Some r) = Ok r
 numbered_result n None = Err n
 
+-- a line with its number, of which there are no more than a script may have
 abbrev pub after_numbered : PartialScript → ℕ → List ℕ → Result PartialScript ℕ
 after_numbered r n line = if nat_lt most_lines n then Err n else numbered_result n (after_line r line)
 
@@ -167,6 +181,7 @@ abbrev pub ended_script : List Declared → List (List Task) → Option Begun �
 ended_script table ended (Some b) next = Ok (record { table = table; sections = ended ++ b.tasks ∷ [] })
 ended_script table ended None next = Err next
 
+-- the script that was read to this line, which is missing; or the number of its first faulty line
 abbrev pub script_result : Result PartialScript ℕ → ℕ → Result StormScript ℕ
 script_result (Ok r) next = ended_script r.table r.ended r.begun next
 script_result (Err n) next = Err n

@@ -20,6 +20,7 @@ abbrev pub client_lines : ℕ → List Counts → List ℕ
 client_lines client [] = []
 client_lines client (c ∷ cs) = client_line client c ++ client_lines (client + 1) cs
 
+-- the line that tells how many events there were
 unfoldable pub events_line : ℕ → List ℕ
 events_line events = codes "events " ++ decimal events ++ 10 ∷ []
 
@@ -32,6 +33,7 @@ abbrev pub failed_lines : Option ℕ → List ℕ
 failed_lines (Some events) = events_line events ++ codes "replay failed" ++ 10 ∷ []
 failed_lines None = codes "replay failed" ++ 10 ∷ []
 
+-- what is written where the history isn't found legal
 abbrev pub failed_text : List Counts → Option ℕ → List ℕ
 failed_text counts events = client_lines 0 counts ++ failed_lines events
 

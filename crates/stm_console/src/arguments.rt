@@ -33,7 +33,7 @@ fn number_len(text: &[u8]) -> usize
 }
 
 fn decimal(digits: &[u8]) -> u64
-    requires { length digits.now ≤ 10 }
+    requires { length digits.now ≤ MAX_DIGITS }
     ensures { result ≡ decimal 0 digits.now }
 {
     let mut value: u64 = 0;

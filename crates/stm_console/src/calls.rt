@@ -1,6 +1,6 @@
 //! The reader of a run, and how often it may still be called.
 
-ghost use Rattle.std.specs.Prelude.{◌≡◌, ◌↔◌, ◌+◌, ◌-◌, ◌^◌, ◌<◌, IsTrue};
+ghost use Rattle.std.specs.Prelude.{◌≡◌, ◌↔◌, ◌+◌, ◌<◌, IsTrue};
 ghost use Rattle.std.specs.Io.{ReadsAtMost};
 ghost use Rattle.std.specs.Io.KnownBytes.{ReadConsumes};
 
@@ -18,7 +18,7 @@ impl<'a, R: Read> Calls<'a, R> {
     pub fn new(reader: &'a mut R) -> Calls<'a, R>
         ensures same_reader { result.reader.ghost_name ≡ reader.entry.ghost_name }
         ensures reader { result.reader.now ≡ reader.old }
-        ensures all { result.left ≡ 2 ^ 32 - 1 }
+        ensures all { result.left ≡ u32.MAX }
     {
         Calls {
             reader,
@@ -39,7 +39,8 @@ impl<'a, R: Read> Calls<'a, R> {
         ensures same_reader { self.new.reader.ghost_name ≡ self.old.reader.ghost_name }
         ensures one_less { self.new.left + 1 ≡ self.old.left }
         ensures bound { ReadsAtMost result buffer.new }
-        ensures bytes { ReadConsumes (R.remaining self.old.reader.now) (R.remaining self.new.reader.now) result buffer.new }
+        ensures bytes { ReadConsumes (R.remaining self.old.reader.now)
+            (R.remaining self.new.reader.now) result buffer.new }
     {
         self.left -= 1;
         self.reader.read(buffer)

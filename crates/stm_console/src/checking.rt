@@ -53,7 +53,8 @@ fn judge<R: Read>(alloc: Global, reader: &mut R) -> Result<Finding, RunFault>
 
 /// Appends a word, a number and what follows it.
 fn write_counted(before: &str, number: u32, after: &str, out: &mut String) -> Result<(), NoMemory>
-    ensures { OnOk result (string_bytes out.new ≡ string_bytes out.old ++ before.now ++ decimal number ++ after.now) }
+    ensures { OnOk result
+        (string_bytes out.new ≡ string_bytes out.old ++ before.now ++ decimal number ++ after.now) }
 {
     out.push_str(before)?;
     write_number(number, out)?;
@@ -117,7 +118,8 @@ pub fn check<R: Read, W: Write>(
         (front : List ℕ) × BeginsFindingText bytes front
         × Appends (W.contents writer.old) (W.contents writer.new) front)) }
     // After a read fault, or where memory is refused, nothing.
-    ensures unfound { IfErr result (λ e. e ≢ RunFault.Write → Keeps (W.contents writer.old) (W.contents writer.new)) }
+    ensures unfound { IfErr result (λ e.
+        e ≢ RunFault.Write → Keeps (W.contents writer.old) (W.contents writer.new)) }
 {
     let finding = judge(alloc, reader)?;
     let line = finding_line(alloc, finding)?;

@@ -8,8 +8,8 @@ use std::io;
 use std::io::Read;
 use std::marker::Model;
 
-/// The most bytes of a chunk.
-const CHUNK: usize = 8_192;
+/// The most bytes that one call of a reader gives.
+pub const CHUNK: usize = 8_192;
 
 /// Bytes that one call of a reader gave, as far as they are not yet taken. Contracts see these.
 #[derive(Drop)]
@@ -21,12 +21,13 @@ pub struct Chunk {
 
 impl Model for Chunk {
     ghost use Rattle.std.specs.Prelude.{ℕ, ◌≤◌, List, slice_range};
+    ghost use Rattle.stm_console.specs.declared.chunk.TheConstants.{CHUNK};
 
     ghost Value = { List ℕ };
 
     ghost view = { λ c. slice_range c.buffer c.at c.end };
 
-    ghost invariant = { λ c. (c.at ≤ c.end) × (c.end ≤ 8192) };
+    ghost invariant = { λ c. (c.at ≤ c.end) × (c.end ≤ CHUNK) };
 }
 
 impl Chunk {

@@ -5,7 +5,7 @@ ghost use Rattle.clap.specs.Simple.{subcommand_rows_of};
 ghost use Rattle.clap.specs.Walk.{one_of, rows_of, rule_of};
 ghost use Rattle.clap.specs.Words.{app_of, found_of, new_app, with_subcommand, FailsBy};
 ghost use Rattle.clap.specs.declared.builder.command.Command.TheViews.{out-Command as fields_of};
-ghost use Rattle.stm_console.specs.CommandLine.{answers_of, asks_for_run, command_line, check_command, number_of_text, number_option, number_said, number_within, options_said, request_of, request_said, run_command, storm_command, with_options, IfRun, IfStorm};
+ghost use Rattle.stm_console.specs.CommandLine.{answers_of, asks_for_run, command_line, number_of_text, number_option, number_said, number_within, options_said, request_of, request_said, run_command, storm_command, with_options, IfRun, IfStorm};
 ghost use Rattle.stm_console.specs.Options.{AreRunOptions};
 
 use crate::options::Options;
@@ -214,7 +214,8 @@ fn storm_words<'a>(alloc: Global) -> Result<Command<'a>, AllocError>
 /// The program with the commands that take options: `run`, which is meant where nothing is said, and `storm`.
 fn command_of_runs<'a>(alloc: Global) -> Result<Command<'a>, AllocError>
     ensures { IfOk result (λ c. app_of c
-        ≡ with_subcommand (with_subcommand (new_app (codes "stmdesk")) run_command.top) storm_command.top) }
+        ≡ with_subcommand (with_subcommand (new_app (codes "stmdesk")) run_command.top)
+        storm_command.top) }
 {
     let run = run_words(alloc)?;
     let storm = storm_words(alloc)?;
@@ -237,7 +238,8 @@ fn command<'a>(alloc: Global) -> Result<Command<'a>, AllocError>
 
 /// The number that was said for an option.
 fn number_given(matches: &ArgMatches, name: &str) -> Option<u32>
-    ensures { result ≡ option_and_then number_of_text (one_of name.now (rows_of (found_of matches.now))) }
+    ensures { result
+        ≡ option_and_then number_of_text (one_of name.now (rows_of (found_of matches.now))) }
 {
     matches.get_one::<u32>(name)
 }

@@ -1,10 +1,9 @@
 //! What the console knows, and its answer to a line.
 
-ghost use Rattle.std.specs.Prelude.{◌≡◌, ◌≤◌, ◌++◌, Some, string_bytes, OnOk, IfOk};
-ghost use Rattle.stm_history.specs.SlowDesk.{max_events};
+ghost use Rattle.std.specs.Prelude.{◌≡◌, ◌++◌, Some, string_bytes, OnOk, OnErr, IfOk};
 ghost use Rattle.stm_history.specs.HistoryText.{WritesText};
 ghost use Rattle.stm_console.specs.Abstraction.{IsReply, history_of};
-ghost use Rattle.stm_console.specs.Console.{initial_console, command_named, desk_answer, desk_after, command_answer, command_state, answer_to_command, state_after_command, answer_to, state_after};
+ghost use Rattle.stm_console.specs.Console.{initial_console, command_named, answer_to_command, state_after_command, answer_to, state_after};
 ghost use Rattle.stm_console.specs.ConsoleState.{present_desk};
 ghost use Rattle.stm_console.specs.Showing.{history_answer};
 ghost use Rattle.stm_console.specs.Declaring.{tvar_answer, tvar_state};
@@ -37,7 +36,8 @@ impl OpenDesk {
     /// Answers `history`.
     #[tactic(auto, unfolding(crate::specs::Showing::history_answer))]
     fn answer_history(&self, argument: &str, out: &mut String) -> Result<Reply, NoMemory>
-        ensures { IfOk result (λ r. IsReply r (string_bytes out.old) (string_bytes out.new) (IsOpen self.now) (history_answer self.now argument.now)) }
+        ensures { IfOk result (λ r. IsReply r (string_bytes out.old) (string_bytes out.new)
+            (IsOpen self.now) (history_answer self.now argument.now)) }
     {
         if argument.is_empty() {
             return Ok(Reply::History);
@@ -45,86 +45,12 @@ impl OpenDesk {
         refuse("Argument", out)?;
         Ok(Reply::Text)
     }
-
-    /// Answers a command.
-    fn answer<T: Threads + Sync>(
-        &mut self,
-        rt: &T,
-        alloc: Global,
-        threading: Threading,
-        command: Command,
-        argument: &str,
-        out: &mut String,
-    ) -> Result<Reply, NoMemory>
-        ensures text { IfOk result (λ r. IsReply r (string_bytes out.old) (string_bytes out.new) (IsOpen self.new) (desk_answer self.old command argument.now)) }
-        ensures state { OnOk result (self.new ≡ desk_after self.old command argument.now) }
-    {
-        match command {
-            Command::Tvar => {
-                refuse("Late", out)?;
-                Ok(Reply::Text)
-            }
-            Command::Try => {
-                self.answer_try(alloc, argument, out)?;
-                Ok(Reply::Text)
-            }
-            Command::Looks => {
-                self.answer_looks(alloc, argument, out)?;
-                Ok(Reply::Text)
-            }
-            Command::Submit => {
-                self.answer_submit(alloc, argument, out)?;
-                Ok(Reply::Text)
-            }
-            Command::Take => {
-                self.answer_take(alloc, argument, out)?;
-                Ok(Reply::Text)
-            }
-            Command::Deliver => {
-                self.answer_deliver(alloc, argument, out)?;
-                Ok(Reply::Text)
-            }
-            Command::Handback => {
-                self.answer_handback(argument, out)?;
-                Ok(Reply::Text)
-            }
-            Command::Eval => {
-                self.answer_eval(rt, alloc, threading, argument, out)?;
-                Ok(Reply::Text)
-            }
-            Command::Finish => {
-                self.answer_finish(argument, out)?;
-                Ok(Reply::Text)
-            }
-            Command::Cancel => {
-                self.answer_cancel(argument, out)?;
-                Ok(Reply::Text)
-            }
-            Command::Show => {
-                self.answer_show(argument, out)?;
-                Ok(Reply::Text)
-            }
-            Command::Reads => {
-                self.answer_reads(argument, out)?;
-                Ok(Reply::Text)
-            }
-            Command::Store => {
-                self.answer_store(argument, out)?;
-                Ok(Reply::Text)
-            }
-            Command::Settle => {
-                self.answer_settle(argument, out)?;
-                Ok(Reply::Text)
-            }
-            Command::History => {
-                let reply = self.answer_history(argument, out)?;
-                Ok(reply)
-            }
-        }
-    }
 }
 
 impl Console {
+    ghost use Rattle.std.specs.Borrow.{sem};
+    ghost use Rattle.stm_console.specs.LentDesk.{LendsDesk};
+
     /// A console of no variables, whose desk will take so many events.
     #[tactic(auto, unfolding(crate::specs::Console::initial_console))]
     pub fn new(alloc: Global, limit: EventLimit) -> Console
@@ -138,7 +64,8 @@ impl Console {
 
     /// Opens the desk, unless it is open.
     fn open(&mut self, alloc: Global) -> Result<(), NoMemory>
-        ensures { OnOk result (self.new ≡ IsOpen (present_desk self.old)) }
+        ensures opened { OnOk result (self.new ≡ IsOpen (present_desk self.old)) }
+        ensures same { OnErr result (self.new ≡ self.old) }
     {
         let desk = match self {
             Console::Open(_) => return Ok(()),
@@ -148,6 +75,18 @@ impl Console {
         Ok(())
     }
 
+    /// The desk, which is opened unless it is open.
+    fn opened(&mut self, alloc: Global) -> Result<&mut OpenDesk, NoMemory>
+        ensures* writes_back { sem 𝓛 (LendsDesk self.entry result) }
+        ensures value { IfOk result (λ d. d.now ≡ present_desk self.old) }
+    {
+        self.open(alloc)?;
+        match self {
+            Console::Open(desk) => Ok(desk),
+            Console::Declaring { .. } => unreachable!(),
+        }
+    }
+
     /// Answers `tvar`.
     fn answer_tvar(
         &mut self,
@@ -155,7 +94,8 @@ impl Console {
         argument: &str,
         out: &mut String,
     ) -> Result<(), NoMemory>
-        ensures text { OnOk result (string_bytes out.new ≡ string_bytes out.old ++ tvar_answer self.old argument.now) }
+        ensures text { OnOk result
+            (string_bytes out.new ≡ string_bytes out.old ++ tvar_answer self.old argument.now) }
         ensures state { OnOk result (self.new ≡ tvar_state self.old argument.now) }
     {
         let Console::Declaring { table, .. } = self else {
@@ -174,29 +114,6 @@ impl Console {
         }
     }
 
-    /// Answers a command other than `tvar`, which opens the desk.
-    fn answer_open<T: Threads + Sync>(
-        &mut self,
-        rt: &T,
-        alloc: Global,
-        threading: Threading,
-        command: Command,
-        argument: &str,
-        out: &mut String,
-    ) -> Result<Reply, NoMemory>
-        ensures text { IfOk result (λ r. IsReply r (string_bytes out.old) (string_bytes out.new) self.new (desk_answer (present_desk self.old) command argument.now)) }
-        ensures state { OnOk result (self.new ≡ IsOpen (desk_after (present_desk self.old) command argument.now)) }
-    {
-        self.open(alloc)?;
-        match self {
-            Console::Open(desk) => {
-                let reply = desk.answer(rt, alloc, threading, command, argument, out)?;
-                Ok(reply)
-            }
-            Console::Declaring { .. } => unreachable!(),
-        }
-    }
-
     /// Answers a command.
     fn answer_command<T: Threads + Sync>(
         &mut self,
@@ -207,8 +124,10 @@ impl Console {
         argument: &str,
         out: &mut String,
     ) -> Result<Reply, NoMemory>
-        ensures text { IfOk result (λ r. IsReply r (string_bytes out.old) (string_bytes out.new) self.new (answer_to_command self.old (command_named word.now) argument.now)) }
-        ensures state { OnOk result (self.new ≡ state_after_command self.old (command_named word.now) argument.now) }
+        ensures text { IfOk result (λ r. IsReply r (string_bytes out.old) (string_bytes out.new)
+            self.new (answer_to_command self.old (command_named word.now) argument.now)) }
+        ensures state { OnOk result
+            (self.new ≡ state_after_command self.old (command_named word.now) argument.now) }
     {
         let Some(command) = command_of(word) else {
             refuse("Command", out)?;
@@ -219,8 +138,61 @@ impl Console {
                 self.answer_tvar(alloc, argument, out)?;
                 Ok(Reply::Text)
             }
-            _ => {
-                let reply = self.answer_open(rt, alloc, threading, command, argument, out)?;
+            Command::Try => {
+                self.opened(alloc)?.answer_try(alloc, argument, out)?;
+                Ok(Reply::Text)
+            }
+            Command::Looks => {
+                self.opened(alloc)?.answer_looks(alloc, argument, out)?;
+                Ok(Reply::Text)
+            }
+            Command::Submit => {
+                self.opened(alloc)?.answer_submit(alloc, argument, out)?;
+                Ok(Reply::Text)
+            }
+            Command::Take => {
+                self.opened(alloc)?.answer_take(alloc, argument, out)?;
+                Ok(Reply::Text)
+            }
+            Command::Deliver => {
+                self.opened(alloc)?.answer_deliver(alloc, argument, out)?;
+                Ok(Reply::Text)
+            }
+            Command::Handback => {
+                self.opened(alloc)?.answer_handback(argument, out)?;
+                Ok(Reply::Text)
+            }
+            Command::Eval => {
+                self.opened(alloc)?
+                    .answer_eval(rt, alloc, threading, argument, out)?;
+                Ok(Reply::Text)
+            }
+            Command::Finish => {
+                self.opened(alloc)?.answer_finish(argument, out)?;
+                Ok(Reply::Text)
+            }
+            Command::Cancel => {
+                self.opened(alloc)?.answer_cancel(argument, out)?;
+                Ok(Reply::Text)
+            }
+            Command::Show => {
+                self.opened(alloc)?.answer_show(argument, out)?;
+                Ok(Reply::Text)
+            }
+            Command::Reads => {
+                self.opened(alloc)?.answer_reads(argument, out)?;
+                Ok(Reply::Text)
+            }
+            Command::Store => {
+                self.opened(alloc)?.answer_store(argument, out)?;
+                Ok(Reply::Text)
+            }
+            Command::Settle => {
+                self.opened(alloc)?.answer_settle(argument, out)?;
+                Ok(Reply::Text)
+            }
+            Command::History => {
+                let reply = self.opened(alloc)?.answer_history(argument, out)?;
                 Ok(reply)
             }
         }
@@ -236,7 +208,8 @@ impl Console {
         line: &[u8],
         out: &mut String,
     ) -> Result<Reply, NoMemory>
-        ensures text { IfOk result (λ r. IsReply r (string_bytes out.old) (string_bytes out.new) self.new (answer_to self.old line.now)) }
+        ensures text { IfOk result (λ r. IsReply r (string_bytes out.old) (string_bytes out.new)
+            self.new (answer_to self.old line.now)) }
         ensures state { OnOk result (self.new ≡ state_after self.old line.now) }
     {
         match judge(line) {
@@ -261,7 +234,8 @@ impl Console {
 
     /// Writes the history, where the desk is open.
     pub fn write_history<W: Write>(&self, alloc: Global, writer: &mut W) -> Result<(), WriteFault>
-        ensures { WritesText result (W.contents writer.old) (W.contents writer.new) (history_of self.now) }
+        ensures { WritesText result (W.contents writer.old) (W.contents writer.new)
+            (history_of self.now) }
     {
         match self {
             Console::Open(desk) => desk.write_history(alloc, writer),

@@ -40,7 +40,8 @@ pub fn declare(alloc: Global, table: &mut Table, text: &str) -> Result<u32, Refu
 /// Appends the answer to a declaration.
 #[tactic(auto, unfolding(crate::specs::Declaring::tvar_line))]
 pub fn write_declared(number: u32, name: &str, out: &mut String) -> Result<(), NoMemory>
-    ensures { OnOk result (string_bytes out.new ≡ string_bytes out.old ++ tvar_line number name.now) }
+    ensures { OnOk result
+        (string_bytes out.new ≡ string_bytes out.old ++ tvar_line number name.now) }
 {
     write!(out, "tvar #{number} {name}\n")
 }

@@ -24,15 +24,17 @@ const MAX_JOBS: usize = 65_536;
 
 /// Appends a job's number and ticket.
 fn write_job(number: u32, ticket: u32, out: &mut String) -> Result<(), NoMemory>
-    ensures { OnOk result (string_bytes out.new ≡ string_bytes out.old ++ job_text (number, ticket)) }
+    ensures { OnOk result
+        (string_bytes out.new ≡ string_bytes out.old ++ job_text (number, ticket)) }
 {
     write!(out, "{number}={ticket}")
 }
 
 /// Appends jobs, each after a space.
 fn write_spaced_jobs(first: u32, jobs: &[Job], out: &mut String) -> Result<(), NoMemory>
-    requires { first + length jobs.now ≤ 4294967295 }
-    ensures { OnOk result (string_bytes out.new ≡ string_bytes out.old ++ spaced job_text (numbered first (map (λ j. j.ticket) jobs.now))) }
+    requires { first + length jobs.now ≤ u32.MAX }
+    ensures { OnOk result (string_bytes out.new
+        ≡ string_bytes out.old ++ spaced job_text (numbered first (map (λ j. j.ticket) jobs.now))) }
 {
     let mut number = first;
     for job in jobs {
@@ -45,8 +47,9 @@ fn write_spaced_jobs(first: u32, jobs: &[Job], out: &mut String) -> Result<(), N
 
 /// Appends jobs by their numbers, which begin with this one, and tickets.
 fn write_jobs(first: u32, jobs: &[Job], out: &mut String) -> Result<(), NoMemory>
-    requires { first + length jobs.now ≤ 4294967295 }
-    ensures { OnOk result (string_bytes out.new ≡ string_bytes out.old ++ list_text job_text (numbered first (map (λ j. j.ticket) jobs.now))) }
+    requires { first + length jobs.now ≤ u32.MAX }
+    ensures { OnOk result (string_bytes out.new ≡ string_bytes out.old
+        ++ list_text job_text (numbered first (map (λ j. j.ticket) jobs.now))) }
 {
     match jobs {
         [] => out.push_str("none"),
@@ -59,8 +62,9 @@ fn write_jobs(first: u32, jobs: &[Job], out: &mut String) -> Result<(), NoMemory
 
 #[tactic(auto, unfolding(crate::specs::Delivering::jobs_line))]
 fn write_jobs_line(first: u32, jobs: &[Job], out: &mut String) -> Result<(), NoMemory>
-    requires { first + length jobs.now ≤ 4294967295 }
-    ensures { OnOk result (string_bytes out.new ≡ string_bytes out.old ++ jobs_line first (map (λ j. j.ticket) jobs.now)) }
+    requires { first + length jobs.now ≤ u32.MAX }
+    ensures { OnOk result (string_bytes out.new
+        ≡ string_bytes out.old ++ jobs_line first (map (λ j. j.ticket) jobs.now)) }
 {
     out.push_str("jobs ")?;
     write_jobs(first, jobs, out)?;
@@ -94,7 +98,8 @@ fn write_delivery(
     refusal: Option<DeliverError>,
     out: &mut String,
 ) -> Result<(), NoMemory>
-    ensures { OnOk result (string_bytes out.new ≡ string_bytes out.old ++ delivery_text ticket refusal) }
+    ensures { OnOk result
+        (string_bytes out.new ≡ string_bytes out.old ++ delivery_text ticket refusal) }
 {
     match refusal {
         None => write_delivered(ticket, out),
@@ -108,7 +113,8 @@ fn write_evaluation(
     stop: Option<DeliverError>,
     out: &mut String,
 ) -> Result<(), NoMemory>
-    ensures { OnOk result (string_bytes out.new ≡ string_bytes out.old ++ evaluated_text count stop) }
+    ensures { OnOk result
+        (string_bytes out.new ≡ string_bytes out.old ++ evaluated_text count stop) }
 {
     match stop {
         None => write_evaluated(count, out),
@@ -134,11 +140,13 @@ fn hand_out(
     n: u32,
     out: &mut String,
 ) -> Result<Vec<HandedOut>, NoMemory>
-    requires { first + n ≤ 4294967295 }
-    ensures text { OnOk result (string_bytes out.new ≡ string_bytes out.old ++ jobs_line first (taken desk.old n)) }
+    requires { first + n ≤ u32.MAX }
+    ensures text { OnOk result
+        (string_bytes out.new ≡ string_bytes out.old ++ jobs_line first (taken desk.old n)) }
     ensures made { IfOk result (λ made. made.items ≡ jobs_of (now desk.old) (taken desk.old n)) }
     ensures stand { IfOk result (λ made. JobsStand desk.old made.items) }
-    ensures out { OnOk result (desk.new ≡ record desk.old { pending = sent (length (taken desk.old n)) desk.old.pending }) }
+    ensures out { OnOk result (desk.new
+        ≡ record desk.old { pending = sent (length (taken desk.old n)) desk.old.pending }) }
     ensures same { desk.new ≡ record desk.old { pending = desk.new.pending } }
 {
     let (store, jobs) = desk.take(n as usize)?;
@@ -150,7 +158,8 @@ fn hand_out(
 impl OpenDesk {
     /// Hands out the n lowest queued tickets, or all.
     fn take(&mut self, alloc: Global, n: u32, out: &mut String) -> Result<(), NoMemory>
-        ensures text { OnOk result (string_bytes out.new ≡ string_bytes out.old ++ take_text self.old n) }
+        ensures text { OnOk result
+            (string_bytes out.new ≡ string_bytes out.old ++ take_text self.old n) }
         ensures state { OnOk result (self.new ≡ after_take self.old n) }
     {
         if n as usize + self.jobs.len() > MAX_JOBS {
@@ -171,7 +180,8 @@ impl OpenDesk {
         argument: &str,
         out: &mut String,
     ) -> Result<(), NoMemory>
-        ensures text { OnOk result (string_bytes out.new ≡ string_bytes out.old ++ take_answer self.old argument.now) }
+        ensures text { OnOk result
+            (string_bytes out.new ≡ string_bytes out.old ++ take_answer self.old argument.now) }
         ensures state { OnOk result (self.new ≡ take_state self.old argument.now) }
     {
         match number_of(argument.as_bytes()) {
@@ -188,8 +198,11 @@ impl OpenDesk {
 
     /// Delivers what the block of a job does on the store of its `take`.
     fn deliver(&mut self, alloc: Global, number: u32, out: &mut String) -> Result<(), NoMemory>
-        ensures text { OnOk result (string_bytes out.new ≡ string_bytes out.old ++ deliver_text self.old.desk (job_at number self.old.jobs)) }
-        ensures state { OnOk result (self.new ≡ record self.old { desk = after_deliver self.old.desk (job_at number self.old.jobs) }) }
+        ensures text { OnOk result (string_bytes out.new
+            ≡ string_bytes out.old ++ deliver_text self.old.desk (job_at number self.old.jobs)) }
+        ensures state { OnOk result (self.new ≡ record self.old {
+          desk = after_deliver self.old.desk (job_at number self.old.jobs);
+        }) }
     {
         match job_of_number(&self.jobs, number) {
             Some(handed) => {
@@ -214,7 +227,8 @@ impl OpenDesk {
         argument: &str,
         out: &mut String,
     ) -> Result<(), NoMemory>
-        ensures text { OnOk result (string_bytes out.new ≡ string_bytes out.old ++ deliver_answer self.old argument.now) }
+        ensures text { OnOk result
+            (string_bytes out.new ≡ string_bytes out.old ++ deliver_answer self.old argument.now) }
         ensures state { OnOk result (self.new ≡ deliver_state self.old argument.now) }
     {
         match number_of(argument.as_bytes()) {
@@ -231,8 +245,10 @@ impl OpenDesk {
 
     /// A ticket that is out is queued again.
     fn hand_back(&mut self, ticket: u32, out: &mut String) -> Result<(), NoMemory>
-        ensures text { OnOk result (string_bytes out.new ≡ string_bytes out.old ++ handback_text self.old.desk ticket) }
-        ensures state { OnOk result (self.new ≡ record self.old { desk = handed_back self.old.desk ticket }) }
+        ensures text { OnOk result
+            (string_bytes out.new ≡ string_bytes out.old ++ handback_text self.old.desk ticket) }
+        ensures state { OnOk result
+            (self.new ≡ record self.old { desk = handed_back self.old.desk ticket }) }
     {
         if self.desk.hand_back(ticket) {
             write_queued(ticket, out)?;
@@ -245,7 +261,8 @@ impl OpenDesk {
     /// Answers `handback`.
     #[tactic(auto, unfolding(crate::specs::Delivering::handback_answer, crate::specs::Delivering::handback_state))]
     pub fn answer_handback(&mut self, argument: &str, out: &mut String) -> Result<(), NoMemory>
-        ensures text { OnOk result (string_bytes out.new ≡ string_bytes out.old ++ handback_answer self.old argument.now) }
+        ensures text { OnOk result
+            (string_bytes out.new ≡ string_bytes out.old ++ handback_answer self.old argument.now) }
         ensures state { OnOk result (self.new ≡ handback_state self.old argument.now) }
     {
         match number_of(argument.as_bytes()) {
@@ -270,7 +287,8 @@ impl OpenDesk {
         argument: &str,
         out: &mut String,
     ) -> Result<(), NoMemory>
-        ensures text { OnOk result (string_bytes out.new ≡ string_bytes out.old ++ eval_answer self.old argument.now) }
+        ensures text { OnOk result
+            (string_bytes out.new ≡ string_bytes out.old ++ eval_answer self.old argument.now) }
         ensures state { OnOk result (self.new ≡ eval_state self.old argument.now) }
     {
         if !argument.is_empty() {

@@ -20,7 +20,8 @@ use stm_terms::verdicts::Verdict;
 
 /// Appends tickets, each after a space.
 fn write_spaced_tickets(tickets: &[u32], out: &mut String) -> Result<(), NoMemory>
-    ensures { OnOk result (string_bytes out.new ≡ string_bytes out.old ++ spaced decimal tickets.now) }
+    ensures { OnOk result
+        (string_bytes out.new ≡ string_bytes out.old ++ spaced decimal tickets.now) }
 {
     for ticket in tickets {
         out.push_str(" ")?;
@@ -31,7 +32,8 @@ fn write_spaced_tickets(tickets: &[u32], out: &mut String) -> Result<(), NoMemor
 
 /// Appends tickets.
 fn write_tickets(tickets: &[u32], out: &mut String) -> Result<(), NoMemory>
-    ensures { OnOk result (string_bytes out.new ≡ string_bytes out.old ++ tickets_text tickets.now) }
+    ensures { OnOk result
+        (string_bytes out.new ≡ string_bytes out.old ++ tickets_text tickets.now) }
 {
     match tickets {
         [] => out.push_str("none"),
@@ -45,7 +47,8 @@ fn write_tickets(tickets: &[u32], out: &mut String) -> Result<(), NoMemory>
 /// Appends the answer to the finish of a block that returns.
 #[tactic(auto, unfolding(crate::specs::Finishing::result_line))]
 fn write_result(ticket: u32, value: Value, stale: &[u32], out: &mut String) -> Result<(), NoMemory>
-    ensures { OnOk result (string_bytes out.new ≡ string_bytes out.old ++ result_line ticket value stale.now) }
+    ensures { OnOk result
+        (string_bytes out.new ≡ string_bytes out.old ++ result_line ticket value stale.now) }
 {
     write!(out, "finished {ticket} result ")?;
     write_value(value, out)?;
@@ -56,8 +59,10 @@ fn write_result(ticket: u32, value: Value, stale: &[u32], out: &mut String) -> R
 
 /// Appends the answer to a finish.
 fn write_finish(ticket: u32, finish: &Finish, out: &mut String) -> Result<(), NoMemory>
-    requires { (cells : List Cell) × (finish.now.applied ≡ applied_answer cells finish.now.verdict) }
-    ensures { OnOk result (string_bytes out.new ≡ string_bytes out.old ++ finished_line ticket finish.now.applied.first_new finish.now.verdict finish.now.stale) }
+    requires { (cells : List Cell)
+        × (finish.now.applied ≡ applied_answer cells finish.now.verdict) }
+    ensures { OnOk result (string_bytes out.new ≡ string_bytes out.old
+        ++ finished_line ticket finish.now.applied.first_new finish.now.verdict finish.now.stale) }
 {
     match (&finish.verdict, finish.applied.result) {
         (Verdict::Commits { .. }, Some(value)) => {
@@ -82,7 +87,8 @@ fn write_cancelled(ticket: u32, out: &mut String) -> Result<(), NoMemory>
 
 /// Appends how many blocks were run.
 fn write_evaluations(evaluations: u32, out: &mut String) -> Result<(), NoMemory>
-    ensures { OnOk result (string_bytes out.new ≡ string_bytes out.old ++ codes " evaluations " ++ decimal evaluations ++ 10 ∷ []) }
+    ensures { OnOk result (string_bytes out.new
+        ≡ string_bytes out.old ++ codes " evaluations " ++ decimal evaluations ++ 10 ∷ []) }
 {
     out.push_str(" evaluations ")?;
     write_number(evaluations, out)?;
@@ -92,7 +98,8 @@ fn write_evaluations(evaluations: u32, out: &mut String) -> Result<(), NoMemory>
 /// Appends how much settling did.
 #[tactic(auto, unfolding(crate::specs::Finishing::settled_line))]
 fn write_settled(finished: u32, evaluations: u32, out: &mut String) -> Result<(), NoMemory>
-    ensures { OnOk result (string_bytes out.new ≡ string_bytes out.old ++ settled_line finished evaluations) }
+    ensures { OnOk result
+        (string_bytes out.new ≡ string_bytes out.old ++ settled_line finished evaluations) }
 {
     out.push_str("settled ")?;
     write_number(finished, out)?;
@@ -101,7 +108,8 @@ fn write_settled(finished: u32, evaluations: u32, out: &mut String) -> Result<()
 
 /// Appends why settling stopped, and how much it did.
 fn write_stop(stop: SettleStop, out: &mut String) -> Result<(), NoMemory>
-    ensures text { OnOk result (string_bytes out.new ≡ string_bytes out.old ++ why_text stop.why ++ settled_line stop.finished stop.evaluations) }
+    ensures text { OnOk result (string_bytes out.new ≡ string_bytes out.old ++ why_text stop.why
+        ++ settled_line stop.finished stop.evaluations) }
     ensures told { OnOk result (stop.why ≢ SettleWhy.NoMemory) }
 {
     match stop.why {
@@ -115,8 +123,11 @@ fn write_stop(stop: SettleStop, out: &mut String) -> Result<(), NoMemory>
 impl OpenDesk {
     /// Finishes the block under a ticket.
     fn finish(&mut self, ticket: u32, out: &mut String) -> Result<(), NoMemory>
-        ensures text { OnOk result (string_bytes out.new ≡ string_bytes out.old ++ finish_text self.old.desk ticket (finish_refusal self.old.desk ticket)) }
-        ensures state { OnOk result (self.new ≡ record self.old { desk = after_finish self.old.desk ticket (finish_refusal self.old.desk ticket) }) }
+        ensures text { OnOk result (string_bytes out.new ≡ string_bytes out.old
+            ++ finish_text self.old.desk ticket (finish_refusal self.old.desk ticket)) }
+        ensures state { OnOk result (self.new ≡ record self.old {
+          desk = after_finish self.old.desk ticket (finish_refusal self.old.desk ticket);
+        }) }
     {
         self.copy = None;
         match self.desk.finish(0, ticket) {
@@ -134,7 +145,8 @@ impl OpenDesk {
     /// Answers `finish`.
     #[tactic(auto, unfolding(crate::specs::Finishing::finish_answer, crate::specs::Finishing::finish_state))]
     pub fn answer_finish(&mut self, argument: &str, out: &mut String) -> Result<(), NoMemory>
-        ensures text { OnOk result (string_bytes out.new ≡ string_bytes out.old ++ finish_answer self.old argument.now) }
+        ensures text { OnOk result
+            (string_bytes out.new ≡ string_bytes out.old ++ finish_answer self.old argument.now) }
         ensures state { OnOk result (self.new ≡ finish_state self.old argument.now) }
     {
         match number_of(argument.as_bytes()) {
@@ -151,8 +163,11 @@ impl OpenDesk {
 
     /// Cancels the block under a ticket.
     fn cancel(&mut self, ticket: u32, out: &mut String) -> Result<(), NoMemory>
-        ensures text { OnOk result (string_bytes out.new ≡ string_bytes out.old ++ cancel_text ticket (cancel_refusal self.old.desk ticket)) }
-        ensures state { OnOk result (self.new ≡ record self.old { desk = after_cancel self.old.desk ticket (cancel_refusal self.old.desk ticket) }) }
+        ensures text { OnOk result (string_bytes out.new
+            ≡ string_bytes out.old ++ cancel_text ticket (cancel_refusal self.old.desk ticket)) }
+        ensures state { OnOk result (self.new ≡ record self.old {
+          desk = after_cancel self.old.desk ticket (cancel_refusal self.old.desk ticket);
+        }) }
     {
         match self.desk.cancel(0, ticket) {
             Ok(()) => {
@@ -169,7 +184,8 @@ impl OpenDesk {
     /// Answers `cancel`.
     #[tactic(auto, unfolding(crate::specs::Finishing::cancel_answer, crate::specs::Finishing::cancel_state))]
     pub fn answer_cancel(&mut self, argument: &str, out: &mut String) -> Result<(), NoMemory>
-        ensures text { OnOk result (string_bytes out.new ≡ string_bytes out.old ++ cancel_answer self.old argument.now) }
+        ensures text { OnOk result
+            (string_bytes out.new ≡ string_bytes out.old ++ cancel_answer self.old argument.now) }
         ensures state { OnOk result (self.new ≡ cancel_state self.old argument.now) }
     {
         match number_of(argument.as_bytes()) {
@@ -186,8 +202,12 @@ impl OpenDesk {
 
     /// Settles the desk.
     fn settle(&mut self, out: &mut String) -> Result<(), NoMemory>
-        ensures text { OnOk result (string_bytes out.new ≡ string_bytes out.old ++ settle_text (slow_settle (called_back self.old.desk)) (slow_stop (called_back self.old.desk))) }
-        ensures state { OnOk result (self.new ≡ record self.old { desk = with_whats (called_back self.old.desk) 0 (slow_settle (called_back self.old.desk)) }) }
+        ensures text { OnOk result (string_bytes out.new ≡ string_bytes out.old
+            ++ settle_text (slow_settle (called_back self.old.desk))
+            (slow_stop (called_back self.old.desk))) }
+        ensures state { OnOk result (self.new ≡ record self.old {
+          desk = with_whats (called_back self.old.desk) 0 (slow_settle (called_back self.old.desk));
+        }) }
     {
         self.copy = None;
         match self.desk.settle(0) {
@@ -205,7 +225,8 @@ impl OpenDesk {
     /// Answers `settle`.
     #[tactic(auto, unfolding(crate::specs::Finishing::settle_answer, crate::specs::Finishing::settle_state))]
     pub fn answer_settle(&mut self, argument: &str, out: &mut String) -> Result<(), NoMemory>
-        ensures text { OnOk result (string_bytes out.new ≡ string_bytes out.old ++ settle_answer self.old argument.now) }
+        ensures text { OnOk result
+            (string_bytes out.new ≡ string_bytes out.old ++ settle_answer self.old argument.now) }
         ensures state { OnOk result (self.new ≡ settle_state self.old argument.now) }
     {
         if !argument.is_empty() {

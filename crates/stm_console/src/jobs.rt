@@ -1,9 +1,8 @@
 //! Jobs that were handed out, and what becomes of them.
 
-ghost use Rattle.std.specs.Prelude.{◌≡◌, ◌≤◌, ◌<◌, ◌+◌, ◌++◌, List, map, None, Some, IfOk, OnOk, vec_len, length};
+ghost use Rattle.std.specs.Prelude.{◌≡◌, ◌≤◌, ◌<◌, ◌+◌, List, map, Some, IfOk, OnOk, vec_len};
 ghost use Rattle.stm_terms.specs.declared.kinds.Ty.{Ty};
 ghost use Rattle.stm_terms.specs.declared.values.Value.{Value};
-ghost use Rattle.stm_store.specs.Cells.{Covers};
 ghost use Rattle.stm_eval.specs.EvaluatedFields.{message_ticket, message_block, message_reads};
 ghost use Rattle.stm_eval.specs.declared.job.Job.{Job};
 ghost use Rattle.stm_pool.specs.Answers.{IsMessageOf, AnswersJob};
@@ -12,7 +11,8 @@ ghost use Rattle.stm_history.specs.Refusals.{deliver_error};
 ghost use Rattle.stm_history.specs.SlowDesk.{IsLegal, max_waiting};
 ghost use Rattle.stm_desk.specs.Refusals.{TellsDeskDelivery};
 ghost use Rattle.stm_desk.specs.Seen.{now};
-ghost use Rattle.stm_console.specs.Kept.{handed_out, JobStands, JobsStand, HasGrown, after_message, AnswerJobs};
+ghost use Rattle.stm_console.specs.declared.options.TheConstants.Options.{MAX_WORKERS};
+ghost use Rattle.stm_console.specs.Kept.{handed_out, JobStands, JobsStand, HasGrown, after_message, AnswerJobs, delivered_so_far, none_delivered};
 ghost use Rattle.stm_console.specs.Delivering.{delivery_refusal, after_delivery, delivered_next, delivered_all, evaluated};
 
 use crate::threading::Threading;
@@ -79,7 +79,8 @@ fn reported(refusal: DeliverError) -> Result<Option<DeliverError>, NoMemory>
 
 /// Delivers a message. The answer is why it is refused, if it is.
 fn deliver_message(desk: &mut Desk, message: Evaluated) -> Result<Option<DeliverError>, NoMemory>
-    ensures told { IfOk result (λ r. TellsDeskDelivery r desk.old (message_ticket message) (message_block message) (message_reads message)) }
+    ensures told { IfOk result (λ r. TellsDeskDelivery r desk.old
+        (message_ticket message) (message_block message) (message_reads message)) }
     ensures done { IfOk result (λ r. desk.new ≡ after_message desk.old message r) }
     ensures grown { HasGrown desk.old desk.new }
     ensures store { (now desk.new).store ≡ (now desk.old).store }
@@ -122,9 +123,9 @@ pub struct Progress {
 fn deliver_next(desk: &mut Desk, message: Evaluated, so_far: Progress) -> Result<Progress, NoMemory>
     requires few { so_far.count < max_waiting }
     requires legal { IsLegal desk.old.table desk.old.history }
-    ensures done { (cells : List (Ty × Value)) (job : Job) → IsMessageOf job cells message → JobStands desk.old (handed_out cells job)
-        → IfOk result (λ p. record { desk = desk.new; count = p.count; stop = p.stop }
-        ≡ delivered_next (record { desk = desk.old; count = so_far.count; stop = so_far.stop }) (handed_out cells job) so_far.stop) }
+    ensures done { (cells : List (Ty × Value)) (job : Job) → IsMessageOf job cells message →
+        JobStands desk.old (handed_out cells job) → IfOk result (λ p. delivered_so_far desk.new p
+        ≡ delivered_next (delivered_so_far desk.old so_far) (handed_out cells job) so_far.stop) }
     ensures few { IfOk result (λ p. p.count ≤ so_far.count + 1) }
     ensures grown { HasGrown desk.old desk.new }
     ensures store { (now desk.new).store ≡ (now desk.old).store }
@@ -153,9 +154,9 @@ fn deliver_next(desk: &mut Desk, message: Evaluated, so_far: Progress) -> Result
 fn deliver_answer(desk: &mut Desk, answer: Answer, so_far: Progress) -> Result<Progress, NoMemory>
     requires few { so_far.count < max_waiting }
     requires legal { IsLegal desk.old.table desk.old.history }
-    ensures done { (cells : List (Ty × Value)) (job : Job) → AnswersJob job cells answer → JobStands desk.old (handed_out cells job)
-        → IfOk result (λ p. record { desk = desk.new; count = p.count; stop = p.stop }
-        ≡ delivered_next (record { desk = desk.old; count = so_far.count; stop = so_far.stop }) (handed_out cells job) so_far.stop) }
+    ensures done { (cells : List (Ty × Value)) (job : Job) → AnswersJob job cells answer →
+        JobStands desk.old (handed_out cells job) → IfOk result (λ p. delivered_so_far desk.new p
+        ≡ delivered_next (delivered_so_far desk.old so_far) (handed_out cells job) so_far.stop) }
     ensures few { IfOk result (λ p. p.count ≤ so_far.count + 1) }
     ensures grown { HasGrown desk.old desk.new }
     ensures store { (now desk.new).store ≡ (now desk.old).store }
@@ -170,9 +171,10 @@ fn deliver_answer(desk: &mut Desk, answer: Answer, so_far: Progress) -> Result<P
 fn deliver_answers(desk: &mut Desk, answers: Vec<Answer>) -> Result<Progress, NoMemory>
     requires few { vec_len answers ≤ max_waiting }
     requires legal { IsLegal desk.old.table desk.old.history }
-    ensures done { (cells : List (Ty × Value)) (jobs : List Job) → AnswerJobs jobs cells answers.items → JobsStand desk.old (map (handed_out cells) jobs)
-        → IfOk result (λ p. record { desk = desk.new; count = p.count; stop = p.stop }
-        ≡ delivered_all (record { desk = desk.old; count = 0; stop = None }) (map (handed_out cells) jobs)) }
+    ensures done { (cells : List (Ty × Value)) (jobs : List Job) →
+        AnswerJobs jobs cells answers.items → JobsStand desk.old (map (handed_out cells) jobs) →
+        IfOk result (λ p. delivered_so_far desk.new p
+        ≡ delivered_all (none_delivered desk.old) (map (handed_out cells) jobs)) }
     ensures grown { HasGrown desk.old desk.new }
     ensures store { (now desk.new).store ≡ (now desk.old).store }
 {
@@ -193,7 +195,7 @@ const BYTES_OF_A_THREAD: usize = 16_384;
 /// By how many threads jobs are evaluated: as many as there are workers, but no more than their blocks are worth.
 fn threads_for(threading: Threading, jobs: &[Job]) -> usize
     ensures some { 0 < result }
-    ensures few { result ≤ 64 }
+    ensures few { result ≤ MAX_WORKERS }
 {
     let mut bytes: usize = 0;
     for job in jobs {
@@ -216,8 +218,8 @@ fn evaluate_jobs<T: Threads + Sync>(
     requires legal { IsLegal desk.old.table desk.old.history }
     requires covered { AreCovered store.now jobs.items }
     requires stand { JobsStand desk.old (map (handed_out store.now) jobs.items) }
-    ensures done { IfOk result (λ p. record { desk = desk.new; count = p.count; stop = p.stop }
-        ≡ delivered_all (record { desk = desk.old; count = 0; stop = None }) (map (handed_out store.now) jobs.items)) }
+    ensures done { IfOk result (λ p. delivered_so_far desk.new p
+        ≡ delivered_all (none_delivered desk.old) (map (handed_out store.now) jobs.items)) }
     ensures grown { HasGrown desk.old desk.new }
     ensures store { (now desk.new).store ≡ (now desk.old).store }
 {
@@ -236,7 +238,7 @@ pub fn evaluate_queued<T: Threads + Sync>(
     threading: Threading,
 ) -> Result<Progress, NoMemory>
     requires { IsLegal desk.old.table desk.old.history }
-    ensures done { IfOk result (λ p. record { desk = desk.new; count = p.count; stop = p.stop } ≡ evaluated desk.old) }
+    ensures done { IfOk result (λ p. delivered_so_far desk.new p ≡ evaluated desk.old) }
     ensures grown { HasGrown desk.old desk.new }
     ensures store { (now desk.new).store ≡ (now desk.old).store }
 {

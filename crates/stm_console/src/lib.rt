@@ -11,10 +11,20 @@
 //!
 //! `storm` (`storming`) runs a script of many clients by threads. `line_reader` pulls lines from a reader, by the bytes of a
 //! `chunk`; `script_line` says what a line of a script is, `begun_section` and `script_so_far` take it, and `script_reader` reads
-//! a script whole; `storm_text` has the lines that are written.
+//! a script whole; `storm_text` has the lines that are written. Both a run and a storm keep the line that has begun by
+//! `begun_line`.
+//!
+//! What a reader has to believe is in these modules of specs/: `Lines` has how an input is cut into lines, and `LineClass` how
+//! a line is judged; `Console` what is written for the lines, over `ConsoleState`, what is known between two of them, and
+//! `OpenDesk`, the desk with the jobs handed out; `Declaring`, `Blocks`, `Delivering`, `Finishing` and `Showing` what each
+//! command answers and changes, `Arguments` which arguments are taken, and `Refusals` what is printed of the others;
+//! `Checking` what `check` finds and prints; `StormScript` what a script says, and `StormText` what a storm of it may write;
+//! `CommandLine` what words ask for, `Options` the ranges and defaults of options, and `ExitStatus` the statuses; `Laws` what
+//! holds of all texts and words.
 #![tactic(auto)]
 
 mod arguments;
+mod begun_line;
 mod begun_section;
 mod block;
 mod calls;

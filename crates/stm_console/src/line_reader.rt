@@ -1,44 +1,17 @@
 //! Lines pulled from a reader.
 
-ghost use Rattle.std.specs.Prelude.{◌≡◌, ◌≢◌, ◌++◌, ◌∷◌, [], ◌<◌, ◌≤◌, ◌-◌, ℕ, List, false, length, drop, take, min, IfOk, IfErr, IfNone, IfSome, MatchBool, OnOk};
+ghost use Rattle.std.specs.Prelude.{◌≡◌, ◌≢◌, ◌++◌, ◌∷◌, [], ◌<◌, ◌≤◌, ℕ, List, false, length, drop, IfOk, IfErr, IfNone, IfSome, MatchBool, OnOk};
 ghost use Rattle.std.specs.Io.KnownBytes.{Consumes, IsAtEnd, prepend_known};
 ghost use Rattle.stm_console.specs.LineClass.{line_class};
 ghost use Rattle.stm_console.specs.LineReading.{classes_from, IsNextLine, IsNoLine};
-ghost use Rattle.stm_console.specs.Lines.{drop_return as returnless};
 
+use crate::begun_line::{drop_return, keep};
 use crate::calls::Calls;
 use crate::chunk::Chunk;
 use crate::streams::RunFault;
 use memchr::memchr;
 use std::alloc::Global;
 use std::io::{ErrorKind, Read};
-
-/// Two bytes more than the longest line: no carriage return can make so many bytes a line.
-const FULL: usize = 65_538;
-
-/// Drops one carriage return at the end.
-fn drop_return(line: &mut Vec<u8>)
-    ensures { line.new.items ≡ returnless line.old.items }
-{
-    let len = line.len();
-    if len > 0 && line[len - 1] == b'\r' {
-        line.truncate(len - 1);
-    }
-}
-
-/// Keeps bytes of the line that has begun, of which no more than `FULL` are kept.
-fn keep(line: &mut Vec<u8>, bytes: &[u8]) -> Result<(), RunFault>
-    ensures kept { OnOk result (line.new.items ≡ line.old.items
-        ++ take (min (length bytes.now) (65538 - length line.old.items)) bytes.now) }
-    ensures fault { IfErr result (λ e. e ≡ RunFault.NoMemory) }
-{
-    let room = FULL.saturating_sub(line.len());
-    let kept = bytes.len().min(room);
-    match line.extend_from_slice(&bytes[..kept]) {
-        Ok(()) => Ok(()),
-        Err(_) => Err(RunFault::NoMemory),
-    }
-}
 
 /// Takes bytes to the line that has begun: all of them, or, where there is a line feed, those up to it, which ends the line.
 /// Then it answers how many they are.
@@ -118,7 +91,8 @@ impl<'a, R: Read> LineReader<'a, R> {
         // What was left begins with the line, or one that is judged as it is, and goes on with what is left.
         ensures line { IfOk result (λ some. MatchBool some
             (IsNextLine (prepend_known self.old.chunk (R.remaining self.old.calls.reader.now))
-            (prepend_known self.new.chunk (R.remaining self.new.calls.reader.now)) self.new.line.items)
+            (prepend_known self.new.chunk (R.remaining self.new.calls.reader.now))
+            self.new.line.items)
             (IsNoLine (prepend_known self.old.chunk (R.remaining self.old.calls.reader.now)))) }
         ensures fault { IfErr result (λ e. e ≢ RunFault.Write) }
     {

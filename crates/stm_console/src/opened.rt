@@ -1,6 +1,6 @@
 //! The desk of a console that has opened.
 
-ghost use Rattle.std.specs.Prelude.{◌≡◌, ◌≤◌, ◌++◌, IfOk, OnOk, string_bytes};
+ghost use Rattle.std.specs.Prelude.{◌≡◌, ◌≤◌, IfOk};
 ghost use Rattle.stm_store.specs.Cells.{plains};
 ghost use Rattle.stm_history.specs.SlowDesk.{IsLegal, max_events};
 ghost use Rattle.stm_history.specs.HistoryText.{WritesText};
@@ -76,7 +76,8 @@ impl OpenDesk {
 
     /// Writes the history.
     pub fn write_history<W: Write>(&self, alloc: Global, writer: &mut W) -> Result<(), WriteFault>
-        ensures { WritesText result (W.contents writer.old) (W.contents writer.new) (events_text self.now) }
+        ensures { WritesText result (W.contents writer.old) (W.contents writer.new)
+            (events_text self.now) }
     {
         write_history(alloc, writer, self.desk.table(), self.desk.history())
     }

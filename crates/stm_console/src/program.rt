@@ -63,7 +63,8 @@ fn tell_words<W: Write, E: Write>(error: &Error, writer: &mut W, errors: &mut E)
         × Keeps (W.contents writer.old) (W.contents writer.new) }
     ensures memory { kind_of error.now ≡ ErrorKind.OutOfMemory → (result ≡ 4)
         × Keeps (W.contents writer.old) (W.contents writer.new) }
-    ensures help { (kind_of error.now ≡ ErrorKind.OutOfMemory) ⊎ (kind_of error.now ≡ ErrorKind.DisplayHelp) → result ≢ 2 }
+    ensures help { (kind_of error.now ≡ ErrorKind.OutOfMemory)
+        ⊎ (kind_of error.now ≡ ErrorKind.DisplayHelp) → result ≢ 2 }
 {
     if error.kind() == ErrorKind::OutOfMemory {
         return tell_fault(RunFault::NoMemory, errors);
@@ -138,25 +139,32 @@ pub fn start<'a, T: Threads + Wait + Sync, S: AsStr, R: Read, W: Write, E: Write
     ensures options { IfRun (request_of (map S.text words.now)) AreRunOptions
         × IfStorm (request_of (map S.text words.now)) AreRunOptions }
     // With status 0 the whole text of a run's input was written.
-    ensures answered { answers_of (map S.text words.now) ≡ [] → IfRun (request_of (map S.text words.now)) (λ o.
+    ensures answered { answers_of (map S.text words.now) ≡ [] →
+        IfRun (request_of (map S.text words.now)) (λ o.
         result ≡ 0 → IfSome (R.remaining reader.old) (λ input.
-        Appends (W.contents writer.old) (W.contents writer.new) (console_text o.max_events input))) }
+        Appends (W.contents writer.old) (W.contents writer.new)
+        (console_text o.max_events input))) }
     // With any other it is a prefix of the text.
-    ensures part { answers_of (map S.text words.now) ≡ [] → IfRun (request_of (map S.text words.now)) (λ o.
+    ensures part { answers_of (map S.text words.now) ≡ [] →
+        IfRun (request_of (map S.text words.now)) (λ o.
         result ≢ 0 → IfSome (R.remaining reader.old) (λ input.
         (front : List ℕ) × IsPrefixOf front (console_text o.max_events input)
         × Appends (W.contents writer.old) (W.contents writer.new) front)) }
     // With status 0 a storm's script is right, and what was written is a text of it.
-    ensures stormed { answers_of (map S.text words.now) ≡ [] → IfStorm (request_of (map S.text words.now)) (λ o.
+    ensures stormed { answers_of (map S.text words.now) ≡ [] →
+        IfStorm (request_of (map S.text words.now)) (λ o.
         result ≡ 0 → IfSome (R.remaining reader.old) (λ input.
-        (text : List ℕ) × IsStormText input text × Appends (W.contents writer.old) (W.contents writer.new) text)) }
+        (text : List ℕ) × IsStormText input text
+        × Appends (W.contents writer.old) (W.contents writer.new) text)) }
     // A check writes what it finds of the bytes, which the status says too.
-    ensures found { answers_of (map S.text words.now) ≡ [] → request_of (map S.text words.now) ≡ Request.Check →
+    ensures found { answers_of (map S.text words.now) ≡ [] →
+        request_of (map S.text words.now) ≡ Request.Check →
         (result ≡ 0) ⊎ (result ≡ 3) → IfSome (R.remaining reader.old) (λ bytes.
         (f : Finding) × IsFinding bytes f × (result ≡ finding_status f)
         × Appends (W.contents writer.old) (W.contents writer.new) (finding_text f)) }
     // With any other status nothing or a prefix of it.
-    ensures found_part { answers_of (map S.text words.now) ≡ [] → request_of (map S.text words.now) ≡ Request.Check →
+    ensures found_part { answers_of (map S.text words.now) ≡ [] →
+        request_of (map S.text words.now) ≡ Request.Check →
         result ≢ 0 → IfSome (R.remaining reader.old) (λ bytes.
         (front : List ℕ) × BeginsFindingText bytes front
         × Appends (W.contents writer.old) (W.contents writer.new) front) }

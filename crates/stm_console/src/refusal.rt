@@ -68,7 +68,8 @@ pub fn refuse(name: &str, out: &mut String) -> Result<(), NoMemory>
 /// Appends a refusal by its name, with the place of its cause.
 #[tactic(auto, unfolding(crate::specs::Refusals::refused_at))]
 fn refuse_at(name: &str, place: usize, out: &mut String) -> Result<(), NoMemory>
-    ensures { OnOk result (string_bytes out.new ≡ string_bytes out.old ++ refused_at name.now place) }
+    ensures { OnOk result
+        (string_bytes out.new ≡ string_bytes out.old ++ refused_at name.now place) }
 {
     write!(out, "refused {name} {place}\n")
 }
@@ -76,13 +77,15 @@ fn refuse_at(name: &str, place: usize, out: &mut String) -> Result<(), NoMemory>
 /// Appends a refusal by its name, with the number of its variable.
 #[tactic(auto, unfolding(crate::specs::Refusals::refused_variable))]
 fn refuse_variable(name: &str, number: u32, out: &mut String) -> Result<(), NoMemory>
-    ensures { OnOk result (string_bytes out.new ≡ string_bytes out.old ++ refused_variable name.now number) }
+    ensures { OnOk result
+        (string_bytes out.new ≡ string_bytes out.old ++ refused_variable name.now number) }
 {
     write!(out, "refused {name} #{number}\n")
 }
 
 fn refuse_parse(fault: ParseFault, out: &mut String) -> Result<(), NoMemory>
-    ensures text { OnOk result (string_bytes out.new ≡ string_bytes out.old ++ parse_fault_text fault) }
+    ensures text { OnOk result
+        (string_bytes out.new ≡ string_bytes out.old ++ parse_fault_text fault) }
     ensures told { OnOk result (IsTrue (is_printed (Refusal.Parsing fault))) }
 {
     match fault {
@@ -98,7 +101,8 @@ fn refuse_parse(fault: ParseFault, out: &mut String) -> Result<(), NoMemory>
 }
 
 fn refuse_type(fault: TypeFault, out: &mut String) -> Result<(), NoMemory>
-    ensures text { OnOk result (string_bytes out.new ≡ string_bytes out.old ++ type_fault_text fault) }
+    ensures text { OnOk result
+        (string_bytes out.new ≡ string_bytes out.old ++ type_fault_text fault) }
     ensures told { OnOk result (IsTrue (is_printed (Refusal.Typing fault))) }
 {
     match fault {
@@ -112,7 +116,8 @@ fn refuse_type(fault: TypeFault, out: &mut String) -> Result<(), NoMemory>
 }
 
 fn refuse_declaration(error: DeclareError, out: &mut String) -> Result<(), NoMemory>
-    ensures text { OnOk result (string_bytes out.new ≡ string_bytes out.old ++ declare_error_text error) }
+    ensures text { OnOk result
+        (string_bytes out.new ≡ string_bytes out.old ++ declare_error_text error) }
     ensures told { OnOk result (IsTrue (is_printed (Refusal.Declaring error))) }
 {
     match error {
@@ -125,7 +130,8 @@ fn refuse_declaration(error: DeclareError, out: &mut String) -> Result<(), NoMem
 
 /// Appends why a block or a declaration is refused. An out-of-memory error is no line of text: it is handed on.
 pub fn write_refusal(refusal: Refusal, out: &mut String) -> Result<(), NoMemory>
-    ensures text { OnOk result (string_bytes out.new ≡ string_bytes out.old ++ refusal_text refusal) }
+    ensures text { OnOk result
+        (string_bytes out.new ≡ string_bytes out.old ++ refusal_text refusal) }
     ensures told { OnOk result (IsTrue (is_printed refusal)) }
 {
     match refusal {
@@ -138,7 +144,8 @@ pub fn write_refusal(refusal: Refusal, out: &mut String) -> Result<(), NoMemory>
 
 /// Appends why a block isn't submitted; an out-of-memory error is handed on.
 pub fn refuse_submit(error: SubmitError, out: &mut String) -> Result<(), NoMemory>
-    ensures text { OnOk result (string_bytes out.new ≡ string_bytes out.old ++ submit_error_text error) }
+    ensures text { OnOk result
+        (string_bytes out.new ≡ string_bytes out.old ++ submit_error_text error) }
     ensures told { OnOk result (submit_told {A = ℕ} (Err error) ≡ Some error) }
 {
     match error {
@@ -151,7 +158,8 @@ pub fn refuse_submit(error: SubmitError, out: &mut String) -> Result<(), NoMemor
 
 /// Appends why a verdict isn't delivered; an out-of-memory error is handed on.
 pub fn refuse_delivery(error: DeliverError, out: &mut String) -> Result<(), NoMemory>
-    ensures text { OnOk result (string_bytes out.new ≡ string_bytes out.old ++ deliver_error_text error) }
+    ensures text { OnOk result
+        (string_bytes out.new ≡ string_bytes out.old ++ deliver_error_text error) }
     ensures told { OnOk result (deliver_error error ≡ Some error) }
 {
     match error {
@@ -166,7 +174,8 @@ pub fn refuse_delivery(error: DeliverError, out: &mut String) -> Result<(), NoMe
 
 /// Appends why a block isn't finished; an out-of-memory error is handed on.
 pub fn refuse_finish(error: FinishError, out: &mut String) -> Result<(), NoMemory>
-    ensures text { OnOk result (string_bytes out.new ≡ string_bytes out.old ++ finish_error_text error) }
+    ensures text { OnOk result
+        (string_bytes out.new ≡ string_bytes out.old ++ finish_error_text error) }
     ensures told { OnOk result (finish_told {A = Finish} (Err error) ≡ Some error) }
 {
     match error {
@@ -182,7 +191,8 @@ pub fn refuse_finish(error: FinishError, out: &mut String) -> Result<(), NoMemor
 
 /// Appends why a block isn't cancelled; an out-of-memory error is handed on.
 pub fn refuse_cancel(error: CancelError, out: &mut String) -> Result<(), NoMemory>
-    ensures text { OnOk result (string_bytes out.new ≡ string_bytes out.old ++ cancel_error_text error) }
+    ensures text { OnOk result
+        (string_bytes out.new ≡ string_bytes out.old ++ cancel_error_text error) }
     ensures told { OnOk result (cancel_told {A = Unit {0}} (Err error) ≡ Some error) }
 {
     match error {

@@ -3,10 +3,10 @@
 ghost use Rattle.std.specs.Prelude.{◌≡◌, ◌≢◌, ◌++◌, ◌∷◌, [], ℕ, List, OnOk, OnErr, IfErr};
 ghost use Rattle.std.specs.Io.KnownBytes.{Appends};
 ghost use Rattle.stm_terms.specs.Texts.{IsPrefixOf};
-ghost use Rattle.stm_console.specs.Lines.{drop_return as returnless};
 ghost use Rattle.stm_console.specs.Console.{initial_console, answer_to, state_after};
 ghost use Rattle.stm_console.specs.Streaming.{Continues, NoLineFeed, rest_text};
 
+use crate::begun_line::{drop_return, keep};
 use crate::console::Console;
 use crate::limit::EventLimit;
 use crate::output::write_text;
@@ -17,19 +17,6 @@ use memchr::memchr;
 use std::alloc::Global;
 use std::io::Write;
 use std::thread::Threads;
-
-/// Two bytes more than the longest line: no carriage return can make so many bytes a line.
-const FULL: usize = 65_538;
-
-/// Drops one carriage return at the end.
-fn drop_return(line: &mut Vec<u8>)
-    ensures { line.new.items ≡ returnless line.old.items }
-{
-    let len = line.len();
-    if len > 0 && line[len - 1] == b'\r' {
-        line.truncate(len - 1);
-    }
-}
 
 /// The console, the bytes of a line that has begun, room for an answer, and how many threads evaluate.
 #[derive(Drop)]
@@ -62,7 +49,8 @@ impl Session {
     ) -> Result<(), RunFault>
         ensures done { OnOk result (Appends (W.contents writer.old) (W.contents writer.new)
             (answer_to self.old.console self.old.line.items)) }
-        ensures state { OnOk result (self.new.console ≡ state_after self.old.console self.old.line.items) }
+        ensures state { OnOk result
+            (self.new.console ≡ state_after self.old.console self.old.line.items) }
         ensures line { OnOk result (self.new.line.items ≡ []) }
         ensures part { OnErr result ((front : List ℕ)
             × IsPrefixOf front (answer_to self.old.console self.old.line.items)
@@ -88,18 +76,15 @@ impl Session {
         Ok(())
     }
 
-    /// Takes bytes of the line that has begun, of which no more than `FULL` are kept.
+    /// Takes bytes of the line that has begun.
     fn take_part(&mut self, bytes: &[u8]) -> Result<(), RunFault>
         requires { NoLineFeed bytes.now }
-        ensures done { OnOk result (Continues self.old.console self.old.line.items self.new.console self.new.line.items bytes.now []) }
+        ensures done { OnOk result (Continues self.old.console self.old.line.items
+            self.new.console self.new.line.items bytes.now []) }
         ensures fault { IfErr result (λ e. e ≡ RunFault.NoMemory) }
     {
-        let room = FULL.saturating_sub(self.line.len());
-        let kept = bytes.len().min(room);
-        match self.line.extend_from_slice(&bytes[..kept]) {
-            Ok(()) => Ok(()),
-            Err(_) => Err(RunFault::NoMemory),
-        }
+        keep(&mut self.line, bytes)?;
+        Ok(())
     }
 
     /// Takes a line feed, which ends the line that has begun.
@@ -110,10 +95,12 @@ impl Session {
         writer: &mut W,
     ) -> Result<(), RunFault>
         ensures done { OnOk result ((written : List ℕ)
-            × Continues self.old.console self.old.line.items self.new.console self.new.line.items (10 ∷ []) written
+            × Continues self.old.console self.old.line.items
+            self.new.console self.new.line.items (10 ∷ []) written
             × Appends (W.contents writer.old) (W.contents writer.new) written) }
         ensures part { OnErr result ((front : List ℕ)
-            × ((more : List ℕ) → IsPrefixOf front (rest_text self.old.console self.old.line.items (10 ∷ more)))
+            × ((more : List ℕ) → IsPrefixOf front
+            (rest_text self.old.console self.old.line.items (10 ∷ more)))
             × Appends (W.contents writer.old) (W.contents writer.new) front) }
         ensures fault { IfErr result (λ e. e ≢ RunFault.Read) }
     {
@@ -131,10 +118,12 @@ impl Session {
         writer: &mut W,
     ) -> Result<(), RunFault>
         ensures done { OnOk result ((written : List ℕ)
-            × Continues self.old.console self.old.line.items self.new.console self.new.line.items bytes.now written
+            × Continues self.old.console self.old.line.items
+            self.new.console self.new.line.items bytes.now written
             × Appends (W.contents writer.old) (W.contents writer.new) written) }
         ensures part { OnErr result ((front : List ℕ)
-            × ((more : List ℕ) → IsPrefixOf front (rest_text self.old.console self.old.line.items (bytes.now ++ more)))
+            × ((more : List ℕ) → IsPrefixOf front
+            (rest_text self.old.console self.old.line.items (bytes.now ++ more)))
             × Appends (W.contents writer.old) (W.contents writer.new) front) }
         ensures fault { IfErr result (λ e. e ≢ RunFault.Read) }
     {

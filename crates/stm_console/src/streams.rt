@@ -8,6 +8,7 @@ ghost use Rattle.stm_console.specs.Options.{AreRunOptions};
 ghost use Rattle.stm_console.specs.Streaming.{rest_text, whole_rest_text};
 
 use crate::calls::Calls;
+use crate::chunk::CHUNK;
 use crate::limit::EventLimit;
 use crate::options::Options;
 use crate::output::flush;
@@ -57,17 +58,21 @@ fn run_session<T: Threads + Sync, R: Read, W: Write>(
     ensures same_reader { calls.new.reader.ghost_name ≡ calls.old.reader.ghost_name }
     // The whole text of the input was written.
     ensures answered { OnOk result (IfSome (R.remaining calls.old.reader.now) (λ input.
-        Appends (W.contents writer.old) (W.contents writer.new) (rest_text session.old.console [] input))) }
+        Appends (W.contents writer.old) (W.contents writer.new)
+        (rest_text session.old.console [] input))) }
     // After a read fault it is the text of the lines that were whole before.
-    ensures read_fault { IsErrOf result RunFault.Read → IfSome (R.remaining calls.old.reader.now) (λ input.
-        (taken rest : List ℕ) × (input ≡ taken ++ rest) × (R.remaining calls.new.reader.now ≡ Some rest)
-        × Appends (W.contents writer.old) (W.contents writer.new) (whole_rest_text session.old.console [] taken)) }
+    ensures read_fault { IsErrOf result RunFault.Read →
+        IfSome (R.remaining calls.old.reader.now) (λ input.
+        (taken rest : List ℕ) × (input ≡ taken ++ rest)
+        × (R.remaining calls.new.reader.now ≡ Some rest)
+        × Appends (W.contents writer.old) (W.contents writer.new)
+        (whole_rest_text session.old.console [] taken)) }
     // After any fault it is a prefix of the text.
     ensures part { OnErr result (IfSome (R.remaining calls.old.reader.now) (λ input.
         (front : List ℕ) × IsPrefixOf front (rest_text session.old.console [] input)
         × Appends (W.contents writer.old) (W.contents writer.new) front)) }
 {
-    let mut buffer = [0u8; 8_192];
+    let mut buffer = [0u8; CHUNK];
     'reads: while calls.may_read() {
         match calls.read(&mut buffer) {
             Ok(count) => {
@@ -102,11 +107,13 @@ pub fn run<T: Threads + Sync, R: Read, W: Write>(
     requires { AreRunOptions options }
     // The whole text of the input was written.
     ensures answered { OnOk result (IfSome (R.remaining reader.old) (λ input.
-        Appends (W.contents writer.old) (W.contents writer.new) (console_text options.max_events input))) }
+        Appends (W.contents writer.old) (W.contents writer.new)
+        (console_text options.max_events input))) }
     // After a read fault it is the text of the lines that were whole before.
     ensures read_fault { IsErrOf result RunFault.Read → IfSome (R.remaining reader.old) (λ input.
         (taken rest : List ℕ) × (input ≡ taken ++ rest) × (R.remaining reader.new ≡ Some rest)
-        × Appends (W.contents writer.old) (W.contents writer.new) (whole_lines_text options.max_events taken)) }
+        × Appends (W.contents writer.old) (W.contents writer.new)
+        (whole_lines_text options.max_events taken)) }
     // After any fault it is a prefix of the text.
     ensures part { OnErr result (IfSome (R.remaining reader.old) (λ input.
         (front : List ℕ) × IsPrefixOf front (console_text options.max_events input)

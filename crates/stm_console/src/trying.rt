@@ -24,7 +24,8 @@ use stm_terms::verdicts::Verdict;
 /// Appends a verdict as a line.
 #[tactic(auto, unfolding(crate::specs::Blocks::verdict_line))]
 fn write_verdict_line(verdict: &Verdict, out: &mut String) -> Result<(), NoMemory>
-    ensures { OnOk result (string_bytes out.new ≡ string_bytes out.old ++ verdict_line (Some verdict.now)) }
+    ensures { OnOk result
+        (string_bytes out.new ≡ string_bytes out.old ++ verdict_line (Some verdict.now)) }
 {
     write_verdict(verdict, out)?;
     out.push_str("\n")
@@ -56,7 +57,8 @@ impl OpenDesk {
         out: &mut String,
     ) -> Result<(), NoMemory>
         requires { Covers (plains (opened self.old.desk.table)) block.now.uses }
-        ensures text { OnOk result (string_bytes out.new ≡ string_bytes out.old ++ verdict_line (verdict_on (present self.old) block.now)) }
+        ensures text { OnOk result (string_bytes out.new
+            ≡ string_bytes out.old ++ verdict_line (verdict_on (present self.old) block.now)) }
         ensures same { self.new ≡ self.old }
     {
         declared_are_covered();
@@ -75,7 +77,8 @@ impl OpenDesk {
         out: &mut String,
     ) -> Result<(), NoMemory>
         requires { Covers (plains (opened self.old.desk.table)) block.now.uses }
-        ensures text { OnOk result (string_bytes out.new ≡ string_bytes out.old ++ reads_line (reads_of (under (present self.old)) block.now.tree)) }
+        ensures text { OnOk result (string_bytes out.new ≡ string_bytes out.old
+            ++ reads_line (reads_of (under (present self.old)) block.now.tree)) }
         ensures same { self.new ≡ self.old }
     {
         declared_are_covered();
@@ -94,7 +97,8 @@ impl OpenDesk {
         text: &str,
         out: &mut String,
     ) -> Result<(), NoMemory>
-        ensures text { OnOk result (string_bytes out.new ≡ string_bytes out.old ++ try_answer self.old text.now) }
+        ensures text { OnOk result
+            (string_bytes out.new ≡ string_bytes out.old ++ try_answer self.old text.now) }
         ensures same { self.new ≡ self.old }
     {
         match compile_block(alloc, self.desk.table(), text) {
@@ -117,7 +121,8 @@ impl OpenDesk {
         text: &str,
         out: &mut String,
     ) -> Result<(), NoMemory>
-        ensures text { OnOk result (string_bytes out.new ≡ string_bytes out.old ++ looks_answer self.old text.now) }
+        ensures text { OnOk result
+            (string_bytes out.new ≡ string_bytes out.old ++ looks_answer self.old text.now) }
         ensures same { self.new ≡ self.old }
     {
         match compile_block(alloc, self.desk.table(), text) {
@@ -134,8 +139,11 @@ impl OpenDesk {
 
     /// Submits a block.
     fn submit(&mut self, block: SharedBlock, out: &mut String) -> Result<(), NoMemory>
-        ensures text { OnOk result (string_bytes out.new ≡ string_bytes out.old ++ submitted_text self.old.desk (submit_refusal self.old.desk block)) }
-        ensures state { OnOk result (self.new ≡ record self.old { desk = submitted self.old.desk block (submit_refusal self.old.desk block) }) }
+        ensures text { OnOk result (string_bytes out.new ≡ string_bytes out.old
+            ++ submitted_text self.old.desk (submit_refusal self.old.desk block)) }
+        ensures state { OnOk result (self.new ≡ record self.old {
+          desk = submitted self.old.desk block (submit_refusal self.old.desk block);
+        }) }
     {
         match self.desk.submit(0, block) {
             Ok(ticket) => {
@@ -157,7 +165,8 @@ impl OpenDesk {
         text: &str,
         out: &mut String,
     ) -> Result<(), NoMemory>
-        ensures text { OnOk result (string_bytes out.new ≡ string_bytes out.old ++ submit_answer self.old text.now) }
+        ensures text { OnOk result
+            (string_bytes out.new ≡ string_bytes out.old ++ submit_answer self.old text.now) }
         ensures state { OnOk result (self.new ≡ submit_state self.old text.now) }
     {
         match compile_block(alloc, self.desk.table(), text) {

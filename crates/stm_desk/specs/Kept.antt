@@ -5,6 +5,7 @@ use Rattle.stm_history.specs.declared.event.Event.{Event}
 use Rattle.stm_history.specs.SlowDesk.{max_events}
 use Rattle.stm_history.specs.Machine.{Parts, StandsFor}
 
+-- the machine stands for the history, which has no more events than the desk takes
 pub record DeskInvariant (table : List Declared) (limit : ℕ) (history : List Event) (m : Parts) : Type 0 where
   pub stands : StandsFor table history m
   pub few : length history ≤ limit

@@ -2,6 +2,6 @@
 pub mod Refusals
 pub mod Seen
 pub mod Settling
--- The words inside.
+-- The words inside, for what a desk keeps and for one step of settling.
 pub mod Kept
 pub mod Steps

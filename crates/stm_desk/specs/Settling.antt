@@ -66,4 +66,5 @@ StopTold NoMemory client old new f e = HasBegun client old new f e
 
 -- each waiting block is current and blocks on the present store
 abbrev pub AllBlock : Slow → Type 0
-AllBlock s = (t : ℕ) (w : Waiter) → find_waiter t s.waiters ≡ Some w → (is_current w ≡ true) × (ends (verdict_on s.store w.block) ≡ false)
+AllBlock s =
+    (t : ℕ) (w : Waiter) → find_waiter t s.waiters ≡ Some w → (is_current w ≡ true) × (ends (verdict_on s.store w.block) ≡ false)

@@ -42,7 +42,7 @@ WhyTold HistoryFull d = IsFull d
 WhyTold CellsFull d = IsCrowded d
 WhyTold NoMemory d = Unit {0}
 
--- the refusals of a delivery and of a finish that settling can meet, and what they stop it for
+-- the refusals of a delivery that settling can meet
 abbrev pub StopsDelivery : DeliverError → Type 0
 StopsDelivery deliver.Gone = ⊥
 StopsDelivery deliver.OtherBlock = ⊥
@@ -51,6 +51,7 @@ StopsDelivery (deliver.Overtaken i) = ⊥
 StopsDelivery deliver.HistoryFull = Unit {0}
 StopsDelivery deliver.NoMemory = Unit {0}
 
+-- what settling stops for at such a refusal
 abbrev pub delivery_why : DeliverError → SettleWhy
 delivery_why deliver.Gone = NoMemory
 delivery_why deliver.OtherBlock = NoMemory
@@ -59,6 +60,7 @@ delivery_why (deliver.Overtaken i) = NoMemory
 delivery_why deliver.HistoryFull = HistoryFull
 delivery_why deliver.NoMemory = NoMemory
 
+-- the refusals of a finish that settling can meet
 abbrev pub StopsFinish : FinishError → Type 0
 StopsFinish finish.NoTicket = ⊥
 StopsFinish finish.NotEvaluated = ⊥
@@ -68,6 +70,7 @@ StopsFinish finish.HistoryFull = Unit {0}
 StopsFinish finish.CellsFull = Unit {0}
 StopsFinish finish.NoMemory = Unit {0}
 
+-- what settling stops for at such a refusal
 abbrev pub finish_why : FinishError → SettleWhy
 finish_why finish.NoTicket = NoMemory
 finish_why finish.NotEvaluated = NoMemory

@@ -22,7 +22,8 @@ impl Desk {
     /// The block waits no more. The caller's number is below 128.
     pub fn cancel(&mut self, client: u32, ticket: u32) -> Result<(), CancelError>
         requires { client < max_clients }
-        ensures done { OnOk result (self.new ≡ with_event self.old (event client (AnyWhat.Cancelled ticket))) }
+        ensures done { OnOk result (self.new
+            ≡ with_event self.old (event client (AnyWhat.Cancelled ticket))) }
         ensures told { cancel_told result ≡ cancel_refusal self.old ticket }
         ensures err { OnErr result (self.new ≡ self.old) }
         ensures legal { IsLegal self.new.table self.new.history }

@@ -29,8 +29,11 @@ fn take_memory(history: &mut Vec<Event>, message: &Evaluated) -> Result<Verdict,
 impl Desk {
     /// Why the message can't be installed, an out-of-memory error aside.
     fn may_install(&self, message: &Evaluated) -> Result<(), DeliverError>
-        ensures told { TellsDeskDelivery (install_told result) self.now (message_ticket message.now) (message_block message.now) (message_reads message.now) }
-        ensures same { OnOk result (IsSomeAnd (find_waiter (message_ticket message.now) (now self.now).waiters) (λ w. w.block.tree ≡ (message_block message.now).tree)) }
+        ensures told { TellsDeskDelivery (install_told result) self.now (message_ticket message.now)
+            (message_block message.now) (message_reads message.now) }
+        ensures same { OnOk result
+            (IsSomeAnd (find_waiter (message_ticket message.now) (now self.now).waiters)
+            (λ w. w.block.tree ≡ (message_block message.now).tree)) }
     {
         self.machine.may_install(message, self.is_full())
     }
@@ -43,8 +46,11 @@ impl Desk {
         message: Evaluated,
     ) -> Result<(), (Evaluated, DeliverError)>
         requires { client < max_clients }
-        ensures done { OnOk result (self.new ≡ with_event self.old (event client (AnyWhat.Installed (message_ticket message) (message_verdict message)))) }
-        ensures told { TellsDeskDelivery (deliver_told result) self.old (message_ticket message) (message_block message) (message_reads message) }
+        ensures done { OnOk result (self.new
+            ≡ with_event self.old (event client
+            (AnyWhat.Installed (message_ticket message) (message_verdict message)))) }
+        ensures told { TellsDeskDelivery (deliver_told result) self.old (message_ticket message)
+            (message_block message) (message_reads message) }
         ensures back { IfErr result (λ e. e.0 ≡ message) }
         ensures err { IfErr result (λ e. self.new ≡ left_by e.1 (message_ticket message) self.old) }
         ensures legal { IsLegal self.new.table self.new.history }

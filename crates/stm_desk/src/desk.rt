@@ -30,7 +30,12 @@ impl Model for Desk {
 
     ghost coded = { Prim.hlevel (codes, act_code) };
 
-    ghost view = { λ d. record { table = d.table; limit = d.limit; history = d.history.items; pending = d.machine.pending } };
+    ghost view = { λ d. record {
+      table = d.table;
+      limit = d.limit;
+      history = d.history.items;
+      pending = d.machine.pending;
+    } };
 
     ghost invariant = { λ d. DeskInvariant d.table d.limit d.history.items d.machine };
 }

@@ -32,7 +32,8 @@ fn finished_event(
     ticket: u32,
     plan: &Plan,
 ) -> Result<Event, NoMemory>
-    ensures event { IfOk result (λ e. e ≡ event client (AnyWhat.Finished ticket plan.now.verdict plan.now.first_new plan.now.stale)) }
+    ensures event { IfOk result (λ e. e ≡ event client
+        (AnyWhat.Finished ticket plan.now.verdict plan.now.first_new plan.now.stale)) }
     ensures items { events.new.items ≡ events.old.items }
     ensures room { OnOk result (vec_len events.new < vec_capacity events.new) }
 {
@@ -55,7 +56,8 @@ impl Desk {
     /// Why the block can't be finished, or what its finish is to do.
     fn plan(&self, ticket: u32) -> Result<Plan, FinishError>
         ensures told { finish_told result ≡ finish_refusal self.now ticket }
-        ensures plan { IfOk result (λ p. IsPlan (now self.now) ticket p.verdict p.first_new p.stale) }
+        ensures plan { IfOk result (λ p.
+            IsPlan (now self.now) ticket p.verdict p.first_new p.stale) }
         ensures legal { IsLegal self.now.table self.now.history }
     {
         self.machine
@@ -73,9 +75,14 @@ impl Desk {
     ) -> Result<Applied, NoMemory>
         requires client { client < max_clients }
         requires allowed { finish_refusal self.old ticket ≡ None }
-        requires plan { IsPlan (now self.old) ticket plan.now.verdict plan.now.first_new plan.now.stale }
-        ensures done { OnOk result (self.new ≡ with_event self.old (event client (AnyWhat.Finished ticket plan.now.verdict plan.now.first_new plan.now.stale))) }
-        ensures noted { OnOk result (own.new.items ≡ own.old.items ++ event client (AnyWhat.Finished ticket plan.now.verdict plan.now.first_new plan.now.stale) ∷ []) }
+        requires plan { IsPlan (now self.old) ticket
+            plan.now.verdict plan.now.first_new plan.now.stale }
+        ensures done { OnOk result (self.new
+            ≡ with_event self.old (event client
+            (AnyWhat.Finished ticket plan.now.verdict plan.now.first_new plan.now.stale))) }
+        ensures noted { OnOk result (own.new.items
+            ≡ own.old.items ++ event client
+            (AnyWhat.Finished ticket plan.now.verdict plan.now.first_new plan.now.stale) ∷ []) }
         ensures applied { IfOk result (λ a. a ≡ told_of (now self.old).store plan.now.verdict) }
         ensures err { OnErr result ((self.new ≡ self.old) × (own.new.items ≡ own.old.items)) }
         ensures legal { IsLegal self.new.table self.new.history }
@@ -97,9 +104,14 @@ impl Desk {
         own: &mut Vec<Event>,
     ) -> Result<Finish, FinishError>
         requires { client < max_clients }
-        ensures done { IfOk result (λ f. self.new ≡ with_event self.old (event client (AnyWhat.Finished ticket f.verdict f.applied.first_new f.stale))) }
-        ensures noted { IfOk result (λ f. own.new.items ≡ own.old.items ++ event client (AnyWhat.Finished ticket f.verdict f.applied.first_new f.stale) ∷ []) }
-        ensures plan { IfOk result (λ f. IsPlan (now self.old) ticket f.verdict f.applied.first_new f.stale) }
+        ensures done { IfOk result (λ f. self.new
+            ≡ with_event self.old
+            (event client (AnyWhat.Finished ticket f.verdict f.applied.first_new f.stale))) }
+        ensures noted { IfOk result (λ f. own.new.items
+            ≡ own.old.items
+            ++ event client (AnyWhat.Finished ticket f.verdict f.applied.first_new f.stale) ∷ []) }
+        ensures plan { IfOk result (λ f.
+            IsPlan (now self.old) ticket f.verdict f.applied.first_new f.stale) }
         ensures applied { IfOk result (λ f. f.applied ≡ told_of (now self.old).store f.verdict) }
         ensures told { finish_told result ≡ finish_refusal self.old ticket }
         ensures err { OnErr result ((self.new ≡ self.old) × (own.new.items ≡ own.old.items)) }
@@ -125,8 +137,11 @@ impl Desk {
     /// The block takes effect and waits no more; the tickets that become stale are queued. The caller's number is below 128.
     pub fn finish(&mut self, client: u32, ticket: u32) -> Result<Finish, FinishError>
         requires { client < max_clients }
-        ensures done { IfOk result (λ f. self.new ≡ with_event self.old (event client (AnyWhat.Finished ticket f.verdict f.applied.first_new f.stale))) }
-        ensures plan { IfOk result (λ f. IsPlan (now self.old) ticket f.verdict f.applied.first_new f.stale) }
+        ensures done { IfOk result (λ f. self.new
+            ≡ with_event self.old
+            (event client (AnyWhat.Finished ticket f.verdict f.applied.first_new f.stale))) }
+        ensures plan { IfOk result (λ f.
+            IsPlan (now self.old) ticket f.verdict f.applied.first_new f.stale) }
         ensures applied { IfOk result (λ f. f.applied ≡ told_of (now self.old).store f.verdict) }
         ensures told { finish_told result ≡ finish_refusal self.old ticket }
         ensures err { OnErr result (self.new ≡ self.old) }

@@ -2,8 +2,9 @@
 //!
 //! A desk is a machine of `stm_history` with the table that it was opened on, how many events it takes, and the list of its
 //! events. Contracts see the table, the limit, the history and the tickets that are queued or out (`specs/Seen`); all else is
-//! what the slow desk makes of the history (`stm_history/specs/SlowDesk`). Each accepted call adds exactly its event. No call
-//! but settling evaluates a block.
+//! what the slow desk makes of the history (`stm_history/specs/SlowDesk`). `specs/Refusals` says what each call is refused for,
+//! and `specs/Settling` what settling does and why it stops. Each accepted call adds exactly its event. No call but settling
+//! evaluates a block.
 #![tactic(auto)]
 
 // The desk and its calls.

@@ -179,7 +179,8 @@ impl Desk {
     /// Whether a block waits under the ticket whose last delivery brought a verdict that doesn't block.
     fn ends(&self, ticket: u32) -> bool
         ensures then { result ≡ ended_then (find_waiter ticket (now self.now).waiters) }
-        ensures present { (w : Waiter) → find_waiter ticket (now self.now).waiters ≡ Some w → is_current w ≡ true → result ≡ can_end (now self.now).store w }
+        ensures present { (w : Waiter) → find_waiter ticket (now self.now).waiters ≡ Some w
+            → is_current w ≡ true → result ≡ can_end (now self.now).store w }
         ensures legal { IsLegal self.now.table self.now.history }
         ensures few { length self.now.history ≤ self.now.limit }
     {
@@ -213,7 +214,8 @@ impl Desk {
         ensures done { OnOk result (IsNextEvent client 1 0 self.old self.new) }
         ensures why { IfErr result (λ why. WhyTold why self.old) }
         ensures unchanged { OnErr result (self.new ≡ self.old) }
-        ensures candidates { (cs : List ℕ) → AreCandidates (now self.old) cs → AreCandidates (now self.new) cs }
+        ensures candidates { (cs : List ℕ) → AreCandidates (now self.old) cs
+            → AreCandidates (now self.new) cs }
         ensures legal { IsLegal self.new.table self.new.history }
     {
         match self.finish(client, ticket) {
@@ -226,10 +228,12 @@ impl Desk {
     /// to do or something can't be done. The caller's number is below 128. First each ticket that is out is queued.
     pub fn settle(&mut self, client: u32) -> Result<Settled, SettleStop>
         requires { client < max_clients }
-        ensures done { IfOk result (λ r. HasSettled client (called_back self.old) self.new r.finished r.evaluations None) }
+        ensures done { IfOk result (λ r.
+            HasSettled client (called_back self.old) self.new r.finished r.evaluations None) }
         ensures settled { OnOk result (IsSettled self.new) }
         ensures blocks { OnOk result (AllBlock (now self.new)) }
-        ensures stopped { IfErr result (λ e. StopTold e.why client (called_back self.old) self.new e.finished e.evaluations) }
+        ensures stopped { IfErr result (λ e.
+            StopTold e.why client (called_back self.old) self.new e.finished e.evaluations) }
         ensures none_out { some_out self.new.pending ≡ false }
         ensures legal { IsLegal self.new.table self.new.history }
     {

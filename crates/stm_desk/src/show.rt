@@ -19,7 +19,9 @@ impl Desk {
     /// How the block under a ticket stands; none where no block waits. A stale verdict is the one that the block had at its
     /// last delivery, and a current one is the one that running the block from scratch on the present store gives.
     pub fn status(&self, ticket: u32) -> Option<Status<'_>>
-        ensures { option_map shown result ≡ option_map (standing (now self.now).store) (find_waiter ticket (now self.now).waiters) }
+        ensures { option_map shown result
+            ≡ option_map (standing (now self.now).store)
+            (find_waiter ticket (now self.now).waiters) }
     {
         self.machine.status(ticket)
     }
@@ -27,8 +29,10 @@ impl Desk {
     /// What the block under a ticket read at its last delivery, rising; none where no block waits or it is new. Those of a
     /// current block have their values on the present store.
     pub fn reads(&self, ticket: u32) -> Option<&[(u32, Value)]>
-        ensures then { option_copied result ≡ read_then (find_waiter ticket (now self.now).waiters) }
-        ensures present { (w : Waiter) → find_waiter ticket (now self.now).waiters ≡ Some w → is_current w ≡ true → option_copied result ≡ Some (read_now (now self.now).store w) }
+        ensures then { option_copied result
+            ≡ read_then (find_waiter ticket (now self.now).waiters) }
+        ensures present { (w : Waiter) → find_waiter ticket (now self.now).waiters ≡ Some w
+            → is_current w ≡ true → option_copied result ≡ Some (read_now (now self.now).store w) }
     {
         self.machine.reads(ticket)
     }
@@ -43,7 +47,9 @@ impl Desk {
     /// The present store: that of running the finished blocks alone, one after another.
     pub fn store(&self) -> &Store
         ensures store { result.now ≡ (now self.now).store }
-        ensures serial { result.now ≡ serial (opened self.now.table) (finished_from (initial_state self.now.table) self.now.history) }
+        ensures serial { result.now
+            ≡ serial (opened self.now.table)
+            (finished_from (initial_state self.now.table) self.now.history) }
     {
         self.machine.store()
     }
@@ -62,6 +68,7 @@ impl Desk {
         ensures few { length self.now.history ≤ self.now.limit }
         ensures queue { DeskQueueIsRight self.now }
     {
+        // The queue is known to be right by this.
         let _queue = self.machine.waiting();
         self.history.as_slice()
     }
@@ -75,7 +82,8 @@ impl Desk {
 
     /// The least waiting ticket above this one.
     pub fn next_waiting(&self, after: u32) -> Option<u32>
-        ensures { result ≡ option_map (λ w. w.ticket) (lowest (λ w. nat_lt after w.ticket) (now self.now).waiters) }
+        ensures { result ≡ option_map (λ w. w.ticket)
+            (lowest (λ w. nat_lt after w.ticket) (now self.now).waiters) }
     {
         self.machine.next_waiting(after)
     }

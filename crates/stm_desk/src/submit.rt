@@ -23,7 +23,8 @@ impl Desk {
     /// The block waits from now on, under the ticket that is answered, and is queued. The caller's number is below 128.
     pub fn submit(&mut self, client: u32, block: SharedBlock) -> Result<u32, SubmitError>
         requires { client < max_clients }
-        ensures done { IfOk result (λ t. self.new ≡ with_event self.old (event client (AnyWhat.Submitted t block))) }
+        ensures done { IfOk result (λ t. self.new
+            ≡ with_event self.old (event client (AnyWhat.Submitted t block))) }
         ensures ticket { IfOk result (λ t. t ≡ (now self.old).next) }
         ensures told { submit_told result ≡ submit_refusal self.old block }
         ensures err { OnErr result (self.new ≡ self.old) }

@@ -15,12 +15,14 @@ impl Desk {
     /// The jobs of the n lowest queued tickets, or of all of them, which are out from then on, and an unchanging copy of the
     /// present store, which has their variables.
     pub fn take(&mut self, n: usize) -> Result<(Frozen, Vec<Job>), NoMemory>
-        ensures tickets { IfOk result (λ r. map (λ j. j.ticket) r.1.items ≡ take n (queued self.old.pending)) }
+        ensures tickets { IfOk result (λ r. map (λ j. j.ticket) r.1.items
+            ≡ take n (queued self.old.pending)) }
         ensures blocks { IfOk result (λ r. AreJobs (now self.old) r.1.items) }
         ensures store { IfOk result (λ r. r.0 ≡ plains (now self.old).store) }
         ensures covered { IfOk result (λ r. AreCovered r.0 r.1.items) }
         ensures few { IfOk result (λ r. vec_len r.1 ≤ n) }
-        ensures out { IfOk result (λ r. self.new ≡ record self.old { pending = sent (length r.1.items) self.old.pending }) }
+        ensures out { IfOk result (λ r. self.new
+            ≡ record self.old { pending = sent (length r.1.items) self.old.pending }) }
         ensures err { OnErr result (self.new ≡ self.old) }
     {
         self.machine.take(n)
@@ -29,7 +31,8 @@ impl Desk {
     /// A ticket that is out is queued again, and the answer is whether it was out.
     pub fn hand_back(&mut self, ticket: u32) -> bool
         ensures was { result ≡ is_out ticket self.old.pending }
-        ensures queued { self.new ≡ record self.old { pending = marked ticket false self.old.pending } }
+        ensures queued { self.new
+            ≡ record self.old { pending = marked ticket false self.old.pending } }
     {
         self.machine.hand_back(ticket)
     }

@@ -9,6 +9,7 @@ use Rattle.stm_history.specs.SlowDesk as slow
 use Rattle.stm_history.specs.declared.status.Status.{Status}
 use Rattle.stm_history.specs.declared.status.Status.TheVariants.{New, Stale, Current}
 
+-- how a block stands, as the machine's status tells it
 abbrev pub shown : Status → Standing
 shown New = slow.New
 shown (Stale v) = slow.Stale (Some v.now)
@@ -19,6 +20,7 @@ abbrev pub read_since_then : Block → Option Since → Option (List (ℕ × Val
 read_since_then block None = None
 read_since_then block (Some s) = Some (reads_of (under s.store_then) block.tree)
 
+-- the same of a waiting block, if there is one
 abbrev pub read_then : Option Waiter → Option (List (ℕ × Value))
 read_then None = None
 read_then (Some w) = read_since_then w.block w.since

@@ -22,15 +22,19 @@ pub data CheckerState : Type 0 where
   at_variables : ℕ → ℕ → List Declared → CheckerState
   at_events : ℕ → List Declared → List Event → CheckerState
 
+-- the progress with these variables: more of their lines are to come, or else the lines of the events
 abbrev pub with_table : ℕ → ℕ → List Declared → CheckerState
 with_table format n table = if nat_lt (length table) n then at_variables format n table else at_events format table []
 
 -- the line leads on to this progress
 abbrev pub LeadsTo : CheckerState → List ℕ → CheckerState → Type 0
-LeadsTo at_header line q = (format : ℕ) × (n : ℕ) × IsFormat format × (header_line format n ≡ line) × (n ≤ max_cells) × (q ≡ with_table format n [])
-LeadsTo (at_variables format n table) line q = (d : Declared) × (variable_line d ≡ line) × MayDeclare table d × (q ≡ with_table format n (table ++ d ∷ []))
+LeadsTo at_header line q =
+    (format : ℕ) × (n : ℕ) × IsFormat format × (header_line format n ≡ line) × (n ≤ max_cells) × (q ≡ with_table format n [])
+LeadsTo (at_variables format n table) line q =
+    (d : Declared) × (variable_line d ≡ line) × MayDeclare table d × (q ≡ with_table format n (table ++ d ∷ []))
 LeadsTo (at_events format table history) line q =
-    (e : Event) × (event_line e ≡ line) × FitsTable table e × FitsFormat format e × IsLegalBy (rule_of format) table (history ++ e ∷ []) × (q ≡ at_events format table (history ++ e ∷ []))
+    (e : Event) × (event_line e ≡ line) × FitsTable table e × FitsFormat format e
+    × IsLegalBy (rule_of format) table (history ++ e ∷ []) × (q ≡ at_events format table (history ++ e ∷ []))
 
 -- the line is none that may stand here, whatever the machine allows
 abbrev pub IsStrange : CheckerState → List ℕ → Type 0
@@ -49,7 +53,8 @@ abbrev pub Forbids : CheckerState → List ℕ → HistoryFault → Type 0
 Forbids at_header line f = ⊥
 Forbids (at_variables format n table) line f = ⊥
 Forbids (at_events format table history) line f =
-    (e : Event) × (event_line e ≡ line) × FitsTable table e × FitsFormat format e × IsIllegalBy (rule_of format) table history e × (f ≡ NotLegal (next_line table history))
+    (e : Event) × (event_line e ≡ line) × FitsTable table e × FitsFormat format e × IsIllegalBy (rule_of format) table history e
+    × (f ≡ NotLegal (next_line table history))
 
 -- why a line may be refused
 abbrev pub MayRefuse : CheckerState → List ℕ → HistoryFault → Type 0
@@ -58,14 +63,19 @@ MayRefuse p line f = (f ≡ NoMemory) ⊎ (((f ≡ strange p) × IsStrange p lin
 -- the text is whole lines that led to this progress
 abbrev pub LinesUpTo : CheckerState → List ℕ → Type 0
 LinesUpTo at_header text = text ≡ []
-LinesUpTo (at_variables format n table) text = IsFormat format × (text ≡ head_text format n table) × AreVariables table × (length table < n) × (n ≤ max_cells)
+LinesUpTo (at_variables format n table) text =
+    IsFormat format × (text ≡ head_text format n table) × AreVariables table × (length table < n) × (n ≤ max_cells)
 LinesUpTo (at_events format table history) text =
-    IsFormat format × (text ≡ history_text format table history) × AreVariables table × (length table ≤ max_cells) × AreEvents format table history × IsLegalBy (rule_of format) table history
+    IsFormat format × (text ≡ history_text format table history) × AreVariables table × (length table ≤ max_cells)
+    × AreEvents format table history × IsLegalBy (rule_of format) table history
 
 -- no line that may stand here comes next
 abbrev pub NoNext : CheckerState → List ℕ → Type 0
-NoNext at_header rest = (format n : ℕ) → IsFormat format → n ≤ max_cells → IsShort (header_line format n) → (more : List ℕ) → rest ≢ header_line format n ++ 10 ∷ more
-NoNext (at_variables format n table) rest = (d : Declared) → MayDeclare table d → IsShort (variable_line d) → (more : List ℕ) → rest ≢ variable_line d ++ 10 ∷ more
+NoNext at_header rest =
+    (format n : ℕ) → IsFormat format → n ≤ max_cells → IsShort (header_line format n) → (more : List ℕ)
+    → rest ≢ header_line format n ++ 10 ∷ more
+NoNext (at_variables format n table) rest =
+    (d : Declared) → MayDeclare table d → IsShort (variable_line d) → (more : List ℕ) → rest ≢ variable_line d ++ 10 ∷ more
 NoNext (at_events format table history) rest = NoEventNext format table rest
 
 -- what was taken is whole lines up to this progress, and then a line that has begun

@@ -22,6 +22,7 @@ lose t (e ∷ es) = if nat_eq t e.0 then es else e ∷ lose t es
 abbrev pub kept : Held → Waiting → Waiting
 kept held w = record { block = w.block; held = Some held }
 
+-- all that is kept, with what a delivery to a ticket brought
 abbrev pub with_held : ℕ → Held → List (ℕ × Waiting) → List (ℕ × Waiting)
 with_held t held [] = []
 with_held t held (e ∷ es) = if nat_eq t e.0 then (e.0, kept held e.1) ∷ es else e ∷ with_held t held es
@@ -43,6 +44,7 @@ IsHeld block None (Some s) = ⊥
 IsHeld block (Some h) None = ⊥
 IsHeld block (Some h) (Some s) = Holds block.tree (under s.store_then) h.reads h.verdict
 
+-- what is kept is of this waiting block: its ticket, the block, and what its last delivery brought
 pub record IsDue (e : ℕ × Waiting) (w : Waiter) : Type 0 where
   pub ticket : e.0 ≡ w.ticket
   pub block : e.1.block ≡ w.block

@@ -13,8 +13,10 @@ use Rattle.stm_history.specs.SlowDesk.{IsLegalBy}
 
 -- different events have different lines, without a line feed
 abbrev pub EachLineIsOneEvent : Type 0
-EachLineIsOneEvent = (table : List Declared) (d e : Event) → FitsTable table d → FitsTable table e → event_line d ≡ event_line e → d ≡ e
+EachLineIsOneEvent =
+    (table : List Declared) (d e : Event) → FitsTable table d → FitsTable table e → event_line d ≡ event_line e → d ≡ e
 
+-- the line of an event is ASCII, without a line feed
 abbrev pub EventsAreLines : Type 0
 EventsAreLines = (table : List Declared) (e : Event) → FitsTable table e → IsOneLine (event_line e)
 
@@ -28,7 +30,8 @@ abbrev pub TextsAreOfOneHistory : Type 0
 TextsAreOfOneHistory =
     (format format' : ℕ) (table table' : List Declared) (history history' : List Event) → IsFormat format → IsFormat format'
     → AreVariables table → AreVariables table' → AreEvents format table history → AreEvents format' table' history'
-    → history_text format table history ≡ history_text format' table' history' → (format ≡ format') × (table ≡ table') × (history ≡ history')
+    → history_text format table history ≡ history_text format' table' history'
+    → (format ≡ format') × (table ≡ table') × (history ≡ history')
 
 -- no fault can be told of the text of a legal history
 abbrev pub HistoriesAreTaken : Type 0
@@ -36,9 +39,12 @@ HistoriesAreTaken =
     (bytes : List ℕ) (n : Legal) (k : ℕ) → IsHistory bytes n
     → (TellsFault BadHeader bytes → ⊥) × (TellsFault (BadLine k) bytes → ⊥) × (TellsFault (NotLegal k) bytes → ⊥)
 
--- The text of a history in a format that is read, legal by the rule of the format, is one of its numbers. The table is one that declarations make, and its
--- values are in the range of the program's types; each event fits the table and the format, and its line is short.
+-- The text of a history in a format that is read, legal by the rule of the format, is one of its numbers. The table is one that
+-- declarations make, and its values are in the range of the program's types; each event fits the table and the format, and its
+-- line is short.
 abbrev pub WhatIsWrittenIsTaken : Type 0
 WhatIsWrittenIsTaken =
-    (format : ℕ) (table : List Declared) (history : List Event) → IsFormat format → AreDeclared table → AreInRange table → AreEvents format table history
-    → IsLegalBy (rule_of format) table history → IsHistory (history_text format table history) (numbers_by (rule_of format) table history)
+    (format : ℕ) (table : List Declared) (history : List Event) → IsFormat format → AreDeclared table → AreInRange table
+    → AreEvents format table history
+    → IsLegalBy (rule_of format) table history
+    → IsHistory (history_text format table history) (numbers_by (rule_of format) table history)

@@ -9,6 +9,7 @@ use Rattle.stm_terms.specs.declared.values.Fault.TheVariants.{Thrown, Overflow}
 use Rattle.stm_terms.specs.declared.verdicts.Verdict.{Verdict}
 use Rattle.stm_terms.specs.declared.verdicts.Verdict.TheVariants.{Commits, Throws, Blocks}
 use Rattle.stm_terms.specs.Ast.{has_catch}
+use Rattle.stm_terms.specs.Limits.{most_refs}
 use Rattle.stm_terms.specs.Names.{is_name_text}
 use Rattle.stm_store.specs.Tables.{Declared}
 use Rattle.stm_history.specs.declared.event.Event.{Event}
@@ -17,13 +18,16 @@ use Rattle.stm_history.specs.declared.event.What.TheVariants.{Submitted, Install
 use Rattle.stm_history.specs.SlowDesk.{max_clients}
 use Rattle.stm_check.specs.WholeBlocks.{checked_block}
 
+-- the number has at most 32 bits
 abbrev pub Is32Bit : ℕ → Type 0
 Is32Bit n = n < 2 ^ 32
 
+-- the integer has at most 64 bits, with its sign
 abbrev pub FitsInt : ℤ → Type 0
 FitsInt (pos n) = n < 2 ^ 63
 FitsInt (negsuc n) = n < 2 ^ 63
 
+-- the integer, or the number of the reference, is in range
 abbrev pub FitsValue : Value → Type 0
 FitsValue (value.Int n) = FitsInt n
 FitsValue (value.Bool b) = ⊤
@@ -31,30 +35,36 @@ FitsValue value.Unit = ⊤
 FitsValue (value.Var (Old i)) = Is32Bit i
 FitsValue (value.Var (New k)) = Is32Bit k
 
+-- the variables and the values of these writes are in range
 abbrev pub FitWrites : List (ℕ × Value) → Type 0
 FitWrites [] = ⊤
 FitWrites (w ∷ ws) = Is32Bit w.0 × FitsValue w.1 × FitWrites ws
 
+-- variables may have the types of these new ones, and their values are in range
 abbrev pub FitNews : List (Ty × Value) → Type 0
 FitNews [] = ⊤
-FitNews (n ∷ ns) = (n.0.refs ≤ 8) × FitsValue n.1 × FitNews ns
+FitNews (n ∷ ns) = (n.0.refs ≤ most_refs) × FitsValue n.1 × FitNews ns
 
+-- each of these numbers has at most 32 bits
 abbrev pub FitNumbers : List ℕ → Type 0
 FitNumbers [] = ⊤
 FitNumbers (n ∷ ns) = Is32Bit n × FitNumbers ns
 
+-- all numbers and values of the verdict are in range
 abbrev pub FitsVerdict : Verdict → Type 0
 FitsVerdict (Commits writes news result) = FitWrites writes × FitNews news × FitsValue result
 FitsVerdict (Throws (Thrown n)) = FitsInt n
 FitsVerdict (Throws Overflow) = ⊤
 FitsVerdict Blocks = ⊤
 
+-- what happens has its numbers in range, and a block that is submitted is what its text checks to over the table
 abbrev pub WhatFitsTable : List Declared → What → Type 0
 WhatFitsTable table (Submitted ticket block) = Is32Bit ticket × (checked_block table block.text ≡ Ok block)
 WhatFitsTable table (Installed ticket v) = Is32Bit ticket × FitsVerdict v
 WhatFitsTable table (Finished ticket v first_new stale) = Is32Bit ticket × FitsVerdict v × Is32Bit first_new × FitNumbers stale
 WhatFitsTable table (Cancelled ticket) = Is32Bit ticket
 
+-- the event can stand in a line over the table, of a client that there may be
 abbrev pub FitsTable : List Declared → Event → Type 0
 FitsTable table e = (e.client < max_clients) × WhatFitsTable table e.what
 
@@ -65,12 +75,13 @@ WhatFitsFormat format (Installed ticket v) = ⊤
 WhatFitsFormat format (Finished ticket v first_new stale) = ⊤
 WhatFitsFormat format (Cancelled ticket) = ⊤
 
+-- the event may stand in a history of the format
 abbrev pub FitsFormat : ℕ → Event → Type 0
 FitsFormat format e = WhatFitsFormat format e.what
 
 -- a variable by itself, whatever stands before it
 abbrev pub FitsVariable : Declared → Type 0
-FitsVariable d = IsTrue (is_name_text d.name) × (d.kind.refs ≤ 8) × FitsValue d.value
+FitsVariable d = IsTrue (is_name_text d.name) × (d.kind.refs ≤ most_refs) × FitsValue d.value
 
 -- the first values are in range
 abbrev pub AreInRange : List Declared → Type 0

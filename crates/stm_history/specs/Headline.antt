@@ -52,23 +52,31 @@ state_then_by rule table history t d = after_by rule (state_by rule table d.befo
 -- reads of discarded branches included; and where it isn't marked so, running the block from scratch on the present store
 -- gives that verdict. Under the present rule `waking_from` are the variables that the verdicts of these blocks change, by
 -- `changed_by`, each on the store on which it took effect.
-pub record IsMarkedRightlyBy (rule : StalenessRule) (table : List Declared) (history : List Event) (t : ℕ) (w : Waiter) (d : LastDelivery history t) : Type 0 where
+pub record IsMarkedRightlyBy
+    (rule : StalenessRule) (table : List Declared) (history : List Event) (t : ℕ) (w : Waiter) (d : LastDelivery history t)
+    : Type 0 where
   pub evaluated : verdict_on (state_by rule table d.before).store w.block ≡ Some d.verdict
-  pub marked : not (is_current w) ≡ intersects (waking_from rule (state_then_by rule table history t d) d.later) (looked_on (state_by rule table d.before).store w.block)
+  pub marked : not (is_current w)
+      ≡ intersects (waking_from rule (state_then_by rule table history t d) d.later)
+      (looked_on (state_by rule table d.before).store w.block)
   pub present : is_current w ≡ true → verdict_on (state_by rule table history).store w.block ≡ Some d.verdict
 
 -- a waiting block is new, and nothing was delivered to it, or its last delivery is marked rightly
 pub data IsKnownBy (rule : StalenessRule) (table : List Declared) (history : List Event) (t : ℕ) (w : Waiter) : Type 0 where
   Fresh : is_new w ≡ true → is_installed t history ≡ false → IsKnownBy rule table history t w
-  Evaluated : is_new w ≡ false → (d : LastDelivery history t) → IsMarkedRightlyBy rule table history t w d → IsKnownBy rule table history t w
+  Evaluated : is_new w ≡ false → (d : LastDelivery history t) → IsMarkedRightlyBy rule table history t w d
+      → IsKnownBy rule table history t w
 
 -- of every waiting block that, and the store is that of running the finished blocks alone, one after another
 pub record HeadlineHoldsBy (rule : StalenessRule) (table : List Declared) (history : List Event) : Type 0 where
-  pub blocks : (t : ℕ) (w : Waiter) → find_waiter t (state_by rule table history).waiters ≡ Some w → IsKnownBy rule table history t w
+  pub blocks : (t : ℕ) (w : Waiter) → find_waiter t (state_by rule table history).waiters ≡ Some w
+      → IsKnownBy rule table history t w
   pub store : (state_by rule table history).store ≡ serial (opened table) (finished_from_by rule (initial_state table) history)
 
+-- so it is after every legal history, by a rule of what makes blocks stale
 abbrev pub HeadlineBy : StalenessRule → Type 0
-HeadlineBy rule = (table : List Declared) (history : List Event) → IsLegalBy rule table history → HeadlineHoldsBy rule table history
+HeadlineBy rule =
+    (table : List Declared) (history : List Event) → IsLegalBy rule table history → HeadlineHoldsBy rule table history
 
 -- under the present rule, by which a variable makes its readers stale where its value is changed
 abbrev pub Headline : Type 0

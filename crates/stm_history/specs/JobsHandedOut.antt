@@ -32,6 +32,7 @@ AreJobs s (j ∷ js) = (block_at s j.ticket ≡ Some j.block) × AreJobs s js
 abbrev pub IsKeptJob : List (ℕ × Waiting) → Job → Type 0
 IsKeptJob es j = option_map (λ w. w.block) (kept_at j.ticket es) ≡ Some j.block
 
+-- and so is each of these jobs
 abbrev pub AreKept : List (ℕ × Waiting) → List Job → Type 0
 AreKept es [] = Unit {0}
 AreKept es (j ∷ js) = IsKeptJob es j × AreKept es js

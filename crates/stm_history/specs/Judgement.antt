@@ -16,6 +16,7 @@ use Rattle.stm_history.specs.SlowDesk.{state_by, IsLegal, IsLegalBy, max_cells}
 abbrev pub max_line : ℕ
 max_line = 1048576
 
+-- the line is no longer than one may be
 abbrev pub IsShort : List ℕ → Type 0
 IsShort line = length line ≤ max_line
 
@@ -29,6 +30,7 @@ abbrev pub AreVariablesFrom : List Declared → List Declared → Type 0
 AreVariablesFrom before [] = ⊤
 AreVariablesFrom before (d ∷ ds) = MayDeclare before d × AreVariablesFrom (before ++ d ∷ []) ds
 
+-- the variables may be declared in this order, from an empty table on
 abbrev pub AreVariables : List Declared → Type 0
 AreVariables table = AreVariablesFrom [] table
 
@@ -38,7 +40,8 @@ AreEvents format table [] = ⊤
 AreEvents format table (e ∷ es) = FitsTable table e × FitsFormat format e × IsShort (event_line e) × AreEvents format table es
 
 -- the bytes are the text of a history in the format, legal by the rule of the format, and then the rest
-pub record BeginsWithHistory (format : ℕ) (bytes : List ℕ) (table : List Declared) (history : List Event) (rest : List ℕ) : Type 0 where
+pub record BeginsWithHistory
+    (format : ℕ) (bytes : List ℕ) (table : List Declared) (history : List Event) (rest : List ℕ) : Type 0 where
   pub text : bytes ≡ history_text format table history ++ rest
   pub few : length table ≤ max_cells
   pub variables : AreVariables table
@@ -51,24 +54,34 @@ next_line table history = length table + length history + 2
 
 -- how many events there are, how many blocks wait after them, and how many variables the store has
 abbrev pub numbers_by : StalenessRule → List Declared → List Event → Legal
-numbers_by rule table history = record { events = length history; waiting = length (state_by rule table history).waiters; cells = length (state_by rule table history).store }
+numbers_by rule table history =
+    record {
+      events = length history;
+      waiting = length (state_by rule table history).waiters;
+      cells = length (state_by rule table history).store;
+    }
 
+-- the same under the present rule
 abbrev pub numbers : List Declared → List Event → Legal
 numbers = numbers_by Changed
 
 -- the bytes are the text of a legal history with these numbers, in a format that is read
 abbrev pub IsHistory : List ℕ → Legal → Type 0
 IsHistory bytes n =
-    (format : ℕ) × IsFormat format × (table : List Declared) × (history : List Event) × BeginsWithHistory format bytes table history [] × (n ≡ numbers_by (rule_of format) table history)
+    (format : ℕ) × IsFormat format × (table : List Declared) × (history : List Event)
+    × BeginsWithHistory format bytes table history [] × (n ≡ numbers_by (rule_of format) table history)
 
 -- no line of an event comes next: a line of no event that the format has, a line too long, or the end in mid-line
 abbrev pub NoEventNext : ℕ → List Declared → List ℕ → Type 0
-NoEventNext format table rest = (e : Event) → FitsTable table e → FitsFormat format e → IsShort (event_line e) → (more : List ℕ) → rest ≢ event_line e ++ 10 ∷ more
+NoEventNext format table rest =
+    (e : Event) → FitsTable table e → FitsFormat format e → IsShort (event_line e) → (more : List ℕ)
+    → rest ≢ event_line e ++ 10 ∷ more
 
 -- the event can't follow
 abbrev pub IsIllegalBy : StalenessRule → List Declared → List Event → Event → Type 0
 IsIllegalBy rule table history e = IsLegalBy rule table (history ++ e ∷ []) → ⊥
 
+-- the same under the present rule
 abbrev pub IsIllegal : List Declared → List Event → Event → Type 0
 IsIllegal = IsIllegalBy Changed
 
@@ -78,13 +91,16 @@ abbrev pub TellsFault : HistoryFault → List ℕ → Type 0
 TellsFault ReadFault bytes = ⊤
 TellsFault NoMemory bytes = ⊤
 TellsFault BadHeader bytes =
-    (format : ℕ) → IsFormat format → (table : List Declared) → length table ≤ max_cells → AreVariables table → (more : List ℕ) → bytes ≢ head_text format (length table) table ++ more
+    (format : ℕ) → IsFormat format → (table : List Declared) → length table ≤ max_cells → AreVariables table → (more : List ℕ)
+    → bytes ≢ head_text format (length table) table ++ more
 TellsFault (BadLine n) bytes =
-    (format : ℕ) × IsFormat format × (table : List Declared) × (history : List Event) × (rest : List ℕ) × BeginsWithHistory format bytes table history rest × (n ≡ next_line table history)
+    (format : ℕ) × IsFormat format × (table : List Declared) × (history : List Event) × (rest : List ℕ)
+    × BeginsWithHistory format bytes table history rest × (n ≡ next_line table history)
     × (0 < length rest) × NoEventNext format table rest
 TellsFault (NotLegal n) bytes =
     (format : ℕ) × IsFormat format × (table : List Declared) × (history : List Event) × (e : Event) × (more : List ℕ)
-    × BeginsWithHistory format bytes table history (event_line e ++ 10 ∷ more) × (n ≡ next_line table history) × FitsTable table e × FitsFormat format e × IsIllegalBy (rule_of format) table history e
+    × BeginsWithHistory format bytes table history (event_line e ++ 10 ∷ more) × (n ≡ next_line table history) × FitsTable table e
+    × FitsFormat format e × IsIllegalBy (rule_of format) table history e
 
 -- what replaying tells of a list that isn't legal: the first event, counted from 1, that can't follow those before it
 abbrev pub Refuses : HistoryFault → List Declared → List Event → Type 0
@@ -93,4 +109,5 @@ Refuses BadHeader table history = ⊥
 Refuses (BadLine n) table history = ⊥
 Refuses NoMemory table history = ⊤
 Refuses (NotLegal n) table history =
-    (front : List Event) × (e : Event) × (more : List Event) × (history ≡ front ++ e ∷ more) × IsLegal table front × IsIllegal table front e × (n ≡ length front + 1)
+    (front : List Event) × (e : Event) × (more : List Event) × (history ≡ front ++ e ∷ more) × IsLegal table front
+    × IsIllegal table front e × (n ≡ length front + 1)

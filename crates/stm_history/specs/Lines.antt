@@ -31,9 +31,11 @@ IsFormat format = (1 ≤ format) × (format ≤ latest_format)
 abbrev pub rule_of : ℕ → StalenessRule
 rule_of format = if nat_le 3 format then Changed else Written
 
+-- a natural number, in JSON
 abbrev pub number_data : ℕ → Data
 number_data n = number (unsigned n)
 
+-- a value, in JSON: a reference has its variable's number under the key `old` or `new`
 abbrev pub value_data : Value → Data
 value_data (value.Int n) = number (of_integer n)
 value_data (value.Bool b) = boolean b
@@ -41,12 +43,15 @@ value_data value.Unit = null
 value_data (value.Var (Old i)) = object (member (codes "old") (number_data i) no_members)
 value_data (value.Var (New k)) = object (member (codes "new") (number_data k) no_members)
 
+-- a write, in JSON: a pair of the variable's number and its new value
 abbrev pub write_data : ℕ × Value → Data
 write_data w = array (item (number_data w.0) (item (value_data w.1) no_items))
 
+-- a new variable, in JSON: a pair of its type's text and its first value
 abbrev pub new_data : Ty × Value → Data
 new_data n = array (item (string (type_text n.0)) (item (value_data n.1) no_items))
 
+-- a verdict, in JSON
 abbrev pub verdict_data : Verdict → Data
 verdict_data (Commits writes news result) =
     object (member (codes "commits") (object
@@ -81,12 +86,15 @@ what_data client (Cancelled ticket) =
     (member (codes "event") (string (codes "cancelled"))
     (member (codes "ticket") (number_data ticket) no_members)))
 
+-- the same of a whole event
 abbrev pub event_data : Event → Data
 event_data e = what_data e.client e.what
 
+-- the first line, in JSON: the format, and how many variables' lines follow
 abbrev pub header_data : ℕ → ℕ → Data
 header_data format n = object (member (codes "format") (number_data format) (member (codes "vars") (number_data n) no_members))
 
+-- a declared variable, in JSON: its first value, its name and its type's text
 abbrev pub variable_data : Declared → Data
 variable_data d =
     object (member (codes "init") (value_data d.value)

@@ -31,45 +31,58 @@ pub record StandsForBy (rule : StalenessRule) (table : List Declared) (history :
   pub legal : IsLegalBy rule table history
   pub stands : Stands (state_by rule table history) m.store m.next m.entries m.pending m.watch
 
+-- the same under the present rule
 abbrev pub StandsFor : List Declared → List Event → Parts → Type 0
 StandsFor = StandsForBy Changed
 
+-- what happens, as an event of this client
 abbrev pub event : ℕ → What → Event
 event client what = record { client = client; what = what }
 
 -- the parts are what the history leads to with this event more, whichever client's it is
 abbrev pub MovesToBy : StalenessRule → List Declared → List Event → What → Parts → Type 0
-MovesToBy rule table history what m = (client : ℕ) → client < max_clients → StandsForBy rule table (history ++ event client what ∷ []) m
+MovesToBy rule table history what m =
+    (client : ℕ) → client < max_clients → StandsForBy rule table (history ++ event client what ∷ []) m
 
+-- the same under the present rule
 abbrev pub MovesTo : List Declared → List Event → What → Parts → Type 0
 MovesTo = MovesToBy Changed
 
 -- the block may be submitted next
-pub record CanWaitBy (rule : StalenessRule) (table : List Declared) (history : List Event) (m : Parts) (block : Block) : Type 0 where
+pub record CanWaitBy
+    (rule : StalenessRule) (table : List Declared) (history : List Event) (m : Parts) (block : Block) : Type 0 where
   pub stands : StandsForBy rule table history m
   pub room : length history < max_events
   pub allowed : submit_refused (state_by rule table history) false block ≡ None
 
+-- the same under the present rule
 abbrev pub CanWait : List Declared → List Event → Parts → Block → Type 0
 CanWait = CanWaitBy Changed
 
 -- the message may be installed next: it is of the block that waits, and nothing refuses it
-pub record CanInstallBy (rule : StalenessRule) (table : List Declared) (history : List Event) (m : Parts) (message : Evaluated) : Type 0 where
+pub record CanInstallBy
+    (rule : StalenessRule) (table : List Declared) (history : List Event) (m : Parts) (message : Evaluated) : Type 0 where
   pub stands : StandsForBy rule table history m
   pub room : length history < max_events
-  pub allowed : TellsDelivery None (state_by rule table history) false (message_ticket message) (message_block message) (message_reads message)
-  pub same : IsSomeAnd (find_waiter (message_ticket message) (state_by rule table history).waiters) (λ w. w.block.tree ≡ (message_block message).tree)
+  pub allowed : TellsDelivery None (state_by rule table history) false (message_ticket message) (message_block message)
+      (message_reads message)
+  pub same : IsSomeAnd (find_waiter (message_ticket message) (state_by rule table history).waiters)
+      (λ w. w.block.tree ≡ (message_block message).tree)
 
+-- the same under the present rule
 abbrev pub CanInstall : List Declared → List Event → Parts → Evaluated → Type 0
 CanInstall = CanInstallBy Changed
 
 -- the block under the ticket may finish next, by this plan
-pub record CanFinishBy (rule : StalenessRule) (table : List Declared) (history : List Event) (m : Parts) (t : ℕ) (verdict : Verdict) (first_new : ℕ) (stale : List ℕ) : Type 0 where
+pub record CanFinishBy
+    (rule : StalenessRule) (table : List Declared) (history : List Event) (m : Parts)
+    (t : ℕ) (verdict : Verdict) (first_new : ℕ) (stale : List ℕ) : Type 0 where
   pub stands : StandsForBy rule table history m
   pub room : length history < max_events
   pub allowed : finish_refused (state_by rule table history) false t ≡ None
   pub plan : IsPlanBy rule (state_by rule table history) t verdict first_new stale
 
+-- the same under the present rule
 abbrev pub CanFinish : List Declared → List Event → Parts → ℕ → Verdict → ℕ → List ℕ → Type 0
 CanFinish = CanFinishBy Changed
 
@@ -79,5 +92,6 @@ pub record CanLeaveBy (rule : StalenessRule) (table : List Declared) (history : 
   pub room : length history < max_events
   pub allowed : cancel_refused (state_by rule table history) false t ≡ None
 
+-- the same under the present rule
 abbrev pub CanLeave : List Declared → List Event → Parts → ℕ → Type 0
 CanLeave = CanLeaveBy Changed

@@ -13,7 +13,8 @@ abbrev pub AreWatched : Pairs → List Waiter → Type 0
 AreWatched watch ws = (v t : ℕ) → has_pair watch v t ≡ watches_of (find_waiter t ws) v
 
 -- what is held is what the slow desk has
-pub record Stands (s : Slow) (store : List Cell) (next : ℕ) (entries : List (ℕ × Waiting)) (pending : List Entry) (watch : Pairs) : Type 0 where
+pub record Stands (s : Slow) (store : List Cell) (next : ℕ) (entries : List (ℕ × Waiting))
+    (pending : List Entry) (watch : Pairs) : Type 0 where
   pub store_is : store ≡ s.store
   pub next_is : next ≡ s.next
   pub entries_are : AreDue entries s.waiters

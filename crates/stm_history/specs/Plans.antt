@@ -14,5 +14,6 @@ pub record IsPlanBy (rule : StalenessRule) (s : Slow) (t : ℕ) (verdict : Verdi
   pub may : MayFinishBy rule s t one verdict first_new stale
   pub fits : Fits (plains s.store) verdict
 
+-- the same under the present rule
 abbrev pub IsPlan : Slow → ℕ → Verdict → ℕ → List ℕ → Type 0
 IsPlan = IsPlanBy Changed

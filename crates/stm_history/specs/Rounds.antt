@@ -7,6 +7,7 @@ use Rattle.stm_history.specs.SlowDesk.{Slow, Waiter, verdict_on, with_delivery}
 use Rattle.stm_history.specs.SlowSettle.{lowest, is_due, can_end, installing, next_of, settle_on, settling}
 use Rattle.stm_history.specs.Laws.{AreRising}
 
+-- what happens, if anything does
 abbrev pub if_some : Option What → List What
 if_some None = []
 if_some (Some x) = x ∷ []
@@ -14,8 +15,11 @@ if_some (Some x) = x ∷ []
 -- the installations of a round, in the order of the tickets
 abbrev pub round_installs : List Cell → List Waiter → List What
 round_installs store [] = []
-round_installs store (w ∷ ws) = if is_due w then if_some (installing w.ticket (verdict_on store w.block)) ++ round_installs store ws else round_installs store ws
+round_installs store (w ∷ ws) =
+    if is_due w then if_some (installing w.ticket (verdict_on store w.block)) ++ round_installs store ws
+    else round_installs store ws
 
+-- a waiting block after the installations of a round
 abbrev pub delivered_if_due : List Cell → Waiter → Waiter
 delivered_if_due store w = if is_due w then with_delivery store w else w
 
@@ -30,7 +34,9 @@ from_finish (suc room) s = settle_on (settling room) s (next_of s None (lowest (
 
 -- a round, where the history has room for so many events, and what is done after it
 abbrev pub a_round : ℕ → Slow → List What
-a_round room s = take room (round_installs s.store s.waiters) ++ from_finish (room - length (round_installs s.store s.waiters)) (after_installs s)
+a_round room s =
+    take room (round_installs s.store s.waiters)
+    ++ from_finish (room - length (round_installs s.store s.waiters)) (after_installs s)
 
 -- each block that is new or stale has a verdict, as every well typed one has on a store with its variables
 abbrev pub HaveVerdicts : List Cell → List Waiter → Type 0
@@ -39,4 +45,5 @@ HaveVerdicts store (w ∷ ws) = (is_due w ≡ true → is_some (verdict_on store
 
 -- settling begins with a round, so it is rounds
 abbrev pub SettlingIsRounds : Type 0
-SettlingIsRounds = (room : ℕ) (s : Slow) → AreRising s.next 0 s.waiters → HaveVerdicts s.store s.waiters → settling room s ≡ a_round room s
+SettlingIsRounds =
+    (room : ℕ) (s : Slow) → AreRising s.next 0 s.waiters → HaveVerdicts s.store s.waiters → settling room s ≡ a_round room s

@@ -11,10 +11,11 @@ use Rattle.stm_history.specs.SlowSettle.{lowest, is_due, can_end, ends}
 abbrev pub some_out : List Entry → Bool
 some_out es = list_any (λ e. e.1) es
 
--- the lowest ticket that is new or stale, and the lowest whose block doesn't block on the present store
+-- the lowest ticket that is new or stale
 abbrev pub next_due : Slow → Option ℕ
 next_due s = option_map (λ w. w.ticket) (lowest is_due s.waiters)
 
+-- the lowest ticket whose block doesn't block on the present store
 abbrev pub next_end : Slow → Option ℕ
 next_end s = option_map (λ w. w.ticket) (lowest (can_end s.store) s.waiters)
 
@@ -23,6 +24,7 @@ abbrev pub ended_since : Block → Option Since → Bool
 ended_since block None = false
 ended_since block (Some s) = ends (verdict_on s.store_then block)
 
+-- the same of a waiting block, if there is one
 abbrev pub ended_then : Option Waiter → Bool
 ended_then None = false
 ended_then (Some w) = ended_since w.block w.since

@@ -74,7 +74,9 @@ fn make_plan(
     ensures verdict { IfOk result (λ p. p.verdict ≡ verdict.now) }
     ensures first_new { IfOk result (λ p. p.first_new ≡ length store.now) }
     ensures rising { IfOk result (λ p. IsRising p.stale) }
-    ensures watchers { IfOk result (λ p. (u : ℕ) → list_any (nat_eq u) p.stale ≡ (not (nat_eq u ticket) && watches watch.now (waking rule store.now verdict.now) u)) }
+    ensures watchers { IfOk result (λ p. (u : ℕ)
+        → list_any (nat_eq u) p.stale
+        ≡ (not (nat_eq u ticket) && watches watch.now (waking rule store.now verdict.now) u)) }
 {
     let stale = Tickets::from_vec(stale_tickets(alloc, rule, store, watch, verdict, ticket)?);
     let verdict = verdict.copy(alloc)?;
@@ -110,8 +112,11 @@ impl Machine {
     /// Why the block can't be finished, or what its finish is to do, by the rule that the history goes by. `full` says that the
     /// history has no room for an event.
     pub fn plan(&self, ticket: u32, full: bool, rule: StalenessRule) -> Result<Plan, FinishError>
-        ensures told { (T : List Declared) (H : List Event) → StandsForBy rule T H self.now → finish_told result ≡ finish_refused (state_by rule T H) full ticket }
-        ensures plan { IfOk result (λ p. (T : List Declared) (H : List Event) → StandsForBy rule T H self.now → IsPlanBy rule (state_by rule T H) ticket p.verdict p.first_new p.stale) }
+        ensures told { (T : List Declared) (H : List Event) → StandsForBy rule T H self.now
+            → finish_told result ≡ finish_refused (state_by rule T H) full ticket }
+        ensures plan { IfOk result (λ p. (T : List Declared) (H : List Event)
+            → StandsForBy rule T H self.now
+            → IsPlanBy rule (state_by rule T H) ticket p.verdict p.first_new p.stale) }
     {
         let waiting = match self.waiting.get(ticket) {
             Some(waiting) => waiting,
@@ -151,10 +156,16 @@ impl Machine {
 
     /// The block takes effect by its plan and waits no more. Its stale tickets are queued.
     pub fn finish(&mut self, ticket: u32, plan: &Plan) -> Result<Applied, NoMemory>
-        requires { (R : AnyRule) × (T : List Declared) × (H : List Event) × CanFinishBy R T H self.old ticket plan.now.verdict plan.now.first_new plan.now.stale }
-        ensures moved { OnOk result ((R : AnyRule) (T : List Declared) (H : List Event) → CanFinishBy R T H self.old ticket plan.now.verdict plan.now.first_new plan.now.stale → MovesToBy R T H (AnyWhat.Finished ticket plan.now.verdict plan.now.first_new plan.now.stale) self.new) }
+        requires { (R : AnyRule) × (T : List Declared) × (H : List Event)
+            × CanFinishBy R T H self.old ticket plan.now.verdict plan.now.first_new plan.now.stale }
+        ensures moved { OnOk result ((R : AnyRule) (T : List Declared) (H : List Event)
+            → CanFinishBy R T H self.old ticket plan.now.verdict plan.now.first_new plan.now.stale
+            → MovesToBy R T H
+            (AnyWhat.Finished ticket plan.now.verdict plan.now.first_new plan.now.stale)
+            self.new) }
         ensures applied { IfOk result (λ a. a ≡ told_of self.old.store plan.now.verdict) }
-        ensures pending { OnOk result (self.new.pending ≡ with_tickets plan.now.stale self.old.pending) }
+        ensures pending { OnOk result (self.new.pending
+            ≡ with_tickets plan.now.stale self.old.pending) }
         ensures err { OnErr result (self.new ≡ self.old) }
     {
         let stale = plan.stale.as_slice();

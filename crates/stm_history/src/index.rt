@@ -72,7 +72,9 @@ pub(crate) fn stale_tickets(
     ticket: u32,
 ) -> Result<Vec<u32>, NoMemory>
     ensures rising { IfOk result (λ ts. IsRising ts.items) }
-    ensures watchers { IfOk result (λ ts. (u : ℕ) → list_any (nat_eq u) ts.items ≡ (not (nat_eq u ticket) && watches watch.now (waking rule store.now verdict.now) u)) }
+    ensures watchers { IfOk result (λ ts. (u : ℕ)
+        → list_any (nat_eq u) ts.items
+        ≡ (not (nat_eq u ticket) && watches watch.now (waking rule store.now verdict.now) u)) }
 {
     let variables = waking_variables(alloc, rule, store, verdict)?;
     let mut tickets = watch.watchers(&variables)?;
@@ -82,7 +84,10 @@ pub(crate) fn stale_tickets(
 
 /// These tickets watch nothing more.
 pub(crate) fn unwatch_all(watch: &mut Watch, waiting: &WaitingBlocks, tickets: &[u32])
-    ensures { (v u : ℕ) → has_pair watch.new v u ≡ (has_pair watch.old v u && not (list_any (nat_eq u) tickets.now && is_read (kept_reads (kept_at u waiting.now)) v)) }
+    ensures { (v u : ℕ) → has_pair watch.new v u
+        ≡ (has_pair watch.old v u
+        && not (list_any (nat_eq u) tickets.now
+        && is_read (kept_reads (kept_at u waiting.now)) v)) }
 {
     for ticket in tickets {
         unwatch(watch, waiting, *ticket);
@@ -90,7 +95,9 @@ pub(crate) fn unwatch_all(watch: &mut Watch, waiting: &WaitingBlocks, tickets: &
 }
 
 fn unwatch(watch: &mut Watch, waiting: &WaitingBlocks, ticket: u32)
-    ensures { (v u : ℕ) → has_pair watch.new v u ≡ (has_pair watch.old v u && not (nat_eq u ticket && is_read (kept_reads (kept_at u waiting.now)) v)) }
+    ensures { (v u : ℕ) → has_pair watch.new v u
+        ≡ (has_pair watch.old v u
+        && not (nat_eq u ticket && is_read (kept_reads (kept_at u waiting.now)) v)) }
 {
     match waiting.get(ticket) {
         Some(block) => watch.remove(ticket, block.reads()),
@@ -101,7 +108,8 @@ fn unwatch(watch: &mut Watch, waiting: &WaitingBlocks, ticket: u32)
 /// These tickets are queued; there is room for them.
 pub(crate) fn queue_all(pending: &mut Pending, tickets: &[u32])
     requires rising { IsRising tickets.now }
-    requires absent { (u : ℕ) → list_any (nat_eq u) tickets.now ≡ true → has_ticket u pending.old.entries ≡ false }
+    requires absent { (u : ℕ) → list_any (nat_eq u) tickets.now ≡ true
+        → has_ticket u pending.old.entries ≡ false }
     requires room { length tickets.now ≤ pending.old.room }
     ensures { pending.new.entries ≡ with_tickets tickets.now pending.old.entries }
 {
@@ -114,7 +122,8 @@ pub(crate) fn queue_all(pending: &mut Pending, tickets: &[u32])
 pub(crate) fn forget(waiting: &mut WaitingBlocks, watch: &mut Watch, ticket: u32) -> Option<Waiting>
     ensures was { result ≡ kept_at ticket waiting.old }
     ensures gone { waiting.new ≡ lose ticket waiting.old }
-    ensures unwatched { WithoutReads watch.old ticket (kept_reads (kept_at ticket waiting.old)) watch.new }
+    ensures unwatched { WithoutReads watch.old ticket
+        (kept_reads (kept_at ticket waiting.old)) watch.new }
 {
     unwatch_one(watch, waiting, ticket);
     waiting.remove(ticket)

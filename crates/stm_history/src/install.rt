@@ -63,7 +63,8 @@ fn first_differing(store: &Store, reads: &[(u32, Value)]) -> Option<u32>
 
 /// The ticket of the message watches what its block read.
 fn watch_reads(watch: &mut Watch, message: &Evaluated) -> Result<(), NoMemory>
-    ensures ok { OnOk result (WithReads watch.old (message_ticket message.now) (message_reads message.now) watch.new) }
+    ensures ok { OnOk result
+        (WithReads watch.old (message_ticket message.now) (message_reads message.now) watch.new) }
     ensures err { OnErr result (watch.new ≡ watch.old) }
 {
     watch.add(message.ticket(), message.reads().as_slice())
@@ -72,8 +73,14 @@ fn watch_reads(watch: &mut Watch, message: &Evaluated) -> Result<(), NoMemory>
 impl Machine {
     /// Why the message can't be installed, an out-of-memory error aside. `full` says that the history has no room for an event.
     pub fn may_install(&self, message: &Evaluated, full: bool) -> Result<(), DeliverError>
-        ensures told { (R : AnyRule) (T : List Declared) (H : List Event) → StandsForBy R T H self.now → TellsDelivery (install_told result) (state_by R T H) full (message_ticket message.now) (message_block message.now) (message_reads message.now) }
-        ensures same { OnOk result ((R : AnyRule) (T : List Declared) (H : List Event) → StandsForBy R T H self.now → IsSomeAnd (find_waiter (message_ticket message.now) (state_by R T H).waiters) (λ w. w.block.tree ≡ (message_block message.now).tree)) }
+        ensures told { (R : AnyRule) (T : List Declared) (H : List Event)
+            → StandsForBy R T H self.now
+            → TellsDelivery (install_told result) (state_by R T H) full (message_ticket message.now)
+            (message_block message.now) (message_reads message.now) }
+        ensures same { OnOk result ((R : AnyRule) (T : List Declared) (H : List Event)
+            → StandsForBy R T H self.now
+            → IsSomeAnd (find_waiter (message_ticket message.now) (state_by R T H).waiters)
+            (λ w. w.block.tree ≡ (message_block message.now).tree)) }
     {
         let ticket = message.ticket();
         let waiting = match self.waiting.get(ticket) {
@@ -98,9 +105,14 @@ impl Machine {
 
     /// Installs a message: its block is current from then on, neither queued nor out. A refusal hands the message back.
     pub fn install(&mut self, message: Evaluated) -> Result<(), (Evaluated, NoMemory)>
-        requires { (R : AnyRule) × (T : List Declared) × (H : List Event) × CanInstallBy R T H self.old message }
-        ensures moved { OnOk result ((R : AnyRule) (T : List Declared) (H : List Event) → CanInstallBy R T H self.old message → MovesToBy R T H (AnyWhat.Installed (message_ticket message) (message_verdict message)) self.new) }
-        ensures pending { OnOk result (self.new.pending ≡ without_ticket (message_ticket message) self.old.pending) }
+        requires { (R : AnyRule) × (T : List Declared) × (H : List Event)
+            × CanInstallBy R T H self.old message }
+        ensures moved { OnOk result ((R : AnyRule) (T : List Declared) (H : List Event)
+            → CanInstallBy R T H self.old message
+            → MovesToBy R T H
+            (AnyWhat.Installed (message_ticket message) (message_verdict message)) self.new) }
+        ensures pending { OnOk result (self.new.pending
+            ≡ without_ticket (message_ticket message) self.old.pending) }
         ensures back { IfErr result (λ e. e.0 ≡ message) }
         ensures err { OnErr result (self.new ≡ self.old) }
     {

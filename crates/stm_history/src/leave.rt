@@ -17,7 +17,8 @@ use crate::machine::Machine;
 impl Machine {
     /// Why the block can't be cancelled, an out-of-memory error aside. `full` says that the history has no room for an event.
     pub fn may_leave(&self, ticket: u32, full: bool) -> Result<(), CancelError>
-        ensures { (R : AnyRule) (T : List Declared) (H : List Event) → StandsForBy R T H self.now → cancel_told result ≡ cancel_refused (state_by R T H) full ticket }
+        ensures { (R : AnyRule) (T : List Declared) (H : List Event) → StandsForBy R T H self.now
+            → cancel_told result ≡ cancel_refused (state_by R T H) full ticket }
     {
         match self.waiting.get(ticket) {
             None => return Err(CancelError::NoTicket),
@@ -31,8 +32,11 @@ impl Machine {
 
     /// The block waits no more. It takes no memory.
     pub fn leave(&mut self, ticket: u32)
-        requires { (R : AnyRule) × (T : List Declared) × (H : List Event) × CanLeaveBy R T H self.old ticket }
-        ensures moved { (R : AnyRule) (T : List Declared) (H : List Event) → CanLeaveBy R T H self.old ticket → MovesToBy R T H (AnyWhat.Cancelled ticket) self.new }
+        requires { (R : AnyRule) × (T : List Declared) × (H : List Event)
+            × CanLeaveBy R T H self.old ticket }
+        ensures moved { (R : AnyRule) (T : List Declared) (H : List Event)
+            → CanLeaveBy R T H self.old ticket
+            → MovesToBy R T H (AnyWhat.Cancelled ticket) self.new }
         ensures pending { self.new.pending ≡ without_ticket ticket self.old.pending }
     {
         let _ = forget(&mut self.waiting, &mut self.watch, ticket);

@@ -34,7 +34,13 @@ impl Model for Machine {
 
     ghost coded = { Prim.hlevel (codes, act_code, pairs_code) };
 
-    ghost view = { λ m. record { store = m.store; next = m.next; entries = m.waiting; pending = m.pending.entries; watch = m.watch } };
+    ghost view = { λ m. record {
+      store = m.store;
+      next = m.next;
+      entries = m.waiting;
+      pending = m.pending.entries;
+      watch = m.watch;
+    } };
 }
 
 impl Machine {

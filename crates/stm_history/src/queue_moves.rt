@@ -44,7 +44,8 @@ fn jobs_of(
     n: usize,
 ) -> Result<Vec<Job>, NoMemory>
     requires { (t : ℕ) → has_ticket t pending.now.entries ≡ true → kept_at t waiting.now ≢ None }
-    ensures tickets { IfOk result (λ js. map (λ j. j.ticket) js.items ≡ take n (queued pending.now.entries)) }
+    ensures tickets { IfOk result (λ js. map (λ j. j.ticket) js.items
+        ≡ take n (queued pending.now.entries)) }
     ensures blocks { IfOk result (λ js. AreKept waiting.now js.items) }
     ensures few { IfOk result (λ js. vec_len js ≤ n) }
 {
@@ -86,14 +87,19 @@ impl Machine {
     /// The jobs of the n lowest queued tickets, or of all of them, which are out from then on, and an unchanging copy of the
     /// present store, which has their variables.
     pub fn take(&mut self, n: usize) -> Result<(Frozen, Vec<Job>), NoMemory>
-        requires { (R : AnyRule) × (T : List Declared) × (H : List Event) × StandsForBy R T H self.old }
-        ensures tickets { IfOk result (λ r. map (λ j. j.ticket) r.1.items ≡ take n (queued self.old.pending)) }
-        ensures blocks { IfOk result (λ r. (R : AnyRule) (T : List Declared) (H : List Event) → StandsForBy R T H self.old → AreJobs (state_by R T H) r.1.items) }
+        requires { (R : AnyRule) × (T : List Declared) × (H : List Event)
+            × StandsForBy R T H self.old }
+        ensures tickets { IfOk result (λ r. map (λ j. j.ticket) r.1.items
+            ≡ take n (queued self.old.pending)) }
+        ensures blocks { IfOk result (λ r. (R : AnyRule) (T : List Declared) (H : List Event)
+            → StandsForBy R T H self.old → AreJobs (state_by R T H) r.1.items) }
         ensures store { IfOk result (λ r. r.0 ≡ plains self.old.store) }
         ensures covered { IfOk result (λ r. AreCovered r.0 r.1.items) }
         ensures few { IfOk result (λ r. vec_len r.1 ≤ n) }
-        ensures out { IfOk result (λ r. self.new ≡ record self.old { pending = sent (length r.1.items) self.old.pending }) }
-        ensures kept { (R : AnyRule) (T : List Declared) (H : List Event) → StandsForBy R T H self.old → StandsForBy R T H self.new }
+        ensures out { IfOk result (λ r. self.new
+            ≡ record self.old { pending = sent (length r.1.items) self.old.pending }) }
+        ensures kept { (R : AnyRule) (T : List Declared) (H : List Event)
+            → StandsForBy R T H self.old → StandsForBy R T H self.new }
         ensures err { OnErr result (self.new ≡ self.old) }
     {
         let frozen = self.store.freeze()?;
@@ -105,16 +111,20 @@ impl Machine {
     /// A ticket that is out is queued again, and the answer is whether it was out.
     pub fn hand_back(&mut self, ticket: u32) -> bool
         ensures was { result ≡ is_out ticket self.old.pending }
-        ensures queued { self.new ≡ record self.old { pending = marked ticket false self.old.pending } }
-        ensures kept { (R : AnyRule) (T : List Declared) (H : List Event) → StandsForBy R T H self.old → StandsForBy R T H self.new }
+        ensures queued { self.new
+            ≡ record self.old { pending = marked ticket false self.old.pending } }
+        ensures kept { (R : AnyRule) (T : List Declared) (H : List Event)
+            → StandsForBy R T H self.old → StandsForBy R T H self.new }
     {
         self.pending.hand_back(ticket)
     }
 
     /// A message of the ticket was refused. Where it was overtaken and its ticket is out, the ticket is queued again.
     pub fn after_refusal(&mut self, refusal: DeliverError, ticket: u32)
-        ensures left { self.new ≡ record self.old { pending = pending_left refusal ticket self.old.pending } }
-        ensures kept { (R : AnyRule) (T : List Declared) (H : List Event) → StandsForBy R T H self.old → StandsForBy R T H self.new }
+        ensures left { self.new
+            ≡ record self.old { pending = pending_left refusal ticket self.old.pending } }
+        ensures kept { (R : AnyRule) (T : List Declared) (H : List Event)
+            → StandsForBy R T H self.old → StandsForBy R T H self.new }
     {
         queue_overtaken(&mut self.pending, refusal, ticket);
     }
@@ -122,7 +132,8 @@ impl Machine {
     /// Every ticket that is out is queued again.
     pub fn recall(&mut self)
         ensures recalled { self.new ≡ record self.old { pending = recalled self.old.pending } }
-        ensures kept { (R : AnyRule) (T : List Declared) (H : List Event) → StandsForBy R T H self.old → StandsForBy R T H self.new }
+        ensures kept { (R : AnyRule) (T : List Declared) (H : List Event)
+            → StandsForBy R T H self.old → StandsForBy R T H self.new }
     {
         self.pending.recall();
     }

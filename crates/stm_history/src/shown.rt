@@ -22,7 +22,10 @@ impl Machine {
     /// How the block under a ticket stands; none where no block waits. A stale verdict is the one that the block had at its
     /// last delivery, and a current one is the one that it has on the present store.
     pub fn status(&self, ticket: u32) -> Option<Status<'_>>
-        ensures { (R : AnyRule) (T : List Declared) (H : List Event) → StandsForBy R T H self.now → option_map shown result ≡ option_map (standing (state_by R T H).store) (find_waiter ticket (state_by R T H).waiters) }
+        ensures { (R : AnyRule) (T : List Declared) (H : List Event) → StandsForBy R T H self.now
+            → option_map shown result
+            ≡ option_map (standing (state_by R T H).store)
+            (find_waiter ticket (state_by R T H).waiters) }
     {
         match self.waiting.get(ticket) {
             None => None,
@@ -42,8 +45,13 @@ impl Machine {
     /// What the block under a ticket read at its last delivery, rising; none where no block waits or it is new. Those of a
     /// current block have their values on the present store.
     pub fn reads(&self, ticket: u32) -> Option<&[(u32, Value)]>
-        ensures then { (R : AnyRule) (T : List Declared) (H : List Event) → StandsForBy R T H self.now → option_copied result ≡ read_then (find_waiter ticket (state_by R T H).waiters) }
-        ensures present { (R : AnyRule) (T : List Declared) (H : List Event) (w : Waiter) → StandsForBy R T H self.now → find_waiter ticket (state_by R T H).waiters ≡ Some w → is_current w ≡ true → option_copied result ≡ Some (read_now (state_by R T H).store w) }
+        ensures then { (R : AnyRule) (T : List Declared) (H : List Event)
+            → StandsForBy R T H self.now
+            → option_copied result ≡ read_then (find_waiter ticket (state_by R T H).waiters) }
+        ensures present { (R : AnyRule) (T : List Declared) (H : List Event) (w : Waiter)
+            → StandsForBy R T H self.now → find_waiter ticket (state_by R T H).waiters ≡ Some w
+            → is_current w ≡ true
+            → option_copied result ≡ Some (read_now (state_by R T H).store w) }
     {
         match self.waiting.get(ticket) {
             None => None,
@@ -56,7 +64,8 @@ impl Machine {
 
     /// The block that waits under a ticket.
     pub fn block(&self, ticket: u32) -> Option<&SharedBlock>
-        ensures { (R : AnyRule) (T : List Declared) (H : List Event) → StandsForBy R T H self.now → option_copied result ≡ block_at (state_by R T H) ticket }
+        ensures { (R : AnyRule) (T : List Declared) (H : List Event) → StandsForBy R T H self.now
+            → option_copied result ≡ block_at (state_by R T H) ticket }
     {
         match self.waiting.get(ticket) {
             None => None,
@@ -67,24 +76,32 @@ impl Machine {
     /// The present store: that of running the finished blocks alone, one after another.
     pub fn store(&self) -> &Store
         ensures parts { result.now ≡ self.now.store }
-        ensures store { (R : AnyRule) (T : List Declared) (H : List Event) → StandsForBy R T H self.now → result.now ≡ (state_by R T H).store }
-        ensures serial { (R : AnyRule) (T : List Declared) (H : List Event) → StandsForBy R T H self.now → result.now ≡ serial (opened T) (finished_from_by R (initial_state T) H) }
+        ensures store { (R : AnyRule) (T : List Declared) (H : List Event)
+            → StandsForBy R T H self.now → result.now ≡ (state_by R T H).store }
+        ensures serial { (R : AnyRule) (T : List Declared) (H : List Event)
+            → StandsForBy R T H self.now
+            → result.now ≡ serial (opened T) (finished_from_by R (initial_state T) H) }
     {
         &self.store
     }
 
     /// How many blocks wait. What holds of the queue stands here.
     pub fn waiting(&self) -> usize
-        ensures waiting { (R : AnyRule) (T : List Declared) (H : List Event) → StandsForBy R T H self.now → result ≡ length (state_by R T H).waiters }
-        ensures few { (R : AnyRule) (T : List Declared) (H : List Event) → StandsForBy R T H self.now → result ≤ max_waiting }
-        ensures queue { (R : AnyRule) (T : List Declared) (H : List Event) → StandsForBy R T H self.now → QueueIsRight (state_by R T H) self.now.pending }
+        ensures waiting { (R : AnyRule) (T : List Declared) (H : List Event)
+            → StandsForBy R T H self.now → result ≡ length (state_by R T H).waiters }
+        ensures few { (R : AnyRule) (T : List Declared) (H : List Event)
+            → StandsForBy R T H self.now → result ≤ max_waiting }
+        ensures queue { (R : AnyRule) (T : List Declared) (H : List Event)
+            → StandsForBy R T H self.now → QueueIsRight (state_by R T H) self.now.pending }
     {
         self.waiting.len()
     }
 
     /// The least waiting ticket above this one.
     pub fn next_waiting(&self, after: u32) -> Option<u32>
-        ensures { (R : AnyRule) (T : List Declared) (H : List Event) → StandsForBy R T H self.now → result ≡ option_map (λ w. w.ticket) (lowest (λ w. nat_lt after w.ticket) (state_by R T H).waiters) }
+        ensures { (R : AnyRule) (T : List Declared) (H : List Event) → StandsForBy R T H self.now
+            → result ≡ option_map (λ w. w.ticket)
+            (lowest (λ w. nat_lt after w.ticket) (state_by R T H).waiters) }
     {
         self.waiting.first_above(after)
     }

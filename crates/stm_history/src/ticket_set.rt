@@ -52,7 +52,8 @@ impl TicketSet {
 
     /// One ticket more.
     pub fn add(&mut self, ticket: u32) -> Result<(), NoMemory>
-        ensures ok { OnOk result ((u : ℕ) → member u self.new ≡ (nat_eq u ticket || member u self.old)) }
+        ensures ok { OnOk result ((u : ℕ)
+            → member u self.new ≡ (nat_eq u ticket || member u self.old)) }
         ensures err { OnErr result (self.new ≡ self.old) }
     {
         self.tickets.insert(ticket)?;

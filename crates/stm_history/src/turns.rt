@@ -30,17 +30,21 @@ impl Machine {
     /// The lowest ticket of a block that is new or stale, where no ticket is out.
     pub fn first_queued(&self) -> Option<u32>
         requires { some_out self.now.pending ≡ false }
-        ensures { (R : AnyRule) (T : List Declared) (H : List Event) → StandsForBy R T H self.now → result ≡ next_due (state_by R T H) }
+        ensures { (R : AnyRule) (T : List Declared) (H : List Event) → StandsForBy R T H self.now
+            → result ≡ next_due (state_by R T H) }
     {
+        // The tickets are known to rise by this.
         let _rising = self.pending.has_room(0);
         self.pending.queued_at(0)
     }
 
     /// What the block under a ticket does on the present store, of which an unchanging copy is given.
     pub fn evaluated(&self, frozen: &Frozen, ticket: u32) -> Result<Evaluated, NoMemory>
-        requires waits { (R : AnyRule) × (T : List Declared) × (H : List Event) × StandsForBy R T H self.now × IsSome (find_waiter ticket (state_by R T H).waiters) }
+        requires waits { (R : AnyRule) × (T : List Declared) × (H : List Event)
+            × StandsForBy R T H self.now × IsSome (find_waiter ticket (state_by R T H).waiters) }
         requires store { frozen.now ≡ plains self.now.store }
-        ensures { IfOk result (λ m. (R : AnyRule) (T : List Declared) (H : List Event) → StandsForBy R T H self.now → IsPresent (state_by R T H) ticket m) }
+        ensures { IfOk result (λ m. (R : AnyRule) (T : List Declared) (H : List Event)
+            → StandsForBy R T H self.now → IsPresent (state_by R T H) ticket m) }
     {
         let job = job_of(&self.waiting, ticket)?;
         match evaluate(self.alloc, job, frozen) {
@@ -51,8 +55,12 @@ impl Machine {
 
     /// Whether a block waits under the ticket whose last delivery brought a verdict that doesn't block.
     pub fn ends(&self, ticket: u32) -> bool
-        ensures then { (R : AnyRule) (T : List Declared) (H : List Event) → StandsForBy R T H self.now → result ≡ ended_then (find_waiter ticket (state_by R T H).waiters) }
-        ensures present { (R : AnyRule) (T : List Declared) (H : List Event) (w : Waiter) → StandsForBy R T H self.now → find_waiter ticket (state_by R T H).waiters ≡ Some w → is_current w ≡ true → result ≡ can_end (state_by R T H).store w }
+        ensures then { (R : AnyRule) (T : List Declared) (H : List Event)
+            → StandsForBy R T H self.now
+            → result ≡ ended_then (find_waiter ticket (state_by R T H).waiters) }
+        ensures present { (R : AnyRule) (T : List Declared) (H : List Event) (w : Waiter)
+            → StandsForBy R T H self.now → find_waiter ticket (state_by R T H).waiters ≡ Some w
+            → is_current w ≡ true → result ≡ can_end (state_by R T H).store w }
     {
         match self.waiting.get(ticket) {
             None => false,
@@ -62,7 +70,8 @@ impl Machine {
 
     /// The tickets of the blocks that are current and can end, and maybe others.
     pub fn ending(&self) -> Result<TicketSet, NoMemory>
-        ensures { IfOk result (λ s. (R : AnyRule) (T : List Declared) (H : List Event) → StandsForBy R T H self.now → AreCandidates (state_by R T H) s) }
+        ensures { IfOk result (λ s. (R : AnyRule) (T : List Declared) (H : List Event)
+            → StandsForBy R T H self.now → AreCandidates (state_by R T H) s) }
     {
         self.waiting.ending(self.alloc)
     }

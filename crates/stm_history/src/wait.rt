@@ -40,7 +40,8 @@ fn first_missing(store: &Store, uses: &[(u32, Ty)]) -> Option<u32>
 impl Machine {
     /// Why the block can't wait, an out-of-memory error aside. `full` says that the history has no room for an event.
     pub fn may_wait(&self, block: &SharedBlock, full: bool) -> Result<(), SubmitError>
-        ensures { (R : AnyRule) (T : List Declared) (H : List Event) → StandsForBy R T H self.now → submit_told result ≡ submit_refused (state_by R T H) full block.now }
+        ensures { (R : AnyRule) (T : List Declared) (H : List Event) → StandsForBy R T H self.now
+            → submit_told result ≡ submit_refused (state_by R T H) full block.now }
     {
         match first_missing(&self.store, block.block().uses()) {
             Some(id) => return Err(SubmitError::Foreign(id)),
@@ -57,8 +58,11 @@ impl Machine {
 
     /// The block waits from now on, under the ticket that is answered, and is queued.
     pub fn wait(&mut self, block: SharedBlock) -> Result<u32, NoMemory>
-        requires { (R : AnyRule) × (T : List Declared) × (H : List Event) × CanWaitBy R T H self.old block }
-        ensures moved { IfOk result (λ t. (R : AnyRule) (T : List Declared) (H : List Event) → CanWaitBy R T H self.old block → MovesToBy R T H (AnyWhat.Submitted t block) self.new) }
+        requires { (R : AnyRule) × (T : List Declared) × (H : List Event)
+            × CanWaitBy R T H self.old block }
+        ensures moved { IfOk result (λ t. (R : AnyRule) (T : List Declared) (H : List Event)
+            → CanWaitBy R T H self.old block
+            → MovesToBy R T H (AnyWhat.Submitted t block) self.new) }
         ensures ticket { IfOk result (λ t. t ≡ self.old.next) }
         ensures pending { IfOk result (λ t. self.new.pending ≡ with_ticket t self.old.pending) }
         ensures err { OnErr result (self.new ≡ self.old) }

@@ -125,7 +125,8 @@ impl WaitingBlocks {
     /// One block more, after the others.
     pub(crate) fn insert(&mut self, ticket: u32, block: SharedBlock) -> Result<(), NoMemory>
         requires { AllBelow ticket self.old }
-        ensures ok { OnOk result (self.new ≡ self.old ++ (ticket, record { block = block; held = None }) ∷ []) }
+        ensures ok { OnOk result (self.new
+            ≡ self.old ++ (ticket, record { block = block; held = None }) ∷ []) }
         ensures err { OnErr result (self.new ≡ self.old) }
     {
         self.map.insert(ticket, Waiting { block, held: None })?;

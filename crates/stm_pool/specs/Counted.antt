@@ -12,7 +12,8 @@ use Rattle.stm_pool.specs.Storms.{CountsEvents}
 -- each of the counts is that of the events of the pass at its place
 abbrev pub CountsPasses : List Known → List Counts → Type 0
 CountsPasses passes counts =
-    (k : ℕ) (p : Known) (d : Counts) → k < length counts → CountsEvents (slice_index_or passes k p).own (slice_index_or counts k d)
+    (k : ℕ) (p : Known) (d : Counts) → k < length counts
+    → CountsEvents (slice_index_or passes k p).own (slice_index_or counts k d)
 
 -- what is found of a closed desk's history: how many events it has, and that it is legal where it is told so
 abbrev pub IsReplayed : List Declared → List Event → Replay → Type 0

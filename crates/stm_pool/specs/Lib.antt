@@ -1,10 +1,10 @@
--- What a reader has to believe: what is answered of a job, what a client knows of a history, what a worker does to it, and
--- what a storm leaves.
+-- What a reader has to believe: what is answered of a job, known and shown to a client, done by a worker, and left by a storm.
 pub mod Answers
+pub mod Found
 pub mod Own
+pub mod Shown
 pub mod Storms
 pub mod Worked
--- The words inside.
+-- The words inside, for the slots of jobs, the counts of passes and what is found of a history.
 pub mod Counted
-pub mod Found
 pub mod Slots

@@ -18,6 +18,7 @@ abbrev pub slot_of : Result Evaluated (Job × AllocError) → Slot
 slot_of (Ok m) = record { job = None; message = Some m }
 slot_of (Err e) = record { job = Some e.0; message = None }
 
+-- the job, where there is one, can be evaluated on these variables
 abbrev pub JobIsReady : List (Ty × Value) → Option Job → Type 0
 JobIsReady cells None = Unit {0}
 JobIsReady cells (Some job) = Covers cells job.block.uses
@@ -34,6 +35,7 @@ IsLeft job cells None (Some m) = IsMessageOf job cells m
 IsLeft job cells (Some j) None = j ≡ job
 IsLeft job cells (Some j) (Some m) = ⊥
 
+-- the slot has what is left of the job, where there was one
 abbrev pub IsWorkedOn : List (Ty × Value) → Option Job → Slot → Type 0
 IsWorkedOn cells None new = Unit {0}
 IsWorkedOn cells (Some job) new = IsLeft job cells new.job new.message
@@ -42,6 +44,7 @@ IsWorkedOn cells (Some job) new = IsLeft job cells new.job new.message
 abbrev pub IsWorked : List (Ty × Value) → Slot → Slot → Type 0
 IsWorked cells old new = IsWorkedOn cells old.job new
 
+-- of a job and its message one is there, and the other is not
 abbrev pub AreDone : Option Job → Option Evaluated → Type 0
 AreDone None None = ⊥
 AreDone None (Some m) = Unit {0}

@@ -17,12 +17,14 @@ is_submission (Installed t v) = false
 is_submission (Finished t v n stale) = false
 is_submission (Cancelled t) = false
 
+-- a waiting block left with its verdict
 abbrev pub is_finished : What → Bool
 is_finished (Submitted t block) = false
 is_finished (Installed t v) = false
 is_finished (Finished t v n stale) = true
 is_finished (Cancelled t) = false
 
+-- a waiting block left without one
 abbrev pub is_cancelled : What → Bool
 is_cancelled (Submitted t block) = false
 is_cancelled (Installed t v) = false

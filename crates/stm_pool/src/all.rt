@@ -28,7 +28,8 @@ fn work_all<R: Threads + Sync>(
     requires levels { levels ≤ 8 }
     requires ready { All (λ s. IsReady frozen.now s) slots.old.items }
     ensures len { vec_len slots.new ≡ vec_len slots.old }
-    ensures each { (k : ℕ) (d : _) → k < vec_len slots.old → IsWorked frozen.now (slice_index_or slots.old.items k d) (slice_index_or slots.new.items k d) }
+    ensures each { (k : ℕ) (d : _) → k < vec_len slots.old → IsWorked frozen.now
+        (slice_index_or slots.old.items k d) (slice_index_or slots.new.items k d) }
 {
     thread::for_each_mut(
         rt,
@@ -41,10 +42,11 @@ fn work_all<R: Threads + Sync>(
     );
 }
 
-/// Evaluates the jobs by at most so many threads on a store that has the variables of their blocks, and answers in the order
-/// of the jobs. Where memory runs out for the list of the answers, the jobs are handed back before any of them is evaluated;
-/// where a thread can't be started, the caller's thread does its share. Both branches of an `orElse` run at once, in threads of
-/// their own, `levels` deep.
+/// Evaluates the jobs by at most so many threads on a store that has the variables of their blocks,
+/// and answers in the order of the jobs. Where memory runs out for the list of the answers, the
+/// jobs are handed back before any of them is evaluated; where a thread can't be started, the
+/// caller's thread does its share. Both branches of an `orElse` run at once, in threads of their
+/// own, `levels` deep.
 pub fn evaluate_all<R: Threads + Sync>(
     rt: &R,
     alloc: Global,
@@ -57,7 +59,8 @@ pub fn evaluate_all<R: Threads + Sync>(
     requires levels { levels ≤ 8 }
     requires covered { AreCovered frozen.now jobs.items }
     ensures len { IfOk result (λ v. vec_len v ≡ vec_len jobs) }
-    ensures each { IfOk result (λ v. (k : ℕ) (d : _) (e : _) → k < vec_len jobs → AnswersJob (slice_index_or jobs.items k d) frozen.now (slice_index_or v.items k e)) }
+    ensures each { IfOk result (λ v. (k : ℕ) (d : _) (e : _) → k < vec_len jobs → AnswersJob
+        (slice_index_or jobs.items k d) frozen.now (slice_index_or v.items k e)) }
     ensures back { IfErr result (λ e. e.0 ≡ jobs) }
 {
     let Ok(room) = Vec::with_capacity(alloc, jobs.len()) else {

@@ -1,16 +1,15 @@
-//! The calls of a shared desk. Each takes the lock, makes one call of `Guarded`, and wakes those who wait once the lock is
-//! given back.
+//! The calls of a shared desk. Each takes the lock, makes one call of `Guarded`, and wakes those
+//! who wait once the lock is given back.
 
-ghost use Rattle.std.specs.Prelude.{◌≡◌, ◌<◌, ◌≤◌, List, length, IfOk, OnOk, IfErr, OnErr, IfSome};
+ghost use Rattle.std.specs.Prelude.{◌≡◌, ◌<◌, List, IfOk, OnOk, IfErr, OnErr, IfSome};
 ghost use Rattle.stm_store.specs.Tables.{Declared};
-ghost use Rattle.stm_store.specs.Cells.{plains};
 ghost use Rattle.stm_eval.specs.EvaluatedFields.{message_ticket, message_verdict};
-ghost use Rattle.stm_history.specs.SlowDesk.{IsLegal, state};
 ghost use Rattle.stm_history.specs.Machine.{event};
 ghost use Rattle.stm_history.specs.declared.event.Event.{Event as AnyEvent};
 ghost use Rattle.stm_history.specs.declared.event.What.{What as AnyWhat};
-ghost use Rattle.stm_pool.specs.Own.{own_of, with_own, having_seen};
+ghost use Rattle.stm_pool.specs.Own.{with_own};
 ghost use Rattle.stm_pool.specs.Found.{IsFound};
+ghost use Rattle.stm_pool.specs.Shown.{IsShown};
 
 use crate::errors::ViewError;
 use crate::guarded::View;
@@ -40,7 +39,8 @@ impl<L: Ledger> SharedDesk<L> {
         pass: &mut Pass<L>,
         block: SharedBlock,
     ) -> Result<u32, SubmitError>
-        ensures ok { IfOk result (λ t. pass.new ≡ with_own pass.old (event pass.old.client (AnyWhat.Submitted t block))) }
+        ensures ok { IfOk result (λ t. pass.new
+            ≡ with_own pass.old (event pass.old.client (AnyWhat.Submitted t block))) }
         ensures err { OnErr result (pass.new ≡ pass.old) }
     {
         let answer = self.lock.lock(rt).submit(pass, block);
@@ -55,7 +55,8 @@ impl<L: Ledger> SharedDesk<L> {
         pass: &mut Pass<L>,
         ticket: u32,
     ) -> Result<Finish, FinishError>
-        ensures ok { IfOk result (λ f. pass.new ≡ with_own pass.old (event pass.old.client (AnyWhat.Finished ticket f.verdict f.applied.first_new f.stale))) }
+        ensures ok { IfOk result (λ f. pass.new ≡ with_own pass.old (event pass.old.client
+            (AnyWhat.Finished ticket f.verdict f.applied.first_new f.stale))) }
         ensures err { OnErr result (pass.new ≡ pass.old) }
     {
         let answer = self.lock.lock(rt).finish(pass, ticket);
@@ -70,7 +71,8 @@ impl<L: Ledger> SharedDesk<L> {
         pass: &mut Pass<L>,
         ticket: u32,
     ) -> Result<(), CancelError>
-        ensures ok { OnOk result (pass.new ≡ with_own pass.old (event pass.old.client (AnyWhat.Cancelled ticket))) }
+        ensures ok { OnOk result (pass.new
+            ≡ with_own pass.old (event pass.old.client (AnyWhat.Cancelled ticket))) }
         ensures err { OnErr result (pass.new ≡ pass.old) }
     {
         let answer = self.lock.lock(rt).cancel(pass, ticket);
@@ -85,7 +87,8 @@ impl<L: Ledger> SharedDesk<L> {
         pass: &mut Pass<L>,
         message: Evaluated,
     ) -> Result<(), (Evaluated, DeliverError)>
-        ensures ok { OnOk result (pass.new ≡ with_own pass.old (event pass.old.client (AnyWhat.Installed (message_ticket message) (message_verdict message)))) }
+        ensures ok { OnOk result (pass.new ≡ with_own pass.old (event pass.old.client
+            (AnyWhat.Installed (message_ticket message) (message_verdict message)))) }
         ensures err { OnErr result (pass.new ≡ pass.old) }
         ensures back { IfErr result (λ e. e.0 ≡ message) }
     {
@@ -94,16 +97,18 @@ impl<L: Ledger> SharedDesk<L> {
         answer
     }
 
-    /// What is there now: the store and the length of a legal history, which has this client's events and is no shorter than
-    /// what it has seen. The client has seen it from then on.
+    /// What is there now: the store and the length of a legal history, which has this client's
+    /// events and is no shorter than what it has seen. The client has seen it from then on.
     pub fn view<R: Wait>(&self, rt: &R, pass: &mut Pass<L>) -> Result<View, ViewError>
-        ensures ok { IfOk result (λ v. (table : List Declared) × (h : List AnyEvent) × (IsLegal table h) × (own_of pass.old.client h ≡ pass.old.own) × (v.store ≡ plains (state table h).store) × (v.events ≡ length h) × (pass.old.seen ≤ v.events) × (pass.new ≡ having_seen pass.old v.events)) }
+        ensures ok { IfOk result (λ v. (table : List Declared) × (history : List AnyEvent)
+            × IsShown table history pass.old pass.new v) }
         ensures err { OnErr result (pass.new ≡ pass.old) }
     {
         self.lock.lock(rt).view(pass)
     }
 
-    /// Waits until a ticket is queued or the desk is stopped, and takes the ticket. `Idle` where there is none after all.
+    /// Waits until a ticket is queued or the desk is stopped, and takes the ticket. `Idle` where
+    /// there is none after all.
     pub fn next_job<R: Wait>(&self, rt: &R) -> Result<Next, NoMemory>
         ensures { IfOk result (λ n. IsFound n) }
     {
@@ -126,7 +131,8 @@ impl<L: Ledger> SharedDesk<L> {
         was
     }
 
-    /// Waits until there are more than `seen` events, and tells how many; nothing where the desk was stopped before.
+    /// Waits until there are more than `seen` events, and tells how many; nothing where the desk
+    /// was stopped before.
     pub fn wait_past<R: Wait>(&self, rt: &R, seen: u32) -> Option<u32>
         ensures { IfSome result (λ n. seen < n) }
     {

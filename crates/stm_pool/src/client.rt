@@ -12,7 +12,8 @@ use stm_desk::{CancelError, FinishError, SubmitError};
 use stm_terms::NoMemory;
 use stm_terms::values::Value;
 
-/// How many tasks of a client left no event: those refused, and the expected values that weren't there.
+/// How many tasks of a client left no event: those refused, and the expected values that weren't
+/// there.
 #[derive(Clone, Copy)]
 pub(crate) struct Extra {
     pub(crate) refused: usize,
@@ -37,7 +38,8 @@ impl Extra {
     }
 }
 
-/// Does the tasks of a section in order. Where memory runs out, the desk is stopped and nothing is counted.
+/// Does the tasks of a section in order. Where memory runs out, the desk is stopped and nothing is
+/// counted.
 pub(crate) fn do_section<L: Ledger, R: Wait>(
     rt: &R,
     alloc: Global,
@@ -122,8 +124,9 @@ fn submit_block<L: Ledger, R: Wait>(
     }
 }
 
-/// Finishes a ticket as soon as its evaluation is current: tries it, and again whenever there are more events than there were
-/// before the last try. Refused where the desk is stopped before, or refuses for another reason.
+/// Finishes a ticket as soon as its evaluation is current: tries it, and again whenever there are
+/// more events than there were before the last try. Refused where the desk is stopped before, or
+/// refuses for another reason.
 fn finish_in_time<L: Ledger, R: Wait>(
     rt: &R,
     shared: &SharedDesk<L>,
@@ -172,7 +175,8 @@ fn cancel_once<L: Ledger, R: Wait>(
     }
 }
 
-/// Whether a variable has this value. Missed where there is no such variable, or the client is shown no store.
+/// Whether a variable has this value. Missed where there is no such variable, or the client is
+/// shown no store.
 fn expect_value<L: Ledger, R: Wait>(
     rt: &R,
     shared: &SharedDesk<L>,

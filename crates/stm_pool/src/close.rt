@@ -37,8 +37,8 @@ fn joined<L: Ledger>(rest: Share<L>, passes: Vec<Pass<L>>) -> Share<L>
 }
 
 impl<L: Ledger> SharedDesk<L> {
-    /// The desk, where all its passes are there, in the order of their clients, and have their clients' events. Otherwise
-    /// the desk and the passes are handed back.
+    /// The desk, where all its passes are there, in the order of their clients, and have their
+    /// clients' events. Otherwise the desk and the passes are handed back.
     pub fn close(
         self,
         passes: Vec<Pass<L>>,
@@ -46,9 +46,11 @@ impl<L: Ledger> SharedDesk<L> {
         ensures events { IfOk result (λ r. r.events ≡ length r.desk.history) }
         ensures counted { IfOk result (λ r. r.events ≡ events_in_passes passes.items) }
         ensures all { OnOk result (vec_len passes ≡ self) }
-        ensures own { IfOk result (λ r. (k : ℕ) (d : _) → k < vec_len passes → IsPassOf r.desk.history k (slice_index_or passes.items k d)) }
+        ensures own { IfOk result (λ r. (k : ℕ) (d : _) → k < vec_len passes
+            → IsPassOf r.desk.history k (slice_index_or passes.items k d)) }
         ensures only { IfOk result (λ r. are_below (vec_len passes) r.desk.history ≡ true) }
-        ensures missing { IfErr result (λ e. e.2 ≡ CloseError.PassMissing → vec_len passes ≡ self → (k : ℕ) × (k < self) × ((d : _) → (slice_index_or passes.items k d).client ≢ k)) }
+        ensures missing { IfErr result (λ e. e.2 ≡ CloseError.PassMissing → vec_len passes ≡ self
+            → (k : ℕ) × (k < self) × ((d : _) → (slice_index_or passes.items k d).client ≢ k)) }
         ensures back { IfErr result (λ e. (e.0 ≡ self) × (e.1 ≡ passes)) }
     {
         let SharedDesk {

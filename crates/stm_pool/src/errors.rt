@@ -11,7 +11,8 @@ pub enum ViewError {
     NoMemory,
 }
 
-/// Why a desk can't be closed. `Differs` tells the client whose events in the history are not those of its pass.
+/// Why a desk can't be closed. `Differs` tells the client whose events in the history are not those
+/// of its pass.
 #[derive(Clone, Copy, Debug, PartialEq, Eq, Error)]
 pub enum CloseError {
     #[error("a pass is missing")]

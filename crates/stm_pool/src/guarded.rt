@@ -1,9 +1,8 @@
 //! The desk under its lock: what each call does that is lent the desk and a pass.
 
-ghost use Rattle.std.specs.Prelude.{◌≡◌, ◌≢◌, ◌<◌, ◌≤◌, ◌⊎◌, ℕ, false, Some, None, length, option_map, is_some, slice_index_or, IfOk, OnOk, IfErr, OnErr, IfSome};
+ghost use Rattle.std.specs.Prelude.{◌≡◌, ◌≢◌, ◌<◌, ◌⊎◌, ℕ, false, Some, None, length, option_map, is_some, slice_index_or, IfOk, OnOk, IfErr, OnErr, IfSome};
 ghost use Rattle.stm_store.specs.Cells.{plains, Covers};
 ghost use Rattle.stm_eval.specs.EvaluatedFields.{message_ticket, message_block, message_reads, message_verdict};
-ghost use Rattle.stm_history.specs.SlowDesk.{IsLegal};
 ghost use Rattle.stm_history.specs.declared.event.What.{What as AnyWhat};
 ghost use Rattle.stm_history.specs.JobsHandedOut.{block_at};
 ghost use Rattle.stm_history.specs.Machine.{event};
@@ -11,7 +10,8 @@ ghost use Rattle.stm_history.specs.Refusals.{submit_told, cancel_told, finish_to
 ghost use Rattle.stm_queue.specs.Queue.{is_out, marked, first_queued, sent_out};
 ghost use Rattle.stm_desk.specs.Seen.{now, with_event};
 ghost use Rattle.stm_desk.specs.Refusals.{submit_refusal, cancel_refusal, finish_refusal, TellsDeskDelivery, left_by};
-ghost use Rattle.stm_pool.specs.Own.{own_of, with_own, having_seen, IsPassOf};
+ghost use Rattle.stm_pool.specs.Own.{own_of, with_own, IsPassOf};
+ghost use Rattle.stm_pool.specs.Shown.{IsShown};
 
 use crate::errors::{CloseError, ViewError};
 use crate::pass::{Pass, is_own};
@@ -25,8 +25,8 @@ use stm_terms::NoMemory;
 
 /// The desk, whether it was stopped, and the book of all passes' shares.
 ///
-/// Its type keeps that the book counts as many events as the history has. `rest` is the share that is left when each pass
-/// has its part; it counts none.
+/// Its type keeps that the book counts as many events as the history has. `rest` is the share that
+/// is left when each pass has its part; it counts none.
 #[derive(Drop)]
 pub struct Guarded<L: Ledger> {
     pub desk: Desk,
@@ -46,13 +46,16 @@ pub struct View {
 }
 
 impl<L: Ledger> Guarded<L> {
-    /// `Desk::submit`; the event joins the pass's list too. Memory for the list is taken first, so `NoMemory` can stand
-    /// before the desk's own refusals.
+    /// `Desk::submit`; the event joins the pass's list too. Memory for the list is taken first, so
+    /// `NoMemory` can stand before the desk's own refusals.
     pub fn submit(&mut self, pass: &mut Pass<L>, block: SharedBlock) -> Result<u32, SubmitError>
-        ensures desk { IfOk result (λ t. self.new.desk ≡ with_event self.old.desk (event pass.old.client (AnyWhat.Submitted t block))) }
-        ensures pass { IfOk result (λ t. pass.new ≡ with_own pass.old (event pass.old.client (AnyWhat.Submitted t block))) }
+        ensures desk { IfOk result (λ t. self.new.desk
+            ≡ with_event self.old.desk (event pass.old.client (AnyWhat.Submitted t block))) }
+        ensures pass { IfOk result (λ t. pass.new
+            ≡ with_own pass.old (event pass.old.client (AnyWhat.Submitted t block))) }
         ensures allowed { OnOk result (submit_refusal self.old.desk block ≡ None) }
-        ensures refused { (e : SubmitError) → submit_told result ≡ Some e → submit_refusal self.old.desk block ≡ Some e }
+        ensures refused { (e : SubmitError) → submit_told result ≡ Some e
+            → submit_refusal self.old.desk block ≡ Some e }
         ensures err { OnErr result ((self.new.desk ≡ self.old.desk) × (pass.new ≡ pass.old)) }
         ensures stopped { self.new.stopped ≡ self.old.stopped }
     {
@@ -72,12 +75,16 @@ impl<L: Ledger> Guarded<L> {
         Ok(ticket)
     }
 
-    /// `Desk::cancel`; the event joins the pass's list too, and `NoMemory` can stand before the desk's own refusals.
+    /// `Desk::cancel`; the event joins the pass's list too, and `NoMemory` can stand before the
+    /// desk's own refusals.
     pub fn cancel(&mut self, pass: &mut Pass<L>, ticket: u32) -> Result<(), CancelError>
-        ensures desk { OnOk result (self.new.desk ≡ with_event self.old.desk (event pass.old.client (AnyWhat.Cancelled ticket))) }
-        ensures pass { OnOk result (pass.new ≡ with_own pass.old (event pass.old.client (AnyWhat.Cancelled ticket))) }
+        ensures desk { OnOk result (self.new.desk
+            ≡ with_event self.old.desk (event pass.old.client (AnyWhat.Cancelled ticket))) }
+        ensures pass { OnOk result (pass.new
+            ≡ with_own pass.old (event pass.old.client (AnyWhat.Cancelled ticket))) }
         ensures allowed { OnOk result (cancel_refusal self.old.desk ticket ≡ None) }
-        ensures refused { (e : CancelError) → cancel_told result ≡ Some e → cancel_refusal self.old.desk ticket ≡ Some e }
+        ensures refused { (e : CancelError) → cancel_told result ≡ Some e
+            → cancel_refusal self.old.desk ticket ≡ Some e }
         ensures err { OnErr result ((self.new.desk ≡ self.old.desk) × (pass.new ≡ pass.old)) }
         ensures stopped { self.new.stopped ≡ self.old.stopped }
     {
@@ -95,8 +102,11 @@ impl<L: Ledger> Guarded<L> {
 
     /// `Desk::finish`; the event joins the pass's list too.
     pub fn finish(&mut self, pass: &mut Pass<L>, ticket: u32) -> Result<Finish, FinishError>
-        ensures desk { IfOk result (λ f. self.new.desk ≡ with_event self.old.desk (event pass.old.client (AnyWhat.Finished ticket f.verdict f.applied.first_new f.stale))) }
-        ensures pass { IfOk result (λ f. pass.new ≡ with_own pass.old (event pass.old.client (AnyWhat.Finished ticket f.verdict f.applied.first_new f.stale))) }
+        ensures desk { IfOk result (λ f. self.new.desk
+            ≡ with_event self.old.desk (event pass.old.client
+            (AnyWhat.Finished ticket f.verdict f.applied.first_new f.stale))) }
+        ensures pass { IfOk result (λ f. pass.new ≡ with_own pass.old (event pass.old.client
+            (AnyWhat.Finished ticket f.verdict f.applied.first_new f.stale))) }
         ensures told { finish_told result ≡ finish_refusal self.old.desk ticket }
         ensures err { OnErr result ((self.new.desk ≡ self.old.desk) × (pass.new ≡ pass.old)) }
         ensures stopped { self.new.stopped ≡ self.old.stopped }
@@ -108,18 +118,26 @@ impl<L: Ledger> Guarded<L> {
         Ok(finish)
     }
 
-    /// `Desk::deliver`; the event joins the pass's list too, and `NoMemory` can stand before the desk's own refusals.
+    /// `Desk::deliver`; the event joins the pass's list too, and `NoMemory` can stand before the
+    /// desk's own refusals.
     pub fn deliver(
         &mut self,
         pass: &mut Pass<L>,
         message: Evaluated,
     ) -> Result<(), (Evaluated, DeliverError)>
-        ensures desk { OnOk result (self.new.desk ≡ with_event self.old.desk (event pass.old.client (AnyWhat.Installed (message_ticket message) (message_verdict message)))) }
-        ensures pass { OnOk result (pass.new ≡ with_own pass.old (event pass.old.client (AnyWhat.Installed (message_ticket message) (message_verdict message)))) }
-        ensures allowed { OnOk result (TellsDeskDelivery None self.old.desk (message_ticket message) (message_block message) (message_reads message)) }
-        ensures refused { (e : DeliverError) → deliver_told result ≡ Some e → TellsDeskDelivery (Some e) self.old.desk (message_ticket message) (message_block message) (message_reads message) }
+        ensures desk { OnOk result (self.new.desk
+            ≡ with_event self.old.desk (event pass.old.client
+            (AnyWhat.Installed (message_ticket message) (message_verdict message)))) }
+        ensures pass { OnOk result (pass.new ≡ with_own pass.old (event pass.old.client
+            (AnyWhat.Installed (message_ticket message) (message_verdict message)))) }
+        ensures allowed { OnOk result (TellsDeskDelivery None self.old.desk
+            (message_ticket message) (message_block message) (message_reads message)) }
+        ensures refused { (e : DeliverError) → deliver_told result ≡ Some e
+            → TellsDeskDelivery (Some e) self.old.desk
+            (message_ticket message) (message_block message) (message_reads message) }
         ensures back { IfErr result (λ e. e.0 ≡ message) }
-        ensures left { IfErr result (λ e. self.new.desk ≡ left_by e.1 (message_ticket message) self.old.desk) }
+        ensures left { IfErr result (λ e. self.new.desk
+            ≡ left_by e.1 (message_ticket message) self.old.desk) }
         ensures err { OnErr result (pass.new ≡ pass.old) }
         ensures stopped { self.new.stopped ≡ self.old.stopped }
     {
@@ -142,14 +160,19 @@ impl<L: Ledger> Guarded<L> {
         Ok(())
     }
 
-    /// The job of the lowest queued ticket, which is out from then on, and an unchanging copy of the present store, which
-    /// has the variables of its block; nothing where no ticket is queued.
+    /// The job of the lowest queued ticket, which is out from then on, and an unchanging copy of
+    /// the present store, which has the variables of its block; nothing where no ticket is queued.
     pub fn take(&mut self) -> Result<Option<(Frozen, Job)>, NoMemory>
-        ensures ticket { IfOk result (λ r. option_map (λ j. j.1.ticket) r ≡ first_queued self.old.desk.pending) }
-        ensures block { IfOk result (λ r. IfSome r (λ j. block_at (now self.old.desk) j.1.ticket ≡ Some j.1.block)) }
+        ensures ticket { IfOk result (λ r.
+            option_map (λ j. j.1.ticket) r ≡ first_queued self.old.desk.pending) }
+        ensures block { IfOk result (λ r. IfSome r (λ j.
+            block_at (now self.old.desk) j.1.ticket ≡ Some j.1.block)) }
         ensures store { IfOk result (λ r. IfSome r (λ j. j.0 ≡ plains (now self.old.desk).store)) }
         ensures covered { IfOk result (λ r. IfSome r (λ j. Covers j.0 j.1.block.uses)) }
-        ensures out { OnOk result (self.new.desk ≡ record self.old.desk { pending = sent_out (first_queued self.old.desk.pending) self.old.desk.pending }) }
+        ensures out { OnOk result (self.new.desk
+            ≡ record self.old.desk {
+              pending = sent_out (first_queued self.old.desk.pending) self.old.desk.pending;
+            }) }
         ensures err { OnErr result (self.new.desk ≡ self.old.desk) }
         ensures stopped { self.new.stopped ≡ self.old.stopped }
     {
@@ -163,7 +186,8 @@ impl<L: Ledger> Guarded<L> {
     /// A ticket that is out is queued again, and the answer is whether it was out.
     pub fn hand_back(&mut self, ticket: u32) -> bool
         ensures was { result ≡ is_out ticket self.old.desk.pending }
-        ensures desk { self.new.desk ≡ record self.old.desk { pending = marked ticket false self.old.desk.pending } }
+        ensures desk { self.new.desk
+            ≡ record self.old.desk { pending = marked ticket false self.old.desk.pending } }
         ensures stopped { self.new.stopped ≡ self.old.stopped }
     {
         self.desk.hand_back(ticket)
@@ -185,13 +209,12 @@ impl<L: Ledger> Guarded<L> {
 
     /// The store and the number of events, which the client has seen from then on.
     pub fn view(&self, pass: &mut Pass<L>) -> Result<View, ViewError>
-        ensures view { IfOk result (λ v. (v.events ≡ length self.now.desk.history) × (v.store ≡ plains (now self.now.desk).store)) }
-        ensures own { OnOk result (own_of pass.old.client self.now.desk.history ≡ pass.old.own) }
-        ensures legal { OnOk result (IsLegal self.now.desk.table self.now.desk.history) }
-        ensures grown { IfOk result (λ v. pass.old.seen ≤ v.events) }
-        ensures pass { IfOk result (λ v. pass.new ≡ having_seen pass.old v.events) }
+        ensures ok { IfOk result (λ v.
+            IsShown self.now.desk.table self.now.desk.history pass.old pass.new v) }
         ensures err { OnErr result (pass.new ≡ pass.old) }
-        ensures lost { result ≡ Err ViewError.Lost → (own_of pass.old.client self.now.desk.history ≢ pass.old.own) ⊎ (length self.now.desk.history < pass.old.seen) }
+        ensures lost { result ≡ Err ViewError.Lost
+            → (own_of pass.old.client self.now.desk.history ≢ pass.old.own)
+            ⊎ (length self.now.desk.history < pass.old.seen) }
     {
         let events = self.events();
         if events < pass.seen || !is_own(pass.client, self.desk.history(), pass.own.as_slice()) {
@@ -204,11 +227,16 @@ impl<L: Ledger> Guarded<L> {
         Ok(View { events, store })
     }
 
-    /// Whether these are so many passes, in the order of their clients, and each has its client's events.
+    /// Whether these are so many passes, in the order of their clients, and each has its client's
+    /// events.
     pub fn agrees(&self, passes: &[Pass<L>], count: u32) -> Result<(), CloseError>
-        ensures ok { OnOk result ((length passes.now ≡ count) × ((k : ℕ) (d : _) → k < count → IsPassOf self.now.desk.history k (slice_index_or passes.now k d))) }
-        ensures missing { result ≡ Err CloseError.PassMissing → length passes.now ≡ count → (k : ℕ) × (k < count) × ((d : _) → (slice_index_or passes.now k d).client ≢ k) }
-        ensures differs { (c : ℕ) → result ≡ Err (CloseError.Differs c) → (c < length passes.now) × ((d : _) → own_of c self.now.desk.history ≢ (slice_index_or passes.now c d).own) }
+        ensures ok { OnOk result ((length passes.now ≡ count) × ((k : ℕ) (d : _) → k < count
+            → IsPassOf self.now.desk.history k (slice_index_or passes.now k d))) }
+        ensures missing { result ≡ Err CloseError.PassMissing → length passes.now ≡ count
+            → (k : ℕ) × (k < count) × ((d : _) → (slice_index_or passes.now k d).client ≢ k) }
+        ensures differs { (c : ℕ) → result ≡ Err (CloseError.Differs c)
+            → (c < length passes.now)
+            × ((d : _) → own_of c self.now.desk.history ≢ (slice_index_or passes.now c d).own) }
     {
         if passes.len() != count as usize {
             return Err(CloseError::PassMissing);

@@ -2,13 +2,20 @@
 //!
 //! `evaluate_all` answers what one thread would, by as many threads as it is given.
 //!
-//! `Guarded` is the desk under its lock, and `Pass` what each client carries: its own accepted events, and its share of
-//! the count of all. A call on `Guarded` is lent both, so its contract says the whole of it. `SharedDesk` is the lock;
-//! through it a call says what it did to the pass alone, and `close` compares all passes with the history. `work` is what
-//! a worker does: it takes, evaluates without the lock, and delivers.
+//! `Guarded` is the desk under its lock, and `Pass` what each client carries: its own accepted
+//! events, and its share of the count of all. A call on `Guarded` is lent both, so its contract
+//! says the whole of it. `SharedDesk` is the lock; through it a call says what it did to the pass
+//! alone, and `close` compares all passes with the history. `work` is what a worker does: it takes,
+//! evaluates without the lock, and delivers.
 //!
-//! A storm (`run_storm`) runs clients and workers in threads of their own over one such desk, and replays the history that they
-//! leave.
+//! A storm (`run_storm`) runs clients and workers in threads of their own over one such desk, and
+//! replays the history that they leave.
+//!
+//! What a reader has to believe is what these answers say. `specs/Answers` says what is answered of
+//! a job, `specs/Own` what a pass knows of its client's events and when a history has them,
+//! `specs/Shown` what a view shows a client, `specs/Found` what store comes with a job that a
+//! worker finds, `specs/Worked` what a worker adds to its pass, and `specs/Storms` what a storm's
+//! counts and its replay tell of the history.
 #![tactic(auto)]
 
 // Many jobs at once.

@@ -7,10 +7,11 @@ use std::marker::Model;
 use std::sync::ledger::{Ledger, Share};
 use stm_history::Event;
 
-/// A client's number, its share of the count of all events, its own accepted events, and the greatest number of events that
-/// it has seen. Contracts see all but the share.
+/// A client's number, its share of the count of all events, its own accepted events, and the
+/// greatest number of events that it has seen. Contracts see all but the share.
 ///
-/// Its type keeps that the share counts as many events as the list has, and that all of them are the client's.
+/// Its type keeps that the share counts as many events as the list has, and that all of them are
+/// the client's.
 #[derive(Drop)]
 pub struct Pass<L: Ledger> {
     pub(crate) client: u32,
@@ -32,7 +33,8 @@ impl<L: Ledger> Model for Pass<L> {
 
     ghost view = { λ p. record { client = p.client; own = p.own.items; seen = p.seen } };
 
-    ghost invariant = { λ p. (p.share.parts ≡ 1) × (p.share.amount ≡ length p.own.items) × (are_of p.client p.own.items ≡ true) × (p.client < max_clients) };
+    ghost invariant = { λ p. (p.share.parts ≡ 1) × (p.share.amount ≡ length p.own.items)
+        × (are_of p.client p.own.items ≡ true) × (p.client < max_clients) };
 }
 
 /// Whether the client's events in a history are these.

@@ -3,8 +3,8 @@
 use stm_check::SharedBlock;
 use stm_terms::values::Value;
 
-/// One thing that a client does. `Finish` and `Cancel` name one of the section's submissions, counted from 0; `Expect` names
-/// a variable by its number, and the value that it should have.
+/// One thing that a client does. `Finish` and `Cancel` name one of the section's submissions,
+/// counted from 0; `Expect` names a variable by its number, and the value that it should have.
 #[derive(Drop)]
 pub enum Task {
     Submit(SharedBlock),

@@ -14,10 +14,11 @@ use stm_desk::Desk;
 use stm_store::Table;
 use stm_terms::NoMemory;
 
-/// A desk for many threads: one lock, under which each call is one call of `Guarded`. Contracts see how many passes it has.
+/// A desk for many threads: one lock, under which each call is one call of `Guarded`. Contracts see
+/// how many passes it has.
 ///
-/// Nothing is known of the desk between two calls but what its type keeps. So a call tells what it did to the caller's pass,
-/// and `close` compares all passes with the history.
+/// Nothing is known of the desk between two calls but what its type keeps. So a call tells what it
+/// did to the caller's pass, and `close` compares all passes with the history.
 #[derive(Drop)]
 pub struct SharedDesk<L: Ledger> {
     pub(crate) lock: Mutex<Guarded<L>>,
@@ -49,8 +50,8 @@ fn new_pass<L: Ledger>(alloc: Global, client: u32, share: Share<L>) -> Pass<L>
 }
 
 impl<L: Ledger> SharedDesk<L> {
-    /// A desk with the variables of a table, on which no block waits, and a pass for each client, from client 0 on. It takes
-    /// this many events.
+    /// A desk with the variables of a table, on which no block waits, and a pass for each client,
+    /// from client 0 on. It takes this many events.
     pub fn open(
         alloc: Global,
         blank: Blank,
@@ -64,7 +65,8 @@ impl<L: Ledger> SharedDesk<L> {
         requires events { max_events ≤ most_events }
         ensures desk { IfOk result (λ r. r.0 ≡ passes) }
         ensures len { IfOk result (λ r. vec_len r.1 ≡ passes) }
-        ensures each { IfOk result (λ r. (k : ℕ) (d : _) → k < passes → slice_index_or r.1.items k d ≡ newcomer k) }
+        ensures each { IfOk result (λ r. (k : ℕ) (d : _) → k < passes
+            → slice_index_or r.1.items k d ≡ newcomer k) }
     {
         let (book, mut rest) = blank.open::<L>();
         let mut all = Vec::with_capacity(alloc, passes as usize)?;

@@ -12,8 +12,8 @@ use stm_terms::NoMemory;
 
 /// A job, and then its message. A job that is left was refused for want of memory.
 ///
-/// It is a struct of two options and no enum of jobs and answers: that a type may go to another thread is found by a search,
-/// which ends before it has gone through three blocks.
+/// It is a struct of two options and no enum of jobs and answers: that a type may go to another
+/// thread is found by a search, which ends before it has gone through three blocks.
 #[derive(Drop)]
 pub struct Slot {
     pub job: Option<Job>,

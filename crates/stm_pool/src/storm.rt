@@ -1,4 +1,5 @@
-//! A storm: clients and workers in threads of their own, over one desk, and the history that they leave.
+//! A storm: clients and workers in threads of their own, over one desk, and the history that they
+//! leave.
 
 ghost use Rattle.std.specs.Prelude.{◌≡◌, ◌+◌, ◌<◌, ◌≤◌, length, vec_len, IfOk};
 ghost use Rattle.stm_history.specs.SlowDesk.{max_events as most_events};
@@ -20,7 +21,8 @@ use stm_history::{HistoryFault, replay};
 use stm_store::Table;
 use stm_terms::NoMemory;
 
-/// What the tasks of a client came to. A task counts under one of them, or, where an expected value was there, under none.
+/// What the tasks of a client came to. A task counts under one of them, or, where an expected value
+/// was there, under none.
 #[derive(Clone, Copy, PartialEq, Eq, Debug)]
 pub struct Counts {
     pub submitted: usize,
@@ -33,7 +35,8 @@ pub struct Counts {
 /// What is found of a storm's history.
 #[derive(Clone, Copy, PartialEq, Eq, Debug)]
 pub enum Replay {
-    /// The desk couldn't be closed: it lacks a pass, or a client's events are not those of its pass.
+    /// The desk couldn't be closed: it lacks a pass, or a client's events are not those of its
+    /// pass.
     NotClosed,
     /// It has so many events, and isn't legal over the opened table.
     NotLegal(u32),
@@ -60,7 +63,8 @@ fn judge(alloc: Global, table: &Table, report: &Report) -> Result<Replay, NoMemo
     }
 }
 
-/// Closes a desk with its passes, of which the clients counted have the first, and replays its history.
+/// Closes a desk with its passes, of which the clients counted have the first, and replays its
+/// history.
 fn close_and_replay<L: Ledger>(
     alloc: Global,
     table: &Table,
@@ -78,7 +82,8 @@ fn close_and_replay<L: Ledger>(
     }
 }
 
-/// The end of a storm of so many clients, when its threads are joined. Where a thread gave nothing back, memory ran out.
+/// The end of a storm of so many clients, when its threads are joined. Where a thread gave nothing
+/// back, memory ran out.
 fn end_of<L: Ledger>(
     alloc: Global,
     table: &Table,
@@ -125,13 +130,14 @@ fn storm_with<L: Ledger + Send + Sync, R: Threads + Wait + Sync>(
     end_of(alloc, table, shared, returned, clients)
 }
 
-/// Opens a desk with the variables of a table and room for so many events; does what each section says, in a thread of its own,
-/// while the workers, each in a thread of its own, evaluate what is queued; then closes the desk and replays its history over
-/// the table. `levels` is how deep the workers evaluate both branches of an `orElse` at once.
+/// Opens a desk with the variables of a table and room for so many events; does what each section
+/// says, in a thread of its own, while the workers, each in a thread of its own, evaluate what is
+/// queued; then closes the desk and replays its history over the table. `levels` is how deep the
+/// workers evaluate both branches of an `orElse` at once.
 ///
-/// A client finishes a ticket as soon as it is evaluated, and waits for that where it must. Section k is client k; the workers
-/// are the clients after them. Where memory runs out, or a thread can't be started, the desk is stopped, all threads are joined,
-/// and the answer is `NoMemory`.
+/// A client finishes a ticket as soon as it is evaluated, and waits for that where it must. Section
+/// k is client k; the workers are the clients after them. Where memory runs out, or a thread can't
+/// be started, the desk is stopped, all threads are joined, and the answer is `NoMemory`.
 pub fn run_storm<R: Threads + Wait + Sync>(
     rt: &R,
     alloc: Global,
@@ -145,7 +151,8 @@ pub fn run_storm<R: Threads + Wait + Sync>(
     requires levels { levels ≤ 8 }
     requires events { max_events ≤ most_events }
     ensures each { IfOk result (λ e. vec_len e.counts ≡ vec_len sections) }
-    // A history that is legal over the table, and what the counts tell of each client is what the history has of it.
+    // A history that is legal over the table, and what the counts tell of each client is what the
+    // history has of it.
     ensures end { IfOk result (λ e. IsStormEnd table.now e.counts.items e.replay) }
 {
     let parts = sections.len() as u64 + u64::from(workers);

@@ -26,8 +26,8 @@ impl<R> Gate<R> for Open {
     fn after(&self, _rt: &R, _ticket: u32) {}
 }
 
-/// What each thread is given, as one value: what a closure may hold that goes to another thread is found by a search, which
-/// ends before it has gone through five values.
+/// What each thread is given, as one value: what a closure may hold that goes to another thread is
+/// found by a search, which ends before it has gone through five values.
 #[derive(Drop)]
 pub(crate) struct Errand<'a, 'b, L: Ledger, R> {
     rt: &'a R,
@@ -42,8 +42,9 @@ type ClientEnd<L> = (Pass<L>, Option<Extra>);
 /// A pass, and how its worker ended.
 type WorkerEnd<L> = (Pass<L>, WorkEnd);
 
-/// What the threads gave back: the passes of the clients and then those of the workers, and what was counted of each client. A
-/// thread that couldn't be started, or for which memory ran out, has no pass here.
+/// What the threads gave back: the passes of the clients and then those of the workers, and what
+/// was counted of each client. A thread that couldn't be started, or for which memory ran out, has
+/// no pass here.
 #[derive(Drop)]
 pub(crate) struct Returned<L: Ledger> {
     pub(crate) passes: Vec<Pass<L>>,
@@ -78,8 +79,8 @@ fn run_worker<'a, 'b, L: Ledger, R: Threads + Wait + Sync>(
     work(rt, alloc, shared, &Open, pass, levels)
 }
 
-/// Keeps the handle of a thread. Where the thread couldn't be started, or there is no memory for its handle, the desk is
-/// stopped, so that nobody waits for the thread.
+/// Keeps the handle of a thread. Where the thread couldn't be started, or there is no memory for
+/// its handle, the desk is stopped, so that nobody waits for the thread.
 fn keep<L: Ledger, R: Wait, T: Drop>(
     rt: &R,
     shared: &SharedDesk<L>,
@@ -123,8 +124,9 @@ fn join_workers<L: Ledger, R: Threads>(
     }
 }
 
-/// Does each section in a thread of its own with one of the first passes, and has a worker in a thread of its own with each of
-/// the others, which are stopped when all sections are done. All threads are joined.
+/// Does each section in a thread of its own with one of the first passes, and has a worker in a
+/// thread of its own with each of the others, which are stopped when all sections are done. All
+/// threads are joined.
 pub(crate) fn run_all<L: Ledger + Send + Sync, R: Threads + Wait + Sync>(
     rt: &R,
     alloc: Global,

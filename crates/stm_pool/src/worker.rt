@@ -13,7 +13,8 @@ use std::thread::Threads;
 use stm_desk::DeliverError;
 use stm_eval::evaluate_forked;
 
-/// What is called without the lock: before an evaluation, whether to begin it, and after an accepted delivery.
+/// What is called without the lock: before an evaluation, whether to begin it, and after an
+/// accepted delivery.
 pub trait Gate<R> {
     fn before(&self, rt: &R, ticket: u32) -> bool;
 
@@ -28,8 +29,9 @@ pub enum WorkEnd {
     NoMemory,
 }
 
-/// Evaluates what is queued until the desk is stopped. At a full history and where memory runs out its ticket is queued
-/// again and the desk stopped first. Both branches of an `orElse` run at once, in threads of their own, `levels` deep.
+/// Evaluates what is queued until the desk is stopped. At a full history and where memory runs out
+/// its ticket is queued again and the desk stopped first. Both branches of an `orElse` run at once,
+/// in threads of their own, `levels` deep.
 pub fn work<L: Ledger, G: Gate<R>, R: Wait + Threads + Sync>(
     rt: &R,
     alloc: Global,
@@ -50,8 +52,8 @@ pub fn work<L: Ledger, G: Gate<R>, R: Wait + Threads + Sync>(
     unreachable!()
 }
 
-/// A round: a ticket is taken, evaluated without the lock, and delivered. A delivery that is refused for what happened
-/// meanwhile ends the round.
+/// A round: a ticket is taken, evaluated without the lock, and delivered. A delivery that is
+/// refused for what happened meanwhile ends the round.
 fn round<L: Ledger, G: Gate<R>, R: Wait + Threads + Sync>(
     rt: &R,
     alloc: Global,

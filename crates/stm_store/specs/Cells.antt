@@ -8,10 +8,15 @@ use Rattle.stm_terms.specs.declared.values.Value.TheVariants.{Int, Bool as Truth
 use Rattle.stm_terms.specs.declared.verdicts.Verdict.{Verdict}
 use Rattle.stm_terms.specs.declared.verdicts.Verdict.TheVariants.{Commits, Throws, Blocks}
 use Rattle.stm_terms.specs.Changes.{no_changes, find}
+use Rattle.stm_terms.specs.Limits.{most_refs}
 use Rattle.stm_terms.specs.Value.{same_value}
 use Rattle.stm_terms.specs.Typing.{TypeEnv, type_of, Rising}
 use Rattle.stm_store.specs.declared.cell.Cell.{Cell}
 use Rattle.stm_store.specs.declared.ready.Applied.{Applied}
+
+-- how many variables a table may declare, and a store may have
+abbrev pub most_cells : ℕ
+most_cells = 1000000
 
 -- a cell without its count, as blocks see it
 abbrev pub plain : Cell → Ty × Value
@@ -31,11 +36,11 @@ StoreIsTyped cells = (i : ℕ) (c : Ty × Value) → slice_get cells i ≡ Some 
 
 -- each cell's type has at most 8 `TVar`
 abbrev pub StoreHasAtMost8Refs : List (Ty × Value) → Type 0
-StoreHasAtMost8Refs cells = (i : ℕ) (c : Ty × Value) → slice_get cells i ≡ Some c → c.0.refs ≤ 8
+StoreHasAtMost8Refs cells = (i : ℕ) (c : Ty × Value) → slice_get cells i ≡ Some c → c.0.refs ≤ most_refs
 
 -- what holds of every store, and of its copies
 pub record IsStore (cells : List (Ty × Value)) : Type 0 where
-  pub small : length cells ≤ 1000000
+  pub small : length cells ≤ most_cells
   pub typed : StoreIsTyped cells
   pub low : StoreHasAtMost8Refs cells
 
@@ -51,7 +56,7 @@ pub record CommitFits (cells : List (Ty × Value)) (ws : List (ℕ × Value)) (n
   pub writes : (i : ℕ) (v : Value) → find i ws ≡ Some v →
       (t : Ty) × (kinds_of cells i ≡ Some t) × (type_of (kinds_of cells) (record { writes = ws; news = ns }) v ≡ Some t)
   pub news : (k : ℕ) (c : Ty × Value) → slice_get ns k ≡ Some c →
-      (type_of (kinds_of cells) (record { writes = ws; news = ns }) c.1 ≡ Some c.0) × (c.0.refs ≤ 8)
+      (type_of (kinds_of cells) (record { writes = ws; news = ns }) c.1 ≡ Some c.0) × (c.0.refs ≤ most_refs)
   pub result : (t : Ty) × (type_of (kinds_of cells) (record { writes = ws; news = ns }) given ≡ Some t)
 
 -- a throw and a retry fit every store
@@ -78,7 +83,12 @@ counted n = min (n + 1) (2 ^ 64 - 1)
 
 -- a cell that a value is written to: it is counted once more, unless the value is the one that it has
 abbrev pub rewritten : ℕ → Value → Cell → Cell
-rewritten n v c = record { kind = c.kind; value = renumbered n v; count = if same_value (renumbered n v) c.value then c.count else counted c.count }
+rewritten n v c =
+    record {
+      kind = c.kind;
+      value = renumbered n v;
+      count = if same_value (renumbered n v) c.value then c.count else counted c.count;
+    }
 
 -- the cells with the i-th written, if it is there
 abbrev pub with_write : ℕ → List Cell → ℕ → Value → Option Cell → List Cell
@@ -134,12 +144,14 @@ changes_value n (Some c) v = not (same_value (renumbered n v) c.value)
 
 -- the variables that a verdict changes: it writes them, and their value afterwards is another one
 abbrev pub changed_by : List Cell → Verdict → List ℕ
-changed_by cells (Commits writes news result) = map (λ w. w.0) (filter (λ w. changes_value (length cells) (slice_get cells w.0) w.1) writes)
+changed_by cells (Commits writes news result) =
+    map (λ w. w.0) (filter (λ w. changes_value (length cells) (slice_get cells w.0) w.1) writes)
 changed_by cells (Throws f) = []
 changed_by cells Blocks = []
 
 -- What applying a verdict means, variable by variable: one that the verdict writes has the value written and, where that is
 -- another value, is counted once more; any other is as it was; and the new cells come after them, in order.
 pub record IsApplied (old : List Cell) (verdict : Verdict) (new : List Cell) : Type 0 where
-  pub olds : (i : ℕ) → i < length old → slice_get new i ≡ option_map (after_write (length old) (written_by verdict i)) (slice_get old i)
+  pub olds : (i : ℕ) → i < length old
+      → slice_get new i ≡ option_map (after_write (length old) (written_by verdict i)) (slice_get old i)
   pub news : (k : ℕ) → slice_get new (length old + k) ≡ option_map (new_cell (length old)) (slice_get (made_by verdict) k)

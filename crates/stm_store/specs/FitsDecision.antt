@@ -5,6 +5,7 @@ use Rattle.stm_terms.specs.declared.values.Value.{Value}
 use Rattle.stm_terms.specs.declared.verdicts.Verdict.{Verdict}
 use Rattle.stm_terms.specs.declared.verdicts.Verdict.TheVariants.{Commits, Throws, Blocks}
 use Rattle.stm_terms.specs.Changes.{Changes}
+use Rattle.stm_terms.specs.Limits.{most_refs}
 use Rattle.stm_terms.specs.Typing.{TypeEnv, type_of}
 use Rattle.stm_store.specs.Cells.{kinds_of}
 use Rattle.stm_store.specs.Tables.{is_type}
@@ -40,11 +41,12 @@ writes_fit k h (w ∷ ws) = value_fits k h w.1 (k w.0) && writes_fit k h ws
 -- each new cell has a type of at most 8 `TVar` and a value of it
 abbrev pub news_fit : TypeEnv → Changes → List (Ty × Value) → Bool
 news_fit k h [] = true
-news_fit k h (c ∷ cs) = (nat_le c.0.refs 8 && has_type k h c.1 c.0) && news_fit k h cs
+news_fit k h (c ∷ cs) = (nat_le c.0.refs most_refs && has_type k h c.1 c.0) && news_fit k h cs
 
 -- the verdict can be applied
 abbrev pub fits_decision : List (Ty × Value) → Verdict → Bool
 fits_decision cells (Commits writes news v) =
-    (rise_from 0 writes && writes_fit (kinds_of cells) (making news) writes) && (news_fit (kinds_of cells) (making news) news && is_some (type_of (kinds_of cells) (making news) v))
+    (rise_from 0 writes && writes_fit (kinds_of cells) (making news) writes)
+    && (news_fit (kinds_of cells) (making news) news && is_some (type_of (kinds_of cells) (making news) v))
 fits_decision cells (Throws f) = true
 fits_decision cells Blocks = true

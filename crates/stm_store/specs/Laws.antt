@@ -5,7 +5,7 @@ use Rattle.stm_terms.specs.declared.kinds.Ty.{Ty}
 use Rattle.stm_terms.specs.declared.verdicts.Verdict.{Verdict}
 use Rattle.stm_store.specs.declared.cell.Cell.{Cell}
 use Rattle.stm_terms.specs.Changes.{cell_value}
-use Rattle.stm_store.specs.Cells.{plains, kinds_of, StoreIsTyped, IsStore, Covers, Fits, IsApplied, applied, made_by, written_by, changed_by}
+use Rattle.stm_store.specs.Cells.{most_cells, plains, kinds_of, StoreIsTyped, IsStore, Covers, Fits, IsApplied, applied, made_by, written_by, changed_by}
 use Rattle.stm_store.specs.Tables.{Declared, declared_cells, opened}
 
 -- a variable that is there stays, with its type
@@ -37,7 +37,8 @@ ChangedDiffer =
 abbrev pub UnchangedStay : Type 0
 UnchangedStay =
     (cells : List Cell) (verdict : Verdict) (i : ℕ) (c : Cell)
-    → list_any (nat_eq i) (changed_by cells verdict) ≡ false → slice_get cells i ≡ Some c → slice_get (applied cells verdict) i ≡ Some c
+    → list_any (nat_eq i) (changed_by cells verdict) ≡ false → slice_get cells i ≡ Some c
+    → slice_get (applied cells verdict) i ≡ Some c
 
 -- a verdict that fits means the same variable by variable
 abbrev pub FittingAreApplied : Type 0
@@ -54,7 +55,7 @@ FittingKeepTypes =
 abbrev pub FittingKeepStores : Type 0
 FittingKeepStores =
     (cells : List Cell) (verdict : Verdict)
-    → Fits (plains cells) verdict → IsStore (plains cells) → length cells + length (made_by verdict) ≤ 1000000
+    → Fits (plains cells) verdict → IsStore (plains cells) → length cells + length (made_by verdict) ≤ most_cells
     → IsStore (plains (applied cells verdict))
 
 -- a store opens with the variables of its table

@@ -4,6 +4,14 @@ use Rattle.std.specs.declared.alloc.Global.{Global}
 use Rattle.std.specs.declared.sync.Arc.{Arc}
 use Rattle.std.specs.Arc.{arc_value}
 
+-- how many cells a full page has
+abbrev pub page_cells : ℕ
+page_cells = 64
+
+-- how many cells a full part has: 64 pages
+abbrev pub part_cells : ℕ
+part_cells = 4096
+
 module _ {A : Type 0} where
   -- the pages behind their pointers
   abbrev pub contents : List (Arc (List A) Global) → List (List A)

@@ -3,13 +3,14 @@ use Rattle.std.specs.Prelude.{◌≡◌, ℕ, ◌+◌, ◌≤◌, Bool, false, n
 use Rattle.std.specs.Str.{bytes_eq}
 use Rattle.stm_terms.specs.declared.kinds.Ty.{Ty}
 use Rattle.stm_terms.specs.declared.values.Value.{Value}
+use Rattle.stm_terms.specs.Limits.{most_refs}
 use Rattle.stm_terms.specs.Names.{is_name_text}
 use Rattle.stm_terms.specs.Typing.{type_of, same_ty}
 use Rattle.stm_terms.specs.Changes.{no_changes}
 use Rattle.stm_store.specs.declared.cell.Cell.{Cell}
 use Rattle.stm_store.specs.declared.table.DeclareError.{DeclareError}
 use Rattle.stm_store.specs.declared.table.DeclareError.TheVariants.{Twice, TypeOfValue, TableFull, NoMemory}
-use Rattle.stm_store.specs.Cells.{kinds_of, StoreIsTyped, StoreHasAtMost8Refs}
+use Rattle.stm_store.specs.Cells.{most_cells, kinds_of, StoreIsTyped, StoreHasAtMost8Refs}
 
 -- a variable's name, the type of its cell, and its first value
 pub record Declared : Type 0 where
@@ -53,14 +54,14 @@ is_of cells value kind = is_type (type_of (kinds_of cells) no_changes value) kin
 
 -- a variable may be declared with a type of at most 8 `TVar` and a value of it
 abbrev pub may_hold : List (Ty × Value) → Ty → Value → Bool
-may_hold cells kind value = nat_le kind.refs 8 && is_of cells value kind
+may_hold cells kind value = nat_le kind.refs most_refs && is_of cells value kind
 
 -- why a variable can't be declared: the first reason that holds
 abbrev pub declare_refusal : List Declared → List ℕ → Ty → Value → Option DeclareError
 declare_refusal table name kind value =
     if is_some (number_of name table) then Some Twice
     else if not (may_hold (declared_cells table) kind value) then Some TypeOfValue
-    else if nat_lt (length table) 1000000 then None else Some TableFull
+    else if nat_lt (length table) most_cells then None else Some TableFull
 
 -- the refusal that an answer reports; an out-of-memory error is none
 abbrev pub refusal_of : Result ℕ DeclareError → Option DeclareError
@@ -85,7 +86,7 @@ AreDeclared table = (i : ℕ) (d : Declared) → slice_get table i ≡ Some d �
 
 -- what holds of every table
 pub record IsTable (table : List Declared) : Type 0 where
-  pub small : length table ≤ 1000000
+  pub small : length table ≤ most_cells
   pub typed : StoreIsTyped (declared_cells table)
   pub low : StoreHasAtMost8Refs (declared_cells table)
   pub named : NamesAreNames table

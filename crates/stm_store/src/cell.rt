@@ -20,7 +20,8 @@ impl Cell {
     pub fn written(self, value: Value) -> Cell
         ensures kind { result.kind ≡ self.kind }
         ensures value { result.value ≡ value }
-        ensures count { result.count ≡ (if same_value value self.value then self.count else counted self.count) }
+        ensures count { result.count
+            ≡ (if same_value value self.value then self.count else counted self.count) }
     {
         if value == self.value {
             self

@@ -2,7 +2,7 @@
 
 ghost use Rattle.std.specs.Prelude.{◌≡◌, ◌+◌, ◌≤◌, ◌++◌, length, map, take, IfOk, OnOk, OnErr};
 ghost use Rattle.stm_terms.specs.Typing.{Rising};
-ghost use Rattle.stm_store.specs.Cells.{Fits, plains, new_cell, with_writes, applied, made_by, applied_answer};
+ghost use Rattle.stm_store.specs.Cells.{most_cells, Fits, plains, new_cell, with_writes, applied, made_by, applied_answer};
 ghost use Rattle.stm_store.specs.FreshReferences.{AreWritable, AreAddable};
 
 use crate::cell_list::CellList;
@@ -16,7 +16,7 @@ use stm_terms::verdicts::Verdict;
 /// Makes the writes and the new variables of a verdict that fits.
 pub(crate) fn perform(cells: &mut CellList, verdict: &Verdict) -> Result<Applied, NoMemory>
     requires fits { Fits (plains cells.old) verdict.now }
-    requires room { length cells.old + length (made_by verdict.now) ≤ 1000000 }
+    requires room { length cells.old + length (made_by verdict.now) ≤ most_cells }
     ensures applied { OnOk result (cells.new ≡ applied cells.old verdict.now) }
     ensures applied_answer { IfOk result (λ a. a ≡ applied_answer cells.old verdict.now) }
     ensures err { OnErr result (cells.new ≡ cells.old) }
@@ -47,11 +47,13 @@ fn change(
     writes: &[(u32, Value)],
     news: &[(Ty, Value)],
 ) -> Result<(), NoMemory>
-    requires small { length cells.old + length news.now ≤ 1000000 }
+    requires small { length cells.old + length news.now ≤ most_cells }
     requires writable { AreWritable (length cells.old) writes.now }
     requires rising { Rising writes.now }
     requires addable { AreAddable (length cells.old) news.now }
-    ensures ok { OnOk result (cells.new ≡ with_writes (length cells.old) writes.now cells.old ++ map (new_cell (length cells.old)) news.now) }
+    ensures ok { OnOk result (cells.new
+        ≡ with_writes (length cells.old) writes.now cells.old
+        ++ map (new_cell (length cells.old)) news.now) }
     ensures err { OnErr result (cells.new ≡ cells.old) }
 {
     let len = cells.len();
@@ -72,11 +74,12 @@ fn add_and_write(
     news: &[(Ty, Value)],
 ) -> Result<(), NoMemory>
     requires len { length cells.old ≡ len }
-    requires small { length cells.old + length news.now ≤ 1000000 }
+    requires small { length cells.old + length news.now ≤ most_cells }
     requires writable { AreWritable len writes.now }
     requires rising { Rising writes.now }
     requires addable { AreAddable len news.now }
-    ensures ok { OnOk result (cells.new ≡ with_writes len writes.now cells.old ++ map (new_cell len) news.now) }
+    ensures ok { OnOk result (cells.new
+        ≡ with_writes len writes.now cells.old ++ map (new_cell len) news.now) }
     ensures long { length cells.old ≤ length cells.new }
     ensures err { OnErr result (take (length cells.old) cells.new ≡ cells.old) }
 {
@@ -86,7 +89,7 @@ fn add_and_write(
 }
 
 fn add_all(cells: &mut CellList, len: u32, news: &[(Ty, Value)]) -> Result<(), NoMemory>
-    requires small { length cells.old + length news.now ≤ 1000000 }
+    requires small { length cells.old + length news.now ≤ most_cells }
     requires addable { AreAddable len news.now }
     ensures ok { OnOk result (cells.new ≡ cells.old ++ map (new_cell len) news.now) }
     ensures long { length cells.old ≤ length cells.new }

@@ -4,7 +4,7 @@ ghost use Rattle.std.specs.Prelude.{◌≡◌, ◌++◌, ◌≤◌, length, map,
 ghost use Rattle.stm_terms.specs.declared.values.Ref.TheVariants.{Old as OldRef};
 ghost use Rattle.stm_terms.specs.declared.values.Value.TheVariants.{Var as Variable};
 ghost use Rattle.stm_terms.specs.Value.{same_value};
-ghost use Rattle.stm_store.specs.Cells.{renumbered, changes_value, changed_by};
+ghost use Rattle.stm_store.specs.Cells.{most_cells, renumbered, changes_value, changed_by};
 
 use crate::cell_list::CellList;
 use stm_terms::NoMemory;
@@ -55,7 +55,10 @@ fn push_changed(
     len: u32,
     writes: &[(u32, Value)],
 ) -> Result<(), NoMemory>
-    ensures { OnOk result (changed.new.items ≡ changed.old.items ++ map (λ w. w.0) (filter (λ w. changes_value len (slice_get cells.now w.0) w.1) writes.now)) }
+    ensures { OnOk result (changed.new.items
+        ≡ changed.old.items
+        ++ map (λ w. w.0)
+        (filter (λ w. changes_value len (slice_get cells.now w.0) w.1) writes.now)) }
 {
     for (variable, value) in writes {
         if changes(cells, len, *variable, *value) {
@@ -67,7 +70,7 @@ fn push_changed(
 
 /// The variables that a verdict changes, in the order in which it writes them.
 pub(crate) fn changed_variables(cells: &CellList, verdict: &Verdict) -> Result<Vec<u32>, NoMemory>
-    requires { length cells.now ≤ 1000000 }
+    requires { length cells.now ≤ most_cells }
     ensures { IfOk result (λ vs. vs.items ≡ changed_by cells.now verdict.now) }
 {
     let mut changed = Vec::new(cells.allocator());

@@ -19,13 +19,13 @@ pub(crate) struct Chunk {
 impl Model for Chunk {
     ghost use Rattle.std.specs.Prelude.{List};
     ghost use Rattle.stm_store.specs.declared.cell.Cell.{Cell as AnyCell};
-    ghost use Rattle.stm_store.specs.Pages.{contents, flatten, ArePages};
+    ghost use Rattle.stm_store.specs.Pages.{page_cells, contents, flatten, ArePages};
 
     ghost Value = { List AnyCell };
 
     ghost view = { λ l. flatten (contents l.pages.items) };
 
-    ghost invariant = { λ l. ArePages 64 l.len (contents l.pages.items) };
+    ghost invariant = { λ l. ArePages page_cells l.len (contents l.pages.items) };
 }
 
 impl Chunk {

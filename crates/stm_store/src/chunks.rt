@@ -25,13 +25,13 @@ pub(crate) struct Chunks {
 impl Model for Chunks {
     ghost use Rattle.std.specs.Prelude.{List};
     ghost use Rattle.stm_store.specs.declared.cell.Cell.{Cell as AnyCell};
-    ghost use Rattle.stm_store.specs.Pages.{contents, flatten, ArePages};
+    ghost use Rattle.stm_store.specs.Pages.{part_cells, contents, flatten, ArePages};
 
     ghost Value = { List AnyCell };
 
     ghost view = { λ l. flatten (contents l.parts.items) };
 
-    ghost invariant = { λ l. ArePages 4096 l.len (contents l.parts.items) };
+    ghost invariant = { λ l. ArePages part_cells l.len (contents l.parts.items) };
 }
 
 impl Chunks {

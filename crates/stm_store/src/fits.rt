@@ -63,7 +63,7 @@ fn news_hold(cells: &CellList, news: &[(Ty, Value)]) -> bool
     ensures { result ≡ news_fit (kinds_of (plains cells.now)) (making news.now) news.now }
 {
     for (kind, value) in news {
-        if !(kind.refs <= 8 && value_has(cells, news, *value, *kind)) {
+        if !(kind.refs <= Ty::MOST_REFS && value_has(cells, news, *value, *kind)) {
             return false;
         }
     }

@@ -2,7 +2,7 @@
 
 ghost use Rattle.std.specs.Prelude.{◌≡◌, ◌<◌, ◌≤◌, ◌↔◌, Some, length, IsTrue, IfOk};
 ghost use Rattle.stm_terms.specs.Changes.{cell_value};
-ghost use Rattle.stm_store.specs.Cells.{StoreIsTyped, StoreHasAtMost8Refs, IsStore, Covers, kinds_of, plains};
+ghost use Rattle.stm_store.specs.Cells.{most_cells, StoreIsTyped, StoreHasAtMost8Refs, IsStore, Covers, kinds_of, plains};
 
 use crate::cell_list::CellList;
 use crate::covers::covers;
@@ -41,7 +41,7 @@ impl Frozen {
     /// How many variables there are. What holds of every copy stands here.
     pub fn len(&self) -> usize
         ensures len { result ≡ length self.now }
-        ensures small { length self.now ≤ 1000000 }
+        ensures small { length self.now ≤ most_cells }
         ensures typed { StoreIsTyped self.now }
         ensures low { StoreHasAtMost8Refs self.now }
     {

@@ -8,7 +8,7 @@
 ghost use Rattle.std.specs.Prelude.{◌≡◌, ◌+◌, ◌-◌, ◌^◌, ◌<◌, ◌≤◌, nat_lt, ◌∷◌, ◌++◌, length, OnOk, OnErr};
 ghost use Rattle.std.specs.Arc.{arc_value};
 ghost use Rattle.std.specs.List.{prefix_len};
-ghost use Rattle.stm_store.specs.Pages.{contents, flatten, sizes, ArePages};
+ghost use Rattle.stm_store.specs.Pages.{page_cells, part_cells, contents, flatten, sizes, ArePages};
 ghost use Rattle.stm_store.specs.RangeWrites.{AreWithin, StartsBelow, with_writes_from};
 
 use crate::chunk::Chunk;
@@ -25,9 +25,12 @@ pub(crate) fn write_parts(
     len: u32,
     writes: &[(u32, Value)],
 ) -> Result<(), AllocError>
-    requires parts { ArePages 4096 (length (flatten (contents parts.old))) (contents parts.old) }
-    requires writes { AreWithin len first (first + length (flatten (contents parts.old))) writes.now }
-    ensures ok { OnOk result (flatten (contents parts.new) ≡ with_writes_from len first writes.now (flatten (contents parts.old))) }
+    requires parts { ArePages part_cells (length (flatten (contents parts.old)))
+        (contents parts.old) }
+    requires writes { AreWithin len first
+        (first + length (flatten (contents parts.old))) writes.now }
+    ensures ok { OnOk result (flatten (contents parts.new)
+        ≡ with_writes_from len first writes.now (flatten (contents parts.old))) }
     ensures err { OnErr result (flatten (contents parts.new) ≡ flatten (contents parts.old)) }
     ensures sizes { sizes parts.new ≡ sizes parts.old }
 {
@@ -55,13 +58,18 @@ fn write_part(
     len: u32,
     writes: &[(u32, Value)],
 ) -> Result<(), AllocError>
-    requires parts { ArePages 4096 (length (arc_value part.old ++ flatten (contents parts.old))) (arc_value part.old ∷ contents parts.old) }
-    requires writes { AreWithin len first (first + length (arc_value part.old ++ flatten (contents parts.old))) writes.now }
+    requires parts { ArePages part_cells
+        (length (arc_value part.old ++ flatten (contents parts.old)))
+        (arc_value part.old ∷ contents parts.old) }
+    requires writes { AreWithin len first
+        (first + length (arc_value part.old ++ flatten (contents parts.old))) writes.now }
     requires here { StartsBelow (first + length (arc_value part.old)) writes.now }
     requires room { first + length (arc_value part.old) < 2 ^ 64 }
     ensures ok { OnOk result (arc_value part.new ++ flatten (contents parts.new)
-        ≡ with_writes_from len first writes.now (arc_value part.old ++ flatten (contents parts.old))) }
-    ensures err { OnErr result (arc_value part.new ++ flatten (contents parts.new) ≡ arc_value part.old ++ flatten (contents parts.old)) }
+        ≡ with_writes_from len first writes.now
+        (arc_value part.old ++ flatten (contents parts.old))) }
+    ensures err { OnErr result (arc_value part.new ++ flatten (contents parts.new)
+        ≡ arc_value part.old ++ flatten (contents parts.old)) }
     ensures size { length (arc_value part.new) ≡ length (arc_value part.old) }
     ensures sizes { sizes parts.new ≡ sizes parts.old }
 {
@@ -82,11 +90,13 @@ fn write_pages(
     writes: &[(u32, Value)],
 ) -> Result<(), AllocError>
     requires order { first ≤ end }
-    requires pages { ArePages 64 (end - first) (contents pages.old) }
-    requires parts { ArePages 4096 (length (flatten (contents parts.old))) (contents parts.old) }
+    requires pages { ArePages page_cells (end - first) (contents pages.old) }
+    requires parts { ArePages part_cells (length (flatten (contents parts.old)))
+        (contents parts.old) }
     requires writes { AreWithin len first (end + length (flatten (contents parts.old))) writes.now }
     ensures ok { OnOk result (flatten (contents pages.new) ++ flatten (contents parts.new)
-        ≡ with_writes_from len first writes.now (flatten (contents pages.old) ++ flatten (contents parts.old))) }
+        ≡ with_writes_from len first writes.now
+        (flatten (contents pages.old) ++ flatten (contents parts.old))) }
     ensures err { OnErr result (flatten (contents pages.new) ++ flatten (contents parts.new)
         ≡ flatten (contents pages.old) ++ flatten (contents parts.old)) }
     ensures sizes { sizes pages.new ≡ sizes pages.old }
@@ -125,13 +135,18 @@ fn write_page(
     writes: &[(u32, Value)],
 ) -> Result<(), AllocError>
     requires order { first ≤ end }
-    requires pages { ArePages 64 (end - first) (arc_value page.old ∷ contents pages.old) }
-    requires parts { ArePages 4096 (length (flatten (contents parts.old))) (contents parts.old) }
+    requires pages { ArePages page_cells (end - first) (arc_value page.old ∷ contents pages.old) }
+    requires parts { ArePages part_cells (length (flatten (contents parts.old)))
+        (contents parts.old) }
     requires writes { AreWithin len first (end + length (flatten (contents parts.old))) writes.now }
     requires here { StartsBelow (first + length (arc_value page.old)) writes.now }
-    ensures ok { OnOk result (arc_value page.new ++ (flatten (contents pages.new) ++ flatten (contents parts.new))
-        ≡ with_writes_from len first writes.now (arc_value page.old ++ (flatten (contents pages.old) ++ flatten (contents parts.old)))) }
-    ensures err { OnErr result (arc_value page.new ++ (flatten (contents pages.new) ++ flatten (contents parts.new))
+    ensures ok { OnOk result (arc_value page.new
+        ++ (flatten (contents pages.new) ++ flatten (contents parts.new))
+        ≡ with_writes_from len first writes.now
+        (arc_value page.old
+        ++ (flatten (contents pages.old) ++ flatten (contents parts.old)))) }
+    ensures err { OnErr result (arc_value page.new
+        ++ (flatten (contents pages.new) ++ flatten (contents parts.new))
         ≡ arc_value page.old ++ (flatten (contents pages.old) ++ flatten (contents parts.old))) }
     ensures size { length (arc_value page.new) ≡ length (arc_value page.old) }
     ensures sizes { sizes pages.new ≡ sizes pages.old }

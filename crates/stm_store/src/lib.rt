@@ -1,4 +1,8 @@
 //! The declared variables, the store of their values, and unchanging copies of it.
+//!
+//! What a reader has to believe stands in `specs/`: `Cells` (what holds of every store, which verdicts fit it, and what
+//! applying one does), `Tables` (what holds of every table, and why a variable can't be declared), and `Laws` (what applying
+//! a verdict keeps).
 #![tactic(auto)]
 
 pub mod cell;

@@ -3,7 +3,7 @@
 ghost use Rattle.std.specs.Prelude.{◌≡◌, ◌+◌, ◌<◌, ◌≤◌, ◌↔◌, Some, length, slice_get, option_map, IsTrue, IfOk, IfErr, OnOk, OnErr, IsErrOf};
 ghost use Rattle.std.specs.List.Sorted.{IsStrictlyIncreasing};
 ghost use Rattle.stm_terms.specs.Changes.{cell_value};
-ghost use Rattle.stm_store.specs.Cells.{StoreIsTyped, StoreHasAtMost8Refs, Covers, Fits, IsApplied, kinds_of, plains, applied, changed_by, result_there, made_by, applied_answer};
+ghost use Rattle.stm_store.specs.Cells.{most_cells, StoreIsTyped, StoreHasAtMost8Refs, Covers, Fits, IsApplied, kinds_of, plains, applied, changed_by, result_there, made_by, applied_answer};
 ghost use Rattle.stm_store.specs.Tables.{opened};
 
 use crate::cell::Cell;
@@ -63,7 +63,7 @@ impl Store {
     /// How many variables there are. What holds of every store stands here.
     pub fn len(&self) -> usize
         ensures len { result ≡ length self.now }
-        ensures small { length self.now ≤ 1000000 }
+        ensures small { length self.now ≤ most_cells }
         ensures typed { StoreIsTyped (plains self.now) }
         ensures low { StoreHasAtMost8Refs (plains self.now) }
     {
@@ -120,7 +120,8 @@ impl Store {
     /// the verdict can be applied.
     pub fn changes(&self, verdict: &Verdict) -> Result<Vec<u32>, NoMemory>
         ensures changed { IfOk result (λ vs. vs.items ≡ changed_by self.now verdict.now) }
-        ensures rising { Fits (plains self.now) verdict.now → IfOk result (λ vs. IsStrictlyIncreasing vs.items) }
+        ensures rising { Fits (plains self.now) verdict.now
+            → IfOk result (λ vs. IsStrictlyIncreasing vs.items) }
     {
         changed_variables(&self.cells, verdict)
     }
@@ -134,10 +135,13 @@ impl Store {
         requires { Fits (plains self.old) verdict.now }
         ensures applied { OnOk result (self.new ≡ applied self.old verdict.now) }
         ensures each { OnOk result (IsApplied self.old verdict.now self.new) }
-        ensures applied_answer { IfOk result (λ a. (a.first_new ≡ length self.old) × (a.result ≡ result_there self.old verdict.now)) }
-        ensures room { OnOk result (length self.old + length (made_by verdict.now) ≤ 1000000) }
-        ensures full { IsErrOf result ApplyError.CellsFull → 1000000 < length self.old + length (made_by verdict.now) }
-        ensures no_memory { IsErrOf result ApplyError.NoMemory → length self.old + length (made_by verdict.now) ≤ 1000000 }
+        ensures applied_answer { IfOk result (λ a. (a.first_new ≡ length self.old)
+            × (a.result ≡ result_there self.old verdict.now)) }
+        ensures room { OnOk result (length self.old + length (made_by verdict.now) ≤ most_cells) }
+        ensures full { IsErrOf result ApplyError.CellsFull
+            → most_cells < length self.old + length (made_by verdict.now) }
+        ensures no_memory { IsErrOf result ApplyError.NoMemory
+            → length self.old + length (made_by verdict.now) ≤ most_cells }
         ensures err { OnErr result (self.new ≡ self.old) }
     {
         self.has_room(verdict)?;
@@ -148,10 +152,13 @@ impl Store {
     /// all its memory before its first change.
     pub fn prepare(&self, verdict: &Verdict) -> Result<Ready, ApplyError>
         requires { Fits (plains self.now) verdict.now }
-        ensures ready { IfOk result (λ r. r ≡ (applied self.now verdict.now, applied_answer self.now verdict.now)) }
-        ensures room { OnOk result (length self.now + length (made_by verdict.now) ≤ 1000000) }
-        ensures full { IsErrOf result ApplyError.CellsFull → 1000000 < length self.now + length (made_by verdict.now) }
-        ensures no_memory { IsErrOf result ApplyError.NoMemory → length self.now + length (made_by verdict.now) ≤ 1000000 }
+        ensures ready { IfOk result (λ r. r
+            ≡ (applied self.now verdict.now, applied_answer self.now verdict.now)) }
+        ensures room { OnOk result (length self.now + length (made_by verdict.now) ≤ most_cells) }
+        ensures full { IsErrOf result ApplyError.CellsFull
+            → most_cells < length self.now + length (made_by verdict.now) }
+        ensures no_memory { IsErrOf result ApplyError.NoMemory
+            → length self.now + length (made_by verdict.now) ≤ most_cells }
     {
         self.has_room(verdict)?;
         let mut cells = self.cells.share()?;
@@ -170,8 +177,8 @@ impl Store {
 
     /// Whether there may be as many variables more as the verdict makes.
     fn has_room(&self, verdict: &Verdict) -> Result<(), ApplyError>
-        ensures ok { OnOk result (length self.now + length (made_by verdict.now) ≤ 1000000) }
-        ensures err { OnErr result (1000000 < length self.now + length (made_by verdict.now)) }
+        ensures ok { OnOk result (length self.now + length (made_by verdict.now) ≤ most_cells) }
+        ensures err { OnErr result (most_cells < length self.now + length (made_by verdict.now)) }
         ensures full { IfErr result (λ e. e ≡ ApplyError.CellsFull) }
     {
         let more = match verdict {

@@ -2,7 +2,7 @@
 
 ghost use Rattle.std.specs.Prelude.{◌≡◌, ◌<◌, ◌≤◌, ◌++◌, ◌∷◌, [], Some, length, IsTrue, IfOk, IfSome, OnOk, OnErr, slice_get, option_map};
 ghost use Rattle.stm_terms.specs.Names.{is_name_text};
-ghost use Rattle.stm_store.specs.Cells.{StoreIsTyped, StoreHasAtMost8Refs, kinds_of};
+ghost use Rattle.stm_store.specs.Cells.{most_cells, StoreIsTyped, StoreHasAtMost8Refs, kinds_of};
 ghost use Rattle.stm_store.specs.Tables.{Declared, declared_cells, number_of, is_of, may_hold, declare_refusal, refusal_of, NamesAreNames, NamesAreDistinct, AreDeclared};
 
 use crate::types::{plain_type, refers_to};
@@ -101,7 +101,7 @@ impl Table {
     /// How many variables there are. What holds of every table stands here.
     pub fn len(&self) -> usize
         ensures len { result ≡ length self.now }
-        ensures small { length self.now ≤ 1000000 }
+        ensures small { length self.now ≤ most_cells }
         ensures typed { StoreIsTyped (declared_cells self.now) }
         ensures low { StoreHasAtMost8Refs (declared_cells self.now) }
         ensures named { NamesAreNames self.now }
@@ -168,7 +168,7 @@ impl Table {
     fn may_hold(&self, kind: Ty, value: Value) -> bool
         ensures { result ≡ may_hold (declared_cells self.now) kind value }
     {
-        kind.refs <= 8 && self.is_of(value, kind)
+        kind.refs <= Ty::MOST_REFS && self.is_of(value, kind)
     }
 
     /// Whether the value is of the type.
@@ -190,7 +190,9 @@ impl Table {
     /// Declares a variable after the others and answers its number. The caller knows that the name is one.
     pub fn declare(&mut self, name: &str, kind: Ty, value: Value) -> Result<u32, DeclareError>
         requires { IsTrue (is_name_text name.now) }
-        ensures ok { IfOk result (λ id. (id ≡ length self.old) × (self.new ≡ self.old ++ record { name = name.now; kind = kind; value = value } ∷ [])) }
+        ensures ok { IfOk result (λ id. (id ≡ length self.old)
+            × (self.new ≡ self.old
+            ++ record { name = name.now; kind = kind; value = value } ∷ [])) }
         ensures err { OnErr result (self.new ≡ self.old) }
         ensures told { refusal_of result ≡ declare_refusal self.old name.now kind value }
     {

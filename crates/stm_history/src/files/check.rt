@@ -27,7 +27,8 @@ use stm_store::{DeclareError, Table};
 /// The most bytes of a line.
 const MAX_LINE: usize = 1_048_576;
 
-const MAX_CELLS: u32 = 1_000_000;
+/// The most variables of a table.
+const MAX_CELLS: u32 = Table::LIMIT as u32;
 
 /// How far the lines have come: before the first; in a format, among the variables, of which so many were promised; in a
 /// format, among the events.
@@ -125,7 +126,8 @@ fn take_variable(
 /// The number of the line that comes next.
 fn line_number(table: &Table, replayer: &Replayer) -> u32
     requires { (H : List AnyEvent) × Follows table.now H replayer.now }
-    ensures { (H : List AnyEvent) → Follows table.now H replayer.now → result ≡ next_line table.now H }
+    ensures { (H : List AnyEvent) → Follows table.now H replayer.now
+        → result ≡ next_line table.now H }
 {
     table.len() as u32 + replayer.events + 2
 }
@@ -138,7 +140,8 @@ fn take_event(
     number: u32,
 ) -> Result<(), HistoryFault>
     requires { (T : List Declared) × (H : List AnyEvent) × FollowsIn format T H replayer.old }
-    ensures done { OnOk result ((T : List Declared) (H : List AnyEvent) → FollowsIn format T H replayer.old
+    ensures done { OnOk result ((T : List Declared) (H : List AnyEvent)
+        → FollowsIn format T H replayer.old
         → FollowsIn format T (H ++ event.now ∷ []) replayer.new) }
     ensures fits { OnOk result (FitsFormat format event.now) }
     ensures refused { IfErr result (λ e. (T : List Declared) (H : List AnyEvent)
@@ -168,7 +171,8 @@ fn take_event_line(
         → (e : AnyEvent)
         × LeadsTo (at_events format table.now H) line.now (at_events format table.now (H ++ e ∷ []))
         × FollowsIn format table.now (H ++ e ∷ []) replayer.new) }
-    ensures refused { IfErr result (λ e. (H : List AnyEvent) → FollowsIn format table.now H replayer.old
+    ensures refused { IfErr result (λ e. (H : List AnyEvent)
+        → FollowsIn format table.now H replayer.old
         → MayRefuse (at_events format table.now H) line.now e) }
 {
     let number = line_number(table, replayer);
@@ -206,8 +210,10 @@ fn run_on(
 /// Takes a whole line.
 fn take_line(alloc: Global, stage: Stage, line: &[u8]) -> Result<Stage, HistoryFault>
     requires { (p : CheckerState) × IsStage stage p × CountsWithinLimits p }
-    ensures leads { IfOk result (λ s. (p : CheckerState) → IsStage stage p → LeadsToStage p line.now s) }
-    ensures refused { IfErr result (λ e. (p : CheckerState) → IsStage stage p → MayRefuse p line.now e) }
+    ensures leads { IfOk result (λ s. (p : CheckerState) → IsStage stage p
+        → LeadsToStage p line.now s) }
+    ensures refused { IfErr result (λ e. (p : CheckerState) → IsStage stage p
+        → MayRefuse p line.now e) }
 {
     match stage {
         Stage::Before => take_header(alloc, line),
@@ -262,9 +268,11 @@ impl Checker {
     /// Takes one more byte.
     fn take_byte(&mut self, byte: u8) -> Result<(), HistoryFault>
         requires { (taken : List ℕ) × Reached self.old.stage self.old.line.items taken }
-        ensures done { OnOk result ((taken : List ℕ) → Reached self.old.stage self.old.line.items taken
+        ensures done { OnOk result ((taken : List ℕ)
+            → Reached self.old.stage self.old.line.items taken
             → Reached self.new.stage self.new.line.items (taken ++ byte ∷ [])) }
-        ensures fault { IfErr result (λ e. (taken more : List ℕ) → Reached self.old.stage self.old.line.items taken
+        ensures fault { IfErr result (λ e. (taken more : List ℕ)
+            → Reached self.old.stage self.old.line.items taken
             → TellsFault e (taken ++ byte ∷ more)) }
     {
         if byte == b'\n' {
@@ -285,9 +293,11 @@ impl Checker {
     /// Takes the next bytes.
     fn take_bytes(&mut self, bytes: &[u8]) -> Result<(), HistoryFault>
         requires { (taken : List ℕ) × Reached self.old.stage self.old.line.items taken }
-        ensures done { OnOk result ((taken : List ℕ) → Reached self.old.stage self.old.line.items taken
+        ensures done { OnOk result ((taken : List ℕ)
+            → Reached self.old.stage self.old.line.items taken
             → Reached self.new.stage self.new.line.items (taken ++ bytes.now)) }
-        ensures fault { IfErr result (λ e. (taken more : List ℕ) → Reached self.old.stage self.old.line.items taken
+        ensures fault { IfErr result (λ e. (taken more : List ℕ)
+            → Reached self.old.stage self.old.line.items taken
             → TellsFault e (taken ++ (bytes.now ++ more))) }
     {
         for byte in bytes {
@@ -299,9 +309,11 @@ impl Checker {
     /// Judges where the bytes end.
     fn end(&self) -> Result<Legal, HistoryFault>
         requires { (taken : List ℕ) × Reached self.now.stage self.now.line.items taken }
-        ensures ok { IfOk result (λ n. (taken : List ℕ) → Reached self.now.stage self.now.line.items taken
+        ensures ok { IfOk result (λ n. (taken : List ℕ)
+            → Reached self.now.stage self.now.line.items taken
             → IsHistory taken n) }
-        ensures fault { IfErr result (λ e. (taken : List ℕ) → Reached self.now.stage self.now.line.items taken
+        ensures fault { IfErr result (λ e. (taken : List ℕ)
+            → Reached self.now.stage self.now.line.items taken
             → TellsFault e taken) }
     {
         if !self.line.is_empty() {
@@ -321,7 +333,8 @@ pub fn check_history<R: Read>(alloc: Global, reader: &mut R) -> Result<Legal, Hi
     // The bytes are the text of a legal history, and the numbers are its own.
     ensures ok { IfOk result (λ n. IfSome (R.remaining reader.old) (λ bytes. IsHistory bytes n)) }
     // Otherwise the first fault of the bytes is reported.
-    ensures fault { IfErr result (λ e. IfSome (R.remaining reader.old) (λ bytes. TellsFault e bytes)) }
+    ensures fault { IfErr result (λ e.
+        IfSome (R.remaining reader.old) (λ bytes. TellsFault e bytes)) }
 {
     let mut checker = Checker::new(alloc);
     let mut buffer = [0u8; 8_192];

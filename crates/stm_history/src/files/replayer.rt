@@ -12,8 +12,8 @@ use stm_terms::NoMemory;
 /// The most events of a history.
 pub(crate) const MAX_EVENTS: u32 = 1_048_576;
 
-/// The rule that a history goes by, the machine that its events so far lead to, how many they are, and an unchanging copy of the present store, where one was
-/// made after the last finish.
+/// The rule that a history goes by, the machine that its events so far lead to, how many they are, and an unchanging copy of
+/// the present store, where one was made after the last finish.
 #[derive(Drop)]
 pub(crate) struct Replayer {
     pub rule: StalenessRule,
@@ -48,7 +48,8 @@ impl Replayer {
     /// The numbers of the history so far.
     pub(crate) fn numbers(&self) -> Legal
         requires { (T : List Declared) × (H : List Event) × Follows T H self.now }
-        ensures { (T : List Declared) (H : List Event) → Follows T H self.now → result ≡ numbers_by self.now.rule T H }
+        ensures { (T : List Declared) (H : List Event) → Follows T H self.now
+            → result ≡ numbers_by self.now.rule T H }
     {
         Legal {
             events: self.events,

@@ -96,9 +96,13 @@ fn deliver_refused(error: DeliverError) -> StepError
 
 /// The block is submitted, under the next ticket.
 fn submitted(machine: &mut Machine, ticket: u32, block: &SharedBlock) -> Result<(), StepError>
-    requires { (R : AnyRule) × (T : List Declared) × (H : List AnyEvent) × HasRoom R T H machine.old }
-    ensures done { OnOk result ((R : AnyRule) (T : List Declared) (H : List AnyEvent) → HasRoom R T H machine.old → MovesToBy R T H (Submitted ticket block.now) machine.new) }
-    ensures not_allowed { IsErrOf result StepError.NotAllowed → (R : AnyRule) (T : List Declared) (H : List AnyEvent) → HasRoom R T H machine.old → WhatIsIllegal R T H (Submitted ticket block.now) }
+    requires { (R : AnyRule) × (T : List Declared) × (H : List AnyEvent)
+        × HasRoom R T H machine.old }
+    ensures done { OnOk result ((R : AnyRule) (T : List Declared) (H : List AnyEvent)
+        → HasRoom R T H machine.old → MovesToBy R T H (Submitted ticket block.now) machine.new) }
+    ensures not_allowed { IsErrOf result StepError.NotAllowed
+        → (R : AnyRule) (T : List Declared) (H : List AnyEvent) → HasRoom R T H machine.old
+        → WhatIsIllegal R T H (Submitted ticket block.now) }
 {
     match machine.may_wait(block, false) {
         Ok(()) => {}
@@ -115,9 +119,13 @@ fn submitted(machine: &mut Machine, ticket: u32, block: &SharedBlock) -> Result<
 
 /// The block is cancelled.
 fn cancelled(machine: &mut Machine, ticket: u32) -> Result<(), StepError>
-    requires { (R : AnyRule) × (T : List Declared) × (H : List AnyEvent) × HasRoom R T H machine.old }
-    ensures done { OnOk result ((R : AnyRule) (T : List Declared) (H : List AnyEvent) → HasRoom R T H machine.old → MovesToBy R T H (Cancelled ticket) machine.new) }
-    ensures not_allowed { IsErrOf result StepError.NotAllowed → (R : AnyRule) (T : List Declared) (H : List AnyEvent) → HasRoom R T H machine.old → WhatIsIllegal R T H (Cancelled ticket) }
+    requires { (R : AnyRule) × (T : List Declared) × (H : List AnyEvent)
+        × HasRoom R T H machine.old }
+    ensures done { OnOk result ((R : AnyRule) (T : List Declared) (H : List AnyEvent)
+        → HasRoom R T H machine.old → MovesToBy R T H (Cancelled ticket) machine.new) }
+    ensures not_allowed { IsErrOf result StepError.NotAllowed
+        → (R : AnyRule) (T : List Declared) (H : List AnyEvent) → HasRoom R T H machine.old
+        → WhatIsIllegal R T H (Cancelled ticket) }
 {
     match machine.may_leave(ticket, false) {
         Ok(()) => {
@@ -130,8 +138,11 @@ fn cancelled(machine: &mut Machine, ticket: u32) -> Result<(), StepError>
 
 /// Whether the fields of a finish are those of the plan.
 fn is_plan(plan: &Plan, verdict: &Verdict, first_new: u32, stale: &[u32]) -> bool
-    ensures same { IsTrue result → (plan.now.verdict ≡ verdict.now) × (plan.now.first_new ≡ first_new) × (plan.now.stale ≡ stale.now) }
-    ensures found { (plan.now.verdict ≡ verdict.now) × (plan.now.first_new ≡ first_new) × (plan.now.stale ≡ stale.now) → IsTrue result }
+    ensures same { IsTrue result
+        → (plan.now.verdict ≡ verdict.now) × (plan.now.first_new ≡ first_new)
+        × (plan.now.stale ≡ stale.now) }
+    ensures found { (plan.now.verdict ≡ verdict.now) × (plan.now.first_new ≡ first_new)
+        × (plan.now.stale ≡ stale.now) → IsTrue result }
 {
     let verdicts = plan.verdict.same(verdict);
     let tickets = same_numbers(plan.stale.as_slice(), stale);
@@ -147,9 +158,15 @@ fn finish_by(
     first_new: u32,
     stale: &[u32],
 ) -> Result<(), StepError>
-    requires { (R : AnyRule) × (T : List Declared) × (H : List AnyEvent) × CanFinishBy R T H machine.old ticket plan.now.verdict plan.now.first_new plan.now.stale }
-    ensures done { OnOk result ((R : AnyRule) (T : List Declared) (H : List AnyEvent) → CanFinishBy R T H machine.old ticket plan.now.verdict plan.now.first_new plan.now.stale → MovesToBy R T H (Finished ticket verdict.now first_new stale.now) machine.new) }
-    ensures not_allowed { IsErrOf result StepError.NotAllowed → (R : AnyRule) (T : List Declared) (H : List AnyEvent) → CanFinishBy R T H machine.old ticket plan.now.verdict plan.now.first_new plan.now.stale → WhatIsIllegal R T H (Finished ticket verdict.now first_new stale.now) }
+    requires { (R : AnyRule) × (T : List Declared) × (H : List AnyEvent)
+        × CanFinishBy R T H machine.old ticket plan.now.verdict plan.now.first_new plan.now.stale }
+    ensures done { OnOk result ((R : AnyRule) (T : List Declared) (H : List AnyEvent)
+        → CanFinishBy R T H machine.old ticket plan.now.verdict plan.now.first_new plan.now.stale
+        → MovesToBy R T H (Finished ticket verdict.now first_new stale.now) machine.new) }
+    ensures not_allowed { IsErrOf result StepError.NotAllowed
+        → (R : AnyRule) (T : List Declared) (H : List AnyEvent)
+        → CanFinishBy R T H machine.old ticket plan.now.verdict plan.now.first_new plan.now.stale
+        → WhatIsIllegal R T H (Finished ticket verdict.now first_new stale.now) }
 {
     if !is_plan(plan, verdict, first_new, stale) {
         return Err(StepError::NotAllowed);
@@ -170,8 +187,12 @@ fn finished(
     stale: &[u32],
 ) -> Result<(), StepError>
     requires { (T : List Declared) × (H : List AnyEvent) × HasRoom rule T H machine.old }
-    ensures done { OnOk result ((T : List Declared) (H : List AnyEvent) → HasRoom rule T H machine.old → MovesToBy rule T H (Finished ticket verdict.now first_new stale.now) machine.new) }
-    ensures not_allowed { IsErrOf result StepError.NotAllowed → (T : List Declared) (H : List AnyEvent) → HasRoom rule T H machine.old → WhatIsIllegal rule T H (Finished ticket verdict.now first_new stale.now) }
+    ensures done { OnOk result ((T : List Declared) (H : List AnyEvent)
+        → HasRoom rule T H machine.old
+        → MovesToBy rule T H (Finished ticket verdict.now first_new stale.now) machine.new) }
+    ensures not_allowed { IsErrOf result StepError.NotAllowed
+        → (T : List Declared) (H : List AnyEvent) → HasRoom rule T H machine.old
+        → WhatIsIllegal rule T H (Finished ticket verdict.now first_new stale.now) }
 {
     match machine.plan(ticket, false, rule) {
         Ok(plan) => finish_by(machine, ticket, &plan, verdict, first_new, stale),
@@ -181,10 +202,15 @@ fn finished(
 
 /// Whether the message may be installed, and brings this verdict.
 fn may_bring(machine: &Machine, message: &Evaluated, verdict: &Verdict) -> Result<(), StepError>
-    requires present { (R : AnyRule) (T : List Declared) (H : List AnyEvent) → HasRoom R T H machine.now → IsPresent (state_by R T H) (message_ticket message.now) message.now }
-    ensures may { OnOk result ((R : AnyRule) (T : List Declared) (H : List AnyEvent) → HasRoom R T H machine.now → CanInstallBy R T H machine.now message.now) }
+    requires present { (R : AnyRule) (T : List Declared) (H : List AnyEvent)
+        → HasRoom R T H machine.now
+        → IsPresent (state_by R T H) (message_ticket message.now) message.now }
+    ensures may { OnOk result ((R : AnyRule) (T : List Declared) (H : List AnyEvent)
+        → HasRoom R T H machine.now → CanInstallBy R T H machine.now message.now) }
     ensures verdict { OnOk result (message_verdict message.now ≡ verdict.now) }
-    ensures not_allowed { IsErrOf result StepError.NotAllowed → (R : AnyRule) (T : List Declared) (H : List AnyEvent) → HasRoom R T H machine.now → WhatIsIllegal R T H (Installed (message_ticket message.now) verdict.now) }
+    ensures not_allowed { IsErrOf result StepError.NotAllowed
+        → (R : AnyRule) (T : List Declared) (H : List AnyEvent) → HasRoom R T H machine.now
+        → WhatIsIllegal R T H (Installed (message_ticket message.now) verdict.now) }
 {
     if !message.verdict().same(verdict) {
         return Err(StepError::NotAllowed);
@@ -201,10 +227,16 @@ fn install_message(
     message: Evaluated,
     verdict: &Verdict,
 ) -> Result<(), StepError>
-    requires room { (R : AnyRule) × (T : List Declared) × (H : List AnyEvent) × HasRoom R T H machine.old }
-    requires present { (R : AnyRule) (T : List Declared) (H : List AnyEvent) → HasRoom R T H machine.old → IsPresent (state_by R T H) (message_ticket message) message }
-    ensures done { OnOk result ((R : AnyRule) (T : List Declared) (H : List AnyEvent) → HasRoom R T H machine.old → MovesToBy R T H (Installed (message_ticket message) verdict.now) machine.new) }
-    ensures not_allowed { IsErrOf result StepError.NotAllowed → (R : AnyRule) (T : List Declared) (H : List AnyEvent) → HasRoom R T H machine.old → WhatIsIllegal R T H (Installed (message_ticket message) verdict.now) }
+    requires room { (R : AnyRule) × (T : List Declared) × (H : List AnyEvent)
+        × HasRoom R T H machine.old }
+    requires present { (R : AnyRule) (T : List Declared) (H : List AnyEvent)
+        → HasRoom R T H machine.old → IsPresent (state_by R T H) (message_ticket message) message }
+    ensures done { OnOk result ((R : AnyRule) (T : List Declared) (H : List AnyEvent)
+        → HasRoom R T H machine.old
+        → MovesToBy R T H (Installed (message_ticket message) verdict.now) machine.new) }
+    ensures not_allowed { IsErrOf result StepError.NotAllowed
+        → (R : AnyRule) (T : List Declared) (H : List AnyEvent) → HasRoom R T H machine.old
+        → WhatIsIllegal R T H (Installed (message_ticket message) verdict.now) }
 {
     match may_bring(machine, &message, verdict) {
         Ok(()) => match machine.install(message) {
@@ -222,10 +254,14 @@ fn installed(
     ticket: u32,
     verdict: &Verdict,
 ) -> Result<(), StepError>
-    requires room { (R : AnyRule) × (T : List Declared) × (H : List AnyEvent) × HasRoom R T H machine.old }
+    requires room { (R : AnyRule) × (T : List Declared) × (H : List AnyEvent)
+        × HasRoom R T H machine.old }
     requires copied { copy.now ≡ plains machine.old.store }
-    ensures done { OnOk result ((R : AnyRule) (T : List Declared) (H : List AnyEvent) → HasRoom R T H machine.old → MovesToBy R T H (Installed ticket verdict.now) machine.new) }
-    ensures not_allowed { IsErrOf result StepError.NotAllowed → (R : AnyRule) (T : List Declared) (H : List AnyEvent) → HasRoom R T H machine.old → WhatIsIllegal R T H (Installed ticket verdict.now) }
+    ensures done { OnOk result ((R : AnyRule) (T : List Declared) (H : List AnyEvent)
+        → HasRoom R T H machine.old → MovesToBy R T H (Installed ticket verdict.now) machine.new) }
+    ensures not_allowed { IsErrOf result StepError.NotAllowed
+        → (R : AnyRule) (T : List Declared) (H : List AnyEvent) → HasRoom R T H machine.old
+        → WhatIsIllegal R T H (Installed ticket verdict.now) }
 {
     if machine.block(ticket).is_none() {
         return Err(StepError::NotAllowed);
@@ -250,10 +286,15 @@ fn keep_copy(machine: &Machine, copy: &mut Option<Frozen>) -> Result<(), NoMemor
 impl Replayer {
     /// A verdict is installed.
     fn install(&mut self, ticket: u32, verdict: &Verdict) -> Result<(), StepError>
-        requires room { (R : AnyRule) × (T : List Declared) × (H : List AnyEvent) × HasRoom R T H self.old.machine }
+        requires room { (R : AnyRule) × (T : List Declared) × (H : List AnyEvent)
+            × HasRoom R T H self.old.machine }
         requires copied { IfSome self.old.copy (λ cells. cells ≡ plains self.old.machine.store) }
-        ensures done { OnOk result ((R : AnyRule) (T : List Declared) (H : List AnyEvent) → HasRoom R T H self.old.machine → MovesToBy R T H (Installed ticket verdict.now) self.new.machine) }
-        ensures not_allowed { IsErrOf result StepError.NotAllowed → (R : AnyRule) (T : List Declared) (H : List AnyEvent) → HasRoom R T H self.old.machine → WhatIsIllegal R T H (Installed ticket verdict.now) }
+        ensures done { OnOk result ((R : AnyRule) (T : List Declared) (H : List AnyEvent)
+            → HasRoom R T H self.old.machine
+            → MovesToBy R T H (Installed ticket verdict.now) self.new.machine) }
+        ensures not_allowed { IsErrOf result StepError.NotAllowed
+            → (R : AnyRule) (T : List Declared) (H : List AnyEvent) → HasRoom R T H self.old.machine
+            → WhatIsIllegal R T H (Installed ticket verdict.now) }
         ensures copied { OnOk result (self.new.copy ≡ Some (plains self.old.machine.store)) }
         ensures events { self.new.events ≡ self.old.events }
         ensures rule { self.new.rule ≡ self.old.rule }
@@ -267,11 +308,17 @@ impl Replayer {
 
     /// What happens next. A finish lets go of the copy first, so that the store changes in place.
     fn act(&mut self, what: &What) -> Result<(), StepError>
-        requires room { (T : List Declared) × (H : List AnyEvent) × HasRoom self.old.rule T H self.old.machine }
+        requires room { (T : List Declared) × (H : List AnyEvent)
+            × HasRoom self.old.rule T H self.old.machine }
         requires copied { IfSome self.old.copy (λ cells. cells ≡ plains self.old.machine.store) }
-        ensures done { OnOk result ((T : List Declared) (H : List AnyEvent) → HasRoom self.old.rule T H self.old.machine → MovesToBy self.old.rule T H what.now self.new.machine) }
-        ensures not_allowed { IsErrOf result StepError.NotAllowed → (T : List Declared) (H : List AnyEvent) → HasRoom self.old.rule T H self.old.machine → WhatIsIllegal self.old.rule T H what.now }
-        ensures copied { OnOk result (IfSome self.new.copy (λ cells. cells ≡ plains self.new.machine.store)) }
+        ensures done { OnOk result ((T : List Declared) (H : List AnyEvent)
+            → HasRoom self.old.rule T H self.old.machine
+            → MovesToBy self.old.rule T H what.now self.new.machine) }
+        ensures not_allowed { IsErrOf result StepError.NotAllowed
+            → (T : List Declared) (H : List AnyEvent) → HasRoom self.old.rule T H self.old.machine
+            → WhatIsIllegal self.old.rule T H what.now }
+        ensures copied { OnOk result
+            (IfSome self.new.copy (λ cells. cells ≡ plains self.new.machine.store)) }
         ensures events { self.new.events ≡ self.old.events }
         ensures rule { self.new.rule ≡ self.old.rule }
     {
@@ -301,11 +348,14 @@ impl Replayer {
     /// One event more, exactly where it may follow. After an error nothing is promised.
     pub(crate) fn step(&mut self, event: &Event) -> Result<(), StepError>
         requires { (T : List Declared) × (H : List AnyEvent) × Follows T H self.old }
-        ensures done { OnOk result ((T : List Declared) (H : List AnyEvent) → Follows T H self.old → Follows T (H ++ event.now ∷ []) self.new) }
-        ensures not_allowed { IsErrOf result StepError.NotAllowed → (T : List Declared) (H : List AnyEvent) → Follows T H self.old → IsIllegalBy self.old.rule T H event.now }
+        ensures done { OnOk result ((T : List Declared) (H : List AnyEvent) → Follows T H self.old
+            → Follows T (H ++ event.now ∷ []) self.new) }
+        ensures not_allowed { IsErrOf result StepError.NotAllowed
+            → (T : List Declared) (H : List AnyEvent) → Follows T H self.old
+            → IsIllegalBy self.old.rule T H event.now }
         ensures rule { OnOk result (self.new.rule ≡ self.old.rule) }
     {
-        if event.client >= 128 || self.events >= MAX_EVENTS {
+        if event.client >= Event::MAX_CLIENTS || self.events >= MAX_EVENTS {
             return Err(StepError::NotAllowed);
         }
         match self.act(&event.what) {

@@ -37,7 +37,8 @@ fn write_text<W: Write>(writer: &mut W, text: &[u8]) -> Result<(), WriteFault>
 
 /// Writes a line and its line feed.
 fn write_line<W: Write>(writer: &mut W, mut line: String) -> Result<(), WriteFault>
-    ensures { WritesText result (W.contents writer.old) (W.contents writer.new) (string_bytes line ++ 10 ∷ []) }
+    ensures { WritesText result (W.contents writer.old) (W.contents writer.new)
+        (string_bytes line ++ 10 ∷ []) }
 {
     if line.push('\n').is_err() {
         return Err(WriteFault::NoMemory);
@@ -52,7 +53,9 @@ fn write_variable<W: Write>(
     id: u32,
 ) -> Result<(), WriteFault>
     requires { id < length table.now }
-    ensures { IfSome (slice_get table.now id) (λ d. WritesText result (W.contents writer.old) (W.contents writer.new) (variable_lines (d ∷ []))) }
+    ensures { IfSome (slice_get table.now id) (λ d.
+        WritesText result (W.contents writer.old) (W.contents writer.new)
+        (variable_lines (d ∷ []))) }
 {
     match variable_text(alloc, table.name(id), table.kind(id), table.value(id)) {
         Ok(line) => write_line(writer, line),
@@ -61,7 +64,8 @@ fn write_variable<W: Write>(
 }
 
 fn write_event<W: Write>(alloc: Global, writer: &mut W, event: &Event) -> Result<(), WriteFault>
-    ensures { WritesText result (W.contents writer.old) (W.contents writer.new) (event_lines (event.now ∷ [])) }
+    ensures { WritesText result (W.contents writer.old) (W.contents writer.new)
+        (event_lines (event.now ∷ [])) }
 {
     match event_text(alloc, event) {
         Ok(line) => write_line(writer, line),
@@ -80,7 +84,8 @@ fn write_header<W: Write>(alloc: Global, writer: &mut W, vars: u32) -> Result<()
 }
 
 fn write_variables<W: Write>(alloc: Global, writer: &mut W, table: &Table) -> Result<(), WriteFault>
-    ensures { WritesText result (W.contents writer.old) (W.contents writer.new) (variable_lines table.now) }
+    ensures { WritesText result (W.contents writer.old) (W.contents writer.new)
+        (variable_lines table.now) }
 {
     for id in 0..table.len() {
         match write_variable(alloc, writer, table, id as u32) {
@@ -96,7 +101,8 @@ fn write_events<W: Write>(
     writer: &mut W,
     history: &[Event],
 ) -> Result<(), WriteFault>
-    ensures { WritesText result (W.contents writer.old) (W.contents writer.new) (event_lines history.now) }
+    ensures { WritesText result (W.contents writer.old) (W.contents writer.new)
+        (event_lines history.now) }
 {
     for event in history {
         match write_event(alloc, writer, event) {

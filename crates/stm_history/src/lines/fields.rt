@@ -5,6 +5,7 @@ ghost use Rattle.std.specs.List.{list_any};
 ghost use Rattle.serde_json.specs.View.{view, items_view};
 ghost use Rattle.serde_json.specs.Find.{get, at, as_array};
 ghost use Rattle.stm_history.specs.Fields.{u32_of, text_field, number_field, count_of, stands_in, base_in, type_in as type_meant, reference_of, value_of};
+ghost use Rattle.stm_terms.specs.Limits.{most_refs};
 ghost use Rattle.stm_history.specs.Fits.{Is32Bit, FitsValue};
 
 use serde_json::Value as Json;
@@ -74,12 +75,12 @@ fn base_of(bytes: &[u8]) -> Base
 
 pub(crate) fn type_of(text: &str) -> Option<Ty>
     ensures value { result ≡ type_meant text.now }
-    ensures fits { IfSome result (λ t. t.refs ≤ 8) }
+    ensures fits { IfSome result (λ t. t.refs ≤ most_refs) }
 {
     let bytes = text.as_bytes();
     let refs = count(b'V', bytes);
     let base = base_of(bytes);
-    if refs <= 8 {
+    if refs <= Ty::MOST_REFS as usize {
         Some(Ty {
             base,
             refs: refs as u8,
@@ -126,7 +127,8 @@ pub(crate) fn value_at(json: &Json, key: &str) -> Option<Value>
 }
 
 pub(crate) fn array_at<'a>(json: &'a Json, key: &str) -> Option<&'a [Json]>
-    ensures { option_map (λ v. items_view v.now) result ≡ option_and_then as_array (get key.now (view json.now)) }
+    ensures { option_map (λ v. items_view v.now) result
+        ≡ option_and_then as_array (get key.now (view json.now)) }
 {
     match json.get(key)?.as_array() {
         Some(list) => Some(list.as_slice()),

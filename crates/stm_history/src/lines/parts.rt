@@ -3,6 +3,7 @@
 ghost use Rattle.std.specs.Prelude.{◌≡◌, ◌≤◌, Some, None, IfOk, IfSome, option_map, option_and_then};
 ghost use Rattle.serde_json.specs.View.{view, items_view};
 ghost use Rattle.stm_history.specs.Fields.{u32_of, write_of, new_of, all_of, list_field};
+ghost use Rattle.stm_terms.specs.Limits.{most_refs};
 ghost use Rattle.stm_history.specs.Fits.{Is32Bit, FitsValue, FitWrites, FitNews, FitNumbers};
 
 use crate::lines::fields::{array_at, number, type_of, value};
@@ -23,7 +24,7 @@ fn write(json: &Json) -> Option<(u32, Value)>
 
 fn new(json: &Json) -> Option<(Ty, Value)>
     ensures value { result ≡ new_of (view json.now) }
-    ensures fits { IfSome result (λ n. (n.0.refs ≤ 8) × FitsValue n.1) }
+    ensures fits { IfSome result (λ n. (n.0.refs ≤ most_refs) × FitsValue n.1) }
 {
     let ty = type_of(json.get(0usize)?.as_str()?)?;
     let value = value(json.get(1usize)?)?;
@@ -31,7 +32,8 @@ fn new(json: &Json) -> Option<(Ty, Value)>
 }
 
 fn writes(alloc: Global, list: &[Json]) -> Result<Option<Vec<(u32, Value)>>, NoMemory>
-    ensures value { IfOk result (λ o. option_map (λ v. v.items) o ≡ all_of write_of (items_view list.now)) }
+    ensures value { IfOk result (λ o. option_map (λ v. v.items) o
+        ≡ all_of write_of (items_view list.now)) }
     ensures fits { IfOk result (λ o. IfSome o (λ v. FitWrites v.items)) }
 {
     let mut found = Vec::new(alloc);
@@ -45,7 +47,8 @@ fn writes(alloc: Global, list: &[Json]) -> Result<Option<Vec<(u32, Value)>>, NoM
 }
 
 fn news(alloc: Global, list: &[Json]) -> Result<Option<Vec<(Ty, Value)>>, NoMemory>
-    ensures value { IfOk result (λ o. option_map (λ v. v.items) o ≡ all_of new_of (items_view list.now)) }
+    ensures value { IfOk result (λ o. option_map (λ v. v.items) o
+        ≡ all_of new_of (items_view list.now)) }
     ensures fits { IfOk result (λ o. IfSome o (λ v. FitNews v.items)) }
 {
     let mut found = Vec::new(alloc);
@@ -59,7 +62,8 @@ fn news(alloc: Global, list: &[Json]) -> Result<Option<Vec<(Ty, Value)>>, NoMemo
 }
 
 fn numbers(alloc: Global, list: &[Json]) -> Result<Option<Vec<u32>>, NoMemory>
-    ensures value { IfOk result (λ o. option_map (λ v. v.items) o ≡ all_of u32_of (items_view list.now)) }
+    ensures value { IfOk result (λ o. option_map (λ v. v.items) o
+        ≡ all_of u32_of (items_view list.now)) }
     ensures fits { IfOk result (λ o. IfSome o (λ v. FitNumbers v.items)) }
 {
     let mut found = Vec::new(alloc);
@@ -77,7 +81,8 @@ pub(crate) fn writes_at(
     json: &Json,
     key: &str,
 ) -> Result<Option<Vec<(u32, Value)>>, NoMemory>
-    ensures value { IfOk result (λ o. option_map (λ v. v.items) o ≡ list_field write_of key.now (view json.now)) }
+    ensures value { IfOk result (λ o. option_map (λ v. v.items) o
+        ≡ list_field write_of key.now (view json.now)) }
     ensures fits { IfOk result (λ o. IfSome o (λ v. FitWrites v.items)) }
 {
     match array_at(json, key) {
@@ -91,7 +96,8 @@ pub(crate) fn news_at(
     json: &Json,
     key: &str,
 ) -> Result<Option<Vec<(Ty, Value)>>, NoMemory>
-    ensures value { IfOk result (λ o. option_map (λ v. v.items) o ≡ list_field new_of key.now (view json.now)) }
+    ensures value { IfOk result (λ o. option_map (λ v. v.items) o
+        ≡ list_field new_of key.now (view json.now)) }
     ensures fits { IfOk result (λ o. IfSome o (λ v. FitNews v.items)) }
 {
     match array_at(json, key) {
@@ -105,7 +111,8 @@ pub(crate) fn numbers_at(
     json: &Json,
     key: &str,
 ) -> Result<Option<Vec<u32>>, NoMemory>
-    ensures value { IfOk result (λ o. option_map (λ v. v.items) o ≡ list_field u32_of key.now (view json.now)) }
+    ensures value { IfOk result (λ o. option_map (λ v. v.items) o
+        ≡ list_field u32_of key.now (view json.now)) }
     ensures fits { IfOk result (λ o. IfSome o (λ v. FitNumbers v.items)) }
 {
     match array_at(json, key) {

@@ -6,6 +6,8 @@ ghost use Rattle.stm_history.specs.declared.event.Event.{Event as AnyEvent};
 ghost use Rattle.stm_store.specs.Tables.{Declared};
 ghost use Rattle.stm_history.specs.Fields.{block_of_text};
 ghost use Rattle.stm_history.specs.Fields.{event_of as event_meant, header_of as header_meant, what_of as what_meant, client_of, submitted_of, installed_of, finished_of, number_field, declared_from_json as variable_meant, type_in as type_meant, text_field};
+ghost use Rattle.stm_terms.specs.Limits.{most_refs};
+ghost use Rattle.stm_history.specs.SlowDesk.{max_clients};
 ghost use Rattle.stm_history.specs.Fits.{Is32Bit, FitsTable, WhatFitsTable, FitsValue, FitsVariable};
 ghost use Rattle.stm_history.specs.Lines.{IsFormat, event_line, header_line, variable_line};
 ghost use Rattle.stm_history.specs.Variables.{declared};
@@ -63,10 +65,14 @@ fn block_of(alloc: Global, table: &Table, text: &str) -> Result<Option<SharedBlo
 
 fn client_at(json: &Json) -> Option<u32>
     ensures value { result ≡ client_of (view json.now) }
-    ensures fits { IfSome result (λ n. n < 128) }
+    ensures fits { IfSome result (λ n. n < max_clients) }
 {
     let client = number_at(json, "client")?;
-    if client < 128 { Some(client) } else { None }
+    if client < Event::MAX_CLIENTS {
+        Some(client)
+    } else {
+        None
+    }
 }
 
 fn submitted(
@@ -165,7 +171,8 @@ fn event_of(alloc: Global, table: &Table, json: &Json) -> Result<Option<Event>, 
 pub fn read_event(alloc: Global, table: &Table, line: &[u8]) -> Result<Event, LineError>
     ensures ok { IfOk result (λ e. event_line e ≡ line.now) }
     ensures fits { IfOk result (λ e. FitsTable table.now e) }
-    ensures bad { IsErrOf result LineError.Bad → (e : AnyEvent) → FitsTable table.now e → event_line e ≢ line.now }
+    ensures bad { IsErrOf result LineError.Bad → (e : AnyEvent) → FitsTable table.now e
+        → event_line e ≢ line.now }
 {
     let json = match Json::from_slice(alloc, line) {
         Ok(json) => json,
@@ -226,7 +233,8 @@ pub fn read_header(alloc: Global, line: &[u8]) -> Result<Header, LineError>
 /// The declared variable that the value stands for, if it does.
 fn variable_of(alloc: Global, json: &Json) -> Result<Option<Variable>, NoMemory>
     ensures value { IfOk result (λ o. option_map declared o ≡ variable_meant (view json.now)) }
-    ensures fits { IfOk result (λ o. IfSome o (λ v. (v.kind.refs ≤ 8) × FitsValue v.value)) }
+    ensures fits { IfOk result (λ o.
+        IfSome o (λ v. (v.kind.refs ≤ most_refs) × FitsValue v.value)) }
 {
     let Some(name) = text_at(json, "name") else {
         return Ok(None);
@@ -245,8 +253,9 @@ fn variable_of(alloc: Global, json: &Json) -> Result<Option<Variable>, NoMemory>
 }
 
 fn kind_at(json: &Json) -> Option<Ty>
-    ensures value { result ≡ option_and_then type_meant (text_field (codes "type") (view json.now)) }
-    ensures fits { IfSome result (λ t. t.refs ≤ 8) }
+    ensures value { result ≡ option_and_then type_meant
+        (text_field (codes "type") (view json.now)) }
+    ensures fits { IfSome result (λ t. t.refs ≤ most_refs) }
 {
     type_of(text_at(json, "type")?)
 }
@@ -255,7 +264,8 @@ fn kind_at(json: &Json) -> Option<Ty>
 pub fn read_variable(alloc: Global, line: &[u8]) -> Result<Variable, LineError>
     ensures ok { IfOk result (λ v. variable_line (declared v) ≡ line.now) }
     ensures fits { IfOk result (λ v. FitsVariable (declared v)) }
-    ensures bad { IsErrOf result LineError.Bad → (d : Declared) → FitsVariable d → variable_line d ≢ line.now }
+    ensures bad { IsErrOf result LineError.Bad → (d : Declared) → FitsVariable d
+        → variable_line d ≢ line.now }
 {
     let json = match Json::from_slice(alloc, line) {
         Ok(json) => json,

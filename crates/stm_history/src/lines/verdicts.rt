@@ -60,7 +60,8 @@ fn commits(alloc: Global, json: &Json) -> Result<Option<Verdict>, NoMemory>
 }
 
 fn commits_at(alloc: Global, json: &Json, key: &str) -> Result<Option<Verdict>, NoMemory>
-    ensures value { IfOk result (λ o. o ≡ option_and_then commits_of (get key.now (view json.now))) }
+    ensures value { IfOk result (λ o. o
+        ≡ option_and_then commits_of (get key.now (view json.now))) }
     ensures fits { IfOk result (λ o. IfSome o (λ v. FitsVerdict v)) }
 {
     match json.get(key) {
@@ -83,7 +84,8 @@ fn verdict(alloc: Global, json: &Json) -> Result<Option<Verdict>, NoMemory>
 }
 
 pub(crate) fn verdict_at(alloc: Global, json: &Json, key: &str) -> Result<Option<Verdict>, NoMemory>
-    ensures value { IfOk result (λ o. o ≡ option_and_then verdict_of (get key.now (view json.now))) }
+    ensures value { IfOk result (λ o. o
+        ≡ option_and_then verdict_of (get key.now (view json.now))) }
     ensures fits { IfOk result (λ o. IfSome o (λ v. FitsVerdict v)) }
 {
     match json.get(key) {

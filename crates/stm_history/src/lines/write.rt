@@ -46,7 +46,8 @@ fn finished_json(
     first_new: u32,
     stale: &[u32],
 ) -> Result<Json, NoMemory>
-    ensures { IfOk result (λ v. view v ≡ what_data client (Finished ticket verdict.now first_new stale.now)) }
+    ensures { IfOk result (λ v. view v
+        ≡ what_data client (Finished ticket verdict.now first_new stale.now)) }
 {
     let verdict = verdict_json(alloc, verdict)?;
     let stale = numbers_json(alloc, stale)?;
@@ -108,7 +109,8 @@ pub fn header_text(alloc: Global, format: u32, vars: u32) -> Result<String, NoMe
 }
 
 fn variable_json(alloc: Global, name: &str, kind: Ty, value: Value) -> Result<Json, NoMemory>
-    ensures { IfOk result (λ v. view v ≡ variable_data (record { name = name.now; kind = kind; value = value })) }
+    ensures { IfOk result (λ v. view v
+        ≡ variable_data (record { name = name.now; kind = kind; value = value })) }
 {
     let kind = type_text(alloc, kind)?;
     let value = value_json(alloc, value)?;
@@ -118,7 +120,8 @@ fn variable_json(alloc: Global, name: &str, kind: Ty, value: Value) -> Result<Js
 /// The line of a declared variable.
 #[tactic(auto, unfolding(crate::specs::Lines::variable_line))]
 pub fn variable_text(alloc: Global, name: &str, kind: Ty, value: Value) -> Result<String, NoMemory>
-    ensures { IfOk result (λ s. string_bytes s ≡ variable_line (record { name = name.now; kind = kind; value = value })) }
+    ensures { IfOk result (λ s. string_bytes s
+        ≡ variable_line (record { name = name.now; kind = kind; value = value })) }
 {
     let variable = variable_json(alloc, name, kind, value)?;
     variable.to_string(alloc)

@@ -1,0 +1,17 @@
+-- What a client is shown of a desk.
+use Rattle.std.specs.Prelude.{◌≡◌, ◌≤◌, List, length}
+use Rattle.stm_store.specs.Tables.{Declared}
+use Rattle.stm_store.specs.Cells.{plains}
+use Rattle.stm_history.specs.declared.event.Event.{Event}
+use Rattle.stm_history.specs.SlowDesk.{IsLegal, state}
+use Rattle.stm_pool.specs.declared.guarded.View.{View}
+use Rattle.stm_pool.specs.Own.{Known, own_of, having_seen}
+
+-- the store and the length of a legal history, which has the client's events and is no shorter than what it has seen
+pub record IsShown (table : List Declared) (history : List Event) (old new : Known) (v : View) : Type 0 where
+  pub legal : IsLegal table history
+  pub own : own_of old.client history ≡ old.own
+  pub store : v.store ≡ plains (state table history).store
+  pub events : v.events ≡ length history
+  pub grown : old.seen ≤ v.events
+  pub noted : new ≡ having_seen old v.events
