@@ -25,7 +25,7 @@ pub use action::Action;
 pub use eval::eval_expr;
 pub use expr::{Expr, Op};
 pub use kinds::{Base, Ty};
-pub use lists::{News, Writes};
+pub use lists::{News, PlainList, Writes};
 pub use naming::{LONGEST_NAME, is_name};
 pub use raw::{RawAction, RawExpr, Span};
 pub use std::alloc::AllocError as NoMemory;

@@ -58,12 +58,6 @@ fn same_fault(one: Fault, other: Fault) -> bool
     one == other
 }
 
-fn all(first: bool, second: bool, third: bool) -> bool
-    ensures { result ≡ first && (second && third) }
-{
-    first && (second && third)
-}
-
 impl Verdict {
     /// Whether two verdicts are one: in how they end, in their result or fault, and in each write and new variable.
     pub fn same(&self, other: &Verdict) -> bool
@@ -85,7 +79,7 @@ impl Verdict {
                 let wrote = same_writes(writes.as_slice(), other_writes.as_slice());
                 let made = same_news(news.as_slice(), other_news.as_slice());
                 let gave = same_value(*result, *other_result);
-                all(wrote, made, gave)
+                wrote && made && gave
             }
             (Verdict::Throws(fault), Verdict::Throws(other_fault)) => {
                 same_fault(*fault, *other_fault)
