@@ -6,10 +6,11 @@ use Rattle.stm_terms.specs.Ast.{Term, Act}
 use Rattle.stm_terms.specs.Limits.{most_refs}
 use Rattle.stm_terms.specs.ParsedAst as raw
 use Rattle.stm_terms.specs.Typing.{ActionType, result_type, named_in, named, record_uses}
+use Rattle.stm_terms.specs.UnlessNoMemory.{AnswersAs}
 use Rattle.stm_check.specs.declared.fault.TypeFault.{TypeFault}
 use Rattle.stm_check.specs.declared.checker.Checker.{Checker}
 use Rattle.stm_check.specs.Scopes.{scope, ScopeHasFewRefs}
-use Rattle.stm_check.specs.CheckFunction.{ChecksAs, table_kinds, checked_expr, checked}
+use Rattle.stm_check.specs.CheckFunction.{table_kinds, checked_expr, checked, told_type_fault}
 
 -- the names of an expression can be looked up
 abbrev pub CanLookUp : Checker → raw.RawTerm → Type 0
@@ -46,13 +47,13 @@ HasFewRefs o = IfSome o (λ t. t.refs ≤ most_refs + 1)
 -- the check of an expression, seen by view: what it answers, which variables it notes, and how deep its type is
 pub record ChecksExpr {X : Type 0} (checker : Checker) (e : raw.RawTerm) (view : X → Term)
     (result : Result (X × Ty) TypeFault) (before after : List (ℕ × Ty)) : Type 0 where
-  pub says : ChecksAs (λ r. (view r.0, r.1)) result (expr_found checker e)
+  pub says : AnswersAs told_type_fault (λ r. (view r.0, r.1)) result (expr_found checker e)
   pub uses : IfOk result (λ r. after ≡ recorded_expr checker (view r.0) before)
   pub low : IfOk result (λ r. r.1.refs ≤ most_refs + 1)
 
 -- so too of an action
 pub record ChecksAction {X : Type 0} (checker : Checker) (a : raw.RawAct) (view : X → Act)
     (result : Result (X × Option Ty) TypeFault) (before after : List (ℕ × Ty)) : Type 0 where
-  pub says : ChecksAs (λ r. (view r.0, result_type r.1)) result (act_found checker a)
+  pub says : AnswersAs told_type_fault (λ r. (view r.0, result_type r.1)) result (act_found checker a)
   pub uses : IfOk result (λ r. after ≡ recorded_act checker (view r.0) before)
   pub low : IfOk result (λ r. HasFewRefs r.1)

@@ -1,5 +1,5 @@
 -- The check of a parsed block: the tree with its names resolved and its type, or the first fault from left to right.
-use Rattle.std.specs.Prelude.{◌≡◌, ℕ, Bool, true, List, ◌∷◌, Option, Some, None, Result, Ok, Err, option_map, nat_le, if◌then◌else◌}
+use Rattle.std.specs.Prelude.{ℕ, Bool, true, List, ◌∷◌, Option, Some, None, Result, Ok, Err, option_map, nat_le, if◌then◌else◌}
 use Rattle.stm_terms.specs.declared.expr.Op.{Op}
 use Rattle.stm_terms.specs.declared.expr.Op.TheVariants.{Mul, Add, Sub, Eq, Lt, Le, And, Or}
 use Rattle.stm_terms.specs.declared.kinds.Ty.{Ty}
@@ -133,12 +133,7 @@ module _ (table : List Declared) (text : List ℕ) where
       on_ok (checked ls a) (λ y. on_ok (checked ((raw.text_at text span, int_ty) ∷ ls) b)
       (λ z. on_some (join_types y.1 z.1) (Mismatch at) (λ r. Ok (catch y.0 z.0, r))))
 
--- the result of the code is this one, unless memory ran out
-abbrev pub ChecksAs : {A B : Type 0} → (A → B) → Result A TypeFault → Result B TypeFault → Type 0
-ChecksAs f (Ok x) w = w ≡ Ok (f x)
-ChecksAs f (Err NoMemory) w = Unit {0}
-ChecksAs f (Err (Unknown at)) w = w ≡ Err (Unknown at)
-ChecksAs f (Err (Mismatch at)) w = w ≡ Err (Mismatch at)
-ChecksAs f (Err (NotAVariable at)) w = w ≡ Err (NotAVariable at)
-ChecksAs f (Err (Untyped at)) w = w ≡ Err (Untyped at)
-ChecksAs f (Err (TypeTooDeep at)) w = w ≡ Err (TypeTooDeep at)
+-- the fault that is told; an out-of-memory error tells none
+abbrev pub told_type_fault : TypeFault → Option TypeFault
+told_type_fault NoMemory = None
+told_type_fault f = Some f

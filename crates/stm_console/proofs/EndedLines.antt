@@ -1,5 +1,5 @@
 -- Texts that end with a line feed: each refusal that is printed, and the text of a history.
-use Rattle.std.proofs.Common.{◌≡◌, ◌≢◌, ℕ, true, List, [], ◌∷◌, ◌++◌, length, refl, sym, subst, append_assoc}
+use Rattle.std.proofs.Common.{◌≡◌, ◌≢◌, ℕ, Some, List, [], ◌∷◌, ◌++◌, length, refl, sym, subst, append_assoc}
 use Rattle.std.specs.Prelude.{codes, decimal}
 use Rattle.stm_parse.specs.declared.fault.ParseFault.{ParseFault}
 use Rattle.stm_parse.specs.declared.fault.ParseFault.TheVariants as parse
@@ -20,7 +20,7 @@ use Rattle.stm_history.specs.HistoryText.{variable_lines, event_lines, head_text
 use Rattle.stm_history.specs.Lines.{event_line, header_line, variable_line}
 use Rattle.stm_console.specs.declared.refusal.Refusal.{Refusal}
 use Rattle.stm_console.specs.declared.refusal.Refusal.TheVariants.{Parsing, Typing, Unknown, Declaring}
-use Rattle.stm_console.specs.Refusals.{refused, refused_at, refused_variable, refusal_text, submit_error_text, deliver_error_text, finish_error_text, cancel_error_text, is_printed}
+use Rattle.stm_console.specs.Refusals.{refused, refused_at, refused_variable, refusal_text, submit_error_text, deliver_error_text, finish_error_text, cancel_error_text, told_refusal}
 use Rattle.stm_console.specs.Laws.{EndsALine}
 
 -- ---- refusals
@@ -36,7 +36,7 @@ refused_variable_ends : (name : List ℕ) (number : ℕ) → EndsALine (refused_
 unfolding refused_variable
 refused_variable_ends name number = (codes "refused " ++ name ++ codes " #" ++ decimal number, refl)
 
-pub refusal_ends : (e : Refusal) → is_printed e ≡ true → EndsALine (refusal_text e)
+pub refusal_ends : (e : Refusal) → told_refusal e ≡ Some e → EndsALine (refusal_text e)
 refusal_ends (Parsing (parse.BadByte n)) t = refused_at_ends (codes "BadByte") n
 refusal_ends (Parsing (parse.BadNumber n)) t = refused_at_ends (codes "BadNumber") n
 refusal_ends (Parsing (parse.NameTooLong n)) t = refused_at_ends (codes "NameTooLong") n
@@ -57,7 +57,7 @@ refusal_ends (Declaring declare.TypeOfValue) t = refused_ends (codes "TypeOfValu
 refusal_ends (Declaring declare.TableFull) t = refused_ends (codes "TableFull")
 refusal_ends (Declaring declare.NoMemory) t = absurd cc
 
-pub parsing_told : (f : ParseFault) → f ≢ parse.NoMemory → is_printed (Parsing f) ≡ true
+pub parsing_told : (f : ParseFault) → f ≢ parse.NoMemory → told_refusal (Parsing f) ≡ Some (Parsing f)
 parsing_told (parse.BadByte n) h = refl
 parsing_told (parse.BadNumber n) h = refl
 parsing_told (parse.NameTooLong n) h = refl
@@ -67,7 +67,7 @@ parsing_told parse.TooDeep h = refl
 parsing_told parse.TooLarge h = refl
 parsing_told parse.NoMemory h = absurd (h refl)
 
-pub typing_told : (f : TypeFault) → f ≢ typed.NoMemory → is_printed (Typing f) ≡ true
+pub typing_told : (f : TypeFault) → f ≢ typed.NoMemory → told_refusal (Typing f) ≡ Some (Typing f)
 typing_told (typed.Unknown n) h = refl
 typing_told (typed.Mismatch n) h = refl
 typing_told (typed.NotAVariable n) h = refl

@@ -1,5 +1,5 @@
 -- What texts declare and which blocks they are: a value of its type, a well typed block over the table, or a refusal that is
--- printed.
+-- told.
 use Rattle.std.proofs.Common.{◌≡◌, ◌≢◌, ℕ, Bool, true, false, cond, List, [], length, Option, Some, None, Result, Ok, Err, refl, ap, ◌∙◌, subst}
 use Rattle.std.specs.Prelude.{is_some, not, nat_lt}
 use Rattle.stm_terms.specs.declared.values.Value.{Value}
@@ -26,15 +26,15 @@ use Rattle.stm_console.specs.declared.refusal.Refusal.{Refusal}
 use Rattle.stm_console.specs.declared.refusal.Refusal.TheVariants.{Unknown}
 use Rattle.stm_console.specs.Blocks.{block_or_refusal, compiled_block}
 use Rattle.stm_console.specs.Declaring.{reference_to, initial, unless_refused, with_initial_value, on_declaration, variable_of}
-use Rattle.stm_console.specs.Refusals.{is_printed}
+use Rattle.stm_console.specs.Refusals.{told_refusal}
 use Rattle.stm_console.proofs.EndedLines.{parsing_told, typing_told}
 use Rattle.stm_console.proofs.UsesAreCovered.{opened_covers}
 
 -- ---- declarations
--- where a variable is declared, its value is of its type; where it is refused, the refusal is printed
+-- where a variable is declared, its value is of its type; where it is refused, the refusal is told
 abbrev pub MayHoldOrTold : List Declared → Result Declared Refusal → Type 0
 MayHoldOrTold table (Ok d) = may_hold (declared_cells table) d.kind d.value ≡ true
-MayHoldOrTold table (Err e) = is_printed e ≡ true
+MayHoldOrTold table (Err e) = told_refusal e ≡ Some e
 
 abbrev judged_by : Bool → Bool → Bool → Option DeclareError
 judged_by twice holds room = cond twice (Some declare.Twice) (cond (not holds) (Some declare.TypeOfValue) (cond room None (Some declare.TableFull)))
@@ -52,19 +52,19 @@ declares_initial : (table : List Declared) (d : ParsedDeclaration) (r : Result V
 declares_initial table d (Ok v) e = declares_value table d.name (record { name = d.name; kind = d.kind; value = v })
 declares_initial table d (Err x) e = of d.init e
   where
-    referred : (place : ℕ) (o : Option ℕ) → reference_to place o ≡ Err x → is_printed x ≡ true
+    referred : (place : ℕ) (o : Option ℕ) → reference_to place o ≡ Err x → told_refusal x ≡ Some x
     referred place (Some i) q = absurd cc
-    referred place None q = let p : Unknown place ≡ x = cc in subst (λ x. is_printed x ≡ true) p refl
+    referred place None q = let p : Unknown place ≡ x = cc in subst (λ x. told_refusal x ≡ Some x) p refl
 
-    of : (i : ParsedInit) → initial table i ≡ Err x → is_printed x ≡ true
+    of : (i : ParsedInit) → initial table i ≡ Err x → told_refusal x ≡ Some x
     of (literal v) q = absurd cc
     of (named name place) q = referred place (number_of name table) q
 
 -- ---- blocks
--- a block of a text is well typed, and its variables are declared; where there is none, the refusal is printed
+-- a block of a text is well typed, and its variables are declared; where there is none, the refusal is told
 abbrev pub BlockOrTold : List Declared → Result Block Refusal → Type 0
 BlockOrTold table (Ok b) = IsWellTyped b × Covers (plains (opened table)) b.uses
-BlockOrTold table (Err e) = is_printed e ≡ true
+BlockOrTold table (Err e) = told_refusal e ≡ Some e
 
 abbrev Judged : List Declared → Result Block BlockFault → Type 0
 Judged table (Ok b) = Covers (plains (opened table)) b.uses

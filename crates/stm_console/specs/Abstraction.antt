@@ -1,5 +1,5 @@
 -- What the code's judgements, values and answers are to the definitions.
-use Rattle.std.specs.Prelude.{◌≡◌, ℕ, List, [], ◌∷◌, ◌++◌, Result, Ok, Err, length, IsTrue}
+use Rattle.std.specs.Prelude.{◌≡◌, ℕ, List, [], ◌∷◌, ◌++◌, Result, Ok, Err, length, IfSome}
 use Rattle.stm_store.specs.Tables.{Declared}
 use Rattle.stm_console.specs.LineClass.{LineClass, TooLong, Silent, NotAscii, Words}
 use Rattle.stm_console.specs.declared.console.Console.{Console}
@@ -9,7 +9,7 @@ use Rattle.stm_console.specs.declared.judging.Judgement.TheVariants as judgement
 use Rattle.stm_console.specs.declared.refusal.Refusal.{Refusal}
 use Rattle.stm_console.specs.declared.reply.Reply.{Reply}
 use Rattle.stm_console.specs.declared.reply.Reply.TheVariants as reply
-use Rattle.stm_console.specs.Refusals.{is_printed}
+use Rattle.stm_console.specs.Refusals.{told_refusal}
 use Rattle.stm_console.specs.Showing.{events_text}
 
 -- the judgement of a line, as the definitions have it
@@ -22,7 +22,7 @@ line_class_of (judgement.Words w argument) = Words w.now argument.now
 -- a declaration puts the variable after the others and answers its number; a refusal leaves the table as it was
 abbrev pub Declares : List Declared → Result ℕ Refusal → List Declared → Result Declared Refusal → Type 0
 Declares old (Ok i) new answer = (d : Declared) × (answer ≡ Ok d) × (i ≡ length old) × (new ≡ old ++ d ∷ [])
-Declares old (Err e) new answer = (new ≡ old) × (IsTrue (is_printed e) → answer ≡ Err e)
+Declares old (Err e) new answer = (new ≡ old) × IfSome (told_refusal e) (λ f. answer ≡ Err f)
 
 -- the text of the history, once the desk is open
 abbrev pub history_of : Console → List ℕ

@@ -1,5 +1,5 @@
 -- What is printed where a line is refused.
-use Rattle.std.specs.Prelude.{◌≡◌, ℕ, Bool, true, false, List, [], ◌∷◌, ◌++◌, codes, decimal, Result, Ok, Err, IsTrue}
+use Rattle.std.specs.Prelude.{ℕ, List, [], ◌∷◌, ◌++◌, codes, decimal, Option, Some, None}
 use Rattle.stm_parse.specs.declared.fault.ParseFault.{ParseFault}
 use Rattle.stm_parse.specs.declared.fault.ParseFault.TheVariants as parse
 use Rattle.stm_check.specs.declared.fault.TypeFault.{TypeFault}
@@ -95,14 +95,9 @@ refusal_text (Typing fault) = type_fault_text fault
 refusal_text (Unknown n) = refused_at (codes "Unknown") n
 refusal_text (Declaring error) = declare_error_text error
 
--- an out-of-memory error is reported by no line
-abbrev pub is_printed : Refusal → Bool
-is_printed (Parsing parse.NoMemory) = false
-is_printed (Typing typed.NoMemory) = false
-is_printed (Declaring declare.NoMemory) = false
-is_printed refusal = true
-
--- a call gives what the definition does, unless memory ran out
-abbrev pub AnswersAs : {X Y : Type 0} → (X → Y) → Result X Refusal → Result Y Refusal → Type 0
-AnswersAs view (Ok x) answer = answer ≡ Ok (view x)
-AnswersAs view (Err e) answer = IsTrue (is_printed e) → answer ≡ Err e
+-- the refusal that is told by a line; an out-of-memory error tells none
+abbrev pub told_refusal : Refusal → Option Refusal
+told_refusal (Parsing parse.NoMemory) = None
+told_refusal (Typing typed.NoMemory) = None
+told_refusal (Declaring declare.NoMemory) = None
+told_refusal refusal = Some refusal

@@ -11,17 +11,15 @@ use Rattle.stm_console.specs.LineClass.{LineClass}
 use Rattle.stm_console.specs.LineReading.{classes_from}
 use Rattle.stm_console.specs.StormScript.{Begun, PartialScript, StormScript, most_lines, numbered_result, after_class, script_result, sections_so_far, storm_script}
 
--- a call gives what the definition does, or finds a fault where it finds one; or memory runs out
-abbrev pub GivesAs : {X Y : Type 0} → (X → Y) → Result X LineFault → Option Y → Type 0
-GivesAs view (Ok x) answer = answer ≡ Some (view x)
-GivesAs view (Err Faulty) answer = answer ≡ None
-GivesAs view (Err NoMemory) answer = Unit {0}
+-- the fault of a line that is told; an out-of-memory error tells none
+abbrev pub told_line_fault : LineFault → Option LineFault
+told_line_fault Faulty = Some Faulty
+told_line_fault NoMemory = None
 
--- a call leaves what the definition does, or finds a fault where it finds one; or memory runs out
-abbrev pub LeadsAs : {X : Type 0} → Result (Unit {0}) LineFault → Option X → X → Type 0
-LeadsAs (Ok x) answer new = answer ≡ Some new
-LeadsAs (Err Faulty) answer new = answer ≡ None
-LeadsAs (Err NoMemory) answer new = Unit {0}
+-- what the definitions of scripts give, as an answer: where they give none, the line is faulty
+abbrev pub some_or_faulty : {Y : Type 0} → Option Y → Result Y LineFault
+some_or_faulty (Some y) = Ok y
+some_or_faulty None = Err Faulty
 
 -- what a client is to do
 abbrev pub tasks_of : Section → List Task

@@ -1,10 +1,11 @@
 //! Blocks from their texts.
 
 ghost use Rattle.std.specs.Prelude.{IfOk};
+ghost use Rattle.stm_terms.specs.UnlessNoMemory.{AnswersAs};
 ghost use Rattle.stm_store.specs.Cells.{Covers, plains};
 ghost use Rattle.stm_store.specs.Tables.{opened};
 ghost use Rattle.stm_console.specs.Blocks.{compiled_block};
-ghost use Rattle.stm_console.specs.Refusals.{AnswersAs};
+ghost use Rattle.stm_console.specs.Refusals.{told_refusal};
 
 use crate::refusal::Refusal;
 use std::alloc::Global;
@@ -15,7 +16,7 @@ use stm_store::Table;
 /// The block of a text. The store that opens on the table has the variables that it names.
 #[tactic(auto, using(crate::proofs::UsesAreCovered::opened_covers), unfolding(crate::specs::Blocks::compiled_block, stm_check::specs::WholeBlocks::checked_block))]
 pub fn compile_block(alloc: Global, table: &Table, text: &str) -> Result<Typed, Refusal>
-    ensures block { AnswersAs (λ b. b) result (compiled_block table.now text.now) }
+    ensures block { AnswersAs told_refusal (λ b. b) result (compiled_block table.now text.now) }
     ensures covered { IfOk result (λ b. Covers (plains (opened table.now)) b.uses) }
 {
     let raw = parse_block(alloc, text)?;

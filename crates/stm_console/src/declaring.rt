@@ -1,9 +1,10 @@
 //! `tvar`: declarations.
 
 ghost use Rattle.std.specs.Prelude.{◌≡◌, ◌++◌, string_bytes, OnOk};
+ghost use Rattle.stm_terms.specs.UnlessNoMemory.{AnswersAs};
 ghost use Rattle.stm_parse.specs.Declarations.{parsed_initial};
 ghost use Rattle.stm_console.specs.Declaring.{initial as initial_of, variable_of, tvar_line};
-ghost use Rattle.stm_console.specs.Refusals.{AnswersAs};
+ghost use Rattle.stm_console.specs.Refusals.{told_refusal};
 ghost use Rattle.stm_console.specs.Abstraction.{Declares};
 
 use crate::refusal::Refusal;
@@ -15,7 +16,8 @@ use stm_terms::values::{Ref, Value};
 
 /// A first value: a literal, or a reference to the variable of a name.
 pub fn initial(table: &Table, init: &Init) -> Result<Value, Refusal>
-    ensures { AnswersAs (λ v. v) result (initial_of table.now (parsed_initial init.now)) }
+    ensures { AnswersAs told_refusal (λ v. v) result
+        (initial_of table.now (parsed_initial init.now)) }
 {
     match init {
         Init::Literal(value) => Ok(*value),

@@ -1,9 +1,9 @@
 //! What the commands refuse, and how it is printed.
 
-ghost use Rattle.std.specs.Prelude.{◌≡◌, ◌++◌, ℕ, Some, Err, string_bytes, OnOk, IsTrue};
+ghost use Rattle.std.specs.Prelude.{◌≡◌, ◌++◌, ℕ, Some, Err, string_bytes, OnOk};
 ghost use Rattle.stm_history.specs.Refusals.{submit_told, deliver_error, finish_told, cancel_told};
 ghost use Rattle.stm_desk.specs.declared.finish.Finish.{Finish};
-ghost use Rattle.stm_console.specs.Refusals.{refused, refused_at, refused_variable, parse_fault_text, type_fault_text, declare_error_text, submit_error_text, deliver_error_text, finish_error_text, cancel_error_text, refusal_text, is_printed};
+ghost use Rattle.stm_console.specs.Refusals.{refused, refused_at, refused_variable, parse_fault_text, type_fault_text, declare_error_text, submit_error_text, deliver_error_text, finish_error_text, cancel_error_text, refusal_text, told_refusal};
 
 use std::alloc::AllocError;
 use stm_check::TypeFault;
@@ -86,7 +86,8 @@ fn refuse_variable(name: &str, number: u32, out: &mut String) -> Result<(), NoMe
 fn refuse_parse(fault: ParseFault, out: &mut String) -> Result<(), NoMemory>
     ensures text { OnOk result
         (string_bytes out.new ≡ string_bytes out.old ++ parse_fault_text fault) }
-    ensures told { OnOk result (IsTrue (is_printed (Refusal.Parsing fault))) }
+    ensures told { OnOk result
+        (told_refusal (Refusal.Parsing fault) ≡ Some (Refusal.Parsing fault)) }
 {
     match fault {
         ParseFault::BadByte(place) => refuse_at("BadByte", place, out),
@@ -103,7 +104,8 @@ fn refuse_parse(fault: ParseFault, out: &mut String) -> Result<(), NoMemory>
 fn refuse_type(fault: TypeFault, out: &mut String) -> Result<(), NoMemory>
     ensures text { OnOk result
         (string_bytes out.new ≡ string_bytes out.old ++ type_fault_text fault) }
-    ensures told { OnOk result (IsTrue (is_printed (Refusal.Typing fault))) }
+    ensures told { OnOk result
+        (told_refusal (Refusal.Typing fault) ≡ Some (Refusal.Typing fault)) }
 {
     match fault {
         TypeFault::Unknown(place) => refuse_at("Unknown", place, out),
@@ -118,7 +120,8 @@ fn refuse_type(fault: TypeFault, out: &mut String) -> Result<(), NoMemory>
 fn refuse_declaration(error: DeclareError, out: &mut String) -> Result<(), NoMemory>
     ensures text { OnOk result
         (string_bytes out.new ≡ string_bytes out.old ++ declare_error_text error) }
-    ensures told { OnOk result (IsTrue (is_printed (Refusal.Declaring error))) }
+    ensures told { OnOk result
+        (told_refusal (Refusal.Declaring error) ≡ Some (Refusal.Declaring error)) }
 {
     match error {
         DeclareError::Twice => refuse("Twice", out),
@@ -132,7 +135,7 @@ fn refuse_declaration(error: DeclareError, out: &mut String) -> Result<(), NoMem
 pub fn write_refusal(refusal: Refusal, out: &mut String) -> Result<(), NoMemory>
     ensures text { OnOk result
         (string_bytes out.new ≡ string_bytes out.old ++ refusal_text refusal) }
-    ensures told { OnOk result (IsTrue (is_printed refusal)) }
+    ensures told { OnOk result (told_refusal refusal ≡ Some refusal) }
 {
     match refusal {
         Refusal::Parsing(fault) => refuse_parse(fault, out),

@@ -1,8 +1,9 @@
 //! What a line of a storm's script says.
 
-ghost use Rattle.std.specs.Prelude.{◌≡◌, ◌<◌, ◌⊎◌, IsTrue, length, slice_get};
+ghost use Rattle.std.specs.Prelude.{◌≡◌, ◌<◌, ◌⊎◌, Some, length, slice_get};
 ghost use Rattle.std.specs.Result.{result_ok};
 ghost use Rattle.stm_terms.specs.Typing.{same_ty, var_ty};
+ghost use Rattle.stm_terms.specs.UnlessNoMemory.{AnswersAs};
 ghost use Rattle.stm_parse.specs.Declarations.{parsed_initial};
 ghost use Rattle.stm_parse.specs.ExpectationFunction.{parsed_expectation};
 ghost use Rattle.stm_store.specs.Cells.{kinds_of};
@@ -10,8 +11,8 @@ ghost use Rattle.stm_store.specs.Tables.{declared_cells, is_of as is_value_of};
 ghost use Rattle.stm_console.specs.Arguments.{number_argument};
 ghost use Rattle.stm_console.specs.Blocks.{compiled_block};
 ghost use Rattle.stm_console.specs.Declaring.{initial as initial_of};
-ghost use Rattle.stm_console.specs.Refusals.{is_printed};
-ghost use Rattle.stm_console.specs.ScriptReading.{GivesAs};
+ghost use Rattle.stm_console.specs.Refusals.{told_refusal};
+ghost use Rattle.stm_console.specs.ScriptReading.{told_line_fault, some_or_faulty};
 ghost use Rattle.stm_console.specs.StormScript.{submission_of as submission_told, expected_at, expected_task};
 
 use crate::arguments::number_of;
@@ -36,7 +37,7 @@ pub enum LineFault {
 /// What a refusal is to a script: a line that would be refused is faulty.
 pub fn fault_of(refusal: Refusal) -> LineFault
     ensures { (result ≡ LineFault.NoMemory)
-        ⊎ ((result ≡ LineFault.Faulty) × IsTrue (is_printed refusal)) }
+        ⊎ ((result ≡ LineFault.Faulty) × (told_refusal refusal ≡ Some refusal)) }
 {
     match refusal {
         Refusal::Parsing(ParseFault::NoMemory) => LineFault::NoMemory,
@@ -48,7 +49,8 @@ pub fn fault_of(refusal: Refusal) -> LineFault
 
 /// The block of a `submit`.
 pub fn submitted_block(alloc: Global, table: &Table, text: &str) -> Result<SharedBlock, LineFault>
-    ensures { GivesAs (λ b. b) result (result_ok (compiled_block table.now text.now)) }
+    ensures { AnswersAs told_line_fault (λ b. b) result
+        (some_or_faulty (result_ok (compiled_block table.now text.now))) }
 {
     match compile_block(alloc, table, text) {
         Ok(block) => match SharedBlock::new(alloc, block) {
@@ -113,8 +115,9 @@ fn is_of(table: &Table, value: Value, kind: Ty) -> bool
 /// What is expected of a declared variable: a value that it may hold.
 fn expected_value(table: &Table, number: u32, init: &Init) -> Result<Task, LineFault>
     requires { number < length table.now }
-    ensures { GivesAs (λ t. t) result (expected_at table.now number (slice_get table.now number)
-        (initial_of table.now (parsed_initial init.now))) }
+    ensures { AnswersAs told_line_fault (λ t. t) result (some_or_faulty
+        (expected_at table.now number (slice_get table.now number)
+        (initial_of table.now (parsed_initial init.now)))) }
 {
     match initial(table, init) {
         Ok(value) => {
@@ -130,7 +133,8 @@ fn expected_value(table: &Table, number: u32, init: &Init) -> Result<Task, LineF
 
 /// What an `expect` expects.
 pub fn expectation(alloc: Global, table: &Table, text: &str) -> Result<Task, LineFault>
-    ensures { GivesAs (λ t. t) result (expected_task table.now (parsed_expectation text.now)) }
+    ensures { AnswersAs told_line_fault (λ t. t) result
+        (some_or_faulty (expected_task table.now (parsed_expectation text.now))) }
 {
     match parse_expectation(alloc, text) {
         Ok(expectation) => match table.find(expectation.name.as_str()) {

@@ -1,5 +1,5 @@
 -- What a good reader answers for a text is right.
-use Rattle.std.proofs.Common.{◌≡◌, ◌≢◌, ℕ, zero, suc, ◌+◌, ◌-◌, ◌<◌, ◌≤◌, List, [], ◌∷◌, length, slice_get, refl, sym, ap, ◌∙◌, subst, arith, Bool, true, false, cond, nat_lt, Option, Some, None, Result, Ok, Err, inl, inr}
+use Rattle.std.proofs.Common.{◌≡◌, ◌≢◌, ℕ, zero, suc, ◌+◌, ◌-◌, ◌<◌, ◌≤◌, List, [], ◌∷◌, length, slice_get, refl, sym, ap, ◌∙◌, subst, arith, Bool, true, false, cond, nat_lt, Option, Some, None, Result, Ok, Err, inl, inr, IfSome}
 use Rattle.std.proofs.lemmas.Bool.Decides.{nat_tests}
 use Rattle.stm_parse.specs.declared.token.Lexeme.{Lexeme}
 use Rattle.stm_parse.specs.declared.token.ErrorKind.{ErrorKind}
@@ -13,11 +13,10 @@ use Rattle.stm_parse.specs.Front as front
 use Rattle.stm_parse.specs.declared.fault.ParseFault.{ParseFault}
 use Rattle.stm_parse.specs.declared.fault.ParseFault.TheVariants as fault
 use Rattle.stm_parse.specs.Tokenizer.{cut, front_of, next, with_front, tokens_of, IsOfTokens}
-use Rattle.stm_parse.specs.UnlessNoMemory.{FailsAs}
 use Rattle.stm_parse.specs.Lexing.{lexemes_of}
 use Rattle.stm_parse.specs.Faults.{Language}
-use Rattle.stm_parse.specs.ParseResult.{most_bytes, most_tokens, LexesWithinLimits, IsEarly, fault_of_cause, fault_of_failure}
-use Rattle.stm_parse.specs.Descent.{Reader, StopsAs, whole}
+use Rattle.stm_parse.specs.ParseResult.{most_bytes, most_tokens, LexesWithinLimits, IsEarly, fault_of_cause, fault_of_failure, told_parse_fault}
+use Rattle.stm_parse.specs.Descent.{Reader, told_failure, whole}
 use Rattle.stm_parse.specs.ParseFunction.{IsAnswer, located, of_tokens, answered}
 use Rattle.stm_parse.proofs.ReaderCorrect.{Good, Any}
 use Rattle.stm_parse.proofs.TokenizationUnique.{rules_cut}
@@ -75,7 +74,7 @@ told_some cause.Unexpected (Some x) e = cc
 told_some cause.TooDeep (Some x) e = cc
 told_some cause.BadNumber (Some x) e = cc
 
-tells_own : (text : List ℕ) (e : ParseFault) → tokens_of text ≡ Err e → FailsAs e (tokens_of text)
+tells_own : (text : List ℕ) (e : ParseFault) → tokens_of text ≡ Err e → IfSome (told_parse_fault e) (λ f. tokens_of text ≡ Err f)
 tells_own text (fault.BadByte n) q = q
 tells_own text (fault.BadNumber n) q = q
 tells_own text (fault.NameTooLong n) q = q
@@ -126,7 +125,7 @@ module _ {A : Type 0} (r : Reader A) (text : List ℕ) where
   pub ok_answer : (ls : List Lexeme) → LexesWithinLimits text ls → (t : A) → whole r ls ≡ Ok t → answered r text ≡ Ok t
   ok_answer ls f t e = fits_answer ls f ∙ ap (located ls) e
 
-  tells_same : (e : ParseFault) → answered r text ≡ Err e → FailsAs e (answered r text)
+  tells_same : (e : ParseFault) → answered r text ≡ Err e → IfSome (told_parse_fault e) (λ f. answered r text ≡ Err f)
   tells_same (fault.BadByte n) q = q
   tells_same (fault.BadNumber n) q = q
   tells_same (fault.NameTooLong n) q = q
@@ -136,11 +135,11 @@ module _ {A : Type 0} (r : Reader A) (text : List ℕ) where
   tells_same fault.TooLarge q = q
   tells_same fault.NoMemory q = tt
 
-  pub stop_answer : (ls : List Lexeme) → LexesWithinLimits text ls → (e : Failure) → StopsAs e (whole r ls) → FailsAs (fault_of_failure ls e) (answered r text)
+  pub stop_answer : (ls : List Lexeme) → LexesWithinLimits text ls → (e : Failure) → IfSome (told_failure e) (λ f. whole r ls ≡ Err f) → IfSome (told_parse_fault (fault_of_failure ls e)) (λ f. answered r text ≡ Err f)
   stop_answer ls f stop.Memory h = tt
   stop_answer ls f (stop.At x) h = tells_same (fault_of_cause x.cause (slice_get ls (length ls - x.left))) (fits_answer ls f ∙ ap (located ls) h)
 
-  pub early_answer : (e : ParseFault) → IsEarly text e → FailsAs e (answered r text)
+  pub early_answer : (e : ParseFault) → IsEarly text e → IfSome (told_parse_fault e) (λ f. answered r text ≡ Err f)
   unfolding answered
   early_answer fault.TooLarge (inl l) = ap (λ b. cond b (Err fault.TooLarge) (of_tokens r text (tokens_of text))) (is_more most_bytes (length text) l)
   early_answer fault.TooLarge (inr h) =

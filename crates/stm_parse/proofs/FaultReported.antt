@@ -1,5 +1,5 @@
 -- From the tokens to the text: which fault is reported.
-use Rattle.std.proofs.Common.{◌≡◌, ℕ, suc, ◌-◌, ◌<◌, ◌≤◌, List, [], ◌∷◌, ◌++◌, length, length-append, append-nil, slice_get, refl, sym, ap, ◌∙◌, subst, arith, Some, None, Result, Ok, Err, inl, inr}
+use Rattle.std.proofs.Common.{◌≡◌, ℕ, suc, ◌-◌, ◌<◌, ◌≤◌, List, [], ◌∷◌, ◌++◌, length, length-append, append-nil, slice_get, refl, sym, ap, ◌∙◌, subst, arith, Some, None, Result, Ok, Err, inl, inr, IfSome}
 use Rattle.stm_parse.specs.declared.token.Lexeme.{Lexeme}
 use Rattle.stm_parse.specs.declared.token.ErrorKind.{ErrorKind}
 use Rattle.stm_parse.specs.declared.token.ErrorKind.TheVariants as cause
@@ -9,11 +9,10 @@ use Rattle.stm_parse.specs.declared.tokenizer.Token.{Token}
 use Rattle.stm_parse.specs.declared.fault.ParseFault.{ParseFault}
 use Rattle.stm_parse.specs.declared.fault.ParseFault.TheVariants as fault
 use Rattle.stm_parse.specs.Tokenizer.{tokens_of, IsOfTokens}
-use Rattle.stm_parse.specs.UnlessNoMemory.{FailsAs}
 use Rattle.stm_parse.specs.Lexing.{lexemes_of}
 use Rattle.stm_parse.specs.Faults.{Language, IsText, Begins, AtFault}
-use Rattle.stm_parse.specs.ParseResult.{most_bytes, most_tokens, Lexes, LexesWithinLimits, IsTextOf, IsEarly, IsReported, fault_of_cause, fault_of_failure, OrNoMemory}
-use Rattle.stm_parse.specs.Descent.{Reader, StopsAs, whole}
+use Rattle.stm_parse.specs.ParseResult.{most_bytes, most_tokens, Lexes, LexesWithinLimits, IsTextOf, IsEarly, IsReported, fault_of_cause, fault_of_failure, OrNoMemory, told_parse_fault}
+use Rattle.stm_parse.specs.Descent.{Reader, told_failure, whole}
 use Rattle.stm_parse.proofs.ReaderCorrect.{Good, Any}
 use Rattle.stm_parse.proofs.TokenizationUnique.{one_by_rules, cut_by_rules}
 use Rattle.stm_parse.proofs.WholeTextRead.{Right, right, only}
@@ -38,7 +37,7 @@ pub lexemes_count : (text : List ℕ) (ts : List Token) → length (lexemes_of t
 lexemes_count text [] = refl
 lexemes_count text (t ∷ ts) = ap suc (lexemes_count text ts)
 
-pub tells_early : (text : List ℕ) (e : ParseFault) → length text ≤ most_bytes → FailsAs e (tokens_of text) → IsOfTokens e → IsEarly text e
+pub tells_early : (text : List ℕ) (e : ParseFault) → length text ≤ most_bytes → IfSome (told_parse_fault e) (λ f. tokens_of text ≡ Err f) → IsOfTokens e → IsEarly text e
 tells_early text (fault.BadByte n) l h k = (l, cut_by_rules text (Err (fault.BadByte n)) h)
 tells_early text (fault.BadNumber n) l h k = (l, cut_by_rules text (Err (fault.BadNumber n)) h)
 tells_early text (fault.NameTooLong n) l h k = (l, cut_by_rules text (Err (fault.NameTooLong n)) h)
@@ -96,7 +95,7 @@ module _ {A : Type 0} (r : Reader A) (L : Language A) (good : (n : ℕ) → Good
   first_told cause.TooDeep q (x ∷ s) e b a = subst (λ o. IsReported L text (fault_of_cause cause.TooDeep o)) (sym (get_next q s x)) (x.start, (ls, q, s, x, fits, e, refl, b, a))
   first_told cause.BadNumber q (x ∷ s) e b a = subst (λ o. IsReported L text (fault_of_cause cause.BadNumber o)) (sym (get_next q s x)) (inr (ls, q, s, x, fits, e, refl, b, a))
 
-  pub stop_told : (e : Failure) → StopsAs e (whole r ls) → IsReported L text (fault_of_failure ls e)
+  pub stop_told : (e : Failure) → IfSome (told_failure e) (λ f. whole r ls ≡ Err f) → IsReported L text (fault_of_failure ls e)
   stop_told stop.Memory h = tt
   stop_told (stop.At f) h =
       let k = subst (Right L ls) h (right r L good ls) in
@@ -108,7 +107,7 @@ module _ {A : Type 0} (r : Reader A) (L : Language A) (good : (n : ℕ) → Good
   pub only_this : (t u : A) → IsTextOf L text t → whole r ls ≡ Ok u → u ≡ t
   only_this t u h e = let f = reads t h in cc
 
-  pub stop_none : {B : Type 0} (P : B → Type 0) (t : A) → IsTextOf L text t → (e : Failure) → StopsAs e (whole r ls) → OrNoMemory (Err (fault_of_failure ls e)) P
+  pub stop_none : {B : Type 0} (P : B → Type 0) (t : A) → IsTextOf L text t → (e : Failure) → IfSome (told_failure e) (λ f. whole r ls ≡ Err f) → OrNoMemory (Err (fault_of_failure ls e)) P
   stop_none P t h stop.Memory k = tt
   stop_none P t h (stop.At f) k = let g = reads t h in absurd cc
 

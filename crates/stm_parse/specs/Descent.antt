@@ -34,15 +34,10 @@ abbrev pub ◌>>=◌ : {A B : Type 0} → Result A Fault → (A → Result B Fau
 (Ok x) >>= f = f x
 (Err e) >>= f = Err e
 
--- a function that stopped did so for the fault of the reading, unless memory ran out
-abbrev pub StopsAs : {Y : Type 0} → Failure → Result Y Fault → Type 0
-StopsAs stop.Memory reading = Unit {0}
-StopsAs (stop.At f) reading = reading ≡ Err f
-
--- what a function returned, seen by view, is what reading gives, unless memory ran out
-abbrev pub ReadsAs : {X Y : Type 0} → (X → Y) → Result X Failure → Result Y Fault → Type 0
-ReadsAs view (Ok x) reading = reading ≡ Ok (view x)
-ReadsAs view (Err e) reading = StopsAs e reading
+-- the fault for which a function stopped; want of memory is none
+abbrev pub told_failure : Failure → Option Fault
+told_failure stop.Memory = None
+told_failure (stop.At f) = Some f
 
 -- these tokens are left of a reading
 abbrev pub Leaves : {A : Type 0} → List Lexeme → Reading A → Type 0

@@ -11,7 +11,6 @@ pub mod ParseResult
 pub mod ParsedBlock
 pub mod Terminals
 pub mod TypeTexts
-pub mod UnlessNoMemory
 -- The one answer for a text, which contracts name too, as a function: laws say that it is right.
 pub mod ExpectationFunction
 pub mod ParseFunction

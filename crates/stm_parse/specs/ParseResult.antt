@@ -81,6 +81,11 @@ abbrev pub fault_of_failure : List Lexeme → Failure → ParseFault
 fault_of_failure ls stop.Memory = fault.NoMemory
 fault_of_failure ls (stop.At f) = fault_of_cause f.cause (slice_get ls (length ls - f.left))
 
+-- the fault that is told; an out-of-memory error tells none
+abbrev pub told_parse_fault : ParseFault → Option ParseFault
+told_parse_fault fault.NoMemory = None
+told_parse_fault f = Some f
+
 -- an answer of which this holds, or an out-of-memory error
 abbrev pub OrNoMemory : {A : Type 0} → Result A ParseFault → (A → Type 0) → Type 0
 OrNoMemory (Ok a) P = P a

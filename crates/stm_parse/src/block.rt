@@ -1,14 +1,14 @@
 //! A text as a block.
 
-ghost use Rattle.std.specs.Prelude.{◌≡◌, MatchResult, IfOk, IfErr};
+ghost use Rattle.std.specs.Prelude.{◌≡◌, MatchResult, IfOk, IfErr, IfSome, Err};
 ghost use Rattle.std.specs.Str.{IsAscii};
 ghost use Rattle.stm_terms.specs.ParsedAst.{RawAct, raw_act_of};
+ghost use Rattle.stm_terms.specs.UnlessNoMemory.{AnswersAs};
 ghost use Rattle.stm_parse.specs.Grammar.{IsBlock};
 ghost use Rattle.stm_parse.specs.ParseFunction.{parsed_block, parsed_declaration};
-ghost use Rattle.stm_parse.specs.UnlessNoMemory.{ParsesAs, FailsAs};
-ghost use Rattle.stm_parse.specs.ParseResult.{LexesWithinLimits, IsTextOf, IsEarly, IsReported, OrNoMemory, fault_of_failure};
+ghost use Rattle.stm_parse.specs.ParseResult.{LexesWithinLimits, IsTextOf, IsEarly, IsReported, OrNoMemory, fault_of_failure, told_parse_fault};
 ghost use Rattle.stm_parse.specs.ParsedBlock.{NamesOf};
-ghost use Rattle.stm_parse.specs.Descent.{ReadsAs, block_reader, whole};
+ghost use Rattle.stm_parse.specs.Descent.{told_failure, block_reader, whole};
 
 use crate::action::action;
 use crate::cursor::unexpected;
@@ -27,8 +27,10 @@ pub(crate) fn lexed(alloc: Global, text: &str) -> Result<Vec<Lexeme>, ParseFault
         (λ e. IsEarly text.now e) }
     ensures ascii { IfOk result (λ v. IsAscii text.now) }
     ensures names { IfOk result (λ v. NamesOf text.now v.items) }
-    ensures block { IfErr result (λ e. FailsAs e (parsed_block text.now)) }
-    ensures declaration { IfErr result (λ e. FailsAs e (parsed_declaration text.now)) }
+    ensures block { IfErr result
+        (λ e. IfSome (told_parse_fault e) (λ f. parsed_block text.now ≡ Err f)) }
+    ensures declaration { IfErr result
+        (λ e. IfSome (told_parse_fault e) (λ f. parsed_declaration text.now ≡ Err f)) }
 {
     if text.len() > MOST_BYTES {
         return Err(ParseFault::TooLarge);
@@ -62,7 +64,7 @@ pub(crate) fn fault_of_failure(toks: &[Lexeme], stop: Failure) -> ParseFault
 }
 
 fn whole_block(alloc: Global, toks: &[Lexeme]) -> Result<RawAction, Failure>
-    ensures { ReadsAs raw_act_of result (whole block_reader toks.now) }
+    ensures { AnswersAs told_failure raw_act_of result (whole block_reader toks.now) }
 {
     let ((tree, _), rest) = action(alloc, DEEPEST, toks)?;
     if rest.is_empty() {
@@ -84,7 +86,7 @@ pub fn parse_block(alloc: Global, text: &str) -> Result<Raw, ParseFault>
         → OrNoMemory result (λ r. r.tree ≡ t) }
     ensures text { IfOk result (λ r. r.text ≡ text.now) }
     // The answer is a function of the text.
-    ensures answer { ParsesAs (λ r. r.tree) result (parsed_block text.now) }
+    ensures answer { AnswersAs told_parse_fault (λ r. r.tree) result (parsed_block text.now) }
 {
     let toks = lexed(alloc, text)?;
     match whole_block(alloc, &toks) {

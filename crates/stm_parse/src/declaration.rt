@@ -6,11 +6,11 @@ ghost use Rattle.stm_terms.specs.Names.{is_name_text};
 ghost use Rattle.stm_terms.specs.ParsedAst.{IsSpan, NamesWithin, raw_term_of};
 ghost use Rattle.stm_parse.specs.Declarations.{declaration_tree_of, init_of, declaration_in, declaration_of, parsed_initial};
 ghost use Rattle.stm_terms.specs.Limits.{most_refs};
+ghost use Rattle.stm_terms.specs.UnlessNoMemory.{AnswersAs};
 ghost use Rattle.stm_parse.specs.Grammar.{DeclarationTree, IsDeclaration};
 ghost use Rattle.stm_parse.specs.ParseFunction.{parsed_declaration};
-ghost use Rattle.stm_parse.specs.UnlessNoMemory.{ParsesAs};
-ghost use Rattle.stm_parse.specs.ParseResult.{IsTextOf, IsReported, OrNoMemory};
-ghost use Rattle.stm_parse.specs.Descent.{ReadsAs, declaration_reader, whole};
+ghost use Rattle.stm_parse.specs.ParseResult.{IsTextOf, IsReported, OrNoMemory, told_parse_fault};
+ghost use Rattle.stm_parse.specs.Descent.{told_failure, declaration_reader, whole};
 
 use crate::block::{fault_of_failure, lexed};
 use crate::cursor::unexpected;
@@ -70,7 +70,8 @@ fn owned(alloc: Global, text: &str, raw: RawDeclaration) -> Result<Declaration, 
 }
 
 fn whole_declaration(toks: &[Lexeme]) -> Result<RawDeclaration, Failure>
-    ensures gives { ReadsAs declaration_tree_of result (whole declaration_reader toks.now) }
+    ensures gives { AnswersAs told_failure declaration_tree_of result
+        (whole declaration_reader toks.now) }
     ensures few { IfOk result (λ d. d.ty.refs ≤ most_refs) }
 {
     let (declared, rest) = declaration(toks)?;
@@ -94,7 +95,8 @@ pub fn parse_declare(alloc: Global, text: &str) -> Result<Declaration, ParseFaul
     ensures only { (t : DeclarationTree) → IsTextOf IsDeclaration text.now t
         → OrNoMemory result (λ d. declaration_of d ≡ declaration_in text.now t) }
     // The answer is a function of the text.
-    ensures answer { ParsesAs declaration_of result (parsed_declaration text.now) }
+    ensures answer { AnswersAs told_parse_fault declaration_of result
+        (parsed_declaration text.now) }
     ensures name { IfOk result (λ d. is_name_text (string_bytes d.name) ≡ true) }
     ensures few { IfOk result (λ d. d.ty.refs ≤ most_refs) }
 {

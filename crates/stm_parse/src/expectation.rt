@@ -4,11 +4,11 @@ ghost use Rattle.std.specs.Prelude.{◌≡◌, length, true, MatchResult, IfOk, 
 ghost use Rattle.std.specs.Str.{IsAscii};
 ghost use Rattle.stm_terms.specs.Names.{is_name_text};
 ghost use Rattle.stm_terms.specs.ParsedAst.{IsSpan, NamesWithin, raw_term_of};
-ghost use Rattle.stm_parse.specs.Descent.{ReadsAs, whole};
+ghost use Rattle.stm_terms.specs.UnlessNoMemory.{AnswersAs};
+ghost use Rattle.stm_parse.specs.Descent.{told_failure, whole};
 ghost use Rattle.stm_parse.specs.ExpectationFunction.{expectation_reader, parsed_expectation};
 ghost use Rattle.stm_parse.specs.Expectations.{ExpectationTree, IsExpectation, expectation_tree_of, expectation_in, expectation_of};
-ghost use Rattle.stm_parse.specs.ParseResult.{IsTextOf, IsReported, OrNoMemory};
-ghost use Rattle.stm_parse.specs.UnlessNoMemory.{ParsesAs};
+ghost use Rattle.stm_parse.specs.ParseResult.{IsTextOf, IsReported, OrNoMemory, told_parse_fault};
 
 use crate::block::{fault_of_failure, lexed};
 use crate::cursor::{expect_name, unexpected};
@@ -46,7 +46,8 @@ fn owned(alloc: Global, text: &str, raw: RawExpectation) -> Result<Expectation, 
 }
 
 fn whole_expectation(toks: &[Lexeme]) -> Result<RawExpectation, Failure>
-    ensures { ReadsAs expectation_tree_of result (whole expectation_reader toks.now) }
+    ensures { AnswersAs told_failure expectation_tree_of result
+        (whole expectation_reader toks.now) }
 {
     let (name, rest) = expect_name(toks)?;
     let (init, rest) = init(rest)?;
@@ -73,7 +74,8 @@ pub fn parse_expectation(alloc: Global, text: &str) -> Result<Expectation, Parse
     ensures only { (t : ExpectationTree) → IsTextOf IsExpectation text.now t
         → OrNoMemory result (λ d. expectation_of d ≡ expectation_in text.now t) }
     // The answer is a function of the text.
-    ensures answer { ParsesAs expectation_of result (parsed_expectation text.now) }
+    ensures answer { AnswersAs told_parse_fault expectation_of result
+        (parsed_expectation text.now) }
     ensures name { IfOk result (λ d. is_name_text (string_bytes d.name) ≡ true) }
 {
     let toks = lexed(alloc, text)?;

@@ -8,6 +8,7 @@ pub mod ReadSet
 pub mod Semantics
 pub mod Texts
 pub mod Typing
+pub mod UnlessNoMemory
 pub mod Value
 pub mod Verdict
 -- The words inside, for sums that std has checked, and for trees as values that have a code.

@@ -4,8 +4,8 @@
 //! definitions speak of), `Value` (the value of an expression), `Changes` (what a block sees and has changed) and `Semantics`
 //! (what an action does), `ReadSet` (what it reads), `Verdict` (what a block does on a store) and `Typing` (the types of
 //! expressions and actions, and when a block's view is well typed). Beside it stand `ParsedAst` (the trees that a text writes,
-//! with names and places), `Names` (which words are names), `Limits` (how long and how deep) and `Texts` (what is printed of
-//! types, values and verdicts).
+//! with names and places), `Names` (which words are names), `Limits` (how long and how deep), `Texts` (what is printed of
+//! types, values and verdicts) and `UnlessNoMemory` (when a call, of any crate, answers as its definition does).
 #![tactic(auto)]
 
 pub mod action;

@@ -1,11 +1,10 @@
-use Rattle.std.proofs.Common.{◌≡◌, length, sym, ap, ◌∙◌, subst, Ok, rules}
+use Rattle.std.proofs.Common.{◌≡◌, length, sym, ap, ◌∙◌, subst, Ok, rules, Err, IfSome}
 use Rattle.stm_terms.specs.ParsedAst.{raw_act_of, SpansWithin}
 use Rattle.stm_parse.specs.Grammar.{IsBlock}
-use Rattle.stm_parse.specs.ParseResult.{IsTextOf, IsReported}
+use Rattle.stm_parse.specs.ParseResult.{IsTextOf, IsReported, told_parse_fault}
 use Rattle.stm_parse.specs.ParsedBlock.{RawBlock, NamesAre}
 use Rattle.stm_parse.specs.Descent.{block_reader}
 use Rattle.stm_parse.specs.ParseFunction.{parsed_block}
-use Rattle.stm_parse.specs.UnlessNoMemory.{FailsAs}
 use Rattle.stm_parse.proofs.CallsExact.{ok_block, stop_block}
 use Rattle.stm_parse.proofs.TreeNamesAndSize.{kept_block}
 use Rattle.stm_parse.proofs.FaultReported.{early_none, text_of, ok_text, only_this, stop_told, stop_none}
@@ -61,7 +60,7 @@ returns-in-Ok-clause-answer c =
 pub returns-clause-answer : goal.returns-clause-answer
 returns-clause-answer c =
     let e = rw c.deref.ensures.value at c.in-Err.ensures in
-    subst (λ x. FailsAs x (parsed_block c.args.text.now)) (sym (rw c.deref-in-Err.ensures.value at c.fault_of_failure.ensures)) (stop_block c.args.text.now c.in_ok-toks.toks.items c.in_ok-toks.ensures.right c.in-Err.stop e)
+    subst (λ x. IfSome (told_parse_fault x) (λ f. parsed_block c.args.text.now ≡ Err f)) (sym (rw c.deref-in-Err.ensures.value at c.fault_of_failure.ensures)) (stop_block c.args.text.now c.in_ok-toks.toks.items c.in_ok-toks.ensures.right c.in-Err.stop e)
 
 pub returns-in_err-toks-clause-only : goal.returns-in_err-toks-clause-only
 returns-in_err-toks-clause-only c = λ t h. search (early_none (λ (r : RawBlock). r.tree ≡ t) c.args.text.now h.0 h.1 _ c.in_err-toks.ensures.right, rules)

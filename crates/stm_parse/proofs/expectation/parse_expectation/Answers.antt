@@ -1,9 +1,8 @@
-use Rattle.std.proofs.Common.{◌≡◌, sym, ap, ◌∙◌, subst, rules, Ok}
+use Rattle.std.proofs.Common.{◌≡◌, sym, ap, ◌∙◌, subst, rules, Ok, Err, IfSome}
 use Rattle.stm_terms.specs.Names.{is_name_text}
 use Rattle.stm_parse.specs.Expectations.{IsExpectation, expectation_tree_of, expectation_in, expectation_of}
-use Rattle.stm_parse.specs.ParseResult.{IsReported}
+use Rattle.stm_parse.specs.ParseResult.{IsReported, told_parse_fault}
 use Rattle.stm_parse.specs.ExpectationFunction.{expectation_reader, parsed_expectation}
-use Rattle.stm_parse.specs.UnlessNoMemory.{FailsAs}
 use Rattle.stm_parse.proofs.Expectations.{good_expectation, kept_expectation, early_expectation, ok_expectation, stop_expectation}
 use Rattle.stm_parse.proofs.FaultReported.{early_none, text_of, ok_text, only_this, stop_told, stop_none}
 use Rattle.stm_parse.proofs.expectation.parse_expectation.Goals as goal
@@ -52,7 +51,7 @@ returns-in-Ok-clause-answer c =
 pub returns-clause-answer : goal.returns-clause-answer
 returns-clause-answer c =
     let e = rw c.deref.ensures.value at c.in-Err.ensures in
-    subst (λ x. FailsAs x (parsed_expectation c.args.text.now)) (sym (rw c.deref-in-Err.ensures.value at c.fault_of_failure.ensures)) (stop_expectation c.args.text.now c.in_ok-toks.toks.items c.in_ok-toks.ensures.right c.in-Err.stop e)
+    subst (λ x. IfSome (told_parse_fault x) (λ f. parsed_expectation c.args.text.now ≡ Err f)) (sym (rw c.deref-in-Err.ensures.value at c.fault_of_failure.ensures)) (stop_expectation c.args.text.now c.in_ok-toks.toks.items c.in_ok-toks.ensures.right c.in-Err.stop e)
 
 pub returns-in_err-toks-clause-answer : goal.returns-in_err-toks-clause-answer
 returns-in_err-toks-clause-answer c = search (early_expectation c.args.text.now _ c.in_err-toks.ensures.right, rules)
