@@ -4,9 +4,9 @@ use crate::words::{first_word, say, say_whether};
 use std::alloc::{AllocError, Global};
 use std::fmt::Write;
 use stm_check::{TypeFault, Typed, check};
-use stm_parse::{Declaration, Init, ParseFault, Raw, Token, parse_block, parse_declare, tokens};
+use stm_parse::{Declaration, Init, ParseFault, Token, parse_block, parse_declare, tokens};
 use stm_store::Table;
-use stm_terms::{Ty, is_name, write_type, write_value};
+use stm_terms::{Raw, Ty, is_name, write_type, write_value};
 
 /// Answers with a fault of the grammar.
 fn say_parse_fault(fault: ParseFault, out: &mut String) -> Result<(), AllocError> {

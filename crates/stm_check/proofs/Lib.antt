@@ -1,5 +1,4 @@
 pub mod ActionsSound
-pub mod BlockEquality
 pub mod CheckComplete
 pub mod CheckExact
 pub mod CheckTakesNoMemory

@@ -13,11 +13,11 @@ use crate::fault::TypeFault;
 use crate::scope::Scope;
 use crate::typed::Typed;
 use std::alloc::Global;
-use stm_parse::Raw;
 use stm_store::Table;
 use stm_terms::action::Action;
 use stm_terms::kinds::Ty;
 use stm_terms::raw::RawAction;
+use stm_terms::raw_block::Raw;
 
 /// The check of the tree of a text: the tree, the type of its result, and the variables that it names.
 fn check_tree(

@@ -1,9 +1,8 @@
 //! Typing: the check that makes a parsed block a typed one or reports its first fault, and typed blocks.
 //!
 //! What typing is stands in stm_terms (`specs/Typing`). Here `specs/CheckFunction` says what the check gives, with the order of
-//! the faults, `specs/Scopes` which local a name means, `specs/Resolving` what a parsed tree is without its names,
-//! `specs/TypedBlock` what callers see of a typed block, and `specs/WholeBlocks` which block or fault a text has.
-//! `specs/Laws` ties the check and the resolving to typing, and typing to what a block does: a well typed block is never
+//! the faults, `specs/Scopes` which local a name means, `specs/Resolving` what a parsed tree is without its names, and
+//! `specs/TypedBlock` what callers see of a typed block. `specs/Laws` ties the check and the resolving to typing, and typing to what a block does: a well typed block is never
 //! stuck, and its verdict fits the store.
 #![tactic(auto)]
 

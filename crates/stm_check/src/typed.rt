@@ -1,6 +1,6 @@
 //! Blocks that are well typed.
 
-ghost use Rattle.std.specs.Prelude.{◌≡◌, ◌≤◌, ◌^◌, ◌↔◌, ◌&&◌, [], Some, IfOk, IsTrue, string_bytes};
+ghost use Rattle.std.specs.Prelude.{◌≡◌, ◌≤◌, ◌^◌, ◌↔◌, [], Some, IfOk, IsTrue, string_bytes};
 ghost use Rattle.stm_terms.specs.Ast.{act_of};
 ghost use Rattle.stm_terms.specs.Typing.{action_type, result_type as type_of_result, kinds_in, makes};
 
@@ -33,12 +33,6 @@ fn same_uses(one: &[(u32, Ty)], other: &[(u32, Ty)]) -> bool
         }
         _ => false,
     }
-}
-
-fn all(first: bool, second: bool, third: bool, fourth: bool) -> bool
-    ensures { result ≡ (first && second) && (third && fourth) }
-{
-    (first && second) && (third && fourth)
 }
 
 /// A well typed block, with its text, the type of its result, none for any, and the variables that it names with their
@@ -140,7 +134,7 @@ impl Typed {
         let texts = same_text(&self.text, &other.text);
         let results = same_result(self.result_type, other.result_type);
         let uses = same_uses(&self.uses, &other.uses);
-        all(trees, texts, results, uses)
+        trees && texts && results && uses
     }
 
     /// Whether two blocks have one tree.

@@ -16,12 +16,12 @@ use Rattle.stm_check.specs.declared.fault.TypeFault.TheVariants as typed
 use Rattle.stm_check.specs.CheckFunction.{table_kinds, checked}
 use Rattle.stm_check.specs.Laws.{CheckNeverSaysNoMemory}
 use Rattle.stm_check.specs.TypedBlock.{Block}
-use Rattle.stm_check.specs.WholeBlocks.{BlockFault, NotParsed, NotTyped, block_if_typed, block_if_parsed, checked_block}
 use Rattle.stm_store.specs.declared.table.DeclareError.{DeclareError}
 use Rattle.stm_store.specs.declared.table.DeclareError.TheVariants as declare
 use Rattle.stm_store.specs.Cells.{Covers, plains}
 use Rattle.stm_store.specs.Tables.{Declared, declared_cells, number_of, may_hold, declare_refusal, opened}
 use Rattle.stm_history.specs.Laws.{IsWellTyped, CheckedAreWellTyped}
+use Rattle.stm_history.specs.WholeBlocks.{BlockFault, NotParsed, NotTyped, block_if_typed, block_if_parsed, checked_block}
 use Rattle.stm_console.specs.declared.refusal.Refusal.{Refusal}
 use Rattle.stm_console.specs.declared.refusal.Refusal.TheVariants.{Unknown}
 use Rattle.stm_console.specs.Blocks.{block_or_refusal, compiled_block}

@@ -34,7 +34,7 @@ use Rattle.stm_terms.specs.Ast.{Act}
 use Rattle.stm_terms.specs.Typing.{ActionType}
 use Rattle.stm_check.specs.CheckFunction.{checked}
 use Rattle.stm_check.specs.declared.fault.TypeFault.{TypeFault}
-use Rattle.stm_check.specs.WholeBlocks.{BlockFault, checked_block, block_if_parsed, block_if_typed}
+use Rattle.stm_history.specs.WholeBlocks.{BlockFault, checked_block, block_if_parsed, block_if_typed}
 use Rattle.stm_history.specs.Fields.{unless_faulty, block_of_text}
 use Rattle.stm_history.specs.Fits.{WhatFitsTable, FitsValue, FitsInt, FitsVerdict, FitWrites, FitNews, FitNumbers, FitsVariable}
 use Rattle.stm_history.specs.Lines.{number_data, value_data, write_data, new_data, verdict_data, what_data, variable_data}

@@ -14,7 +14,6 @@ use Rattle.stm_store.proofs.ApplyPreservesTyping.{applied_typed}
 use Rattle.stm_store.proofs.Opening.{plains-opened}
 use Rattle.stm_check.specs.CheckFunction.{checked, table_kinds}
 use Rattle.stm_check.specs.TypedBlock.{Block}
-use Rattle.stm_check.specs.WholeBlocks.{given_type, block_if_typed, block_if_parsed, checked_block}
 use Rattle.stm_check.specs.declared.fault.TypeFault.{TypeFault}
 use Rattle.stm_check.proofs.TypedBlockInvariant.{kept_type}
 use Rattle.stm_check.proofs.TypingLaws.{every_verdict_fits}
@@ -25,6 +24,7 @@ use Rattle.stm_history.specs.declared.event.What.TheVariants.{Submitted, Install
 use Rattle.stm_history.specs.declared.staleness.StalenessRule.{StalenessRule}
 use Rattle.stm_history.specs.SlowDesk.{Waiter, Slow, waking, MayFinishBy, find_waiter, without_waiter, with_delivery, delivered, after_writes, after_by, AllowsBy, initial_state, state_from_by, state_by, LegalFromBy}
 use Rattle.stm_history.specs.Laws.{IsWellTyped, SubmitsWellTyped, SubmittedAreWellTyped, CheckedAreWellTyped, WaitingAreWellTyped, StoresAreTyped, BlocksHaveVerdicts}
+use Rattle.stm_history.specs.WholeBlocks.{given_type, block_if_typed, block_if_parsed, checked_block}
 use Rattle.stm_history.proofs.Covered.{AreCovered, covered_after, covered_waiter, blocks_are_covered}
 
 -- ---- the blocks that wait

@@ -22,7 +22,7 @@ use Rattle.stm_history.specs.declared.event.What.TheVariants.{Submitted, Install
 use Rattle.stm_history.specs.declared.lines.read.Header.{Header}
 use Rattle.stm_history.specs.SlowDesk.{max_clients}
 use Rattle.stm_check.specs.TypedBlock.{Block}
-use Rattle.stm_check.specs.WholeBlocks.{BlockFault, checked_block}
+use Rattle.stm_history.specs.WholeBlocks.{BlockFault, checked_block}
 
 -- the number, if it has at most 32 bits
 abbrev pub in_32_bits : ℕ → Option ℕ

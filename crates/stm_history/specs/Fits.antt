@@ -16,7 +16,7 @@ use Rattle.stm_history.specs.declared.event.Event.{Event}
 use Rattle.stm_history.specs.declared.event.What.{What}
 use Rattle.stm_history.specs.declared.event.What.TheVariants.{Submitted, Installed, Finished, Cancelled}
 use Rattle.stm_history.specs.SlowDesk.{max_clients}
-use Rattle.stm_check.specs.WholeBlocks.{checked_block}
+use Rattle.stm_history.specs.WholeBlocks.{checked_block}
 
 -- the number has at most 32 bits
 abbrev pub Is32Bit : ℕ → Type 0

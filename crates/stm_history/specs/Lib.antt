@@ -21,6 +21,7 @@ pub mod Fits
 pub mod HistoryText
 pub mod Judgement
 pub mod Lines
+pub mod WholeBlocks
 -- And the words inside.
 pub mod Checking
 pub mod Fields

@@ -9,7 +9,8 @@ use Rattle.stm_parse.specs.ExpectationFunction.{expectation_reader, expected_tre
 use Rattle.stm_parse.specs.Expectations.{ExpectationTree, IsExpectation, is_expectation, expectation_in}
 use Rattle.stm_parse.specs.Faults.{Language, IsText}
 use Rattle.stm_parse.specs.Grammar.{At, at, span_of, IsInit}
-use Rattle.stm_parse.specs.ParsedBlock.{IsNameOf, NamesOf}
+use Rattle.stm_terms.specs.ParsedBlock.{IsNameOf}
+use Rattle.stm_parse.specs.NameTokens.{NamesOf}
 use Rattle.stm_parse.specs.ParseResult.{LexesWithinLimits, IsEarly, fault_of_failure, told_parse_fault}
 use Rattle.stm_parse.proofs.AnswersCorrect.{answer_right, ok_answer, stop_answer, early_answer}
 use Rattle.stm_parse.proofs.CallsExact.{fails_through}

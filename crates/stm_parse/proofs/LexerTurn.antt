@@ -8,7 +8,7 @@ use Rattle.stm_parse.specs.declared.token.TokenKind.{TokenKind}
 use Rattle.stm_parse.specs.declared.token.Lexeme.{Lexeme}
 use Rattle.stm_parse.specs.Lexing.{token_kind_of, class_of, token_of, lexeme_of, lexemes_of}
 use Rattle.stm_parse.specs.ParseResult.{Lexes}
-use Rattle.stm_parse.specs.ParsedBlock.{NamesOf}
+use Rattle.stm_parse.specs.NameTokens.{NamesOf}
 use Rattle.stm_parse.specs.Tokenizer.{front_of, with_front, next, cut, tokens_of, SpansRise}
 use Rattle.stm_parse.proofs.TokenizationUnique.{cut_by_rules}
 use Rattle.stm_parse.proofs.TokenizerTurn.{turn_blank, turn_found, turn_bad, cut_end, rise_more, rise_snoc}

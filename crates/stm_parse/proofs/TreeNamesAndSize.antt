@@ -2,6 +2,7 @@
 use Rattle.std.proofs.Common.{◌≡◌, ℕ, suc, ◌≤◌, ◌^◌, List, [], ◌∷◌, ◌++◌, length, length-append, refl, ap, subst, arith, slice_range, Option, Some, None, Bool, true, false, cond}
 use Rattle.stm_terms.specs.Names.{is_name_text}
 use Rattle.stm_terms.specs.ParsedAst.{RawTerm, RawAct, IsSpan, NamesWithin, SpansWithin, actions}
+use Rattle.stm_terms.specs.ParsedBlock.{IsNameOf, TermNamesAre, NamesAre}
 use Rattle.stm_parse.specs.declared.token.Mark.{Mark}
 use Rattle.stm_parse.specs.declared.token.TokenKind.TheVariants as tok
 use Rattle.stm_parse.specs.declared.token.Lexeme.{Lexeme}
@@ -14,7 +15,7 @@ use Rattle.stm_parse.specs.Lexing.{word_mark, mark_or, number_or, token_kind_of,
 use Rattle.stm_parse.specs.Faults.{IsText}
 use Rattle.stm_parse.specs.ParseResult.{most_tokens}
 use Rattle.stm_parse.proofs.ReaderPromises.{plain-length}
-use Rattle.stm_parse.specs.ParsedBlock.{IsNameOf, NameSpanIsName, NamesOf, TermNamesAre, NamesAre}
+use Rattle.stm_parse.specs.NameTokens.{NameSpanIsName, NamesOf}
 use Rattle.stm_parse.specs.Grammar.{At, at, erase, Placed, IsAtom, is_number, is_negative, is_true, is_false, is_unit, is_name, is_bracketed, IsExpression, is_atom, is_tier, IsTail, no_more, to_left, not_chained, to_right, IsAction, is_do, is_if, is_or_else, is_catch, is_return, is_read, is_write, is_make, is_throw, is_retry, is_brackets, IsParen, is_paren, IsBody, is_bind, is_let, is_seq, is_last, IsBlock, IsInit, is_number_init, is_negative_init, is_true_init, is_false_init, is_unit_init, is_name_init, DeclarationTree, IsDeclaration, is_declaration}
 
 -- each name is one of the text

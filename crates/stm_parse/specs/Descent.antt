@@ -34,7 +34,7 @@ abbrev pub ◌>>=◌ : {A B : Type 0} → Result A Fault → (A → Result B Fau
 (Ok x) >>= f = f x
 (Err e) >>= f = Err e
 
--- the fault for which a function stopped; want of memory is none
+-- the fault that is told; a stop for memory tells none
 abbrev pub told_failure : Failure → Option Fault
 told_failure stop.Memory = None
 told_failure (stop.At f) = Some f

@@ -1,4 +1,4 @@
--- What a reader has to believe: tokens, the grammar, which fault is reported, what callers see of trees, and the laws.
+-- What a reader has to believe: tokens, the grammar, which fault is reported, what callers see of declarations and expectations, and the laws.
 pub mod Bytes
 pub mod Declarations
 pub mod Expectations
@@ -8,7 +8,6 @@ pub mod Laws
 pub mod Lexing
 pub mod MaximalMunch
 pub mod ParseResult
-pub mod ParsedBlock
 pub mod Terminals
 pub mod TypeTexts
 -- The one answer for a text, which contracts name too, as a function: laws say that it is right.
@@ -20,3 +19,4 @@ pub mod Descent
 pub mod DescentResults
 pub mod Front
 pub mod LexerStep
+pub mod NameTokens

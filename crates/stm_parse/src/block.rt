@@ -5,9 +5,9 @@ ghost use Rattle.std.specs.Str.{IsAscii};
 ghost use Rattle.stm_terms.specs.ParsedAst.{RawAct, raw_act_of};
 ghost use Rattle.stm_terms.specs.UnlessNoMemory.{AnswersAs};
 ghost use Rattle.stm_parse.specs.Grammar.{IsBlock};
+ghost use Rattle.stm_parse.specs.NameTokens.{NamesOf};
 ghost use Rattle.stm_parse.specs.ParseFunction.{parsed_block, parsed_declaration};
 ghost use Rattle.stm_parse.specs.ParseResult.{LexesWithinLimits, IsTextOf, IsEarly, IsReported, OrNoMemory, fault_of_failure, told_parse_fault};
-ghost use Rattle.stm_parse.specs.ParsedBlock.{NamesOf};
 ghost use Rattle.stm_parse.specs.Descent.{told_failure, block_reader, whole};
 
 use crate::action::action;
@@ -15,10 +15,9 @@ use crate::cursor::unexpected;
 use crate::fault::ParseFault;
 use crate::lexer::lexemes;
 use crate::limits::{DEEPEST, MOST_BYTES, MOST_TOKENS};
-use crate::raw::Raw;
 use crate::token::{ErrorKind, Failure, Lexeme};
 use std::alloc::Global;
-use stm_terms::RawAction;
+use stm_terms::{Raw, RawAction};
 
 // The tokens of a text that is not too large.
 #[tactic(auto, unfolding(crate::specs::ParseResult::most_bytes, crate::specs::ParseResult::most_tokens))]

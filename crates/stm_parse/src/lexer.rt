@@ -10,7 +10,7 @@ ghost use Rattle.stm_parse.specs.Bytes.{is_letter, longest_word, word_len, numbe
 ghost use Rattle.stm_parse.specs.Lexing.{control_mark, action_mark, value_mark, word_mark, token_kind_of, class_of, token_of};
 ghost use Rattle.stm_parse.specs.ParseResult.{Lexes, told_parse_fault};
 ghost use Rattle.stm_parse.specs.LexerStep.{front_seen, IsSeen};
-ghost use Rattle.stm_parse.specs.ParsedBlock.{NamesOf};
+ghost use Rattle.stm_parse.specs.NameTokens.{NamesOf};
 ghost use Rattle.stm_parse.specs.Tokenizer.{symbol_front, word_front, number_front, front_of, tokens_of, SpansRise, IsOfTokens, IsWithin};
 
 use crate::bytes::{

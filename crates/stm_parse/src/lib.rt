@@ -4,10 +4,11 @@
 //! `MaximalMunch` (which tokens a text has, or which fault first, as a relation), `Terminals` (reserved words and symbols
 //! as tokens), `Lexing` (reserved words, names and numbers), `Grammar` (the productions, as a relation between tokens and
 //! trees), `Faults` (which token is the first at fault), `ParseResult` (a text of the grammar, which fault is reported of
-//! any other text, and that an out-of-memory error tells none), `Declarations` and `ParsedBlock` (what callers see), and
-//! `Expectations` (the production of an expectation, and what callers see of it). The contracts of blocks, declarations and
-//! expectations rest on these relations alone. `Laws` says that a text has one tree or one fault and how operators group,
-//! and `TypeTexts` that the text of a type is read back.
+//! any other text, and that an out-of-memory error tells none), `Declarations` (what callers see of a declaration), and
+//! `Expectations` (the production of an expectation, and what callers see of it). What they see of a parsed block stands with
+//! its trees in stm_terms (`specs/ParsedBlock`). The contracts of blocks, declarations and expectations rest on these relations
+//! alone. `Laws` says that a text has one tree or one fault and how operators group, and `TypeTexts` that the text of a type is
+//! read back.
 //!
 //! Contracts also cite two functions that say this in another way, and laws say that they are right. `tokens_of` in
 //! `Tokenizer` cuts a text: it is in the relation of `MaximalMunch`, and nothing else is (`laws_of_tokens`). `parsed_block` in
@@ -27,7 +28,6 @@ pub mod laws;
 pub mod laws_of_tokens;
 pub mod lexer;
 pub mod limits;
-pub mod raw;
 pub mod token;
 pub mod tokenizer;
 pub mod types;
@@ -36,5 +36,5 @@ pub use block::parse_block;
 pub use declaration::{Declaration, Init, parse_declare};
 pub use expectation::{Expectation, parse_expectation};
 pub use fault::ParseFault;
-pub use raw::Raw;
+pub use stm_terms::Raw;
 pub use tokenizer::{Token, TokenClass, tokens};

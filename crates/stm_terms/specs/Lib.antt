@@ -4,6 +4,7 @@ pub mod Changes
 pub mod Limits
 pub mod Names
 pub mod ParsedAst
+pub mod ParsedBlock
 pub mod ReadSet
 pub mod Semantics
 pub mod Texts

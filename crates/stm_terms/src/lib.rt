@@ -4,8 +4,12 @@
 //! definitions speak of), `Value` (the value of an expression), `Changes` (what a block sees and has changed) and `Semantics`
 //! (what an action does), `ReadSet` (what it reads), `Verdict` (what a block does on a store) and `Typing` (the types of
 //! expressions and actions, and when a block's view is well typed). Beside it stand `ParsedAst` (the trees that a text writes,
-//! with names and places), `Names` (which words are names), `Limits` (how long and how deep), `Texts` (what is printed of
-//! types, values and verdicts) and `UnlessNoMemory` (when a call, of any crate, answers as its definition does).
+//! with names and places), `ParsedBlock` (what callers see of a parsed block: such a tree with its text), `Names` (which words
+//! are names), `Limits` (how long and how deep), `Texts` (what is printed of types, values and verdicts) and `UnlessNoMemory`
+//! (when a call, of any crate, answers as its definition does).
+//!
+//! The trees of the code are those of `action` and `expr`, and as parsed those of `raw`. `raw_block` has the parsed block, which
+//! the parser makes and the check takes.
 #![tactic(auto)]
 
 pub mod action;
@@ -15,6 +19,7 @@ pub mod kinds;
 pub mod lists;
 pub mod naming;
 pub mod raw;
+pub mod raw_block;
 pub mod same;
 pub mod same_verdict;
 pub mod text;
@@ -28,6 +33,7 @@ pub use kinds::{Base, Ty};
 pub use lists::{News, PlainList, Writes};
 pub use naming::{LONGEST_NAME, is_name};
 pub use raw::{RawAction, RawExpr, Span};
+pub use raw_block::Raw;
 pub use std::alloc::AllocError as NoMemory;
 pub use text::{write_number, write_type, write_value, write_verdict};
 pub use values::{Fault, Ref, Value};

@@ -47,7 +47,7 @@ impl From<NoMemory> for LineError {
 }
 
 /// The block that a text is, by the table; none where it has a fault.
-#[tactic(auto, unfolding(stm_check::specs::WholeBlocks::checked_block))]
+#[tactic(auto, unfolding(crate::specs::WholeBlocks::checked_block))]
 fn block_of(alloc: Global, table: &Table, text: &str) -> Result<Option<SharedBlock>, NoMemory>
     ensures { IfOk result (λ o. o ≡ block_of_text table.now text.now) }
 {

@@ -1,8 +1,8 @@
 use Rattle.std.proofs.Common.{◌≡◌, length, sym, ap, ◌∙◌, subst, Ok, rules, Err, IfSome}
 use Rattle.stm_terms.specs.ParsedAst.{raw_act_of, SpansWithin}
+use Rattle.stm_terms.specs.ParsedBlock.{RawBlock, NamesAre}
 use Rattle.stm_parse.specs.Grammar.{IsBlock}
 use Rattle.stm_parse.specs.ParseResult.{IsTextOf, IsReported, told_parse_fault}
-use Rattle.stm_parse.specs.ParsedBlock.{RawBlock, NamesAre}
 use Rattle.stm_parse.specs.Descent.{block_reader}
 use Rattle.stm_parse.specs.ParseFunction.{parsed_block}
 use Rattle.stm_parse.proofs.CallsExact.{ok_block, stop_block}

@@ -1,5 +1,5 @@
 -- A parsed block as callers see it.
-use Rattle.std.specs.Prelude.{◌≡◌, ℕ, List, [], ◌∷◌, length, true, refl, slice_range}
+use Rattle.std.specs.Prelude.{◌≡◌, ℕ, List, true, refl, slice_range}
 use Rattle.std.specs.Global.{Box}
 use denote.RawPtr.{null_ptr}
 use Rattle.std.specs.Coded.{Coded, code_by}
@@ -9,10 +9,8 @@ use Rattle.stm_terms.specs.declared.raw.RawExpr.{RawExpr}
 use Rattle.stm_terms.specs.declared.raw.RawExpr.TheVariants as E
 use Rattle.stm_terms.specs.declared.raw.RawAction.{RawAction}
 use Rattle.stm_terms.specs.declared.raw.RawAction.TheVariants as A
-use Rattle.stm_terms.specs.ParsedAst.{IsSpan, RawTerm, int, truth, unit, name, bin, RawAct, return, read, write, make, retry, throw, if_else, or_else, bind, let_in, seq, catch, raw_term_of, raw_act_of}
+use Rattle.stm_terms.specs.ParsedAst.{RawTerm, int, truth, unit, name, bin, RawAct, return, read, write, make, retry, throw, if_else, or_else, bind, let_in, seq, catch, raw_term_of, raw_act_of}
 use Rattle.stm_terms.specs.contracts.raw.RawAction as tree
-use Rattle.stm_parse.specs.declared.token.TokenKind.TheVariants as tok
-use Rattle.stm_parse.specs.declared.token.Lexeme.{Lexeme}
 
 -- the tree and the text
 pub record RawBlock : Type 0 where
@@ -22,15 +20,6 @@ pub record RawBlock : Type 0 where
 -- the span is a name of the text
 abbrev pub IsNameOf : List ℕ → ℕ → ℕ → Type 0
 IsNameOf text from to = is_name_text (slice_range text from to) ≡ true
-
--- a token that is a name is a span of the text, and a name there
-abbrev pub NameSpanIsName : List ℕ → Lexeme → Type 0
-NameSpanIsName text x = x.sym ≡ tok.Name → IsSpan (length text) x.start x.end × IsNameOf text x.start x.end
-
--- so is each
-abbrev pub NamesOf : List ℕ → List Lexeme → Type 0
-NamesOf text [] = Unit {0}
-NamesOf text (x ∷ ls) = NameSpanIsName text x × NamesOf text ls
 
 -- each name of an expression is a name of the text
 abbrev pub TermNamesAre : List ℕ → RawTerm → Type 0

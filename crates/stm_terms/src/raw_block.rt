@@ -3,10 +3,10 @@
 ghost use Rattle.std.specs.Prelude.{◌≡◌, ◌≤◌, ◌^◌, length, string_bytes};
 ghost use Rattle.std.specs.Str.{IsAscii};
 ghost use Rattle.stm_terms.specs.ParsedAst.{raw_act_of, SpansWithin, actions};
-ghost use Rattle.stm_parse.specs.ParsedBlock.{NamesAre};
+ghost use Rattle.stm_terms.specs.ParsedBlock.{NamesAre};
 
+use crate::raw::RawAction;
 use std::marker::Model;
-use stm_terms::RawAction;
 
 /// A parsed block with its text. Contracts see the tree and the bytes of the text.
 ///
@@ -22,7 +22,7 @@ impl Model for Raw {
     ghost use Rattle.std.specs.Coded.{codes};
     ghost use Rattle.std.specs.Str.{IsAscii};
     ghost use Rattle.stm_terms.specs.ParsedAst.{raw_act_of, SpansWithin, actions};
-    ghost use Rattle.stm_parse.specs.ParsedBlock.{RawBlock, NamesAre, raw_code};
+    ghost use Rattle.stm_terms.specs.ParsedBlock.{RawBlock, NamesAre, raw_code};
 
     ghost Value = { RawBlock };
 
@@ -67,7 +67,8 @@ impl Raw {
         (self.text, self.action)
     }
 
-    pub(crate) fn of_parts(text: String, action: RawAction) -> Raw
+    /// A text with its tree. The parser makes it.
+    pub fn of_parts(text: String, action: RawAction) -> Raw
         requires ascii { IsAscii (string_bytes text) }
         requires spans { SpansWithin (length (string_bytes text)) (raw_act_of action) }
         requires names { NamesAre (string_bytes text) (raw_act_of action) }
