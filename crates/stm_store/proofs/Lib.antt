@@ -1,12 +1,13 @@
 pub mod ApplyPreservesTyping
 pub mod ChangedVariables
 pub mod Declaring
+pub mod FirstPage
 pub mod FitsDecided
 pub mod FreshNumbersInRange
 pub mod Lookups
 pub mod Opening
 pub mod PageListSplit
-pub mod Paged
+pub mod PageLists
 pub mod Places
 pub mod RangeWriteLemmas
 pub mod TypeTestsDecide

@@ -10,7 +10,7 @@ use Rattle.stm_terms.specs.Typing.{AllAbove, Rising}
 use Rattle.stm_store.specs.declared.cell.Cell.{Cell}
 use Rattle.stm_store.specs.Cells.{Fits, rewritten, with_write, with_writes, new_cell, after_write}
 use Rattle.stm_store.specs.Laws.{UnwrittenStay, FittingAreApplied}
-use Rattle.stm_store.proofs.Paged.{get_left, get_right}
+use Rattle.stm_store.proofs.PageLists.{get_left, get_right}
 use Rattle.stm_store.proofs.ApplyPreservesTyping.{length-writes}
 
 get-set_same : (cs : List Cell) (i : ℕ) (c d : Cell) → slice_get cs i ≡ Some c → slice_get (set cs i d) i ≡ Some d

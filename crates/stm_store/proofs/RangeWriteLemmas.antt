@@ -13,7 +13,7 @@ use Rattle.stm_store.specs.declared.cell.Cell.{Cell}
 use Rattle.stm_store.specs.Cells.{rewritten, with_write, with_writes}
 use Rattle.stm_store.specs.FreshReferences.{AreWritable}
 use Rattle.stm_store.specs.RangeWrites.{with_writes_from, AreWithin, StartsBelow}
-use Rattle.stm_store.proofs.Paged.{get_left, get_right, set_right}
+use Rattle.stm_store.proofs.PageLists.{get_left, get_right, set_right}
 use Rattle.stm_store.proofs.ApplyPreservesTyping.{length-write, length-writes}
 
 -- ---- one write, to the front or after it

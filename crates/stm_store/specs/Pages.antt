@@ -13,6 +13,10 @@ abbrev pub part_cells : ℕ
 part_cells = 4096
 
 module _ {A : Type 0} where
+  -- the items of each page behind its pointer, by what the items of a page are
+  abbrev pub contents_by : {P : Type 0} → (P → List A) → List (Arc P Global) → List (List A)
+  contents_by items pages = map (λ p. items (arc_value p)) pages
+
   -- the pages behind their pointers
   abbrev pub contents : List (Arc (List A) Global) → List (List A)
   contents pages = map arc_value pages

@@ -6,7 +6,9 @@ ghost use Rattle.stm_store.specs.Cells.{with_writes};
 ghost use Rattle.stm_store.specs.FreshReferences.{AreWritable};
 
 use crate::cell::Cell;
-use crate::chunks::Chunks;
+use crate::cells::Cells;
+use crate::in_place::write;
+use crate::parts::Parts;
 use std::alloc::{AllocError, Global};
 use std::marker::Model;
 use stm_terms::values::Value;
@@ -15,7 +17,7 @@ use stm_terms::values::Value;
 /// overwritten where the list grows.
 #[derive(Drop)]
 pub(crate) struct CellList {
-    parts: Chunks,
+    parts: Parts,
     len: usize,
 }
 
@@ -35,7 +37,7 @@ impl CellList {
         ensures { result ≡ [] }
     {
         CellList {
-            parts: Chunks::empty(alloc),
+            parts: Parts::empty(alloc),
             len: 0,
         }
     }
@@ -75,7 +77,7 @@ impl CellList {
         ensures ok { OnOk result (self.new ≡ with_writes len writes.now self.old) }
         ensures err { OnErr result (self.new ≡ self.old) }
     {
-        self.parts.write(len, writes)
+        write(&mut self.parts, len, writes)
     }
 
     /// Adds a cell at the end.

@@ -11,50 +11,70 @@ ghost use Rattle.std.specs.List.{prefix_len};
 ghost use Rattle.stm_store.specs.Pages.{page_cells, part_cells, contents, flatten, sizes, ArePages};
 ghost use Rattle.stm_store.specs.RangeWrites.{AreWithin, StartsBelow, with_writes_from};
 
-use crate::chunk::Chunk;
 use crate::page::Page;
+use crate::paged::place;
+use crate::parts::{Part, Parts};
 use std::alloc::AllocError;
 use std::sync::Arc;
 use stm_terms::values::Value;
 
-/// Makes these writes in these parts, whose first cell has this number.
+/// Makes these writes, or where memory is refused none. A part or a page that another list shares is copied first.
+pub(crate) fn write(cells: &mut Parts, len: u32, writes: &[(u32, Value)]) -> Result<(), AllocError>
+    requires { AreWithin len 0 (length cells.old) writes.now }
+    ensures ok { OnOk result (cells.new ≡ with_writes_from len 0 writes.now cells.old) }
+    ensures err { OnErr result (cells.new ≡ cells.old) }
+{
+    // No page comes before the first part.
+    write_pages(0, 0, &mut [], cells.pages.as_mut_slice(), len, writes)
+}
+
+/// Makes these writes in these pages, whose cells have the numbers from `first` to before `end`, and in the parts behind
+/// them.
 #[cycle(write)]
-pub(crate) fn write_parts(
+fn write_pages(
     first: usize,
-    parts: &mut [Arc<Chunk>],
+    end: usize,
+    pages: &mut [Arc<Page>],
+    parts: &mut [Arc<Part>],
     len: u32,
     writes: &[(u32, Value)],
 ) -> Result<(), AllocError>
+    requires order { first ≤ end }
+    requires pages { ArePages page_cells (end - first) (contents pages.old) }
     requires parts { ArePages part_cells (length (flatten (contents parts.old)))
         (contents parts.old) }
-    requires writes { AreWithin len first
-        (first + length (flatten (contents parts.old))) writes.now }
-    ensures ok { OnOk result (flatten (contents parts.new)
-        ≡ with_writes_from len first writes.now (flatten (contents parts.old))) }
-    ensures err { OnErr result (flatten (contents parts.new) ≡ flatten (contents parts.old)) }
-    ensures sizes { sizes parts.new ≡ sizes parts.old }
+    requires writes { AreWithin len first (end + length (flatten (contents parts.old))) writes.now }
+    ensures ok { OnOk result (flatten (contents pages.new) ++ flatten (contents parts.new)
+        ≡ with_writes_from len first writes.now
+        (flatten (contents pages.old) ++ flatten (contents parts.old))) }
+    ensures err { OnErr result (flatten (contents pages.new) ++ flatten (contents parts.new)
+        ≡ flatten (contents pages.old) ++ flatten (contents parts.old)) }
+    ensures sizes { sizes pages.new ≡ sizes pages.old }
+    ensures part_sizes { sizes parts.new ≡ sizes parts.old }
 {
     if writes.is_empty() {
         return Ok(());
     }
-    let skipped = (writes[0].0 as usize - first) / Chunk::SIZE;
-    let (_, others) = parts.split_at_mut(skipped);
-    let (here, behind) = others.split_at_mut(1);
-    write_part(
-        first + skipped * Chunk::SIZE,
-        &mut here[0],
-        behind,
-        len,
-        writes,
-    )
+    let id = writes[0].0 as usize;
+    if id < end {
+        let (skipped, at) = place::<Page>(id - first);
+        let (_, others) = pages.split_at_mut(skipped);
+        let (here, behind) = others.split_at_mut(1);
+        write_page(id - at, end, &mut here[0], behind, parts, len, writes)
+    } else {
+        let (skipped, at) = place::<Part>(id - end);
+        let (_, others) = parts.split_at_mut(skipped);
+        let (here, behind) = others.split_at_mut(1);
+        write_part(id - at, &mut here[0], behind, len, writes)
+    }
 }
 
 /// Makes these writes in this part, to which the first of them goes, and in those after it.
 #[cycle(write)]
 fn write_part(
     first: usize,
-    part: &mut Arc<Chunk>,
-    parts: &mut [Arc<Chunk>],
+    part: &mut Arc<Part>,
+    parts: &mut [Arc<Part>],
     len: u32,
     writes: &[(u32, Value)],
 ) -> Result<(), AllocError>
@@ -78,51 +98,6 @@ fn write_part(
     write_pages(first, end, part.pages.as_mut_slice(), parts, len, writes)
 }
 
-/// Makes these writes in these pages, whose cells have the numbers from `first` to before `end`, and in the parts behind
-/// them.
-#[cycle(write)]
-fn write_pages(
-    first: usize,
-    end: usize,
-    pages: &mut [Arc<Page>],
-    parts: &mut [Arc<Chunk>],
-    len: u32,
-    writes: &[(u32, Value)],
-) -> Result<(), AllocError>
-    requires order { first ≤ end }
-    requires pages { ArePages page_cells (end - first) (contents pages.old) }
-    requires parts { ArePages part_cells (length (flatten (contents parts.old)))
-        (contents parts.old) }
-    requires writes { AreWithin len first (end + length (flatten (contents parts.old))) writes.now }
-    ensures ok { OnOk result (flatten (contents pages.new) ++ flatten (contents parts.new)
-        ≡ with_writes_from len first writes.now
-        (flatten (contents pages.old) ++ flatten (contents parts.old))) }
-    ensures err { OnErr result (flatten (contents pages.new) ++ flatten (contents parts.new)
-        ≡ flatten (contents pages.old) ++ flatten (contents parts.old)) }
-    ensures sizes { sizes pages.new ≡ sizes pages.old }
-    ensures part_sizes { sizes parts.new ≡ sizes parts.old }
-{
-    if writes.is_empty() {
-        return Ok(());
-    }
-    let id = writes[0].0 as usize;
-    if id >= end {
-        return write_parts(end, parts, len, writes);
-    }
-    let skipped = (id - first) / Page::SIZE;
-    let (_, others) = pages.split_at_mut(skipped);
-    let (here, behind) = others.split_at_mut(1);
-    write_page(
-        first + skipped * Page::SIZE,
-        end,
-        &mut here[0],
-        behind,
-        parts,
-        len,
-        writes,
-    )
-}
-
 /// Makes these writes in this page, to which the first of them goes, in the pages after it, and in the parts after these.
 #[cycle(write)]
 fn write_page(
@@ -130,7 +105,7 @@ fn write_page(
     end: usize,
     page: &mut Arc<Page>,
     pages: &mut [Arc<Page>],
-    parts: &mut [Arc<Chunk>],
+    parts: &mut [Arc<Part>],
     len: u32,
     writes: &[(u32, Value)],
 ) -> Result<(), AllocError>

@@ -7,16 +7,17 @@
 
 pub mod cell;
 mod cell_list;
+mod cells;
 mod change;
 mod changed;
-mod chunk;
-mod chunks;
 mod covers;
 mod fits;
 pub mod frozen;
 mod in_place;
 pub mod laws;
 mod page;
+mod paged;
+mod parts;
 pub mod ready;
 mod renumber;
 pub mod store;

@@ -1,9 +1,12 @@
 //! A page of cells.
 
 ghost use Rattle.std.specs.Prelude.{◌≡◌, ◌+◌, ◌<◌, [], ◌∷◌, ◌++◌, Some, length, slice_get, slice_set, IfOk, OnOk, OnErr};
+ghost use Rattle.std.proofs.Common.{lit<};
+ghost use Rattle.stm_store.specs.Pages.{page_cells};
 ghost use Rattle.stm_store.specs.RangeWrites.{AreWithin, with_writes_from};
 
 use crate::cell::Cell;
+use crate::cells::{AsPage, Cells};
 use crate::renumber::rewrite;
 use std::alloc::{AllocError, Global};
 use std::marker::Model;
@@ -25,36 +28,10 @@ impl Model for Page {
 }
 
 impl Page {
-    /// How many cells a full page has.
-    pub(crate) const SIZE: usize = 64;
-
-    /// A page of one cell, with room for the others.
-    pub(crate) fn of(alloc: Global, cell: Cell) -> Result<Page, AllocError>
-        ensures { IfOk result (λ p. p ≡ cell ∷ []) }
-    {
-        let mut cells = Vec::with_capacity(alloc, Page::SIZE)?;
-        cells.push(cell)?;
-        Ok(Page { cells })
-    }
-
     pub(crate) fn len(&self) -> usize
         ensures { result ≡ length self.now }
     {
         self.cells.len()
-    }
-
-    pub(crate) fn get(&self, at: usize) -> Cell
-        requires { at < length self.now }
-        ensures { slice_get self.now at ≡ Some result }
-    {
-        self.cells[at]
-    }
-
-    pub(crate) fn set(&mut self, at: usize, cell: Cell)
-        requires { at < length self.old }
-        ensures { self.new ≡ slice_set self.old at cell }
-    {
-        self.cells[at] = cell;
     }
 
     /// Makes these writes to the cells of a page whose first has this number.
@@ -67,13 +44,40 @@ impl Page {
             self.cells[at] = rewrite(len, *value, self.cells[at]);
         }
     }
+}
 
-    pub(crate) fn push(&mut self, cell: Cell) -> Result<(), AllocError>
-        ensures ok { OnOk result (self.new ≡ self.old ++ cell ∷ []) }
-        ensures err { OnErr result (self.new ≡ self.old) }
-    {
+impl Cells for Page {
+    ghost cells = { λ p. p };
+
+    ghost copied = { λ l m same. same };
+
+    fn get(&self, at: usize) -> Cell {
+        self.cells[at]
+    }
+
+    fn set(&mut self, at: usize, cell: Cell) -> Result<(), AllocError> {
+        self.cells[at] = cell;
+        Ok(())
+    }
+
+    fn push(&mut self, cell: Cell) -> Result<(), AllocError> {
         self.cells.push(cell)?;
         Ok(())
+    }
+}
+
+impl AsPage for Page {
+    const SIZE: usize = 64;
+
+    ghost SIZE = { page_cells };
+
+    ghost room = { lit< tt };
+
+    /// A page of one cell, with room for the others.
+    fn of(alloc: Global, cell: Cell) -> Result<Page, AllocError> {
+        let mut cells = Vec::with_capacity(alloc, Page::SIZE)?;
+        cells.push(cell)?;
+        Ok(Page { cells })
     }
 }
 

@@ -1,4 +1,4 @@
-use Rattle.std.proofs.Common.{lit<, ◌≡◌, ◌==◌, false, ℕ, ◌+◌, ◌-◌, ◌*◌, ◌/◌, ◌<◌, ◌⊎◌, inl, inr, List, [], ◌∷◌, ◌++◌, length, take, drop, get_or, refl, sym, ap, ◌∙◌, pos, arith, length-append}
+use Rattle.std.proofs.Common.{lit<, ◌≡◌, ◌==◌, false, ℕ, ◌+◌, ◌-◌, ◌*◌, ◌<◌, ◌⊎◌, inl, inr, List, [], ◌∷◌, ◌++◌, length, take, drop, get_or, refl, sym, ap, ◌∙◌, pos, arith, length-append, append_assoc}
 use Rattle.std.specs.Arc.{arc_value}
 use Rattle.std.specs.Result.{is_ok}
 use Rattle.stm_terms.specs.declared.values.Value.{Value}
@@ -6,7 +6,8 @@ use Rattle.stm_terms.specs.declared.values.Value.TheVariants.{Int}
 use Rattle.stm_store.specs.declared.cell.Cell.{Cell}
 use Rattle.stm_store.specs.Pages.{contents, flatten}
 use Rattle.stm_store.specs.RangeWrites.{with_writes_from}
-use Rattle.stm_store.proofs.Paged.{on_ok, on_err_of, length-flatten, within, vec-sizes}
+use Rattle.stm_store.proofs.PageLists.{on_ok, on_err_of, length-flatten, vec-sizes, vec-pages}
+use Rattle.stm_store.proofs.FirstPage.{first_page}
 use Rattle.stm_store.proofs.PageListSplit.{cut, parted-set, grouped}
 use Rattle.stm_store.proofs.RangeWriteLemmas.{before, from_first_write, first_write, starts_below, before_few, some_before, first_within, others_within, length-writes_from, writes_both, written_behind}
 use Rattle.stm_store.proofs.in_place.+write.Goals as goal
@@ -70,62 +71,51 @@ write_page-returns-clause-size t c =
     ap length (c.make_mut.follows.holds c.write.new.self (ap is_ok c.in_ok-page.was) ∙ c.write.ensures ∙ ap (with_writes_from c.args.len c.args.first c.split_at.result.0.now) page)
     ∙ length-writes_from c.args.len c.args.first c.split_at.result.0.now (arc_value c.args.page.now)
 
--- ---- pages
-pub write_pages-returns-then-id-end-clause-ok : goal.write_pages-returns-then-id-end-clause-ok
-write_pages-returns-then-id-end-clause-ok t c =
-    let n = c.args.len in
-    let ws = c.args.writes.now in
-    let front = flatten (contents c.args.pages.now) in
-    let behind = flatten (contents c.args.parts.now) in
-    let long = length-flatten 64 (lit< tt) (c.args.end - c.args.first) (contents c.args.pages.now) c.requires.pages in
-    on_ok c.write_parts.result c.write_parts.ensures.ok (λ p. written_behind n c.args.first c.args.end _ ws front behind _ _ _
-    (from_first_write n c.args.first c.args.end _ ws d c.requires.writes c.if-id-end.true) (omega (arith, long, c.requires.order)) refl refl p)
-
+-- ---- pages, and the parts behind them
 pub write_pages-split_at_mut-others-requires : goal.write_pages-split_at_mut-others-requires
 write_pages-split_at_mut-others-requires t c =
     let ws = c.args.writes.now in
     let some = some_writes ws c.if-is_empty.ensures in
-    let head = first_write c.args.len c.args.first _ ws d c.requires.writes some in
-    let i = (get_or ws 0 d).0 - c.args.first in
-    let w = within 64 (lit< tt) (c.args.end - c.args.first) c.args.pages.now i (i / 64) c.requires.pages (omega arith) (omega (arith, head.0, c.if-id-end.false)) in
-    omega (arith, w)
+    let m = c.args.end - c.args.first in
+    let k = c.place-skipped.result.0 in
+    let f = first_page 64 c.args.len c.args.first m k c.place-skipped.result.1 _ c.args.pages.now ws d (lit< tt) c.requires.pages c.requires.writes some (omega (arith, c.if-id-end.true, c.requires.order)) c.place-skipped.ensures.id c.place-skipped.ensures.at in
+    omega (arith, f.there)
 
 pub write_pages-split_at_mut-here-requires : goal.write_pages-split_at_mut-here-requires
 write_pages-split_at_mut-here-requires t c =
     let ws = c.args.writes.now in
     let some = some_writes ws c.if-is_empty.ensures in
-    let head = first_write c.args.len c.args.first _ ws d c.requires.writes some in
-    let i = (get_or ws 0 d).0 - c.args.first in
-    let w = within 64 (lit< tt) (c.args.end - c.args.first) c.args.pages.now i (i / 64) c.requires.pages (omega arith) (omega (arith, head.0, c.if-id-end.false)) in
-    omega (arith, w, c.split_at_mut-others.ensures.back_len)
+    let m = c.args.end - c.args.first in
+    let k = c.place-skipped.result.0 in
+    let f = first_page 64 c.args.len c.args.first m k c.place-skipped.result.1 _ c.args.pages.now ws d (lit< tt) c.requires.pages c.requires.writes some (omega (arith, c.if-id-end.true, c.requires.order)) c.place-skipped.ensures.id c.place-skipped.ensures.at in
+    omega (arith, f.there, c.split_at_mut-others.ensures.back_len)
 
 pub write_pages-write_page-requires : goal.write_pages-write_page-requires
 write_pages-write_page-requires t c =
-    let n = c.args.len in
     let ws = c.args.writes.now in
     let some = some_writes ws c.if-is_empty.ensures in
-    let head = first_write n c.args.first _ ws d c.requires.writes some in
-    let i = (get_or ws 0 d).0 - c.args.first in
-    let x = c.args.first + i / 64 * 64 in
+    let m = c.args.end - c.args.first in
+    let k = c.place-skipped.result.0 in
+    let f = first_page 64 c.args.len c.args.first m k c.place-skipped.result.1 _ c.args.pages.now ws d (lit< tt) c.requires.pages c.requires.writes some (omega (arith, c.if-id-end.true, c.requires.order)) c.place-skipped.ensures.id c.place-skipped.ensures.at in
     let others = c.split_at_mut-others in
     let here = c.split_at_mut-here in
-    let u = cut 64 (lit< tt) (c.args.end - c.args.first) (i / 64) c.args.pages.now others.result.0.now others.result.1.now here.result.0.now here.result.1.now c.index-here-0.result c.requires.pages others.ensures.value others.ensures.front_len here.ensures.value here.ensures.front_len in
-    let same : c.args.end - x ≡ c.args.end - c.args.first - 64 * (i / 64) = omega arith in (
+    let u = cut 64 (lit< tt) m k c.args.pages.now others.result.0.now others.result.1.now here.result.0.now here.result.1.now c.index-here-0.result c.requires.pages others.ensures.value others.ensures.front_len here.ensures.value here.ensures.front_len in
+    let x = (get_or ws 0 d).0 - c.place-skipped.result.1 in
+    let same : c.args.end - x ≡ m - 64 * k = omega (arith, f.starts) in (
       omega (arith, c.decreases),
-      (omega (arith, head.0, c.if-id-end.false), (rw same u.pages, (c.requires.parts, (from_first_write n c.args.first x _ ws d c.requires.writes (omega (arith, head.0)), starts_below _ ws d some (omega (arith, head.0, u.pages.1, c.if-id-end.false)))))),
+      (omega (arith, f.starts, u.less), (rw same u.pages, (c.requires.parts, (f.writes, starts_below _ ws d some (omega (arith, f.below, u.pages.1)))))),
     )
 
-pub write_pages-returns-clause-ok : goal.write_pages-returns-clause-ok
-write_pages-returns-clause-ok t c =
-    let n = c.args.len in
+pub write_pages-returns-then-id-end-clause-ok : goal.write_pages-returns-then-id-end-clause-ok
+write_pages-returns-then-id-end-clause-ok t c =
     let ws = c.args.writes.now in
     let some = some_writes ws c.if-is_empty.ensures in
-    let head = first_write n c.args.first _ ws d c.requires.writes some in
-    let i = (get_or ws 0 d).0 - c.args.first in
-    let x = c.args.first + i / 64 * 64 in
+    let m = c.args.end - c.args.first in
+    let k = c.place-skipped.result.0 in
+    let f = first_page 64 c.args.len c.args.first m k c.place-skipped.result.1 _ c.args.pages.now ws d (lit< tt) c.requires.pages c.requires.writes some (omega (arith, c.if-id-end.true, c.requires.order)) c.place-skipped.ensures.id c.place-skipped.ensures.at in
     let others = c.split_at_mut-others in
     let here = c.split_at_mut-here in
-    let u = cut 64 (lit< tt) (c.args.end - c.args.first) (i / 64) c.args.pages.now others.result.0.now others.result.1.now here.result.0.now here.result.1.now c.index-here-0.result c.requires.pages others.ensures.value others.ensures.front_len here.ensures.value here.ensures.front_len in
+    let u = cut 64 (lit< tt) m k c.args.pages.now others.result.0.now others.result.1.now here.result.0.now here.result.1.now c.index-here-0.result c.requires.pages others.ensures.value others.ensures.front_len here.ensures.value here.ensures.front_len in
     let front = flatten (contents others.result.0.now) in
     let p = arc_value (get_or here.result.0.now 0 c.index-here-0.result) in
     let behind = flatten (contents here.result.1.now) in
@@ -135,15 +125,14 @@ write_pages-returns-clause-ok t c =
     let after = flatten (contents c.write_page.new.pages) in
     let beyond = flatten (contents c.write_page.new.parts) in
     let new = ap (λ (l : List Cell). l ++ beyond) (parted-set others.result.0.now here.result.0.now c.write_page.new.page c.write_page.new.pages here.ensures.front_len) ∙ grouped front q after beyond in
-    on_ok c.write_page.result c.write_page.ensures.ok (λ e. written_behind n c.args.first x _ ws front (p ++ (behind ++ more)) (q ++ (after ++ beyond)) _ _
-    (from_first_write n c.args.first x _ ws d c.requires.writes (omega (arith, head.0))) (omega (arith, u.long)) old new e)
+    on_ok c.write_page.result c.write_page.ensures.ok (λ e. written_behind c.args.len c.args.first _ _ ws front (p ++ (behind ++ more)) (q ++ (after ++ beyond)) _ _
+    f.writes (omega (arith, u.long, f.starts)) old new e)
 
-pub write_pages-returns-clause-err : goal.write_pages-returns-clause-err
-write_pages-returns-clause-err t c =
-    let i = (get_or c.args.writes.now 0 d).0 - c.args.first in
+pub write_pages-returns-then-id-end-clause-err : goal.write_pages-returns-then-id-end-clause-err
+write_pages-returns-then-id-end-clause-err t c =
     let others = c.split_at_mut-others in
     let here = c.split_at_mut-here in
-    let u = cut 64 (lit< tt) (c.args.end - c.args.first) (i / 64) c.args.pages.now others.result.0.now others.result.1.now here.result.0.now here.result.1.now c.index-here-0.result c.requires.pages others.ensures.value others.ensures.front_len here.ensures.value here.ensures.front_len in
+    let u = cut 64 (lit< tt) (c.args.end - c.args.first) c.place-skipped.result.0 c.args.pages.now others.result.0.now others.result.1.now here.result.0.now here.result.1.now c.index-here-0.result c.requires.pages others.ensures.value others.ensures.front_len here.ensures.value here.ensures.front_len in
     let front = flatten (contents others.result.0.now) in
     let p = arc_value (get_or here.result.0.now 0 c.index-here-0.result) in
     let behind = flatten (contents here.result.1.now) in
@@ -154,6 +143,83 @@ write_pages-returns-clause-err t c =
     let beyond = flatten (contents c.write_page.new.parts) in
     let new = ap (λ (l : List Cell). l ++ beyond) (parted-set others.result.0.now here.result.0.now c.write_page.new.page c.write_page.new.pages here.ensures.front_len) ∙ grouped front q after beyond in
     on_err_of c.write_page.result c.write_page.ensures.err (λ e. new ∙ ap (λ (l : List Cell). front ++ l) e ∙ sym old)
+
+pub write_pages-split_at_mut-others-requires-else-id-end : goal.write_pages-split_at_mut-others-requires-else-id-end
+write_pages-split_at_mut-others-requires-else-id-end t c =
+    let ws = c.args.writes.now in
+    let some = some_writes ws c.if-is_empty.ensures in
+    let m = length (flatten (contents c.args.parts.now)) in
+    let k = c.place-skipped-else-id-end.result.0 in
+    let rest = from_first_write c.args.len c.args.first c.args.end _ ws d c.requires.writes c.if-id-end.false in
+    let f = first_page 4096 c.args.len c.args.end m k c.place-skipped-else-id-end.result.1 _ c.args.parts.now ws d (lit< tt) c.requires.parts rest some (first_write c.args.len c.args.end _ ws d rest some).1 c.place-skipped-else-id-end.ensures.id c.place-skipped-else-id-end.ensures.at in
+    omega (arith, f.there)
+
+pub write_pages-split_at_mut-here-requires-else-id-end : goal.write_pages-split_at_mut-here-requires-else-id-end
+write_pages-split_at_mut-here-requires-else-id-end t c =
+    let ws = c.args.writes.now in
+    let some = some_writes ws c.if-is_empty.ensures in
+    let m = length (flatten (contents c.args.parts.now)) in
+    let k = c.place-skipped-else-id-end.result.0 in
+    let rest = from_first_write c.args.len c.args.first c.args.end _ ws d c.requires.writes c.if-id-end.false in
+    let f = first_page 4096 c.args.len c.args.end m k c.place-skipped-else-id-end.result.1 _ c.args.parts.now ws d (lit< tt) c.requires.parts rest some (first_write c.args.len c.args.end _ ws d rest some).1 c.place-skipped-else-id-end.ensures.id c.place-skipped-else-id-end.ensures.at in
+    omega (arith, f.there, c.split_at_mut-others-else-id-end.ensures.back_len)
+
+pub write_pages-write_part-requires : goal.write_pages-write_part-requires
+write_pages-write_part-requires t c =
+    let ws = c.args.writes.now in
+    let some = some_writes ws c.if-is_empty.ensures in
+    let m = length (flatten (contents c.args.parts.now)) in
+    let k = c.place-skipped-else-id-end.result.0 in
+    let rest = from_first_write c.args.len c.args.first c.args.end _ ws d c.requires.writes c.if-id-end.false in
+    let f = first_page 4096 c.args.len c.args.end m k c.place-skipped-else-id-end.result.1 _ c.args.parts.now ws d (lit< tt) c.requires.parts rest some (first_write c.args.len c.args.end _ ws d rest some).1 c.place-skipped-else-id-end.ensures.id c.place-skipped-else-id-end.ensures.at in
+    let others = c.split_at_mut-others-else-id-end in
+    let here = c.split_at_mut-here-else-id-end in
+    let u = cut 4096 (lit< tt) m k c.args.parts.now others.result.0.now others.result.1.now here.result.0.now here.result.1.now c.index-here-0-else-id-end.result c.requires.parts others.ensures.value others.ensures.front_len here.ensures.value here.ensures.front_len in
+    let p = arc_value (get_or here.result.0.now 0 c.index-here-0-else-id-end.result) in
+    let x = (get_or ws 0 d).0 - c.place-skipped-else-id-end.result.1 in
+    let count : length (p ++ flatten (contents here.result.1.now)) ≡ m - 4096 * k = length-flatten 4096 (lit< tt) (m - 4096 * k) (p ∷ contents here.result.1.now) u.pages in
+    let top : x + length (p ++ flatten (contents here.result.1.now)) ≡ c.args.end + m = omega (arith, count, u.less, f.starts) in (
+      omega (arith, c.decreases, others.ensures.back_len, here.ensures.back_len),
+      (rw count u.pages, (rw top f.writes, (starts_below _ ws d some (omega (arith, f.below, u.pages.1)), omega (arith, u.pages.1)))),
+    )
+
+pub write_pages-returns-else-id-end-clause-ok : goal.write_pages-returns-else-id-end-clause-ok
+write_pages-returns-else-id-end-clause-ok t c =
+    let ws = c.args.writes.now in
+    let some = some_writes ws c.if-is_empty.ensures in
+    let m = length (flatten (contents c.args.parts.now)) in
+    let k = c.place-skipped-else-id-end.result.0 in
+    let rest = from_first_write c.args.len c.args.first c.args.end _ ws d c.requires.writes c.if-id-end.false in
+    let f = first_page 4096 c.args.len c.args.end m k c.place-skipped-else-id-end.result.1 _ c.args.parts.now ws d (lit< tt) c.requires.parts rest some (first_write c.args.len c.args.end _ ws d rest some).1 c.place-skipped-else-id-end.ensures.id c.place-skipped-else-id-end.ensures.at in
+    let others = c.split_at_mut-others-else-id-end in
+    let here = c.split_at_mut-here-else-id-end in
+    let u = cut 4096 (lit< tt) m k c.args.parts.now others.result.0.now others.result.1.now here.result.0.now here.result.1.now c.index-here-0-else-id-end.result c.requires.parts others.ensures.value others.ensures.front_len here.ensures.value here.ensures.front_len in
+    let all = flatten (contents c.args.pages.now) in
+    let front = flatten (contents others.result.0.now) in
+    let p = arc_value (get_or here.result.0.now 0 c.index-here-0-else-id-end.result) in
+    let behind = flatten (contents here.result.1.now) in
+    let old : all ++ flatten (contents c.args.parts.now) ≡ (all ++ front) ++ (p ++ behind) = rw u.whole (sym (append_assoc all front (p ++ behind))) in
+    let q = arc_value c.write_part.new.part in
+    let after = flatten (contents c.write_part.new.parts) in
+    let new = ap (λ (l : List Cell). all ++ l) (parted-set others.result.0.now here.result.0.now c.write_part.new.part c.write_part.new.parts here.ensures.front_len) ∙ sym (append_assoc all front (q ++ after)) in
+    let long = length-flatten 64 (lit< tt) (c.args.end - c.args.first) (contents c.args.pages.now) c.requires.pages in
+    on_ok c.write_part.result c.write_part.ensures.ok (λ e. written_behind c.args.len c.args.first _ _ ws (all ++ front) (p ++ behind) (q ++ after) _ _
+    f.writes (omega (arith, length-append all front, long, u.long, c.requires.order, f.starts)) old new e)
+
+pub write_pages-returns-else-id-end-clause-err : goal.write_pages-returns-else-id-end-clause-err
+write_pages-returns-else-id-end-clause-err t c =
+    let others = c.split_at_mut-others-else-id-end in
+    let here = c.split_at_mut-here-else-id-end in
+    let u = cut 4096 (lit< tt) (length (flatten (contents c.args.parts.now))) c.place-skipped-else-id-end.result.0 c.args.parts.now others.result.0.now others.result.1.now here.result.0.now here.result.1.now c.index-here-0-else-id-end.result c.requires.parts others.ensures.value others.ensures.front_len here.ensures.value here.ensures.front_len in
+    let all = flatten (contents c.args.pages.now) in
+    let front = flatten (contents others.result.0.now) in
+    let p = arc_value (get_or here.result.0.now 0 c.index-here-0-else-id-end.result) in
+    let behind = flatten (contents here.result.1.now) in
+    let old : all ++ flatten (contents c.args.parts.now) ≡ (all ++ front) ++ (p ++ behind) = rw u.whole (sym (append_assoc all front (p ++ behind))) in
+    let q = arc_value c.write_part.new.part in
+    let after = flatten (contents c.write_part.new.parts) in
+    let new = ap (λ (l : List Cell). all ++ l) (parted-set others.result.0.now here.result.0.now c.write_part.new.part c.write_part.new.parts here.ensures.front_len) ∙ sym (append_assoc all front (q ++ after)) in
+    on_err_of c.write_part.result c.write_part.ensures.err (λ e. new ∙ ap (λ (l : List Cell). (all ++ front) ++ l) e ∙ sym old)
 
 -- ---- a part
 pub write_part-overflow_add-end : goal.write_part-overflow_add-end
@@ -187,65 +253,20 @@ write_part-returns-clause-size t c =
     let is = c.part.view_is ∙ either c.in_ok-part.ensures.value in
     ap length (c.make_mut.follows.holds _ (ap is_ok c.in_ok-part.was)) ∙ length-flatten 64 (lit< tt) c.part.inside.len _ kept ∙ sym long ∙ ap length is
 
--- ---- parts
-pub write_parts-split_at_mut-others-requires : goal.write_parts-split_at_mut-others-requires
-write_parts-split_at_mut-others-requires t c =
-    let ws = c.args.writes.now in
-    let some = some_writes ws c.if-is_empty.ensures in
-    let head = first_write c.args.len c.args.first _ ws d c.requires.writes some in
-    let i = (get_or ws 0 d).0 - c.args.first in
-    let w = within 4096 (lit< tt) (length (flatten (contents c.args.parts.now))) c.args.parts.now i (i / 4096) c.requires.parts (omega arith) (omega (arith, head.0, head.1)) in
-    omega (arith, w)
+pub write_part-returns-clause-ok : goal.write_part-returns-clause-ok
+write_part-returns-clause-ok t c =
+    let behind = flatten (contents c.args.parts.now) in
+    let beyond = flatten (contents c.write_pages.new.parts) in
+    let same = vec-pages c.part.inside.pages c.write_pages.new.pages (rw (← c.as_mut_slice.ensures.value) c.write_pages.ensures.sizes) in
+    let new = c.make_mut.follows.holds _ (ap is_ok c.in_ok-part.was) ∙ ap flatten same in
+    let old : flatten (contents c.as_mut_slice.result.now) ≡ arc_value c.args.part.now = ap (λ (l : _). flatten (contents l)) c.as_mut_slice.ensures.value ∙ c.part.view_is ∙ either c.in_ok-part.ensures.value in
+    on_ok c.write_pages.result c.write_pages.ensures.ok (λ e. ap (λ (l : List Cell). l ++ beyond) new ∙ e ∙ ap (λ (l : List Cell). with_writes_from c.args.len c.args.first c.args.writes.now (l ++ behind)) old)
 
-pub write_parts-split_at_mut-here-requires : goal.write_parts-split_at_mut-here-requires
-write_parts-split_at_mut-here-requires t c =
-    let ws = c.args.writes.now in
-    let some = some_writes ws c.if-is_empty.ensures in
-    let head = first_write c.args.len c.args.first _ ws d c.requires.writes some in
-    let i = (get_or ws 0 d).0 - c.args.first in
-    let w = within 4096 (lit< tt) (length (flatten (contents c.args.parts.now))) c.args.parts.now i (i / 4096) c.requires.parts (omega arith) (omega (arith, head.0, head.1)) in
-    omega (arith, w, c.split_at_mut-others.ensures.back_len)
-
-pub write_parts-write_part-requires : goal.write_parts-write_part-requires
-write_parts-write_part-requires t c =
-    let n = c.args.len in
-    let ws = c.args.writes.now in
-    let some = some_writes ws c.if-is_empty.ensures in
-    let head = first_write n c.args.first _ ws d c.requires.writes some in
-    let i = (get_or ws 0 d).0 - c.args.first in
-    let x = c.args.first + i / 4096 * 4096 in
-    let m = length (flatten (contents c.args.parts.now)) in
-    let others = c.split_at_mut-others in
-    let here = c.split_at_mut-here in
-    let u = cut 4096 (lit< tt) m (i / 4096) c.args.parts.now others.result.0.now others.result.1.now here.result.0.now here.result.1.now c.index-here-0.result c.requires.parts others.ensures.value others.ensures.front_len here.ensures.value here.ensures.front_len in
-    let p = arc_value (get_or here.result.0.now 0 c.index-here-0.result) in
-    let count : length (p ++ flatten (contents here.result.1.now)) ≡ m - 4096 * (i / 4096) = length-flatten 4096 (lit< tt) (m - 4096 * (i / 4096)) (p ∷ contents here.result.1.now) u.pages in
-    let top : x + length (p ++ flatten (contents here.result.1.now)) ≡ c.args.first + m = omega (arith, count, u.less) in (
-      omega (arith, c.decreases, others.ensures.back_len, here.ensures.back_len),
-      (rw count u.pages, (rw top (from_first_write n c.args.first x _ ws d c.requires.writes (omega (arith, head.0))), (starts_below _ ws d some (omega (arith, head.0, head.1, u.pages.1)), omega (arith, head.0, u.pages.1)))),
-    )
-
-pub write_parts-returns-clause-ok : goal.write_parts-returns-clause-ok
-write_parts-returns-clause-ok t c =
-    let n = c.args.len in
-    let ws = c.args.writes.now in
-    let some = some_writes ws c.if-is_empty.ensures in
-    let head = first_write n c.args.first _ ws d c.requires.writes some in
-    let i = (get_or ws 0 d).0 - c.args.first in
-    let x = c.args.first + i / 4096 * 4096 in
-    let others = c.split_at_mut-others in
-    let here = c.split_at_mut-here in
-    let u = cut 4096 (lit< tt) (length (flatten (contents c.args.parts.now))) (i / 4096) c.args.parts.now others.result.0.now others.result.1.now here.result.0.now here.result.1.now c.index-here-0.result c.requires.parts others.ensures.value others.ensures.front_len here.ensures.value here.ensures.front_len in
-    let new = parted-set others.result.0.now here.result.0.now c.write_part.new.part c.write_part.new.parts here.ensures.front_len in
-    on_ok c.write_part.result c.write_part.ensures.ok (λ e. written_behind n c.args.first x _ ws (flatten (contents others.result.0.now)) _ _ _ _
-    (from_first_write n c.args.first x _ ws d c.requires.writes (omega (arith, head.0))) (omega (arith, u.long)) u.whole new e)
-
-pub write_parts-returns-clause-err : goal.write_parts-returns-clause-err
-write_parts-returns-clause-err t c =
-    let i = (get_or c.args.writes.now 0 d).0 - c.args.first in
-    let others = c.split_at_mut-others in
-    let here = c.split_at_mut-here in
-    let u = cut 4096 (lit< tt) (length (flatten (contents c.args.parts.now))) (i / 4096) c.args.parts.now others.result.0.now others.result.1.now here.result.0.now here.result.1.now c.index-here-0.result c.requires.parts others.ensures.value others.ensures.front_len here.ensures.value here.ensures.front_len in
-    let front = flatten (contents others.result.0.now) in
-    let new = parted-set others.result.0.now here.result.0.now c.write_part.new.part c.write_part.new.parts here.ensures.front_len in
-    on_err_of c.write_part.result c.write_part.ensures.err (λ e. new ∙ ap (λ (l : List Cell). front ++ l) e ∙ sym u.whole)
+pub write_part-returns-clause-err : goal.write_part-returns-clause-err
+write_part-returns-clause-err t c =
+    let behind = flatten (contents c.args.parts.now) in
+    let beyond = flatten (contents c.write_pages.new.parts) in
+    let same = vec-pages c.part.inside.pages c.write_pages.new.pages (rw (← c.as_mut_slice.ensures.value) c.write_pages.ensures.sizes) in
+    let new = c.make_mut.follows.holds _ (ap is_ok c.in_ok-part.was) ∙ ap flatten same in
+    let old : flatten (contents c.as_mut_slice.result.now) ≡ arc_value c.args.part.now = ap (λ (l : _). flatten (contents l)) c.as_mut_slice.ensures.value ∙ c.part.view_is ∙ either c.in_ok-part.ensures.value in
+    on_err_of c.write_pages.result c.write_pages.ensures.err (λ e. ap (λ (l : List Cell). l ++ beyond) new ∙ e ∙ ap (λ (l : List Cell). l ++ behind) old)

@@ -1,10 +1,7 @@
 use Rattle.std.proofs.Common.{◌+◌, ◌*◌, length}
 use Rattle.stm_store.proofs.in_place.+write.Given as goal
 
--- each call of write_parts has fewer parts after it, and each of write_page fewer writes
-abbrev pub decreases-write_parts : goal.decreases-write_parts
-decreases-write_parts l = 4 * (length l.parts.now + length l.writes.now) + 1
-
+-- each call of write_part has fewer parts after it, and each of write_pages by write_page fewer writes
 abbrev pub decreases-write_part : goal.decreases-write_part
 decreases-write_part l = 4 * (length l.parts.now + length l.writes.now) + 3
 

@@ -1,7 +1,7 @@
 use Rattle.std.proofs.Common.{◌≡◌, length, take, ap, ◌∙◌, arith}
 use Rattle.std.proofs.lemmas.List.{length-take-le}
 use Rattle.stm_store.specs.Cells.{with_writes}
-use Rattle.stm_store.proofs.Paged.{on_ok}
+use Rattle.stm_store.proofs.PageLists.{on_ok}
 use Rattle.stm_store.proofs.RangeWriteLemmas.{all_within, length-after, from_first, take_writes}
 use Rattle.stm_store.proofs.cell_list.CellList.write.Goals as goal
 
@@ -12,7 +12,7 @@ write-requires c =
 
 pub invariant_of-self : goal.invariant_of-self
 invariant_of-self c =
-    omega (arith, c.self.invariant, length-after c.write.result c.args.len 0 c.args.writes.now c.self.inside.parts c.write.new.self c.write.ensures.ok c.write.ensures.err)
+    omega (arith, c.self.invariant, length-after c.write.result c.args.len 0 c.args.writes.now c.self.inside.parts c.write.new.cells c.write.ensures.ok c.write.ensures.err)
 
 pub returns-clause-ok : goal.returns-clause-ok
 returns-clause-ok c =

@@ -1,4 +1,4 @@
--- An item's page and its place in the page.
+-- An item's page and its place in the page, in a list of pages and behind pointers to them.
 use Rattle.std.proofs.Common.{◌≡◌, ℕ, zero, suc, ◌+◌, ◌-◌, ◌*◌, ◌<◌, ◌≤◌, List, [], ◌∷◌, ◌++◌, length, get_or, set, map, refl, sym, ap, ◌∙◌, arith, length-append, append_assoc, append-nil, length-set}
 use Rattle.std.specs.Prelude.{min, slice_get, Result, Ok, Err, OnOk, OnErr}
 use Rattle.std.proofs.lemmas.List.{set-append_left, length-map, map-set, map-append, with_items_is}
@@ -7,7 +7,7 @@ use Rattle.std.specs.declared.sync.Arc.{Arc}
 use Rattle.std.specs.declared.vec.Vec.{Vec}
 use Rattle.std.specs.Arc.{arc_value}
 use Rattle.std.specs.Vec.{with_items}
-use Rattle.stm_store.specs.Pages.{contents, sizes, flatten, ArePages}
+use Rattle.stm_store.specs.Pages.{contents_by, contents, sizes, flatten, ArePages}
 
 pub on_ok : {T E P Q : Type 0} (r : Result T E) → OnOk r P → (P → Q) → OnOk r Q
 on_ok (Ok x) p f = f p
@@ -38,15 +38,19 @@ module _ {A : Type 0} where
   set_right (x ∷ xs) ys (suc i) j v e = ap (λ (zs : List A). x ∷ zs) (set_right xs ys i j v (omega arith))
 
   -- the page behind the i-th pointer
-  pub get_content : (ptrs : List (Arc (List A) Global)) (i : ℕ) (a : Arc (List A) Global) → i < length ptrs → a ≡ get_or ptrs i a → arc_value a ≡ get_or (contents ptrs) i []
-  get_content [] i a h e = absurd (omega arith)
-  get_content (b ∷ ptrs) zero a h e = ap arc_value e
-  get_content (b ∷ ptrs) (suc i) a h e = get_content ptrs i a (omega arith) e
+  pub get_content : {P : Type 0} (items : P → List A) (ptrs : List (Arc P Global)) (i : ℕ) (a : Arc P Global) → i < length ptrs → a ≡ get_or ptrs i a → items (arc_value a) ≡ get_or (contents_by items ptrs) i []
+  get_content items [] i a h e = absurd (omega arith)
+  get_content items (b ∷ ptrs) zero a h e = ap (λ (p : Arc _ Global). items (arc_value p)) e
+  get_content items (b ∷ ptrs) (suc i) a h e = get_content items ptrs i a (omega arith) e
 
   -- pages of the same lengths are as many
   pub count-sizes : (ptrs qtrs : List (Arc (List A) Global)) → sizes qtrs ≡ sizes ptrs → length qtrs ≡ length ptrs
   count-sizes ptrs qtrs e =
       omega (arith, ap length e, length-map (contents ptrs) length, length-map (contents qtrs) length, length-map ptrs arc_value, length-map qtrs arc_value)
+
+  -- a Vec of pointers with others in their place, to pages of the same lengths
+  pub vec-pages : (v : Vec (Arc (List A) Global) Global) (ws : List (Arc (List A) Global)) → sizes ws ≡ sizes v.items → contents (with_items v ws).items ≡ contents ws
+  vec-pages v ws e = ap contents (with_items_is v ws (omega (arith, count-sizes v.items ws e, v.ok.0)))
 
 module _ {A : Type 0} (s : ℕ) (full : 0 < s) where
   pub length-flatten : (n : ℕ) (ps : List (List A)) → ArePages s n ps → length (flatten ps) ≡ n
@@ -130,52 +134,65 @@ module _ {A : Type 0} (s : ℕ) (full : 0 < s) where
       (f.0, first ∙ f.1, pages-sizes (n - s) ps qs f.2 others)
 
   pub vec-sizes : (n : ℕ) (v : Vec (Arc (List A) Global) Global) (ws : List (Arc (List A) Global)) → ArePages s n (contents v.items) → sizes ws ≡ sizes v.items → ArePages s n (contents (with_items v ws).items)
-  vec-sizes n v ws f e =
-      rw (with_items_is v ws (omega (arith, count-sizes v.items ws e, v.ok.0))) (pages-sizes n (contents v.items) (contents ws) f e)
+  vec-sizes n v ws f e = rw (vec-pages v ws e) (pages-sizes n (contents v.items) (contents ws) f e)
 
+module _ {A P : Type 0} (s : ℕ) (full : 0 < s) (items : P → List A) where
   -- a list of pointers to pages: facts that a change of one pointer keeps
-  pub record Kept (n : ℕ) (ptrs : List (Arc (List A) Global)) (cells : List A) : Type 0 where
-    pub pages : ArePages s n (contents ptrs)
-    pub cells_are : flatten (contents ptrs) ≡ cells
+  pub record Kept (n : ℕ) (ptrs : List (Arc P Global)) (cells : List A) : Type 0 where
+    pub pages : ArePages s n (contents_by items ptrs)
+    pub cells_are : flatten (contents_by items ptrs) ≡ cells
 
-  pub within : (n : ℕ) (ptrs : List (Arc (List A) Global)) (i p : ℕ) → ArePages s n (contents ptrs) → s * p ≤ i → i < n → p < length ptrs
-  within n ptrs i p f l h = omega (arith, page_within n (contents ptrs) i p f l h, length-map ptrs arc_value)
+  count : (ptrs : List (Arc P Global)) → length (contents_by items ptrs) ≡ length ptrs
+  count ptrs = length-map ptrs (λ p. items (arc_value p))
 
-  pub page_at : (n : ℕ) (ptrs : List (Arc (List A) Global)) (p : ℕ) (a : Arc (List A) Global) → ArePages s n (contents ptrs) → p < length ptrs → a ≡ get_or ptrs p a → length (arc_value a) ≡ min s (n - s * p)
-  page_at n ptrs p a f h e = ap length (get_content ptrs p a h e) ∙ page_length n (contents ptrs) p f (omega (arith, length-map ptrs arc_value))
+  -- as many items as are counted
+  pub length-items : (n : ℕ) (ptrs : List (Arc P Global)) (whole : List A) → ArePages s n (contents_by items ptrs) → flatten (contents_by items ptrs) ≡ whole → length whole ≡ n
+  length-items n ptrs whole f e = ap length (sym e) ∙ length-flatten s full n (contents_by items ptrs) f
 
-  pub kept-set : (n : ℕ) (ptrs : List (Arc (List A) Global)) (p k i : ℕ) (a b : Arc (List A) Global) (v : A) → ArePages s n (contents ptrs) → i < n → k < s → i ≡ s * p + k → a ≡ get_or ptrs p a → arc_value b ≡ set (arc_value a) k v → Kept n (set ptrs p b) (set (flatten (contents ptrs)) i v)
+  pub within : (n : ℕ) (ptrs : List (Arc P Global)) (i p : ℕ) → ArePages s n (contents_by items ptrs) → s * p ≤ i → i < n → p < length ptrs
+  within n ptrs i p f l h = omega (arith, page_within s full n (contents_by items ptrs) i p f l h, count ptrs)
+
+  pub page_at : (n : ℕ) (ptrs : List (Arc P Global)) (p : ℕ) (a : Arc P Global) → ArePages s n (contents_by items ptrs) → p < length ptrs → a ≡ get_or ptrs p a → length (items (arc_value a)) ≡ min s (n - s * p)
+  page_at n ptrs p a f h e =
+      ap length (get_content items ptrs p a h e) ∙ page_length s full n (contents_by items ptrs) p f (omega (arith, count ptrs))
+
+  pub kept-set : (n : ℕ) (ptrs : List (Arc P Global)) (p k i : ℕ) (a b : Arc P Global) (v : A) → ArePages s n (contents_by items ptrs) → i < n → k < s → i ≡ s * p + k → a ≡ get_or ptrs p a → items (arc_value b) ≡ set (items (arc_value a)) k v → Kept n (set ptrs p b) (set (flatten (contents_by items ptrs)) i v)
   kept-set n ptrs p k i a b v f h less e at is =
       let w = within n ptrs i p f (omega arith) h in
-      let q = get_content ptrs p a w at in
-      let b_is : arc_value b ≡ set (get_or (contents ptrs) p []) k v = is ∙ ap (λ (xs : List A). set xs k v) q in
+      let q = get_content items ptrs p a w at in
+      let b_is : items (arc_value b) ≡ set (get_or (contents_by items ptrs) p []) k v = is ∙ ap (λ (xs : List A). set xs k v) q in
       record {
-        pages = rw map-set (pages-set n (contents ptrs) p (arc_value b) f (ap length b_is ∙ length-set (get_or (contents ptrs) p []) k v));
-        cells_are = rw (map-set, b_is) (sym (set_flatten n (contents ptrs) p k i v f h less e));
+        pages = rw map-set (pages-set s full n (contents_by items ptrs) p (items (arc_value b)) f (ap length b_is ∙ length-set (get_or (contents_by items ptrs) p []) k v));
+        cells_are = rw (map-set, b_is) (sym (set_flatten s full n (contents_by items ptrs) p k i v f h less e));
       }
 
-  pub kept-same : (n : ℕ) (ptrs : List (Arc (List A) Global)) (p : ℕ) (a b : Arc (List A) Global) → ArePages s n (contents ptrs) → p < length ptrs → a ≡ get_or ptrs p a → arc_value b ≡ arc_value a → Kept n (set ptrs p b) (flatten (contents ptrs))
+  pub kept-same : (n : ℕ) (ptrs : List (Arc P Global)) (p : ℕ) (a b : Arc P Global) → ArePages s n (contents_by items ptrs) → p < length ptrs → a ≡ get_or ptrs p a → items (arc_value b) ≡ items (arc_value a) → Kept n (set ptrs p b) (flatten (contents_by items ptrs))
   kept-same n ptrs p a b f w at is =
-      let b_is : arc_value b ≡ get_or (contents ptrs) p [] = is ∙ get_content ptrs p a w at in
+      let b_is : items (arc_value b) ≡ get_or (contents_by items ptrs) p [] = is ∙ get_content items ptrs p a w at in
       record {
-        pages = rw map-set (pages-set n (contents ptrs) p (arc_value b) f (ap length b_is));
-        cells_are = rw (map-set, b_is) (flatten-set_same (contents ptrs) p);
+        pages = rw map-set (pages-set s full n (contents_by items ptrs) p (items (arc_value b)) f (ap length b_is));
+        cells_are = rw (map-set, b_is) (flatten-set_same s full (contents_by items ptrs) p);
       }
+
+  -- a change of a cell of the i-th page, made or refused
+  pub pages-set_or_same : {T E : Type 0} (r : Result T E) (n : ℕ) (ptrs : List (Arc P Global)) (p k i : ℕ) (a b : Arc P Global) (v : A) → ArePages s n (contents_by items ptrs) → i < n → k < s → i ≡ s * p + k → a ≡ get_or ptrs p a → OnOk r (items (arc_value b) ≡ set (items (arc_value a)) k v) → OnErr r (items (arc_value b) ≡ items (arc_value a)) → ArePages s n (contents_by items (set ptrs p b))
+  pages-set_or_same (Ok x) n ptrs p k i a b v f h less e at ok err = (kept-set n ptrs p k i a b v f h less e at ok).pages
+  pages-set_or_same (Err x) n ptrs p k i a b v f h less e at ok err = (kept-same n ptrs p a b f (within n ptrs i p f (omega arith) h) at err).pages
 
   -- the last page, where it has room
-  pub last_within : (n : ℕ) (ptrs : List (Arc (List A) Global)) (p k : ℕ) → ArePages s n (contents ptrs) → n ≡ s * p + k → 0 < k → p < length ptrs
+  pub last_within : (n : ℕ) (ptrs : List (Arc P Global)) (p k : ℕ) → ArePages s n (contents_by items ptrs) → n ≡ s * p + k → 0 < k → p < length ptrs
   last_within n ptrs p k f e h = within n ptrs (n - 1) p f (omega arith) (omega arith)
 
-  pub kept-extend : (n : ℕ) (ptrs : List (Arc (List A) Global)) (p k : ℕ) (a b : Arc (List A) Global) (v : A) → ArePages s n (contents ptrs) → n ≡ s * p + k → 0 < k → k < s → p < length ptrs → a ≡ get_or ptrs p a → arc_value b ≡ arc_value a ++ v ∷ [] → Kept (n + 1) (set ptrs p b) (flatten (contents ptrs) ++ v ∷ [])
+  pub kept-extend : (n : ℕ) (ptrs : List (Arc P Global)) (p k : ℕ) (a b : Arc P Global) (v : A) → ArePages s n (contents_by items ptrs) → n ≡ s * p + k → 0 < k → k < s → p < length ptrs → a ≡ get_or ptrs p a → items (arc_value b) ≡ items (arc_value a) ++ v ∷ [] → Kept (n + 1) (set ptrs p b) (flatten (contents_by items ptrs) ++ v ∷ [])
   kept-extend n ptrs p k a b v f e h less w at is =
-      let b_is : arc_value b ≡ get_or (contents ptrs) p [] ++ v ∷ [] = is ∙ ap (λ (xs : List A). xs ++ v ∷ []) (get_content ptrs p a w at) in
+      let b_is : items (arc_value b) ≡ get_or (contents_by items ptrs) p [] ++ v ∷ [] = is ∙ ap (λ (xs : List A). xs ++ v ∷ []) (get_content items ptrs p a w at) in
       record {
-        pages = rw (map-set, b_is) (pages-extend n (contents ptrs) p k v f e h less);
-        cells_are = rw (map-set, b_is) (flatten-extend n (contents ptrs) p k v f e h less);
+        pages = rw (map-set, b_is) (pages-extend s full n (contents_by items ptrs) p k v f e h less);
+        cells_are = rw (map-set, b_is) (flatten-extend s full n (contents_by items ptrs) p k v f e h less);
       }
 
-  pub kept-push : (n : ℕ) (ptrs : List (Arc (List A) Global)) (p : ℕ) (b : Arc (List A) Global) (v : A) → ArePages s n (contents ptrs) → n ≡ s * p → arc_value b ≡ v ∷ [] → Kept (n + 1) (ptrs ++ b ∷ []) (flatten (contents ptrs) ++ v ∷ [])
+  pub kept-push : (n : ℕ) (ptrs : List (Arc P Global)) (p : ℕ) (b : Arc P Global) (v : A) → ArePages s n (contents_by items ptrs) → n ≡ s * p → items (arc_value b) ≡ v ∷ [] → Kept (n + 1) (ptrs ++ b ∷ []) (flatten (contents_by items ptrs) ++ v ∷ [])
   kept-push n ptrs p b v f e is = record {
-    pages = rw (map-append, is) (pages-push n (contents ptrs) p v f e);
-    cells_are = rw (map-append, is) (flatten-push (contents ptrs) (v ∷ []));
+    pages = rw (map-append, is) (pages-push s full n (contents_by items ptrs) p v f e);
+    cells_are = rw (map-append, is) (flatten-push s full (contents_by items ptrs) (v ∷ []));
   }
