@@ -89,10 +89,11 @@ def run_program(crate, folder, jobs):
     return None if written == given["stdout"] else "it writes something else than its file stdout has"
 
 
-def prove(crate, jobs, heard=lambda line: None):
+def prove(crate, jobs, heard=None):
     """Proves a crate over what its earlier checks kept, and builds it: a library for those above, a program to be run.
-    Returns how many passed and failed, and a text."""
-    heard("")
+    Returns how many passed and failed, and a text. `heard` is called with each line of the proof as it comes."""
+    if heard:
+        heard("")
     why = build_below(crate)
     if why:
         return 0, 1, why
@@ -100,9 +101,10 @@ def prove(crate, jobs, heard=lambda line: None):
         if crate.is_program:
             why = run_program(crate, folder, jobs)
         else:
-            for words in ["rt", "check"], ["rt", "lib"]:
+            # A library is built of a proved crate alone, but the command that proves and builds it says nothing meanwhile.
+            for words in (["rt", "check"], ["rt", "lib"]) if heard else (["rt", "lib"],):
                 status, lines = run([*words, "--jobs", str(jobs)], folder, heard)
-                why = why or (faults(status, lines) if status else None)
+                why = faults(status, lines) if status else None
                 if why:
                     break
     if why:
@@ -111,10 +113,10 @@ def prove(crate, jobs, heard=lambda line: None):
     return 1, 0, ""
 
 
-def proof(crate, heard=lambda crate, line: None, anew=False):
+def proof(crate, heard=None, anew=False):
     """The part that proves a crate, which stands behind those of the crates below."""
     after = [f"proof {it.name}" for it in crate.below]
-    work = lambda jobs: prove(crate, jobs, lambda line: heard(crate, line))
+    work = lambda jobs: prove(crate, jobs, heard and (lambda line: heard(crate, line)))
     return parts.Part(f"proof {crate.name}", work, [crate.digest], after, crate.weight, 4, anew)
 
 

@@ -1,6 +1,6 @@
 -- One event of settling, and a run of them.
 use Rattle.std.proofs.Common.{◌≡◌, ℕ, ◌+◌, ◌<◌, ◌≤◌, Bool, true, false, not, cond, List, [], ◌∷◌, length, Option, Some, None, Err, refl, sym, ap, subst, ◌∙◌, arith}
-use Rattle.std.specs.Prelude.{is_some, nat_le, option_map}
+use Rattle.std.specs.Prelude.{is_some, nat_le, option_map, IsSomeAnd}
 use Rattle.std.proofs.lemmas.Bool.Decides.{nat_tests}
 use Rattle.stm_terms.specs.declared.verdicts.Verdict.{Verdict}
 use Rattle.stm_store.specs.Cells.{made_by, changed_by}
@@ -13,17 +13,16 @@ use Rattle.stm_history.specs.SlowSettle.{lowest, is_due, ends, can_end, next_wha
 use Rattle.stm_history.specs.Laws.{AreRising}
 use Rattle.stm_history.proofs.Folds.{state-push, legal_split}
 use Rattle.stm_history.proofs.Rising.{rising_state}
-use Rattle.stm_history.specs.declared.errors.DeliverError.{DeliverError}
-use Rattle.stm_history.specs.declared.errors.DeliverError.TheVariants as deliver
 use Rattle.stm_history.specs.declared.errors.FinishError.{FinishError}
 use Rattle.stm_history.specs.declared.errors.FinishError.TheVariants as finish
 use Rattle.stm_history.specs.SettleChoices.{next_due, next_end}
 use Rattle.stm_history.specs.Machine.{event}
-use Rattle.stm_history.specs.Refusals.{differing, install_first, deliver_error, overflows, finish_told}
+use Rattle.stm_history.specs.Refusals.{differing, overflows, finish_told}
 use Rattle.stm_history.proofs.Heads.{lowest_waits, lowest_holds}
 use Rattle.stm_desk.specs.Seen.{Seen, now, with_event, is_full}
-use Rattle.stm_desk.specs.Refusals.{TellsDeskDelivery, finish_refusal, left_by}
-use Rattle.stm_desk.specs.Steps.{IsDueMessage, IsNextEvent, WhyTold, StopsDelivery, delivery_why, StopsFinish, finish_why}
+use Rattle.stm_desk.specs.Refusals.{TellsDeskDelivery, finish_refusal}
+use Rattle.stm_desk.specs.Settling.{IsFull}
+use Rattle.stm_desk.specs.Steps.{IsDueMessage, IsNextEvent, WhyTold, StopsFinish, finish_why}
 use Rattle.stm_desk.proofs.Settles.{reads_differ_nowhere}
 
 -- ---- the blocks that come next
@@ -66,76 +65,41 @@ full_of : (d : Seen) → length d.history ≤ d.limit → is_full d ≡ true →
 full_of d l e = let g : d.limit ≤ length d.history = grind (arith, nat_tests) in omega arith
 
 -- ---- a delivery
--- what a message of settling is reported
-due_told : (d : Seen) (t : ℕ) (m : Evaluated) (told : Option DeliverError) → IsLegal d.table d.history → IsDueMessage (now d) t m
-    → TellsDeskDelivery told d (message_ticket m) (message_block m) (message_reads m) → told ≡ (cond (is_full d) (Some deliver.HistoryFull) None)
-due_told d t m told l f h =
+-- the lowest block that is new or stale waits under the ticket of its message
+due_waits_under : (d : Seen) (t : ℕ) (m : Evaluated) → IsLegal d.table d.history → (f : IsDueMessage (now d) t m) → find_waiter (message_ticket m) (now d).waiters ≡ Some f.one
+due_waits_under d t m l f = ap (λ (u : ℕ). find_waiter u (now d).waiters) f.ticket ∙ found_waits is_due d f.one l f.first
+
+due_tree : (d : Seen) (t : ℕ) (m : Evaluated) → (f : IsDueMessage (now d) t m) → f.one.block.tree ≡ (message_block m).tree
+due_tree d t m f = ap (λ b. b.tree) (sym f.block)
+
+-- where there is room, nothing refuses a message of settling
+pub due_allowed : (d : Seen) (t : ℕ) (m : Evaluated) → IsLegal d.table d.history → IsDueMessage (now d) t m → is_full d ≡ false → TellsDeskDelivery None d (message_ticket m) (message_block m) (message_reads m)
+due_allowed d t m l f e =
     let s = now d in
-    let w : find_waiter (message_ticket m) s.waiters ≡ Some f.one = ap (λ (u : ℕ). find_waiter u s.waiters) f.ticket ∙ found_waits is_due d f.one l f.first in
-    let g = rw w at h in
-    let tree : f.one.block.tree ≡ (message_block m).tree = ap (λ b. b.tree) (sym f.block) in
-    let a : told ≡ install_first s.store (is_full d) f.one (message_reads m) = g.1 tree in
     let c : is_current f.one ≡ false = unnot (is_current f.one) (lowest_holds is_due s.waiters f.one f.first) in
     let n : differing (under s.store) (message_reads m) ≡ None = ap (differing (under s.store)) f.reads ∙ reads_differ_nowhere (under s.store) f.one.block.tree in
-    a ∙ rw (c, n) refl
+    rw (due_waits_under d t m l f) ((λ other. absurd (other (due_tree d t m f))), (λ same. rw (c, n, e) refl))
+
+pub due_same : (d : Seen) (t : ℕ) (m : Evaluated) → IsLegal d.table d.history → IsDueMessage (now d) t m → IsSomeAnd (find_waiter (message_ticket m) (now d).waiters) (λ w. w.block.tree ≡ (message_block m).tree)
+due_same d t m l f = rw (due_waits_under d t m l f) (due_tree d t m f)
 
 due_next : (d : Seen) (t : ℕ) (m : Evaluated) → IsDueMessage (now d) t m → next_what (now d) ≡ Some (Installed (message_ticket m) (message_verdict m))
 due_next d t m f = rw (f.first, f.verdict, f.ticket) refl
 
-is_full_by : (b : Bool) → None ≡ cond b (Some deliver.HistoryFull) None → b ≡ false
-is_full_by true h = cc
-is_full_by false h = refl
-
-pub next_install : (d new : Seen) (client t : ℕ) (m : Evaluated) → IsLegal d.table d.history → IsDueMessage (now d) t m
-    → new ≡ with_event d (event client (Installed (message_ticket m) (message_verdict m))) → TellsDeskDelivery None d (message_ticket m) (message_block m) (message_reads m) → IsNextEvent client 0 1 d new
-next_install d new client t m l f e h = record {
+pub next_install : (d new : Seen) (client t : ℕ) (m : Evaluated) → IsDueMessage (now d) t m → is_full d ≡ false
+    → new ≡ with_event d (event client (Installed (message_ticket m) (message_verdict m))) → IsNextEvent client 0 1 d new
+next_install d new client t m f r e = record {
   what = Installed (message_ticket m) (message_verdict m);
   next = due_next d t m f;
   fits = refl;
   grown = e;
-  room = room_of d (is_full_by (is_full d) (due_told d t m None l f h));
+  room = room_of d r;
   finishing = refl;
   evaluating = refl;
 }
 
-stops_by : (b : Bool) (e : DeliverError) → deliver_error e ≡ cond b (Some deliver.HistoryFull) None → StopsDelivery e
-stops_by true deliver.Gone h = cc
-stops_by false deliver.Gone h = cc
-stops_by true deliver.OtherBlock h = cc
-stops_by false deliver.OtherBlock h = cc
-stops_by true deliver.Already h = cc
-stops_by false deliver.Already h = cc
-stops_by true (deliver.Overtaken i) h = cc
-stops_by false (deliver.Overtaken i) h = cc
-stops_by b deliver.HistoryFull h = tt
-stops_by b deliver.NoMemory h = tt
-
-pub stops_delivery : (d : Seen) (t : ℕ) (m : Evaluated) (e : DeliverError) → IsLegal d.table d.history → IsDueMessage (now d) t m
-    → TellsDeskDelivery (deliver_error e) d (message_ticket m) (message_block m) (message_reads m) → StopsDelivery e
-stops_delivery d t m e l f h = stops_by (is_full d) e (due_told d t m (deliver_error e) l f h)
-
-why_by : (d : Seen) (b : Bool) (e : DeliverError) → is_full d ≡ b → is_some (next_what (now d)) ≡ true → length d.history ≤ d.limit → StopsDelivery e → deliver_error e ≡ cond b (Some deliver.HistoryFull) None → WhyTold (delivery_why e) d
-why_by d b deliver.Gone q n k s h = absurd s
-why_by d b deliver.OtherBlock q n k s h = absurd s
-why_by d b deliver.Already q n k s h = absurd s
-why_by d b (deliver.Overtaken i) q n k s h = absurd s
-why_by d true deliver.HistoryFull q n k s h = record { left = n; full = full_of d k q }
-why_by d false deliver.HistoryFull q n k s h = cc
-why_by d b deliver.NoMemory q n k s h = tt
-
-pub why_delivery : (d : Seen) (t : ℕ) (m : Evaluated) (e : DeliverError) → IsLegal d.table d.history → length d.history ≤ d.limit → IsDueMessage (now d) t m
-    → TellsDeskDelivery (deliver_error e) d (message_ticket m) (message_block m) (message_reads m) → WhyTold (delivery_why e) d
-why_delivery d t m e l k f h =
-    let g = due_told d t m (deliver_error e) l f h in
-    why_by d (is_full d) e refl (ap is_some (due_next d t m f)) k (stops_by (is_full d) e g) g
-
-pub left_same : (d : Seen) (t : ℕ) (e : DeliverError) → StopsDelivery e → left_by e t d ≡ d
-left_same d t deliver.Gone s = absurd s
-left_same d t deliver.OtherBlock s = absurd s
-left_same d t deliver.Already s = absurd s
-left_same d t (deliver.Overtaken i) s = absurd s
-left_same d t deliver.HistoryFull s = refl
-left_same d t deliver.NoMemory s = refl
+pub full_at : (d : Seen) (t : ℕ) (m : Evaluated) → length d.history ≤ d.limit → IsDueMessage (now d) t m → is_full d ≡ true → IsFull d
+full_at d t m k f e = record { left = ap is_some (due_next d t m f); full = full_of d k e }
 
 -- the store stays
 pub store_install : (d new : Seen) (client t : ℕ) (v : Verdict) → new ≡ with_event d (event client (Installed t v)) → (now new).store ≡ (now d).store

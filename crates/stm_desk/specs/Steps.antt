@@ -7,8 +7,6 @@ use Rattle.stm_history.specs.declared.event.What.{What}
 use Rattle.stm_history.specs.SlowDesk.{Waiter, Slow, under, verdict_on}
 use Rattle.stm_history.specs.SlowSettle.{lowest, is_due, next_what, has_cells, finishes, installs}
 use Rattle.stm_history.specs.Machine.{event}
-use Rattle.stm_history.specs.declared.errors.DeliverError.{DeliverError}
-use Rattle.stm_history.specs.declared.errors.DeliverError.TheVariants as deliver
 use Rattle.stm_history.specs.declared.errors.FinishError.{FinishError}
 use Rattle.stm_history.specs.declared.errors.FinishError.TheVariants as finish
 use Rattle.stm_desk.specs.declared.errors.SettleWhy.{SettleWhy}
@@ -41,24 +39,6 @@ abbrev pub WhyTold : SettleWhy → Seen → Type 0
 WhyTold HistoryFull d = IsFull d
 WhyTold CellsFull d = IsCrowded d
 WhyTold NoMemory d = Unit {0}
-
--- the refusals of a delivery that settling can meet
-abbrev pub StopsDelivery : DeliverError → Type 0
-StopsDelivery deliver.Gone = ⊥
-StopsDelivery deliver.OtherBlock = ⊥
-StopsDelivery deliver.Already = ⊥
-StopsDelivery (deliver.Overtaken i) = ⊥
-StopsDelivery deliver.HistoryFull = Unit {0}
-StopsDelivery deliver.NoMemory = Unit {0}
-
--- what settling stops for at such a refusal
-abbrev pub delivery_why : DeliverError → SettleWhy
-delivery_why deliver.Gone = NoMemory
-delivery_why deliver.OtherBlock = NoMemory
-delivery_why deliver.Already = NoMemory
-delivery_why (deliver.Overtaken i) = NoMemory
-delivery_why deliver.HistoryFull = HistoryFull
-delivery_why deliver.NoMemory = NoMemory
 
 -- the refusals of a finish that settling can meet
 abbrev pub StopsFinish : FinishError → Type 0

@@ -1,6 +1,6 @@
 //! A message of an evaluator.
 
-ghost use Rattle.std.specs.Prelude.{◌≡◌, ◌<◌, IfOk, OnOk, IfErr, OnErr, IsSomeAnd, vec_len, vec_capacity};
+ghost use Rattle.std.specs.Prelude.{◌≡◌, ◌<◌, None, IfOk, OnOk, IfErr, OnErr, IsSomeAnd, vec_len, vec_capacity};
 ghost use Rattle.stm_history.specs.SlowDesk.{IsLegal, find_waiter, max_clients};
 ghost use Rattle.stm_history.specs.declared.event.What.{What as AnyWhat};
 ghost use Rattle.stm_history.specs.Machine.{event};
@@ -38,6 +38,46 @@ impl Desk {
         self.machine.may_install(message, self.is_full())
     }
 
+    /// Installs a message that nothing refuses. An out-of-memory error hands the message back.
+    #[inline(always)]
+    pub(crate) fn install_allowed(
+        &mut self,
+        client: u32,
+        message: Evaluated,
+    ) -> Result<(), (Evaluated, NoMemory)>
+        requires client { client < max_clients }
+        requires allowed { TellsDeskDelivery None self.old (message_ticket message)
+            (message_block message) (message_reads message) }
+        requires same { IsSomeAnd (find_waiter (message_ticket message) (now self.old).waiters)
+            (λ w. w.block.tree ≡ (message_block message).tree) }
+        ensures done { OnOk result (self.new
+            ≡ with_event self.old (event client
+            (AnyWhat.Installed (message_ticket message) (message_verdict message)))) }
+        ensures back { IfErr result (λ e. e.0 ≡ message) }
+        ensures err { OnErr result (self.new ≡ self.old) }
+        ensures legal { IsLegal self.new.table self.new.history }
+    {
+        match take_memory(&mut self.history, &message) {
+            Ok(told) => {
+                let ticket = message.ticket();
+                match self.machine.install(message) {
+                    Ok(()) => {
+                        self.history.push_reserved(Event {
+                            client,
+                            what: What::Installed {
+                                ticket,
+                                verdict: told,
+                            },
+                        });
+                        Ok(())
+                    }
+                    Err(refused) => Err(refused),
+                }
+            }
+            Err(refused) => Err((message, refused)),
+        }
+    }
+
     /// Installs a message, wherever and whenever it was made: its block is current from then on. The caller's number is
     /// below 128. A refusal hands the message back; after `Overtaken` the ticket is queued.
     pub fn deliver(
@@ -62,24 +102,9 @@ impl Desk {
                 return Err((message, refusal));
             }
         }
-        match take_memory(&mut self.history, &message) {
-            Ok(told) => {
-                let ticket = message.ticket();
-                match self.machine.install(message) {
-                    Ok(()) => {
-                        self.history.push_reserved(Event {
-                            client,
-                            what: What::Installed {
-                                ticket,
-                                verdict: told,
-                            },
-                        });
-                        Ok(())
-                    }
-                    Err((message, _)) => Err((message, DeliverError::NoMemory)),
-                }
-            }
-            Err(_) => Err((message, DeliverError::NoMemory)),
+        match self.install_allowed(client, message) {
+            Ok(()) => Ok(()),
+            Err((message, _)) => Err((message, DeliverError::NoMemory)),
         }
     }
 }

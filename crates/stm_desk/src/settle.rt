@@ -7,12 +7,12 @@ ghost use Rattle.stm_history.specs.SlowSettle.{can_end};
 ghost use Rattle.stm_history.specs.SettleChoices.{some_out, next_due, next_end, ended_then, AreCandidates};
 ghost use Rattle.stm_desk.specs.Seen.{now};
 ghost use Rattle.stm_desk.specs.Settling.{called_back, HasBegun, HasSettled, IsSettled, AllBlock, StopTold};
-ghost use Rattle.stm_desk.specs.Steps.{IsDueMessage, IsNextEvent, WhyTold, StopsDelivery, delivery_why, StopsFinish, finish_why};
+ghost use Rattle.stm_desk.specs.Steps.{IsDueMessage, IsNextEvent, WhyTold, StopsFinish, finish_why};
 
 use crate::desk::Desk;
 use crate::errors::{SettleStop, SettleWhy};
 use stm_eval::Evaluated;
-use stm_history::{DeliverError, FinishError, TicketSet};
+use stm_history::{FinishError, TicketSet};
 use stm_store::Frozen;
 use stm_terms::NoMemory;
 use stm_terms::verdicts::Verdict;
@@ -33,20 +33,6 @@ fn blocks(verdict: &Verdict) -> bool
     match verdict {
         Verdict::Blocks => true,
         _ => false,
-    }
-}
-
-fn why_of_delivery(refusal: DeliverError) -> SettleWhy
-    requires { StopsDelivery refusal }
-    ensures { result ≡ delivery_why refusal }
-{
-    match refusal {
-        DeliverError::HistoryFull => SettleWhy::HistoryFull,
-        DeliverError::NoMemory => SettleWhy::NoMemory,
-        DeliverError::Gone
-        | DeliverError::OtherBlock
-        | DeliverError::Already
-        | DeliverError::Overtaken(_) => unreachable!(),
     }
 }
 
@@ -131,9 +117,12 @@ impl Desk {
             Ok(()) => {}
             Err(_) => return Err(SettleWhy::NoMemory),
         }
-        match self.deliver(client, message) {
+        if self.is_full() {
+            return Err(SettleWhy::HistoryFull);
+        }
+        match self.install_allowed(client, message) {
             Ok(()) => Ok(()),
-            Err((_, refusal)) => Err(why_of_delivery(refusal)),
+            Err(_) => Err(SettleWhy::NoMemory),
         }
     }
 

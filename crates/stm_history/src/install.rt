@@ -104,6 +104,7 @@ impl Machine {
     }
 
     /// Installs a message: its block is current from then on, neither queued nor out. A refusal hands the message back.
+    #[inline(always)]
     pub fn install(&mut self, message: Evaluated) -> Result<(), (Evaluated, NoMemory)>
         requires { (R : AnyRule) × (T : List Declared) × (H : List Event)
             × CanInstallBy R T H self.old message }

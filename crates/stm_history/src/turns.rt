@@ -39,6 +39,7 @@ impl Machine {
     }
 
     /// What the block under a ticket does on the present store, of which an unchanging copy is given.
+    #[inline(always)]
     pub fn evaluated(&self, frozen: &Frozen, ticket: u32) -> Result<Evaluated, NoMemory>
         requires waits { (R : AnyRule) × (T : List Declared) × (H : List Event)
             × StandsForBy R T H self.now × IsSome (find_waiter ticket (state_by R T H).waiters) }

@@ -134,6 +134,7 @@ impl WaitingBlocks {
     }
 
     /// What a delivery brings to a block that waits.
+    #[inline(always)]
     pub(crate) fn hold(&mut self, ticket: u32, held: Held)
         requires { kept_at ticket self.old ≢ None }
         ensures { self.new ≡ with_held ticket held self.old }

@@ -1,5 +1,5 @@
 -- The pairs of the index: as a list in their order, and as a set.
-use Rattle.std.proofs.Common.{◌≡◌, ℕ, cond, Bool, true, false, not, ◌&&◌, ◌||◌, List, [], ◌∷◌, ◌≤◌, ◌^◌, ◌++◌, map, append-nil, eqb-true, refl, sym, ap, ap₂, ◌∙◌, arith}
+use Rattle.std.proofs.Common.{◌≡◌, ℕ, cond, Bool, true, false, not, ◌&&◌, ◌||◌, List, [], ◌∷◌, ◌<◌, ◌≤◌, ◌^◌, ◌++◌, length, get_or, map, append-nil, eqb-true, refl, sym, ap, ap₂, ◌∙◌, arith}
 use Rattle.std.specs.Prelude.{nat_eq, nat_le}
 use Rattle.std.specs.FinSet as set
 use Rattle.std.specs.Ordering.{nat_cmp, ordering_then, is_eq}
@@ -15,7 +15,8 @@ use Rattle.std.proofs.lemmas.Map.Views.{Contains-from_any, list_any-from_Contain
 use Rattle.std.proofs.lemmas.Bool.{false≢true}
 use Rattle.std.specs.BTreeMap.{is_at}
 use Rattle.std.proofs.lemmas.Bool.Decides.{nat_tests}
-use Rattle.stm_watch.specs.Pairs.{pair_cmp, Pairs, has_pair, watches}
+use Rattle.stm_terms.specs.declared.values.Value.{Value}
+use Rattle.stm_watch.specs.Pairs.{pair_cmp, Pairs, has_pair, is_pair_of, watches}
 use Rattle.stm_watch.specs.PairList.{lists, AreTickets}
 
 -- ---- the set and its list
@@ -49,6 +50,17 @@ added_step i k v t a b e = grind (arith, nat_tests)
 
 pub removed_step : (i k v t : ℕ) (a b : Bool) → a ≡ b → cond (is_eq (ordering_then (nat_cmp i v) (nat_cmp k t))) false a ≡ (b && not (nat_eq v i && nat_eq t k))
 removed_step i k v t a b e = grind (arith, nat_tests)
+
+only_bools : (a b : Bool) → (a && b) ≡ (b && (a || false))
+only_bools true true = refl
+only_bools true false = refl
+only_bools false true = refl
+only_bools false false = refl
+
+pub only_read : (reads : List (ℕ × Value)) (d : ℕ × Value) (ticket v t : ℕ) → 1 ≤ length reads → length reads < 2 → (nat_eq v (get_or reads 0 d).0 && nat_eq t ticket) ≡ is_pair_of ticket reads v t
+only_read [] d ticket v t l m = absurd (omega arith)
+only_read (r ∷ []) d ticket v t l m = only_bools (nat_eq v r.0) (nat_eq t ticket)
+only_read (r ∷ s ∷ rs) d ticket v t l m = absurd (omega arith)
 
 -- ---- the pairs of a ticket, of which some are there: fresh is whether the variable's is not
 at_ticket : (ps : List (ℕ × ℕ)) (v t ticket : ℕ) → nat_eq t ticket ≡ true → lists ps v t ≡ lists ps v ticket

@@ -17,7 +17,11 @@ fn has_pair(pairs: &BTreeSet<(u32, u32)>, variable: u32, ticket: u32) -> bool
 }
 
 /// Adds a pair, unless it is there.
-fn add_pair(pairs: &mut BTreeSet<(u32, u32)>, variable: u32, ticket: u32) -> Result<(), NoMemory>
+pub(crate) fn add_pair(
+    pairs: &mut BTreeSet<(u32, u32)>,
+    variable: u32,
+    ticket: u32,
+) -> Result<(), NoMemory>
     ensures ok { OnOk result ((v t : ℕ) →
         lists pairs.new.keys v t
         ≡ (lists pairs.old.keys v t || (nat_eq v variable && nat_eq t ticket))) }
@@ -47,7 +51,7 @@ pub(crate) fn unwatched(
         list_any (nat_eq v) vs.items
         ≡ (is_read reads.now v && not (lists pairs.now.keys v ticket))) }
 {
-    let mut fresh = Vec::with_capacity(alloc, reads.len())?;
+    let mut fresh = Vec::new(alloc);
     for (variable, _) in reads {
         if !has_pair(pairs, *variable, ticket) {
             fresh.push(*variable)?;

@@ -6,7 +6,7 @@ ghost use Rattle.std.specs.List.{list_any};
 ghost use Rattle.std.specs.List.Sorted.{IsStrictlyIncreasing};
 ghost use Rattle.stm_watch.specs.Pairs.{WithReads, WithoutReads, watches};
 
-use crate::pairs::{add_all, push_watchers, remove_all, remove_reads, unwatched};
+use crate::pairs::{add_all, add_pair, push_watchers, remove_all, remove_reads, unwatched};
 use std::alloc::Global;
 use std::collections::BTreeSet;
 use std::marker::Model;
@@ -47,6 +47,17 @@ impl Watch {
 
     /// The ticket watches each variable read; pairs that are there already stay.
     pub fn add(&mut self, ticket: u32, reads: &[(u32, Value)]) -> Result<(), NoMemory>
+        ensures ok { OnOk result (WithReads self.old ticket reads.now self.new) }
+        ensures err { OnErr result (self.new ≡ self.old) }
+    {
+        match reads {
+            [(variable, _)] => add_pair(&mut self.pairs, *variable, ticket),
+            _ => self.add_several(ticket, reads),
+        }
+    }
+
+    /// The same for any number of variables: those that the ticket doesn't watch yet are listed before the first is added.
+    fn add_several(&mut self, ticket: u32, reads: &[(u32, Value)]) -> Result<(), NoMemory>
         ensures ok { OnOk result (WithReads self.old ticket reads.now self.new) }
         ensures err { OnErr result (self.new ≡ self.old) }
     {
