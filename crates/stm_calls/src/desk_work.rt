@@ -11,7 +11,7 @@ use std::fmt::Write;
 use std::thread::Threads;
 use stm_desk::{DeliverError, Desk};
 use stm_eval::{Evaluated, Job, evaluate};
-use stm_pool::{Answer, evaluate_all};
+use stm_pool::{Answer, MAX_WORKERS, evaluate_all};
 use stm_store::Frozen;
 
 /// The jobs of the last call that took some, the copy of the store beside them, the messages made
@@ -171,7 +171,7 @@ pub fn evaluate_by_threads<R: Threads + Sync>(
     workers: usize,
     out: &mut String,
 ) -> Result<(), AllocError> {
-    if workers == 0 || workers > 64 {
+    if workers == 0 || workers > MAX_WORKERS as usize {
         return say("refused no workers", out);
     }
     match &work.frozen {

@@ -5,7 +5,7 @@ ghost use Rattle.std.specs.Prelude.{◌≡◌, ◌<◌, ◌^◌, length, [], OnO
 use crate::words::{kind_of, say};
 use std::alloc::AllocError;
 use stm_log::{Ends, Log};
-use stm_store::Frozen;
+use stm_store::{Frozen, Table};
 use stm_terms::text::write_writes;
 use stm_terms::{Ref, Value, write_value};
 
@@ -36,9 +36,9 @@ pub fn write(log: &mut Log, at: Ref, value: Value) -> Result<bool, AllocError> {
     Ok(true)
 }
 
-/// The reference to a new cell, of which there may be a million.
+/// The reference to a new cell, of which there may be as many as a table may have variables.
 pub fn make(log: &mut Log, value: Value) -> Result<Option<Ref>, AllocError> {
-    if log.made() >= 1_000_000 {
+    if log.made() >= Table::LIMIT {
         return Ok(None);
     }
     Ok(Some(log.make(kind_of(value), value)?))

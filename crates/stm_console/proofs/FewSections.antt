@@ -7,6 +7,7 @@ use Rattle.stm_parse.specs.ExpectationFunction.{parsed_expectation}
 use Rattle.stm_store.specs.Tables.{Declared}
 use Rattle.stm_pool.specs.declared.section.Task.{Task}
 use Rattle.stm_pool.specs.declared.section.Task.TheVariants as task
+use Rattle.stm_pool.specs.Limits.{max_sections}
 use Rattle.stm_console.specs.Arguments.{number_argument}
 use Rattle.stm_console.specs.Blocks.{compiled_block}
 use Rattle.stm_console.specs.Declaring.{variable_of}
@@ -15,49 +16,49 @@ use Rattle.stm_console.specs.declared.storm_word.StormWord.{StormWord}
 use Rattle.stm_console.specs.declared.storm_word.StormWord.TheVariants.{Tvar, Client, Submit, Finish, Cancel, Expect}
 use Rattle.stm_console.specs.LineClass.{LineClass, TooLong, Silent, NotAscii, Words}
 use Rattle.stm_console.specs.ScriptReading.{HasFewSections, after_class_at}
-use Rattle.stm_console.specs.StormScript.{PartialScript, Begun, sections_so_far, most_lines, most_sections, numbered_result, declared_more, after_client, with_task, with_block, submission_of, with_submission, with_expectation, expected_task, after_task, before_sections, after_word, after_words, after_class, storm_word_named}
+use Rattle.stm_console.specs.StormScript.{PartialScript, Begun, sections_so_far, most_lines, numbered_result, declared_more, after_client, with_task, with_block, submission_of, with_submission, with_expectation, expected_task, after_task, before_sections, after_word, after_words, after_class, storm_word_named}
 
 -- a step that leads to a script leads to one with few sections
 abbrev Few : Option PartialScript → Type 0
 Few None = Unit {0}
-Few (Some s) = length (sections_so_far s.ended s.begun) ≤ 64
+Few (Some s) = length (sections_so_far s.ended s.begun) ≤ max_sections
 
 -- the section under way may change, and the variables
-same : (sections : List (List Task)) (b c : Begun) → length (sections ++ b.tasks ∷ []) ≤ 64 → length (sections ++ c.tasks ∷ []) ≤ 64
+same : (sections : List (List Task)) (b c : Begun) → length (sections ++ b.tasks ∷ []) ≤ max_sections → length (sections ++ c.tasks ∷ []) ≤ max_sections
 same sections b c h = omega (arith, length-append sections (b.tasks ∷ []), length-append sections (c.tasks ∷ []))
 
 few_declared : (r : PartialScript) (d : Result Declared Refusal) → HasFewSections r → Few (declared_more r d)
 few_declared r (Ok d) h = h
 few_declared r (Err e) h = tt
 
-one_more : (sections : List (List Task)) → length sections < 64 → length (sections ++ [] ∷ []) ≤ 64
+one_more : (sections : List (List Task)) → length sections < max_sections → length (sections ++ [] ∷ []) ≤ max_sections
 one_more sections h = omega (arith, length-append sections ([] ∷ []))
 
 few_client : (r : PartialScript) (argument : List ℕ) → Few (after_client r argument)
-few_client r argument = by (nat_eq (length argument) 0) (nat_lt (length (sections_so_far r.ended r.begun)) most_sections) refl
+few_client r argument = by (nat_eq (length argument) 0) (nat_lt (length (sections_so_far r.ended r.begun)) max_sections) refl
   where
-    by : (none few : Bool) → nat_lt (length (sections_so_far r.ended r.begun)) most_sections ≡ few
+    by : (none few : Bool) → nat_lt (length (sections_so_far r.ended r.begun)) max_sections ≡ few
         → Few (cond (none && few) (Some (record { table = r.table; ended = sections_so_far r.ended r.begun; begun = Some (record { tasks = []; submissions = 0 }) })) None)
     by false few e = tt
     by true false e = tt
     by true true e = one_more (sections_so_far r.ended r.begun) (grind (arith, nat_tests))
 
-few_block : (r : PartialScript) (b : Begun) (block : Result Block Refusal) → length (r.ended ++ b.tasks ∷ []) ≤ 64 → Few (with_block r b block)
+few_block : (r : PartialScript) (b : Begun) (block : Result Block Refusal) → length (r.ended ++ b.tasks ∷ []) ≤ max_sections → Few (with_block r b block)
 few_block r b (Ok block) h = same r.ended b (record { tasks = b.tasks ++ task.Submit block ∷ []; submissions = b.submissions + 1 }) h
 few_block r b (Err e) h = tt
 
-few_task : (r : PartialScript) (b : Begun) (t : Task) → length (r.ended ++ b.tasks ∷ []) ≤ 64 → Few (Some (with_task r b t))
+few_task : (r : PartialScript) (b : Begun) (t : Task) → length (r.ended ++ b.tasks ∷ []) ≤ max_sections → Few (Some (with_task r b t))
 few_task r b t h = same r.ended b (record { tasks = b.tasks ++ t ∷ []; submissions = b.submissions }) h
 
-few_submission : (r : PartialScript) (b : Begun) (make : ℕ → Task) (k : Option ℕ) → length (r.ended ++ b.tasks ∷ []) ≤ 64 → Few (with_submission r b make k)
+few_submission : (r : PartialScript) (b : Begun) (make : ℕ → Task) (k : Option ℕ) → length (r.ended ++ b.tasks ∷ []) ≤ max_sections → Few (with_submission r b make k)
 few_submission r b make (Some k) h = few_task r b (make k) h
 few_submission r b make None h = tt
 
-few_expectation : (r : PartialScript) (b : Begun) (t : Option Task) → length (r.ended ++ b.tasks ∷ []) ≤ 64 → Few (with_expectation r b t)
+few_expectation : (r : PartialScript) (b : Begun) (t : Option Task) → length (r.ended ++ b.tasks ∷ []) ≤ max_sections → Few (with_expectation r b t)
 few_expectation r b (Some t) h = few_task r b t h
 few_expectation r b None h = tt
 
-few_in_section : (r : PartialScript) (b : Begun) (word : StormWord) (argument : List ℕ) → length (r.ended ++ b.tasks ∷ []) ≤ 64 → Few (after_task r b word argument)
+few_in_section : (r : PartialScript) (b : Begun) (word : StormWord) (argument : List ℕ) → length (r.ended ++ b.tasks ∷ []) ≤ max_sections → Few (after_task r b word argument)
 few_in_section r b Tvar argument h = tt
 few_in_section r b Client argument h = few_client r argument
 few_in_section r b Submit argument h = few_block r b (compiled_block r.table argument) h
@@ -75,7 +76,7 @@ few_before r Expect argument h = tt
 
 few_word : (r : PartialScript) (begun : Option Begun) (word : StormWord) (argument : List ℕ) → r.begun ≡ begun → HasFewSections r → Few (after_word r begun word argument)
 few_word r None word argument e h = few_before r word argument h
-few_word r (Some b) word argument e h = few_in_section r b word argument (subst (λ (x : Option Begun). length (sections_so_far r.ended x) ≤ 64) e h)
+few_word r (Some b) word argument e h = few_in_section r b word argument (subst (λ (x : Option Begun). length (sections_so_far r.ended x) ≤ max_sections) e h)
 
 few_words : (r : PartialScript) (word : Option StormWord) (argument : List ℕ) → HasFewSections r → Few (after_words r word argument)
 few_words r (Some word) argument h = few_word r r.begun word argument refl h

@@ -4,17 +4,17 @@ use Rattle.std.proofs.lemmas.Bool.{lt-ltb}
 use Rattle.std.proofs.lemmas.List.{length-take-le}
 use Rattle.std.specs.Io.BufRead.{ends_with_byte}
 use Rattle.std.specs.Prelude.{nat_eq}
-use Rattle.stm_console.specs.LineClass.{TooLong, line_class}
+use Rattle.stm_console.specs.LineClass.{TooLong, longest_line, line_class}
 use Rattle.stm_console.specs.Lines.{drop_return, lines_from, whole_lines_from, last_lines}
 use Rattle.stm_console.specs.declared.console.Console.{Console}
 use Rattle.stm_console.specs.Console.{answer_to, state_after, answers_to, answer_to_class, state_after_class}
 
 -- a line that is too long is judged so, whatever its bytes
-pub judged-too_long : (line : List ℕ) → 65536 < length line → line_class line ≡ TooLong
+pub judged-too_long : (line : List ℕ) → longest_line < length line → line_class line ≡ TooLong
 unfolding line_class
-judged-too_long line h = rw (lt-ltb 65536 (length line) h) refl
+judged-too_long line h = rw (lt-ltb longest_line (length line) h) refl
 
-answers_to-too_long : (s : Console) (a b : List ℕ) (rest : List (List ℕ)) → 65536 < length a → 65536 < length b → answers_to s (a ∷ rest) ≡ answers_to s (b ∷ rest)
+answers_to-too_long : (s : Console) (a b : List ℕ) (rest : List (List ℕ)) → longest_line < length a → longest_line < length b → answers_to s (a ∷ rest) ≡ answers_to s (b ∷ rest)
 unfolding answer_to state_after
 answers_to-too_long s a b rest h k = ap (λ j. answer_to_class s j ++ answers_to (state_after_class s j) rest) (judged-too_long a h ∙ sym (judged-too_long b k))
 
@@ -26,9 +26,9 @@ length-drop_return line = elim (ends_with_byte 13 line) as (λ t. length line �
 
 -- so many bytes that no carriage return can make them a line
 abbrev pub Long : List ℕ → Type 0
-Long line = 65538 ≤ length line
+Long line = longest_line + 2 ≤ length line
 
-pub drop_return-long : (line : List ℕ) → Long line → 65536 < length (drop_return line)
+pub drop_return-long : (line : List ℕ) → Long line → longest_line < length (drop_return line)
 drop_return-long line h = omega (arith, length-drop_return line)
 
 last_lines-long : (s : Console) (a b : List ℕ) → Long a → Long b → answers_to s (last_lines a) ≡ answers_to s (last_lines b)

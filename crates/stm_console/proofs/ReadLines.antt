@@ -9,7 +9,7 @@ use Rattle.std.specs.Prelude.{nat_eq, not, Bool, MatchBool}
 use Rattle.memchr.specs.Find.{IsFirstByte, is_byte}
 use Rattle.stm_console.proofs.Chunks.{split-at}
 use Rattle.stm_console.proofs.LongLines.{Long, judged-too_long, drop_return-long, more-long}
-use Rattle.stm_console.specs.LineClass.{line_class}
+use Rattle.stm_console.specs.LineClass.{longest_line, line_class}
 use Rattle.stm_console.specs.LineReading.{classes_from, HasBegunLine, IsNextLine, IsNoLine}
 use Rattle.stm_console.specs.Lines.{drop_return, lines_from, last_lines}
 use Rattle.stm_console.specs.Streaming.{NoLineFeed}
@@ -29,7 +29,7 @@ part begun (b ∷ bytes) more h =
     let others : NoLineFeed bytes = All-tail (λ b. b ≢ 10) b bytes h in
     byte begun b (bytes ++ more) first ∙ part (begun ++ b ∷ []) bytes more others ∙ ap (λ l. lines_from l more) (append_assoc begun (b ∷ []) bytes)
 
-both_long : (a b : List ℕ) → 65536 < length a → 65536 < length b → line_class a ≡ line_class b
+both_long : (a b : List ℕ) → longest_line < length a → longest_line < length b → line_class a ≡ line_class b
 both_long a b h k = judged-too_long a h ∙ sym (judged-too_long b k)
 
 last-long : (a b : List ℕ) → Long a → Long b → map line_class (last_lines a) ≡ map line_class (last_lines b)

@@ -9,7 +9,9 @@ use Rattle.clap.specs.Words.{App, Kinds, fault_of, new_app, new_rule, subcommand
 use Rattle.clap.specs.declared.builder.value_parser.ValueParser.TheVariants.{Signed}
 use Rattle.clap.specs.declared.error.kind.ErrorKind.{ErrorKind}
 use Rattle.clap.specs.declared.error.kind.ErrorKind.TheVariants.{DisplayHelp, DisplayVersion}
+use Rattle.stm_eval.specs.Limits.{max_levels}
 use Rattle.stm_history.specs.SlowDesk.{max_events}
+use Rattle.stm_pool.specs.Limits.{max_workers}
 use Rattle.stm_console.specs.declared.command_line.Request.{Request}
 use Rattle.stm_console.specs.declared.command_line.Request.TheVariants.{Run, Storm, Check}
 use Rattle.stm_console.specs.declared.options.Options.{Options}
@@ -36,8 +38,8 @@ number_option name low high default = record (new_rule name) {
 -- a command with the options of a run: `--workers`, `--levels` and `--max-events`
 abbrev pub with_options : App → App
 with_options command = with_rule (with_rule (with_rule command
-    (number_option (codes "workers") 1 64 (codes "2")))
-    (number_option (codes "levels") 0 8 (codes "0")))
+    (number_option (codes "workers") 1 max_workers (codes "2")))
+    (number_option (codes "levels") 0 max_levels (codes "0")))
     (number_option (codes "max-events") 0 max_events (codes "1048576"))
 
 -- `run` with its options
@@ -106,8 +108,8 @@ number_said name low high otherwise rows =
 -- the options that are said for a run or a storm, with the defaults for the others
 abbrev pub options_said : List Row → Options
 options_said rows = record {
-  workers = number_said (codes "workers") 1 64 2 rows;
-  levels = number_said (codes "levels") 0 8 0 rows;
+  workers = number_said (codes "workers") 1 max_workers 2 rows;
+  levels = number_said (codes "levels") 0 max_levels 0 rows;
   max_events = number_said (codes "max-events") 0 max_events max_events rows;
 }
 

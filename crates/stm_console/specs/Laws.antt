@@ -1,8 +1,10 @@
 -- The console's text has no gap: each line that says something is answered. And which words ask for a run, a storm
 -- or a check, and what they say.
 use Rattle.std.specs.Prelude.{◌≡◌, ◌≢◌, ◌≤◌, ◌<◌, ◌^◌, ℕ, List, [], ◌∷◌, ◌++◌, Some, IsSome, slice_get, codes, decimal, IsTrue}
+use Rattle.stm_eval.specs.Limits.{max_levels}
 use Rattle.stm_history.specs.SlowDesk as slow
 use Rattle.stm_desk.specs.Seen.{now}
+use Rattle.stm_pool.specs.Limits.{max_workers}
 use Rattle.stm_console.specs.declared.console.Console.{Console}
 use Rattle.stm_console.specs.declared.command_line.Request.TheVariants.{Run, Storm, Check}
 use Rattle.stm_console.specs.declared.options.Options.{Options}
@@ -93,15 +95,15 @@ IsTaken words options = (answers_of words ≡ []) × (request_of words ≡ Run o
 -- a number in an option's range is taken, and is that of the run
 abbrev pub NumbersAreTaken : Type 0
 NumbersAreTaken = (name : List ℕ) (n : ℕ)
-    → (1 ≤ n → n ≤ 64 → IsTaken (run_with name (codes "--workers=") n) (record default_options { workers = n }))
-    × (n ≤ 8 → IsTaken (run_with name (codes "--levels=") n) (record default_options { levels = n }))
+    → (1 ≤ n → n ≤ max_workers → IsTaken (run_with name (codes "--workers=") n) (record default_options { workers = n }))
+    × (n ≤ max_levels → IsTaken (run_with name (codes "--levels=") n) (record default_options { levels = n }))
     × (n ≤ slow.max_events → IsTaken (run_with name (codes "--max-events=") n) (record default_options { max_events = n }))
 
 -- any other of 64 bits is refused
 abbrev pub OthersAreRefused : Type 0
 OthersAreRefused = (name : List ℕ) (n : ℕ) → n < 2 ^ 64
-    → ((1 ≤ n → n ≤ 64 → ⊥) → IsTrue (has_mistake (run_with name (codes "--workers=") n)))
-    × (8 < n → IsTrue (has_mistake (run_with name (codes "--levels=") n)))
+    → ((1 ≤ n → n ≤ max_workers → ⊥) → IsTrue (has_mistake (run_with name (codes "--workers=") n)))
+    × (max_levels < n → IsTrue (has_mistake (run_with name (codes "--levels=") n)))
     × (slow.max_events < n → IsTrue (has_mistake (run_with name (codes "--max-events=") n)))
 
 -- an option twice is refused, whatever stands behind it

@@ -39,10 +39,14 @@ pub data LineClass : Type 0 where
 unfoldable pub class_of_words : List ℕ → LineClass
 class_of_words text = Words (take (command_len text) text) (skip_blanks (drop (command_len text) text))
 
--- the first that holds: more than 65,536 bytes; a comment, or blanks alone; a byte over 127; and else two words
+-- the most bytes of a line
+abbrev pub longest_line : ℕ
+longest_line = 65536
+
+-- the first that holds: more bytes than a line may have; a comment, or blanks alone; a byte over 127; and else two words
 unfoldable pub line_class : List ℕ → LineClass
 line_class line =
-    if nat_lt 65536 (length line) then TooLong
+    if nat_lt longest_line (length line) then TooLong
     else if starts_comment line then Silent
     else if length (skip_blanks line) == 0 then Silent
     else if has_high_byte line then NotAscii

@@ -1,13 +1,15 @@
 -- The options of a run.
 use Rattle.std.specs.Prelude.{◌≤◌, ◌<◌}
+use Rattle.stm_eval.specs.Limits.{max_levels}
 use Rattle.stm_history.specs.SlowDesk.{max_events}
+use Rattle.stm_pool.specs.Limits.{max_workers}
 use Rattle.stm_console.specs.declared.options.Options.{Options}
 
 -- each is in its range
 pub record AreRunOptions (o : Options) : Type 0 where
   pub some_worker : 0 < o.workers
-  pub few_workers : o.workers ≤ 64
-  pub few_levels : o.levels ≤ 8
+  pub few_workers : o.workers ≤ max_workers
+  pub few_levels : o.levels ≤ max_levels
   pub few_events : o.max_events ≤ max_events
 
 -- the options where nothing is said

@@ -3,6 +3,7 @@ use Rattle.std.specs.Prelude.{◌≡◌, ◌≤◌, ℕ, ◌+◌, nat_lt, List, 
 use Rattle.stm_store.specs.Tables.{Declared}
 use Rattle.stm_pool.specs.declared.section.Section.{Section}
 use Rattle.stm_pool.specs.declared.section.Task.{Task}
+use Rattle.stm_pool.specs.Limits.{max_sections}
 use Rattle.stm_console.specs.declared.script_line.LineFault.{LineFault}
 use Rattle.stm_console.specs.declared.script_line.LineFault.TheVariants.{Faulty, NoMemory}
 use Rattle.stm_console.specs.declared.script_so_far.ScriptSoFar.{ScriptSoFar}
@@ -39,7 +40,7 @@ script_of s = record { table = s.table; sections = map tasks_of s.sections.items
 
 -- no more sections have begun than a script may have
 abbrev pub HasFewSections : PartialScript → Type 0
-HasFewSections r = length (sections_so_far r.ended r.begun) ≤ 64
+HasFewSections r = length (sections_so_far r.ended r.begun) ≤ max_sections
 
 -- ---- lines by their judgement alone
 -- what a line that is judged so leads to, with its number

@@ -9,6 +9,7 @@ use Rattle.stm_parse.specs.Expectations.{ParsedExpectation}
 use Rattle.stm_store.specs.Tables.{Declared, declared_cells, number_of, is_of}
 use Rattle.stm_pool.specs.declared.section.Task.{Task}
 use Rattle.stm_pool.specs.declared.section.Task.TheVariants as task
+use Rattle.stm_pool.specs.Limits.{max_sections}
 use Rattle.stm_console.specs.declared.refusal.Refusal.{Refusal}
 use Rattle.stm_console.specs.declared.storm_word.StormWord.{StormWord}
 use Rattle.stm_console.specs.declared.storm_word.StormWord.TheVariants.{Tvar, Client, Submit, Finish, Cancel, Expect}
@@ -60,14 +61,10 @@ abbrev pub sections_so_far : List (List Task) → Option Begun → List (List Ta
 sections_so_far ended None = ended
 sections_so_far ended (Some b) = ended ++ b.tasks ∷ []
 
--- how many sections a script may have
-abbrev pub most_sections : ℕ
-most_sections = 64
-
 -- `client`: the next section begins
 abbrev pub after_client : PartialScript → List ℕ → Option PartialScript
 after_client r argument =
-    if (length argument == 0) && nat_lt (length (sections_so_far r.ended r.begun)) most_sections
+    if (length argument == 0) && nat_lt (length (sections_so_far r.ended r.begun)) max_sections
     then Some (record {
       table = r.table;
       ended = sections_so_far r.ended r.begun;

@@ -17,10 +17,10 @@ pub struct Options {
 
 impl Options {
     /// The most threads.
-    pub const MAX_WORKERS: u32 = 64;
+    pub const MAX_WORKERS: u32 = stm_pool::MAX_WORKERS;
 
     /// The deepest branches.
-    pub const MAX_LEVELS: u32 = 8;
+    pub const MAX_LEVELS: u32 = stm_eval::MAX_LEVELS;
 
     /// The most events.
     pub const MAX_EVENTS: u32 = Desk::MAX_EVENTS;

@@ -6,7 +6,8 @@
 //! does depends on what it reads alone, left branches and actions that were rolled back included.
 //!
 //! What a reader has to believe stands in `specs/`: `Messages` (when a message is true, and what holds of a block on a store),
-//! `EvaluatedFields` (the parts of a message) and `Laws`.
+//! `EvaluatedFields` (the parts of a message), `Limits` (how many levels of `orElse` may be evaluated with both branches at
+//! once) and `Laws`.
 #![tactic(auto)]
 
 pub mod block;
@@ -21,7 +22,7 @@ mod primitives;
 
 pub use block::{try_action, try_block};
 pub use evaluate_job::evaluate;
-pub use forked::evaluate_forked;
+pub use forked::{MAX_LEVELS, evaluate_forked};
 pub use job::Job;
 pub use message::Evaluated;
 pub use stm_log::Reads;

@@ -1,8 +1,10 @@
 //! Many jobs at once.
 
 ghost use Rattle.std.specs.Prelude.{◌≡◌, ℕ, ◌<◌, ◌≤◌, All, vec_len, slice_index_or, IfOk, IfErr};
+ghost use Rattle.stm_eval.specs.Limits.{max_levels};
 ghost use Rattle.stm_history.specs.JobsHandedOut.{AreCovered};
 ghost use Rattle.stm_pool.specs.Answers.{AnswersJob};
+ghost use Rattle.stm_pool.specs.Limits.{max_workers};
 ghost use Rattle.stm_pool.specs.Slots.{IsWorked, IsReady};
 
 use crate::slot::{Slot, answers_of, slots_of, work_on};
@@ -12,6 +14,9 @@ use std::thread::Threads;
 use stm_eval::{Evaluated, Job};
 use stm_store::Frozen;
 use stm_terms::NoMemory;
+
+/// How many threads may evaluate blocks.
+pub const MAX_WORKERS: u32 = 64;
 
 /// A job's message, or the job back where memory ran out.
 pub type Answer = Result<Evaluated, (Job, NoMemory)>;
@@ -25,7 +30,7 @@ fn work_all<R: Threads + Sync>(
     levels: u32,
 )
     requires some { 0 < workers }
-    requires levels { levels ≤ 8 }
+    requires levels { levels ≤ max_levels }
     requires ready { All (λ s. IsReady frozen.now s) slots.old.items }
     ensures len { vec_len slots.new ≡ vec_len slots.old }
     ensures each { (k : ℕ) (d : _) → k < vec_len slots.old → IsWorked frozen.now
@@ -36,7 +41,7 @@ fn work_all<R: Threads + Sync>(
         slots.as_mut_slice(),
         workers,
         &|_, slot|
-            requires levels { levels ≤ 8 }
+            requires levels { levels ≤ max_levels }
             requires ready { IsReady frozen.now slot.old }
         { work_on(rt, alloc, frozen, slot, levels) },
     );
@@ -55,8 +60,8 @@ pub fn evaluate_all<R: Threads + Sync>(
     workers: usize,
     levels: u32,
 ) -> Result<Vec<Answer>, (Vec<Job>, NoMemory)>
-    requires workers { (0 < workers) × (workers ≤ 64) }
-    requires levels { levels ≤ 8 }
+    requires workers { (0 < workers) × (workers ≤ max_workers) }
+    requires levels { levels ≤ max_levels }
     requires covered { AreCovered frozen.now jobs.items }
     ensures len { IfOk result (λ v. vec_len v ≡ vec_len jobs) }
     ensures each { IfOk result (λ v. (k : ℕ) (d : _) (e : _) → k < vec_len jobs → AnswersJob

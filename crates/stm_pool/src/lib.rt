@@ -15,7 +15,8 @@
 //! a job, `specs/Own` what a pass knows of its client's events and when a history has them,
 //! `specs/Shown` what a view shows a client, `specs/Found` what store comes with a job that a
 //! worker finds, `specs/Worked` what a worker adds to its pass, and `specs/Storms` what a storm's
-//! counts and its replay tell of the history.
+//! counts and its replay tell of the history. `specs/Limits` says how many workers and sections
+//! there may be.
 #![tactic(auto)]
 
 // Many jobs at once.
@@ -40,7 +41,7 @@ pub mod section;
 pub mod storm;
 mod threads;
 
-pub use all::{Answer, evaluate_all};
+pub use all::{Answer, MAX_WORKERS, evaluate_all};
 pub use calls::Next;
 pub use close::Report;
 pub use errors::{CloseError, ViewError};
@@ -48,5 +49,5 @@ pub use guarded::{Guarded, View};
 pub use pass::Pass;
 pub use section::{Section, Task};
 pub use shared::SharedDesk;
-pub use storm::{Counts, Replay, StormEnd, run_storm};
+pub use storm::{Counts, MAX_SECTIONS, Replay, StormEnd, run_storm};
 pub use worker::{Gate, WorkEnd, work};

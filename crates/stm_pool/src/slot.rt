@@ -1,6 +1,7 @@
 //! The place in which a job is evaluated.
 
 ghost use Rattle.std.specs.Prelude.{◌≡◌, ℕ, ◌<◌, ◌≤◌, [], map, vec_len, vec_capacity, slice_index_or, IfOk, IfErr};
+ghost use Rattle.stm_eval.specs.Limits.{max_levels};
 ghost use Rattle.stm_pool.specs.Slots.{IsWorked, IsDone, IsReady, todo, slot_of};
 
 use crate::all::Answer;
@@ -28,7 +29,7 @@ pub(crate) fn work_on<R: Threads + Sync>(
     slot: &mut Slot,
     levels: u32,
 )
-    requires levels { levels ≤ 8 }
+    requires levels { levels ≤ max_levels }
     requires ready { IsReady frozen.now slot.old }
     ensures { IsWorked frozen.now slot.old slot.new }
 {

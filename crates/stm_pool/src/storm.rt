@@ -2,8 +2,10 @@
 //! leave.
 
 ghost use Rattle.std.specs.Prelude.{◌≡◌, ◌+◌, ◌<◌, ◌≤◌, length, vec_len, IfOk};
+ghost use Rattle.stm_eval.specs.Limits.{max_levels};
 ghost use Rattle.stm_history.specs.SlowDesk.{max_events as most_events};
 ghost use Rattle.stm_pool.specs.Counted.{CountsPasses, IsReplayed};
+ghost use Rattle.stm_pool.specs.Limits.{max_sections, max_workers};
 ghost use Rattle.stm_pool.specs.Storms.{IsStormEnd};
 
 use crate::close::Report;
@@ -20,6 +22,9 @@ use std::thread::Threads;
 use stm_history::{HistoryFault, replay};
 use stm_store::Table;
 use stm_terms::NoMemory;
+
+/// How many sections a storm may have.
+pub const MAX_SECTIONS: usize = 64;
 
 /// What the tasks of a client came to. A task counts under one of them, or, where an expected value
 /// was there, under none.
@@ -117,8 +122,8 @@ fn storm_with<L: Ledger + Send + Sync, R: Threads + Wait + Sync>(
 ) -> Result<StormEnd, NoMemory>
     requires name { blank.name ≡ L.name }
     requires parts { (blank.parts ≡ L.parts) × (blank.parts ≡ vec_len sections + workers) }
-    requires few { (vec_len sections ≤ 64) × (workers ≤ 64) }
-    requires levels { levels ≤ 8 }
+    requires few { (vec_len sections ≤ max_sections) × (workers ≤ max_workers) }
+    requires levels { levels ≤ max_levels }
     requires events { max_events ≤ most_events }
     ensures each { IfOk result (λ e. vec_len e.counts ≡ vec_len sections) }
     ensures end { IfOk result (λ e. IsStormEnd table.now e.counts.items e.replay) }
@@ -147,8 +152,8 @@ pub fn run_storm<R: Threads + Wait + Sync>(
     levels: u32,
     max_events: u32,
 ) -> Result<StormEnd, NoMemory>
-    requires few { (vec_len sections ≤ 64) × ((0 < workers) × (workers ≤ 64)) }
-    requires levels { levels ≤ 8 }
+    requires few { (vec_len sections ≤ max_sections) × ((0 < workers) × (workers ≤ max_workers)) }
+    requires levels { levels ≤ max_levels }
     requires events { max_events ≤ most_events }
     ensures each { IfOk result (λ e. vec_len e.counts ≡ vec_len sections) }
     // A history that is legal over the table, and what the counts tell of each client is what the

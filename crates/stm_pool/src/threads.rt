@@ -2,6 +2,7 @@
 
 ghost use Rattle.std.specs.Prelude.{◌≤◌, vec_len};
 ghost use Rattle.std.specs.Thread.{IsSync};
+ghost use Rattle.stm_eval.specs.Limits.{max_levels};
 
 use crate::client::{Extra, do_section};
 use crate::pass::Pass;
@@ -68,7 +69,7 @@ fn run_worker<'a, 'b, L: Ledger, R: Threads + Wait + Sync>(
     errand: Errand<'a, 'b, L, R>,
     levels: u32,
 ) -> WorkerEnd<L>
-    requires { levels ≤ 8 }
+    requires { levels ≤ max_levels }
 {
     let Errand {
         rt,
@@ -135,14 +136,14 @@ pub(crate) fn run_all<L: Ledger + Send + Sync, R: Threads + Wait + Sync>(
     sections: Vec<Section>,
     levels: u32,
 ) -> Returned<L>
-    requires { levels ≤ 8 }
+    requires { levels ≤ max_levels }
 {
     thread::scope(
         thread::scope_env(),
         rt,
         |scope| -> Returned<L>
             requires sync { IsSync R.row }
-            requires levels { levels ≤ 8 }
+            requires levels { levels ≤ max_levels }
         {
             let mut clients = Vec::new(alloc);
             let mut workers = Vec::new(alloc);
@@ -162,7 +163,7 @@ pub(crate) fn run_all<L: Ledger + Send + Sync, R: Threads + Wait + Sync>(
                     None => {
                         let spawned = scope.spawn(
                             move || -> WorkerEnd<L>
-                                requires { levels ≤ 8 }
+                                requires { levels ≤ max_levels }
                             { run_worker(errand, levels) },
                         );
                         keep(rt, shared, &mut workers, spawned.ok());

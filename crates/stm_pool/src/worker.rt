@@ -1,6 +1,7 @@
 //! A worker: it evaluates what is queued until the desk is stopped.
 
 ghost use Rattle.std.specs.Prelude.{◌≡◌, ◌≤◌, Some};
+ghost use Rattle.stm_eval.specs.Limits.{max_levels};
 ghost use Rattle.stm_pool.specs.Worked.{Worked};
 
 use crate::calls::Next;
@@ -40,7 +41,7 @@ pub fn work<L: Ledger, G: Gate<R>, R: Wait + Threads + Sync>(
     pass: Pass<L>,
     levels: u32,
 ) -> (Pass<L>, WorkEnd)
-    requires { levels ≤ 8 }
+    requires { levels ≤ max_levels }
     ensures { Worked pass result.0 }
 {
     let mut pass = pass;
@@ -62,7 +63,7 @@ fn round<L: Ledger, G: Gate<R>, R: Wait + Threads + Sync>(
     pass: &mut Pass<L>,
     levels: u32,
 ) -> Option<WorkEnd>
-    requires { levels ≤ 8 }
+    requires { levels ≤ max_levels }
     ensures { Worked pass.old pass.new }
 {
     let (store, job) = match shared.next_job(rt) {
