@@ -68,7 +68,6 @@ def judge(program, case):
         bufsize=0,
         stdin=subprocess.PIPE,
         stdout=subprocess.PIPE,
-        preexec_fn=transcript.small_stack,
     ) as running:
         watchdog = threading.Timer(transcript.SECONDS, running.kill)
         watchdog.start()

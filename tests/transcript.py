@@ -13,6 +13,9 @@ STACK = 2 << 20  # bytes, as much as a thread has
 SMALL = 1 << 20  # bytes of a case's input or answers
 ENCODING = "latin-1"  # a character of a transcript is a byte
 
+# Programs that are started take this process's limit over. Set here it costs each start nothing.
+resource.setrlimit(resource.RLIMIT_STACK, (STACK, resource.getrlimit(resource.RLIMIT_STACK)[1]))
+
 
 class Case:
     """What a program is given and has to do."""
@@ -117,20 +120,13 @@ def read(path):
     return parsed(path.name, path.read_text(ENCODING).split("\n")[:-1])
 
 
-def small_stack():
-    _, most = resource.getrlimit(resource.RLIMIT_STACK)
-    resource.setrlimit(resource.RLIMIT_STACK, (STACK, most))
-
-
 def run(program, case, environment=None):
     """The finished process of a case, with `taken`, how many bytes of its input it took."""
     with tempfile.TemporaryFile() as text:
         text.write(case.text)
         text.seek(0)
         command = [program] + case.words
-        done = subprocess.run(
-            command, stdin=text, capture_output=True, timeout=SECONDS, env=environment, preexec_fn=small_stack
-        )
+        done = subprocess.run(command, stdin=text, capture_output=True, timeout=SECONDS, env=environment)
         done.taken = os.lseek(text.fileno(), 0, os.SEEK_CUR)
     return done
 

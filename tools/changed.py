@@ -9,24 +9,25 @@ import repository
 
 ROOT = repository.ROOT
 SECOND = "second-tier edit"
-# What is run on the built programs: what is shown, the script, and the program that it is given, if it is.
+RUN_WEIGHT = 1000  # of a run, beside the lines of a crate's proof
+# What is run: what is shown, the script, the program that it is given, if it is, and the crates that it stands on.
 RUNS = [
-    ("cases and examples", "tests/run_cases", "stmdesk"),
-    ("the Python client", "clients/python/test_stmdesk.py", "stmdesk"),
-    ("drawings of histories", "tests/run_timeline", "stmdesk"),
-    ("the library's example", "tests/run_library", None),
-    ("calls", "tests/run_calls", "stm_calls"),
-    ("each allocation refused in turn", "tests/refused", None),
+    ("cases and examples", "tests/run_cases", "stmdesk", ["stmdesk"]),
+    ("the Python client", "clients/python/test_stmdesk.py", "stmdesk", ["stmdesk"]),
+    ("drawings of histories", "tests/run_timeline", "stmdesk", ["stmdesk"]),
+    ("the library's example", "tests/run_library", None, ["stm_desk"]),
+    ("calls", "tests/run_calls", "stm_calls", ["stm_calls"]),
+    ("each allocation refused in turn", "tests/refused", None, ["stmdesk", "stm_calls"]),
 ]
 
 
 def runs(root=ROOT, quick=False):
-    """The runs on built programs that are there: what each shows, and its command in the repository."""
+    """The runs that are there: what each shows, its command in the repository, and the crates that it stands on."""
     found = []
-    for shown, script, program in RUNS:
+    for shown, script, program, crates in RUNS:
         if (root / script).exists():
             words = [f"crates/{program}/out/{program}"] if program else ["--quick"] * (quick and script == "tests/refused")
-            found.append((shown, [sys.executable, script] + words))
+            found.append((shown, [sys.executable, script] + words, crates))
     return found
 
 
@@ -67,28 +68,30 @@ def of_crate(crate, anew=False):
     return made
 
 
-def of_runs(programs):
-    """The parts that run the programs."""
+def of_runs():
+    """The parts that run what is built."""
     texts = [it for it in sorted((ROOT / "tests").iterdir()) if it.name not in ("edits", "budget", "__pycache__")]
     texts += [ROOT / it for it in ("clients", "tools/timeline", "examples", "README.md", "docs")]
-    key = lambda: repository.digest(*(it.digest() for it in programs), *map(repository.contents, texts))
-    after = [f"proof {it.name}" for it in programs]
-    return [parts.Part(shown, lambda jobs, it=command: on_programs(it), [key], after) for shown, command in runs(quick=True)]
+    known, made = repository.crates(), []
+    for shown, command, names in runs(quick=True):
+        key = lambda names=names: repository.digest(*(known[it].digest() for it in names), *map(repository.contents, texts))
+        work = lambda jobs, it=command: on_programs(it)
+        made.append(parts.Part(shown, work, [key], [f"proof {it}" for it in names], RUN_WEIGHT))
+    return made
 
 
 def all_parts(again=()):
     """All parts, each behind those that it waits for. The crates named are proved again though they passed."""
     crates = repository.crates().values()
-    made = [part for it in crates for part in of_crate(it, it.name in again)]
-    return made + of_runs([it for it in crates if it.is_program])
+    return [part for it in crates for part in of_crate(it, it.name in again)] + of_runs()
 
 
 def lacking(ledger):
     """The crates whose proofs passed, while what they build is needed by a part that didn't, and isn't there."""
     crates = repository.crates().values()
     is_stale = lambda part: ledger.find(part.name, part.keys[0]()) is None
-    programs = [it for it in crates if it.is_program]
-    found = {it.name for it in programs} if any(map(is_stale, of_runs(programs))) else set()
+    is_run = any(map(is_stale, of_runs()))
+    found = {it.name for it in crates if it.is_program and is_run}
     for crate in crates:
         if crate.name in found or any(map(is_stale, of_crate(crate))):
             found |= {it.name for it in crate.below if not it.is_built()}

@@ -9,6 +9,7 @@ import os
 import subprocess
 import sys
 import threading
+import time
 from concurrent.futures import FIRST_COMPLETED, ThreadPoolExecutor, wait
 
 MEMORY = 3 << 30  # bytes that one check may take
@@ -88,7 +89,7 @@ def run_parts(parts, ledger=None, at_once=0, tell=print):
         while left or running:
             ready = [it for it in left if all(low in given for low in it.after)]
             for at, part in enumerate(ready):
-                idle = at_once - sum(jobs for _, jobs in running.values())
+                idle = at_once - sum(jobs for _, jobs, _ in running.values())
                 if idle < 1:
                     break
                 left.remove(part)
@@ -98,13 +99,14 @@ def run_parts(parts, ledger=None, at_once=0, tell=print):
                     tell(f"FAILED {part.name}: not run, since {lacking[0]} failed")
                     continue
                 jobs = max(1, min(part.most_jobs, idle // (len(ready) - at)))
-                running[pool.submit(judged, part, ledger, jobs)] = part, jobs
+                running[pool.submit(judged, part, ledger, jobs)] = part, jobs, time.monotonic()
             for it in wait(running, return_when=FIRST_COMPLETED).done if running else ():
-                part, _ = running.pop(it)
+                part, _, begun = running.pop(it)
                 *counts, text = it.result()
                 given[part.name] = counts
                 if counts[0] + counts[1]:
-                    tell(f"{'FAILED' if counts[1] else 'passed'} {part.name}" + (f": {text}" if text else ""))
+                    took = f"{time.monotonic() - begun:.0f} s"
+                    tell(f"{'FAILED' if counts[1] else 'passed'} {part.name}, {took}" + (f": {text}" if text else ""))
     return [sum(it[at] for it in given.values()) for at in range(3)]
 
 

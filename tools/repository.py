@@ -29,6 +29,8 @@ class Crate:
         self.is_program = (self.folder / "src" / "main.rt").exists()
         self.has_tests = any(b"#[test]" in it.read_bytes() for it in self.folder.glob("src/**/*.rt"))
         self.weight = sum(it.read_bytes().count(b"\n") for part in TEXTS for it in files(self.folder / part))
+        if self.is_program:  # what stands below is compiled with it
+            self.weight += sum(it.weight for it in below) // 8
 
     def edits(self):
         """The wrong bodies that the prover must refuse: those of the first tier, and those of the second."""
