@@ -1,5 +1,6 @@
 -- What delivering the answers of jobs does, one after another.
-use Rattle.std.proofs.Common.{◌≡◌, ℕ, suc, ◌+◌, ◌<◌, true, false, List, [], ◌∷◌, Option, Some, None, Result, map, length, get_or, ap, ◌∙◌, arith}
+use Rattle.std.proofs.Common.{◌≡◌, ℕ, suc, ◌+◌, ◌<◌, ◌≤◌, true, false, List, [], ◌∷◌, ◌++◌, Option, Some, None, Result, map, length, get_or, refl, sym, ap, ◌∙◌, append_assoc, append-nil, arith}
+use Rattle.std.proofs.lemmas.List.{map-append, length-append}
 use Rattle.std.specs.Option.{is_some}
 use Rattle.std.specs.declared.alloc.AllocError.{AllocError}
 use Rattle.stm_terms.specs.declared.kinds.Ty.{Ty}
@@ -8,6 +9,7 @@ use Rattle.stm_eval.specs.declared.job.Job.{Job}
 use Rattle.stm_eval.specs.declared.message.Evaluated.{Evaluated}
 use Rattle.stm_eval.specs.EvaluatedFields.{message_ticket, message_block, message_reads}
 use Rattle.stm_history.specs.declared.errors.DeliverError.{DeliverError}
+use Rattle.stm_history.specs.JobsHandedOut.{AreCovered}
 use Rattle.stm_history.specs.Laws.{BlocksStay}
 use Rattle.stm_history.specs.SlowDesk.{IsLegal}
 use Rattle.stm_pool.specs.Answers.{IsMessageOf, AnswersJob}
@@ -15,6 +17,7 @@ use Rattle.stm_desk.specs.Refusals.{TellsDeskDelivery, left_by}
 use Rattle.stm_desk.specs.Seen.{Seen}
 use Rattle.stm_console.specs.Delivering.{Delivered, delivered_by, delivered_next, delivered_all, handed_back, delivery_refusal}
 use Rattle.stm_console.specs.Kept.{handed_out, JobStands, JobsStand, HasGrown, after_message, AnswerJobs}
+use Rattle.stm_console.specs.declared.jobs.HandedOut.{HandedOut}
 use Rattle.stm_console.proofs.Deliveries.{told_of_job, refused_of_job}
 use Rattle.stm_console.proofs.Growing.{stand_grown}
 
@@ -87,3 +90,56 @@ each_answers cells [] [] n f = tt
 each_answers cells [] (a ∷ rest) n f = absurd (omega arith)
 each_answers cells (j ∷ js) [] n f = absurd (omega arith)
 each_answers cells (j ∷ js) (a ∷ rest) n f = (f 0 j a (omega arith), each_answers cells js rest (omega arith) (λ k d e h. f (suc k) d e (omega arith)))
+
+-- ---- batches
+-- the jobs that are left, which are evaluated and delivered to a desk yet
+pub record AreLeft (cells : List (Ty × Value)) (so_far whole : Delivered) (jobs : List Job) : Type 0 where
+  pub covered : AreCovered cells jobs
+  pub stand : JobsStand so_far.desk (map (handed_out cells) jobs)
+  pub done : delivered_all so_far (map (handed_out cells) jobs) ≡ whole
+
+delivered_append : (d : Delivered) (js ks : List HandedOut) → delivered_all d (js ++ ks) ≡ delivered_all (delivered_all d js) ks
+delivered_append d [] ks = refl
+delivered_append d (j ∷ js) ks = delivered_append (delivered_next d j d.stop) js ks
+
+covered_both : (cells : List (Ty × Value)) (js ks : List Job) → AreCovered cells (js ++ ks) → AreCovered cells js × AreCovered cells ks
+covered_both cells [] ks c = (tt, c)
+covered_both cells (j ∷ js) ks c = let b = covered_both cells js ks c.1 in ((c.0, b.0), b.1)
+
+stand_both : (d : Seen) (cells : List (Ty × Value)) (js ks : List Job) → JobsStand d (map (handed_out cells) (js ++ ks)) → JobsStand d (map (handed_out cells) js) × JobsStand d (map (handed_out cells) ks)
+stand_both d cells [] ks s = (tt, s)
+stand_both d cells (j ∷ js) ks s = let b = stand_both d cells js ks s.1 in ((s.0, b.0), b.1)
+
+-- the first of them, as a batch
+pub batch_covered : (cells : List (Ty × Value)) (d whole : Delivered) (batch rest : List Job) → AreLeft cells d whole (batch ++ rest) → AreCovered cells batch
+batch_covered cells d whole batch rest l = (covered_both cells batch rest l.covered).0
+
+pub batch_stands : (cells : List (Ty × Value)) (d whole : Delivered) (batch rest : List Job) → AreLeft cells d whole (batch ++ rest) → JobsStand d.desk (map (handed_out cells) batch)
+batch_stands cells d whole batch rest l = (stand_both d.desk cells batch rest l.stand).0
+
+-- those behind a batch that was delivered
+pub batch_done : (cells : List (Ty × Value)) (d e whole : Delivered) (batch rest : List Job) → HasGrown d.desk e.desk → e ≡ delivered_all d (map (handed_out cells) batch) → AreLeft cells d whole (batch ++ rest)
+    → AreLeft cells e whole rest
+batch_done cells d e whole batch rest g p l = record {
+  covered = (covered_both cells batch rest l.covered).1;
+  stand = stand_grown d.desk e.desk (map (handed_out cells) rest) g (stand_both d.desk cells batch rest l.stand).1;
+  done = ap (λ (x : Delivered). delivered_all x (map (handed_out cells) rest)) p
+      ∙ sym (delivered_append d (map (handed_out cells) batch) (map (handed_out cells) rest))
+      ∙ ap (delivered_all d) (sym (map-append (handed_out cells) batch rest)) ∙ l.done;
+}
+
+-- a batch and the jobs behind it, before and after the next one joined it
+pub batch_longer : (batch rest longer shorter : List Job) (j : Job) → rest ≡ j ∷ shorter → longer ≡ batch ++ j ∷ [] → batch ++ rest ≡ longer ++ shorter
+batch_longer batch rest longer shorter j e p =
+    ap (λ (js : List Job). batch ++ js) e ∙ sym (append_assoc batch (j ∷ []) shorter) ∙ ap (λ (js : List Job). js ++ shorter) (sym p)
+
+-- where nothing is left behind a batch
+pub last_batch : (batch rest : List Job) → length rest ≡ 0 → batch ++ rest ≡ batch
+last_batch batch [] n = append-nil batch
+last_batch batch (j ∷ js) n = absurd (omega arith)
+
+pub batch_fits : (count most limit : ℕ) (batch rest : List Job) → count + length (batch ++ rest) ≤ most → most ≤ limit → count + length batch ≤ limit
+batch_fits count most limit batch rest f h = let n = length-append batch rest in omega (arith, f, h, n)
+
+pub rest_fits : (count next most : ℕ) (batch rest : List Job) → count + length (batch ++ rest) ≤ most → next ≤ count + length batch → next + length rest ≤ most
+rest_fits count next most batch rest f h = let n = length-append batch rest in omega (arith, f, h, n)

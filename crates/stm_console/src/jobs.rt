@@ -17,6 +17,7 @@ ghost use Rattle.stm_console.specs.Delivering.{delivery_refusal, after_delivery,
 
 use crate::threading::Threading;
 use std::alloc::{AllocError, Global};
+use std::mem;
 use std::thread::Threads;
 use stm_check::SharedBlock;
 use stm_desk::{DeliverError, Desk};
@@ -167,21 +168,24 @@ fn deliver_answer(desk: &mut Desk, answer: Answer, so_far: Progress) -> Result<P
     }
 }
 
-/// Delivers answers, one after another, until one is refused. That one and those after it are queued again.
-fn deliver_answers(desk: &mut Desk, answers: Vec<Answer>) -> Result<Progress, NoMemory>
-    requires few { vec_len answers ≤ max_waiting }
+/// Delivers answers, one after another, until one is refused, after others of which so many were taken. The one that is refused
+/// and those after it are queued again.
+fn deliver_answers(
+    desk: &mut Desk,
+    answers: Vec<Answer>,
+    before: Progress,
+) -> Result<Progress, NoMemory>
+    requires few { before.count + vec_len answers ≤ max_waiting }
     requires legal { IsLegal desk.old.table desk.old.history }
     ensures done { (cells : List (Ty × Value)) (jobs : List Job) →
         AnswerJobs jobs cells answers.items → JobsStand desk.old (map (handed_out cells) jobs) →
         IfOk result (λ p. delivered_so_far desk.new p
-        ≡ delivered_all (none_delivered desk.old) (map (handed_out cells) jobs)) }
+        ≡ delivered_all (delivered_so_far desk.old before) (map (handed_out cells) jobs)) }
+    ensures few { IfOk result (λ p. p.count ≤ before.count + vec_len answers) }
     ensures grown { HasGrown desk.old desk.new }
     ensures store { (now desk.new).store ≡ (now desk.old).store }
 {
-    let mut so_far = Progress {
-        count: 0,
-        stop: None,
-    };
+    let mut so_far = before;
     for answer in answers {
         so_far = deliver_answer(desk, answer, so_far)?;
     }
@@ -205,7 +209,39 @@ fn threads_for(threading: Threading, jobs: &[Job]) -> usize
     worth.min(threading.workers() as usize)
 }
 
-/// Evaluates jobs by threads on a store, and delivers their answers in the order of the jobs.
+/// Evaluates jobs by threads on a store, and delivers their answers in the order of the jobs, after others of which so many
+/// were taken.
+fn evaluate_batch<T: Threads + Sync>(
+    desk: &mut Desk,
+    rt: &T,
+    alloc: Global,
+    threading: Threading,
+    store: &Frozen,
+    jobs: Vec<Job>,
+    before: Progress,
+) -> Result<Progress, NoMemory>
+    requires few { before.count + vec_len jobs ≤ max_waiting }
+    requires legal { IsLegal desk.old.table desk.old.history }
+    requires covered { AreCovered store.now jobs.items }
+    requires stand { JobsStand desk.old (map (handed_out store.now) jobs.items) }
+    ensures done { IfOk result (λ p. delivered_so_far desk.new p
+        ≡ delivered_all (delivered_so_far desk.old before) (map (handed_out store.now) jobs.items)) }
+    ensures few { IfOk result (λ p. p.count ≤ before.count + vec_len jobs) }
+    ensures grown { HasGrown desk.old desk.new }
+    ensures store { (now desk.new).store ≡ (now desk.old).store }
+{
+    let workers = threads_for(threading, jobs.as_slice());
+    match evaluate_all(rt, alloc, store, jobs, workers, threading.levels()) {
+        Ok(answers) => deliver_answers(desk, answers, before),
+        Err((_, refused)) => Err(refused),
+    }
+}
+
+/// Blocks of so many bytes of text for each worker are evaluated before they are delivered: their delivery goes over them once
+/// more, and finds them in the processor's cache.
+const BYTES_OF_A_BATCH: usize = 65_536;
+
+/// Evaluates jobs by threads on a store, and delivers their answers in the order of the jobs, batch by batch.
 fn evaluate_jobs<T: Threads + Sync>(
     desk: &mut Desk,
     rt: &T,
@@ -223,11 +259,23 @@ fn evaluate_jobs<T: Threads + Sync>(
     ensures grown { HasGrown desk.old desk.new }
     ensures store { (now desk.new).store ≡ (now desk.old).store }
 {
-    let workers = threads_for(threading, jobs.as_slice());
-    match evaluate_all(rt, alloc, store, jobs, workers, threading.levels()) {
-        Ok(answers) => deliver_answers(desk, answers),
-        Err((_, refused)) => Err(refused),
+    let mut so_far = Progress {
+        count: 0,
+        stop: None,
+    };
+    let most = BYTES_OF_A_BATCH * threading.workers() as usize;
+    let mut bytes: usize = 0;
+    let mut batch = Vec::new(alloc);
+    for job in jobs {
+        bytes = bytes.saturating_add(job.block.block().text().len());
+        batch.push(job)?;
+        if bytes >= most {
+            let full = mem::replace(&mut batch, Vec::new(alloc));
+            so_far = evaluate_batch(desk, rt, alloc, threading, store, full, so_far)?;
+            bytes = 0;
+        }
     }
+    evaluate_batch(desk, rt, alloc, threading, store, batch, so_far)
 }
 
 /// Evaluates by threads and delivers all that is queued, in rising order of the tickets.

@@ -1,4 +1,4 @@
-use Rattle.std.proofs.Common.{◌≡◌, ◌≤◌, ◌+◌, None, List, map, length}
+use Rattle.std.proofs.Common.{◌≡◌, ◌≤◌, ◌+◌, List, map, length}
 use Rattle.stm_terms.specs.declared.kinds.Ty.{Ty}
 use Rattle.stm_terms.specs.declared.values.Value.{Value}
 use Rattle.stm_eval.specs.declared.job.Job.{Job}
@@ -12,8 +12,8 @@ abbrev pub invariant-loop-answer : goal.invariant-loop-answer
 invariant-loop-answer l = record {
   left : (cells : List (Ty × Value)) (jobs : List Job) → AnswerJobs jobs cells l.fn.answers.items → JobsStand l.fn.desk (map (handed_out cells) jobs)
       → IsLeft cells (record { desk = l.desk; count = l.so_far.count; stop = l.so_far.stop })
-      (delivered_all (record { desk = l.fn.desk; count = 0; stop = None }) (map (handed_out cells) jobs)) l.answer-iterator.rest.items;
+      (delivered_all (record { desk = l.fn.desk; count = l.fn.before.count; stop = l.fn.before.stop }) (map (handed_out cells) jobs)) l.answer-iterator.rest.items;
   grown : HasGrown l.fn.desk l.desk;
   same_store : (now l.desk).store ≡ (now l.fn.desk).store;
-  few : l.so_far.count + length l.answer-iterator.rest.items ≤ length l.fn.answers.items;
+  few : l.so_far.count + length l.answer-iterator.rest.items ≤ l.fn.before.count + length l.fn.answers.items;
 }
