@@ -39,6 +39,7 @@ impl Desk {
     }
 
     /// Installs a message that nothing refuses. An out-of-memory error hands the message back.
+    // A message is moved by value; a call that isn't inlined copies it.
     #[inline(always)]
     pub(crate) fn install_allowed(
         &mut self,

@@ -8,6 +8,7 @@ pub mod SlowSettle
 -- The words inside, for what the machine holds and hands out.
 pub mod BlockStatus
 pub mod Entries
+pub mod HeldVerdict
 pub mod IndexEncoding
 pub mod JobsHandedOut
 pub mod Machine

@@ -125,30 +125,23 @@ impl Machine {
         // The store and the block are known to be well typed by these.
         let _cells = self.store.len();
         let _action = waiting.block.block().action();
-        let held = match &waiting.held {
-            Some(held) => held,
+        let verdict = match &waiting.held {
+            Some(held) => self.waiting.verdict(held),
             None => return Err(FinishError::NotEvaluated),
         };
         if self.pending.has(ticket) {
             return Err(FinishError::Stale);
         }
-        if blocks(&held.verdict) {
+        if blocks(verdict) {
             return Err(FinishError::Blocks);
         }
         if full {
             return Err(FinishError::HistoryFull);
         }
-        if overflows_store(&self.store, &held.verdict) {
+        if overflows_store(&self.store, verdict) {
             return Err(FinishError::CellsFull);
         }
-        match make_plan(
-            self.alloc,
-            rule,
-            &self.store,
-            &self.watch,
-            &held.verdict,
-            ticket,
-        ) {
+        match make_plan(self.alloc, rule, &self.store, &self.watch, verdict, ticket) {
             Ok(plan) => Ok(plan),
             Err(_) => Err(FinishError::NoMemory),
         }

@@ -1,6 +1,6 @@
 //! A message of an evaluator.
 
-ghost use Rattle.std.specs.Prelude.{◌≡◌, List, OnOk, IfErr, OnErr, IsTrue, ◌↔◌, IsSomeAnd};
+ghost use Rattle.std.specs.Prelude.{◌≡◌, List, IfOk, OnOk, IfErr, OnErr, IsTrue, ◌↔◌, IsSomeAnd};
 ghost use Rattle.stm_terms.specs.Value.{same_value};
 ghost use Rattle.stm_store.specs.Tables.{Declared};
 ghost use Rattle.stm_watch.specs.Pairs.{WithReads};
@@ -10,12 +10,15 @@ ghost use Rattle.stm_history.specs.declared.event.Event.{Event};
 ghost use Rattle.stm_history.specs.declared.event.What.{What as AnyWhat};
 ghost use Rattle.stm_history.specs.declared.staleness.StalenessRule.{StalenessRule as AnyRule};
 ghost use Rattle.stm_history.specs.SlowDesk.{under, find_waiter, state_by};
+ghost use Rattle.stm_history.specs.HeldVerdict.{IsRoomFor};
 ghost use Rattle.stm_history.specs.Machine.{StandsForBy, CanInstallBy, MovesToBy};
 ghost use Rattle.stm_history.specs.Refusals.{differing, has_value, install_told, TellsDelivery};
 
 use crate::errors::DeliverError;
+use crate::held_verdict::{HeldVerdict, Room};
 use crate::machine::Machine;
 use crate::waiting::{Held, Waiting};
+use std::alloc::Global;
 use stm_eval::Evaluated;
 use stm_store::Store;
 use stm_terms::NoMemory;
@@ -70,6 +73,20 @@ fn watch_reads(watch: &mut Watch, message: &Evaluated) -> Result<(), NoMemory>
     watch.add(message.ticket(), message.reads().as_slice())
 }
 
+/// What installing the message takes: room for its verdict, and that its ticket watches what its block read.
+fn take_memory(alloc: Global, watch: &mut Watch, message: &Evaluated) -> Result<Room, NoMemory>
+    ensures room { IfOk result (λ r. IsRoomFor r (message_verdict message.now)) }
+    ensures watch { OnOk result
+        (WithReads watch.old (message_ticket message.now) (message_reads message.now) watch.new) }
+    ensures err { OnErr result (watch.new ≡ watch.old) }
+{
+    let room = HeldVerdict::room(alloc, message.verdict())?;
+    match watch_reads(watch, message) {
+        Ok(()) => Ok(room),
+        Err(refused) => Err(refused),
+    }
+}
+
 impl Machine {
     /// Why the message can't be installed, an out-of-memory error aside. `full` says that the history has no room for an event.
     pub fn may_install(&self, message: &Evaluated, full: bool) -> Result<(), DeliverError>
@@ -104,6 +121,7 @@ impl Machine {
     }
 
     /// Installs a message: its block is current from then on, neither queued nor out. A refusal hands the message back.
+    // A message is moved by value; a call that isn't inlined copies it.
     #[inline(always)]
     pub fn install(&mut self, message: Evaluated) -> Result<(), (Evaluated, NoMemory)>
         requires { (R : AnyRule) × (T : List Declared) × (H : List Event)
@@ -117,10 +135,11 @@ impl Machine {
         ensures back { IfErr result (λ e. e.0 ≡ message) }
         ensures err { OnErr result (self.new ≡ self.old) }
     {
-        match watch_reads(&mut self.watch, &message) {
-            Ok(()) => {
+        match take_memory(self.alloc, &mut self.watch, &message) {
+            Ok(room) => {
                 let ticket = message.ticket();
                 let (reads, verdict) = message.into_parts();
+                let verdict = room.filled(verdict);
                 self.waiting.hold(ticket, Held { reads, verdict });
                 let _ = self.pending.remove(ticket);
                 Ok(())

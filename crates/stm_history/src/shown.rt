@@ -33,9 +33,9 @@ impl Machine {
                 None => Some(Status::New),
                 Some(held) => {
                     if self.pending.has(ticket) {
-                        Some(Status::Stale(&held.verdict))
+                        Some(Status::Stale(self.waiting.verdict(held)))
                     } else {
-                        Some(Status::Current(&held.verdict))
+                        Some(Status::Current(self.waiting.verdict(held)))
                     }
                 }
             },

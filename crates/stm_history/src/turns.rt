@@ -39,6 +39,7 @@ impl Machine {
     }
 
     /// What the block under a ticket does on the present store, of which an unchanging copy is given.
+    // A message is moved by value; a call that isn't inlined copies it.
     #[inline(always)]
     pub fn evaluated(&self, frozen: &Frozen, ticket: u32) -> Result<Evaluated, NoMemory>
         requires waits { (R : AnyRule) × (T : List Declared) × (H : List Event)

@@ -5,7 +5,7 @@ ghost use Rattle.stm_queue.specs.SortedTickets.{member};
 ghost use Rattle.std.specs.Option.{option_copied};
 ghost use Rattle.stm_history.specs.Entries.{kept_at, kept, lose, with_held, AllBelow, held_reads, held_ends, ends_under, first_above};
 
-use crate::finish::blocks;
+use crate::held_verdict::HeldVerdict;
 use crate::ticket_set::TicketSet;
 use std::alloc::{AllocError as NoMemory, Global};
 use std::collections::BTreeMap;
@@ -20,7 +20,7 @@ use stm_terms::verdicts::Verdict;
 #[derive(Drop)]
 pub struct Held {
     pub reads: Reads,
-    pub verdict: Verdict,
+    pub verdict: HeldVerdict,
 }
 
 /// A block that waits, with what its last accepted delivery brought.
@@ -47,7 +47,7 @@ impl Waiting {
     {
         match &self.held {
             None => false,
-            Some(held) => !blocks(&held.verdict),
+            Some(held) => !held.verdict.blocks(),
         }
     }
 }
@@ -56,12 +56,15 @@ impl Waiting {
 #[derive(Drop)]
 pub(crate) struct WaitingBlocks {
     map: BTreeMap<u32, Waiting>,
+    // Lent for each verdict `Blocks` that is held.
+    blocks: Verdict,
 }
 
 impl Model for WaitingBlocks {
-    ghost use Rattle.std.specs.Prelude.{List, ℕ};
+    ghost use Rattle.std.specs.Prelude.{◌≡◌, List, ℕ};
     ghost use Rattle.std.specs.Coded.{codes};
     ghost use Rattle.stm_terms.specs.TreeEncoding.{act_code};
+    ghost use Rattle.stm_terms.specs.declared.verdicts.Verdict.TheVariants.{Blocks};
     ghost use Rattle.stm_history.specs.declared.waiting.Waiting.{Waiting as AnyWaiting};
 
     ghost Value = { List (ℕ × AnyWaiting) };
@@ -69,6 +72,8 @@ impl Model for WaitingBlocks {
     ghost coded = { Prim.hlevel (codes, act_code) };
 
     ghost view = { λ w. w.map.entries };
+
+    ghost invariant = { λ w. w.blocks ≡ Blocks };
 }
 
 impl WaitingBlocks {
@@ -78,6 +83,7 @@ impl WaitingBlocks {
     {
         WaitingBlocks {
             map: BTreeMap::new(alloc),
+            blocks: Verdict::Blocks,
         }
     }
 
@@ -93,6 +99,13 @@ impl WaitingBlocks {
         ensures { option_copied result ≡ kept_at ticket self.now }
     {
         self.map.get(&ticket)
+    }
+
+    /// The verdict that a delivery to one of the blocks brought.
+    pub(crate) fn verdict<'a>(&'a self, held: &'a Held) -> &'a Verdict
+        ensures { result.now ≡ held.now.verdict }
+    {
+        held.verdict.get(&self.blocks)
     }
 
     /// The least ticket above this one.
@@ -134,6 +147,7 @@ impl WaitingBlocks {
     }
 
     /// What a delivery brings to a block that waits.
+    // A message is moved by value; a call that isn't inlined copies it.
     #[inline(always)]
     pub(crate) fn hold(&mut self, ticket: u32, held: Held)
         requires { kept_at ticket self.old ≢ None }

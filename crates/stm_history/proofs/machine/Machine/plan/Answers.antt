@@ -1,9 +1,11 @@
-use Rattle.std.proofs.Common.{◌≡◌, ◌∙◌, true, false, List, [], Some, None, refl, sym, ap, subst}
+use Rattle.std.proofs.Common.{◌≡◌, ◌∙◌, true, false, not, ◌&&◌, List, [], Some, None, refl, sym, ap, subst}
+use Rattle.std.specs.Prelude.{nat_eq}
 use Rattle.std.specs.Option.{option_copied}
 use Rattle.stm_store.specs.declared.cell.Cell.{Cell}
 use Rattle.stm_terms.specs.Typing.{action_type, kinds_in, result_type}
 use Rattle.stm_check.specs.TypedBlock.{Block}
-use Rattle.stm_history.specs.SlowDesk.{state_by}
+use Rattle.stm_watch.specs.Pairs.{watches}
+use Rattle.stm_history.specs.SlowDesk.{state_by, is_blocks, waking}
 use Rattle.stm_history.specs.Entries.{kept_at}
 use Rattle.stm_history.specs.Machine.{StandsForBy}
 use Rattle.stm_history.specs.Refusals.{overflows}
@@ -39,7 +41,7 @@ returns-then-blocks-clause-told c = λ T H h.
     let p = has_held c.args.rule T H _ k c.args.ticket c.in-Some.waiting.now c.in-Some-held.held e c.in-Some-held.is in
     let q = is_fresh c.args.rule T H _ k c.args.ticket c.in-Some-held.held c.in-Some.waiting.now c.has.result p c.has.ensures c.if-has.false in
     let v = present c.args.rule T H _ k c.args.ticket c.in-Some-held.held c.in-Some.waiting.now p q in
-    told_blocks _ _ _ p.one p.since c.in-Some-held.held.verdict p.found p.since_is q v (sym c.blocks-2.ensures ∙ c.if-blocks.true)
+    told_blocks _ _ _ p.one p.since c.in-Some-held.held.verdict p.found p.since_is q v (ap is_blocks (sym c.verdict-verdict.ensures) ∙ sym c.blocks-2.ensures ∙ c.if-blocks.true)
 
 pub returns-then-full-clause-told : goal.returns-then-full-clause-told
 returns-then-full-clause-told c = λ T H h.
@@ -48,7 +50,7 @@ returns-then-full-clause-told c = λ T H h.
     let p = has_held c.args.rule T H _ k c.args.ticket c.in-Some.waiting.now c.in-Some-held.held e c.in-Some-held.is in
     let q = is_fresh c.args.rule T H _ k c.args.ticket c.in-Some-held.held c.in-Some.waiting.now c.has.result p c.has.ensures c.if-has.false in
     let v = present c.args.rule T H _ k c.args.ticket c.in-Some-held.held c.in-Some.waiting.now p q in
-    let b = sym c.blocks-2.ensures ∙ c.if-blocks.false in
+    let b = ap is_blocks (sym c.verdict-verdict.ensures) ∙ sym c.blocks-2.ensures ∙ c.if-blocks.false in
     let o = told_rest (state_by c.args.rule T H).store c.args.full _ p.one p.since c.in-Some-held.held.verdict p.found p.since_is q v b in
     rw (← o, c.if-full.true) refl
 
@@ -59,9 +61,9 @@ returns-then-overflows_store-clause-told c = λ T H h.
     let p = has_held c.args.rule T H _ k c.args.ticket c.in-Some.waiting.now c.in-Some-held.held e c.in-Some-held.is in
     let q = is_fresh c.args.rule T H _ k c.args.ticket c.in-Some-held.held c.in-Some.waiting.now c.has.result p c.has.ensures c.if-has.false in
     let v = present c.args.rule T H _ k c.args.ticket c.in-Some-held.held c.in-Some.waiting.now p q in
-    let b = sym c.blocks-2.ensures ∙ c.if-blocks.false in
+    let b = ap is_blocks (sym c.verdict-verdict.ensures) ∙ sym c.blocks-2.ensures ∙ c.if-blocks.false in
     let o = told_rest (state_by c.args.rule T H).store c.args.full _ p.one p.since c.in-Some-held.held.verdict p.found p.since_is q v b in
-    let room : overflows (state_by c.args.rule T H).store (Some c.in-Some-held.held.verdict) ≡ true = subst (λ (z : List Cell). overflows z (Some c.in-Some-held.held.verdict) ≡ true) k.stands.store_is (sym c.overflows_store.ensures ∙ c.if-overflows_store.true) in
+    let room : overflows (state_by c.args.rule T H).store (Some c.in-Some-held.held.verdict) ≡ true = subst (λ (z : List Cell). overflows z (Some c.in-Some-held.held.verdict) ≡ true) k.stands.store_is (ap (λ v. overflows c.self.inside.store (Some v)) (sym c.verdict-verdict.ensures) ∙ sym c.overflows_store.ensures ∙ c.if-overflows_store.true) in
     rw (← o, c.if-full.false, room) refl
 
 pub returns-in-Ok-clause-told : goal.returns-in-Ok-clause-told
@@ -71,9 +73,9 @@ returns-in-Ok-clause-told c = λ T H h.
     let p = has_held c.args.rule T H _ k c.args.ticket c.in-Some.waiting.now c.in-Some-held.held e c.in-Some-held.is in
     let q = is_fresh c.args.rule T H _ k c.args.ticket c.in-Some-held.held c.in-Some.waiting.now c.has.result p c.has.ensures c.if-has.false in
     let v = present c.args.rule T H _ k c.args.ticket c.in-Some-held.held c.in-Some.waiting.now p q in
-    let b = sym c.blocks-2.ensures ∙ c.if-blocks.false in
+    let b = ap is_blocks (sym c.verdict-verdict.ensures) ∙ sym c.blocks-2.ensures ∙ c.if-blocks.false in
     let o = told_rest (state_by c.args.rule T H).store c.args.full _ p.one p.since c.in-Some-held.held.verdict p.found p.since_is q v b in
-    let room : overflows (state_by c.args.rule T H).store (Some c.in-Some-held.held.verdict) ≡ false = subst (λ (z : List Cell). overflows z (Some c.in-Some-held.held.verdict) ≡ false) k.stands.store_is (sym c.overflows_store.ensures ∙ c.if-overflows_store.false) in
+    let room : overflows (state_by c.args.rule T H).store (Some c.in-Some-held.held.verdict) ≡ false = subst (λ (z : List Cell). overflows z (Some c.in-Some-held.held.verdict) ≡ false) k.stands.store_is (ap (λ v. overflows c.self.inside.store (Some v)) (sym c.verdict-verdict.ensures) ∙ sym c.overflows_store.ensures ∙ c.if-overflows_store.false) in
     rw (← o, c.if-full.false, room) refl
 
 pub returns-in-Err-clause-told : goal.returns-in-Err-clause-told
@@ -83,9 +85,9 @@ returns-in-Err-clause-told c = λ T H h.
     let p = has_held c.args.rule T H _ k c.args.ticket c.in-Some.waiting.now c.in-Some-held.held e c.in-Some-held.is in
     let q = is_fresh c.args.rule T H _ k c.args.ticket c.in-Some-held.held c.in-Some.waiting.now c.has.result p c.has.ensures c.if-has.false in
     let v = present c.args.rule T H _ k c.args.ticket c.in-Some-held.held c.in-Some.waiting.now p q in
-    let b = sym c.blocks-2.ensures ∙ c.if-blocks.false in
+    let b = ap is_blocks (sym c.verdict-verdict.ensures) ∙ sym c.blocks-2.ensures ∙ c.if-blocks.false in
     let o = told_rest (state_by c.args.rule T H).store c.args.full _ p.one p.since c.in-Some-held.held.verdict p.found p.since_is q v b in
-    let room : overflows (state_by c.args.rule T H).store (Some c.in-Some-held.held.verdict) ≡ false = subst (λ (z : List Cell). overflows z (Some c.in-Some-held.held.verdict) ≡ false) k.stands.store_is (sym c.overflows_store.ensures ∙ c.if-overflows_store.false) in
+    let room : overflows (state_by c.args.rule T H).store (Some c.in-Some-held.held.verdict) ≡ false = subst (λ (z : List Cell). overflows z (Some c.in-Some-held.held.verdict) ≡ false) k.stands.store_is (ap (λ v. overflows c.self.inside.store (Some v)) (sym c.verdict-verdict.ensures) ∙ sym c.overflows_store.ensures ∙ c.if-overflows_store.false) in
     rw (← o, c.if-full.false, room) refl
 
 pub returns-in-Ok-clause-plan : goal.returns-in-Ok-clause-plan
@@ -97,5 +99,6 @@ returns-in-Ok-clause-plan c = λ T H h.
     let a : action_type (kinds_in c.in-Some.waiting.now.block.uses) [] c.in-Some.waiting.now.block.tree ≡ Some (result_type c.in-Some.waiting.now.block.result_type) =
     subst (λ (b : Block). action_type (kinds_in b.uses) [] b.tree ≡ Some (result_type b.result_type)) c.block.ensures c.action-action.ensures.typed in
     is_plan c.args.rule T H _ k c.args.ticket c.in-Some-held.held c.in-Some.waiting.now _ p c.in-Ok.plan.verdict c.in-Ok.plan.first_new c.in-Ok.plan.stale
-    q c.len-cells.ensures.typed a (sym c.blocks-2.ensures ∙ c.if-blocks.false) (sym c.overflows_store.ensures ∙ c.if-overflows_store.false)
-    c.in-Ok.ensures.verdict c.in-Ok.ensures.first_new c.in-Ok.ensures.rising c.in-Ok.ensures.watchers
+    q c.len-cells.ensures.typed a (ap is_blocks (sym c.verdict-verdict.ensures) ∙ sym c.blocks-2.ensures ∙ c.if-blocks.false) (ap (λ v. overflows c.self.inside.store (Some v)) (sym c.verdict-verdict.ensures) ∙ sym c.overflows_store.ensures ∙ c.if-overflows_store.false)
+    (c.in-Ok.ensures.verdict ∙ c.verdict-verdict.ensures) c.in-Ok.ensures.first_new c.in-Ok.ensures.rising
+    (λ u. c.in-Ok.ensures.watchers u ∙ ap (λ v. not (nat_eq u c.args.ticket) && watches c.self.inside.watch (waking c.args.rule c.self.inside.store v) u) c.verdict-verdict.ensures)

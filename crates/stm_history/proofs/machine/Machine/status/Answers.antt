@@ -27,7 +27,7 @@ returns-then-has c = λ R T H h.
     let e : kept_at c.args.ticket c.self.inside.waiting ≡ Some c.in-Some.waiting.now = sym c.get.ensures ∙ ap option_copied c.in-Some.is in
     let p = has_held R T H _ k c.args.ticket c.in-Some.waiting.now c.in-Some-held.held e c.in-Some-held.is in
     let q = is_stale R T H _ k c.args.ticket c.in-Some-held.held c.in-Some.waiting.now c.has.result p c.has.ensures c.if-has.true in
-    stands_stale _ _ p.one p.since c.in-Some-held.held.verdict p.found p.since_is q p.holds.verdict_is
+    rw c.verdict.ensures (stands_stale _ _ p.one p.since c.in-Some-held.held.verdict p.found p.since_is q p.holds.verdict_is)
 
 pub returns-else-has : goal.returns-else-has
 returns-else-has c = λ R T H h.
@@ -36,4 +36,4 @@ returns-else-has c = λ R T H h.
     let p = has_held R T H _ k c.args.ticket c.in-Some.waiting.now c.in-Some-held.held e c.in-Some-held.is in
     let q = is_fresh R T H _ k c.args.ticket c.in-Some-held.held c.in-Some.waiting.now c.has.result p c.has.ensures c.if-has.false in
     let v = present R T H _ k c.args.ticket c.in-Some-held.held c.in-Some.waiting.now p q in
-    stands_current _ _ p.one c.in-Some-held.held.verdict p.found q v
+    rw c.verdict-else-has.ensures (stands_current _ _ p.one c.in-Some-held.held.verdict p.found q v)
