@@ -327,16 +327,13 @@ impl Checker {
     }
 }
 
-/// Judges the bytes of a reader as a history of format 1, 2 or 3, line by line; docs/HISTORY.md has the formats. A line is never kept
-/// beyond 1,048,576 bytes, and the reader is called 4,294,967,295 times at most. `ReadFault` where the reader fails.
-pub fn check_history<R: Read>(alloc: Global, reader: &mut R) -> Result<Legal, HistoryFault>
-    // The bytes are the text of a legal history, and the numbers are its own.
+/// Judges the bytes that the reader has left, before any of which was taken.
+fn check_rest<R: Read>(checker: &mut Checker, reader: &mut R) -> Result<Legal, HistoryFault>
+    requires { Reached checker.old.stage checker.old.line.items [] }
     ensures ok { IfOk result (λ n. IfSome (R.remaining reader.old) (λ bytes. IsHistory bytes n)) }
-    // Otherwise the first fault of the bytes is reported.
     ensures fault { IfErr result (λ e.
         IfSome (R.remaining reader.old) (λ bytes. TellsFault e bytes)) }
 {
-    let mut checker = Checker::new(alloc);
     let mut buffer = [0u8; 8_192];
     'reads: for _ in 0..u32::MAX {
         match reader.read(&mut buffer) {
@@ -351,4 +348,17 @@ pub fn check_history<R: Read>(alloc: Global, reader: &mut R) -> Result<Legal, Hi
         }
     }
     Err(HistoryFault::ReadFault)
+}
+
+/// Judges the bytes of a reader as a history of format 1, 2 or 3, line by line; docs/HISTORY.md has the formats. A line is never kept
+/// beyond 1,048,576 bytes, and the reader is called 4,294,967,295 times at most. `ReadFault` where the reader fails.
+pub fn check_history<R: Read>(alloc: Global, reader: &mut R) -> Result<Legal, HistoryFault>
+    // The bytes are the text of a legal history, and the numbers are its own.
+    ensures ok { IfOk result (λ n. IfSome (R.remaining reader.old) (λ bytes. IsHistory bytes n)) }
+    // Otherwise the first fault of the bytes is reported.
+    ensures fault { IfErr result (λ e.
+        IfSome (R.remaining reader.old) (λ bytes. TellsFault e bytes)) }
+{
+    let mut checker = Checker::new(alloc);
+    check_rest(&mut checker, reader)
 }

@@ -1,7 +1,7 @@
 use Rattle.std.proofs.Common.{ℕ, List}
 use Rattle.std.specs.Io.KnownBytes.{Consumes}
 use Rattle.stm_history.specs.Stages.{Reached}
-use Rattle.stm_history.proofs.files.check.check_history.Given as goal
+use Rattle.stm_history.proofs.files.check.check_rest.Given as goal
 
 abbrev pub invariant-reads : goal.invariant-reads
 invariant-reads g l =

@@ -1,6 +1,6 @@
 use Rattle.std.proofs.KnownBytes.{Consumes-trans, Consumes-kept}
-use Rattle.stm_history.proofs.files.check.check_history.Goals as goal
-use Rattle.stm_history.proofs.files.check.check_history.Goals.{in-Ok+else-count-eq0+in_ok-take_bytes-in-Ok, in-Err}
+use Rattle.stm_history.proofs.files.check.check_rest.Goals as goal
+use Rattle.stm_history.proofs.files.check.check_rest.Goals.{in-Ok+else-count-eq0+in_ok-take_bytes-in-Ok, in-Err}
 
 pub reads-preserved : goal.reads-preserved
 reads-preserved g c =
