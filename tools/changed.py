@@ -9,13 +9,14 @@ import repository
 
 ROOT = repository.ROOT
 SECOND = "second-tier edit"
+EXAMPLE = "the library's example"
 RUN_WEIGHT = 1000  # of a run, beside the lines of a crate's proof
 # What is run: what is shown, the script, the program that it is given, if it is, and the crates that it stands on.
 RUNS = [
     ("cases and examples", "tests/run_cases", "stmdesk", ["stmdesk"]),
     ("the Python client", "clients/python/test_stmdesk.py", "stmdesk", ["stmdesk"]),
     ("drawings of histories", "tests/run_timeline", "stmdesk", ["stmdesk"]),
-    ("the library's example", "tests/run_library", None, ["stm_desk"]),
+    (EXAMPLE, "tests/run_library", None, ["stm_desk"]),
     ("calls", "tests/run_calls", "stm_calls", ["stm_calls"]),
     ("each allocation refused in turn", "tests/refused", None, ["stmdesk", "stm_calls"]),
 ]
