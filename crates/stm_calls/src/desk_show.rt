@@ -61,7 +61,7 @@ fn say_event(event: &Event, out: &mut String) -> Result<(), AllocError> {
         }
         What::Installed { ticket, verdict } => {
             write!(out, "installed {ticket} ")?;
-            say_verdict("", verdict, out)
+            say_verdict("", verdict.get(&Verdict::Blocks), out)
         }
         What::Cancelled { ticket } => writeln!(out, "cancelled {ticket}"),
         What::Finished {
@@ -71,7 +71,7 @@ fn say_event(event: &Event, out: &mut String) -> Result<(), AllocError> {
             stale,
         } => {
             write!(out, "finished {ticket} ")?;
-            write_verdict(verdict, out)?;
+            write_verdict(verdict.get(&Verdict::Blocks), out)?;
             write!(out, " first {first_new} stale")?;
             say_tickets(stale.as_slice(), out)
         }
@@ -82,6 +82,17 @@ fn say_event(event: &Event, out: &mut String) -> Result<(), AllocError> {
 fn answer_event(desk: &Desk, number: u32, out: &mut String) -> Result<(), AllocError> {
     match desk.history().get((number as usize).wrapping_sub(1)) {
         Some(event) => say_event(event, out),
+        None => say("none", out),
+    }
+}
+
+/// The same of a copy of the event.
+fn answer_copied(desk: &Desk, number: u32, out: &mut String) -> Result<(), AllocError> {
+    match desk.history().get((number as usize).wrapping_sub(1)) {
+        Some(event) => {
+            let copy = event.copy()?;
+            say_event(&copy, out)
+        }
         None => say("none", out),
     }
 }
@@ -101,6 +112,7 @@ pub fn answer(desk: &Desk, call: &str, n: u32, out: &mut String) -> Result<(), A
         "variables" => say_count(desk.table().len(), out),
         "events" => say_count(desk.history().len(), out),
         "event" => answer_event(desk, n, out),
+        "copied" => answer_copied(desk, n, out),
         _ => say("no such call", out),
     }
 }

@@ -1,6 +1,6 @@
 //! A message of an evaluator.
 
-ghost use Rattle.std.specs.Prelude.{◌≡◌, ◌<◌, None, IfOk, OnOk, IfErr, OnErr, IsSomeAnd, vec_len, vec_capacity};
+ghost use Rattle.std.specs.Prelude.{◌≡◌, ◌<◌, None, IfOk, OnOk, IfErr, OnErr, IsSomeAnd};
 ghost use Rattle.stm_history.specs.SlowDesk.{IsLegal, find_waiter, max_clients};
 ghost use Rattle.stm_history.specs.declared.event.What.{What as AnyWhat};
 ghost use Rattle.stm_history.specs.Machine.{event};
@@ -13,18 +13,6 @@ use crate::desk::Desk;
 use stm_eval::Evaluated;
 use stm_history::{DeliverError, Event, What};
 use stm_terms::NoMemory;
-use stm_terms::verdicts::Verdict;
-
-/// What the event of an installed message takes: a copy of its verdict, and room in the history.
-fn take_memory(history: &mut Vec<Event>, message: &Evaluated) -> Result<Verdict, NoMemory>
-    ensures told { IfOk result (λ v. v ≡ message_verdict message.now) }
-    ensures history { history.new.items ≡ history.old.items }
-    ensures room { OnOk result (vec_len history.new < vec_capacity history.new) }
-{
-    let alloc = *history.allocator();
-    history.reserve(1)?;
-    message.verdict().copy(alloc)
-}
 
 impl Desk {
     /// Why the message can't be installed, an out-of-memory error aside.
@@ -58,24 +46,20 @@ impl Desk {
         ensures err { OnErr result (self.new ≡ self.old) }
         ensures legal { IsLegal self.new.table self.new.history }
     {
-        match take_memory(&mut self.history, &message) {
-            Ok(told) => {
-                let ticket = message.ticket();
-                match self.machine.install(message) {
-                    Ok(()) => {
-                        self.history.push_reserved(Event {
-                            client,
-                            what: What::Installed {
-                                ticket,
-                                verdict: told,
-                            },
-                        });
-                        Ok(())
-                    }
-                    Err(refused) => Err(refused),
-                }
+        match self.history.reserve(1) {
+            Ok(()) => {}
+            Err(refused) => return Err((message, refused)),
+        }
+        let ticket = message.ticket();
+        match self.machine.install(message) {
+            Ok(verdict) => {
+                self.history.push_reserved(Event {
+                    client,
+                    what: What::Installed { ticket, verdict },
+                });
+                Ok(())
             }
-            Err(refused) => Err((message, refused)),
+            Err(refused) => Err(refused),
         }
     }
 

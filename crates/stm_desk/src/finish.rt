@@ -11,7 +11,8 @@ ghost use Rattle.stm_desk.specs.Seen.{now, with_event};
 ghost use Rattle.stm_desk.specs.Refusals.{finish_refusal};
 
 use crate::desk::Desk;
-use stm_history::{Event, FinishError, Plan, StalenessRule, Tickets, What};
+use std::alloc::Global;
+use stm_history::{Event, FinishError, Plan, SharedVerdict, StalenessRule, Tickets, What};
 use stm_store::Applied;
 use stm_terms::NoMemory;
 use stm_terms::verdicts::Verdict;
@@ -37,19 +38,24 @@ fn finished_event(
     ensures items { events.new.items ≡ events.old.items }
     ensures room { OnOk result (vec_len events.new < vec_capacity events.new) }
 {
-    let alloc = *events.allocator();
     events.reserve(1)?;
-    let stale = plan.stale.copy(alloc)?;
-    let verdict = plan.verdict.copy(alloc)?;
     Ok(Event {
         client,
         what: What::Finished {
             ticket,
-            verdict,
+            verdict: plan.verdict.share()?,
             first_new: plan.first_new,
-            stale,
+            stale: plan.stale.share()?,
         },
     })
+}
+
+/// A verdict that the caller alone holds.
+fn copy_of(alloc: Global, verdict: &SharedVerdict) -> Result<Verdict, NoMemory>
+    ensures { IfOk result (λ v. v ≡ verdict.now) }
+{
+    let blocks = Verdict::Blocks;
+    verdict.get(&blocks).copy(alloc)
 }
 
 impl Desk {
@@ -64,15 +70,15 @@ impl Desk {
             .plan(ticket, self.is_full(), StalenessRule::Changed)
     }
 
-    /// The finish by its plan: its event joins the history, and the list that is lent. All memory is taken before the first
-    /// change.
+    /// The finish by its plan: its event joins the history, and the list that is lent. The answer is a copy of the verdict, and
+    /// what applying it did. All memory is taken before the first change.
     fn finish_by(
         &mut self,
         client: u32,
         ticket: u32,
         plan: &Plan,
         own: &mut Vec<Event>,
-    ) -> Result<Applied, NoMemory>
+    ) -> Result<(Verdict, Applied), NoMemory>
         requires client { client < max_clients }
         requires allowed { finish_refusal self.old ticket ≡ None }
         requires plan { IsPlan (now self.old) ticket
@@ -83,16 +89,18 @@ impl Desk {
         ensures noted { OnOk result (own.new.items
             ≡ own.old.items ++ event client
             (AnyWhat.Finished ticket plan.now.verdict plan.now.first_new plan.now.stale) ∷ []) }
-        ensures applied { IfOk result (λ a. a ≡ told_of (now self.old).store plan.now.verdict) }
+        ensures verdict { IfOk result (λ p. p.0 ≡ plan.now.verdict) }
+        ensures applied { IfOk result (λ p. p.1 ≡ told_of (now self.old).store plan.now.verdict) }
         ensures err { OnErr result ((self.new ≡ self.old) × (own.new.items ≡ own.old.items)) }
         ensures legal { IsLegal self.new.table self.new.history }
     {
         let told = finished_event(&mut self.history, client, ticket, plan)?;
         let noted = finished_event(own, client, ticket, plan)?;
+        let verdict = copy_of(*own.allocator(), &plan.verdict)?;
         let applied = self.machine.finish(ticket, plan)?;
         self.history.push_reserved(told);
         own.push_reserved(noted);
-        Ok(applied)
+        Ok((verdict, applied))
     }
 
     /// The block takes effect and waits no more, and the event is at the end of the client's own list too, where it is
@@ -122,14 +130,11 @@ impl Desk {
             Err(refusal) => return Err(refusal),
         };
         match self.finish_by(client, ticket, &plan, own) {
-            Ok(applied) => {
-                let Plan { verdict, stale, .. } = plan;
-                Ok(Finish {
-                    verdict,
-                    applied,
-                    stale,
-                })
-            }
+            Ok((verdict, applied)) => Ok(Finish {
+                verdict,
+                applied,
+                stale: plan.stale,
+            }),
             Err(_) => Err(FinishError::NoMemory),
         }
     }

@@ -8,7 +8,6 @@ pub mod SlowSettle
 -- The words inside, for what the machine holds and hands out.
 pub mod BlockStatus
 pub mod Entries
-pub mod HeldVerdict
 pub mod IndexEncoding
 pub mod JobsHandedOut
 pub mod Machine
@@ -16,6 +15,7 @@ pub mod MachineInvariant
 pub mod Plans
 pub mod QueueAndIndex
 pub mod SettleChoices
+pub mod Sharing
 -- Histories as text: what a reader has to believe.
 pub mod FileLaws
 pub mod Fits

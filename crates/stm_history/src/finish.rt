@@ -18,6 +18,7 @@ ghost use Rattle.stm_history.specs.Refusals.{overflows, finish_refused, finish_t
 use crate::errors::FinishError;
 use crate::index::{forget, queue_all, stale_tickets, unwatch_all};
 use crate::machine::Machine;
+use crate::shared_verdict::SharedVerdict;
 use crate::staleness::StalenessRule;
 use crate::tickets::Tickets;
 use std::alloc::Global;
@@ -31,7 +32,7 @@ use stm_watch::Watch;
 /// gets; and the tickets that become stale, rising.
 #[derive(Drop)]
 pub struct Plan {
-    pub verdict: Verdict,
+    pub verdict: SharedVerdict,
     pub first_new: u32,
     pub stale: Tickets,
 }
@@ -62,13 +63,13 @@ fn news_of(verdict: &Verdict) -> usize
     }
 }
 
-/// The copy of the verdict, the number and the tickets that a finish needs.
+/// The verdict, the number and the tickets that a finish needs.
 fn make_plan(
     alloc: Global,
     rule: StalenessRule,
     store: &Store,
     watch: &Watch,
-    verdict: &Verdict,
+    verdict: &SharedVerdict,
     ticket: u32,
 ) -> Result<Plan, NoMemory>
     ensures verdict { IfOk result (λ p. p.verdict ≡ verdict.now) }
@@ -78,12 +79,12 @@ fn make_plan(
         → list_any (nat_eq u) p.stale
         ≡ (not (nat_eq u ticket) && watches watch.now (waking rule store.now verdict.now) u)) }
 {
-    let stale = Tickets::from_vec(stale_tickets(alloc, rule, store, watch, verdict, ticket)?);
-    let verdict = verdict.copy(alloc)?;
+    let blocks = Verdict::Blocks;
+    let stale = stale_tickets(alloc, rule, store, watch, verdict.get(&blocks), ticket)?;
     Ok(Plan {
-        verdict,
+        verdict: verdict.share()?,
         first_new: store.len() as u32,
-        stale,
+        stale: Tickets::new(alloc, stale)?,
     })
 }
 
@@ -91,7 +92,7 @@ fn make_plan(
 fn take_effect(
     pending: &mut Pending,
     store: &mut Store,
-    verdict: &Verdict,
+    verdict: &SharedVerdict,
     stale: usize,
 ) -> Result<Applied, NoMemory>
     requires { Fits (plains store.old) verdict.now }
@@ -102,7 +103,8 @@ fn take_effect(
     ensures err { OnErr result (store.new ≡ store.old) }
 {
     pending.make_room(stale)?;
-    match store.apply(verdict) {
+    let blocks = Verdict::Blocks;
+    match store.apply(verdict.get(&blocks)) {
         Ok(applied) => Ok(applied),
         Err(_) => Err(NoMemory),
     }
@@ -125,10 +127,11 @@ impl Machine {
         // The store and the block are known to be well typed by these.
         let _cells = self.store.len();
         let _action = waiting.block.block().action();
-        let verdict = match &waiting.held {
-            Some(held) => self.waiting.verdict(held),
+        let held = match &waiting.held {
+            Some(held) => held,
             None => return Err(FinishError::NotEvaluated),
         };
+        let verdict = self.waiting.verdict(held);
         if self.pending.has(ticket) {
             return Err(FinishError::Stale);
         }
@@ -141,7 +144,14 @@ impl Machine {
         if overflows_store(&self.store, verdict) {
             return Err(FinishError::CellsFull);
         }
-        match make_plan(self.alloc, rule, &self.store, &self.watch, verdict, ticket) {
+        match make_plan(
+            self.alloc,
+            rule,
+            &self.store,
+            &self.watch,
+            &held.verdict,
+            ticket,
+        ) {
             Ok(plan) => Ok(plan),
             Err(_) => Err(FinishError::NoMemory),
         }

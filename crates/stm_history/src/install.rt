@@ -10,13 +10,12 @@ ghost use Rattle.stm_history.specs.declared.event.Event.{Event};
 ghost use Rattle.stm_history.specs.declared.event.What.{What as AnyWhat};
 ghost use Rattle.stm_history.specs.declared.staleness.StalenessRule.{StalenessRule as AnyRule};
 ghost use Rattle.stm_history.specs.SlowDesk.{under, find_waiter, state_by};
-ghost use Rattle.stm_history.specs.HeldVerdict.{IsRoomFor};
 ghost use Rattle.stm_history.specs.Machine.{StandsForBy, CanInstallBy, MovesToBy};
 ghost use Rattle.stm_history.specs.Refusals.{differing, has_value, install_told, TellsDelivery};
 
 use crate::errors::DeliverError;
-use crate::held_verdict::{HeldVerdict, Room};
 use crate::machine::Machine;
+use crate::shared_verdict::SharedVerdict;
 use crate::waiting::{Held, Waiting};
 use std::alloc::Global;
 use stm_eval::Evaluated;
@@ -73,16 +72,22 @@ fn watch_reads(watch: &mut Watch, message: &Evaluated) -> Result<(), NoMemory>
     watch.add(message.ticket(), message.reads().as_slice())
 }
 
-/// What installing the message takes: room for its verdict, and that its ticket watches what its block read.
-fn take_memory(alloc: Global, watch: &mut Watch, message: &Evaluated) -> Result<Room, NoMemory>
-    ensures room { IfOk result (λ r. IsRoomFor r (message_verdict message.now)) }
+/// What installing the message takes: two holds on its verdict, and that its ticket watches what its block read.
+fn take_memory(
+    alloc: Global,
+    watch: &mut Watch,
+    message: &Evaluated,
+) -> Result<(SharedVerdict, SharedVerdict), NoMemory>
+    ensures verdicts { IfOk result (λ p. (p.0 ≡ message_verdict message.now)
+        × (p.1 ≡ message_verdict message.now)) }
     ensures watch { OnOk result
         (WithReads watch.old (message_ticket message.now) (message_reads message.now) watch.new) }
     ensures err { OnErr result (watch.new ≡ watch.old) }
 {
-    let room = HeldVerdict::room(alloc, message.verdict())?;
+    let verdict = SharedVerdict::of_copy(alloc, message.verdict())?;
+    let other = verdict.share()?;
     match watch_reads(watch, message) {
-        Ok(()) => Ok(room),
+        Ok(()) => Ok((verdict, other)),
         Err(refused) => Err(refused),
     }
 }
@@ -120,29 +125,30 @@ impl Machine {
         Ok(())
     }
 
-    /// Installs a message: its block is current from then on, neither queued nor out. A refusal hands the message back.
+    /// Installs a message: its block is current from then on, neither queued nor out. The answer is its verdict, for the event;
+    /// a refusal hands the message back.
     // A message is moved by value; a call that isn't inlined copies it.
     #[inline(always)]
-    pub fn install(&mut self, message: Evaluated) -> Result<(), (Evaluated, NoMemory)>
+    pub fn install(&mut self, message: Evaluated) -> Result<SharedVerdict, (Evaluated, NoMemory)>
         requires { (R : AnyRule) × (T : List Declared) × (H : List Event)
             × CanInstallBy R T H self.old message }
         ensures moved { OnOk result ((R : AnyRule) (T : List Declared) (H : List Event)
             → CanInstallBy R T H self.old message
             → MovesToBy R T H
             (AnyWhat.Installed (message_ticket message) (message_verdict message)) self.new) }
+        ensures verdict { IfOk result (λ v. v ≡ message_verdict message) }
         ensures pending { OnOk result (self.new.pending
             ≡ without_ticket (message_ticket message) self.old.pending) }
         ensures back { IfErr result (λ e. e.0 ≡ message) }
         ensures err { OnErr result (self.new ≡ self.old) }
     {
         match take_memory(self.alloc, &mut self.watch, &message) {
-            Ok(room) => {
+            Ok((verdict, told)) => {
                 let ticket = message.ticket();
-                let (reads, verdict) = message.into_parts();
-                let verdict = room.filled(verdict);
+                let (reads, _) = message.into_parts();
                 self.waiting.hold(ticket, Held { reads, verdict });
                 let _ = self.pending.remove(ticket);
-                Ok(())
+                Ok(told)
             }
             Err(refused) => Err((message, refused)),
         }

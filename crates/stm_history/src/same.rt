@@ -5,7 +5,6 @@ ghost use Rattle.std.specs.Prelude.{◌≡◌, ◌↔◌, ◌&&◌, IsTrue};
 use crate::event::{Event, What};
 use crate::tickets::Tickets;
 use stm_check::SharedBlock;
-use stm_terms::verdicts::Verdict;
 
 pub(crate) fn same_numbers(one: &[u32], other: &[u32]) -> bool
     ensures { IsTrue result ↔ (one.now ≡ other.now) }

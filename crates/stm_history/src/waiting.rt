@@ -5,7 +5,7 @@ ghost use Rattle.stm_queue.specs.SortedTickets.{member};
 ghost use Rattle.std.specs.Option.{option_copied};
 ghost use Rattle.stm_history.specs.Entries.{kept_at, kept, lose, with_held, AllBelow, held_reads, held_ends, ends_under, first_above};
 
-use crate::held_verdict::HeldVerdict;
+use crate::shared_verdict::SharedVerdict;
 use crate::ticket_set::TicketSet;
 use std::alloc::{AllocError as NoMemory, Global};
 use std::collections::BTreeMap;
@@ -20,7 +20,7 @@ use stm_terms::verdicts::Verdict;
 #[derive(Drop)]
 pub struct Held {
     pub reads: Reads,
-    pub verdict: HeldVerdict,
+    pub verdict: SharedVerdict,
 }
 
 /// A block that waits, with what its last accepted delivery brought.

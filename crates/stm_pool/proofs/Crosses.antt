@@ -14,6 +14,9 @@ use Rattle.stm_check.specs.contracts.typed.Typed as typed
 use Rattle.stm_eval.specs.contracts.job.Job as job
 use Rattle.stm_eval.specs.contracts.message.Evaluated as message
 use Rattle.stm_pool.specs.contracts.slot.Slot as slot
+use Rattle.stm_terms.specs.contracts.verdicts.Verdict as verdict
+use Rattle.stm_history.specs.contracts.shared_verdict.SharedVerdict as shared_verdict
+use Rattle.stm_history.specs.contracts.tickets.Tickets as tickets
 use Rattle.stm_history.specs.contracts.event.Event as event
 use Rattle.stm_history.specs.contracts.waiting.Held as held
 use Rattle.stm_history.specs.contracts.waiting.Waiting as waiting
@@ -50,11 +53,23 @@ pub slot_send : IsSend slot.the_row
 slot_send = search (sendable, job_send, message_send) depth 30 fits 20000
 
 -- ---- the desk under its lock
+pub verdict_send : IsSend verdict.the_row
+verdict_send = search (sendable, crosses) depth 40 fits 100000
+
+pub verdict_sync : IsSync verdict.the_row
+verdict_sync = search (sendable, crosses) depth 40 fits 100000
+
+pub shared_verdict_send : IsSend shared_verdict.the_row
+shared_verdict_send = search (sendable, crosses, verdict_send, verdict_sync) depth 30
+
+pub tickets_send : IsSend tickets.the_row
+tickets_send = search (sendable, crosses) depth 40 fits 100000
+
 pub event_send : IsSend event.the_row
-event_send = search (sendable, crosses, maps_crosses, action_crosses, expr_crosses) depth 40 fits 100000
+event_send = search (sendable, block_send, shared_verdict_send, tickets_send) depth 40 fits 100000
 
 pub held_send : IsSend held.the_row
-held_send = search (sendable, crosses) depth 40 fits 100000
+held_send = search (sendable, crosses, shared_verdict_send) depth 40 fits 100000
 
 pub waiting_send : IsSend waiting.the_row
 waiting_send = search (sendable, block_send, held_send) depth 40 fits 100000

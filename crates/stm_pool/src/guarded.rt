@@ -19,7 +19,7 @@ use std::sync::ledger::{Book, Ledger, Share};
 use stm_check::SharedBlock;
 use stm_desk::{CancelError, DeliverError, Desk, Finish, FinishError, SubmitError};
 use stm_eval::{Evaluated, Job};
-use stm_history::{Event, What};
+use stm_history::{Event, SharedVerdict, What};
 use stm_store::Frozen;
 use stm_terms::NoMemory;
 
@@ -146,7 +146,7 @@ impl<L: Ledger> Guarded<L> {
         if pass.own.reserve(1).is_err() {
             return Err((message, DeliverError::NoMemory));
         }
-        let Ok(verdict) = message.verdict().copy(alloc) else {
+        let Ok(verdict) = SharedVerdict::of_copy(alloc, message.verdict()) else {
             return Err((message, DeliverError::NoMemory));
         };
         let client = pass.client;

@@ -21,6 +21,7 @@ use crate::files::replayer::{MAX_EVENTS, Replayer};
 use crate::finish::Plan;
 use crate::machine::Machine;
 use crate::same::same_numbers;
+use crate::shared_verdict::SharedVerdict;
 use crate::staleness::StalenessRule;
 use stm_check::SharedBlock;
 use stm_eval::Evaluated;
@@ -137,7 +138,7 @@ fn cancelled(machine: &mut Machine, ticket: u32) -> Result<(), StepError>
 }
 
 /// Whether the fields of a finish are those of the plan.
-fn is_plan(plan: &Plan, verdict: &Verdict, first_new: u32, stale: &[u32]) -> bool
+fn is_plan(plan: &Plan, verdict: &SharedVerdict, first_new: u32, stale: &[u32]) -> bool
     ensures same { IsTrue result
         → (plan.now.verdict ≡ verdict.now) × (plan.now.first_new ≡ first_new)
         × (plan.now.stale ≡ stale.now) }
@@ -154,7 +155,7 @@ fn finish_by(
     machine: &mut Machine,
     ticket: u32,
     plan: &Plan,
-    verdict: &Verdict,
+    verdict: &SharedVerdict,
     first_new: u32,
     stale: &[u32],
 ) -> Result<(), StepError>
@@ -182,7 +183,7 @@ fn finished(
     machine: &mut Machine,
     rule: StalenessRule,
     ticket: u32,
-    verdict: &Verdict,
+    verdict: &SharedVerdict,
     first_new: u32,
     stale: &[u32],
 ) -> Result<(), StepError>
@@ -200,8 +201,20 @@ fn finished(
     }
 }
 
+/// Whether the message brings this verdict.
+fn brings(message: &Evaluated, verdict: &SharedVerdict) -> bool
+    ensures { IsTrue result ↔ (message_verdict message.now ≡ verdict.now) }
+{
+    let blocks = Verdict::Blocks;
+    message.verdict().same(verdict.get(&blocks))
+}
+
 /// Whether the message may be installed, and brings this verdict.
-fn may_bring(machine: &Machine, message: &Evaluated, verdict: &Verdict) -> Result<(), StepError>
+fn may_bring(
+    machine: &Machine,
+    message: &Evaluated,
+    verdict: &SharedVerdict,
+) -> Result<(), StepError>
     requires present { (R : AnyRule) (T : List Declared) (H : List AnyEvent)
         → HasRoom R T H machine.now
         → IsPresent (state_by R T H) (message_ticket message.now) message.now }
@@ -212,7 +225,7 @@ fn may_bring(machine: &Machine, message: &Evaluated, verdict: &Verdict) -> Resul
         → (R : AnyRule) (T : List Declared) (H : List AnyEvent) → HasRoom R T H machine.now
         → WhatIsIllegal R T H (Installed (message_ticket message.now) verdict.now) }
 {
-    if !message.verdict().same(verdict) {
+    if !brings(message, verdict) {
         return Err(StepError::NotAllowed);
     }
     match machine.may_install(message, false) {
@@ -225,7 +238,7 @@ fn may_bring(machine: &Machine, message: &Evaluated, verdict: &Verdict) -> Resul
 fn install_message(
     machine: &mut Machine,
     message: Evaluated,
-    verdict: &Verdict,
+    verdict: &SharedVerdict,
 ) -> Result<(), StepError>
     requires room { (R : AnyRule) × (T : List Declared) × (H : List AnyEvent)
         × HasRoom R T H machine.old }
@@ -240,7 +253,7 @@ fn install_message(
 {
     match may_bring(machine, &message, verdict) {
         Ok(()) => match machine.install(message) {
-            Ok(()) => Ok(()),
+            Ok(_) => Ok(()),
             Err(_) => Err(StepError::NoMemory),
         },
         Err(error) => Err(error),
@@ -252,7 +265,7 @@ fn installed(
     machine: &mut Machine,
     copy: &Frozen,
     ticket: u32,
-    verdict: &Verdict,
+    verdict: &SharedVerdict,
 ) -> Result<(), StepError>
     requires room { (R : AnyRule) × (T : List Declared) × (H : List AnyEvent)
         × HasRoom R T H machine.old }
@@ -285,7 +298,7 @@ fn keep_copy(machine: &Machine, copy: &mut Option<Frozen>) -> Result<(), NoMemor
 
 impl Replayer {
     /// A verdict is installed.
-    fn install(&mut self, ticket: u32, verdict: &Verdict) -> Result<(), StepError>
+    fn install(&mut self, ticket: u32, verdict: &SharedVerdict) -> Result<(), StepError>
         requires room { (R : AnyRule) × (T : List Declared) × (H : List AnyEvent)
             × HasRoom R T H self.old.machine }
         requires copied { IfSome self.old.copy (λ cells. cells ≡ plains self.old.machine.store) }

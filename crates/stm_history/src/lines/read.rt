@@ -19,6 +19,7 @@ use crate::lines::parts::numbers_at;
 use crate::lines::variable::Variable;
 use crate::lines::verdicts::verdict_at;
 use crate::lines::write::{event_text, header_text, variable_text};
+use crate::shared_verdict::SharedVerdict;
 use crate::tickets::Tickets;
 use serde_json::Value as Json;
 use std::alloc::Global;
@@ -98,7 +99,10 @@ fn installed(alloc: Global, json: &Json, ticket: u32) -> Result<Option<What>, No
     ensures fits { IfOk result (λ o. IfSome o (λ w. (t : List Declared) → WhatFitsTable t w)) }
 {
     match verdict_at(alloc, json, "verdict")? {
-        Some(verdict) => Ok(Some(What::Installed { ticket, verdict })),
+        Some(verdict) => Ok(Some(What::Installed {
+            ticket,
+            verdict: SharedVerdict::new(alloc, verdict)?,
+        })),
         None => Ok(None),
     }
 }
@@ -118,9 +122,9 @@ fn finished(alloc: Global, json: &Json, ticket: u32) -> Result<Option<What>, NoM
     };
     Ok(Some(What::Finished {
         ticket,
-        verdict,
+        verdict: SharedVerdict::new(alloc, verdict)?,
         first_new,
-        stale: Tickets::from_vec(stale),
+        stale: Tickets::new(alloc, stale)?,
     }))
 }
 

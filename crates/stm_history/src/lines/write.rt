@@ -7,6 +7,7 @@ ghost use Rattle.stm_history.specs.Lines.{what_data, event_data, event_line, hea
 
 use crate::event::{Event, What};
 use crate::lines::build::{numbers_json, type_text, value_json, verdict_json};
+use crate::shared_verdict::SharedVerdict;
 use serde_json::{Value as Json, json};
 use std::alloc::Global;
 use stm_check::SharedBlock;
@@ -30,11 +31,12 @@ fn installed_json(
     alloc: Global,
     client: u32,
     ticket: u32,
-    verdict: &Verdict,
+    verdict: &SharedVerdict,
 ) -> Result<Json, NoMemory>
     ensures { IfOk result (λ v. view v ≡ what_data client (Installed ticket verdict.now)) }
 {
-    let verdict = verdict_json(alloc, verdict)?;
+    let blocks = Verdict::Blocks;
+    let verdict = verdict_json(alloc, verdict.get(&blocks))?;
     json!(in alloc; {"client": client, "event": "installed", "ticket": ticket, "verdict": verdict})
 }
 
@@ -42,14 +44,15 @@ fn finished_json(
     alloc: Global,
     client: u32,
     ticket: u32,
-    verdict: &Verdict,
+    verdict: &SharedVerdict,
     first_new: u32,
     stale: &[u32],
 ) -> Result<Json, NoMemory>
     ensures { IfOk result (λ v. view v
         ≡ what_data client (Finished ticket verdict.now first_new stale.now)) }
 {
-    let verdict = verdict_json(alloc, verdict)?;
+    let blocks = Verdict::Blocks;
+    let verdict = verdict_json(alloc, verdict.get(&blocks))?;
     let stale = numbers_json(alloc, stale)?;
     json!(in alloc; {"client": client, "event": "finished", "first_new": first_new, "stale": stale, "ticket": ticket, "verdict": verdict})
 }

@@ -1,14 +1,14 @@
-use Rattle.std.proofs.Common.{◌∙◌, arith}
+use Rattle.std.proofs.Common.{arith}
 use Rattle.std.proofs.lemmas.Grind.{common_steps}
 use Rattle.stm_history.specs.Refusals.{deliver_error}
 use Rattle.stm_history.proofs.Steps.{no_install, install_same}
 use Rattle.stm_history.proofs.files.stepping.may_bring.Goals as goal
 
-pub returns-then-not-same-clause-not_allowed : goal.returns-then-not-same-clause-not_allowed
-returns-then-not-same-clause-not_allowed c = λ n R T H h client a.
+pub returns-then-not-brings-clause-not_allowed : goal.returns-then-not-brings-clause-not_allowed
+returns-then-not-brings-clause-not_allowed c = λ n R T H h client a.
     let same = install_same R T H client c.args.verdict.now c.args.message.now a (c.requires.present R T H h) in
-    let yes = c.same.ensures.1 (c.verdict.ensures.value ∙ same) in
-    let no_ = c.if-not-same.true in
+    let yes = c.brings.ensures.1 same in
+    let no_ = c.if-not-brings.true in
     grind (arith, common_steps)
 
 pub returns-in-Err-clause-not_allowed : goal.returns-in-Err-clause-not_allowed

@@ -23,5 +23,5 @@ pub returns-in-Ok-clause-moved : goal.returns-in-Ok-clause-moved
 returns-in-Ok-clause-moved c = λ R T H h.
     let m = c.args.message in
     let k = subst (λ (z : Parts). CanInstallBy R T H z m) (sym c.self.view_is) h in
-    rw (c.hold.ensures, c.remove.ensures.gone, c.ticket-ticket.ensures, c.into_parts-reads.ensures.reads, c.filled-verdict.ensures, c.into_parts-reads.ensures.verdict)
+    rw (c.hold.ensures, c.remove.ensures.gone, c.ticket-ticket.ensures, c.into_parts-reads.ensures.reads, c.in-Ok.ensures.verdicts.0)
     (moves_install R T H _ _ m k (λ S a. to_store (message_block m).tree (message_reads m) (message_verdict m) S (record { defined = m.defined; all_read = m.all_read }) a) c.in-Ok.ensures.watch)

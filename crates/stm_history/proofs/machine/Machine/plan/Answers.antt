@@ -1,11 +1,9 @@
-use Rattle.std.proofs.Common.{◌≡◌, ◌∙◌, true, false, not, ◌&&◌, List, [], Some, None, refl, sym, ap, subst}
-use Rattle.std.specs.Prelude.{nat_eq}
+use Rattle.std.proofs.Common.{◌≡◌, ◌∙◌, true, false, List, [], Some, None, refl, sym, ap, subst}
 use Rattle.std.specs.Option.{option_copied}
 use Rattle.stm_store.specs.declared.cell.Cell.{Cell}
 use Rattle.stm_terms.specs.Typing.{action_type, kinds_in, result_type}
 use Rattle.stm_check.specs.TypedBlock.{Block}
-use Rattle.stm_watch.specs.Pairs.{watches}
-use Rattle.stm_history.specs.SlowDesk.{state_by, is_blocks, waking}
+use Rattle.stm_history.specs.SlowDesk.{state_by, is_blocks}
 use Rattle.stm_history.specs.Entries.{kept_at}
 use Rattle.stm_history.specs.Machine.{StandsForBy}
 use Rattle.stm_history.specs.Refusals.{overflows}
@@ -100,5 +98,4 @@ returns-in-Ok-clause-plan c = λ T H h.
     subst (λ (b : Block). action_type (kinds_in b.uses) [] b.tree ≡ Some (result_type b.result_type)) c.block.ensures c.action-action.ensures.typed in
     is_plan c.args.rule T H _ k c.args.ticket c.in-Some-held.held c.in-Some.waiting.now _ p c.in-Ok.plan.verdict c.in-Ok.plan.first_new c.in-Ok.plan.stale
     q c.len-cells.ensures.typed a (ap is_blocks (sym c.verdict-verdict.ensures) ∙ sym c.blocks-2.ensures ∙ c.if-blocks.false) (ap (λ v. overflows c.self.inside.store (Some v)) (sym c.verdict-verdict.ensures) ∙ sym c.overflows_store.ensures ∙ c.if-overflows_store.false)
-    (c.in-Ok.ensures.verdict ∙ c.verdict-verdict.ensures) c.in-Ok.ensures.first_new c.in-Ok.ensures.rising
-    (λ u. c.in-Ok.ensures.watchers u ∙ ap (λ v. not (nat_eq u c.args.ticket) && watches c.self.inside.watch (waking c.args.rule c.self.inside.store v) u) c.verdict-verdict.ensures)
+    c.in-Ok.ensures.verdict c.in-Ok.ensures.first_new c.in-Ok.ensures.rising c.in-Ok.ensures.watchers
