@@ -1,5 +1,6 @@
 """Transcripts of a program: what it reads, and beneath each line what it answers (tests/README.md)."""
 
+import argparse
 import ast
 import os
 import pathlib
@@ -162,6 +163,27 @@ def judged(program, case):
     if not taken_well(case, done.taken):
         said.append(f"{done.taken} bytes of the input were read")
     return "\n".join(said) or None
+
+
+def executable(path):
+    """The absolute path of a program, for argparse."""
+    if not (os.path.isfile(path) and os.access(path, os.X_OK)):
+        raise argparse.ArgumentTypeError(f"no program stands at {path}; `rt run` in the folder of its crate builds it")
+    return os.path.abspath(path)
+
+
+def words_for(about):
+    """The parser of a script's words, with its help."""
+    return argparse.ArgumentParser(description=about, formatter_class=argparse.RawDescriptionHelpFormatter)
+
+
+def asked(about):
+    """The program that a script is to run, and the part of a name that it is given, or an empty one."""
+    parser = words_for(about)
+    parser.add_argument("program", metavar="PROGRAM", type=executable, help="the built program: crates/CRATE/out/CRATE")
+    parser.add_argument("part", metavar="PART", nargs="?", default="", help="only what has this in its name")
+    given = parser.parse_args()
+    return given.program, given.part
 
 
 def tally(results):

@@ -1,11 +1,12 @@
 #!/usr/bin/env python3
-"""Tests of stmdesk.py against the program: test_stmdesk.py [PROGRAM] [PART OF A NAME].
+"""Tests of stmdesk.py against the program.
 
-PROGRAM is the built program, by default that of the variable STMDESK of the environment, or else the script `stmdesk` at the
-top of the repository. Expected answers are from docs/CONSOLE.md and docs/LANGUAGE.md. Where a program has to misbehave, a
-script of a few lines stands in for it. The last line is 'N passed, M failed'.
+That is by default the one of the variable STMDESK of the environment, or else the script `stmdesk` at the top of the
+repository. Expected answers are from docs/CONSOLE.md and docs/LANGUAGE.md. Where a program has to misbehave, a script of a few
+lines stands in for it. The last line is 'N passed, M failed'.
 """
 
+import argparse
 import doctest
 import functools
 import os
@@ -589,10 +590,14 @@ class Pages(OnProgram):
 
 def main():
     global program
-    if len(sys.argv) > 1:
-        program = str(pathlib.Path(sys.argv[1]).resolve())
+    parser = argparse.ArgumentParser(description=__doc__, formatter_class=argparse.RawDescriptionHelpFormatter)
+    parser.add_argument("program", metavar="PROGRAM", nargs="?", help="the built program")
+    parser.add_argument("part", metavar="PART", nargs="?", default="", help="only tests that have this in their name")
+    asked = parser.parse_args()
+    if asked.program:
+        program = str(pathlib.Path(asked.program).resolve())
     loader = unittest.TestLoader()
-    loader.testNamePatterns = [f"*{sys.argv[2]}*"] if len(sys.argv) > 2 else None
+    loader.testNamePatterns = [f"*{asked.part}*"]
     result = unittest.TextTestRunner(sys.stdout).run(loader.loadTestsFromModule(sys.modules[__name__]))
     failed = {getattr(test, "test_case", test).id() for test, _ in result.failures + result.errors}  # a test, not its parts
     print(f"{result.testsRun - len(failed)} passed, {len(failed)} failed", flush=True)
