@@ -39,13 +39,22 @@ def try_edit(crate, edit):
     return 0, 1, f"it did not reach the prover: {build.faults(status, lines)}" if status else "the crate is still proved with it"
 
 
+def changed_files(crate, edit):
+    """The files of the crate that an edit changes."""
+    named = [line.partition(":")[2].strip() for line in edit.read_text().split("\n") if line.startswith("file:")]
+    return [crate.folder / it for it in named]
+
+
 def keys(crate, edit):
-    """Hashes of all that the answer rests on: first of all text; then of the crate's text and of what it sees below."""
+    """Hashes of all that the answer rests on: first of all text; then of the files that it changes, and of what these see of
+    their crate and of those below. A library's face has the contracts of its private functions too."""
 
     def seen():
-        why = build.build_below(crate)
+        why = build.build_below(crate) or (None if crate.is_program else build.build_library(crate))
         if why:
             raise ValueError(why)
-        return repository.digest(crate.own_digest(), edit.read_text(), *(it.face() for it in crate.below))
+        own = crate.own_digest() if crate.is_program else crate.face()
+        files = [repository.contents(it) for it in changed_files(crate, edit)]
+        return repository.digest(own, files, edit.read_text(), *(it.face() for it in crate.below))
 
     return [lambda: repository.digest(crate.digest(), edit.read_text()), seen]
