@@ -19,6 +19,7 @@ import parts
 import repository
 
 LEDGER = repository.ROOT / "out" / "passed.json"
+STAMP = repository.ROOT / "tools" / "stamp.py"
 RUNNING, BUILT = set(), set()  # the commands that run now; the libraries that this run has seen built
 STOPPED = threading.Event()  # set once this program is to end
 PROVED = re.compile(r"checked |(fn|struct|enum) .*: proved$|statements |crate |logic ")
@@ -77,16 +78,53 @@ def build_below(crate):
     return None
 
 
-def run_program(crate, folder, jobs):
+def seen(crate):
+    """A hash of all that the proof of a library rests on, and all that its rlib is made of: its own text, and what it sees of
+    those below, which are built."""
+    return repository.digest(crate.own_digest(), *((it.line, it.face()) for it in crate.below))
+
+
+def renew(crate, folder, wanted):
+    """Whether the rlib in this room was built of the same as now. Where only bodies changed below it, it is the one that the
+    toolchain would build again, and gets the stamp of the present text; should that stamp be wrong, it is built again."""
+    rlib = folder / "out" / "rlib"
+    try:
+        if (rlib / "seen").read_text() != wanted:
+            return False
+        status, lines = run([sys.executable, str(STAMP), str(folder.parent.parent), crate.name], folder)
+        if not status:
+            (rlib / "stamp").write_text("".join(lines))
+        return not status
+    except OSError:
+        return False
+
+
+def run_program(crate, jobs):
     """Proves and builds a program and runs it on its own input; a text where it fails or writes what it should not."""
-    given = {it: (folder / it).read_bytes() if (folder / it).exists() else b"" for it in repository.GIVEN}
-    words = ["rt", "run", "--jobs", str(jobs), "--", *given["args"].decode().splitlines()]
-    with started(words, folder, stdin=subprocess.PIPE, stderr=subprocess.PIPE) as ran:
-        written, said = ran.communicate(given["stdin"])
+    with repository.workroom(crate) as folder:
+        given = {it: (folder / it).read_bytes() if (folder / it).exists() else b"" for it in repository.GIVEN}
+        words = ["rt", "run", "--jobs", str(jobs), "--", *given["args"].decode().splitlines()]
+        with started(words, folder, stdin=subprocess.PIPE, stderr=subprocess.PIPE) as ran:
+            written, said = ran.communicate(given["stdin"])
     lines = said.decode(errors="replace").splitlines()
     if not any(it.startswith("rt: running ") for it in lines) or ran.returncode != int(given["status"] or 0):
         return faults(ran.returncode, lines)
     return None if written == given["stdout"] else "it writes something else than its file stdout has"
+
+
+def prove_library(crate, jobs, heard):
+    """Proves a library and builds it for those above; a text where it fails."""
+    wanted = seen(crate)
+    with repository.workroom(crate) as folder:
+        is_there = renew(crate, folder, wanted)
+        # A library is built of a proved crate alone, but the command that proves and builds it says nothing meanwhile.
+        for words in (["rt", "check"], ["rt", "lib"]) if heard and not is_there else (["rt", "lib"],):
+            status, lines = run([*words, "--jobs", str(jobs)], folder, heard)
+            if status:
+                return faults(status, lines)
+        if seen(crate) == wanted:
+            (folder / "out" / "rlib" / "seen").write_text(wanted)
+    return None
 
 
 def prove(crate, jobs, heard=None):
@@ -94,19 +132,7 @@ def prove(crate, jobs, heard=None):
     Returns how many passed and failed, and a text. `heard` is called with each line of the proof as it comes."""
     if heard:
         heard("")
-    why = build_below(crate)
-    if why:
-        return 0, 1, why
-    with repository.workroom(crate) as folder:
-        if crate.is_program:
-            why = run_program(crate, folder, jobs)
-        else:
-            # A library is built of a proved crate alone, but the command that proves and builds it says nothing meanwhile.
-            for words in (["rt", "check"], ["rt", "lib"]) if heard else (["rt", "lib"],):
-                status, lines = run([*words, "--jobs", str(jobs)], folder, heard)
-                why = faults(status, lines) if status else None
-                if why:
-                    break
+    why = build_below(crate) or (run_program(crate, jobs) if crate.is_program else prove_library(crate, jobs, heard))
     if why:
         return 0, 1, why
     BUILT.add(crate.name)

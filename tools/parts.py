@@ -98,7 +98,7 @@ def run_parts(parts, ledger=None, at_once=0, tell=print):
                     given[part.name] = 0, 1, 0
                     tell(f"FAILED {part.name}: not run, since {lacking[0]} failed")
                     continue
-                jobs = max(1, min(part.most_jobs, idle // (len(ready) - at)))
+                jobs = min(part.most_jobs, -(-idle // (len(ready) - at)))  # a share, rounded up: the longest chains stand first
                 running[pool.submit(judged, part, ledger, jobs)] = part, jobs, time.monotonic()
             for it in wait(running, return_when=FIRST_COMPLETED).done if running else ():
                 part, _, begun = running.pop(it)

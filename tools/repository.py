@@ -124,6 +124,11 @@ def link_or_copy(source, to):
         shutil.copy2(source, to)
 
 
+def link_proofs(source, to):
+    """Gives a proof that a check kept a second name, since the toolchain replaces such a file and changes none; copies others."""
+    (link_or_copy if str(source).endswith(".oantt") else shutil.copy2)(source, to)
+
+
 def copy_texts(crate, to):
     for part in TEXTS + GIVEN:
         if (crate.folder / part).is_dir():
@@ -147,7 +152,7 @@ def room(crate, kept=False):
                 if it is not crate and (it.folder / "out/rlib").is_dir():
                     shutil.copytree(it.folder / "out/rlib", to / "out/rlib", copy_function=link_or_copy)
                 if it is crate and kept and (it.folder / "out/incremental").is_dir():
-                    shutil.copytree(it.folder / "out/incremental", to / "out/incremental")
+                    shutil.copytree(it.folder / "out/incremental", to / "out/incremental", copy_function=link_proofs)
         yield place / "crates" / crate.name
 
 

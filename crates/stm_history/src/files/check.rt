@@ -265,6 +265,27 @@ impl Checker {
         }
     }
 
+    /// Takes the line feed that ends a line.
+    fn end_line(&mut self) -> Result<(), HistoryFault>
+        requires { (taken : List ℕ) × Reached self.old.stage self.old.line.items taken }
+        ensures done { OnOk result ((taken : List ℕ)
+            → Reached self.old.stage self.old.line.items taken
+            → Reached self.new.stage self.new.line.items (taken ++ 10 ∷ [])) }
+        ensures fault { IfErr result (λ e. (taken more : List ℕ)
+            → Reached self.old.stage self.old.line.items taken
+            → TellsFault e (taken ++ 10 ∷ more)) }
+    {
+        let stage = mem::replace(&mut self.stage, Stage::Before);
+        match take_line(self.alloc, stage, &self.line) {
+            Ok(next) => {
+                self.stage = next;
+                self.line.clear();
+                Ok(())
+            }
+            Err(fault) => Err(fault),
+        }
+    }
+
     /// Takes one more byte.
     fn take_byte(&mut self, byte: u8) -> Result<(), HistoryFault>
         requires { (taken : List ℕ) × Reached self.old.stage self.old.line.items taken }
@@ -276,10 +297,7 @@ impl Checker {
             → TellsFault e (taken ++ byte ∷ more)) }
     {
         if byte == b'\n' {
-            let stage = mem::replace(&mut self.stage, Stage::Before);
-            self.stage = take_line(self.alloc, stage, &self.line)?;
-            self.line.clear();
-            return Ok(());
+            return self.end_line();
         }
         if self.line.len() >= MAX_LINE {
             return Err(strange_fault(&self.stage));

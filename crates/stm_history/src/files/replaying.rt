@@ -1,6 +1,8 @@
 //! Lists of events, judged.
 
-ghost use Rattle.std.specs.Prelude.{◌≡◌, IfOk, IfErr};
+ghost use Rattle.std.specs.Prelude.{◌≡◌, [], List, IfOk, IfErr, OnOk};
+ghost use Rattle.stm_store.specs.Tables.{Declared};
+ghost use Rattle.stm_history.specs.Following.{Follows};
 ghost use Rattle.stm_history.specs.Judgement.{numbers, Refuses};
 ghost use Rattle.stm_history.specs.SlowDesk.{IsLegal};
 
@@ -11,6 +13,27 @@ use crate::files::stepping::StepError;
 use crate::staleness::StalenessRule;
 use std::alloc::Global;
 use stm_store::Table;
+
+/// Takes the events of a list, one after another, before any of which was taken. `NotLegal` counts them from 1.
+fn step_all(replayer: &mut Replayer, history: &[Event]) -> Result<(), HistoryFault>
+    requires { (T : List Declared) × Follows T [] replayer.old
+        × (replayer.old.rule ≡ StalenessRule.Changed) }
+    ensures done { OnOk result ((T : List Declared) → Follows T [] replayer.old
+        → Follows T history.now replayer.new) }
+    ensures rule { OnOk result (replayer.new.rule ≡ replayer.old.rule) }
+    ensures fault { IfErr result (λ e. (T : List Declared) → Follows T [] replayer.old
+        → replayer.old.rule ≡ StalenessRule.Changed → Refuses e T history.now) }
+{
+    for event in history {
+        let number = replayer.events + 1;
+        match replayer.step(event) {
+            Ok(()) => {}
+            Err(StepError::NotAllowed) => return Err(HistoryFault::NotLegal(number)),
+            Err(StepError::NoMemory) => return Err(HistoryFault::NoMemory),
+        }
+    }
+    Ok(())
+}
 
 /// Judges a list of events over a table, by the present rule. `NotLegal` counts the events from 1.
 pub fn replay(alloc: Global, table: &Table, history: &[Event]) -> Result<Legal, HistoryFault>
@@ -24,13 +47,8 @@ pub fn replay(alloc: Global, table: &Table, history: &[Event]) -> Result<Legal, 
         Ok(replayer) => replayer,
         Err(_) => return Err(HistoryFault::NoMemory),
     };
-    for event in history {
-        let number = replayer.events + 1;
-        match replayer.step(event) {
-            Ok(()) => {}
-            Err(StepError::NotAllowed) => return Err(HistoryFault::NotLegal(number)),
-            Err(StepError::NoMemory) => return Err(HistoryFault::NoMemory),
-        }
+    match step_all(&mut replayer, history) {
+        Ok(()) => Ok(replayer.numbers()),
+        Err(fault) => Err(fault),
     }
-    Ok(replayer.numbers())
 }

@@ -12,7 +12,7 @@ ghost use Rattle.stm_history.specs.Following.{HasRoom, WhatIsIllegal, Follows};
 ghost use Rattle.stm_history.specs.Judgement.{IsIllegalBy};
 ghost use Rattle.stm_history.specs.Machine.{CanInstallBy, CanFinishBy, MovesToBy};
 ghost use Rattle.stm_history.specs.Refusals.{submit_told, cancel_told, finish_told, deliver_error};
-ghost use Rattle.stm_history.specs.SlowDesk.{state_by, max_events};
+ghost use Rattle.stm_history.specs.SlowDesk.{state_by};
 ghost use Rattle.stm_history.specs.JobsHandedOut.{IsPresent};
 
 use crate::errors::{CancelError, DeliverError, FinishError, SubmitError};

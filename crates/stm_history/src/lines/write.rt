@@ -3,7 +3,7 @@
 ghost use Rattle.std.specs.Prelude.{◌≡◌, string_bytes, IfOk};
 ghost use Rattle.serde_json.specs.View.{view};
 ghost use Rattle.stm_history.specs.declared.event.What.TheVariants.{Submitted, Installed, Finished, Cancelled};
-ghost use Rattle.stm_history.specs.Lines.{what_data, event_data, event_line, header_data, header_line, variable_data, variable_line};
+ghost use Rattle.stm_history.specs.Lines.{what_data, event_data, event_line, header_data, header_line, variable_data, variable_line, verdict_data};
 
 use crate::event::{Event, What};
 use crate::lines::build::{numbers_json, type_text, value_json, verdict_json};
@@ -27,6 +27,13 @@ fn submitted_json(
     json!(in alloc; {"block": block.block().text(), "client": client, "event": "submitted", "ticket": ticket})
 }
 
+fn shared_verdict_json(alloc: Global, verdict: &SharedVerdict) -> Result<Json, NoMemory>
+    ensures { IfOk result (λ v. view v ≡ verdict_data verdict.now) }
+{
+    let blocks = Verdict::Blocks;
+    verdict_json(alloc, verdict.get(&blocks))
+}
+
 fn installed_json(
     alloc: Global,
     client: u32,
@@ -35,8 +42,7 @@ fn installed_json(
 ) -> Result<Json, NoMemory>
     ensures { IfOk result (λ v. view v ≡ what_data client (Installed ticket verdict.now)) }
 {
-    let blocks = Verdict::Blocks;
-    let verdict = verdict_json(alloc, verdict.get(&blocks))?;
+    let verdict = shared_verdict_json(alloc, verdict)?;
     json!(in alloc; {"client": client, "event": "installed", "ticket": ticket, "verdict": verdict})
 }
 
@@ -51,8 +57,7 @@ fn finished_json(
     ensures { IfOk result (λ v. view v
         ≡ what_data client (Finished ticket verdict.now first_new stale.now)) }
 {
-    let blocks = Verdict::Blocks;
-    let verdict = verdict_json(alloc, verdict.get(&blocks))?;
+    let verdict = shared_verdict_json(alloc, verdict)?;
     let stale = numbers_json(alloc, stale)?;
     json!(in alloc; {"client": client, "event": "finished", "first_new": first_new, "stale": stale, "ticket": ticket, "verdict": verdict})
 }

@@ -6,13 +6,15 @@ use Rattle.stm_history.specs.Judgement.{IsIllegalBy}
 use Rattle.stm_history.specs.SlowDesk.{IsLegalBy}
 use Rattle.stm_history.proofs.Parts.{next_at}
 use Rattle.stm_history.proofs.Refusing.{refused_at}
-use Rattle.stm_history.proofs.files.replaying.replay.Goals as goal
+use Rattle.stm_history.proofs.files.replaying.step_all.Goals as goal
+
+pub step-requires : goal.step-requires
+step-requires c = (c.requires.0, take c.loop-event.event-index c.args.history.now, c.loop-event.invariant.follows c.requires.0 c.requires.1)
 
 pub returns-in-Err-NotAllowed-clause-fault : goal.returns-in-Err-NotAllowed-clause-fault
-returns-in-Err-NotAllowed-clause-fault c =
-    let k = c.loop-event.invariant.follows in
-    let rule = c.loop-event.invariant.rule in
-    let T = c.args.table.now in
+returns-in-Err-NotAllowed-clause-fault c = λ T h changed.
+    let k = c.loop-event.invariant.follows T h in
+    let rule = c.loop-event.invariant.rule ∙ changed in
     let front = take c.loop-event.event-index c.args.history.now in
     refused_at T c.args.history.now c.loop-event.event-index _ c.event-item.result (search rules) c.event-item.is
     (subst (λ (R : StalenessRule). IsLegalBy R T front) rule k.stands.legal)
@@ -24,8 +26,8 @@ loop-event-preserved c =
     let i = c.loop-event.event-index in
     let more = next_at c.args.history.now i c.event-item.result (search rules) c.event-item.is in
     record {
-      follows =
-          subst (λ (h : List Event). Follows c.args.table.now h c.step.new.self) (sym more)
-          (c.in-Ok-step.ensures.done c.args.table.now (take i c.args.history.now) c.loop-event.invariant.follows);
-      rule = c.in-Ok-step.ensures.rule ∙ c.loop-event.invariant.rule;
+      follows = λ T h.
+          subst (λ (H : List Event). Follows T H c.step.new.self) (sym more)
+          (c.in-Ok.ensures.done T (take i c.args.history.now) (c.loop-event.invariant.follows T h));
+      rule = c.in-Ok.ensures.rule ∙ c.loop-event.invariant.rule;
     }

@@ -1,0 +1,10 @@
+use Rattle.std.proofs.Common.{◌≡◌, List, [], take}
+use Rattle.stm_store.specs.Tables.{Declared}
+use Rattle.stm_history.specs.Following.{Follows}
+use Rattle.stm_history.proofs.files.replaying.step_all.Given as goal
+
+abbrev pub invariant-loop-event : goal.invariant-loop-event
+invariant-loop-event l = record {
+  follows : (T : List Declared) → Follows T [] l.initial.replayer → Follows T (take l.event-index l.history) l.replayer;
+  rule : l.replayer.rule ≡ l.initial.replayer.rule;
+}
