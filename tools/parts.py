@@ -18,11 +18,11 @@ MEMORY = 3 << 30  # bytes that one check may take
 class Part:
     """One thing to be judged: its name, and the call that does it, which gets how many jobs it may use and returns how many
     passed, how many failed, and a text. `keys` are calls that give hashes of all that the answer depends on, the cheap ones
-    first. A part that is to be run `anew` is run though it passed."""
+    first; where `has_all_keys`, the others are cheap too. A part that is to be run `anew` is run though it passed."""
 
-    def __init__(self, name, work, keys=(), after=(), weight=1, most_jobs=1, anew=False):
+    def __init__(self, name, work, keys=(), after=(), weight=1, most_jobs=1, anew=False, has_all_keys=lambda: False):
         self.name, self.work, self.keys, self.after = name, work, keys, after
-        self.weight, self.most_jobs, self.anew = weight, most_jobs, anew
+        self.weight, self.most_jobs, self.anew, self.has_all_keys = weight, most_jobs, anew, has_all_keys
 
 
 class Ledger:
@@ -64,7 +64,8 @@ def judged(part, ledger, jobs):
             before.append(key())
             count = None if part.anew else ledger.find(part.name, before[-1])
             if count is not None:
-                if len(before) > 1:
+                is_part = len(ledger.passed[part.name]["keys"]) < len(part.keys)
+                if len(before) > 1 or is_part and part.has_all_keys():
                     ledger.put(part.name, [*before, *[key() for key in part.keys[len(before) :]]], count)
                 return 0, 0, count, ""
         passed, failed, text = part.work(jobs)
