@@ -3,7 +3,7 @@
 ghost use Rattle.std.specs.Prelude.{◌≡◌, ◌++◌, Some, string_bytes, OnOk, OnErr, IfOk};
 ghost use Rattle.stm_history.specs.HistoryText.{WritesText};
 ghost use Rattle.stm_console.specs.Abstraction.{IsReply, history_of};
-ghost use Rattle.stm_console.specs.Console.{initial_console, command_named, answer_to_command, state_after_command, answer_to, state_after};
+ghost use Rattle.stm_console.specs.Console.{initial_console, command_named, desk_answer, desk_after, answer_to_command, state_after_command, answer_to, state_after};
 ghost use Rattle.stm_console.specs.ConsoleState.{present_desk};
 ghost use Rattle.stm_console.specs.Showing.{history_answer};
 ghost use Rattle.stm_console.specs.Declaring.{tvar_answer, tvar_state};
@@ -42,8 +42,41 @@ impl OpenDesk {
         if argument.is_empty() {
             return Ok(Reply::History);
         }
-        refuse("Argument", out)?;
-        Ok(Reply::Text)
+        refuse("Argument", out).and(Ok(Reply::Text))
+    }
+
+    /// Answers a command on the open desk.
+    fn answer<T: Threads + Sync>(
+        &mut self,
+        rt: &T,
+        alloc: Global,
+        threading: Threading,
+        command: Command,
+        argument: &str,
+        out: &mut String,
+    ) -> Result<Reply, NoMemory>
+        ensures text { IfOk result (λ r. IsReply r (string_bytes out.old) (string_bytes out.new)
+            (IsOpen self.new) (desk_answer self.old command argument.now)) }
+        ensures state { OnOk result (self.new ≡ desk_after self.old command argument.now) }
+    {
+        let done = match command {
+            Command::History => return self.answer_history(argument, out),
+            Command::Tvar => refuse("Late", out),
+            Command::Try => self.answer_try(alloc, argument, out),
+            Command::Looks => self.answer_looks(alloc, argument, out),
+            Command::Submit => self.answer_submit(alloc, argument, out),
+            Command::Take => self.answer_take(alloc, argument, out),
+            Command::Deliver => self.answer_deliver(alloc, argument, out),
+            Command::Handback => self.answer_handback(argument, out),
+            Command::Eval => self.answer_eval(rt, alloc, threading, argument, out),
+            Command::Finish => self.answer_finish(argument, out),
+            Command::Cancel => self.answer_cancel(argument, out),
+            Command::Show => self.answer_show(argument, out),
+            Command::Reads => self.answer_reads(argument, out),
+            Command::Store => self.answer_store(argument, out),
+            Command::Settle => self.answer_settle(argument, out),
+        };
+        done.and(Ok(Reply::Text))
     }
 }
 
@@ -99,18 +132,11 @@ impl Console {
         ensures state { OnOk result (self.new ≡ tvar_state self.old argument.now) }
     {
         let Console::Declaring { table, .. } = self else {
-            refuse("Late", out)?;
-            return Ok(());
+            return refuse("Late", out);
         };
         match declare(alloc, table, argument) {
-            Ok(number) => {
-                write_declared(number, table.name(number), out)?;
-                Ok(())
-            }
-            Err(refusal) => {
-                write_refusal(refusal, out)?;
-                Ok(())
-            }
+            Ok(number) => write_declared(number, table.name(number), out),
+            Err(refusal) => write_refusal(refusal, out),
         }
     }
 
@@ -129,72 +155,12 @@ impl Console {
         ensures state { OnOk result
             (self.new ≡ state_after_command self.old (command_named word.now) argument.now) }
     {
-        let Some(command) = command_of(word) else {
-            refuse("Command", out)?;
-            return Ok(Reply::Text);
-        };
-        match command {
-            Command::Tvar => {
-                self.answer_tvar(alloc, argument, out)?;
-                Ok(Reply::Text)
-            }
-            Command::Try => {
-                self.opened(alloc)?.answer_try(alloc, argument, out)?;
-                Ok(Reply::Text)
-            }
-            Command::Looks => {
-                self.opened(alloc)?.answer_looks(alloc, argument, out)?;
-                Ok(Reply::Text)
-            }
-            Command::Submit => {
-                self.opened(alloc)?.answer_submit(alloc, argument, out)?;
-                Ok(Reply::Text)
-            }
-            Command::Take => {
-                self.opened(alloc)?.answer_take(alloc, argument, out)?;
-                Ok(Reply::Text)
-            }
-            Command::Deliver => {
-                self.opened(alloc)?.answer_deliver(alloc, argument, out)?;
-                Ok(Reply::Text)
-            }
-            Command::Handback => {
-                self.opened(alloc)?.answer_handback(argument, out)?;
-                Ok(Reply::Text)
-            }
-            Command::Eval => {
-                self.opened(alloc)?
-                    .answer_eval(rt, alloc, threading, argument, out)?;
-                Ok(Reply::Text)
-            }
-            Command::Finish => {
-                self.opened(alloc)?.answer_finish(argument, out)?;
-                Ok(Reply::Text)
-            }
-            Command::Cancel => {
-                self.opened(alloc)?.answer_cancel(argument, out)?;
-                Ok(Reply::Text)
-            }
-            Command::Show => {
-                self.opened(alloc)?.answer_show(argument, out)?;
-                Ok(Reply::Text)
-            }
-            Command::Reads => {
-                self.opened(alloc)?.answer_reads(argument, out)?;
-                Ok(Reply::Text)
-            }
-            Command::Store => {
-                self.opened(alloc)?.answer_store(argument, out)?;
-                Ok(Reply::Text)
-            }
-            Command::Settle => {
-                self.opened(alloc)?.answer_settle(argument, out)?;
-                Ok(Reply::Text)
-            }
-            Command::History => {
-                let reply = self.opened(alloc)?.answer_history(argument, out)?;
-                Ok(reply)
-            }
+        match command_of(word) {
+            None => refuse("Command", out).and(Ok(Reply::Text)),
+            Some(Command::Tvar) => self.answer_tvar(alloc, argument, out).and(Ok(Reply::Text)),
+            Some(command) => self
+                .opened(alloc)?
+                .answer(rt, alloc, threading, command, argument, out),
         }
     }
 
@@ -213,20 +179,11 @@ impl Console {
         ensures state { OnOk result (self.new ≡ state_after self.old line.now) }
     {
         match judge(line) {
-            Judgement::TooLong => {
-                refuse("LineTooLong", out)?;
-                Ok(Reply::Text)
-            }
+            Judgement::TooLong => refuse("LineTooLong", out).and(Ok(Reply::Text)),
             Judgement::Silent => Ok(Reply::Text),
-            Judgement::NotAscii => {
-                refuse("NotAscii", out)?;
-                Ok(Reply::Text)
-            }
+            Judgement::NotAscii => refuse("NotAscii", out).and(Ok(Reply::Text)),
             Judgement::Words(word, argument) => match str::from_utf8(argument) {
-                Ok(argument) => {
-                    let reply = self.answer_command(rt, alloc, threading, word, argument, out)?;
-                    Ok(reply)
-                }
+                Ok(argument) => self.answer_command(rt, alloc, threading, word, argument, out),
                 Err(_) => unreachable!(),
             },
         }

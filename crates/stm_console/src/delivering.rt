@@ -163,8 +163,7 @@ impl OpenDesk {
         ensures state { OnOk result (self.new ≡ after_take self.old n) }
     {
         if n as usize + self.jobs.len() > MAX_JOBS {
-            refuse("JobsFull", out)?;
-            return Ok(());
+            return refuse("JobsFull", out);
         }
         let first = self.jobs.len() as u32 + 1;
         let mut made = hand_out(&mut self.desk, alloc, first, n, out)?;
@@ -185,14 +184,8 @@ impl OpenDesk {
         ensures state { OnOk result (self.new ≡ take_state self.old argument.now) }
     {
         match number_of(argument.as_bytes()) {
-            Some(n) => {
-                self.take(alloc, n, out)?;
-                Ok(())
-            }
-            None => {
-                refuse("Argument", out)?;
-                Ok(())
-            }
+            Some(n) => self.take(alloc, n, out),
+            None => refuse("Argument", out),
         }
     }
 
@@ -209,13 +202,9 @@ impl OpenDesk {
                 let job = handed.job()?;
                 let ticket = handed.ticket;
                 let refusal = deliver_job(&mut self.desk, alloc, &handed.store, job)?;
-                write_delivery(ticket, refusal, out)?;
-                Ok(())
+                write_delivery(ticket, refusal, out)
             }
-            None => {
-                refuse("NoJob", out)?;
-                Ok(())
-            }
+            None => refuse("NoJob", out),
         }
     }
 
@@ -232,14 +221,8 @@ impl OpenDesk {
         ensures state { OnOk result (self.new ≡ deliver_state self.old argument.now) }
     {
         match number_of(argument.as_bytes()) {
-            Some(number) => {
-                self.deliver(alloc, number, out)?;
-                Ok(())
-            }
-            None => {
-                refuse("Argument", out)?;
-                Ok(())
-            }
+            Some(number) => self.deliver(alloc, number, out),
+            None => refuse("Argument", out),
         }
     }
 
@@ -251,11 +234,9 @@ impl OpenDesk {
             (self.new ≡ record self.old { desk = handed_back self.old.desk ticket }) }
     {
         if self.desk.hand_back(ticket) {
-            write_queued(ticket, out)?;
-            return Ok(());
+            return write_queued(ticket, out);
         }
-        refuse("NotOut", out)?;
-        Ok(())
+        refuse("NotOut", out)
     }
 
     /// Answers `handback`.
@@ -266,14 +247,8 @@ impl OpenDesk {
         ensures state { OnOk result (self.new ≡ handback_state self.old argument.now) }
     {
         match number_of(argument.as_bytes()) {
-            Some(ticket) => {
-                self.hand_back(ticket, out)?;
-                Ok(())
-            }
-            None => {
-                refuse("Argument", out)?;
-                Ok(())
-            }
+            Some(ticket) => self.hand_back(ticket, out),
+            None => refuse("Argument", out),
         }
     }
 
@@ -292,11 +267,9 @@ impl OpenDesk {
         ensures state { OnOk result (self.new ≡ eval_state self.old argument.now) }
     {
         if !argument.is_empty() {
-            refuse("Argument", out)?;
-            return Ok(());
+            return refuse("Argument", out);
         }
         let progress = evaluate_queued(&mut self.desk, rt, alloc, threading)?;
-        write_evaluation(progress.count, progress.stop, out)?;
-        Ok(())
+        write_evaluation(progress.count, progress.stop, out)
     }
 }

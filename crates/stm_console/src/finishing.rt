@@ -131,14 +131,8 @@ impl OpenDesk {
     {
         self.copy = None;
         match self.desk.finish(0, ticket) {
-            Ok(finish) => {
-                write_finish(ticket, &finish, out)?;
-                Ok(())
-            }
-            Err(refusal) => {
-                refuse_finish(refusal, out)?;
-                Ok(())
-            }
+            Ok(finish) => write_finish(ticket, &finish, out),
+            Err(refusal) => refuse_finish(refusal, out),
         }
     }
 
@@ -150,14 +144,8 @@ impl OpenDesk {
         ensures state { OnOk result (self.new ≡ finish_state self.old argument.now) }
     {
         match number_of(argument.as_bytes()) {
-            Some(ticket) => {
-                self.finish(ticket, out)?;
-                Ok(())
-            }
-            None => {
-                refuse("Argument", out)?;
-                Ok(())
-            }
+            Some(ticket) => self.finish(ticket, out),
+            None => refuse("Argument", out),
         }
     }
 
@@ -170,14 +158,8 @@ impl OpenDesk {
         }) }
     {
         match self.desk.cancel(0, ticket) {
-            Ok(()) => {
-                write_cancelled(ticket, out)?;
-                Ok(())
-            }
-            Err(refusal) => {
-                refuse_cancel(refusal, out)?;
-                Ok(())
-            }
+            Ok(()) => write_cancelled(ticket, out),
+            Err(refusal) => refuse_cancel(refusal, out),
         }
     }
 
@@ -189,14 +171,8 @@ impl OpenDesk {
         ensures state { OnOk result (self.new ≡ cancel_state self.old argument.now) }
     {
         match number_of(argument.as_bytes()) {
-            Some(ticket) => {
-                self.cancel(ticket, out)?;
-                Ok(())
-            }
-            None => {
-                refuse("Argument", out)?;
-                Ok(())
-            }
+            Some(ticket) => self.cancel(ticket, out),
+            None => refuse("Argument", out),
         }
     }
 
@@ -211,14 +187,8 @@ impl OpenDesk {
     {
         self.copy = None;
         match self.desk.settle(0) {
-            Ok(settled) => {
-                write_settled(settled.finished, settled.evaluations, out)?;
-                Ok(())
-            }
-            Err(stop) => {
-                write_stop(stop, out)?;
-                Ok(())
-            }
+            Ok(settled) => write_settled(settled.finished, settled.evaluations, out),
+            Err(stop) => write_stop(stop, out),
         }
     }
 
@@ -230,10 +200,8 @@ impl OpenDesk {
         ensures state { OnOk result (self.new ≡ settle_state self.old argument.now) }
     {
         if !argument.is_empty() {
-            refuse("Argument", out)?;
-            return Ok(());
+            return refuse("Argument", out);
         }
-        self.settle(out)?;
-        Ok(())
+        self.settle(out)
     }
 }

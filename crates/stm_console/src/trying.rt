@@ -65,8 +65,7 @@ impl OpenDesk {
         let copy = self.take_copy()?;
         let (verdict, _reads) = try_block(alloc, &copy, block)?;
         self.keep_copy(copy);
-        write_verdict_line(&verdict, out)?;
-        Ok(())
+        write_verdict_line(&verdict, out)
     }
 
     /// Appends what a block reads on the present store.
@@ -85,8 +84,7 @@ impl OpenDesk {
         let copy = self.take_copy()?;
         let (_verdict, reads) = try_block(alloc, &copy, block)?;
         self.keep_copy(copy);
-        write_reads_line(reads.as_slice(), out)?;
-        Ok(())
+        write_reads_line(reads.as_slice(), out)
     }
 
     /// Answers `try`: the verdict of a block.
@@ -102,14 +100,8 @@ impl OpenDesk {
         ensures same { self.new ≡ self.old }
     {
         match compile_block(alloc, self.desk.table(), text) {
-            Ok(block) => {
-                self.write_tried(alloc, &block, out)?;
-                Ok(())
-            }
-            Err(refusal) => {
-                write_refusal(refusal, out)?;
-                Ok(())
-            }
+            Ok(block) => self.write_tried(alloc, &block, out),
+            Err(refusal) => write_refusal(refusal, out),
         }
     }
 
@@ -126,14 +118,8 @@ impl OpenDesk {
         ensures same { self.new ≡ self.old }
     {
         match compile_block(alloc, self.desk.table(), text) {
-            Ok(block) => {
-                self.write_looked(alloc, &block, out)?;
-                Ok(())
-            }
-            Err(refusal) => {
-                write_refusal(refusal, out)?;
-                Ok(())
-            }
+            Ok(block) => self.write_looked(alloc, &block, out),
+            Err(refusal) => write_refusal(refusal, out),
         }
     }
 
@@ -146,14 +132,8 @@ impl OpenDesk {
         }) }
     {
         match self.desk.submit(0, block) {
-            Ok(ticket) => {
-                write_ticket_line(ticket, out)?;
-                Ok(())
-            }
-            Err(refusal) => {
-                refuse_submit(refusal, out)?;
-                Ok(())
-            }
+            Ok(ticket) => write_ticket_line(ticket, out),
+            Err(refusal) => refuse_submit(refusal, out),
         }
     }
 
@@ -172,13 +152,9 @@ impl OpenDesk {
         match compile_block(alloc, self.desk.table(), text) {
             Ok(block) => {
                 let block = SharedBlock::new(alloc, block)?;
-                self.submit(block, out)?;
-                Ok(())
+                self.submit(block, out)
             }
-            Err(refusal) => {
-                write_refusal(refusal, out)?;
-                Ok(())
-            }
+            Err(refusal) => write_refusal(refusal, out),
         }
     }
 }

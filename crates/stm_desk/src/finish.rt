@@ -70,8 +70,38 @@ impl Desk {
             .plan(ticket, self.is_full(), StalenessRule::Changed)
     }
 
-    /// The finish by its plan: its event joins the history, and the list that is lent. The answer is a copy of the verdict, and
-    /// what applying it did. All memory is taken before the first change.
+    /// The finish by its plan: its event joins the history, and the list that is lent. The answer is what applying the verdict
+    /// did. All memory is taken before the first change.
+    fn apply_plan(
+        &mut self,
+        client: u32,
+        ticket: u32,
+        plan: &Plan,
+        own: &mut Vec<Event>,
+    ) -> Result<Applied, NoMemory>
+        requires client { client < max_clients }
+        requires allowed { finish_refusal self.old ticket ≡ None }
+        requires plan { IsPlan (now self.old) ticket
+            plan.now.verdict plan.now.first_new plan.now.stale }
+        ensures done { OnOk result (self.new
+            ≡ with_event self.old (event client
+            (AnyWhat.Finished ticket plan.now.verdict plan.now.first_new plan.now.stale))) }
+        ensures noted { OnOk result (own.new.items
+            ≡ own.old.items ++ event client
+            (AnyWhat.Finished ticket plan.now.verdict plan.now.first_new plan.now.stale) ∷ []) }
+        ensures applied { IfOk result (λ a. a ≡ told_of (now self.old).store plan.now.verdict) }
+        ensures err { OnErr result ((self.new ≡ self.old) × (own.new.items ≡ own.old.items)) }
+        ensures legal { IsLegal self.new.table self.new.history }
+    {
+        let told = finished_event(&mut self.history, client, ticket, plan)?;
+        let noted = finished_event(own, client, ticket, plan)?;
+        let applied = self.machine.finish(ticket, plan)?;
+        self.history.push_reserved(told);
+        own.push_reserved(noted);
+        Ok(applied)
+    }
+
+    /// The same, and the answer begins with a copy of the verdict.
     fn finish_by(
         &mut self,
         client: u32,
@@ -94,12 +124,8 @@ impl Desk {
         ensures err { OnErr result ((self.new ≡ self.old) × (own.new.items ≡ own.old.items)) }
         ensures legal { IsLegal self.new.table self.new.history }
     {
-        let told = finished_event(&mut self.history, client, ticket, plan)?;
-        let noted = finished_event(own, client, ticket, plan)?;
-        let verdict = copy_of(*own.allocator(), &plan.verdict)?;
-        let applied = self.machine.finish(ticket, plan)?;
-        self.history.push_reserved(told);
-        own.push_reserved(noted);
+        let verdict = copy_of(*self.history.allocator(), &plan.verdict)?;
+        let applied = self.apply_plan(client, ticket, plan, own)?;
         Ok((verdict, applied))
     }
 

@@ -2,6 +2,7 @@
 
 ghost use Rattle.std.specs.Prelude.{◌≡◌, ◌≤◌, Some};
 ghost use Rattle.stm_eval.specs.Limits.{max_levels};
+ghost use Rattle.stm_store.specs.Cells.{Covers};
 ghost use Rattle.stm_pool.specs.Worked.{Worked};
 
 use crate::calls::Next;
@@ -12,7 +13,8 @@ use std::sync::Wait;
 use std::sync::ledger::Ledger;
 use std::thread::Threads;
 use stm_desk::DeliverError;
-use stm_eval::evaluate_forked;
+use stm_eval::{Evaluated, Job, evaluate_forked};
+use stm_store::Frozen;
 
 /// What is called without the lock: before an evaluation, whether to begin it, and after an
 /// accepted delivery.
@@ -53,8 +55,7 @@ pub fn work<L: Ledger, G: Gate<R>, R: Wait + Threads + Sync>(
     unreachable!()
 }
 
-/// A round: a ticket is taken, evaluated without the lock, and delivered. A delivery that is
-/// refused for what happened meanwhile ends the round.
+/// A round: a ticket is taken, evaluated without the lock, and delivered.
 fn round<L: Ledger, G: Gate<R>, R: Wait + Threads + Sync>(
     rt: &R,
     alloc: Global,
@@ -66,23 +67,54 @@ fn round<L: Ledger, G: Gate<R>, R: Wait + Threads + Sync>(
     requires { levels ≤ max_levels }
     ensures { Worked pass.old pass.new }
 {
-    let (store, job) = match shared.next_job(rt) {
-        Ok(Next::Job(store, job)) => (store, job),
-        Ok(Next::Idle) => return None,
-        Ok(Next::Stopped) => return Some(WorkEnd::Stopped),
+    match shared.next_job(rt) {
+        Ok(Next::Job(store, job)) => do_job(rt, alloc, shared, gate, pass, levels, &store, job),
+        Ok(Next::Idle) => None,
+        Ok(Next::Stopped) => Some(WorkEnd::Stopped),
         Err(_) => {
             shared.stop(rt);
-            return Some(WorkEnd::NoMemory);
+            Some(WorkEnd::NoMemory)
         }
-    };
+    }
+}
+
+/// The job in hand is evaluated and delivered, unless the gate keeps it from beginning.
+fn do_job<L: Ledger, G: Gate<R>, R: Wait + Threads + Sync>(
+    rt: &R,
+    alloc: Global,
+    shared: &SharedDesk<L>,
+    gate: &G,
+    pass: &mut Pass<L>,
+    levels: u32,
+    store: &Frozen,
+    job: Job,
+) -> Option<WorkEnd>
+    requires levels { levels ≤ max_levels }
+    requires covered { Covers store.now job.block.uses }
+    ensures { Worked pass.old pass.new }
+{
     let ticket = job.ticket;
     if !gate.before(rt, ticket) {
         shared.hand_back(rt, ticket);
         return None;
     }
-    let Ok(message) = evaluate_forked(rt, alloc, job, &store, levels) else {
-        return give_up(rt, shared, ticket, WorkEnd::NoMemory);
-    };
+    match evaluate_forked(rt, alloc, job, store, levels) {
+        Ok(message) => deliver(rt, shared, gate, pass, ticket, message),
+        Err(_) => give_up(rt, shared, ticket, WorkEnd::NoMemory),
+    }
+}
+
+/// The message is delivered. One that is refused for what happened meanwhile ends the round.
+fn deliver<L: Ledger, G: Gate<R>, R: Wait>(
+    rt: &R,
+    shared: &SharedDesk<L>,
+    gate: &G,
+    pass: &mut Pass<L>,
+    ticket: u32,
+    message: Evaluated,
+) -> Option<WorkEnd>
+    ensures { Worked pass.old pass.new }
+{
     match shared.deliver(rt, pass, message) {
         Ok(()) => {
             gate.after(rt, ticket);

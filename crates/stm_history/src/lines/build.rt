@@ -37,16 +37,13 @@ pub(crate) fn value_json(alloc: Global, value: Value) -> Result<Json, NoMemory>
 fn write_json(alloc: Global, write: (u32, Value)) -> Result<Json, NoMemory>
     ensures { IfOk result (λ v. view v ≡ write_data write) }
 {
-    let value = value_json(alloc, write.1)?;
-    json!(in alloc; [write.0, value])
+    json!(in alloc; [write.0, value_json(alloc, write.1)?])
 }
 
 fn new_json(alloc: Global, new: (Ty, Value)) -> Result<Json, NoMemory>
     ensures { IfOk result (λ v. view v ≡ new_data new) }
 {
-    let kind = type_text(alloc, new.0)?;
-    let value = value_json(alloc, new.1)?;
-    json!(in alloc; [kind, value])
+    json!(in alloc; [type_text(alloc, new.0)?, value_json(alloc, new.1)?])
 }
 
 fn writes_json(alloc: Global, writes: &[(u32, Value)]) -> Result<Vec<Json>, NoMemory>
@@ -87,10 +84,7 @@ fn commits_json(
 ) -> Result<Json, NoMemory>
     ensures { IfOk result (λ v. view v ≡ verdict_data (Commits writes.now news.now given)) }
 {
-    let writes = writes_json(alloc, writes)?;
-    let news = news_json(alloc, news)?;
-    let given = value_json(alloc, given)?;
-    json!(in alloc; {"commits": {"news": news, "result": given, "writes": writes}})
+    json!(in alloc; {"commits": {"news": news_json(alloc, news)?, "result": value_json(alloc, given)?, "writes": writes_json(alloc, writes)?}})
 }
 
 fn throws_json(alloc: Global, fault: Fault) -> Result<Json, NoMemory>

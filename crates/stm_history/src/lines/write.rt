@@ -42,8 +42,7 @@ fn installed_json(
 ) -> Result<Json, NoMemory>
     ensures { IfOk result (λ v. view v ≡ what_data client (Installed ticket verdict.now)) }
 {
-    let verdict = shared_verdict_json(alloc, verdict)?;
-    json!(in alloc; {"client": client, "event": "installed", "ticket": ticket, "verdict": verdict})
+    json!(in alloc; {"client": client, "event": "installed", "ticket": ticket, "verdict": shared_verdict_json(alloc, verdict)?})
 }
 
 fn finished_json(
@@ -57,9 +56,7 @@ fn finished_json(
     ensures { IfOk result (λ v. view v
         ≡ what_data client (Finished ticket verdict.now first_new stale.now)) }
 {
-    let verdict = shared_verdict_json(alloc, verdict)?;
-    let stale = numbers_json(alloc, stale)?;
-    json!(in alloc; {"client": client, "event": "finished", "first_new": first_new, "stale": stale, "ticket": ticket, "verdict": verdict})
+    json!(in alloc; {"client": client, "event": "finished", "first_new": first_new, "stale": numbers_json(alloc, stale)?, "ticket": ticket, "verdict": shared_verdict_json(alloc, verdict)?})
 }
 
 fn cancelled_json(alloc: Global, client: u32, ticket: u32) -> Result<Json, NoMemory>
@@ -120,9 +117,7 @@ fn variable_json(alloc: Global, name: &str, kind: Ty, value: Value) -> Result<Js
     ensures { IfOk result (λ v. view v
         ≡ variable_data (record { name = name.now; kind = kind; value = value })) }
 {
-    let kind = type_text(alloc, kind)?;
-    let value = value_json(alloc, value)?;
-    json!(in alloc; {"init": value, "name": name, "type": kind})
+    json!(in alloc; {"init": value_json(alloc, value)?, "name": name, "type": type_text(alloc, kind)?})
 }
 
 /// The line of a declared variable.

@@ -3,6 +3,3 @@ use Rattle.stm_console.proofs.opened.OpenDesk.cancel.Goals as goal
 
 pub invariant_of-self : goal.invariant_of-self
 invariant_of-self c = kept_cancelled _ _ _ _ _ c.cancel.result c.cancel.ensures.done c.cancel.ensures.err c.cancel.ensures.legal c.self.invariant
-
-pub invariant_of-self-2 : goal.invariant_of-self-2
-invariant_of-self-2 c = kept_cancelled _ _ _ _ _ c.cancel.result c.cancel.ensures.done c.cancel.ensures.err c.cancel.ensures.legal c.self.invariant

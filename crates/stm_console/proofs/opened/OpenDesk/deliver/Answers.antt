@@ -12,8 +12,5 @@ deliver_job-requires-clause-stands c =
 pub invariant_of-self : goal.invariant_of-self
 invariant_of-self c = kept_grown _ _ _ _ c.deliver_job.ensures.grown c.deliver_job.ensures.store c.self.invariant
 
-pub invariant_of-self-in_err-write_delivery-in-Some : goal.invariant_of-self-in_err-write_delivery-in-Some
-invariant_of-self-in_err-write_delivery-in-Some c = kept_grown _ _ _ _ c.deliver_job.ensures.grown c.deliver_job.ensures.store c.self.invariant
-
 pub invariant_of-self-in-Some : goal.invariant_of-self-in-Some
 invariant_of-self-in-Some c = kept_grown _ _ _ _ c.deliver_job.ensures.grown c.deliver_job.ensures.store c.self.invariant

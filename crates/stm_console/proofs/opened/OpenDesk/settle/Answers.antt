@@ -3,9 +3,3 @@ use Rattle.stm_console.proofs.opened.OpenDesk.settle.Goals as goal
 
 pub invariant_of-self : goal.invariant_of-self
 invariant_of-self c = kept_settled _ _ _ _ c.settle.result c.settle.ensures.done c.settle.ensures.stopped c.settle.ensures.legal c.self.invariant
-
-pub invariant_of-self-in_err-write_stop-in-Err : goal.invariant_of-self-in_err-write_stop-in-Err
-invariant_of-self-in_err-write_stop-in-Err c = kept_settled _ _ _ _ c.settle.result c.settle.ensures.done c.settle.ensures.stopped c.settle.ensures.legal c.self.invariant
-
-pub invariant_of-self-2 : goal.invariant_of-self-2
-invariant_of-self-2 c = kept_settled _ _ _ _ c.settle.result c.settle.ensures.done c.settle.ensures.stopped c.settle.ensures.legal c.self.invariant

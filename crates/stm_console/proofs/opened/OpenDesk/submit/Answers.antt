@@ -3,6 +3,3 @@ use Rattle.stm_console.proofs.opened.OpenDesk.submit.Goals as goal
 
 pub invariant_of-self : goal.invariant_of-self
 invariant_of-self c = kept_submitted _ _ _ _ _ c.submit.result c.submit.ensures.done c.submit.ensures.err c.submit.ensures.legal c.self.invariant
-
-pub invariant_of-self-2 : goal.invariant_of-self-2
-invariant_of-self-2 c = kept_submitted _ _ _ _ _ c.submit.result c.submit.ensures.done c.submit.ensures.err c.submit.ensures.legal c.self.invariant
