@@ -8,6 +8,7 @@ use crate::desk_work::{self, Work};
 use crate::words::{first_word, number, say};
 use crate::{desk_calls, desk_show};
 use std::alloc::{AllocError, Global};
+use std::mem;
 use stm_check::SharedBlock;
 use stm_desk::Desk;
 use stm_store::Table;
@@ -77,9 +78,7 @@ fn open(
 
 /// The second desk in the place of the first, and the first in its place.
 fn swap(desks: &mut Desks, out: &mut String) -> Result<(), AllocError> {
-    let desk = desks.desk.take();
-    desks.desk = desks.second.take();
-    desks.second = desk;
+    mem::swap(&mut desks.desk, &mut desks.second);
     say("done", out)
 }
 

@@ -10,7 +10,7 @@ use std::sync::atomic::{AtomicU32, Ordering};
 use std::sync::ledger::Ledger;
 use std::thread::Threads;
 use stm_desk::{CancelError, DeliverError, FinishError, SubmitError};
-use stm_eval::{Evaluated, evaluate};
+use stm_eval::{Evaluated, Job, evaluate};
 use stm_pool::{self, Gate, Next, Pass, SharedDesk, View, ViewError, WorkEnd};
 use stm_store::Table;
 use stm_terms::write_value;
@@ -85,6 +85,22 @@ fn view<L: Ledger, R: Wait>(
     }
 }
 
+/// Keeps a message, where its block was evaluated.
+fn keep_message(
+    made: Result<Evaluated, (Job, AllocError)>,
+    messages: &mut Vec<Option<Evaluated>>,
+    out: &mut String,
+) -> Result<(), AllocError> {
+    match made {
+        Ok(message) => {
+            writeln!(out, "job {}", message.ticket())?;
+            messages.push(Some(message))?;
+            Ok(())
+        }
+        Err((_, refused)) => Err(refused),
+    }
+}
+
 /// Takes a ticket, and keeps the message of its block.
 fn job<L: Ledger, R: Wait>(
     shared: &SharedDesk<L>,
@@ -96,14 +112,7 @@ fn job<L: Ledger, R: Wait>(
     match shared.next_job(rt)? {
         Next::Stopped => say("stopped", out),
         Next::Idle => say("idle", out),
-        Next::Job(store, job) => match evaluate(alloc, job, &store) {
-            Ok(message) => {
-                writeln!(out, "job {}", message.ticket())?;
-                messages.push(Some(message))?;
-                Ok(())
-            }
-            Err((_, refused)) => Err(refused),
-        },
+        Next::Job(store, job) => keep_message(evaluate(alloc, job, &store), messages, out),
     }
 }
 

@@ -17,7 +17,7 @@ use std::time::{Clock, Duration};
 use stm_check::SharedBlock;
 use stm_desk::SubmitError;
 use stm_history::{Event, What};
-use stm_pool::{Gate, Pass, Report, SharedDesk, WorkEnd, work};
+use stm_pool::{CloseError, Gate, Pass, Report, SharedDesk, WorkEnd, work};
 use stm_store::Table;
 
 /// Holds ticket 1 until ticket 2 was delivered, for ten seconds at most.
@@ -155,6 +155,17 @@ fn say_report(report: &Report, gate: &Held, out: &mut String) -> Result<(), Allo
     say_installed(report.desk.history(), out)
 }
 
+fn say_closed<L: Ledger>(
+    closed: &Result<Report, (SharedDesk<L>, Vec<Pass<L>>, CloseError)>,
+    gate: &Held,
+    out: &mut String,
+) -> Result<(), AllocError> {
+    match closed {
+        Ok(report) => say_report(report, gate, out),
+        Err(refused) => writeln!(out, "refused {:?}", refused.2),
+    }
+}
+
 /// Submits the block twice.
 fn submit_both<L: Ledger, R: Wait>(
     shared: &SharedDesk<L>,
@@ -216,10 +227,7 @@ fn answer_with<L: Ledger + Send + Sync, R: Threads + Wait + Clock + Sync>(
         given_up: AtomicBool::new(false),
     };
     let passes = with_workers(&shared, rt, alloc, &gate, block, passes)?;
-    match shared.close(passes) {
-        Ok(report) => say_report(&report, &gate, out),
-        Err((_, _, refusal)) => writeln!(out, "refused {refusal:?}"),
-    }
+    say_closed(&shared.close(passes), &gate, out)
 }
 
 /// Submits the block of a text twice, and has two workers evaluate both at once.

@@ -129,6 +129,17 @@ fn deliver_thrice<R: Threads + Wait + Sync>(
     )
 }
 
+/// Submits the block so many times.
+fn submit_times(desk: &mut Desk, block: &SharedBlock, count: u32) -> Result<(), AllocError> {
+    for _ in 0..count {
+        match desk.submit(0, block.share()?) {
+            Err(SubmitError::NoMemory) => return Err(AllocError),
+            _ => {}
+        }
+    }
+    Ok(())
+}
+
 /// A desk on which the block waits so many times.
 fn with_waiting(
     alloc: Global,
@@ -137,17 +148,37 @@ fn with_waiting(
     count: u32,
 ) -> Result<Desk, AllocError> {
     let mut desk = Desk::open(alloc, table, EVENTS)?;
-    for _ in 0..count {
-        match desk.submit(0, block.share()?) {
-            Err(SubmitError::NoMemory) => return Err(AllocError),
-            _ => {}
-        }
-    }
+    submit_times(&mut desk, block, count)?;
     Ok(desk)
 }
 
-/// Takes all jobs, has three threads deliver each, and answers with what they were told and whether
-/// the history is legal.
+/// What three threads are told that each deliver a message of each job.
+fn deliver_jobs<R: Threads + Wait + Sync>(
+    rt: &R,
+    alloc: Global,
+    lock: &Mutex<Desk>,
+    frozen: &Frozen,
+    jobs: Vec<Job>,
+) -> Result<Told, AllocError> {
+    let first = copies(jobs.as_slice(), frozen, alloc)?;
+    let second = copies(jobs.as_slice(), frozen, alloc)?;
+    match deliver_thrice(rt, alloc, lock, frozen, first, second, jobs) {
+        Some(told) => told,
+        None => Err(AllocError),
+    }
+}
+
+/// Answers with what the threads were told and whether the history is legal.
+fn say_told(desk: &Desk, told: Told, alloc: Global, out: &mut String) -> Result<(), AllocError> {
+    writeln!(
+        out,
+        "accepted {} already {} other {}",
+        told.accepted, told.already, told.other
+    )?;
+    say_replay(desk, alloc, out)
+}
+
+/// Takes all jobs, and has three threads deliver each.
 fn answer_desk<R: Threads + Wait + Sync>(
     desk: Desk,
     rt: &R,
@@ -156,19 +187,9 @@ fn answer_desk<R: Threads + Wait + Sync>(
 ) -> Result<(), AllocError> {
     let mut desk = desk;
     let (frozen, jobs) = desk.take(desk.waiting())?;
-    let first = copies(jobs.as_slice(), &frozen, alloc)?;
-    let second = copies(jobs.as_slice(), &frozen, alloc)?;
     let lock = Mutex::new(desk);
-    let Some(Ok(told)) = deliver_thrice(rt, alloc, &lock, &frozen, first, second, jobs) else {
-        return Err(AllocError);
-    };
-    let desk = lock.into_inner();
-    writeln!(
-        out,
-        "accepted {} already {} other {}",
-        told.accepted, told.already, told.other
-    )?;
-    say_replay(&desk, alloc, out)
+    let told = deliver_jobs(rt, alloc, &lock, &frozen, jobs)?;
+    say_told(&lock.into_inner(), told, alloc, out)
 }
 
 /// The block waits so many times on a desk of its own, and three threads deliver a message of each

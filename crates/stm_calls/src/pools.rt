@@ -45,6 +45,21 @@ fn say_report(report: &Report, alloc: Global, out: &mut String) -> Result<(), Al
     say_replay(&report.desk, alloc, out)
 }
 
+/// Moves the last few passes from one list to the end of another.
+fn move_last<L: Ledger>(
+    from: &mut Vec<Pass<L>>,
+    to: &mut Vec<Pass<L>>,
+    count: u32,
+) -> Result<(), AllocError> {
+    for _ in 0..count {
+        match from.pop() {
+            Some(pass) => to.push(pass)?,
+            None => {}
+        }
+    }
+    Ok(())
+}
+
 /// Closes the desk with the passes but for the last few, which are there again after a refusal.
 fn close<L: Ledger>(
     session: &mut Session<L>,
@@ -56,24 +71,14 @@ fn close<L: Ledger>(
         return say("refused no desk", out);
     };
     let mut kept = Vec::with_capacity(alloc, session.passes.len())?;
-    for _ in 0..without {
-        match session.passes.pop() {
-            Some(pass) => kept.push(pass)?,
-            None => {}
-        }
-    }
+    move_last(&mut session.passes, &mut kept, without)?;
     let passes = mem::replace(&mut session.passes, Vec::new(alloc));
     match shared.close(passes) {
         Ok(report) => say_report(&report, alloc, out),
         Err((shared, passes, refusal)) => {
             session.shared = Some(shared);
             session.passes = passes;
-            for _ in 0..without {
-                match kept.pop() {
-                    Some(pass) => session.passes.push(pass)?,
-                    None => {}
-                }
-            }
+            move_last(&mut kept, &mut session.passes, without)?;
             writeln!(out, "refused {refusal:?}")
         }
     }
