@@ -8,7 +8,7 @@ use Rattle.stm_terms.specs.Texts.{type_text}
 use Rattle.stm_parse.specs.Declarations.{named}
 use Rattle.stm_parse.specs.ParseFunction.{parsed_declaration, declared_tree, answered}
 use Rattle.stm_parse.specs.Bytes.{pair_mark, single_mark, number_of_digits}
-use Rattle.stm_parse.specs.Lexing.{control_mark, action_mark, value_mark}
+use Rattle.stm_parse.specs.Lexing.{control_mark, action_mark, choice_mark, value_mark}
 use Rattle.stm_parse.specs.ParseResult.{most_bytes, most_tokens}
 use Rattle.stm_parse.specs.Descent.{inside_type, bare_at, type_at}
 use Rattle.stm_parse.specs.Tokenizer.{cut, front_of}
@@ -18,7 +18,7 @@ abbrev IsReadBack : Ty → Type 0
 IsReadBack t = (at : ℕ) × (parsed_declaration (declaring t) ≡ Ok (record { name = codes "a"; kind = t; init = named (codes "a") at }))
 
 int_back : (n : ℕ) → n ≤ 8 → IsReadBack (record { base = base.Int; refs = n })
-unfolding type_text parsed_declaration declared_tree answered cut front_of pair_mark single_mark number_of_digits control_mark action_mark value_mark most_bytes most_tokens inside_type bare_at type_at is_name_text is_control_word is_action_word is_value_word
+unfolding type_text parsed_declaration declared_tree answered cut front_of pair_mark single_mark number_of_digits control_mark action_mark choice_mark value_mark most_bytes most_tokens inside_type bare_at type_at is_name_text is_control_word is_action_word is_value_word
 int_back zero h = (10, refl)
 int_back (suc zero) h = (15, refl)
 int_back (suc (suc zero)) h = (22, refl)
@@ -31,7 +31,7 @@ int_back (suc (suc (suc (suc (suc (suc (suc (suc zero)))))))) h = (64, refl)
 int_back (suc (suc (suc (suc (suc (suc (suc (suc (suc n))))))))) h = absurd (omega (arith, h))
 
 bool_back : (n : ℕ) → n ≤ 8 → IsReadBack (record { base = base.Bool; refs = n })
-unfolding type_text parsed_declaration declared_tree answered cut front_of pair_mark single_mark number_of_digits control_mark action_mark value_mark most_bytes most_tokens inside_type bare_at type_at is_name_text is_control_word is_action_word is_value_word
+unfolding type_text parsed_declaration declared_tree answered cut front_of pair_mark single_mark number_of_digits control_mark action_mark choice_mark value_mark most_bytes most_tokens inside_type bare_at type_at is_name_text is_control_word is_action_word is_value_word
 bool_back zero h = (11, refl)
 bool_back (suc zero) h = (16, refl)
 bool_back (suc (suc zero)) h = (23, refl)
@@ -44,7 +44,7 @@ bool_back (suc (suc (suc (suc (suc (suc (suc (suc zero)))))))) h = (65, refl)
 bool_back (suc (suc (suc (suc (suc (suc (suc (suc (suc n))))))))) h = absurd (omega (arith, h))
 
 unit_back : (n : ℕ) → n ≤ 8 → IsReadBack (record { base = base.Unit; refs = n })
-unfolding type_text parsed_declaration declared_tree answered cut front_of pair_mark single_mark number_of_digits control_mark action_mark value_mark most_bytes most_tokens inside_type bare_at type_at is_name_text is_control_word is_action_word is_value_word
+unfolding type_text parsed_declaration declared_tree answered cut front_of pair_mark single_mark number_of_digits control_mark action_mark choice_mark value_mark most_bytes most_tokens inside_type bare_at type_at is_name_text is_control_word is_action_word is_value_word
 unit_back zero h = (9, refl)
 unit_back (suc zero) h = (14, refl)
 unit_back (suc (suc zero)) h = (21, refl)

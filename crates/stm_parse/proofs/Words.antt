@@ -8,7 +8,7 @@ use Rattle.stm_terms.specs.Names.{is_word_byte, is_control_word, is_action_word,
 use Rattle.stm_parse.specs.declared.token.Mark.{Mark}
 use Rattle.stm_parse.specs.declared.token.Mark.TheVariants as mark
 use Rattle.stm_parse.specs.Bytes.{is_letter, is_blank, word_len}
-use Rattle.stm_parse.specs.Lexing.{control_mark, action_mark, value_mark, or_mark, word_mark}
+use Rattle.stm_parse.specs.Lexing.{control_mark, action_mark, choice_mark, value_mark, or_mark, word_mark}
 
 pub letter_not_blank : (b : ℕ) → is_letter b ≡ true → is_blank b ≡ false
 letter_not_blank b e = grind (arith, nat_tests)
@@ -61,11 +61,17 @@ unfolding control_mark is_control_word control
 no_control w e = none_in w control e
 
 action : Table
-action = (codes "return", mark.Return) ∷ (codes "readTVar", mark.ReadTVar) ∷ (codes "writeTVar", mark.WriteTVar) ∷ (codes "newTVar", mark.NewTVar) ∷ (codes "retry", mark.Retry) ∷ (codes "orElse", mark.OrElse) ∷ (codes "throw", mark.Throw) ∷ (codes "catch", mark.Catch) ∷ []
+action = (codes "return", mark.Return) ∷ (codes "readTVar", mark.ReadTVar) ∷ (codes "writeTVar", mark.WriteTVar) ∷ (codes "newTVar", mark.NewTVar) ∷ []
 
-no_action : (w : List ℕ) → action_mark w ≡ None → is_action_word w ≡ false
-unfolding action_mark is_action_word action
-no_action w e = none_in w action e
+choice : Table
+choice = (codes "retry", mark.Retry) ∷ (codes "orElse", mark.OrElse) ∷ (codes "throw", mark.Throw) ∷ (codes "catch", mark.Catch) ∷ []
+
+none_in_after : (b : Bool) → b ≡ false → (w : List ℕ) (xs : Table) → mark_in w xs ≡ None → is_in b w xs ≡ false
+none_in_after b f w xs e = ap (λ t. is_in t w xs) f ∙ none_in w xs e
+
+no_action : (w : List ℕ) → action_mark w ≡ None → choice_mark w ≡ None → is_action_word w ≡ false
+unfolding action_mark choice_mark is_action_word action choice
+no_action w e f = none_in_after _ (none_in w action e) w choice f
 
 value : Table
 value = (codes "True", mark.True) ∷ (codes "False", mark.False) ∷ (codes "Int", mark.Int) ∷ (codes "Bool", mark.Bool) ∷ (codes "TVar", mark.TVar) ∷ []
@@ -84,9 +90,10 @@ none_of a b c p q r = ap (λ x. x || b || c) p ∙ ap (λ x. x || c) q ∙ r
 -- a word without a mark is not reserved
 not_reserved : (w : List ℕ) → word_mark w ≡ None → is_reserved w ≡ false
 not_reserved w e =
-    let p : (control_mark w ≡ None) × (or_mark (action_mark w) (value_mark w) ≡ None) = or_none (control_mark w) _ e in
-    let q : (action_mark w ≡ None) × (value_mark w ≡ None) = or_none (action_mark w) (value_mark w) p.1 in
-    none_of _ _ _ (no_control w p.0) (no_action w q.0) (no_value w q.1)
+    let p : (control_mark w ≡ None) × (or_mark (action_mark w) (or_mark (choice_mark w) (value_mark w)) ≡ None) = or_none (control_mark w) _ e in
+    let q : (action_mark w ≡ None) × (or_mark (choice_mark w) (value_mark w) ≡ None) = or_none (action_mark w) _ p.1 in
+    let r : (choice_mark w ≡ None) × (value_mark w ≡ None) = or_none (choice_mark w) (value_mark w) q.1 in
+    none_of _ _ _ (no_control w p.0) (no_action w q.0 r.0) (no_value w r.1)
 
 few : (n : ℕ) → n ≤ 32 → nat_le n 32 ≡ true
 few n l = grind (arith, nat_tests)

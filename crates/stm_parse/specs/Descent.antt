@@ -325,6 +325,21 @@ two_operands atom place toks = do
   e ← atom r.1
   Ok ((write r.0 e.0, place), e.1)
 
+-- by the first word, which opens no level
+abbrev pub flat_marked : Reader RawTerm → Mark → Lexeme → List Lexeme → Reading Placed
+flat_marked atom mark.Return x rest = one_operand atom return x.start rest
+flat_marked atom mark.ReadTVar x rest = one_operand atom read x.start rest
+flat_marked atom mark.NewTVar x rest = one_operand atom make x.start rest
+flat_marked atom mark.Throw x rest = one_operand atom throw x.start rest
+flat_marked atom mark.WriteTVar x rest = two_operands atom x.start rest
+flat_marked atom mark.Retry x rest = Ok ((retry, x.start), rest)
+flat_marked atom _ x rest = Err (unexpected (x ∷ rest))
+
+-- an action that begins with this word, which opens no level
+abbrev pub flat_action : Reader RawTerm → Mark → Reader Placed
+flat_action atom m [] = Err (unexpected [])
+flat_action atom m (x ∷ rest) = flat_marked atom m x rest
+
 -- by the first word
 abbrev pub action_marked : Reader RawTerm → Option Level → Mark → Lexeme → List Lexeme → Reading Placed
 action_marked atom one mark.Do x rest = deeper one (λ l. block l.body x.start rest) (x ∷ rest)
@@ -332,13 +347,7 @@ action_marked atom one mark.If x rest = deeper one (λ l. if_of l.expression l.a
 action_marked atom one mark.OrElse x rest = deeper one (λ l. or_else_of l.paren x.start rest) (x ∷ rest)
 action_marked atom one mark.Catch x rest = deeper one (λ l. catch_of l.paren x.start rest) (x ∷ rest)
 action_marked atom one mark.LParen x rest = deeper one (λ l. closed l.action rest) (x ∷ rest)
-action_marked atom one mark.Return x rest = one_operand atom return x.start rest
-action_marked atom one mark.ReadTVar x rest = one_operand atom read x.start rest
-action_marked atom one mark.NewTVar x rest = one_operand atom make x.start rest
-action_marked atom one mark.Throw x rest = one_operand atom throw x.start rest
-action_marked atom one mark.WriteTVar x rest = two_operands atom x.start rest
-action_marked atom one mark.Retry x rest = Ok ((retry, x.start), rest)
-action_marked atom one _ x rest = Err (unexpected (x ∷ rest))
+action_marked atom one m x rest = flat_marked atom m x rest
 
 -- so too by the kind of the first token, which has to be a word or a bracket
 abbrev pub action_of : Reader RawTerm → Option Level → TokenKind → Lexeme → List Lexeme → Reading Placed

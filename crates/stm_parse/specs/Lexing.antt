@@ -23,18 +23,23 @@ control_mark word =
     else (if bytes_eq word (codes "else") then Some mark.Else
     else None))))
 
--- the words that begin an action
+-- the words that return a value, or read, write or make a variable
 unfoldable pub action_mark : List ℕ → Option Mark
 action_mark word =
     if bytes_eq word (codes "return") then Some mark.Return
     else (if bytes_eq word (codes "readTVar") then Some mark.ReadTVar
     else (if bytes_eq word (codes "writeTVar") then Some mark.WriteTVar
     else (if bytes_eq word (codes "newTVar") then Some mark.NewTVar
-    else (if bytes_eq word (codes "retry") then Some mark.Retry
+    else None)))
+
+-- the words that end a branch, or say what runs where one ended so
+unfoldable pub choice_mark : List ℕ → Option Mark
+choice_mark word =
+    if bytes_eq word (codes "retry") then Some mark.Retry
     else (if bytes_eq word (codes "orElse") then Some mark.OrElse
     else (if bytes_eq word (codes "throw") then Some mark.Throw
     else (if bytes_eq word (codes "catch") then Some mark.Catch
-    else None)))))))
+    else None)))
 
 -- the words for values and types
 unfoldable pub value_mark : List ℕ → Option Mark
@@ -53,7 +58,7 @@ or_mark (Some k) m = Some k
 
 -- a reserved word
 abbrev pub word_mark : List ℕ → Option Mark
-word_mark word = or_mark (control_mark word) (or_mark (action_mark word) (value_mark word))
+word_mark word = or_mark (control_mark word) (or_mark (action_mark word) (or_mark (choice_mark word) (value_mark word)))
 
 -- a mark, if the bytes are one, else this kind
 abbrev pub mark_or : Option Mark → TokenKind → TokenKind

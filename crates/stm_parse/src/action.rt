@@ -7,7 +7,7 @@ ghost use Rattle.stm_terms.specs.ParsedAst.{RawAct, raw_act_of, return, read, ma
 ghost use Rattle.stm_parse.specs.Grammar.{Placed, deepest, widest};
 ghost use Rattle.stm_parse.specs.declared.token.Lexeme.{Lexeme};
 ghost use Rattle.stm_parse.specs.DescentResults.{GivesReading, boxed_tree, placed_tree};
-ghost use Rattle.stm_parse.specs.Descent.{atom_at, tier_at, action_at, paren_at, body_at, closed, block, if_of, or_else_of, catch_of, bound, let_bound, sequence, two_operands};
+ghost use Rattle.stm_parse.specs.Descent.{atom_at, tier_at, action_at, paren_at, body_at, closed, block, if_of, or_else_of, catch_of, bound, let_bound, sequence, two_operands, flat_action};
 
 use crate::cursor::{
     Parsed, accept, expect, expect_name, is_name_kind, one_level_deeper, unexpected,
@@ -50,6 +50,43 @@ pub fn action<'t>(alloc: Global, levels: u8, toks: &'t [Lexeme]) -> Parsed<'t, (
     Ok(((Box::into_inner(action), place), rest))
 }
 
+// An action that opens no level, by its first word.
+fn flat_action<'t>(
+    alloc: Global,
+    levels: u8,
+    word: Mark,
+    toks: &'t [Lexeme],
+) -> Parsed<'t, (Box<RawAction>, usize)>
+    requires { levels ≤ deepest }
+    ensures gives { GivesReading placed_tree result (flat_action (atom_at levels) word toks.now) }
+    ensures shorter { IfOk result (λ r. length r.1.now ≤ length toks.now) }
+{
+    let Some((first, rest)) = toks.split_first() else {
+        return Err(unexpected(toks));
+    };
+    match word {
+        Mark::Return => {
+            let (value, rest) = atom(alloc, levels, rest)?;
+            placed(alloc, RawAction::Return(value), first.start, rest)
+        }
+        Mark::ReadTVar => {
+            let (variable, rest) = atom(alloc, levels, rest)?;
+            placed(alloc, RawAction::Read(variable), first.start, rest)
+        }
+        Mark::NewTVar => {
+            let (value, rest) = atom(alloc, levels, rest)?;
+            placed(alloc, RawAction::Make(value), first.start, rest)
+        }
+        Mark::Throw => {
+            let (number, rest) = atom(alloc, levels, rest)?;
+            placed(alloc, RawAction::Throw(number), first.start, rest)
+        }
+        Mark::WriteTVar => write(alloc, levels, first.start, rest),
+        Mark::Retry => placed(alloc, RawAction::Retry, first.start, rest),
+        _ => Err(unexpected(toks)),
+    }
+}
+
 // An action.
 #[cycle(actions)]
 #[tactic(auto, unfolding(crate::specs::Descent::action_at))]
@@ -89,25 +126,7 @@ fn boxed_action<'t>(
             let inner = one_level_deeper(levels, toks)?;
             closed(alloc, inner, rest)
         }
-        Mark::Return => {
-            let (value, rest) = atom(alloc, levels, rest)?;
-            placed(alloc, RawAction::Return(value), first.start, rest)
-        }
-        Mark::ReadTVar => {
-            let (variable, rest) = atom(alloc, levels, rest)?;
-            placed(alloc, RawAction::Read(variable), first.start, rest)
-        }
-        Mark::NewTVar => {
-            let (value, rest) = atom(alloc, levels, rest)?;
-            placed(alloc, RawAction::Make(value), first.start, rest)
-        }
-        Mark::Throw => {
-            let (number, rest) = atom(alloc, levels, rest)?;
-            placed(alloc, RawAction::Throw(number), first.start, rest)
-        }
-        Mark::WriteTVar => write(alloc, levels, first.start, rest),
-        Mark::Retry => placed(alloc, RawAction::Retry, first.start, rest),
-        _ => Err(unexpected(toks)),
+        _ => flat_action(alloc, levels, word, toks),
     }
 }
 

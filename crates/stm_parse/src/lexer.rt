@@ -7,7 +7,7 @@ ghost use Rattle.stm_terms.specs.Names.{is_word_byte, starts_lower};
 ghost use Rattle.stm_parse.specs.declared.token.TokenKind.TheVariants as tok;
 ghost use Rattle.stm_parse.specs.declared.tokenizer.TokenClass.TheVariants as kind;
 ghost use Rattle.stm_parse.specs.Bytes.{is_letter, longest_word, word_len, number_len, number_of_digits};
-ghost use Rattle.stm_parse.specs.Lexing.{control_mark, action_mark, value_mark, word_mark, token_kind_of, class_of, token_of};
+ghost use Rattle.stm_parse.specs.Lexing.{control_mark, action_mark, choice_mark, value_mark, word_mark, token_kind_of, class_of, token_of};
 ghost use Rattle.stm_parse.specs.ParseResult.{Lexes, told_parse_fault};
 ghost use Rattle.stm_parse.specs.LexerStep.{front_seen, IsSeen};
 ghost use Rattle.stm_parse.specs.NameTokens.{NamesOf};
@@ -50,7 +50,7 @@ fn control_mark(word: &[u8]) -> Option<Mark>
     }
 }
 
-// A word that begins an action.
+// A word that returns a value, or reads, writes or makes a variable.
 #[tactic(auto, unfolding(crate::specs::Lexing::action_mark, crate::specs::Lexing::class_of))]
 fn action_mark(word: &[u8]) -> Option<Mark>
     ensures mark { result ≡ action_mark word.now }
@@ -61,6 +61,17 @@ fn action_mark(word: &[u8]) -> Option<Mark>
         b"readTVar" => Some(Mark::ReadTVar),
         b"writeTVar" => Some(Mark::WriteTVar),
         b"newTVar" => Some(Mark::NewTVar),
+        _ => None,
+    }
+}
+
+// A word that ends a branch, or says what runs where one ended so.
+#[tactic(auto, unfolding(crate::specs::Lexing::choice_mark, crate::specs::Lexing::class_of))]
+fn choice_mark(word: &[u8]) -> Option<Mark>
+    ensures mark { result ≡ choice_mark word.now }
+    ensures word { IfSome result (λ m. class_of (tok.Mark m) ≡ kind.Word) }
+{
+    match word {
         b"retry" => Some(Mark::Retry),
         b"orElse" => Some(Mark::OrElse),
         b"throw" => Some(Mark::Throw),
@@ -94,6 +105,9 @@ fn word_mark(word: &[u8]) -> Option<Mark>
         return Some(mark);
     }
     if let Some(mark) = action_mark(word) {
+        return Some(mark);
+    }
+    if let Some(mark) = choice_mark(word) {
         return Some(mark);
     }
     value_mark(word)

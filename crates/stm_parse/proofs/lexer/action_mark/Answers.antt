@@ -24,19 +24,3 @@ returns-in-writeTVar-clause-mark c = read c.args.word.now (codes "writeTVar") ma
 pub returns-in-newTVar-clause-mark : goal.returns-in-newTVar-clause-mark
 unfolding action_mark
 returns-in-newTVar-clause-mark c = read c.args.word.now (codes "newTVar") mark.NewTVar refl (omega arith) (search rules)
-
-pub returns-in-retry-clause-mark : goal.returns-in-retry-clause-mark
-unfolding action_mark
-returns-in-retry-clause-mark c = read c.args.word.now (codes "retry") mark.Retry refl (omega arith) (search rules)
-
-pub returns-in-orElse-clause-mark : goal.returns-in-orElse-clause-mark
-unfolding action_mark
-returns-in-orElse-clause-mark c = read c.args.word.now (codes "orElse") mark.OrElse refl (omega arith) (search rules)
-
-pub returns-in-throw-clause-mark : goal.returns-in-throw-clause-mark
-unfolding action_mark
-returns-in-throw-clause-mark c = read c.args.word.now (codes "throw") mark.Throw refl (omega arith) (search rules)
-
-pub returns-in-catch-clause-mark : goal.returns-in-catch-clause-mark
-unfolding action_mark
-returns-in-catch-clause-mark c = read c.args.word.now (codes "catch") mark.Catch refl (omega arith) (search rules)
