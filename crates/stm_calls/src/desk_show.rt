@@ -5,7 +5,7 @@ use crate::words::{say, say_count, say_number, say_whether};
 use std::alloc::AllocError;
 use std::fmt::Write;
 use stm_desk::{Desk, Status};
-use stm_history::{Event, What};
+use stm_history::{Event, SharedVerdict, Tickets, What};
 use stm_store::Store;
 use stm_terms::text::write_writes;
 use stm_terms::{Verdict, write_type, write_value, write_verdict};
@@ -53,6 +53,19 @@ fn say_block(desk: &Desk, ticket: u32, out: &mut String) -> Result<(), AllocErro
     }
 }
 
+fn say_finished(
+    ticket: u32,
+    verdict: &SharedVerdict,
+    first_new: u32,
+    stale: &Tickets,
+    out: &mut String,
+) -> Result<(), AllocError> {
+    write!(out, "finished {ticket} ")?;
+    write_verdict(verdict.get(&Verdict::Blocks), out)?;
+    write!(out, " first {first_new} stale")?;
+    say_tickets(stale.as_slice(), out)
+}
+
 fn say_event(event: &Event, out: &mut String) -> Result<(), AllocError> {
     write!(out, "client {} ", event.client)?;
     match &event.what {
@@ -69,12 +82,7 @@ fn say_event(event: &Event, out: &mut String) -> Result<(), AllocError> {
             verdict,
             first_new,
             stale,
-        } => {
-            write!(out, "finished {ticket} ")?;
-            write_verdict(verdict.get(&Verdict::Blocks), out)?;
-            write!(out, " first {first_new} stale")?;
-            say_tickets(stale.as_slice(), out)
-        }
+        } => say_finished(*ticket, verdict, *first_new, stale, out),
     }
 }
 

@@ -16,13 +16,19 @@ use stm_store::Frozen;
 
 /// The jobs of the last call that took some, the copy of the store beside them, the messages made
 /// of them, and how many messages were accepted and refused since the jobs were taken.
-#[derive(Drop)]
 pub struct Work {
     frozen: Option<Frozen>,
     jobs: Vec<Job>,
     messages: Vec<Option<Evaluated>>,
     accepted: u32,
     refused: u32,
+}
+
+// Written out, and not derived, so that the proof of each owner calls it once.
+impl Drop for Work {
+    fn drop(self) {
+        let Work { frozen: _, .. } = self;
+    }
 }
 
 impl Work {

@@ -17,13 +17,19 @@ use stm_store::Table;
 const CLIENTS: u32 = 128;
 
 /// A desk and a second one, what was handed out, and how far settling came.
-#[derive(Drop)]
 pub struct Desks {
     desk: Option<Desk>,
     second: Option<Desk>,
     work: Work,
     settled: Counts,
     client: u32,
+}
+
+// Written out, and not derived, so that the proof of each owner calls it once.
+impl Drop for Desks {
+    fn drop(self) {
+        let Desks { desk: _, .. } = self;
+    }
 }
 
 /// The finishes and the deliveries of settling, over calls that were refused memory.

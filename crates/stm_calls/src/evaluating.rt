@@ -14,12 +14,18 @@ use stm_terms::text::write_writes;
 use stm_terms::{Verdict, write_verdict};
 
 /// A block and a second hold on it, a job, and a message.
-#[derive(Drop)]
 pub struct Evaluating {
     block: Option<SharedBlock>,
     second: Option<SharedBlock>,
     job: Option<Job>,
     message: Option<Evaluated>,
+}
+
+// Written out, and not derived, so that the proof of each owner calls it once.
+impl Drop for Evaluating {
+    fn drop(self) {
+        let Evaluating { block: _, .. } = self;
+    }
 }
 
 impl Evaluating {

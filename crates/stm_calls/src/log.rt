@@ -10,11 +10,17 @@ use stm_terms::text::write_writes;
 use stm_terms::{Ref, Value, write_value};
 
 /// A log, the store that it reads, and a second log over the same store.
-#[derive(Drop)]
 pub struct Logging {
     pub frozen: Frozen,
     pub log: Log,
     pub copy: Log,
+}
+
+// Written out, and not derived, so that the proof of each owner calls it once.
+impl Drop for Logging {
+    fn drop(self) {
+        let Logging { frozen: _, .. } = self;
+    }
 }
 
 /// The value of a reference, where it is there.

@@ -57,7 +57,6 @@ const NO_MEMORY: u8 = 4;
 const ROOM: usize = 1 << 18;
 
 /// What the calls are made on.
-#[derive(Drop)]
 struct Objects {
     queue: Pending,
     watch: Watch,
@@ -71,6 +70,13 @@ struct Objects {
     desks: Desks,
     gathered: Gathered,
     calls_once: bool,
+}
+
+// Written out, and not derived, so that the proof of each owner calls it once.
+impl Drop for Objects {
+    fn drop(self) {
+        let Objects { queue: _, .. } = self;
+    }
 }
 
 fn new_objects(alloc: Global) -> Objects {
@@ -149,27 +155,15 @@ fn answer_pool<T: Threads + Wait + Clock + Sync>(
     }
 }
 
-/// Makes the call of a line, and writes its answer.
-fn answer<T: Threads + Wait + Clock + Sync>(
+/// Makes a call on a text, a block that many hold, or what `answer_store` answers.
+fn answer_block(
     objects: &mut Objects,
-    rt: &T,
     alloc: Global,
-    line: &str,
+    module: &str,
+    call: &str,
     out: &mut String,
 ) -> Result<(), AllocError> {
-    let (module, call) = first_word(line);
     match module {
-        "" | "--" => Ok(()),
-        "memory" => {
-            objects.calls_once = call == "once";
-            Ok(())
-        }
-        "queue" => queue::answer(&mut objects.queue, alloc, call, out),
-        "watch" => watch::answer(&mut objects.watch, alloc, call, out),
-        "log" => log_calls::answer(&mut objects.log, &objects.frozen, alloc, call, out),
-        "desk" => desks::answer(&mut objects.desks, &objects.table, alloc, call, out),
-        "history" => histories::answer(&mut objects.gathered, &objects.desks, alloc, call, out),
-        "pool" => answer_pool(objects, rt, alloc, call, out),
         "text" => blocks::answer(&objects.table, alloc, call, out),
         "block" => evaluating::answer_block(
             &mut objects.evaluating,
@@ -187,6 +181,44 @@ fn answer<T: Threads + Wait + Clock + Sync>(
             out,
         ),
         _ => answer_store(objects, alloc, module, call, out),
+    }
+}
+
+/// Makes a call of one thread on a part of the scheduler.
+fn answer_part(
+    objects: &mut Objects,
+    alloc: Global,
+    module: &str,
+    call: &str,
+    out: &mut String,
+) -> Result<(), AllocError> {
+    match module {
+        "queue" => queue::answer(&mut objects.queue, alloc, call, out),
+        "watch" => watch::answer(&mut objects.watch, alloc, call, out),
+        "log" => log_calls::answer(&mut objects.log, &objects.frozen, alloc, call, out),
+        "desk" => desks::answer(&mut objects.desks, &objects.table, alloc, call, out),
+        "history" => histories::answer(&mut objects.gathered, &objects.desks, alloc, call, out),
+        _ => answer_block(objects, alloc, module, call, out),
+    }
+}
+
+/// Makes the call of a line, and writes its answer.
+fn answer<T: Threads + Wait + Clock + Sync>(
+    objects: &mut Objects,
+    rt: &T,
+    alloc: Global,
+    line: &str,
+    out: &mut String,
+) -> Result<(), AllocError> {
+    let (module, call) = first_word(line);
+    match module {
+        "" | "--" => Ok(()),
+        "memory" => {
+            objects.calls_once = call == "once";
+            Ok(())
+        }
+        "pool" => answer_pool(objects, rt, alloc, call, out),
+        _ => answer_part(objects, alloc, module, call, out),
     }
 }
 

@@ -155,11 +155,14 @@ fn say_report(report: &Report, gate: &Held, out: &mut String) -> Result<(), Allo
     say_installed(report.desk.history(), out)
 }
 
+/// Answers with what closing the desk gave, where the workers had what they needed.
 fn say_closed<L: Ledger>(
     closed: &Result<Report, (SharedDesk<L>, Vec<Pass<L>>, CloseError)>,
+    worked: Result<(), AllocError>,
     gate: &Held,
     out: &mut String,
 ) -> Result<(), AllocError> {
+    worked?;
     match closed {
         Ok(report) => say_report(report, gate, out),
         Err(refused) => writeln!(out, "refused {:?}", refused.2),
@@ -182,29 +185,53 @@ fn submit_both<L: Ledger, R: Wait>(
     Ok(())
 }
 
-/// The passes after the workers are done, or nothing where a thread or memory was refused.
+/// The passes of two workers that were stopped are with the others again.
+fn put_back<L: Ledger>(
+    passes: &mut Vec<Pass<L>>,
+    ended: (Ended<L>, Ended<L>),
+) -> Result<(), AllocError> {
+    match ended {
+        ((second, WorkEnd::Stopped), (third, WorkEnd::Stopped)) => {
+            passes.push(second)?;
+            passes.push(third)?;
+            Ok(())
+        }
+        _ => Err(AllocError),
+    }
+}
+
+/// Two workers evaluate and deliver, and their passes are with the others again, but where a thread
+/// or memory was refused.
+fn with_both<L: Ledger + Send + Sync, R: Threads + Wait + Clock + Sync>(
+    shared: &SharedDesk<L>,
+    rt: &R,
+    alloc: Global,
+    gate: &Held,
+    passes: &mut Vec<Pass<L>>,
+    second: Pass<L>,
+    third: Pass<L>,
+) -> Result<(), AllocError> {
+    match two_workers(rt, alloc, shared, gate, second, third) {
+        Some(ended) => put_back(passes, ended),
+        None => Err(AllocError),
+    }
+}
+
+/// The first pass submits the block twice, and workers with the two others evaluate and deliver.
 fn with_workers<L: Ledger + Send + Sync, R: Threads + Wait + Clock + Sync>(
     shared: &SharedDesk<L>,
     rt: &R,
     alloc: Global,
     gate: &Held,
     block: &SharedBlock,
-    passes: Vec<Pass<L>>,
-) -> Result<Vec<Pass<L>>, AllocError> {
-    let mut passes = passes;
-    let (Some(third), Some(second)) = (passes.pop(), passes.pop()) else {
-        return Err(AllocError);
-    };
+    passes: &mut Vec<Pass<L>>,
+) -> Result<(), AllocError> {
     match passes.as_mut_slice().get_mut(0) {
         Some(first) => submit_both(shared, rt, first, block)?,
         None => {}
     }
-    match two_workers(rt, alloc, shared, gate, second, third) {
-        Some(((second, WorkEnd::Stopped), (third, WorkEnd::Stopped))) => {
-            passes.push(second)?;
-            passes.push(third)?;
-            Ok(passes)
-        }
+    match (passes.pop(), passes.pop()) {
+        (Some(third), Some(second)) => { with_both(shared, rt, alloc, gate, passes, second, third) }
         _ => Err(AllocError),
     }
 }
@@ -220,14 +247,14 @@ fn answer_with<L: Ledger + Send + Sync, R: Threads + Wait + Clock + Sync>(
     requires name { blank.name ≡ L.name }
     requires parts { (blank.parts ≡ L.parts) × (blank.parts ≡ 3) }
 {
-    let (shared, passes) = SharedDesk::<L>::open(alloc, blank, table, 3, 100)?;
+    let (shared, mut passes) = SharedDesk::<L>::open(alloc, blank, table, 3, 100)?;
     let gate = Held {
         second_done: AtomicBool::new(false),
         first_waited: AtomicBool::new(false),
         given_up: AtomicBool::new(false),
     };
-    let passes = with_workers(&shared, rt, alloc, &gate, block, passes)?;
-    say_closed(&shared.close(passes), &gate, out)
+    let worked = with_workers(&shared, rt, alloc, &gate, block, &mut passes);
+    say_closed(&shared.close(passes), worked, &gate, out)
 }
 
 /// Submits the block of a text twice, and has two workers evaluate both at once.

@@ -169,13 +169,33 @@ fn deliver_jobs<R: Threads + Wait + Sync>(
 }
 
 /// Answers with what the threads were told and whether the history is legal.
-fn say_told(desk: &Desk, told: Told, alloc: Global, out: &mut String) -> Result<(), AllocError> {
+fn say_told(
+    desk: &Desk,
+    told: Result<Told, AllocError>,
+    alloc: Global,
+    out: &mut String,
+) -> Result<(), AllocError> {
+    let told = told?;
     writeln!(
         out,
         "accepted {} already {} other {}",
         told.accepted, told.already, told.other
     )?;
     say_replay(desk, alloc, out)
+}
+
+/// Has three threads deliver a message of each job to the desk.
+fn answer_jobs<R: Threads + Wait + Sync>(
+    desk: Desk,
+    rt: &R,
+    alloc: Global,
+    frozen: &Frozen,
+    jobs: Vec<Job>,
+    out: &mut String,
+) -> Result<(), AllocError> {
+    let lock = Mutex::new(desk);
+    let told = deliver_jobs(rt, alloc, &lock, frozen, jobs);
+    say_told(&lock.into_inner(), told, alloc, out)
 }
 
 /// Takes all jobs, and has three threads deliver each.
@@ -187,9 +207,7 @@ fn answer_desk<R: Threads + Wait + Sync>(
 ) -> Result<(), AllocError> {
     let mut desk = desk;
     let (frozen, jobs) = desk.take(desk.waiting())?;
-    let lock = Mutex::new(desk);
-    let told = deliver_jobs(rt, alloc, &lock, &frozen, jobs)?;
-    say_told(&lock.into_inner(), told, alloc, out)
+    answer_jobs(desk, rt, alloc, &frozen, jobs, out)
 }
 
 /// The block waits so many times on a desk of its own, and three threads deliver a message of each

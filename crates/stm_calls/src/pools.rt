@@ -25,12 +25,18 @@ const PASSES: u32 = 128;
 
 /// The shared desk, until it is closed, its passes, the messages that were made, and the variables
 /// that blocks may name.
-#[derive(Drop)]
 struct Session<L: Ledger> {
     shared: Option<SharedDesk<L>>,
     passes: Vec<Pass<L>>,
     messages: Vec<Option<Evaluated>>,
     table: Table,
+}
+
+// Written out, and not derived, so that the proof of each owner calls it once.
+impl<L: Ledger> Drop for Session<L> {
+    fn drop(self) {
+        let Session { shared: _, .. } = self;
+    }
 }
 
 /// The calls of a line, which are parted by ` / `.
@@ -60,6 +66,29 @@ fn move_last<L: Ledger>(
     Ok(())
 }
 
+/// The session has a desk that was not closed, and its passes.
+fn reopen<L: Ledger>(session: &mut Session<L>, shared: SharedDesk<L>, passes: Vec<Pass<L>>) {
+    session.shared = Some(shared);
+    session.passes = passes;
+}
+
+/// Closes the desk with the passes of the session, which has both again after a refusal.
+fn close_desk<L: Ledger>(
+    session: &mut Session<L>,
+    shared: SharedDesk<L>,
+    alloc: Global,
+    out: &mut String,
+) -> Result<(), AllocError> {
+    let passes = mem::replace(&mut session.passes, Vec::new(alloc));
+    match shared.close(passes) {
+        Ok(report) => say_report(&report, alloc, out),
+        Err((shared, passes, refusal)) => {
+            reopen(session, shared, passes);
+            writeln!(out, "refused {refusal:?}")
+        }
+    }
+}
+
 /// Closes the desk with the passes but for the last few, which are there again after a refusal.
 fn close<L: Ledger>(
     session: &mut Session<L>,
@@ -67,21 +96,14 @@ fn close<L: Ledger>(
     without: u32,
     out: &mut String,
 ) -> Result<(), AllocError> {
-    let Some(shared) = session.shared.take() else {
-        return say("refused no desk", out);
-    };
     let mut kept = Vec::with_capacity(alloc, session.passes.len())?;
     move_last(&mut session.passes, &mut kept, without)?;
-    let passes = mem::replace(&mut session.passes, Vec::new(alloc));
-    match shared.close(passes) {
-        Ok(report) => say_report(&report, alloc, out),
-        Err((shared, passes, refusal)) => {
-            session.shared = Some(shared);
-            session.passes = passes;
-            move_last(&mut kept, &mut session.passes, without)?;
-            writeln!(out, "refused {refusal:?}")
-        }
-    }
+    let told = match session.shared.take() {
+        Some(shared) => close_desk(session, shared, alloc, out),
+        None => say("refused no desk", out),
+    };
+    move_last(&mut kept, &mut session.passes, without)?;
+    told
 }
 
 /// Makes one call of a line.
@@ -147,12 +169,13 @@ fn answer_with<L: Ledger, R: Wait + Threads + Sync>(
     requires passes { passes ≤ max_clients }
     requires limit { limit ≤ max_events }
 {
+    let copy = table.copy(alloc)?;
     let (shared, passes) = SharedDesk::<L>::open(alloc, blank, table, passes, limit)?;
     let mut session = Session {
         shared: Some(shared),
         passes,
         messages: Vec::new(alloc),
-        table: table.copy(alloc)?,
+        table: copy,
     };
     answer_calls(&mut session, rt, alloc, calls, out)
 }

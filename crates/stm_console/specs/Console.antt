@@ -16,25 +16,39 @@ use Rattle.stm_console.specs.Lines.{lines_of, whole_lines_of}
 use Rattle.stm_console.specs.Refusals.{refused}
 use Rattle.stm_console.specs.Showing.{show_answer, reads_answer, store_answer, history_answer}
 
--- the command of a word
-unfoldable pub command_named : List ℕ → Option Command
-command_named word =
+-- the command of a word, of those that leave an open desk as it is
+unfoldable pub asking_named : List ℕ → Option Command
+asking_named word =
     if bytes_eq word (codes "tvar") then Some Tvar
     else if bytes_eq word (codes "try") then Some Try
     else if bytes_eq word (codes "looks") then Some Looks
-    else if bytes_eq word (codes "submit") then Some Submit
+    else if bytes_eq word (codes "show") then Some Show
+    else if bytes_eq word (codes "reads") then Some Reads
+    else if bytes_eq word (codes "store") then Some Store
+    else if bytes_eq word (codes "history") then Some History
+    else None
+
+-- the command of a word, of those that may change it
+unfoldable pub moving_named : List ℕ → Option Command
+moving_named word =
+    if bytes_eq word (codes "submit") then Some Submit
     else if bytes_eq word (codes "take") then Some Take
     else if bytes_eq word (codes "deliver") then Some Deliver
     else if bytes_eq word (codes "handback") then Some Handback
     else if bytes_eq word (codes "eval") then Some Eval
     else if bytes_eq word (codes "finish") then Some Finish
     else if bytes_eq word (codes "cancel") then Some Cancel
-    else if bytes_eq word (codes "show") then Some Show
-    else if bytes_eq word (codes "reads") then Some Reads
-    else if bytes_eq word (codes "store") then Some Store
     else if bytes_eq word (codes "settle") then Some Settle
-    else if bytes_eq word (codes "history") then Some History
     else None
+
+-- a command, where there is one, else another
+abbrev pub or_command : Option Command → Option Command → Option Command
+or_command None other = other
+or_command (Some command) other = Some command
+
+-- the command of a word
+unfoldable pub command_named : List ℕ → Option Command
+command_named word = or_command (asking_named word) (moving_named word)
 
 -- what a command answers on an open desk; no declaration is taken there
 abbrev pub desk_answer : OpenDesk → Command → List ℕ → List ℕ

@@ -1,7 +1,7 @@
 //! The words of the commands.
 
 ghost use Rattle.std.specs.Prelude.{◌≡◌};
-ghost use Rattle.stm_console.specs.Console.{command_named};
+ghost use Rattle.stm_console.specs.Console.{asking_named, moving_named, command_named};
 
 /// A command of the console (docs/CONSOLE.md, "Commands").
 #[derive(Clone, Copy, PartialEq, Eq, Debug)]
@@ -23,10 +23,10 @@ pub enum Command {
     History,
 }
 
-/// The command of a word, if it is one.
-#[tactic(auto, unfolding(crate::specs::Console::command_named))]
-pub fn command_of(word: &[u8]) -> Option<Command>
-    ensures { result ≡ command_named word.now }
+// The command of a word, of those that leave an open desk as it is.
+#[tactic(auto, unfolding(crate::specs::Console::asking_named))]
+fn asking_of(word: &[u8]) -> Option<Command>
+    ensures { result ≡ asking_named word.now }
 {
     if word == b"tvar".as_slice() {
         return Some(Command::Tvar);
@@ -37,6 +37,26 @@ pub fn command_of(word: &[u8]) -> Option<Command>
     if word == b"looks".as_slice() {
         return Some(Command::Looks);
     }
+    if word == b"show".as_slice() {
+        return Some(Command::Show);
+    }
+    if word == b"reads".as_slice() {
+        return Some(Command::Reads);
+    }
+    if word == b"store".as_slice() {
+        return Some(Command::Store);
+    }
+    if word == b"history".as_slice() {
+        return Some(Command::History);
+    }
+    None
+}
+
+// The command of a word, of those that may change it.
+#[tactic(auto, unfolding(crate::specs::Console::moving_named))]
+fn moving_of(word: &[u8]) -> Option<Command>
+    ensures { result ≡ moving_named word.now }
+{
     if word == b"submit".as_slice() {
         return Some(Command::Submit);
     }
@@ -58,20 +78,19 @@ pub fn command_of(word: &[u8]) -> Option<Command>
     if word == b"cancel".as_slice() {
         return Some(Command::Cancel);
     }
-    if word == b"show".as_slice() {
-        return Some(Command::Show);
-    }
-    if word == b"reads".as_slice() {
-        return Some(Command::Reads);
-    }
-    if word == b"store".as_slice() {
-        return Some(Command::Store);
-    }
     if word == b"settle".as_slice() {
         return Some(Command::Settle);
     }
-    if word == b"history".as_slice() {
-        return Some(Command::History);
-    }
     None
+}
+
+/// The command of a word, if it is one.
+#[tactic(auto, unfolding(crate::specs::Console::command_named))]
+pub fn command_of(word: &[u8]) -> Option<Command>
+    ensures { result ≡ command_named word.now }
+{
+    if let Some(command) = asking_of(word) {
+        return Some(command);
+    }
+    moving_of(word)
 }

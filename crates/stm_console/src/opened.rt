@@ -19,11 +19,17 @@ use stm_terms::NoMemory;
 
 /// The desk, the jobs that were handed out, and a copy of the present store on which `try` and `looks` run blocks: it is
 /// made where it is asked for, and kept until the store may change. Contracts see the desk and the jobs.
-#[derive(Drop)]
 pub struct OpenDesk {
     pub(crate) desk: Desk,
     pub(crate) copy: Option<Frozen>,
     pub(crate) jobs: Vec<HandedOut>,
+}
+
+// Written out, and not derived, so that the proof of each owner calls it once.
+impl Drop for OpenDesk {
+    fn drop(self) {
+        let OpenDesk { desk: _, .. } = self;
+    }
 }
 
 impl Model for OpenDesk {

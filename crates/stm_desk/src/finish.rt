@@ -50,6 +50,28 @@ fn finished_event(
     })
 }
 
+/// The event of a finish by its plan, twice, and room for it in both lists.
+fn finished_events(
+    history: &mut Vec<Event>,
+    own: &mut Vec<Event>,
+    client: u32,
+    ticket: u32,
+    plan: &Plan,
+) -> Result<(Event, Event), NoMemory>
+    ensures told { IfOk result (λ p. p.0 ≡ event client
+        (AnyWhat.Finished ticket plan.now.verdict plan.now.first_new plan.now.stale)) }
+    ensures noted { IfOk result (λ p. p.1 ≡ event client
+        (AnyWhat.Finished ticket plan.now.verdict plan.now.first_new plan.now.stale)) }
+    ensures items { history.new.items ≡ history.old.items }
+    ensures own { own.new.items ≡ own.old.items }
+    ensures room { OnOk result (vec_len history.new < vec_capacity history.new) }
+    ensures own_room { OnOk result (vec_len own.new < vec_capacity own.new) }
+{
+    let told = finished_event(history, client, ticket, plan)?;
+    let noted = finished_event(own, client, ticket, plan)?;
+    Ok((told, noted))
+}
+
 /// A verdict that the caller alone holds.
 fn copy_of(alloc: Global, verdict: &SharedVerdict) -> Result<Verdict, NoMemory>
     ensures { IfOk result (λ v. v ≡ verdict.now) }
@@ -93,8 +115,7 @@ impl Desk {
         ensures err { OnErr result ((self.new ≡ self.old) × (own.new.items ≡ own.old.items)) }
         ensures legal { IsLegal self.new.table self.new.history }
     {
-        let told = finished_event(&mut self.history, client, ticket, plan)?;
-        let noted = finished_event(own, client, ticket, plan)?;
+        let (told, noted) = finished_events(&mut self.history, own, client, ticket, plan)?;
         let applied = self.machine.finish(ticket, plan)?;
         self.history.push_reserved(told);
         own.push_reserved(noted);

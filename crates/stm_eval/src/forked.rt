@@ -7,7 +7,7 @@
 ghost use Rattle.std.specs.Prelude.{◌≡◌, ◌≢◌, ◌+◌, ◌<◌, ◌≤◌, [], List, Some, length, take, OnOk, OnErr, IfOk, IfErr};
 ghost use denote.Param.Send.{IsSync};
 ghost use Rattle.stm_terms.specs.declared.values.Value.{Value as AnyValue};
-ghost use Rattle.stm_terms.specs.Ast.{Act, act_of, or_else, catch};
+ghost use Rattle.stm_terms.specs.Ast.{Act, act_of, or_else, bind, seq, catch};
 ghost use Rattle.stm_terms.specs.Changes.{Variables, cell_value};
 ghost use Rattle.stm_terms.specs.ReadSet.{reads_of};
 ghost use Rattle.stm_terms.specs.Verdict.{verdict};
@@ -105,20 +105,77 @@ fn step<'a, R: Threads + Sync>(
             let end = run_or_else(rt, alloc, frozen, action, a, b, locals, log, levels - 1)?;
             Ok(Step::Ended(end))
         }
-        Action::Bind(a, b) => match walk(rt, alloc, frozen, a, locals, log, levels)? {
-            Outcome::Returned(v) => {
-                locals.push(v)?;
-                Ok(Step::On(b))
-            }
-            end => Ok(Step::Ended(end)),
-        },
+        Action::Bind(a, b) => walk_bound(rt, alloc, frozen, a, b, locals, log, levels),
         Action::Let(e, b) => run_let(frozen, e, b, locals, log),
-        Action::Seq(a, b) => match walk(rt, alloc, frozen, a, locals, log, levels)? {
-            Outcome::Returned(_) => Ok(Step::On(b)),
-            end => Ok(Step::Ended(end)),
-        },
+        Action::Seq(a, b) => walk_first(rt, alloc, frozen, a, b, locals, log, levels),
         Action::Catch(a, b) => walk_caught(rt, alloc, frozen, a, b, locals, log, levels),
         _ => Ok(Step::Ended(alone(frozen, action, locals, log)?)),
+    }
+}
+
+/// A statement that binds a name, with `levels` at once within it. The rest is left to be run, with one more local, where the
+/// statement returned.
+#[cycle(walk)]
+#[tactic(auto, using(crate::proofs::InsertedReads::reads_in_turn))]
+fn walk_bound<'a, R: Threads + Sync>(
+    rt: &R,
+    alloc: Global,
+    frozen: &Frozen,
+    bound: &Action,
+    rest: &'a Action,
+    locals: &mut Vec<Value>,
+    log: &mut Log,
+    levels: u32,
+) -> Result<Step<'a>, NoMemory>
+    requires { CanRun (cell_value frozen.now) (bind (act_of bound.now) (act_of rest.now))
+        locals.old.items log.old }
+    ensures steps { IfOk result (λ s. StepsTo (cell_value frozen.now)
+        (bind (act_of bound.now) (act_of rest.now))
+        locals.old.items log.old s locals.new.items log.new) }
+    ensures locals { OnOk result (
+        take (length locals.old.items) locals.new.items ≡ locals.old.items) }
+    ensures smaller { IfOk result (λ s. size_left s ≤ size (act_of rest.now)) }
+    ensures defined { IfOk result (λ s.
+        DefinedLeft (cell_value frozen.now) s locals.new.items log.new.top) }
+    ensures read_set { OnOk result (IsReadSetOf (cell_value frozen.now) log.new.reads) }
+{
+    match walk(rt, alloc, frozen, bound, locals, log, levels)? {
+        Outcome::Returned(v) => {
+            locals.push(v)?;
+            Ok(Step::On(rest))
+        }
+        end => Ok(Step::Ended(end)),
+    }
+}
+
+/// A statement whose result is dropped, with `levels` at once within it. The rest is left to be run where it returned.
+#[cycle(walk)]
+#[tactic(auto, using(crate::proofs::InsertedReads::reads_in_turn))]
+fn walk_first<'a, R: Threads + Sync>(
+    rt: &R,
+    alloc: Global,
+    frozen: &Frozen,
+    first: &Action,
+    rest: &'a Action,
+    locals: &mut Vec<Value>,
+    log: &mut Log,
+    levels: u32,
+) -> Result<Step<'a>, NoMemory>
+    requires { CanRun (cell_value frozen.now) (seq (act_of first.now) (act_of rest.now))
+        locals.old.items log.old }
+    ensures steps { IfOk result (λ s. StepsTo (cell_value frozen.now)
+        (seq (act_of first.now) (act_of rest.now))
+        locals.old.items log.old s locals.new.items log.new) }
+    ensures locals { OnOk result (
+        take (length locals.old.items) locals.new.items ≡ locals.old.items) }
+    ensures smaller { IfOk result (λ s. size_left s ≤ size (act_of rest.now)) }
+    ensures defined { IfOk result (λ s.
+        DefinedLeft (cell_value frozen.now) s locals.new.items log.new.top) }
+    ensures read_set { OnOk result (IsReadSetOf (cell_value frozen.now) log.new.reads) }
+{
+    match walk(rt, alloc, frozen, first, locals, log, levels)? {
+        Outcome::Returned(_) => Ok(Step::On(rest)),
+        end => Ok(Step::Ended(end)),
     }
 }
 

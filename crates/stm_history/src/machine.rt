@@ -14,7 +14,6 @@ use stm_watch::Watch;
 
 /// What a history leads to: the store, the next ticket, the waiting blocks with what their last deliveries brought, the
 /// tickets that are queued or out, and which tickets watch which variables. It keeps no events.
-#[derive(Drop)]
 pub struct Machine {
     pub(crate) alloc: Global,
     pub(crate) store: Store,
@@ -22,6 +21,13 @@ pub struct Machine {
     pub(crate) waiting: WaitingBlocks,
     pub(crate) pending: Pending,
     pub(crate) watch: Watch,
+}
+
+// Written out, and not derived, so that the proof of each owner calls it once.
+impl Drop for Machine {
+    fn drop(self) {
+        let Machine { alloc: _, .. } = self;
+    }
 }
 
 impl Model for Machine {

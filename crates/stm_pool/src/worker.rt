@@ -104,7 +104,7 @@ fn do_job<L: Ledger, G: Gate<R>, R: Wait + Threads + Sync>(
     }
 }
 
-/// The message is delivered. One that is refused for what happened meanwhile ends the round.
+/// The message is delivered.
 fn deliver<L: Ledger, G: Gate<R>, R: Wait>(
     rt: &R,
     shared: &SharedDesk<L>,
@@ -120,9 +120,21 @@ fn deliver<L: Ledger, G: Gate<R>, R: Wait>(
             gate.after(rt, ticket);
             None
         }
-        Err((_, DeliverError::HistoryFull)) => give_up(rt, shared, ticket, WorkEnd::HistoryFull),
-        Err((_, DeliverError::NoMemory)) => give_up(rt, shared, ticket, WorkEnd::NoMemory),
-        Err(_) => None,
+        Err(refused) => end_refused(rt, shared, ticket, refused),
+    }
+}
+
+/// What a message leads to that was refused, with the fault. One that is refused for what happened meanwhile ends the round.
+fn end_refused<L: Ledger, R: Wait>(
+    rt: &R,
+    shared: &SharedDesk<L>,
+    ticket: u32,
+    refused: (Evaluated, DeliverError),
+) -> Option<WorkEnd> {
+    match refused {
+        (_, DeliverError::HistoryFull) => give_up(rt, shared, ticket, WorkEnd::HistoryFull),
+        (_, DeliverError::NoMemory) => give_up(rt, shared, ticket, WorkEnd::NoMemory),
+        (_, _) => None,
     }
 }
 

@@ -1,6 +1,7 @@
 //! Lines read back.
 
-ghost use Rattle.std.specs.Prelude.{◌≡◌, ◌≢◌, ◌<◌, ◌^◌, ◌≤◌, ℕ, List, IfOk, IfSome, IsErrOf, codes, option_map, option_and_then, string_bytes};
+ghost use Rattle.std.specs.Prelude.{◌≡◌, ◌≢◌, ◌<◌, ◌^◌, ◌≤◌, ℕ, List, IfOk, IfSome, IsErrOf, IsUtf8, Some, None, codes, option_map, option_and_then, string_bytes};
+ghost use Rattle.serde_json.specs.Read.{read as read_text};
 ghost use Rattle.serde_json.specs.View.{view};
 ghost use Rattle.stm_history.specs.declared.event.Event.{Event as AnyEvent};
 ghost use Rattle.stm_store.specs.Tables.{Declared};
@@ -44,6 +45,18 @@ impl From<NoMemory> for LineError {
 
     fn from(_refused: NoMemory) -> LineError {
         LineError::NoMemory
+    }
+}
+
+/// The JSON value that the line is the text of.
+fn json_of(alloc: Global, line: &[u8]) -> Result<Json, LineError>
+    ensures ok { IfOk result (λ v. read_text line.now ≡ Some (view v)) }
+    ensures bad { IsErrOf result LineError.Bad → IsUtf8 line.now → read_text line.now ≡ None }
+{
+    match Json::from_slice(alloc, line) {
+        Ok(json) => Ok(json),
+        Err(e) if e.is_memory() => Err(LineError::NoMemory),
+        Err(_) => Err(LineError::Bad),
     }
 }
 
@@ -171,19 +184,14 @@ fn event_of(alloc: Global, table: &Table, json: &Json) -> Result<Option<Event>, 
     }
 }
 
-/// Reads a line, exactly where it is the text of an event that fits the table.
-pub fn read_event(alloc: Global, table: &Table, line: &[u8]) -> Result<Event, LineError>
+/// The event that the value stands for, where the line is that event's.
+fn event_in(alloc: Global, table: &Table, json: &Json, line: &[u8]) -> Result<Event, LineError>
     ensures ok { IfOk result (λ e. event_line e ≡ line.now) }
     ensures fits { IfOk result (λ e. FitsTable table.now e) }
-    ensures bad { IsErrOf result LineError.Bad → (e : AnyEvent) → FitsTable table.now e
-        → event_line e ≢ line.now }
+    ensures bad { IsErrOf result LineError.Bad → (e : AnyEvent)
+        → event_meant table.now (view json.now) ≡ Some e → event_line e ≢ line.now }
 {
-    let json = match Json::from_slice(alloc, line) {
-        Ok(json) => json,
-        Err(e) if e.is_memory() => return Err(LineError::NoMemory),
-        Err(_) => return Err(LineError::Bad),
-    };
-    let Some(event) = event_of(alloc, table, &json)? else {
+    let Some(event) = event_of(alloc, table, json)? else {
         return Err(LineError::Bad);
     };
     let again = event_text(alloc, &event)?;
@@ -192,6 +200,17 @@ pub fn read_event(alloc: Global, table: &Table, line: &[u8]) -> Result<Event, Li
     } else {
         Err(LineError::Bad)
     }
+}
+
+/// Reads a line, exactly where it is the text of an event that fits the table.
+pub fn read_event(alloc: Global, table: &Table, line: &[u8]) -> Result<Event, LineError>
+    ensures ok { IfOk result (λ e. event_line e ≡ line.now) }
+    ensures fits { IfOk result (λ e. FitsTable table.now e) }
+    ensures bad { IsErrOf result LineError.Bad → (e : AnyEvent) → FitsTable table.now e
+        → event_line e ≢ line.now }
+{
+    let json = json_of(alloc, line)?;
+    event_in(alloc, table, &json, line)
 }
 
 /// What the first line says: the format, and how many variables' lines follow.
@@ -218,11 +237,7 @@ pub fn read_header(alloc: Global, line: &[u8]) -> Result<Header, LineError>
     ensures bad { IsErrOf result LineError.Bad → (format n : ℕ) → IsFormat format → Is32Bit n
         → header_line format n ≢ line.now }
 {
-    let json = match Json::from_slice(alloc, line) {
-        Ok(json) => json,
-        Err(e) if e.is_memory() => return Err(LineError::NoMemory),
-        Err(_) => return Err(LineError::Bad),
-    };
+    let json = json_of(alloc, line)?;
     let Some(header) = header_of(&json) else {
         return Err(LineError::Bad);
     };
@@ -264,19 +279,14 @@ fn kind_at(json: &Json) -> Option<Ty>
     type_of(text_at(json, "type")?)
 }
 
-/// Reads a variable's line, exactly where it is one.
-pub fn read_variable(alloc: Global, line: &[u8]) -> Result<Variable, LineError>
+/// The variable that the value stands for, where it has a name and the line is that variable's.
+fn variable_in(alloc: Global, json: &Json, line: &[u8]) -> Result<Variable, LineError>
     ensures ok { IfOk result (λ v. variable_line (declared v) ≡ line.now) }
     ensures fits { IfOk result (λ v. FitsVariable (declared v)) }
     ensures bad { IsErrOf result LineError.Bad → (d : Declared) → FitsVariable d
-        → variable_line d ≢ line.now }
+        → variable_meant (view json.now) ≡ Some d → variable_line d ≢ line.now }
 {
-    let json = match Json::from_slice(alloc, line) {
-        Ok(json) => json,
-        Err(e) if e.is_memory() => return Err(LineError::NoMemory),
-        Err(_) => return Err(LineError::Bad),
-    };
-    let Some(variable) = variable_of(alloc, &json)? else {
+    let Some(variable) = variable_of(alloc, json)? else {
         return Err(LineError::Bad);
     };
     if !is_name(&variable.name) {
@@ -288,4 +298,15 @@ pub fn read_variable(alloc: Global, line: &[u8]) -> Result<Variable, LineError>
     } else {
         Err(LineError::Bad)
     }
+}
+
+/// Reads a variable's line, exactly where it is one.
+pub fn read_variable(alloc: Global, line: &[u8]) -> Result<Variable, LineError>
+    ensures ok { IfOk result (λ v. variable_line (declared v) ≡ line.now) }
+    ensures fits { IfOk result (λ v. FitsVariable (declared v)) }
+    ensures bad { IsErrOf result LineError.Bad → (d : Declared) → FitsVariable d
+        → variable_line d ≢ line.now }
+{
+    let json = json_of(alloc, line)?;
+    variable_in(alloc, &json, line)
 }

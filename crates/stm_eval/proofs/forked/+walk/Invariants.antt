@@ -31,6 +31,12 @@ decreases-walk g l = 8 * size (act_of l.action.now) + 1
 abbrev pub decreases-step : goal.decreases-step
 decreases-step g l = 8 * size (act_of l.action.now)
 
+abbrev pub decreases-walk_bound : goal.decreases-walk_bound
+decreases-walk_bound g l = 8 * size (act_of l.bound.now) + 8 * size (act_of l.rest.now) + 2
+
+abbrev pub decreases-walk_first : goal.decreases-walk_first
+decreases-walk_first g l = 8 * size (act_of l.first.now) + 8 * size (act_of l.rest.now) + 2
+
 abbrev pub decreases-walk_caught : goal.decreases-walk_caught
 decreases-walk_caught g l = 8 * size (act_of l.action.now) + 8 * size (act_of l.handler.now) + 2
 
