@@ -27,7 +27,13 @@ pub struct Work {
 // Written out, and not derived, so that the proof of each owner calls it once.
 impl Drop for Work {
     fn drop(self) {
-        let Work { frozen: _, .. } = self;
+        let Work {
+            frozen: _,
+            jobs: _,
+            messages: _,
+            accepted: _,
+            refused: _,
+        } = self;
     }
 }
 

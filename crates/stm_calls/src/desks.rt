@@ -28,7 +28,13 @@ pub struct Desks {
 // Written out, and not derived, so that the proof of each owner calls it once.
 impl Drop for Desks {
     fn drop(self) {
-        let Desks { desk: _, .. } = self;
+        let Desks {
+            desk: _,
+            second: _,
+            work: _,
+            settled: _,
+            client: _,
+        } = self;
     }
 }
 

@@ -24,7 +24,12 @@ pub struct Evaluating {
 // Written out, and not derived, so that the proof of each owner calls it once.
 impl Drop for Evaluating {
     fn drop(self) {
-        let Evaluating { block: _, .. } = self;
+        let Evaluating {
+            block: _,
+            second: _,
+            job: _,
+            message: _,
+        } = self;
     }
 }
 

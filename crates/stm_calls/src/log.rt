@@ -19,7 +19,11 @@ pub struct Logging {
 // Written out, and not derived, so that the proof of each owner calls it once.
 impl Drop for Logging {
     fn drop(self) {
-        let Logging { frozen: _, .. } = self;
+        let Logging {
+            frozen: _,
+            log: _,
+            copy: _,
+        } = self;
     }
 }
 

@@ -75,7 +75,20 @@ struct Objects {
 // Written out, and not derived, so that the proof of each owner calls it once.
 impl Drop for Objects {
     fn drop(self) {
-        let Objects { queue: _, .. } = self;
+        let Objects {
+            queue: _,
+            watch: _,
+            table: _,
+            store: _,
+            ready: _,
+            frozen: _,
+            verdict: _,
+            log: _,
+            evaluating: _,
+            desks: _,
+            gathered: _,
+            calls_once: _,
+        } = self;
     }
 }
 

@@ -35,7 +35,12 @@ struct Session<L: Ledger> {
 // Written out, and not derived, so that the proof of each owner calls it once.
 impl<L: Ledger> Drop for Session<L> {
     fn drop(self) {
-        let Session { shared: _, .. } = self;
+        let Session {
+            shared: _,
+            passes: _,
+            messages: _,
+            table: _,
+        } = self;
     }
 }
 

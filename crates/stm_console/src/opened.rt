@@ -28,7 +28,11 @@ pub struct OpenDesk {
 // Written out, and not derived, so that the proof of each owner calls it once.
 impl Drop for OpenDesk {
     fn drop(self) {
-        let OpenDesk { desk: _, .. } = self;
+        let OpenDesk {
+            desk: _,
+            copy: _,
+            jobs: _,
+        } = self;
     }
 }
 

@@ -29,7 +29,12 @@ pub struct Session {
 // Written out, and not derived, so that the proof of each owner calls it once.
 impl Drop for Session {
     fn drop(self) {
-        let Session { console: _, .. } = self;
+        let Session {
+            console: _,
+            line: _,
+            answer: _,
+            threading: _,
+        } = self;
     }
 }
 

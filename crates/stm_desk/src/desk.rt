@@ -22,7 +22,12 @@ pub struct Desk {
 // Written out, and not derived, so that the proof of each owner calls it once.
 impl Drop for Desk {
     fn drop(self) {
-        let Desk { table: _, .. } = self;
+        let Desk {
+            table: _,
+            limit: _,
+            history: _,
+            machine: _,
+        } = self;
     }
 }
 

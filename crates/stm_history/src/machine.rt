@@ -26,7 +26,14 @@ pub struct Machine {
 // Written out, and not derived, so that the proof of each owner calls it once.
 impl Drop for Machine {
     fn drop(self) {
-        let Machine { alloc: _, .. } = self;
+        let Machine {
+            alloc: _,
+            store: _,
+            next: _,
+            waiting: _,
+            pending: _,
+            watch: _,
+        } = self;
     }
 }
 

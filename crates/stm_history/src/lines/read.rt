@@ -209,8 +209,10 @@ pub fn read_event(alloc: Global, table: &Table, line: &[u8]) -> Result<Event, Li
     ensures bad { IsErrOf result LineError.Bad → (e : AnyEvent) → FitsTable table.now e
         → event_line e ≢ line.now }
 {
-    let json = json_of(alloc, line)?;
-    event_in(alloc, table, &json, line)
+    match json_of(alloc, line) {
+        Ok(json) => event_in(alloc, table, &json, line),
+        Err(e) => Err(e),
+    }
 }
 
 /// What the first line says: the format, and how many variables' lines follow.
@@ -237,7 +239,10 @@ pub fn read_header(alloc: Global, line: &[u8]) -> Result<Header, LineError>
     ensures bad { IsErrOf result LineError.Bad → (format n : ℕ) → IsFormat format → Is32Bit n
         → header_line format n ≢ line.now }
 {
-    let json = json_of(alloc, line)?;
+    let json = match json_of(alloc, line) {
+        Ok(json) => json,
+        Err(e) => return Err(e),
+    };
     let Some(header) = header_of(&json) else {
         return Err(LineError::Bad);
     };
@@ -307,6 +312,8 @@ pub fn read_variable(alloc: Global, line: &[u8]) -> Result<Variable, LineError>
     ensures bad { IsErrOf result LineError.Bad → (d : Declared) → FitsVariable d
         → variable_line d ≢ line.now }
 {
-    let json = json_of(alloc, line)?;
-    variable_in(alloc, &json, line)
+    match json_of(alloc, line) {
+        Ok(json) => variable_in(alloc, &json, line),
+        Err(e) => Err(e),
+    }
 }

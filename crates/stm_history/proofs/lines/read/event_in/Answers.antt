@@ -10,8 +10,8 @@ returns-in_default-clause-bad c = λ _ e h l.
     let none : None ≡ event_of c.args.table.now (view c.args.json.now) = sym c.in_default.is ∙ c.in_ok-event.ensures.value in
     cc
 
-pub returns-clause-bad : goal.returns-clause-bad
-returns-clause-bad c = λ _ e h l.
+pub returns-else-eq-clause-bad : goal.returns-else-eq-clause-bad
+returns-else-eq-clause-bad c = λ _ e h l.
     let some : Some c.in-Some.event ≡ event_of c.args.table.now (view c.args.json.now) = sym c.in-Some.is ∙ c.in_ok-event.ensures.value in
     let same : c.in-Some.event ≡ e = cc in
     let text : c.as_bytes.result.now ≡ c.args.line.now = c.as_bytes.ensures.value ∙ c.in_ok-again.ensures ∙ ap event_line same ∙ l in

@@ -4,23 +4,23 @@ use Rattle.serde_json.specs.View.{view}
 use Rattle.stm_history.specs.declared.lines.read.Header.{Header}
 use Rattle.stm_history.specs.Lines.{IsFormat, header_line}
 use Rattle.stm_history.specs.Fields.{header_of}
-use Rattle.stm_history.proofs.ReadsBack.{header_unread, header_is}
+use Rattle.stm_history.proofs.ReadsBack.{same_error, header_unread, header_is}
 use Rattle.stm_history.proofs.lines.read.read_header.Goals as goal
 use Rattle.stm_history.proofs.lines.read.read_header.Goals.{else-is_format-via-then-is_format+else-eq, else-is_format-via-else-is_format}
 
-pub returns-in_err-json-clause-bad : goal.returns-in_err-json-clause-bad
-returns-in_err-json-clause-bad c = λ b format n k f e. header_unread c.args.line.now format n k f e (c.in_err-json.ensures.bad cc)
+pub returns-in-Err-clause-bad : goal.returns-in-Err-clause-bad
+returns-in-Err-clause-bad c = λ b format n k f e. header_unread c.args.line.now format n k f e (c.in-Err.ensures.bad (same_error _ _ b))
 
 pub returns-in_default-clause-bad : goal.returns-in_default-clause-bad
 returns-in_default-clause-bad c = λ _ format n k f e.
-    let h = header_is c.args.line.now format n (view c.in_ok-json.json) k f e c.in_ok-json.ensures in
-    let none : None ≡ header_of (view c.in_ok-json.json) = sym c.in_default.is ∙ c.header_of.ensures.value in
+    let h = header_is c.args.line.now format n (view c.in-Ok.json) k f e c.in-Ok.ensures.ok in
+    let none : None ≡ header_of (view c.in-Ok.json) = sym c.in_default.is ∙ c.header_of.ensures.value in
     cc
 
 pub returns-clause-bad : goal.returns-clause-bad
 returns-clause-bad c = λ _ format n k f e.
-    let h = header_is c.args.line.now format n (view c.in_ok-json.json) k f e c.in_ok-json.ensures in
-    let some : Some c.in-Some.header ≡ header_of (view c.in_ok-json.json) = sym c.in-Some.is ∙ c.header_of.ensures.value in
+    let h = header_is c.args.line.now format n (view c.in-Ok.json) k f e c.in-Ok.ensures.ok in
+    let some : Some c.in-Some.header ≡ header_of (view c.in-Ok.json) = sym c.in-Some.is ∙ c.header_of.ensures.value in
     let same : c.in-Some.header ≡ record { format = format; vars = n } = cc in
     elim c.else-is_format.branch [
       | else-is_format-via-then-is_format+else-eq w ↦

@@ -29,8 +29,8 @@ returns-then-not-is_name-clause-bad c = λ _ d f h l.
     let told : c.is_name.result ≡ true = c.is_name.ensures ∙ ap is_name_text c.deref.ensures ∙ named in
     grind (arith, common_steps)
 
-pub returns-clause-bad : goal.returns-clause-bad
-returns-clause-bad c = λ _ d f h l.
+pub returns-else-eq-clause-bad : goal.returns-else-eq-clause-bad
+returns-else-eq-clause-bad c = λ _ d f h l.
     let some : Some (declared c.in-Some.variable) ≡ declared_from_json (view c.args.json.now) = ap (option_map declared) (sym c.in-Some.is) ∙ c.in_ok-variable.ensures.value in
     let same : declared c.in-Some.variable ≡ d = cc in
     let text : c.as_bytes.result.now ≡ c.args.line.now = c.as_bytes.ensures.value ∙ c.in_ok-again.ensures ∙ ap (λ (n : List ℕ). variable_line (written n c.in-Some.variable.kind c.in-Some.variable.value)) c.deref-2.ensures ∙ ap variable_line same ∙ l in
