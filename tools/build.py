@@ -20,7 +20,8 @@ import repository
 
 LEDGER = repository.ROOT / "out" / "passed.json"
 STAMP = repository.ROOT / "tools" / "stamp.py"
-RUNNING, BUILT = set(), set()  # the commands that run now; the libraries that this run has seen built
+RUNNING = set()  # the commands that run now
+BUILT, STANDING = set(), set()  # the libraries that this run has seen built; those that it has seen to be of the present text
 STOPPED = threading.Event()  # set once this program is to end
 PROVED = re.compile(r"checked |(fn|struct|enum) .*: proved$|statements |crate |logic ")
 
@@ -82,6 +83,18 @@ def seen(crate):
     """A hash of all that the proof of a library rests on, and all that its rlib is made of: its own text, and what it sees of
     those below, which are built."""
     return repository.digest(crate.own_digest(), *((it.line, it.face()) for it in crate.below))
+
+
+def stands(crate):
+    """Whether what is built of a library is seen at once to be of the present text, where that of those below it is."""
+    if crate.name not in STANDING | BUILT:
+        try:
+            if (crate.folder / "out" / "rlib" / "seen").read_text() != seen(crate):
+                return False
+        except OSError:
+            return False
+        STANDING.add(crate.name)
+    return True
 
 
 def renew(crate, folder, wanted):

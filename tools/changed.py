@@ -61,7 +61,7 @@ def of_crate(crate, anew=False):
     if crate.has_tests:
         work = lambda jobs: tests(crate, jobs)
         made.append(parts.Part(f"tests {name}", work, [crate.digest], [made[0].name], crate.weight, 4))
-    is_seen = lambda: all(it.is_program or it.name in build.BUILT for it in [*crate.below, crate])
+    is_seen = lambda: all(it.is_program or build.stands(it) for it in [*crate.below, crate])
     for tier, found in zip(("edit", SECOND), crate.edits()):
         for edit in found:
             work = lambda jobs, it=edit: edits.try_edit(crate, it)

@@ -29,6 +29,9 @@ def apply(edit, folder):
 
 def try_edit(crate, edit):
     """Whether the prover refuses the crate with this edit, over what the crate's own checks kept: counts and a text."""
+    why = build.build_below(crate)
+    if why:
+        return 0, 1, why
     with repository.room(crate, kept=True) as folder:
         why = apply(edit, folder)
         if why:
@@ -50,9 +53,10 @@ def keys(crate, edit):
     their crate and of those below. A library's face has the contracts of its private functions too."""
 
     def seen():
-        why = build.build_below(crate) or (None if crate.is_program else build.build_library(crate))
-        if why:
-            raise ValueError(why)
+        for it in [*crate.below, crate]:
+            why = None if it.is_program or build.stands(it) else build.build_library(it)
+            if why:
+                raise ValueError(why)
         own = crate.own_digest() if crate.is_program else crate.face()
         files = [repository.contents(it) for it in changed_files(crate, edit)]
         return repository.digest(own, files, edit.read_text(), *(it.face() for it in crate.below))
