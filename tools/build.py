@@ -97,17 +97,21 @@ def stands(crate):
     return True
 
 
-def renew(crate, folder, wanted):
+def stamp(folder):
+    """Has the toolchain take the library that stands in the out/ of this crate's folder for one of the present text, and
+    returns whether that could be done."""
+    status, lines = run([sys.executable, str(STAMP), str(folder.parent.parent), folder.name], folder)
+    if not status:
+        (folder / "out" / "rlib" / "stamp").write_text("".join(lines))
+    return not status
+
+
+def renew(folder, wanted):
     """Whether the rlib in this room was built of the same as now. Where only bodies changed below it, it is the one that the
     toolchain would build again, and gets the stamp of the present text; should that stamp be wrong, it is built again."""
     rlib = folder / "out" / "rlib"
     try:
-        if (rlib / "seen").read_text() != wanted:
-            return False
-        status, lines = run([sys.executable, str(STAMP), str(folder.parent.parent), crate.name], folder)
-        if not status:
-            (rlib / "stamp").write_text("".join(lines))
-        return not status
+        return (rlib / "seen").read_text() == wanted and stamp(folder)
     except OSError:
         return False
 
@@ -129,7 +133,7 @@ def prove_library(crate, jobs, heard):
     """Proves a library and builds it for those above; a text where it fails."""
     wanted = seen(crate)
     with repository.workroom(crate) as folder:
-        is_there = renew(crate, folder, wanted)
+        is_there = renew(folder, wanted)
         # A library is built of a proved crate alone, but the command that proves and builds it says nothing meanwhile.
         for words in (["rt", "check"], ["rt", "lib"]) if heard and not is_there else (["rt", "lib"],):
             status, lines = run([*words, "--jobs", str(jobs)], folder, heard)

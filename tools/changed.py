@@ -8,7 +8,8 @@ import parts
 import repository
 
 ROOT = repository.ROOT
-SECOND = "second-tier edit"
+ANY_EDIT = "edit", "second-tier edit"  # how the parts of the two tiers begin
+SECOND = ANY_EDIT[1]
 EXAMPLE = "the library's example"
 RUN_WEIGHT = 1000  # of a run, beside the lines of a crate's proof
 # What is run: what is shown, the script, the program that it is given, if it is, and the crates that it stands on.
@@ -62,7 +63,7 @@ def of_crate(crate, anew=False):
         work = lambda jobs: tests(crate, jobs)
         made.append(parts.Part(f"tests {name}", work, [crate.digest], [made[0].name], crate.weight, 4))
     is_seen = lambda: all(it.is_program or build.stands(it) for it in [*crate.below, crate])
-    for tier, found in zip(("edit", SECOND), crate.edits()):
+    for tier, found in zip(ANY_EDIT, crate.edits()):
         for edit in found:
             work = lambda jobs, it=edit: edits.try_edit(crate, it)
             part = f"{tier} {name}/{edit.stem}"

@@ -1,56 +1,265 @@
 """Edits: wrong bodies of functions that the prover must refuse.
 
 An edit is a file NAME.edit of lines 'file: src/NAME.rt', and then 'old: TEXT', which stands in that file once, and 'new:
-TEXT'; further pairs apply to what the earlier ones made. Those of the first tier stand in crates/CRATE/must-fail, where the
-toolchain's gate tries them, those of the second in tests/edits/CRATE.
+TEXT'; further pairs apply to what the earlier ones made. Those of the first tier stand in crates/CRATE/must-fail, those of the
+second in tests/edits/CRATE.
+
+An edit is judged by the functions that it changes: it is refused where the prover, asked for these and for what they call,
+finds a goal of one of them that doesn't hold. What a function promises to others stands in its contract, so edits of different
+functions are tried in one check. Of a function that calls one whose proof is refused the prover says nothing; its edit then
+goes into the next check. An edit that isn't refused so is tried by itself on the whole crate.
 """
+
+import pathlib
+import re
 
 import build
 import repository
 
-
-def apply(edit, folder):
-    """Changes the files of a crate as an edit says, and returns a text where that can't be done."""
-    path = old = None
-    for line in edit.read_text().split("\n"):
-        word, _, text = line.partition(":")
-        text = text[1:] if text.startswith(" ") else text
-        if word == "file":
-            path = folder / text.strip()
-        elif word == "old":
-            old = text
-        elif word == "new":
-            whole = path.read_text() if path and path.is_file() else ""
-            if not old or whole.count(old) != 1:
-                return f"its text {old!r} stands {whole.count(old) if old else 0} times in the file, and not once"
-            path.write_text(whole.replace(old, text))
-    return None if old else "it has no pair of lines 'old:' and 'new:'"
+# What the prover says of a text that it can't read; an edit that only makes a statement false reads well.
+UNREADABLE = re.compile(r"is not in scope|has no field|is no name|operand is missing|expected the end|cannot continue")
+# What it says of a proof that names something which the edit took away.
+MISNAMES = re.compile(r"has no field|is not in scope|has no `|was not admitted")
+OF_TRAIT = "for"  # in place of the type of a method that a trait has
+FAULT = re.compile(r"(?:\./)?(\S+?):\d+:\d+: error: (?:`([^`]*)`: )?(.*)")
 
 
-def try_edit(crate, edit):
-    """Whether the prover refuses the crate with this edit, over what the crate's own checks kept: counts and a text."""
+class BadEdit(Exception):
+    """An edit that can't be applied, or with which the crate doesn't reach the prover."""
+
+
+class Edit:
+    """An edit of a crate: the texts that it replaces, in order, and the functions that it changes."""
+
+    def __init__(self, crate, path):
+        self.name, self.pairs = path.stem, []
+        where = old = None
+        for line in path.read_text().split("\n"):
+            word, _, text = line.partition(":")
+            text = text.removeprefix(" ")
+            if word == "file":
+                where = text.strip()
+            elif word == "old":
+                old = text
+            elif word == "new":
+                if not where or not old:
+                    raise BadEdit("a line 'new:' has no line 'file:' or 'old:' above it")
+                self.pairs.append((where, old, text))
+                old = None
+        if not self.pairs:
+            raise BadEdit("it has no pair of lines 'old:' and 'new:'")
+        before = {where: read(crate.folder, where) for where in self.files()}
+        after = self.applied(before)
+        self.changed = [it for where in before for it in changed_functions(where, before[where], after[where])]
+
+    def files(self):
+        return list(dict.fromkeys(where for where, _, _ in self.pairs))
+
+    def applied(self, texts):
+        """The texts with this edit made in them."""
+        texts = dict(texts)
+        for where, old, new in self.pairs:
+            count = texts[where].count(old)
+            if count != 1:
+                raise BadEdit(f"its text {old!r} stands {count} times in {where}, and not once")
+            texts[where] = texts[where].replace(old, new)
+        return texts
+
+
+class Function:
+    """A function that an edit changes. The prover knows it as `path`, and tells what it finds of it under names of which
+    `is_told_by` is true. Where the text that changes stands in no function, it stands for its whole module."""
+
+    def __init__(self, module, owner=None, name=None, in_cycle=False):
+        self.module, self.name, self.in_cycle = module, name, in_cycle
+        # A method is known by its type, wherever it is written; what an impl of a trait is called is not said here.
+        self.path = f"{owner}::{name}" if owner and owner != OF_TRAIT else "::".join(it for it in (module, name) if it)
+        if owner == OF_TRAIT or not name:
+            self.path = module
+        ending = {None: self.path, OF_TRAIT: name}.get(owner, self.path) if name else None
+        self.told = re.compile(rf"(.*::)?{ending}|.*\bfn::{name}::.*" if name else rf"{module}::.*")
+
+    def is_told_by(self, path):
+        """Whether what the prover says of a function with this path, or of a closure in one, is said of this one."""
+        return bool(self.told.fullmatch(path))
+
+    def meets(self, other):
+        """Whether what is said of the one could be said of the other."""
+        return self.path == other.path or self.module == other.module and self.module in (self.path, other.path)
+
+
+def read(folder, where):
+    if not where.startswith("src/") or not (folder / where).is_file():
+        raise BadEdit(f"the crate has no file {where}")
+    return (folder / where).read_text()
+
+
+def pieces(text):
+    """A text cut where its functions begin: for each the type whose method it is, its name, whether it belongs to a cycle, and
+    its piece."""
+    heads = []
+    for found in re.finditer(r"(?:^(?P<lead>[^\n/]*?)|\} )\bfn (?P<name>\w+)", text, re.M):
+        above = text[: found.start()]
+        opened = [*re.finditer(r"^(?:impl\b(?P<head>[^{]*)\{|\})", above, re.M)]
+        head = opened[-1]["head"] if opened and (found["lead"] or "").startswith(" ") else None
+        owner = head and (OF_TRAIT if " for " in head else re.search(r"(\w+)(<[^<]*>)?\s*$", head)[1])
+        heads.append((found.start("name"), owner, found["name"], "#[cycle(" in above.rpartition("\n\n")[2]))
+    ends = [it[0] for it in heads[1:]] + [len(text)]
+    return [(*head[1:], text[head[0] : end]) for head, end in zip(heads, ends)]
+
+
+def changed_functions(where, before, after):
+    """The functions of a file that differ; its module where none does."""
+    module = "::".join(pathlib.PurePath(where).with_suffix("").parts[1:])
+    module = "" if module in ("lib", "main") else module
+    old = {it[:2]: it[3] for it in pieces(before)}
+    differing = [it for it in pieces(after) if old.get(it[:2], it[3]) != it[3]]
+    return [Function(module, *it[:3]) for it in differing] or [Function(module)]
+
+
+class Answer:
+    """What a check of some functions said."""
+
+    def __init__(self, crate, status, lines):
+        self.status, self.lines = status, lines
+        self.is_whole = any(it.startswith("only=") for it in lines)
+        told = (re.match(rf"fn {crate.name}::(\S+): (.*)", it) for it in lines)
+        self.told = {it[1]: it[2] for it in told if it}
+        self.faults = [it for it in map(FAULT.match, lines) if it]
+
+    def goals(self, path):
+        """The goals of this function, or of its cycle, that don't hold; None where the prover says no such thing of it."""
+        said = self.told[path]
+        if said != "not proved" and "did not prove" not in said:
+            return None
+        return re.findall(r"`([^`]*)`", said.partition("did not prove")[2].partition("; it calls")[0])
+
+    def refused(self):
+        """The paths of the functions that have goals which don't hold."""
+        return [it for it in self.told if self.goals(it) is not None]
+
+    def refuses(self, function):
+        for path in filter(function.is_told_by, self.refused()):
+            # The members of a cycle are told as one, and their goals begin with their names.
+            named = [*self.goals(path), *(it[2] for it in self.faults if it[2])]
+            if not function.in_cycle or any(it.startswith(f"{function.name}-") for it in named):
+                return True
+        return False
+
+    def is_unread(self):
+        """Whether the prover couldn't read a text of src/ or specs/."""
+        own = (it for it in self.faults if it[1].startswith(("src/", "specs/")))
+        return any(not it[2] or UNREADABLE.search(re.sub(r"`[^`]*`", "", it[3])) for it in own)
+
+    def reason(self, edit):
+        """What refuses the edit, in some words."""
+        members = tuple(f"{it.name}-" for it in edit.changed if it.in_cycle)
+        names = {it.name for it in edit.changed} | {"+" for it in members}
+        in_place = lambda it: it[1] in edit.files() or any(part in names or part[0] in names for part in pathlib.PurePath(it[1]).parts)
+        goals = [it[2] for it in self.faults if in_place(it) and it[2] and not MISNAMES.search(it[3])]
+        goals += [it for path in self.refused() for it in self.goals(path) if any(f.is_told_by(path) for f in edit.changed)]
+        goals = [it for it in goals if it.startswith(members)] if members else goals
+        others = [it[3][:80] for it in self.faults if not MISNAMES.search(it[3])]
+        return f"goal {goals[0]}" if goals else others[0] if others else "only a proof that names what it took away"
+
+
+class Room:
+    """A copy of a crate on which its edits are tried, with what the checks of earlier ones kept."""
+
+    def __init__(self, crate, folder, jobs):
+        self.crate, self.folder, self.jobs = crate, folder, jobs
+
+    def write(self, edits):
+        """Writes the crate's texts with these edits made in them, and without any others."""
+        texts = {}
+        for edit in edits:
+            own = {it: texts.get(it) or read(self.crate.folder, it) for it in edit.files()}
+            texts.update(edit.applied(own))
+        for path in self.crate.folder.glob("src/**/*.rt"):
+            where = str(path.relative_to(self.crate.folder))
+            wanted = texts.get(where) or path.read_text()
+            if (self.folder / where).read_text() != wanted:
+                (self.folder / where).write_text(wanted)
+
+    def check(self, edits, functions=()):
+        """Checks the crate with these edits: these functions and what they call, or the whole crate."""
+        self.write(edits)
+        only = [word for path in sorted({it.path for it in functions}) for word in ("--only", path)]
+        return build.run(["rt", "check", "--jobs", str(self.jobs), *only], self.folder)
+
+    def answer(self, edits):
+        return Answer(self.crate, *self.check(edits, [it for edit in edits for it in edit.changed]))
+
+    def try_together(self, edits):
+        """Tries edits in one check. Returns what refuses each that is refused, by its name, and those of which nothing is
+        said since the prover refuses what they call."""
+        answer = self.answer(edits)
+        changed = [it for edit in edits for it in edit.changed]
+        is_clear = answer.is_whole and not answer.is_unread()
+        is_own = lambda path: any(it.is_told_by(path) or it.in_cycle for it in changed)
+        if not is_clear or not all(map(is_own, answer.refused())):
+            return {}, []
+        refused = {it.name: answer.reason(it) for it in edits if any(map(answer.refuses, it.changed))}
+        untold = lambda it: any(f.is_told_by(path) and "no proof" in said for f in it.changed for path, said in answer.told.items())
+        return refused, [it for it in edits if it.name not in refused and untold(it)]
+
+    def try_alone(self, edit):
+        """Tries an edit on the whole crate. Returns what refuses it, or raises BadEdit."""
+        status, lines = self.check([edit])
+        answer = Answer(self.crate, status, lines)
+        if not status:
+            raise BadEdit("the crate is still proved with it")
+        if answer.is_unread() or not any(it.startswith("logic=not-proved") for it in lines):
+            raise BadEdit(f"it did not reach the prover: {build.faults(status, lines)}")
+        return answer.reason(edit)
+
+
+def chosen(edits):
+    """As many of the edits as can be tried in one check, and the others: no two change one function, or one module where the
+    text of one stands in no function."""
+    now, later = [], []
+    for edit in edits:
+        others = [it for other in now for it in other.changed]
+        (later if any(it.meets(other) for it in edit.changed for other in others) else now).append(edit)
+    return now, later
+
+
+def try_edits(crate, paths, jobs=1, kept=False, tell=lambda name, reason: None):
+    """Whether the prover refuses the crate with each of these edits, where those below it are built; `kept`: over what the
+    crate's own checks kept. How many it refuses, how many not, and a text on these. `tell` is called with each edit that is
+    refused and what refuses it."""
+    faults, left = {}, []
+    for path in paths:
+        try:
+            left.append(Edit(crate, path))
+        except (BadEdit, OSError) as fault:
+            faults[path.stem] = str(fault)
+    with repository.room(crate, kept) as folder:
+        room, alone = Room(crate, folder, jobs), []
+        while left:
+            now, left = chosen(left)
+            refused, untold = room.try_together(now)
+            for name, reason in refused.items():
+                tell(name, reason)
+            left += untold if len(now) > len(untold) else []
+            alone += [it for it in now if it.name not in refused and it not in left]
+        for edit in alone:
+            try:
+                tell(edit.name, room.try_alone(edit))
+            except BadEdit as fault:
+                faults[edit.name] = str(fault)
+    return len(paths) - len(faults), len(faults), "\n".join(f"{name}: {why}" for name, why in faults.items())
+
+
+def try_edit(crate, path):
+    """The same of one edit, over what the crate's own checks kept."""
     why = build.build_below(crate)
-    if why:
-        return 0, 1, why
-    with repository.room(crate, kept=True) as folder:
-        why = apply(edit, folder)
-        if why:
-            return 0, 1, why
-        status, lines = build.run(["rt", "check", "--jobs", "1"], folder)
-    if status and any(it.startswith("logic=not-proved") for it in lines):
-        return 1, 0, ""
-    return 0, 1, f"it did not reach the prover: {build.faults(status, lines)}" if status else "the crate is still proved with it"
+    return (0, 1, why) if why else try_edits(crate, [path], kept=True)
 
 
-def changed_files(crate, edit):
-    """The files of the crate that an edit changes."""
-    named = [line.partition(":")[2].strip() for line in edit.read_text().split("\n") if line.startswith("file:")]
-    return [crate.folder / it for it in named]
-
-
-def keys(crate, edit):
-    """Hashes of all that the answer rests on: first of all text; then of the files that it changes, and of what these see of
-    their crate and of those below. A library's face has the contracts of its private functions too."""
+def keys(crate, path):
+    """Hashes of all that the answer to an edit rests on: first of all text; then of the files that it changes, and of what
+    these see of their crate and of those below. A library's face has the contracts of its private functions too."""
 
     def seen():
         for it in [*crate.below, crate]:
@@ -58,7 +267,8 @@ def keys(crate, edit):
             if why:
                 raise ValueError(why)
         own = crate.own_digest() if crate.is_program else crate.face()
-        files = [repository.contents(it) for it in changed_files(crate, edit)]
-        return repository.digest(own, files, edit.read_text(), *(it.face() for it in crate.below))
+        named = [line.partition(":")[2].strip() for line in path.read_text().split("\n") if line.startswith("file:")]
+        files = [repository.contents(crate.folder / it) for it in named]
+        return repository.digest(own, files, path.read_text(), *(it.face() for it in crate.below))
 
-    return [lambda: repository.digest(crate.digest(), edit.read_text()), seen]
+    return [lambda: repository.digest(crate.digest(), path.read_text()), seen]

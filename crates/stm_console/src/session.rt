@@ -1,6 +1,6 @@
 //! A run under way: bytes in, answers out.
 
-ghost use Rattle.std.specs.Prelude.{◌≡◌, ◌≢◌, ◌++◌, ◌∷◌, [], ℕ, List, OnOk, OnErr, IfErr};
+ghost use Rattle.std.specs.Prelude.{◌≡◌, ◌≢◌, ◌++◌, ◌∷◌, [], ℕ, List, string_bytes, OnOk, OnErr, IfErr};
 ghost use Rattle.std.specs.Io.KnownBytes.{Appends};
 ghost use Rattle.stm_terms.specs.Texts.{IsPrefixOf};
 ghost use Rattle.stm_console.specs.Console.{initial_console, answer_to, state_after};
@@ -51,6 +51,18 @@ impl Session {
         }
     }
 
+    /// Writes the answer that is held.
+    fn write_answer<W: Write>(&self, writer: &mut W) -> Result<(), RunFault>
+        ensures done { OnOk result (Appends (W.contents writer.old) (W.contents writer.new)
+            (string_bytes self.now.answer)) }
+        ensures part { OnErr result ((front : List ℕ)
+            × IsPrefixOf front (string_bytes self.now.answer)
+            × Appends (W.contents writer.old) (W.contents writer.new) front) }
+        ensures fault { IfErr result (λ e. e ≢ RunFault.Read) }
+    {
+        write_text(writer, self.answer.as_bytes())
+    }
+
     /// Answers the line that has begun, which becomes empty.
     fn answer_line<T: Threads + Sync, W: Write>(
         &mut self,
@@ -77,7 +89,7 @@ impl Session {
             Err(_) => return Err(RunFault::NoMemory),
         };
         match reply {
-            Reply::Text => write_text(writer, self.answer.as_bytes())?,
+            Reply::Text => self.write_answer(writer)?,
             Reply::History => match self.console.write_history(alloc, writer) {
                 Ok(()) => {}
                 Err(fault) => return Err(RunFault::from(fault)),
