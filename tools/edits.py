@@ -24,7 +24,7 @@ OF_TRAIT = "for"  # in place of the type of a method that a trait has
 FAULT = re.compile(r"(?:\./)?(\S+?):\d+:\d+: error: (?:`([^`]*)`: )?(.*)")
 
 
-class BadEdit(Exception):
+class BadEdit(ValueError):
     """An edit that can't be applied, or with which the crate doesn't reach the prover."""
 
 
@@ -171,10 +171,7 @@ class Room:
 
     def write(self, edits):
         """Writes the crate's texts with these edits made in them, and without any others."""
-        texts = {}
-        for edit in edits:
-            own = {it: texts.get(it) or read(self.crate.folder, it) for it in edit.files()}
-            texts.update(edit.applied(own))
+        texts = changed_texts(self.crate, edits)
         for path in self.crate.folder.glob("src/**/*.rt"):
             where = str(path.relative_to(self.crate.folder))
             wanted = texts.get(where) or path.read_text()
@@ -214,13 +211,30 @@ class Room:
         return answer.reason(edit)
 
 
-def chosen(edits):
-    """As many of the edits as can be tried in one check, and the others: no two change one function, or one module where the
-    text of one stands in no function."""
+def changed_texts(crate, edits):
+    """The texts of the files that these edits change, with all of them made, each behind those before it."""
+    texts = {}
+    for edit in edits:
+        texts.update(edit.applied({it: texts.get(it) or read(crate.folder, it) for it in edit.files()}))
+    return texts
+
+
+def go_together(crate, edits, other):
+    """Whether one more edit can be tried in one check with these: it changes no function that one of them does, and each text
+    that one replaces still stands once."""
+    if any(a.meets(b) for a in other.changed for edit in edits for b in edit.changed):
+        return False
+    try:
+        return bool(changed_texts(crate, [*edits, other]))
+    except BadEdit:
+        return False
+
+
+def chosen(crate, edits):
+    """As many of the edits as can be tried in one check, and the others."""
     now, later = [], []
     for edit in edits:
-        others = [it for other in now for it in other.changed]
-        (later if any(it.meets(other) for it in edit.changed for other in others) else now).append(edit)
+        (now if go_together(crate, now, edit) else later).append(edit)
     return now, later
 
 
@@ -237,7 +251,7 @@ def try_edits(crate, paths, jobs=1, kept=False, tell=lambda name, reason: None):
     with repository.room(crate, kept) as folder:
         room, alone = Room(crate, folder, jobs), []
         while left:
-            now, left = chosen(left)
+            now, left = chosen(crate, left)
             refused, untold = room.try_together(now)
             for name, reason in refused.items():
                 tell(name, reason)
