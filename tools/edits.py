@@ -109,11 +109,11 @@ def pieces(text):
 
 
 def changed_functions(where, before, after):
-    """The functions of a file that differ; its module where none does."""
+    """The functions of a file that differ or are new; its module where there is none."""
     module = "::".join(pathlib.PurePath(where).with_suffix("").parts[1:])
     module = "" if module in ("lib", "main") else module
     old = {it[:2]: it[3] for it in pieces(before)}
-    differing = [it for it in pieces(after) if old.get(it[:2], it[3]) != it[3]]
+    differing = [it for it in pieces(after) if it[1] and old.get(it[:2]) != it[3]]
     return [Function(module, *it[:3]) for it in differing] or [Function(module)]
 
 
