@@ -95,8 +95,8 @@ def read(folder, where):
 
 
 def pieces(text):
-    """A text cut where its functions begin: for each the type whose method it is, its name, whether it belongs to a cycle, and
-    its piece."""
+    """The functions of a text, each from its name to the brace that closes it: the type whose method it is, its name, whether it
+    belongs to a cycle, and its piece; and then what of the text stands outside of them."""
     heads = []
     for found in re.finditer(r"(?:^(?P<lead>[^\n/]*?)|\} )\bfn (?P<name>\w+)", text, re.M):
         above = text[: found.start()]
@@ -104,17 +104,26 @@ def pieces(text):
         head = opened[-1]["head"] if opened and (found["lead"] or "").startswith(" ") else None
         owner = head and (OF_TRAIT if " for " in head else re.search(r"(\w+)(<[^<]*>)?\s*$", head)[1])
         heads.append((found.start("name"), owner, found["name"], "#[cycle(" in above.rpartition("\n\n")[2]))
-    ends = [it[0] for it in heads[1:]] + [len(text)]
-    return [(*head[1:], text[head[0] : end]) for head, end in zip(heads, ends)]
+    found, outside, done = [], [], 0
+    for (at, *head), end in zip(heads, [it[0] for it in heads[1:]] + [len(text)]):
+        indent = re.match(r" *", text[text.rfind("\n", 0, at) + 1 : at])[0]
+        closed = text.find(f"\n{indent}}}", at, end)
+        end = end if closed < 0 else closed
+        found.append((*head, text[at:end]))
+        outside.append(text[done:at])
+        done = end
+    return found, [*outside, text[done:]]
 
 
 def changed_functions(where, before, after):
-    """The functions of a file that differ or are new; its module where there is none."""
+    """The functions of a file that differ or are new; its module where something else differs too, or alone."""
     module = "::".join(pathlib.PurePath(where).with_suffix("").parts[1:])
     module = "" if module in ("lib", "main") else module
-    old = {it[:2]: it[3] for it in pieces(before)}
-    differing = [it for it in pieces(after) if it[1] and old.get(it[:2]) != it[3]]
-    return [Function(module, *it[:3]) for it in differing] or [Function(module)]
+    (old, around), (new, around_new) = pieces(before), pieces(after)
+    kept = {it[:2]: it[3] for it in old}
+    differing = [Function(module, *it[:3]) for it in new if kept.get(it[:2]) != it[3]]
+    is_within = "".join(around).split() == "".join(around_new).split() or len(new) > len(old)
+    return differing if differing and is_within else [*differing, Function(module)]
 
 
 class Answer:
