@@ -206,7 +206,8 @@ class Room:
         if not is_clear or not all(map(is_own, answer.refused())):
             return {}, []
         refused = {it.name: answer.reason(it) for it in edits if any(map(answer.refuses, it.changed))}
-        untold = lambda it: any(f.is_told_by(path) and "no proof" in said for f in it.changed for path, said in answer.told.items())
+        waits = lambda said: "no proof" in said or "it calls" in said
+        untold = lambda it: any(f.is_told_by(path) and waits(said) for f in it.changed for path, said in answer.told.items())
         return refused, [it for it in edits if it.name not in refused and untold(it)]
 
     def try_alone(self, edit):
