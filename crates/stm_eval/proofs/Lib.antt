@@ -4,6 +4,7 @@ pub mod DefinedBranches
 pub mod FragmentsAndStores
 pub mod InsertedReads
 pub mod JoinedReads
+pub mod NestedFrames
 pub mod OrElseLaws
 pub mod ReadSetIndependence
 pub mod ReadsArePresent

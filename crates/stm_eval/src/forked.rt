@@ -19,7 +19,7 @@ ghost use Rattle.stm_eval.specs.InterpreterSteps.{size, size_left, StepsTo};
 ghost use Rattle.stm_eval.specs.BothBranches.{DefinedLeft, IsReadSetOf, CanRun, RunsTo, entered};
 
 use crate::block::judged;
-use crate::interpreter::{evaluate, run_choice, run_let};
+use crate::interpreter::{after_action, evaluate, run_choice, run_let};
 use crate::job::Job;
 use crate::message::Evaluated;
 use crate::outcome::{Outcome, Step};
@@ -31,7 +31,7 @@ use stm_log::{Log, Reads};
 use stm_store::Frozen;
 use stm_terms::NoMemory;
 use stm_terms::action::Action;
-use stm_terms::values::{Fault, Value};
+use stm_terms::values::Value;
 use stm_terms::verdicts::Verdict;
 
 /// How many levels of `orElse` may be evaluated with both branches at once.
@@ -182,7 +182,6 @@ fn walk_first<'a, R: Threads + Sync>(
 /// The action of a `catch`, in a frame of its own, with `levels` at once within it. The handler is left to be run where the
 /// action threw a number, with that as one more local, from the view before it; what the action read stays.
 #[cycle(walk)]
-#[tactic(auto, using(crate::proofs::InsertedReads::reads_in_turn))]
 fn walk_caught<'a, R: Threads + Sync>(
     rt: &R,
     alloc: Global,
@@ -206,21 +205,8 @@ fn walk_caught<'a, R: Threads + Sync>(
     ensures read_set { OnOk result (IsReadSetOf (cell_value frozen.now) log.new.reads) }
 {
     log.enter()?;
-    match walk(rt, alloc, frozen, action, locals, log, levels)? {
-        Outcome::Returned(v) => {
-            log.keep()?;
-            Ok(Step::Ended(Outcome::Returned(v)))
-        }
-        Outcome::Threw(Fault::Thrown(n)) => {
-            log.discard();
-            locals.push(Value::Int(n))?;
-            Ok(Step::On(handler))
-        }
-        end => {
-            log.discard();
-            Ok(Step::Ended(end))
-        }
-    }
+    let end = walk(rt, alloc, frozen, action, locals, log, levels)?;
+    after_action(end, handler, locals, log)
 }
 
 /// An action by this thread alone.

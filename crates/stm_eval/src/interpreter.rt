@@ -4,7 +4,7 @@
 //! statement, for the left branch of `orElse` and for the action of `catch`, so the stack grows with the depth of a block
 //! and not with its length.
 
-ghost use Rattle.std.specs.Prelude.{◌≡◌, ◌≢◌, ◌+◌, ◌<◌, ◌≤◌, ◌^◌, length, take, OnOk, IfOk};
+ghost use Rattle.std.specs.Prelude.{◌≡◌, ◌≢◌, ◌+◌, ◌<◌, ◌≤◌, ◌^◌, [], length, take, OnOk, IfOk};
 ghost use Rattle.stm_terms.specs.Ast.{act_of, term_of, if_else, or_else, bind, let_in, seq, catch};
 ghost use Rattle.stm_terms.specs.Changes.{cell_value};
 ghost use Rattle.stm_terms.specs.Semantics.{run, Stuck};
@@ -12,6 +12,7 @@ ghost use Rattle.stm_terms.specs.ReadSet.{looks, insert_reads};
 ghost use Rattle.stm_terms.specs.Typing.{makes};
 ghost use Rattle.stm_eval.specs.BothBranches.{AllBranchesDefined, DefinedLeft};
 ghost use Rattle.stm_eval.specs.InterpreterSteps.{outcome, outcome_left, looks_left, makes_left, size, size_left, StepsTo};
+ghost use Rattle.stm_eval.specs.NestedFrames.{AfterLeft, AfterAction};
 
 use crate::outcome::{Outcome, Step};
 use crate::primitives::{run_make, run_read, run_return, run_throw, run_write};
@@ -218,7 +219,6 @@ fn run_first<'a>(
 /// The left branch of `orElse`, in a frame of its own. The right branch is left to be run where it retried, from the view
 /// before it; what it read stays.
 #[cycle(evaluate)]
-#[tactic(auto, using(crate::proofs::InsertedReads::reads_in_turn))]
 fn run_left<'a>(
     frozen: &Frozen,
     left: &Action,
@@ -236,7 +236,17 @@ fn run_left<'a>(
     ensures smaller { IfOk result (λ s. size_left s ≤ size (act_of right.now)) }
 {
     log.enter()?;
-    match evaluate(frozen, left, locals, log)? {
+    let end = evaluate(frozen, left, locals, log)?;
+    after_left(end, right, log)
+}
+
+/// What is left of an `orElse` whose left branch ended so, in a frame of its own.
+fn after_left<'a>(end: Outcome, right: &'a Action, log: &mut Log) -> Result<Step<'a>, NoMemory>
+    requires { log.old.below ≢ [] }
+    ensures goes_on { IfOk result (λ s. AfterLeft end (act_of right.now) log.old s log.new) }
+    ensures smaller { IfOk result (λ s. size_left s ≤ size (act_of right.now)) }
+{
+    match end {
         Outcome::Returned(v) => {
             log.keep()?;
             Ok(Step::Ended(Outcome::Returned(v)))
@@ -255,7 +265,6 @@ fn run_left<'a>(
 /// The action of a `catch`, in a frame of its own. The handler is left to be run where the action threw a number, with that
 /// as one more local, from the view before it; what the action read stays.
 #[cycle(evaluate)]
-#[tactic(auto, using(crate::proofs::InsertedReads::reads_in_turn))]
 fn run_caught<'a>(
     frozen: &Frozen,
     action: &Action,
@@ -274,7 +283,25 @@ fn run_caught<'a>(
     ensures smaller { IfOk result (λ s. size_left s ≤ size (act_of handler.now)) }
 {
     log.enter()?;
-    match evaluate(frozen, action, locals, log)? {
+    let end = evaluate(frozen, action, locals, log)?;
+    after_action(end, handler, locals, log)
+}
+
+/// What is left of a `catch` whose action ended so, in a frame of its own.
+pub(crate) fn after_action<'a>(
+    end: Outcome,
+    handler: &'a Action,
+    locals: &mut Vec<Value>,
+    log: &mut Log,
+) -> Result<Step<'a>, NoMemory>
+    requires { log.old.below ≢ [] }
+    ensures goes_on { IfOk result (λ s. AfterAction end (act_of handler.now)
+        locals.old.items log.old s locals.new.items log.new) }
+    ensures locals { OnOk result (
+        take (length locals.old.items) locals.new.items ≡ locals.old.items) }
+    ensures smaller { IfOk result (λ s. size_left s ≤ size (act_of handler.now)) }
+{
+    match end {
         Outcome::Returned(v) => {
             log.keep()?;
             Ok(Step::Ended(Outcome::Returned(v)))

@@ -5,6 +5,7 @@ use Rattle.stm_terms.specs.Changes.{cell_value}
 use Rattle.stm_terms.specs.Semantics.{run, Stuck}
 use Rattle.stm_eval.specs.BothBranches.{RunsTo, entered}
 use Rattle.stm_eval.proofs.DefinedBranches.{not_stuck}
+use Rattle.stm_eval.proofs.NestedFrames.{walked_inside, catch_steps, catch_defined, catch_reads}
 use Rattle.stm_eval.proofs.forked.+walk.Goals as goal
 
 pub run_both-returns : goal.run_both-returns
@@ -28,3 +29,25 @@ step-run_let-requires g t c =
     let defined : run (cell_value c.args.frozen.now) (act_of c.args.action.now) c.args.locals.now.items c.args.log.now.top ≢ Stuck =
     not_stuck (cell_value c.args.frozen.now) (act_of c.args.action.now) c.args.locals.now.items c.args.log.now.top c.requires.run.defined in
     search rules
+
+pub walk_caught-returns-clause-steps : goal.walk_caught-returns-clause-steps
+walk_caught-returns-clause-steps g t c =
+    let S = cell_value c.args.frozen.now in
+    let a = act_of c.args.action.now in
+    let mine = c.walk.new.locals.items in
+    let mid = c.walk.new.log in
+    let ran = walked_inside S a c.args.locals.now.items c.args.log.now c.enter.new.self c.in_ok-end.end mine mid c.in_ok-enter.ensures.ok c.in_ok-end.ensures in
+    catch_steps S a (act_of c.args.handler.now) c.args.locals.now.items c.args.log.now mine mid c.after_action.result c.in_ok-end.end c.after_action.new.locals.items c.after_action.new.log ran c.after_action.ensures.goes_on
+
+pub walk_caught-returns-clause-defined : goal.walk_caught-returns-clause-defined
+walk_caught-returns-clause-defined g t c =
+    let S = cell_value c.args.frozen.now in
+    let a = act_of c.args.action.now in
+    let mine = c.walk.new.locals.items in
+    let mid = c.walk.new.log in
+    let ran = walked_inside S a c.args.locals.now.items c.args.log.now c.enter.new.self c.in_ok-end.end mine mid c.in_ok-enter.ensures.ok c.in_ok-end.ensures in
+    catch_defined S a (act_of c.args.handler.now) c.args.locals.now.items c.args.log.now mine mid c.after_action.result c.in_ok-end.end c.after_action.new.locals.items c.after_action.new.log c.requires.defined ran c.after_action.ensures.goes_on
+
+pub walk_caught-returns-clause-read_set : goal.walk_caught-returns-clause-read_set
+walk_caught-returns-clause-read_set g t c =
+    catch_reads (cell_value c.args.frozen.now) (act_of c.args.action.now) (act_of c.args.handler.now) c.args.locals.now.items c.args.log.now c.walk.new.locals.items c.walk.new.log c.after_action.result c.in_ok-end.end c.after_action.new.locals.items c.after_action.new.log c.in_ok-end.ensures.read_set c.after_action.ensures.goes_on
