@@ -83,6 +83,10 @@ class Function:
         """Whether what the prover says of a function with this path, or of a closure in one, is said of this one."""
         return bool(self.told.fullmatch(path))
 
+    def is_answered_at(self, fault):
+        """Whether the prover refuses an answer written for this function there, and not for a name that is gone."""
+        return bool(fault[2]) and self.name in pathlib.PurePath(fault[1]).parts and not MISNAMES.search(fault[3])
+
     def meets(self, other):
         """Whether what is said of the one could be said of the other."""
         return self.path == other.path or self.module == other.module and self.module in (self.path, other.path)
@@ -139,7 +143,7 @@ class Answer:
     def goals(self, path):
         """The goals of this function, or of its cycle, that don't hold; None where the prover says no such thing of it."""
         said = self.told[path]
-        if said != "not proved" and "did not prove" not in said:
+        if not said.startswith("not proved") and "did not prove" not in said:
             return None
         return re.findall(r"`([^`]*)`", said.partition("did not prove")[2].partition("; it calls")[0])
 
@@ -148,10 +152,17 @@ class Answer:
         return [it for it in self.told if self.goals(it) is not None]
 
     def refuses(self, function):
+        """Whether the function has a goal that doesn't hold. Where it calls what isn't proved, too, that is so where its search
+        or an answer that is written for it says so."""
         for path in filter(function.is_told_by, self.refused()):
-            # The members of a cycle are told as one, and their goals begin with their names.
-            named = [*self.goals(path), *(it[2] for it in self.faults if it[2])]
-            if not function.in_cycle or any(it.startswith(f"{function.name}-") for it in named):
+            goals = self.goals(path)
+            if function.in_cycle:
+                # The members of a cycle are told as one, and their goals begin with their names.
+                goals = [*goals, *(it[2] for it in self.faults if it[2])]
+                found = any(it.startswith(f"{function.name}-") for it in goals)
+            else:
+                found = goals or "it calls" not in self.told[path] or any(map(function.is_answered_at, self.faults))
+            if found:
                 return True
         return False
 
