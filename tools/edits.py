@@ -179,7 +179,7 @@ class Answer:
         goals = [it[2] for it in self.faults if in_place(it) and it[2] and not MISNAMES.search(it[3])]
         goals += [it for path in self.refused() for it in self.goals(path) if any(f.is_told_by(path) for f in edit.changed)]
         goals = [it for it in goals if it.startswith(members)] if members else goals
-        others = [it[3][:80] for it in self.faults if not MISNAMES.search(it[3])]
+        others = [it[3][:80] for it in self.faults if in_place(it) and not MISNAMES.search(it[3])]
         return f"goal {goals[0]}" if goals else others[0] if others else "only a proof that names what it took away"
 
 
