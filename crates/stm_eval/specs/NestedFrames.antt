@@ -11,12 +11,12 @@ use Rattle.stm_eval.specs.declared.outcome.Step.{Step}
 use Rattle.stm_eval.specs.declared.outcome.Step.TheVariants.{On, Ended}
 
 -- the top frame stands in place of the one below it
-abbrev pub IsKept : Logged → Logged → Type 0
-IsKept old new = new ≡ record old { below = drop 1 old.below }
+abbrev pub IsFrameKept : Logged → Logged → Type 0
+IsFrameKept old new = new ≡ record old { below = drop 1 old.below }
 
 -- the top frame is gone, and what was read stays
-abbrev pub IsDiscarded : Logged → Logged → Type 0
-IsDiscarded old new = (old.below ≡ new.top ∷ new.below) × (new.reads ≡ old.reads)
+abbrev pub IsFrameDiscarded : Logged → Logged → Type 0
+IsFrameDiscarded old new = (old.below ≡ new.top ∷ new.below) × (new.reads ≡ old.reads)
 
 -- this action is left to be run
 abbrev pub GoesOn : Act → Step → Type 0
@@ -25,17 +25,17 @@ GoesOn a (Ended e) = ⊥
 
 -- how an `orElse` whose left branch ended so goes on, with this right branch
 abbrev pub AfterLeft : Outcome → Act → Logged → Step → Logged → Type 0
-AfterLeft (Returned v) right old s new = (s ≡ Ended (Returned v)) × IsKept old new
-AfterLeft (Threw f) right old s new = (s ≡ Ended (Threw f)) × IsDiscarded old new
-AfterLeft Retried right old s new = GoesOn right s × IsDiscarded old new
+AfterLeft (Returned v) right old s new = (s ≡ Ended (Returned v)) × IsFrameKept old new
+AfterLeft (Threw f) right old s new = (s ≡ Ended (Threw f)) × IsFrameDiscarded old new
+AfterLeft Retried right old s new = GoesOn right s × IsFrameDiscarded old new
 
 -- how a `catch` whose action ended so goes on, with this handler, from these locals to those
 abbrev pub AfterAction : Outcome → Act → List Value → Logged → Step → List Value → Logged → Type 0
 AfterAction (Returned v) handler locals old s after new =
-    (s ≡ Ended (Returned v)) × (after ≡ locals) × IsKept old new
+    (s ≡ Ended (Returned v)) × (after ≡ locals) × IsFrameKept old new
 AfterAction (Threw (Thrown n)) handler locals old s after new =
-    GoesOn handler s × (after ≡ locals ++ Int n ∷ []) × IsDiscarded old new
+    GoesOn handler s × (after ≡ locals ++ Int n ∷ []) × IsFrameDiscarded old new
 AfterAction (Threw Overflow) handler locals old s after new =
-    (s ≡ Ended (Threw Overflow)) × (after ≡ locals) × IsDiscarded old new
+    (s ≡ Ended (Threw Overflow)) × (after ≡ locals) × IsFrameDiscarded old new
 AfterAction Retried handler locals old s after new =
-    (s ≡ Ended Retried) × (after ≡ locals) × IsDiscarded old new
+    (s ≡ Ended Retried) × (after ≡ locals) × IsFrameDiscarded old new
