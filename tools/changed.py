@@ -8,8 +8,7 @@ import parts
 import repository
 
 ROOT = repository.ROOT
-ANY_EDIT = "edit", "second-tier edit"  # how the parts of the two tiers begin
-SECOND = ANY_EDIT[1]
+FIRST, SECOND = "edit", "second-tier-edit"  # how the parts of the two tiers begin
 EXAMPLE = "the library's example"
 RUN_WEIGHT = 1000  # of a run, beside the lines of a crate's proof
 # What is run: what is shown, the script, the program that it is given, if it is, and the crates that it stands on.
@@ -18,6 +17,7 @@ RUNS = [
     ("the Python client", "clients/python/test_stmdesk.py", "stmdesk", ["stmdesk"]),
     ("drawings of histories", "tests/run_timeline", "stmdesk", ["stmdesk"]),
     (EXAMPLE, "tests/run_library", None, ["stm_desk"]),
+    ("names of definitions", "tests/spec_names", None, []),
     ("calls", "tests/run_calls", "stm_calls", ["stm_calls"]),
     ("each allocation refused in turn", "tests/refused", None, ["stmdesk", "stm_calls"]),
 ]
@@ -63,7 +63,7 @@ def of_crate(crate, anew=False):
         work = lambda jobs: tests(crate, jobs)
         made.append(parts.Part(f"tests {name}", work, [crate.digest], [made[0].name], crate.weight, 4))
     is_seen = lambda: all(it.is_program or build.stands(it) for it in [*crate.below, crate])
-    for tier, found in zip(ANY_EDIT, crate.edits()):
+    for tier, found in zip((FIRST, SECOND), crate.edits()):
         for edit in found:
             work = lambda jobs, it=edit: edits.try_edit(crate, it)
             part = f"{tier} {name}/{edit.stem}"
@@ -77,6 +77,7 @@ def of_runs():
     texts = [it for it in sorted((ROOT / "tests").iterdir()) if it.name not in ("edits", "budget", "__pycache__")]
     texts += [ROOT / it for it in ("clients", "tools/timeline", "examples", "README.md", "docs")]
     known, made = repository.crates(), []
+    texts += [it.folder / "specs" for it in known.values()]
     for shown, command, names in runs(quick=True):
         key = lambda names=names: repository.digest(*(known[it].digest() for it in names), *map(repository.contents, texts))
         work = lambda jobs, it=command: on_programs(it)

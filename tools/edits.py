@@ -6,10 +6,13 @@ second in tests/edits/CRATE.
 
 An edit is judged by the functions that it changes: it is refused where the prover, asked for these and for what they call,
 finds a goal of one of them that doesn't hold. What a function promises to others stands in its contract, so edits of different
-functions are tried in one check. Of a function that calls one whose proof is refused the prover says nothing; its edit then
-goes into the next check. An edit that isn't refused so is tried by itself on the whole crate.
+functions are tried in one check; where the prover refuses a function there that none of them changes, in one for each half of
+them. One that changes a text outside of functions is tried by itself on its module, and is refused where anything is. Of a
+function that calls one whose proof is refused the prover says nothing; its edit then goes into the next check. An edit that
+isn't refused so is tried by itself on the whole crate.
 """
 
+import collections
 import pathlib
 import re
 
@@ -51,6 +54,7 @@ class Edit:
         before = {where: read(crate.folder, where) for where in self.files()}
         after = self.applied(before)
         self.changed = [it for where in before for it in changed_functions(where, before[where], after[where])]
+        self.is_of_module = not all(it.name for it in self.changed)
 
     def files(self):
         return list(dict.fromkeys(where for where, _, _ in self.pairs))
@@ -124,8 +128,10 @@ def changed_functions(where, before, after):
     module = "::".join(pathlib.PurePath(where).with_suffix("").parts[1:])
     module = "" if module in ("lib", "main") else module
     (old, around), (new, around_new) = pieces(before), pieces(after)
-    kept = {it[:2]: it[3] for it in old}
-    differing = [Function(module, *it[:3]) for it in new if kept.get(it[:2]) != it[3]]
+    kept = collections.defaultdict(list)  # methods of several impls of a trait have one name
+    for *head, _, piece in old:
+        kept[tuple(head)].append(piece)
+    differing = [Function(module, *it[:3]) for it in new if (kept[it[:2]] or [None]).pop(0) != it[3]]
     is_within = "".join(around).split() == "".join(around_new).split() or len(new) > len(old)
     return differing if differing and is_within else [*differing, Function(module)]
 
@@ -208,18 +214,29 @@ class Room:
         return Answer(self.crate, *self.check(edits, [it for edit in edits for it in edit.changed]))
 
     def try_together(self, edits):
-        """Tries edits in one check. Returns what refuses each that is refused, by its name, and those of which nothing is
-        said since the prover refuses what they call."""
+        """Tries edits that can be tried in one check. Returns what refuses each that is refused, by its name, and those of
+        which nothing is said since the prover refuses what they call."""
         answer = self.answer(edits)
         changed = [it for edit in edits for it in edit.changed]
         is_clear = answer.is_whole and not answer.is_unread()
         is_own = lambda path: any(it.is_told_by(path) or it.in_cycle for it in changed)
+        if len(edits) == 1 and is_clear and answer.refused():
+            return {edits[0].name: answer.reason(edits[0])}, []
         if not is_clear or not all(map(is_own, answer.refused())):
-            return {}, []
+            return self.try_halves(edits)
         refused = {it.name: answer.reason(it) for it in edits if any(map(answer.refuses, it.changed))}
         waits = lambda said: "no proof" in said or "it calls" in said
         untold = lambda it: any(f.is_told_by(path) and waits(said) for f in it.changed for path, said in answer.told.items())
         return refused, [it for it in edits if it.name not in refused and untold(it)]
+
+    def try_halves(self, edits):
+        """The same, in two checks; of one edit nothing is told so."""
+        refused, untold, half = {}, [], len(edits) // 2
+        for part in [edits[:half], edits[half:]] if half else []:
+            answer = self.try_together(part)
+            refused |= answer[0]
+            untold += answer[1]
+        return refused, untold
 
     def try_alone(self, edit):
         """Tries an edit on the whole crate. Returns what refuses it, or raises BadEdit."""
@@ -241,8 +258,10 @@ def changed_texts(crate, edits):
 
 
 def go_together(crate, edits, other):
-    """Whether one more edit can be tried in one check with these: it changes no function that one of them does, and each text
-    that one replaces still stands once."""
+    """Whether one more edit can be tried in one check with these: it changes no function that one of them does, none changes a
+    text outside of functions, and each text that one replaces still stands once."""
+    if edits and any(it.is_of_module for it in [*edits, other]):
+        return False
     if any(a.meets(b) for a in other.changed for edit in edits for b in edit.changed):
         return False
     try:
