@@ -28,7 +28,7 @@ class Crate:
         self.folder = root / "crates" / name
         self.is_program = (self.folder / "src" / "main.rt").exists()
         self.has_tests = any(b"#[test]" in it.read_bytes() for it in self.folder.glob("src/**/*.rt"))
-        self.weight = sum(it.read_bytes().count(b"\n") for part in TEXTS for it in files(self.folder / part))
+        self.weight = sum(pathlib.Path(it).read_bytes().count(b"\n") for part in TEXTS for it in files(self.folder / part))
         if self.is_program:  # what stands below is compiled with it
             self.weight += sum(it.weight for it in below) // 8
 
@@ -90,19 +90,24 @@ def digest(*items):
 
 
 def files(path):
-    """The files at or below a path, in order."""
-    return [path] if path.is_file() else sorted(it for it in path.rglob("*") if it.is_file() and "__pycache__" not in it.parts)
+    """The files at or below a path, in order, as texts: a judgement of what changed asks for them some ten thousand times."""
+    top = os.fspath(path)
+    if os.path.isfile(top):
+        return [top]
+    found = [os.path.join(at, it) for at, _, names in os.walk(top) for it in names]
+    return sorted((it for it in found if "/__pycache__/" not in it), key=lambda it: it.split("/"))
 
 
 def contents(path):
     """The files at or below a path, each by its place there and a hash."""
-    return [(str(it.relative_to(path)), hash_of(it, it.stat().st_mtime_ns, it.stat().st_size)) for it in files(path)]
+    front, found = len(os.fspath(path)) + 1, [(it, os.stat(it)) for it in files(path)]
+    return [(it[front:] or ".", hash_of(it, now.st_mtime_ns, now.st_size)) for it, now in found]
 
 
 @functools.lru_cache(maxsize=None)
 def hash_of(path, _time, _size):
     """A file's hash, computed again where the file was written since."""
-    return hashlib.sha256(path.read_bytes()).hexdigest()
+    return hashlib.sha256(pathlib.Path(path).read_bytes()).hexdigest()
 
 
 @contextlib.contextmanager
