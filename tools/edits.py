@@ -9,7 +9,8 @@ finds a goal of one of them that doesn't hold. What a function promises to other
 functions are tried in one check; where the prover refuses a function there that none of them changes, in one for each half of
 them. One that changes a text outside of functions is tried by itself on its module, and is refused where anything is. Of a
 function that calls one whose proof is refused the prover says nothing; its edit then goes into the next check. An edit that
-isn't refused so is tried by itself on the whole crate.
+isn't refused so is tried by itself on the whole crate. One of which nothing is refused but proofs that name what it took away
+counts as not refused: they say nothing of a contract.
 """
 
 import collections
@@ -25,6 +26,8 @@ UNREADABLE = re.compile(r"is not in scope|has no field|is no name|operand is mis
 MISNAMES = re.compile(r"has no field|is not in scope|has no `|was not admitted")
 OF_TRAIT = "for"  # in place of the type of a method that a trait has
 FAULT = re.compile(r"(?:\./)?(\S+?):\d+:\d+: error: (?:`([^`]*)`: )?(.*)")
+# What it says, at its place in the code, of a goal without a written answer.
+UNPROVED = re.compile(r"note: (?:\./)?(\S+?):(\d+):\d+: it is not proved that .*\(`([^`]*)`\)")
 
 
 class BadEdit(ValueError):
@@ -123,6 +126,12 @@ def pieces(text):
     return found, [*outside, text[done:]]
 
 
+def function_at(path, number):
+    """The name of the function whose text has the line of this number; None where that file has none there."""
+    above = path.read_text().split("\n")[:number] if path.is_file() else []
+    return next((it[1] for it in (re.search(r"^[^/]*\bfn (\w+)", line) for line in reversed(above)) if it), None)
+
+
 def changed_functions(where, before, after):
     """The functions of a file that differ or are new; its module where something else differs too, or alone."""
     module = "::".join(pathlib.PurePath(where).with_suffix("").parts[1:])
@@ -137,14 +146,16 @@ def changed_functions(where, before, after):
 
 
 class Answer:
-    """What a check of some functions said."""
+    """What a check of some functions, or of the whole crate, said of the texts in a folder."""
 
-    def __init__(self, crate, status, lines):
+    def __init__(self, crate, folder, status, lines):
         self.status, self.lines = status, lines
         self.is_whole = any(it.startswith("only=") for it in lines)
         told = (re.match(rf"fn {crate.name}::(\S+): (.*)", it) for it in lines)
         self.told = {it[1]: it[2] for it in told if it}
         self.faults = [it for it in map(FAULT.match, lines) if it]
+        found = [it for it in map(UNPROVED.match, lines) if it]
+        self.unproved = [(it[1], function_at(folder / it[1], int(it[2])), it[3]) for it in found]
 
     def goals(self, path):
         """The goals of this function, or of its cycle, that don't hold; None where the prover says no such thing of it."""
@@ -178,15 +189,17 @@ class Answer:
         return any(not it[2] or UNREADABLE.search(re.sub(r"`[^`]*`", "", it[3])) for it in own)
 
     def reason(self, edit):
-        """What refuses the edit, in some words."""
+        """What refuses the edit, in some words; None where nothing does but proofs that name what it took away."""
         members = tuple(f"{it.name}-" for it in edit.changed if it.in_cycle)
         names = {it.name for it in edit.changed} | {"+" for it in members}
-        in_place = lambda it: it[1] in edit.files() or any(part in names or part[0] in names for part in pathlib.PurePath(it[1]).parts)
+        is_near = lambda path: path in edit.files() or any(it in names or it[0] in names for it in pathlib.PurePath(path).parts)
+        in_place = lambda it: edit.is_of_module or is_near(it[1])
         goals = [it[2] for it in self.faults if in_place(it) and it[2] and not MISNAMES.search(it[3])]
+        goals += [it for where, at, it in self.unproved if edit.is_of_module or where in edit.files() and at in names]
         goals += [it for path in self.refused() for it in self.goals(path) if any(f.is_told_by(path) for f in edit.changed)]
         goals = [it for it in goals if it.startswith(members)] if members else goals
         others = [it[3][:80] for it in self.faults if in_place(it) and not MISNAMES.search(it[3])]
-        return f"goal {goals[0]}" if goals else others[0] if others else "only a proof that names what it took away"
+        return f"goal {goals[0]}" if goals else others[0] if others else None
 
 
 class Room:
@@ -211,7 +224,7 @@ class Room:
         return build.run(["rt", "check", "--jobs", str(self.jobs), *only], self.folder)
 
     def answer(self, edits):
-        return Answer(self.crate, *self.check(edits, [it for edit in edits for it in edit.changed]))
+        return Answer(self.crate, self.folder, *self.check(edits, [it for edit in edits for it in edit.changed]))
 
     def try_together(self, edits):
         """Tries edits that can be tried in one check. Returns what refuses each that is refused, by its name, and those of
@@ -241,7 +254,7 @@ class Room:
     def try_alone(self, edit):
         """Tries an edit on the whole crate. Returns what refuses it, or raises BadEdit."""
         status, lines = self.check([edit])
-        answer = Answer(self.crate, status, lines)
+        answer = Answer(self.crate, self.folder, status, lines)
         if not status:
             raise BadEdit("the crate is still proved with it")
         if answer.is_unread() or not any(it.startswith("logic=not-proved") for it in lines):
@@ -283,6 +296,13 @@ def try_edits(crate, paths, jobs=1, kept=False, tell=lambda name, reason: None):
     crate's own checks kept. How many it refuses, how many not, and a text on these. `tell` is called with each edit that is
     refused and what refuses it."""
     faults, left = {}, []
+
+    def settle(name, reason):
+        if reason:
+            tell(name, reason)
+        else:
+            faults[name] = "nothing of what it changes is refused, but for proofs that name what it took away"
+
     for path in paths:
         try:
             left.append(Edit(crate, path))
@@ -294,12 +314,12 @@ def try_edits(crate, paths, jobs=1, kept=False, tell=lambda name, reason: None):
             now, left = chosen(crate, left)
             refused, untold = room.try_together(now)
             for name, reason in refused.items():
-                tell(name, reason)
+                settle(name, reason)
             left += untold if len(now) > len(untold) else []
             alone += [it for it in now if it.name not in refused and it not in left]
         for edit in alone:
             try:
-                tell(edit.name, room.try_alone(edit))
+                settle(edit.name, room.try_alone(edit))
             except BadEdit as fault:
                 faults[edit.name] = str(fault)
     return len(paths) - len(faults), len(faults), "\n".join(f"{name}: {why}" for name, why in faults.items())
