@@ -23,7 +23,9 @@ STAMP = repository.ROOT / "tools" / "stamp.py"
 RUNNING = set()  # the commands that run now
 BUILT, STANDING = set(), set()  # the libraries that this run has seen built; those that it has seen to be of the present text
 STOPPED = threading.Event()  # set once this program is to end
-PROVED = re.compile(r"checked |(fn|struct|enum) .*: proved$|statements |crate |logic ")
+PROVED = re.compile(r"checked |(fn|struct|enum) .*: proved$|statements |library \S+: modules|crate |logic ")
+# What is said of a function since one that it calls isn't proved.
+WAITS = re.compile(r"fn .*: no proof: (in .*: )?it calls `[^`]*`, which is not proved$|note: `search` has not tried the goals of ")
 
 
 @contextlib.contextmanager
@@ -53,8 +55,8 @@ def run(words, folder, heard=None):
 
 
 def faults(status, lines):
-    """How a failed command ended and the end of what it said, without the lines on what is proved."""
-    return "\n".join([f"status {status}", *[it for it in lines if not PROVED.match(it)][-40:]])
+    """How a failed command ended and the end of what it said, without the lines on what is proved, or only waits for a proof."""
+    return "\n".join([f"status {status}", *[it for it in lines if not PROVED.match(it) and not WAITS.match(it)][-40:]])
 
 
 def build_library(crate, jobs=1):

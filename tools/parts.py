@@ -4,6 +4,7 @@ A part that is kept as passed on the same contents is not run again. A part that
 for it count as failed, all others go on.
 """
 
+import collections
 import json
 import os
 import subprocess
@@ -78,14 +79,14 @@ def judged(part, ledger, jobs):
 
 def run_parts(parts, ledger=None, at_once=0, tell=print):
     """Runs the parts, which stand behind those that they wait for, the longest chains first. Returns how many passed, failed
-    and were unchanged. `tell` is called with a line for each part that was run."""
+    and were unchanged. `tell` is called with a line for each part that was run, and one for those behind each that failed."""
     at_once = at_once or lanes()
     weights = {it.name: it.weight for it in parts}
     behind = dict(weights)
     for it in reversed(parts):
         for low in it.after:
             behind[low] = max(behind[low], behind[it.name] + weights[low])
-    left, running, given = sorted(parts, key=lambda it: -behind[it.name]), {}, {}
+    left, running, given, causes = sorted(parts, key=lambda it: -behind[it.name]), {}, {}, {}
     with ThreadPoolExecutor(at_once) as pool:
         while left or running:
             ready = [it for it in left if all(low in given for low in it.after)]
@@ -97,7 +98,7 @@ def run_parts(parts, ledger=None, at_once=0, tell=print):
                 lacking = [low for low in part.after if given[low][1]]
                 if lacking:
                     given[part.name] = 0, 1, 0
-                    tell(f"FAILED {part.name}: not run, since {lacking[0]} failed")
+                    causes[part.name] = causes.get(lacking[0], lacking[0])
                     continue
                 jobs = min(part.most_jobs, -(-idle // (len(ready) - at)))  # a share, rounded up: the longest chains stand first
                 running[pool.submit(judged, part, ledger, jobs)] = part, jobs, time.monotonic()
@@ -108,6 +109,8 @@ def run_parts(parts, ledger=None, at_once=0, tell=print):
                 if counts[0] + counts[1]:
                     took = f"{time.monotonic() - begun:.0f} s"
                     tell(f"{'FAILED' if counts[1] else 'passed'} {part.name}, {took}" + (f": {text}" if text else ""))
+    for cause, count in collections.Counter(causes.values()).items():
+        tell(f"FAILED {count} {'parts that stand' if count > 1 else 'part that stands'} behind {cause}: not run")
     return [sum(it[at] for it in given.values()) for at in range(3)]
 
 
