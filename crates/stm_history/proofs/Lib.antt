@@ -14,7 +14,7 @@ pub mod TypedStores
 -- What the machine keeps.
 pub mod Due
 pub mod Keys
-pub mod Maps
+pub mod Placed
 pub mod Points
 pub mod Rises
 pub mod Stales

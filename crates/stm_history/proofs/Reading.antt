@@ -1,11 +1,6 @@
 -- What a desk shows is what the slow desk has.
-use Rattle.std.proofs.Common.{◌≡◌, ℕ, Bool, true, false, not, cond, List, [], ◌∷◌, Option, Some, None, refl, sym, ap, subst, ◌∙◌, arith}
+use Rattle.std.proofs.Common.{◌≡◌, ℕ, Bool, true, false, not, cond, List, [], ◌∷◌, Option, Some, None, refl, sym, ap, subst, ◌∙◌}
 use Rattle.std.specs.Prelude.{nat_lt, option_map}
-use Rattle.std.specs.List.{filter}
-use Rattle.std.specs.Ordering.{nat_cmp}
-use Rattle.std.specs.BTreeMap.Range.{range_contains, entries_between}
-use Rattle.std.specs.declared.ops.Bound.{Bound}
-use Rattle.std.proofs.lemmas.Bool.Decides.{nat_tests}
 use Rattle.stm_terms.specs.declared.values.Value.{Value}
 use Rattle.stm_terms.specs.declared.verdicts.Verdict.{Verdict}
 use Rattle.stm_terms.specs.ReadSet.{reads_of}
@@ -19,29 +14,6 @@ use Rattle.stm_history.specs.Entries.{AreDue, first_above}
 use Rattle.stm_history.specs.BlockStatus.{read_then, read_now}
 
 -- ---- the least ticket above one
-above : (a k : ℕ) → range_contains nat_cmp (Bound.Excluded a) Bound.Unbounded k ≡ nat_lt a k
-above a k = grind (arith, nat_tests)
-
-first_step : (b : Bool) (e : ℕ × Waiting) (es rest : List (ℕ × Waiting)) (t : ℕ) (x : Waiting) (o : Option ℕ) → (filter (λ (d : ℕ × Waiting). b) es ≡ filter (λ (d : ℕ × Waiting). b) es) → cond b (e ∷ rest) rest ≡ (t, x) ∷ es → (rest ≡ (t, x) ∷ es → o ≡ Some t) → cond b (Some e.0) o ≡ Some t
-first_step true e es rest t x o r h more = let q : e ≡ (t, x) = cc in ap (λ (d : ℕ × Waiting). Some d.0) q
-first_step false e es rest t x o r h more = more h
-
-pub first_is : (a : ℕ) (es rest : List (ℕ × Waiting)) (t : ℕ) (x : Waiting) → entries_between nat_cmp (Bound.Excluded a) Bound.Unbounded es ≡ (t, x) ∷ rest → first_above a es ≡ Some t
-first_is a [] rest t x h = cc
-first_is a (e ∷ es) rest t x h =
-    let g = rw (above a e.0) at h in
-    first_step (nat_lt a e.0) e rest (entries_between nat_cmp (Bound.Excluded a) Bound.Unbounded es) t x (first_above a es) refl g (first_is a es rest t x)
-
-none_step : (b : Bool) (e : ℕ × Waiting) (rest : List (ℕ × Waiting)) (o : Option ℕ) → cond b (e ∷ rest) rest ≡ [] → (rest ≡ [] → o ≡ None) → cond b (Some e.0) o ≡ None
-none_step true e rest o h more = cc
-none_step false e rest o h more = more h
-
-pub first_none : (a : ℕ) (es : List (ℕ × Waiting)) → entries_between nat_cmp (Bound.Excluded a) Bound.Unbounded es ≡ [] → first_above a es ≡ None
-first_none a [] h = refl
-first_none a (e ∷ es) h =
-    let g = rw (above a e.0) at h in
-    none_step (nat_lt a e.0) e (entries_between nat_cmp (Bound.Excluded a) Bound.Unbounded es) (first_above a es) g (first_none a es)
-
 above_step : (b : Bool) (n : ℕ) (w : Waiter) (o : Option ℕ) (p : Option Waiter) → n ≡ w.ticket → o ≡ option_map (λ v. v.ticket) p → cond b (Some n) o ≡ option_map (λ v. v.ticket) (cond b (Some w) p)
 above_step true n w o p e h = ap Some e
 above_step false n w o p e h = h

@@ -12,6 +12,7 @@ pub mod IndexEncoding
 pub mod JobsHandedOut
 pub mod Machine
 pub mod MachineInvariant
+pub mod Places
 pub mod Plans
 pub mod QueueAndIndex
 pub mod SettleChoices

@@ -5,12 +5,14 @@ ghost use Rattle.stm_queue.specs.SortedTickets.{member};
 ghost use Rattle.std.specs.Option.{option_copied};
 ghost use Rattle.stm_history.specs.Entries.{kept_at, kept, lose, with_held, AllBelow, held_reads, held_ends, ends_under, first_above};
 
+use crate::places::{
+    Slot, add_ending, decrement_chunk, held_at, hold_at, increment_chunk, next_held, place_of, put,
+    reach, reach_chunk, take_at,
+};
 use crate::shared_verdict::SharedVerdict;
 use crate::ticket_set::TicketSet;
 use std::alloc::{AllocError as NoMemory, Global};
-use std::collections::BTreeMap;
 use std::marker::Model;
-use std::ops::Bound;
 use stm_check::SharedBlock;
 use stm_log::Reads;
 use stm_terms::values::Value;
@@ -52,28 +54,36 @@ impl Waiting {
     }
 }
 
-/// The waiting blocks in the order of their tickets.
+/// The waiting blocks. Each is in a slot, and a table has the place of each ticket's slot. A slot that is left is used again.
 #[derive(Drop)]
 pub(crate) struct WaitingBlocks {
-    map: BTreeMap<u32, Waiting>,
+    // By ticket: the place of its slot, or 0. The slot is the ticket's only if it has the ticket's number.
+    places: Vec<u32>,
+    slots: Vec<Slot>,
+    // A place that may be unused; its slot has the next such place.
+    free: u32,
+    count: usize,
+    // How many blocks wait in each chunk of 1,024 tickets.
+    chunk_counts: Vec<usize>,
     // Lent for each verdict `Blocks` that is held.
     blocks: Verdict,
 }
 
 impl Model for WaitingBlocks {
-    ghost use Rattle.std.specs.Prelude.{◌≡◌, List, ℕ};
+    ghost use Rattle.std.specs.Prelude.{◌≡◌, List, ℕ, length};
     ghost use Rattle.std.specs.Coded.{codes};
     ghost use Rattle.stm_terms.specs.TreeEncoding.{act_code};
     ghost use Rattle.stm_terms.specs.declared.verdicts.Verdict.TheVariants.{Blocks};
     ghost use Rattle.stm_history.specs.declared.waiting.Waiting.{Waiting as AnyWaiting};
+    ghost use Rattle.stm_history.specs.Places.{entries_from, AreKept};
 
     ghost Value = { List (ℕ × AnyWaiting) };
 
     ghost coded = { Prim.hlevel (codes, act_code) };
 
-    ghost view = { λ w. w.map.entries };
+    ghost view = { λ w. entries_from 0 w.places.items w.slots.items };
 
-    ghost invariant = { λ w. w.blocks ≡ Blocks };
+    ghost invariant = { λ w. AreKept w.places.items w.slots.items w.count w.chunk_counts.items w.blocks };
 }
 
 impl WaitingBlocks {
@@ -82,7 +92,11 @@ impl WaitingBlocks {
         ensures { result ≡ [] }
     {
         WaitingBlocks {
-            map: BTreeMap::new(alloc),
+            places: Vec::new(alloc),
+            slots: Vec::new(alloc),
+            free: 0,
+            count: 0,
+            chunk_counts: Vec::new(alloc),
             blocks: Verdict::Blocks,
         }
     }
@@ -91,14 +105,14 @@ impl WaitingBlocks {
     pub(crate) fn len(&self) -> usize
         ensures { result ≡ length self.now }
     {
-        self.map.len()
+        self.count
     }
 
     /// The block that waits under a ticket.
     pub(crate) fn get(&self, ticket: u32) -> Option<&Waiting>
         ensures { option_copied result ≡ kept_at ticket self.now }
     {
-        self.map.get(&ticket)
+        held_at(&self.slots, place_of(&self.places, ticket), ticket)
     }
 
     /// The verdict that a delivery to one of the blocks brought.
@@ -112,14 +126,7 @@ impl WaitingBlocks {
     pub(crate) fn first_above(&self, after: u32) -> Option<u32>
         ensures { result ≡ first_above after self.now }
     {
-        match self
-            .map
-            .range((Bound::Excluded(after), Bound::Unbounded))
-            .next()
-        {
-            Some((ticket, _)) => Some(*ticket),
-            None => None,
-        }
+        next_held(&self.places, &self.slots, &self.chunk_counts, after)
     }
 
     /// The tickets of the blocks whose last delivery brought a verdict that doesn't block.
@@ -127,11 +134,7 @@ impl WaitingBlocks {
         ensures { IfOk result (λ cs. (t : ℕ) → ends_under t self.now ≡ true → member t cs ≡ true) }
     {
         let mut tickets = TicketSet::empty(alloc);
-        for (ticket, waiting) in self.map.iter() {
-            if waiting.ends() {
-                tickets.add(*ticket)?;
-            }
-        }
+        add_ending(&self.slots, &mut tickets)?;
         Ok(tickets)
     }
 
@@ -142,7 +145,14 @@ impl WaitingBlocks {
             ≡ self.old ++ (ticket, record { block = block; held = None }) ∷ []) }
         ensures err { OnErr result (self.new ≡ self.old) }
     {
-        self.map.insert(ticket, Waiting { block, held: None })?;
+        reach(&mut self.places, ticket)?;
+        reach_chunk(&mut self.chunk_counts, ticket)?;
+        let waiting = Waiting { block, held: None };
+        let (place, free) = put(&mut self.slots, self.free, ticket, waiting)?;
+        self.places[ticket as usize] = place;
+        self.free = free;
+        self.count += 1;
+        increment_chunk(&mut self.chunk_counts, ticket);
         Ok(())
     }
 
@@ -153,10 +163,8 @@ impl WaitingBlocks {
         requires { kept_at ticket self.old ≢ None }
         ensures { self.new ≡ with_held ticket held self.old }
     {
-        match self.map.get_mut(&ticket) {
-            Some(waiting) => keep(waiting, held),
-            None => unreachable!(),
-        }
+        let place = place_of(&self.places, ticket);
+        hold_at(&mut self.slots, place, ticket, held);
     }
 
     /// The block waits no more.
@@ -164,11 +172,20 @@ impl WaitingBlocks {
         ensures was { result ≡ kept_at ticket self.old }
         ensures gone { self.new ≡ lose ticket self.old }
     {
-        self.map.remove(&ticket)
+        let place = place_of(&self.places, ticket);
+        match take_at(&mut self.slots, place, ticket, self.free) {
+            Some(waiting) => {
+                self.free = place;
+                self.count -= 1;
+                decrement_chunk(&mut self.chunk_counts, ticket);
+                Some(waiting)
+            }
+            None => None,
+        }
     }
 }
 
-fn keep(waiting: &mut Waiting, held: Held)
+pub(crate) fn keep(waiting: &mut Waiting, held: Held)
     ensures { waiting.new ≡ kept held waiting.old }
 {
     waiting.held = Some(held);

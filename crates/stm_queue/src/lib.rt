@@ -8,6 +8,6 @@
 
 pub mod laws;
 pub mod pending;
-mod sorted;
+pub mod sorted;
 
 pub use pending::Pending;

@@ -34,6 +34,10 @@ WithReads old ticket reads new = (v t : ℕ) → has_pair new v t ≡ (has_pair 
 abbrev pub WithoutReads : Pairs → ℕ → List (ℕ × Value) → Pairs → Type 0
 WithoutReads old ticket reads new = (v t : ℕ) → has_pair new v t ≡ (has_pair old v t && not (is_pair_of ticket reads v t))
 
+-- the pairs that were there, without those of these variables
+abbrev pub WithoutVariables : Pairs → List ℕ → Pairs → Type 0
+WithoutVariables old variables new = (v t : ℕ) → has_pair new v t ≡ (has_pair old v t && not (list_any (nat_eq v) variables))
+
 -- the ticket watches some of these variables
 abbrev pub watches : Pairs → List ℕ → ℕ → Bool
 watches pairs variables t = list_any (λ v. has_pair pairs v t) variables

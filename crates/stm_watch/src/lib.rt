@@ -1,12 +1,13 @@
 //! Which tickets watch which variables.
 //!
-//! A block waits under its ticket. When a variable changes that its evaluation read, its verdict is stale: the index
-//! finds these tickets from the variables that were written, at the cost of a logarithm for each pair, whatever the
-//! number of blocks that wait. Contracts see it as a set of pairs of a variable and a ticket (`specs/Pairs`).
-//! `specs/IndexMatchesReaders` says when these are exactly the pairs of some blocks with what they have read.
+//! A block waits under its ticket. When a variable changes that its evaluation read, its verdict is stale: the index finds these
+//! tickets from the variables that were written. It keeps one list of tickets a variable, in ascending order, so a ticket above the
+//! others is added in constant time. Contracts see a set of pairs of a variable and a ticket (`specs/Pairs`).
 #![tactic(auto)]
 
 mod pairs;
+mod table;
 pub mod watch;
+mod watchers;
 
 pub use watch::Watch;

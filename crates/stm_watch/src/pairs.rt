@@ -1,59 +1,99 @@
-//! A set of pairs in their order, as the index keeps it.
+//! The pairs of the table, one by one.
 
-ghost use Rattle.std.specs.Prelude.{◌≡◌, ℕ, ◌&&◌, ◌||◌, not, nat_eq, IfOk, OnOk, OnErr};
+ghost use Rattle.std.specs.Prelude.{◌≡◌, ℕ, ◌&&◌, ◌||◌, ◌++◌, not, nat_eq, IfOk, OnOk, OnErr};
 ghost use Rattle.std.specs.List.{list_any};
 ghost use Rattle.stm_watch.specs.Pairs.{is_read};
-ghost use Rattle.stm_watch.specs.PairList.{lists, AreTickets};
+ghost use Rattle.stm_queue.specs.SortedTickets.{IsRising};
+ghost use Rattle.stm_watch.specs.Tabled.{holds, tickets_of};
 
+use crate::table::{
+    Table, add_at, has_at, is_place, place_of, push_at, put, reach, remove_at, take_at,
+};
+use crate::watchers::Watchers;
 use std::alloc::Global;
-use std::collections::BTreeSet;
 use stm_terms::{NoMemory, Value};
 
 /// Whether the pair is there.
-fn has_pair(pairs: &BTreeSet<(u32, u32)>, variable: u32, ticket: u32) -> bool
-    ensures { result ≡ lists pairs.now.keys variable ticket }
+fn has_pair(table: &Table, variable: u32, ticket: u32) -> bool
+    ensures { result ≡ holds table.now variable ticket }
 {
-    pairs.contains(&(variable, ticket))
+    let place = place_of(&table.places, variable);
+    has_at(&table.slots, place, variable, ticket)
 }
 
 /// Adds a pair, unless it is there.
 pub(crate) fn add_pair(
-    pairs: &mut BTreeSet<(u32, u32)>,
+    table: &mut Table,
+    alloc: Global,
     variable: u32,
     ticket: u32,
 ) -> Result<(), NoMemory>
     ensures ok { OnOk result ((v t : ℕ) →
-        lists pairs.new.keys v t
-        ≡ (lists pairs.old.keys v t || (nat_eq v variable && nat_eq t ticket))) }
-    ensures err { OnErr result (pairs.new.keys ≡ pairs.old.keys) }
+        holds table.new v t
+        ≡ (holds table.old v t || (nat_eq v variable && nat_eq t ticket))) }
+    ensures err { OnErr result ((v t : ℕ) → holds table.new v t ≡ holds table.old v t) }
 {
-    let _ = pairs.insert((variable, ticket))?;
+    let place = place_of(&table.places, variable);
+    if is_place(&table.slots, place, variable) {
+        return add_at(&mut table.slots, alloc, place, variable, ticket);
+    }
+    reach(&mut table.places, variable)?;
+    let (place, free) = put(&mut table.slots, table.free, variable, ticket)?;
+    table.places[variable as usize] = place;
+    table.free = free;
     Ok(())
 }
 
 /// Takes a pair away, if it is there.
-fn remove_pair(pairs: &mut BTreeSet<(u32, u32)>, variable: u32, ticket: u32)
+fn remove_pair(table: &mut Table, variable: u32, ticket: u32)
     ensures { (v t : ℕ) →
-        lists pairs.new.keys v t
-        ≡ (lists pairs.old.keys v t && not (nat_eq v variable && nat_eq t ticket)) }
+        holds table.new v t
+        ≡ (holds table.old v t && not (nat_eq v variable && nat_eq t ticket)) }
 {
-    pairs.remove(&(variable, ticket));
+    let place = place_of(&table.places, variable);
+    if remove_at(&mut table.slots, place, variable, ticket, table.free) {
+        table.free = place;
+    }
+}
+
+/// Takes all pairs of a variable away, and returns their tickets.
+pub(crate) fn take_pairs(table: &mut Table, variable: u32) -> Watchers
+    ensures was { result ≡ tickets_of table.old variable }
+    ensures gone { (v t : ℕ) →
+        holds table.new v t ≡ (holds table.old v t && not (nat_eq v variable)) }
+{
+    let place = place_of(&table.places, variable);
+    let watchers = take_at(&mut table.slots, place, variable, table.free);
+    if !watchers.is_empty() {
+        table.free = place;
+    }
+    watchers
+}
+
+/// Takes all pairs of some variables away.
+pub(crate) fn clear_all(table: &mut Table, variables: &[u32])
+    ensures { (v t : ℕ) →
+        holds table.new v t ≡ (holds table.old v t && not (list_any (nat_eq v) variables.now)) }
+{
+    for variable in variables {
+        let _ = take_pairs(table, *variable);
+    }
 }
 
 /// Those of the variables read that the ticket doesn't watch yet.
 pub(crate) fn unwatched(
     alloc: Global,
-    pairs: &BTreeSet<(u32, u32)>,
+    table: &Table,
     ticket: u32,
     reads: &[(u32, Value)],
 ) -> Result<Vec<u32>, NoMemory>
     ensures { IfOk result (λ vs. (v : ℕ) →
         list_any (nat_eq v) vs.items
-        ≡ (is_read reads.now v && not (lists pairs.now.keys v ticket))) }
+        ≡ (is_read reads.now v && not (holds table.now v ticket))) }
 {
     let mut fresh = Vec::new(alloc);
     for (variable, _) in reads {
-        if !has_pair(pairs, *variable, ticket) {
+        if !has_pair(table, *variable, ticket) {
             fresh.push(*variable)?;
         }
     }
@@ -62,77 +102,74 @@ pub(crate) fn unwatched(
 
 /// Pairs each variable with the ticket. After a refusal some of the pairs may be there.
 pub(crate) fn add_all(
-    pairs: &mut BTreeSet<(u32, u32)>,
+    table: &mut Table,
+    alloc: Global,
     ticket: u32,
     variables: &[u32],
 ) -> Result<(), NoMemory>
     ensures ok { OnOk result ((v t : ℕ) →
-        lists pairs.new.keys v t
-        ≡ (lists pairs.old.keys v t || (nat_eq t ticket && list_any (nat_eq v) variables.now))) }
+        holds table.new v t
+        ≡ (holds table.old v t || (nat_eq t ticket && list_any (nat_eq v) variables.now))) }
     ensures err { OnErr result ((v t : ℕ) →
-        (lists pairs.new.keys v t && not (nat_eq t ticket && list_any (nat_eq v) variables.now))
-        ≡ (lists pairs.old.keys v t
+        (holds table.new v t && not (nat_eq t ticket && list_any (nat_eq v) variables.now))
+        ≡ (holds table.old v t
         && not (nat_eq t ticket && list_any (nat_eq v) variables.now))) }
 {
     for variable in variables {
-        add_pair(pairs, *variable, ticket)?;
+        add_pair(table, alloc, *variable, ticket)?;
     }
     Ok(())
 }
 
 /// Takes away the pair of each variable with the ticket.
-pub(crate) fn remove_all(pairs: &mut BTreeSet<(u32, u32)>, ticket: u32, variables: &[u32])
+pub(crate) fn remove_all(table: &mut Table, ticket: u32, variables: &[u32])
     ensures { (v t : ℕ) →
-        lists pairs.new.keys v t
-        ≡ (lists pairs.old.keys v t
+        holds table.new v t
+        ≡ (holds table.old v t
         && not (nat_eq t ticket && list_any (nat_eq v) variables.now)) }
 {
     for variable in variables {
-        remove_pair(pairs, *variable, ticket);
+        remove_pair(table, *variable, ticket);
     }
 }
 
 /// Takes away the pair of each variable read with the ticket.
-pub(crate) fn remove_reads(pairs: &mut BTreeSet<(u32, u32)>, ticket: u32, reads: &[(u32, Value)])
+pub(crate) fn remove_reads(table: &mut Table, ticket: u32, reads: &[(u32, Value)])
     ensures { (v t : ℕ) →
-        lists pairs.new.keys v t
-        ≡ (lists pairs.old.keys v t && not (nat_eq t ticket && is_read reads.now v)) }
+        holds table.new v t
+        ≡ (holds table.old v t && not (nat_eq t ticket && is_read reads.now v)) }
 {
     for (variable, _) in reads {
-        remove_pair(pairs, *variable, ticket);
+        remove_pair(table, *variable, ticket);
     }
 }
 
 /// Adds the tickets that are paired with some of the variables, in any order, some of them several times.
 pub(crate) fn push_watchers(
-    pairs: &BTreeSet<(u32, u32)>,
+    table: &Table,
     variables: &[u32],
     tickets: &mut Vec<u32>,
 ) -> Result<(), NoMemory>
-    requires { AreTickets pairs.now.keys }
     ensures { OnOk result ((t : ℕ) →
         list_any (nat_eq t) tickets.new.items
         ≡ (list_any (nat_eq t) tickets.old.items
-        || list_any (λ v. lists pairs.now.keys v t) variables.now)) }
+        || list_any (λ v. holds table.now v t) variables.now)) }
 {
     for variable in variables {
-        push_watchers_of(pairs, *variable, tickets)?;
+        push_watchers_of(table, *variable, tickets)?;
     }
     Ok(())
 }
 
-fn push_watchers_of(
-    pairs: &BTreeSet<(u32, u32)>,
+/// Adds the tickets that are paired with one variable, rising.
+pub(crate) fn push_watchers_of(
+    table: &Table,
     variable: u32,
     tickets: &mut Vec<u32>,
 ) -> Result<(), NoMemory>
-    requires { AreTickets pairs.now.keys }
-    ensures { OnOk result ((t : ℕ) →
-        list_any (nat_eq t) tickets.new.items
-        ≡ (list_any (nat_eq t) tickets.old.items || lists pairs.now.keys variable t)) }
+    ensures pushed { OnOk result (tickets.new.items ≡ tickets.old.items ++ tickets_of table.now variable) }
+    ensures rising { IsRising (tickets_of table.now variable) }
 {
-    for pair in pairs.range((variable, 0)..=(variable, u32::MAX)) {
-        tickets.push(pair.1)?;
-    }
-    Ok(())
+    let place = place_of(&table.places, variable);
+    push_at(&table.slots, place, variable, tickets)
 }

@@ -1,14 +1,17 @@
 //! The index from variables to the tickets that watch them.
 
-ghost use Rattle.std.specs.Prelude.{◌≡◌, ℕ, nat_eq, IfOk, OnOk, OnErr};
+ghost use Rattle.std.specs.Prelude.{◌≡◌, ℕ, ◌&&◌, not, nat_eq, IfOk, OnOk, OnErr};
 ghost use Rattle.std.specs.FinSet as set;
 ghost use Rattle.std.specs.List.{list_any};
 ghost use Rattle.std.specs.List.Sorted.{IsStrictlyIncreasing};
-ghost use Rattle.stm_watch.specs.Pairs.{WithReads, WithoutReads, watches};
+ghost use Rattle.stm_watch.specs.Pairs.{has_pair, WithReads, WithoutReads, WithoutVariables, watches};
 
-use crate::pairs::{add_all, add_pair, push_watchers, remove_all, remove_reads, unwatched};
+use crate::pairs::{
+    add_all, add_pair, clear_all, push_watchers, push_watchers_of, remove_all, remove_reads,
+    take_pairs, unwatched,
+};
+use crate::table::Table;
 use std::alloc::Global;
-use std::collections::BTreeSet;
 use std::marker::Model;
 use stm_terms::{NoMemory, Value};
 
@@ -16,22 +19,20 @@ use stm_terms::{NoMemory, Value};
 #[derive(Drop)]
 pub struct Watch {
     alloc: Global,
-    pairs: BTreeSet<(u32, u32)>,
+    table: Table,
 }
 
 impl Model for Watch {
     ghost use Rattle.std.specs.Coded.{coded_ℕ, coded×};
     ghost use Rattle.stm_watch.specs.Pairs.{Pairs};
-    ghost use Rattle.stm_watch.specs.PairList.{AreTickets};
+    ghost use Rattle.stm_watch.specs.Tabled.{pairs_of};
     ghost use Rattle.std.specs.FinSet as set;
 
     ghost Value = { Pairs };
 
     ghost coded = { set.code (coded× coded_ℕ coded_ℕ) };
 
-    ghost view = { λ w. set.from_list w.pairs.keys };
-
-    ghost invariant = { λ w. AreTickets w.pairs.keys };
+    ghost view = { λ w. set.from_list (pairs_of w.table) };
 }
 
 impl Watch {
@@ -41,53 +42,121 @@ impl Watch {
     {
         Watch {
             alloc,
-            pairs: BTreeSet::new(alloc),
+            table: Table {
+                places: Vec::new(alloc),
+                slots: Vec::new(alloc),
+                free: 0,
+            },
         }
     }
 
-    /// The ticket watches each variable read; pairs that are there already stay.
+    /// The ticket watches each variable read. Pairs that are there already stay.
     pub fn add(&mut self, ticket: u32, reads: &[(u32, Value)]) -> Result<(), NoMemory>
         ensures ok { OnOk result (WithReads self.old ticket reads.now self.new) }
         ensures err { OnErr result (self.new ≡ self.old) }
     {
         match reads {
-            [(variable, _)] => add_pair(&mut self.pairs, *variable, ticket),
+            [(variable, _)] => add_pair(&mut self.table, self.alloc, *variable, ticket),
             _ => self.add_several(ticket, reads),
         }
     }
 
-    /// The same for any number of variables: those that the ticket doesn't watch yet are listed before the first is added.
+    /// The same for any number of variables. Those that the ticket doesn't watch yet are listed before the first is added.
     fn add_several(&mut self, ticket: u32, reads: &[(u32, Value)]) -> Result<(), NoMemory>
         ensures ok { OnOk result (WithReads self.old ticket reads.now self.new) }
         ensures err { OnErr result (self.new ≡ self.old) }
     {
-        let fresh = unwatched(self.alloc, &self.pairs, ticket, reads)?;
-        match add_all(&mut self.pairs, ticket, &fresh) {
+        let fresh = unwatched(self.alloc, &self.table, ticket, reads)?;
+        match add_all(&mut self.table, self.alloc, ticket, &fresh) {
             Ok(()) => Ok(()),
             Err(refused) => {
-                remove_all(&mut self.pairs, ticket, &fresh);
+                remove_all(&mut self.table, ticket, &fresh);
                 Err(refused)
             }
         }
     }
 
-    /// The ticket watches the variables read no more. It takes no memory.
+    /// The ticket no longer watches the variables read. Takes no memory.
     pub fn remove(&mut self, ticket: u32, reads: &[(u32, Value)])
         ensures { WithoutReads self.old ticket reads.now self.new }
     {
-        remove_reads(&mut self.pairs, ticket, reads);
+        remove_reads(&mut self.table, ticket, reads);
     }
 
-    /// The tickets that watch some of these variables, rising, each once.
+    /// The tickets that watch any of these variables, in ascending order, each once.
     pub fn watchers(&self, variables: &[u32]) -> Result<Vec<u32>, NoMemory>
         ensures rising { IfOk result (λ ts. IsStrictlyIncreasing ts.items) }
         ensures watchers { IfOk result (λ ts. (t : ℕ) →
             list_any (nat_eq t) ts.items ≡ watches self.now variables.now t) }
     {
+        match variables {
+            [variable] => self.watchers_of(*variable),
+            _ => self.watchers_of_several(variables),
+        }
+    }
+
+    /// The same for one variable, whose tickets are kept in ascending order.
+    fn watchers_of(&self, variable: u32) -> Result<Vec<u32>, NoMemory>
+        ensures rising { IfOk result (λ ts. IsStrictlyIncreasing ts.items) }
+        ensures watchers { IfOk result (λ ts. (t : ℕ) →
+            list_any (nat_eq t) ts.items ≡ has_pair self.now variable t) }
+    {
         let mut tickets = Vec::new(self.alloc);
-        push_watchers(&self.pairs, variables, &mut tickets)?;
+        push_watchers_of(&self.table, variable, &mut tickets)?;
+        Ok(tickets)
+    }
+
+    /// The same for any number of variables.
+    fn watchers_of_several(&self, variables: &[u32]) -> Result<Vec<u32>, NoMemory>
+        ensures rising { IfOk result (λ ts. IsStrictlyIncreasing ts.items) }
+        ensures watchers { IfOk result (λ ts. (t : ℕ) →
+            list_any (nat_eq t) ts.items ≡ watches self.now variables.now t) }
+    {
+        let mut tickets = Vec::new(self.alloc);
+        push_watchers(&self.table, variables, &mut tickets)?;
         tickets.sort_unstable();
         tickets.dedup();
+        Ok(tickets)
+    }
+
+    /// Removes all pairs of these variables. Returns the tickets that watched any of them, in ascending order, each once. Those of a
+    /// single variable are moved and not copied.
+    pub fn take(&mut self, variables: &[u32]) -> Result<Vec<u32>, NoMemory>
+        ensures rising { IfOk result (λ ts. IsStrictlyIncreasing ts.items) }
+        ensures watchers { IfOk result (λ ts. (t : ℕ) →
+            list_any (nat_eq t) ts.items ≡ watches self.old variables.now t) }
+        ensures gone { OnOk result (WithoutVariables self.old variables.now self.new) }
+        ensures err { OnErr result (self.new ≡ self.old) }
+    {
+        match variables {
+            [variable] => self.take_of(*variable),
+            _ => self.take_of_several(variables),
+        }
+    }
+
+    /// The same for one variable.
+    fn take_of(&mut self, variable: u32) -> Result<Vec<u32>, NoMemory>
+        ensures rising { IfOk result (λ ts. IsStrictlyIncreasing ts.items) }
+        ensures watchers { IfOk result (λ ts. (t : ℕ) →
+            list_any (nat_eq t) ts.items ≡ has_pair self.old variable t) }
+        ensures gone { OnOk result ((v t : ℕ) →
+            has_pair self.new v t ≡ (has_pair self.old v t && not (nat_eq v variable))) }
+        ensures err { OnErr result (self.new ≡ self.old) }
+    {
+        let room = Vec::with_capacity(self.alloc, 1)?;
+        Ok(take_pairs(&mut self.table, variable).into_vec(room))
+    }
+
+    /// The same for any number of variables.
+    fn take_of_several(&mut self, variables: &[u32]) -> Result<Vec<u32>, NoMemory>
+        ensures rising { IfOk result (λ ts. IsStrictlyIncreasing ts.items) }
+        ensures watchers { IfOk result (λ ts. (t : ℕ) →
+            list_any (nat_eq t) ts.items ≡ watches self.old variables.now t) }
+        ensures gone { OnOk result (WithoutVariables self.old variables.now self.new) }
+        ensures err { OnErr result (self.new ≡ self.old) }
+    {
+        let tickets = self.watchers_of_several(variables)?;
+        clear_all(&mut self.table, variables);
         Ok(tickets)
     }
 }
