@@ -13,6 +13,7 @@ SECONDS = 60
 STACK = 2 << 20  # bytes, as much as a thread has
 SMALL = 1 << 20  # bytes of a case's input or answers
 ENCODING = "latin-1"  # a character of a transcript is a byte
+HERE = pathlib.Path(__file__).resolve().parent
 
 # Programs that are started take this process's limit over. Set here it costs each start nothing.
 resource.setrlimit(resource.RLIMIT_STACK, (STACK, resource.getrlimit(resource.RLIMIT_STACK)[1]))
@@ -121,6 +122,15 @@ def read(path):
     return parsed(path.name, path.read_text(ENCODING).split("\n")[:-1])
 
 
+def all_cases():
+    """The cases of tests/cases, and the examples, NAME.stm with NAME.out."""
+    found = [read(path) for path in sorted((HERE / "cases").glob("*.case"))]
+    for path in sorted((HERE.parent / "examples").glob("*.stm")):
+        found.append(Case(path.name, printed=path.with_suffix(".out").read_bytes()))
+        found[-1].text = path.read_bytes()
+    return found
+
+
 def run(program, case, environment=None):
     """The finished process of a case, with `taken`, how many bytes of its input it took."""
     with tempfile.TemporaryFile() as text:
@@ -186,8 +196,8 @@ def asked(about):
     return given.program, given.part
 
 
-def tally(results):
-    """Prints the failures among pairs of a name and what is said of it, and the last line; answers the exit status."""
+def tally(results, skipped=0):
+    """Prints the failures among pairs of a name and what is said of it, and the last line. Returns the exit status."""
     passed = failed = 0
     for name, said in results:
         if said is None:
@@ -195,5 +205,5 @@ def tally(results):
         else:
             failed += 1
             print(f"FAILED {name}\n{said}", flush=True)
-    print(f"{passed} passed, {failed} failed", flush=True)
+    print(f"{passed} passed, {failed} failed" + (f", {skipped} skipped" if skipped else ""), flush=True)
     return 1 if failed or not passed else 0

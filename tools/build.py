@@ -1,8 +1,9 @@
 #!/usr/bin/env python3
-"""Proves the crates that a program stands on, and builds it: build.py [--jobs N] PROGRAM.
+"""Proves the crates that a program depends on, and builds it: build.py [--jobs N] PROGRAM.
 
-Crates that don't stand on each other go side by side, and one that didn't change since it was proved is left as it is. How
-far it is stands on standard error. What a check keeps goes into the out/ of its crate, so a later run goes on from there.
+Crates that don't depend on each other are proved side by side. A crate that didn't change since it was proved is left as it is.
+Progress and the time that is left are printed on standard error. What a check keeps goes into the out/ of its crate, so a later run
+continues from there.
 """
 
 import argparse
@@ -19,6 +20,9 @@ import parts
 import repository
 
 LEDGER = repository.ROOT / "out" / "passed.json"
+COSTS = repository.ROOT / "tools" / "costs"  # processor seconds that each crate took once, for estimates of time
+GAINS = {1: 1.0, 2: 1.2, 3: 1.4}  # how much faster a chain of crates is proved on N processors; on more than 3:
+MOST_GAIN = 1.5
 STAMP = repository.ROOT / "tools" / "stamp.py"
 RUNNING = set()  # the commands that run now
 BUILT, STANDING = set(), set()  # the libraries that this run has seen built; those that it has seen to be of the present text
@@ -131,70 +135,105 @@ def run_program(crate, jobs):
     return None if written == given["stdout"] else "it writes something else than its file stdout has"
 
 
-def prove_library(crate, jobs, heard):
-    """Proves a library and builds it for those above; a text where it fails."""
+def prove_library(crate, jobs):
+    """Proves a library and builds it for those above. Returns a text if it fails."""
     wanted = seen(crate)
     with repository.workroom(crate) as folder:
-        is_there = renew(folder, wanted)
-        # A library is built of a proved crate alone, but the command that proves and builds it says nothing meanwhile.
-        for words in (["rt", "check"], ["rt", "lib"]) if heard and not is_there else (["rt", "lib"],):
-            status, lines = run([*words, "--jobs", str(jobs)], folder, heard)
-            if status:
-                return faults(status, lines)
+        renew(folder, wanted)
+        status, lines = run(["rt", "lib", "--jobs", str(jobs)], folder)
+        if status:
+            return faults(status, lines)
         if seen(crate) == wanted:
             (folder / "out" / "rlib" / "seen").write_text(wanted)
     return None
 
 
-def prove(crate, jobs, heard=None):
+def prove(crate, jobs, begun=None):
     """Proves a crate over what its earlier checks kept, and builds it: a library for those above, a program to be run.
-    Returns how many passed and failed, and a text. `heard` is called with each line of the proof as it comes."""
-    if heard:
-        heard("")
-    why = build_below(crate) or (run_program(crate, jobs) if crate.is_program else prove_library(crate, jobs, heard))
+    Returns how many passed and failed, and a text. `begun` is called when the proof begins."""
+    if begun:
+        begun(crate)
+    why = build_below(crate) or (run_program if crate.is_program else prove_library)(crate, jobs)
     if why:
         return 0, 1, why
     BUILT.add(crate.name)
     return 1, 0, ""
 
 
-def proof(crate, heard=None, anew=False):
-    """The part that proves a crate, which stands behind those of the crates below."""
+def proof(crate, begun=None, anew=False):
+    """The part that proves a crate. It waits for those of the crates below."""
     after = [f"proof {it.name}" for it in crate.below]
-    work = lambda jobs: prove(crate, jobs, heard and (lambda line: heard(crate, line)))
-    return parts.Part(f"proof {crate.name}", work, [crate.digest], after, crate.weight, 4, anew)
+    return parts.Part(f"proof {crate.name}", lambda jobs: prove(crate, jobs, begun), [crate.digest], after, crate.weight, 4, anew)
+
+
+def costs():
+    """The processor seconds of each crate's proof, as they were measured once."""
+    lines = [it.split() for it in COSTS.read_text().splitlines() if it[:1] != "#"]
+    return {it[0]: float(it[1]) for it in lines if it}
+
+
+def seconds_for(crates, left):
+    """About how long the proofs of these crates take here, where `left` has the processor seconds that each of them still needs."""
+    lanes = parts.lanes()
+    chain = {}
+    for it in crates:  # each after those below it
+        chain[it.name] = left.get(it.name, 0) + max((chain.get(low.name, 0) for low in it.below), default=0)
+    return max(max(chain.values(), default=0) / GAINS.get(lanes, MOST_GAIN), sum(left.values()) / lanes)
+
+
+def estimate(program):
+    """About how many seconds a first build of a program takes here."""
+    crate, known = repository.crates()[program], costs()
+    return seconds_for([*crate.below, crate], {it.name: known.get(it.name, 0) for it in [*crate.below, crate]})
+
+
+def shown_minutes(seconds):
+    return f"{max(1, round(seconds / 60))} minutes" if seconds >= 90 else "a minute"
 
 
 class Progress:
-    """Says on standard error how far each crate is: on a terminal in one line that changes, else in a line now and then."""
+    """Prints on standard error how far the build is: on a terminal in one line that changes, else in a line every half minute."""
 
-    def __init__(self, name, done, count):
-        self.name, self.done, self.count, self.begun = name, done, count, time.monotonic()
-        self.at, self.ended, self.is_terminal = {}, threading.Event(), sys.stderr.isatty()
+    def __init__(self, crates, done):
+        self.crates, self.name, self.start = crates, crates[-1].name, time.monotonic()
+        self.begun, self.ended, self.is_terminal = {}, threading.Event(), sys.stderr.isatty()
+        known = costs()
+        self.left = {it.name: known.get(it.name, 60) for it in crates if it not in done}
+        self.expected = seconds_for(crates, self.left)
 
-    def heard(self, crate, line):
-        """Takes a line that a check of the crate wrote."""
-        found = re.match(r"checked .*, (\d+) of (\d+)$", line)
-        self.at[crate.name] = f"{crate.name} {found[1]} of {found[2]}" if found else self.at.get(crate.name, crate.name)
+    def begins(self, crate):
+        self.begun[crate.name] = time.monotonic()
 
-    def told(self, line):
+    def reports(self, line):
         """Takes the line on a part that has ended."""
         passed = re.match(r"passed proof (\w+)", line)
-        self.done += bool(passed)
         if passed:
-            self.at.pop(passed[1], None)
+            self.left.pop(passed[1], None)
+            self.begun.pop(passed[1], None)
         else:
             self.say(line, "\n")
+
+    def seconds_left(self):
+        """What is left of the expected time, at the speed of this run so far."""
+        now, left = time.monotonic(), dict(self.left)
+        for name, begun in self.begun.copy().items():
+            left[name] = max(left.get(name, 0) - (now - begun), left.get(name, 0) / 10)
+        expected, spent = seconds_for(self.crates, left), now - self.start
+        gone = self.expected - expected
+        return expected * (min(max(spent / gone, 0.5), 4) if gone > 60 else 1)
 
     def say(self, text, end):
         print(f"\r\033[K{text}" if self.is_terminal else text, end=end, file=sys.stderr, flush=True)
 
     def show(self):
         """Runs beside the proofs until they end."""
-        while not self.ended.wait(1 if self.is_terminal else 30):
-            minutes, now = (time.monotonic() - self.begun) / 60, ", ".join(self.at.copy().values())
-            text = f"{self.name}: {self.done} of {self.count} crates proved, {minutes:.1f} minutes; now {now}"
+        while True:
+            done, spent = len(self.crates) - len(self.left), (time.monotonic() - self.start) / 60
+            text = f"{self.name}: {done} of {len(self.crates)} crates proved in {spent:.1f} minutes, about "
+            text += f"{shown_minutes(self.seconds_left())} left; now {', '.join(self.begun.copy())}"
             self.say(text[:119] if self.is_terminal else text, "" if self.is_terminal else "\n")
+            if self.ended.wait(1 if self.is_terminal else 30):
+                break
         if self.is_terminal:
             self.say("", "")
 
@@ -215,17 +254,17 @@ def end_with_children():
 def main():
     parser = argparse.ArgumentParser(description=__doc__, formatter_class=argparse.RawDescriptionHelpFormatter)
     parser.add_argument("program", help="the name of a crate")
-    parser.add_argument("--jobs", type=int, default=0, metavar="N", help="checks at a time, else as many as there is room for")
+    parser.add_argument("--jobs", type=int, default=0, metavar="N", help="checks at a time; without it as many as processors and memory allow")
     asked = parser.parse_args()
     end_with_children()
     crate = repository.crates().get(asked.program) or sys.exit(f"crates.txt names no crate {asked.program}")
-    ledger = parts.Ledger(LEDGER)
+    crates, ledger = [*crate.below, crate], parts.Ledger(LEDGER)
     done = [it for it in crate.below if it.is_built() and ledger.find(f"proof {it.name}", it.digest()) is not None]
-    progress = Progress(crate.name, len(done), len(crate.below) + 1)
+    progress = Progress(crates, done)
     shows = threading.Thread(target=progress.show, daemon=True)
     shows.start()
-    made = [proof(it, progress.heard, anew=it not in done) for it in [*crate.below, crate]]
-    failed = parts.run_parts(made, ledger, asked.jobs, progress.told)[1]
+    made = [proof(it, progress.begins, anew=it not in done) for it in crates]
+    failed = parts.run_parts(made, ledger, asked.jobs, progress.reports)[1]
     progress.ended.set()
     shows.join()
     return 1 if failed else 0

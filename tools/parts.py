@@ -78,8 +78,8 @@ def judged(part, ledger, jobs):
 
 
 def run_parts(parts, ledger=None, at_once=0, tell=print):
-    """Runs the parts, which stand behind those that they wait for, the longest chains first. Returns how many passed, failed
-    and were unchanged. `tell` is called with a line for each part that was run, and one for those behind each that failed."""
+    """Runs the parts, each listed after those that it waits for, the longest chains first. Returns how many passed, failed and were
+    unchanged. `tell` is called with a line for each part that was run, and one for those that wait for each that failed."""
     at_once = at_once or lanes()
     weights = {it.name: it.weight for it in parts}
     behind = dict(weights)
@@ -110,7 +110,7 @@ def run_parts(parts, ledger=None, at_once=0, tell=print):
                     took = f"{time.monotonic() - begun:.0f} s"
                     tell(f"{'FAILED' if counts[1] else 'passed'} {part.name}, {took}" + (f": {text}" if text else ""))
     for cause, count in collections.Counter(causes.values()).items():
-        tell(f"FAILED {count} {'parts that stand' if count > 1 else 'part that stands'} behind {cause}: not run")
+        tell(f"FAILED {count} {'parts that depend' if count > 1 else 'part that depends'} on {cause}: not run")
     return [sum(it[at] for it in given.values()) for at in range(3)]
 
 
