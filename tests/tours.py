@@ -6,6 +6,7 @@ import tempfile
 
 import transcript
 
+ROOT = pathlib.Path(__file__).resolve().parent.parent
 MARK = "<!-- run -->"
 INDENT = "    "
 
@@ -44,6 +45,7 @@ def judge(program, command, lines):
     case = transcript.parsed(command, [""] + lines)
     with tempfile.TemporaryDirectory() as folder:
         (pathlib.Path(folder) / "stmdesk").symlink_to(program)
+        (pathlib.Path(folder) / "tools").symlink_to(ROOT / "tools")
         done = subprocess.run(
             ["sh", "-c", command],
             cwd=folder,
@@ -58,5 +60,5 @@ def judge(program, command, lines):
 def judged(program, root):
     """Each command of the documents, and what is said of it."""
     for path in [root / "README.md"] + sorted((root / "docs").glob("*.md")):
-        for command, lines in sessions(path.read_text()):
+        for command, lines in sessions(path.read_text(transcript.ENCODING)):
             yield f"{path.name}: $ {command}", judge(program, command, lines)
