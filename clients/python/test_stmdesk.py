@@ -679,7 +679,7 @@ MISTAKES = {
     "do { readTVar x": ("EndOfText", None, "the `{` at 3 isn't closed"),
     "writeTVar x": ("EndOfText", None, "`writeTVar` takes a variable and a value"),
     "": ("EndOfText", None, "the text is empty"),
-    "if x == 0 then retry else return 1": ("Mismatch", 8, "`x` is a variable (TVar Int), not its value: read it first, `a <- readTVar x`"),
+    "if x == 0 then retry else return 1": ("Mismatch", 8, "`x` is a variable (TVar Int), not its value: read it first"),
     "if flag then retry else return 1": ("Mismatch", 3, "`flag` is a variable (TVar Bool)"),
     "return (slot + 1)": ("Mismatch", 8, "`slot` is a variable (TVar (TVar Int))"),
     "return (1 + x)": ("Mismatch", 12, "`x` is a variable"),
@@ -698,7 +698,7 @@ MISTAKES = {
     "readTVar 1": ("NotAVariable", 9, "a variable is needed here"),
     "do { a <- readTVar x; readTVar a }": ("NotAVariable", 31, "`a` is a value, not a variable: use it as it is"),
     "do { a <- retry; return a }": ("Untyped", 10, "return nothing"),
-    "return " + "(" * 65 + "1" + ")" * 65: ("TooDeep", None, "a balanced tree of `orElse`"),
+    "return " + "(" * 65 + "1" + ")" * 65: ("TooDeep", None, "nest `orElse` as a balanced tree"),
     "return \u00fc": ("NotAscii", None, "'\u00fc' at 7 isn't ASCII"),
 }  # fmt: skip
 WRONG_DECLARATIONS = {
@@ -793,7 +793,7 @@ class Carets(OnProgram):
             "    hint: `return` takes one value: write `return (a + 1)`",
         )
 
-    def test_behind_blanks(self):
+    def test_after_blanks(self):
         desk = self.start()
         self.assert_shows(
             lambda: desk.try_(" \n\treturn\t(1 + True)\n"),
@@ -949,13 +949,10 @@ class BrokenOff(OnProgram):
 
     def test_its_error_comes_out_of_the_program(self):
         desk = self.start()
-        for _ in range(200):
-            desk.submit("do { a <- readTVar x; " + "newTVar a; " * 300 + "writeTVar x (a + 1) }")
         self.on_alarm(self.throwing(TimeoutError("mine")))
         with self.assertRaisesRegex(TimeoutError, "mine"):
-            desk.settle()
             while True:
-                desk.try_("retry")
+                desk.try_("do { " + "newTVar 1; " * 1000 + "retry }")
         self.assert_gone(desk.pid)
 
     def test_it_can_not_call_the_desk(self):
@@ -1097,7 +1094,8 @@ class Package(OnProgram):
             self.skipTest("no pip")
         with tempfile.TemporaryDirectory() as folder:
             command = [sys.executable, "-m", "pip", "install", "--no-index", "--no-deps", "--target", folder, str(HERE)]
-            done = subprocess.run(command, capture_output=True, text=True, timeout=SECONDS)
+            environment = os.environ | {"PYTHONDONTWRITEBYTECODE": "1"}
+            done = subprocess.run(command, capture_output=True, text=True, timeout=SECONDS, env=environment)
             self.assertEqual(done.returncode, 0, done.stdout + done.stderr)
             code = "import stmdesk; print(stmdesk.__version__, stmdesk.__file__)"
             done = subprocess.run([sys.executable, "-B", "-c", code], cwd=folder, capture_output=True, text=True, check=True)

@@ -11,13 +11,13 @@ Finished(ticket=1, result=1, stale=[])
 [Cell(variable=Ref(0, 'x'), name='x', type='Int', value=2, count=1)]
 
 A value of the language is a value of Python: a number is an `int`, `True` and `False` are a `bool`, `()` is `None`, `#0` is
-`Ref(0)`, and `new0`, the first variable that a block itself makes, is `NewRef(0)`. In Python `True == 1`, so ask for the type
-if a block could return either. docs/CONSOLE.md says what each command does, and docs/LANGUAGE.md what a block is. A line feed
-in a block is a blank.
+`Ref(0)`, and `new0`, the first variable that a block itself makes, is `NewRef(0)`. In Python `True == 1`, so ask for the
+type if a block could return either. docs/CONSOLE.md says what each command does, and docs/LANGUAGE.md what a block is. A line
+feed in a block is a blank.
 
-A call raises `Refused` if the program refuses the command; `Stopped`, which is a `Refused`, if a `settle` stopped; `Ended` if
-the program ended; `BadAnswer` if the program printed what stmdesk never prints; `ValueError` or `TypeError` for an argument
-that is no text or number of the right kind, in which case nothing is sent.
+A call raises `Refused` if the program refuses the command; `Stopped`, which is a `Refused`, if a `settle` stopped; `Ended`
+if the program ended; `BadAnswer` if the program printed what stmdesk never prints; `ValueError` or `TypeError` for an
+argument that is no text or number of the right kind, in which case nothing is sent.
 """
 
 from ._desk import Desk

@@ -167,7 +167,8 @@ class Desk:
         >>> desk.show()
         [New(ticket=1)]
         """
-        return self._ask("show", "", lambda: self._lines_to("waiting ", tuple("123456789"), WAITING_LIMIT), self._answers.statuses)
+        digits = tuple("123456789")
+        return self._ask("show", "", lambda: self._lines_to("waiting ", digits, WAITING_LIMIT), self._answers.statuses)
 
     def reads(self, ticket: int) -> dict[Ref, Value]:
         """What the last evaluation of a waiting ticket read, in ascending order of variables, with the values that it found.

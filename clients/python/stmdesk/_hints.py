@@ -89,7 +89,7 @@ _NAMES = {
     "NotOut": "only a ticket that `take` handed out can be handed back",
     "Stale": "a variable that the block read has changed: call `eval` first",
     "TableFull": "a desk has at most 1,000,000 variables",
-    "TooDeep": "at most 64 of `do`, `if`, `orElse`, `catch` and `(` can be open at once; a balanced tree of `orElse` needs few",
+    "TooDeep": "at most 64 of `do`, `if`, `orElse`, `catch` and `(` can be open at once: nest `orElse` as a balanced tree",
     "TooLarge": "a block has at most 4,096 tokens",
     "Twice": "a variable of this name is declared already",
     "TypeOfValue": "the value hasn't the type that is declared",
@@ -173,7 +173,7 @@ class _Tokens:
         return " ".join(self.text[self.spans[begin][0] : self.spans[end - 1][1]].split())
 
     def _atom_before(self, index: int) -> int | None:
-        """Where the value begins that ends before the token `index`; None if none ends there."""
+        """The first token of the value that ends before the token `index`; None if none ends there."""
         word = self._get(index - 1)
         if word == ")":
             depth = 0
@@ -242,7 +242,9 @@ class _Tokens:
         """The hint for a declared variable in place of its value."""
         if word not in self.types or word in self._locals():
             return None
-        return f"`{word}` is a variable (TVar {_bracketed(self.types[word])}), not its value: read it first, `a <- readTVar {word}`"
+        kind = self.types[word]
+        kind = f"({kind})" if " " in kind else kind
+        return f"`{word}` is a variable (TVar {kind}), not its value: read it first, `a <- readTVar {word}`"
 
     def _word_of_haskell(self, word: str) -> str | None:
         return None if word in self.types or word in self._locals() else _WORDS.get(word)
@@ -306,8 +308,9 @@ class _Tokens:
         is_infix = self.word == "orElse" and self.before not in _BEGIN_ACTION
         if is_infix or around == "orElse" and self.word != "(":
             return "`orElse` comes first and takes two actions in brackets: `orElse (a) (b)`"
-        is_second = self._is_name(self.before) and self._get(self.at - 2) == ")"
-        if around == "catch" and not (self.before == ")" and self._is_name(self.word)) or is_second and "catch" in self.words:
+        names_thrown = self.before == ")" and self._is_name(self.word)
+        lacks_handler = self._is_name(self.before) and self._get(self.at - 2) == ")" and "catch" in self.words
+        if around == "catch" and not names_thrown or lacks_handler:
             return "`catch` takes an action, a name for the number thrown, and a handler: `catch (a) e (b)`"
         if self.word in (";", "}", ")") and self._lacks_else():
             return "`if` needs its `else`: `else return ()`"
@@ -409,11 +412,8 @@ class _Tokens:
         close = [it for it in known if it.lower() == self.word.lower() or _differ_by_one(it, self.word)]
         if close:
             return f"nothing of this name is declared; did you mean `{close[0]}`?"
-        return "nothing of this name is declared" + (f"; the names here are {', '.join(known)}" if 0 < len(known) <= 12 else "")
-
-
-def _bracketed(kind: str) -> str:
-    return f"({kind})" if " " in kind else kind
+        names = f"; the names here are {', '.join(known)}" if 0 < len(known) <= 12 else ""
+        return f"nothing of this name is declared{names}"
 
 
 def _differ_by_one(a: str, b: str) -> bool:
