@@ -740,6 +740,7 @@ class Hints(OnProgram):
         for text, expected in WRONG_DECLARATIONS.items():
             with self.subTest(text=text):
                 self.assert_hint(desk.tvar, text, *expected)
+        self.refused(lambda: desk.try_("return \u00fc"))
         desk.eval()
         desk.store()
         self.assert_hint(desk.tvar, "late : Int = 1", "Late", None, "before the first other command, which was `eval`")
@@ -1135,7 +1136,7 @@ class Pages(OnProgram):
         names = [it.__name__ if it is stmdesk else f"stmdesk.{it.__name__}" for it in public]
         names += [f"stmdesk.Desk.{name}" for name in vars(Desk) if not name.startswith("_") and name != "pid"]
         self.assertEqual([it for it in names if it not in tests or it != "stmdesk.DeskError" and not tests[it].examples], [])
-        runner = doctest.DocTestRunner(optionflags=doctest.IGNORE_EXCEPTION_DETAIL)
+        runner = doctest.DocTestRunner()
         for test in tests.values():
             with self.subTest(test=test.name), Desk() as desk:
                 desk.tvar("x : Int = 1")

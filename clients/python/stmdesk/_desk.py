@@ -277,9 +277,10 @@ class Desk:
                     raise ValueError("the desk is closed")
                 if self._process.end:
                     raise Ended(*self._process.end.args)
-                if command != "tvar":
-                    self._answers.first = self._answers.first or command
                 answer = self._exchange(line, sent, take, read, text)
+                is_no_command = isinstance(answer, Refused) and answer.name in ("LineTooLong", "NotAscii")
+                if self._answers.first is None and command != "tvar" and not is_no_command:
+                    self._answers.first = command
             finally:
                 self._is_calling = False
         if isinstance(answer, Refused):
