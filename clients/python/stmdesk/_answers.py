@@ -1,0 +1,162 @@
+"""Reads the program's answers, whose texts docs/CONSOLE.md fixes, as values."""
+
+from __future__ import annotations
+
+import re
+from collections.abc import Sequence
+
+from ._errors import Refused, Stopped
+from ._hints import hint
+from ._values import (
+    Blocks, Cell, Commits, Current, Fault, Finished, FinishedThrows, Job, New, NewRef, Ref, Settled, Stale, Status, Throws,
+    Value, Verdict,
+)  # fmt: skip
+
+_CELL = re.compile(r"#(\d+) (?:(\S+) )?: (.+) = (\S+) count (\d+)")
+
+
+class Answers:
+    """Reads the answers of one desk. It knows the declared variables, so that each `Ref` gets its name.
+
+    Each method raises ValueError or LookupError if the program never prints such a text. `words` are the words of a line,
+    `lines` all lines of an answer.
+    """
+
+    def __init__(self) -> None:
+        self.names: dict[int, str] = {}
+        self.types: dict[str, str] = {}  # of each declared name
+        self.first: str | None = None  # the command that ended the declarations
+
+    def tvar(self, words: Sequence[str], declaration: str) -> Ref:
+        """`tvar #0 x`: the variable, whose name and type are kept."""
+        number, name = int(words[1].removeprefix("#")), words[2]
+        self.names[number] = name
+        self.types[name] = " ".join(declaration.partition(":")[2].partition("=")[0].split())
+        return self.ref(words[1])
+
+    def ref(self, text: str) -> Ref:
+        """`#0`"""
+        number = int(text.removeprefix("#"))
+        return Ref(number, self.names.get(number))
+
+    def value(self, text: str) -> Value:
+        """`7`, `True`, `()`, `#0` or `new0`"""
+        if text in ("True", "False"):
+            return text == "True"
+        if text == "()":
+            return None
+        if text.startswith("#"):
+            return self.ref(text)
+        return NewRef(int(text[3:])) if text.startswith("new") else int(text)
+
+    def pairs(self, words: Sequence[str]) -> dict[Ref, Value]:
+        """`#0=1 #2=True`, or `none`"""
+        pairs = (word.split("=") for word in words if word != "none")
+        return {self.ref(variable): self.value(value) for variable, value in pairs}
+
+    def reads(self, words: Sequence[str]) -> dict[Ref, Value]:
+        """`reads #0=1`"""
+        return self.pairs(words[1:])
+
+    def verdict(self, words: Sequence[str]) -> Verdict:
+        """`commits writes #0=2 news none result 1`, `throws 4` or `blocks`"""
+        if words[0] == "commits":
+            news, result = words.index("news"), words.index("result")
+            made = [self.value(word) for word in words[news + 1 : result] if word != "none"]
+            return Commits(self.pairs(words[2:news]), made, self.value(words[result + 1]))
+        if words[0] == "throws":
+            return Throws(fault(words[1]))
+        if words == ["blocks"]:
+            return Blocks()
+        raise ValueError("no verdict")
+
+    def status(self, words: Sequence[str]) -> Status:
+        """A line of `show`: `1 new`, `1 stale VERDICT` or `1 current VERDICT`"""
+        ticket, state = int(words[0]), words[1]
+        if state == "new":
+            return New(ticket)
+        if state == "stale":
+            return Stale(ticket, self.verdict(words[2:]))
+        if state == "current":
+            return Current(ticket, self.verdict(words[2:]))
+        raise ValueError("no status")
+
+    def statuses(self, lines: Sequence[str]) -> list[Status]:
+        """The lines of `show`"""
+        return [self.status(line.split(" ")) for line in counted(lines)]
+
+    def finished(self, words: Sequence[str]) -> Finished | FinishedThrows:
+        """`finished 3 result () stale 1 2` or `finished 3 throws 4`"""
+        ticket = int(words[1])
+        if words[2] == "throws":
+            return FinishedThrows(ticket, fault(words[3]))
+        stale = [int(word) for word in words[words.index("stale") + 1 :] if word != "none"]
+        return Finished(ticket, self.value(words[words.index("result") + 1]), stale)
+
+    def cell(self, line: str) -> Cell:
+        """A line of `store`: `#0 x : Int = 1 count 0`"""
+        found = _CELL.fullmatch(line)
+        if not found:
+            raise ValueError("no variable")
+        number, name, kind, value, count = found.groups()
+        return Cell(Ref(int(number), name), name, kind, self.value(value), int(count))
+
+    def cells(self, lines: Sequence[str]) -> list[Cell]:
+        """The lines of `store`"""
+        return [self.cell(line) for line in counted(lines)]
+
+    def refusal(self, words: Sequence[str], command: str, text: str) -> Refused:
+        """`refused NAME`, with a place or a `#id` after it: the refusal of the command with this argument."""
+        name = words[1]
+        place: int | None = None
+        variable: Ref | None = None
+        if len(words) > 2 and words[2].startswith("#"):
+            variable = self.ref(words[2])
+        elif len(words) > 2:
+            place = int(words[2])
+        found = hint(name, place, variable, command, text, self.types, self.first)
+        return Refused(name, place, variable, command, text, found)
+
+
+def second(words: Sequence[str]) -> int:
+    """The number after the first word, as in `ticket 1`"""
+    return int(words[1])
+
+
+def fault(word: str) -> Fault:
+    """What a block throws: a number, or `overflow`"""
+    return "overflow" if word == "overflow" else int(word)
+
+
+def jobs(words: Sequence[str]) -> list[Job]:
+    """`jobs 1=4 2=5`, or `jobs none`"""
+    pairs = (word.split("=") for word in words[1:] if word != "none")
+    return [Job(int(number), int(ticket)) for number, ticket in pairs]
+
+
+def settled(words: Sequence[str]) -> Settled | Refused:
+    """`settled 1 evaluations 2`, or the same after `stopped HistoryFull`"""
+    if words[0] == "stopped":
+        return Stopped(words[1], counts(words[2:]))
+    return counts(words)
+
+
+def counts(words: Sequence[str]) -> Settled:
+    """`settled 1 evaluations 2`"""
+    if [words[0], words[2]] != ["settled", "evaluations"]:
+        raise ValueError("no counts")
+    return Settled(int(words[1]), int(words[3]))
+
+
+def counted(lines: Sequence[str]) -> Sequence[str]:
+    """The lines before the last one, which counts them, as `cells 3`"""
+    if int(lines[-1].split(" ")[1]) != len(lines) - 1:
+        raise ValueError("another number of lines")
+    return lines[:-1]
+
+
+def history(lines: Sequence[str]) -> str:
+    """The lines before the last one, which answers `try return ()`, as one text"""
+    if len(lines) < 2 or lines[-1] != "commits writes none news none result ()":
+        raise ValueError("no history")
+    return "\n".join([*lines[:-1], ""])

@@ -1,0 +1,124 @@
+"""What a call of a `Desk` raises."""
+
+from __future__ import annotations
+
+from ._values import Ref, Settled
+
+_WIDTH = 100  # characters of a line of the caller's text that an error shows
+
+
+class DeskError(Exception):
+    """The base class of all that a call raises because of the program. Wrong arguments raise ValueError or TypeError."""
+
+
+class Refused(DeskError):
+    """The program refused a command, which changed nothing but what docs/CONSOLE.md says.
+
+    `name` is the refusal's name, as "Mismatch". `place` is the byte of `text` that caused it, counted from 0, or None.
+    `variable` is the one that an "Overtaken" names, else None. `command` is the command's word and `text` its argument
+    without leading blanks, so that `text[place]` is the cause. `hint` says what to write or do instead, or is None.
+
+    >>> try:
+    ...     desk.submit("do { a <- readTVar x; return a + 1 }")
+    ... except Refused as refused:
+    ...     print(refused)
+    Unexpected 31
+        submit do { a <- readTVar x; return a + 1 }
+                                              ^
+        hint: `return` takes one value: write `return (a + 1)`
+    """
+
+    def __init__(
+        self,
+        name: str,
+        place: int | None = None,
+        variable: Ref | None = None,
+        command: str = "",
+        text: str = "",
+        hint: str | None = None,
+    ) -> None:
+        super().__init__(name, place, variable, command, text, hint)
+        self.name, self.place, self.variable = name, place, variable
+        self.command, self.text, self.hint = command, text, hint
+
+    def __str__(self) -> str:
+        lines = [self._answer()]
+        if self.command:
+            lines += self._shown()
+        if self.hint is not None:
+            lines.append(f"hint: {self.hint}")
+        return "\n    ".join(lines)
+
+    def _answer(self) -> str:
+        """What the program printed after `refused`."""
+        if self.variable is not None:
+            return f"{self.name} #{self.variable.number}"
+        return self.name if self.place is None else f"{self.name} {self.place}"
+
+    def _shown(self) -> list[str]:
+        """The line of the command in which the place is, or its first one; below it a caret under the place."""
+        place = len(self.text.rstrip()) if self.name == "EndOfText" else self.place
+        begin = self.text.rfind("\n", 0, place or 0) + 1
+        line = self.text[begin:].partition("\n")[0].rstrip("\r").replace("\t", " ")
+        label = f"line {self.text.count(chr(10), 0, begin) + 1}: " if begin else f"{self.command} "
+        column = (place or 0) - begin
+        if len(line) > _WIDTH:
+            start = max(0, min(column - _WIDTH // 2, len(line) - _WIDTH))
+            end = start + _WIDTH
+            before, after = "... " if start else "", " ..." if end < len(line) else ""
+            line, column = before + line[start:end] + after, column - start + len(before)
+        shown = (label + line).rstrip()
+        return [shown] if place is None else [shown, " " * (len(label) + column) + "^"]
+
+
+class Stopped(Refused):
+    """A `settle` stopped before a step that was refused as `name`. What `settled` counts was done before, and stays.
+
+    >>> with Desk(max_events=1) as small:
+    ...     ticket = small.submit("retry")
+    ...     small.settle()
+    Traceback (most recent call last):
+    stmdesk.Stopped: HistoryFull, 0 finished by 0 evaluations
+    """
+
+    def __init__(self, name: str, settled: Settled) -> None:
+        super().__init__(name)
+        self.args = (name, settled)
+        self.settled = settled
+
+    def __str__(self) -> str:
+        return f"{self.name}, {self.settled.finished} finished by {self.settled.evaluations} evaluations"
+
+
+class Ended(DeskError):
+    """The program has ended, and with it the desk. `status` is its exit status, negative for a signal; `said` is the end
+    of what it wrote on standard error.
+
+    >>> Desk(workers=65).store()
+    Traceback (most recent call last):
+    stmdesk.Ended: the program ended with status 2: error: invalid value '65' for '--workers <N>': 65 is not in 1..=64
+    <BLANKLINE>
+    For more information, try '--help'.
+    """
+
+    def __init__(self, status: int, said: str) -> None:
+        super().__init__(status, said)
+        self.status, self.said = status, said
+
+    def __str__(self) -> str:
+        return f"the program ended with status {self.status}" + (f": {self.said}" if self.said else "")
+
+
+class BadAnswer(DeskError):
+    """The program printed what stmdesk never prints, so it was ended. `line` is the command, `answer` what came.
+
+    >>> print(BadAnswer("submit retry", "hello"))
+    'submit retry' was answered 'hello'
+    """
+
+    def __init__(self, line: str, answer: str) -> None:
+        super().__init__(line, answer)
+        self.line, self.answer = line, answer
+
+    def __str__(self) -> str:
+        return f"{self.line[:80]!r} was answered {self.answer[:200]!r}"

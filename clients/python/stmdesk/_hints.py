@@ -1,0 +1,426 @@
+"""Says for a refused command what to write or do instead. A hint is a guess from the text; the refusal is the program's."""
+
+from __future__ import annotations
+
+import re
+from collections.abc import Callable, Mapping
+
+from ._values import Ref
+
+_TOKEN = re.compile(r"[A-Za-z][A-Za-z0-9_']*|[0-9]+|<-|<=|==|&&|\|\||[{}();:<=+*-]")
+_COMPARISONS = {"==", "<", "<="}
+_OPERATORS = {"+", "-", "*", "&&", "||"} | _COMPARISONS
+_TAKE_VALUE = {"return", "throw", "newTVar", "readTVar"}
+_ACTIONS = _TAKE_VALUE | {"writeTVar", "retry", "orElse", "catch", "do", "if"}
+_RESERVED = _ACTIONS | {"let", "then", "else", "True", "False", "Int", "Bool", "TVar"}
+_BEGIN_ACTION = {"", "{", ";", "then", "else", "<-", "("}
+_LIST = "return, readTVar, writeTVar, newTVar, retry, throw, orElse, catch, if, do or a bracket"
+
+# What to write for words of Haskell that the language doesn't have.
+_WORDS = {
+    "check": "there is no `check`: write `if a then return () else retry`",
+    "when": "there is no `when`: write `if a then b else return ()`",
+    "unless": "there is no `unless`: write `if a then return () else b`",
+    "pure": "there is no `pure`: write `return`",
+    "not": "there is no `not`: write `(a == False)`",
+    "modifyTVar": "there is no `modifyTVar`: write `a <- readTVar x; writeTVar x (a + 1)`",
+    "stateTVar": "there is no `stateTVar`: write `a <- readTVar x; writeTVar x (a + 1); return a`",
+    "swapTVar": "there is no `swapTVar`: write `a <- readTVar x; writeTVar x b; return a`",
+    "newTVarIO": "there is no `newTVarIO`: write `newTVar`",
+    "readTVarIO": "there is no `readTVarIO`: write `readTVar`",
+    "atomically": "leave `atomically` out: every block is atomic",
+    "throwSTM": "there is no `throwSTM`: write `throw`",
+    "catchSTM": "there is no `catchSTM`: write `catch (a) e (b)`",
+    "and": "there is no `and`: write `&&`",
+    "or": "there is no `or`: write `||`",
+    "div": "there is no division",
+    "mod": "there is no division",
+    "true": "write `True`",
+    "false": "write `False`",
+    "in": "there is no `in`: write `let a = 1;` before the next statement of a `do { .. }`",
+    "case": "there is no `case`: write `if`",
+    "where": "there is no `where`: write `let a = 1;` in a `do { .. }`",
+}
+_WORDS["modifyTVar'"] = _WORDS["modifyTVar"]
+
+# What to write for a byte that begins no token. The longest that fits is taken.
+_BYTES = {
+    ">>": "there is no `>>` and no `>>=`: write `do { a <- readTVar x; writeTVar x (a + 1) }`",
+    ">=": "there is no `>=`: write `b <= a` for `a >= b`",
+    ">": "there is no `>`: write `b < a` for `a > b`",
+    "/=": "there is no `/=`: write `(a == b) == False`",
+    "!=": "there is no `!=`: write `(a == b) == False`",
+    "/": "there is no division",
+    "%": "there is no division",
+    "`": "there are no infix words: write `orElse (a) (b)`",
+    "$": "there is no `$`: write brackets",
+    "\\": "there are no functions",
+    '"': "there is no text: values are numbers, True, False, () and references",
+    "'": "there is no text: values are numbers, True, False, () and references",
+    "[": "there are no lists",
+    "]": "there are no lists",
+    ",": "there are no pairs",
+    "#": "a block names variables by their declared names",
+    "_": "a name begins with a small letter",
+    "|": "write `||`",
+    "&": "write `&&`",
+    "=": "write `==`",
+}
+
+# What each refusal means, if its text shows no mistake of the above.
+_NAMES = {
+    "Already": "its ticket has been delivered already",
+    "Argument": "the argument is one number from 0 to 4294967295",
+    "BadNumber": "a number is at most 9223372036854775807, and at least (-9223372036854775808)",
+    "Blocks": "the block retries; it can finish after a variable that it read changes",
+    "CellsFull": "the store has its 1,000,000 variables: this desk can make no more",
+    "EndOfText": "the text ends too early",
+    "Gone": "its ticket waits no more",
+    "HistoryFull": "the history has all the events that it may have: start a new desk",
+    "JobsFull": "a desk hands out at most 65,536 jobs: use `eval`, which needs none",
+    "Late": "declare all variables before the first other command",
+    "LineTooLong": "a command has at most 65,536 bytes",
+    "NameTooLong": "a name has at most 32 bytes",
+    "NoJob": "`take` has handed out no job of this number",
+    "NoTicket": "no block waits under this ticket: it finished, or was cancelled, or never was",
+    "NotAVariable": "a variable is needed here, and this is a value",
+    "NotAscii": "only ASCII characters are allowed",
+    "NotEvaluated": "the block was never evaluated: call `eval` first",
+    "NotOut": "only a ticket that `take` handed out can be handed back",
+    "Stale": "a variable that the block read has changed: call `eval` first",
+    "TableFull": "a desk has at most 1,000,000 variables",
+    "TooDeep": "at most 64 of `do`, `if`, `orElse`, `catch` and `(` can be open at once: nest `orElse` as a balanced tree",
+    "TooLarge": "a block has at most 4,096 tokens",
+    "Twice": "a variable of this name is declared already",
+    "TypeOfValue": "the value hasn't the type that is declared",
+    "TypeTooDeep": "a type has at most 8 `TVar`",
+    "Untyped": "`retry` and `throw` return nothing that could be bound",
+    "WaitingFull": "65,536 blocks wait: finish or cancel some",
+}
+
+
+def hint(
+    name: str,
+    place: int | None,
+    variable: Ref | None,
+    command: str,
+    text: str,
+    types: Mapping[str, str],
+    first: str | None,
+) -> str | None:
+    """The hint for the refusal of a command with this text, or None. `types` has the declared variables with their types,
+    `first` is the first command that was no declaration."""
+    if variable is not None:
+        return f"`{variable}` has another value now than the job read"
+    if name == "Late" and first:
+        return f"declare all variables before the first other command, which was `{first}`"
+    if name == "NotAscii":
+        at = next((i for i, letter in enumerate(text) if not letter.isascii()), None)
+        return _NAMES[name] if at is None else f"{text[at]!r} at {at} isn't ASCII"
+    if name == "BadByte" and place is not None:
+        return _bad_byte(text, place)
+    if name == "Argument" and command in ("eval", "show", "store", "settle", "history"):
+        return f"`{command}` takes no argument"
+    found = None
+    if command in ("tvar", "try", "looks", "submit"):
+        tokens = _Tokens(text, place, types)
+        is_declaration = command == "tvar"
+        rules: dict[str, Callable[[], str | None]] = {
+            "EndOfText": tokens.declaration if is_declaration else tokens.end_of_text,
+            "Mismatch": tokens.mismatch,
+            "NotAVariable": tokens.not_a_variable,
+            "Unexpected": tokens.declaration if is_declaration else tokens.unexpected,
+            "Unknown": tokens.unknown,
+        }
+        found = rules[name]() if name in rules else None
+    return found or _NAMES.get(name)
+
+
+def _bad_byte(text: str, place: int) -> str | None:
+    before, after = text[:place], text[place:]
+    if before.endswith("-") and after.startswith(">"):
+        return "there are no functions and no `->`"
+    if before.endswith("<") and after.startswith(">"):
+        return _BYTES["/="]
+    sign = next((it for it in (after[:2], after[:1]) if it in _BYTES), None)
+    left = re.search(r"(?:^|[(;{=]|&&|\|\||\b(?:if|return))\s*([\w']+)\s*$", before)
+    right = re.match(r"\s*([\w']+)\s*(?:$|[);}]|&&|\|\||(?:then|else)\b)", after[len(sign) :]) if sign else None
+    if left and right and sign in ("/=", "!="):
+        return f"there is no `{sign}`: write `({left[1]} == {right[1]}) == False`"
+    if left and right and sign in (">", ">="):
+        return f"there is no `{sign}`: write `{right[1]} {sign.replace('>', '<')} {left[1]}`"
+    return _BYTES[sign] if sign else None
+
+
+class _Tokens:
+    """The tokens of a text, and `at`, which of them is at the place; the rules that look for a mistake there."""
+
+    def __init__(self, text: str, place: int | None, types: Mapping[str, str]) -> None:
+        found = list(_TOKEN.finditer(text))
+        self.text, self.types = text, types
+        self.words = [it[0] for it in found]
+        self.spans = [it.span() for it in found]
+        self.at = next((i for i, (begin, _) in enumerate(self.spans) if begin == place), len(found))
+        self.word, self.before, self.after = self._get(self.at), self._get(self.at - 1), self._get(self.at + 1)
+
+    # What the text has.
+
+    def _get(self, index: int) -> str:
+        return self.words[index] if 0 <= index < len(self.words) else ""
+
+    def _source(self, begin: int, end: int) -> str:
+        """The text of the tokens from `begin` to before `end`."""
+        return " ".join(self.text[self.spans[begin][0] : self.spans[end - 1][1]].split())
+
+    def _atom_before(self, index: int) -> int | None:
+        """The first token of the value that ends before the token `index`; None if none ends there."""
+        word = self._get(index - 1)
+        if word == ")":
+            depth = 0
+            for i in range(index - 1, -1, -1):
+                depth += {")": 1, "(": -1}.get(self.words[i], 0)
+                if not depth:
+                    return i
+            return None
+        return index - 1 if word in ("True", "False") or self._is_name(word) or word.isdigit() else None
+
+    def _head(self, index: int) -> int:
+        """The token before the brackets that open before the token `index`."""
+        index -= 1
+        while self._get(index) == "(":
+            index -= 1
+        return index
+
+    def _is_name(self, word: str) -> bool:
+        return word[:1].islower() and word not in _RESERVED
+
+    def _expression(self, begin: int) -> str:
+        """The text of the expression from the token `begin` on."""
+        depth, end = 0, begin
+        while end < len(self.words):
+            word = self.words[end]
+            depth += {"(": 1, ")": -1}.get(word, 0)
+            if depth < 0 or not depth and word in (";", "}", "{", "then", "else"):
+                break
+            end += 1
+        return self._source(begin, end)
+
+    def _open(self) -> list[int]:
+        """The brackets and braces that are open at the place."""
+        found: list[int] = []
+        for index, word in enumerate(self.words[: self.at]):
+            if word in "({":
+                found.append(index)
+            elif word in ")}" and found:
+                found.pop()
+        return found
+
+    def _is_in_do(self) -> bool:
+        found = self._open()
+        return bool(found) and self.words[found[-1]] == "{"
+
+    def _lacks_else(self) -> bool:
+        """Whether in the innermost brackets around the place an `if` has no `else` yet."""
+        begin = self._open()[-1] if self._open() else 0
+        depth = lacks = 0
+        for word in self.words[begin + 1 if self._open() else 0 : self.at]:
+            depth += (word in "({") - (word in ")}")
+            if not depth:
+                lacks += (word == "then") - (word == "else")
+        return lacks > 0
+
+    def _locals(self) -> set[str]:
+        """The names that are bound before the place."""
+        found = set()
+        for index, word in enumerate(self.words[: self.at]):
+            is_thrown = self._get(index - 1) == ")" and self._get(index + 1) == "("
+            if self._get(index + 1) == "<-" or self._get(index - 1) == "let" or is_thrown:
+                found.add(word)
+        return found
+
+    def _unread(self, word: str) -> str | None:
+        """The hint for a declared variable in place of its value."""
+        if word not in self.types or word in self._locals():
+            return None
+        kind = self.types[word]
+        kind = f"({kind})" if " " in kind else kind
+        return f"`{word}` is a variable (TVar {kind}), not its value: read it first, `a <- readTVar {word}`"
+
+    def _word_of_haskell(self, word: str) -> str | None:
+        return None if word in self.types or word in self._locals() else _WORDS.get(word)
+
+    # The rules.
+
+    def declaration(self) -> str:
+        if self.word == "-" and self.after.isdigit():
+            return f"a negative number needs brackets: write `(-{self.after})`"
+        if self.at == 0 and self.word in _RESERVED:
+            return f"`{self.word}` is a word of the language: choose another name"
+        return "a declaration is `name : type = value`, as `x : Int = 1`; types are Int, Bool, () and TVar t"
+
+    def unexpected(self) -> str | None:
+        return (
+            self._word_of_haskell(self.word)
+            or self._word_of_haskell(self.before)
+            or self._operator()
+            or self._brackets()
+            or self._statement()
+            or self._action()
+            or self._too_many()
+        )
+
+    def _operator(self) -> str | None:
+        """An operator for which a value lacks brackets."""
+        if self._get(self.at - 2) == "(" and self.before == "-" and self._is_name(self.word):
+            return f"only a number can follow `(-`: write `(0 - {self.word})`"
+        if self.word not in _OPERATORS:
+            return None
+        if self.word == "-" and self.after == "-" and self.spans[self.at][1] == self.spans[self.at + 1][0]:
+            return "a block has no comments"
+        atom = self._atom_before(self.at)
+        head = self._get(atom - 1) if atom is not None else ""
+        if self.word == "-" and (atom is None or head == "writeTVar"):
+            is_number = self.after.isdigit()
+            return f"a negative number needs brackets: write `(-{self.after})`" if is_number else "write `(0 - a)` for `-a`"
+        if atom is None:
+            return None
+        if head == "readTVar":
+            return f"`readTVar` is an action, not a value: bind it first, `a <- {self._source(atom - 1, self.at)}`"
+        if head in _TAKE_VALUE:
+            return f"`{head}` takes one value: write `{head} ({self._expression(atom)})`"
+        variable = self._atom_before(atom)
+        if variable is not None and self._get(variable - 1) == "writeTVar":
+            return f"`writeTVar` takes one value: write `{self._source(variable - 1, atom)} ({self._expression(atom)})`"
+        if self.word in _COMPARISONS:
+            return "comparisons can't be chained: write `a < b && b < c`"
+        return None
+
+    def _brackets(self) -> str | None:
+        """Missing braces of `do`, brackets of `orElse` and `catch`, a missing `else`, a `;` too many."""
+        if self.before == "do" and self.word != "{":
+            return "`do` needs braces and semicolons: `do { a <- readTVar x; return a }`"
+        if self.word == "}" and self.before in (";", "{"):
+            return "no `;` comes after the last action" if self.before == ";" else "`do` needs an action: `do { return () }`"
+        if self.before in _TAKE_VALUE and self.word in (";", "}", ")", "else"):
+            return f"`{self.before}` takes one value: `{self.before} ()`" if self.before == "return" else None
+        begin = self._atom_before(self.at)
+        around = self._get(begin - 1) if begin is not None and self.before == ")" else self.before
+        is_infix = self.word == "orElse" and self.before not in _BEGIN_ACTION
+        if is_infix or around == "orElse" and self.word != "(":
+            return "`orElse` comes first and takes two actions in brackets: `orElse (a) (b)`"
+        names_thrown = self.before == ")" and self._is_name(self.word)
+        lacks_handler = self._is_name(self.before) and self._get(self.at - 2) == ")" and "catch" in self.words
+        if around == "catch" and not names_thrown or lacks_handler:
+            return "`catch` takes an action, a name for the number thrown, and a handler: `catch (a) e (b)`"
+        if self.word in (";", "}", ")") and self._lacks_else():
+            return "`if` needs its `else`: `else return ()`"
+        return self._unclosed() if self.word in (";", "}", ")") else None
+
+    def _unclosed(self) -> str | None:
+        """The innermost bracket or brace that is open, if the token doesn't close it."""
+        found = self._open()
+        if not found:
+            return f"no bracket is open that `{self.word}` could close" if self.word in ("}", ")") else None
+        bracket = self.words[found[-1]]
+        closes = bracket + self.word in ("()", "{}") or bracket == "{" and self.word == ";"
+        return None if closes else f"the `{bracket}` at {self.spans[found[-1]][0]} isn't closed"
+
+    def _statement(self) -> str | None:
+        """Statements that aren't in a `do`, or that no `;` separates."""
+        names_result = self._is_name(self.word) and self.after == "<-"
+        begins = self.word in _ACTIONS or self.word == "let" or names_result
+        ends = self._atom_before(self.at) is not None or self.before in ("}", "retry")
+        if begins and ends and self._is_in_do():
+            return f"a `;` is missing before `{self.word}`"
+        if self.word == ";" or begins and (ends or names_result or self.word == "let"):
+            return "several actions need a `do`: `do { a <- readTVar x; writeTVar x (a + 1); return a }`"
+        if self.word in ("=", ":") and self._is_name(self.before):
+            if self.after in _ACTIONS:
+                return f"write `{self.before} <- {self.after} ..`"
+            return f"write `writeTVar {self.before} ..` to write a variable, `let {self.before} = ..` to name a value"
+        return None
+
+    def _action(self) -> str | None:
+        """An action in place of a value, or a value in place of an action."""
+        head = self._get(self._head(self.at))
+        if self.word in _ACTIONS and (head in _OPERATORS | _TAKE_VALUE | {"=", "if", "writeTVar"}):
+            if self.word == "if":
+                return "`if` chooses between actions: write `if a then return b else return c`"
+            return f"`{self.word}` is an action, not a value: bind its result first, `a <- {self.word} ..`"
+        if self.before == "<-":
+            return f"`<-` names the result of an action; write `let {self._get(self.at - 2)} = ..` to name a value"
+        is_capital = self.word[:1].isupper() and self.word not in _RESERVED
+        if is_capital:
+            return f"`{self.word}`: a name begins with a small letter"
+        if self.word and self.before in _BEGIN_ACTION and self.word not in _RESERVED | set("(){};"):
+            return f"an action is needed here, which begins with {_LIST}"
+        return None
+
+    def _too_many(self) -> str | None:
+        """A second value after an action that takes one."""
+        atom = self._atom_before(self.at)
+        head = self._get(atom - 1) if atom is not None else ""
+        return f"`{head}` takes one value" if head in _TAKE_VALUE and self.word else None
+
+    def end_of_text(self) -> str | None:
+        if not self.words:
+            return "the text is empty"
+        atom = self._atom_before(len(self.words))
+        if "writeTVar" in (self.words[-1], self._get(atom - 1) if atom is not None else ""):
+            return "`writeTVar` takes a variable and a value"
+        if self.words[-1] in _TAKE_VALUE:
+            return f"`{self.words[-1]}` takes one value"
+        if self._lacks_else():
+            return "`if` needs its `else`: `else return ()`"
+        return self._unclosed()
+
+    def mismatch(self) -> str | None:
+        index = self._head(self.at)
+        head = self._get(index)
+        if head == "==":
+            left = self._atom_before(index)
+            found = self._unread(self.words[left]) if left == index - 1 else None
+            return found or self._unread(self.word) or "both sides of `==` must have one type"
+        found = self._unread(self.word)
+        variable = self._get(index) if self._get(index - 1) == "writeTVar" else ""
+        if variable and variable in self.types and variable not in self._locals():
+            return f"`{variable}` holds {self.types[variable]}" + (f"; {found}" if found else "")
+        if found:
+            return found
+        for sign in (head, self.after):
+            if sign in _OPERATORS - {"=="}:
+                return f"`{sign}` takes {'Bool' if sign in ('&&', '||') else 'Int'} on both sides"
+        if head == "throw":
+            return "`throw` takes an Int"
+        if head == "if":
+            return "the condition must be a Bool, as `a == 1`"
+        if self.word in _ACTIONS and self._is_name(head) and "catch" in self.words:
+            return "the handler of a `catch` must return the type of its action"
+        if self.word in _ACTIONS and head in ("else", ")"):
+            return "both branches must return one type"
+        return None
+
+    def not_a_variable(self) -> str | None:
+        if self._is_name(self.word) and self.word in self._locals():
+            return f"`{self.word}` is a value, not a variable: use it as it is"
+        return None
+
+    def unknown(self) -> str:
+        if self.word in _WORDS and self.word not in self.types:
+            return _WORDS[self.word]
+        known = sorted(set(self.types) | self._locals()) if len(self.types) <= 1000 else []
+        close = [it for it in known if it.lower() == self.word.lower() or _differ_by_one(it, self.word)]
+        if close:
+            return f"nothing of this name is declared; did you mean `{close[0]}`?"
+        names = f"; the names here are {', '.join(known)}" if 0 < len(known) <= 12 else ""
+        return f"nothing of this name is declared{names}"
+
+
+def _differ_by_one(a: str, b: str) -> bool:
+    """Whether one letter more, less or other makes one of the words the other."""
+    if len(a) > len(b):
+        a, b = b, a
+    if len(b) - len(a) > 1 or len(a) < 2:
+        return False
+    same = next((i for i, (one, other) in enumerate(zip(a, b)) if one != other), len(a))
+    return a[same + (len(a) == len(b)) :] == b[same + 1 :]

@@ -1,0 +1,201 @@
+"""What the program's answers are in Python: references, verdicts, states of tickets, finishes, variables."""
+
+from __future__ import annotations
+
+from dataclasses import dataclass, field
+from typing import Literal
+
+
+@dataclass(frozen=True, order=True)
+class Ref:
+    """The reference `#number` to a variable of the store.
+
+    Two references are equal if their numbers are. `name` is the variable's declared name, or None for a variable that a
+    block made.
+
+    >>> slot = Ref(0, "slot")
+    >>> print(slot, Ref(7))
+    slot #7
+    >>> slot, slot == Ref(0)
+    (Ref(0, 'slot'), True)
+    """
+
+    number: int
+    name: str | None = field(default=None, compare=False)
+
+    def __repr__(self) -> str:
+        return f"Ref({self.number})" if self.name is None else f"Ref({self.number}, {self.name!r})"
+
+    def __str__(self) -> str:
+        return f"#{self.number}" if self.name is None else self.name
+
+
+@dataclass(frozen=True, order=True)
+class NewRef:
+    """The reference `newN` to a variable that the block itself makes: N counts from 0. A finish turns it into a `Ref`.
+
+    >>> print(NewRef(0))
+    new0
+    """
+
+    number: int
+
+    def __repr__(self) -> str:
+        return f"NewRef({self.number})"
+
+    def __str__(self) -> str:
+        return f"new{self.number}"
+
+
+Value = int | bool | None | Ref | NewRef
+Fault = int | Literal["overflow"]
+
+
+@dataclass(frozen=True)
+class Commits:
+    """A block returns. It would write `writes`, in ascending order of variables, make variables that hold `news`, and
+    return `result`.
+
+    >>> desk.try_("writeTVar x 5")
+    Commits(writes={Ref(0, 'x'): 5}, news=[], result=None)
+    """
+
+    writes: dict[Ref, Value]
+    news: list[Value]
+    result: Value
+
+
+@dataclass(frozen=True)
+class Throws:
+    """A block throws a number, or "overflow" after arithmetic out of range. It would change nothing.
+
+    >>> desk.try_("throw 4")
+    Throws(fault=4)
+    """
+
+    fault: Fault
+
+
+@dataclass(frozen=True)
+class Blocks:
+    """A block retries: it can't go on before a variable that it read changes.
+
+    >>> desk.try_("retry")
+    Blocks()
+    """
+
+
+Verdict = Commits | Throws | Blocks
+
+
+@dataclass(frozen=True)
+class New:
+    """A waiting block that was never evaluated.
+
+    >>> ticket = desk.submit("readTVar x")
+    >>> desk.show()
+    [New(ticket=1)]
+    """
+
+    ticket: int
+
+
+@dataclass(frozen=True)
+class Stale:
+    """A waiting block with its last verdict, after which a variable that it read has changed.
+
+    >>> reader, writer = desk.submit("readTVar x"), desk.submit("writeTVar x 5")
+    >>> desk.eval(), desk.finish(writer).stale
+    (2, [1])
+    >>> desk.show()
+    [Stale(ticket=1, verdict=Commits(writes={}, news=[], result=1))]
+    """
+
+    ticket: int
+    verdict: Verdict
+
+
+@dataclass(frozen=True)
+class Current:
+    """A waiting block with its verdict on the present store.
+
+    >>> ticket, evaluated = desk.submit("readTVar x"), desk.eval()
+    >>> desk.show()
+    [Current(ticket=1, verdict=Commits(writes={}, news=[], result=1))]
+    """
+
+    ticket: int
+    verdict: Verdict
+
+
+Status = New | Stale | Current
+
+
+@dataclass(frozen=True)
+class Job:
+    """A ticket that `take` handed out, with the job's number for `deliver`.
+
+    >>> ticket = desk.submit("readTVar x")
+    >>> desk.take(1)
+    [Job(number=1, ticket=1)]
+    """
+
+    number: int
+    ticket: int
+
+
+@dataclass(frozen=True)
+class Finished:
+    """A block finished: its result, in which each `NewRef` is a `Ref` now, and the tickets that became stale by it, in
+    ascending order.
+
+    >>> ticket, evaluated = desk.submit("do { r <- newTVar 3; return r }"), desk.eval()
+    >>> desk.finish(ticket)
+    Finished(ticket=1, result=Ref(1), stale=[])
+    """
+
+    ticket: int
+    result: Value
+    stale: list[int]
+
+
+@dataclass(frozen=True)
+class FinishedThrows:
+    """A block finished by throwing. It changed nothing.
+
+    >>> ticket, evaluated = desk.submit("throw 4"), desk.eval()
+    >>> desk.finish(ticket)
+    FinishedThrows(ticket=1, fault=4)
+    """
+
+    ticket: int
+    fault: Fault
+
+
+@dataclass(frozen=True)
+class Settled:
+    """How many blocks a `settle` finished, and how many evaluations that took.
+
+    >>> ticket = desk.submit("readTVar x")
+    >>> desk.settle()
+    Settled(finished=1, evaluations=1)
+    """
+
+    finished: int
+    evaluations: int
+
+
+@dataclass(frozen=True)
+class Cell:
+    """A variable: its reference, its name (None if a block made it), its type as text, its value, and how many times a
+    finished block changed it.
+
+    >>> desk.store()
+    [Cell(variable=Ref(0, 'x'), name='x', type='Int', value=1, count=0)]
+    """
+
+    variable: Ref
+    name: str | None
+    type: str
+    value: Value
+    count: int
