@@ -18,6 +18,7 @@ RUNS = [
     ("drawings of histories", "tests/run_timeline", "stmdesk", ["stmdesk"]),
     (EXAMPLE, "tests/run_library", None, ["stm_desk"]),
     ("names of definitions", "tests/spec_names", None, []),
+    ("names of clauses in docs/PROOFS.md", "tests/clause_names", None, ["stmdesk"]),
     ("calls", "tests/run_calls", "stm_calls", ["stm_calls"]),
     ("each allocation refused in turn", "tests/refused", None, ["stmdesk", "stm_calls"]),
 ]

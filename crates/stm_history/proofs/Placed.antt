@@ -10,7 +10,7 @@ use Rattle.stm_history.specs.declared.waiting.Held.{Held}
 use Rattle.stm_history.specs.declared.waiting.Waiting.{Waiting}
 use Rattle.stm_history.specs.declared.places.Slot.{Slot}
 use Rattle.stm_history.specs.Entries.{kept_at, kept, lose, with_held, AllBelow, first_above, kept_ends, ends_under}
-use Rattle.stm_history.specs.Places.{owned, found_in, held_at, listed, entries_from, OthersStay, has_end, one_of, chunk_count, AreKept}
+use Rattle.stm_history.specs.Places.{waiting_in, waiting_found, held_at, listed, entries_from, OtherTicketsStay, has_end, one_of, chunk_count, AreInPlace}
 use Rattle.stm_terms.specs.declared.verdicts.Verdict.{Verdict}
 
 -- ---- one step of the lists, by whether the ticket is that of the head
@@ -57,7 +57,7 @@ hold_above t n held (p ∷ ps) s h =
     let e : nat_eq t n ≡ false = grind (arith, nat_tests) in
     hold_other t n held (held_at n p s) (entries_from (suc n) ps s) e ∙ ap (listed n (held_at n p s)) (hold_above t (suc n) held ps s (omega arith))
 
-stay_above : (t n : ℕ) (ps : List ℕ) (s r : List Slot) → OthersStay t s r → t < n → entries_from n ps r ≡ entries_from n ps s
+stay_above : (t n : ℕ) (ps : List ℕ) (s r : List Slot) → OtherTicketsStay t s r → t < n → entries_from n ps r ≡ entries_from n ps s
 stay_above t n [] s r o h = refl
 stay_above t n (p ∷ ps) s r o h =
     let e : nat_eq n t ≡ false = grind (arith, nat_tests) in
@@ -77,7 +77,7 @@ kept_from t n (suc k) (p ∷ ps) s h =
 pub kept_entries : (t : ℕ) (ps : List ℕ) (s : List Slot) → kept_at t (entries_from 0 ps s) ≡ held_at t (get_or ps t 0) s
 kept_entries t ps s = kept_from t 0 t ps s (omega arith)
 
-lost_from : (t n k : ℕ) (ps : List ℕ) (s r : List Slot) → t ≡ n + k → OthersStay t s r → held_at t (get_or ps k 0) r ≡ None → entries_from n ps r ≡ lose t (entries_from n ps s)
+lost_from : (t n k : ℕ) (ps : List ℕ) (s r : List Slot) → t ≡ n + k → OtherTicketsStay t s r → held_at t (get_or ps k 0) r ≡ None → entries_from n ps r ≡ lose t (entries_from n ps s)
 lost_from t n k [] s r h o g = refl
 lost_from t n zero (p ∷ ps) s r h o g =
     let e : nat_eq t n ≡ true = grind (arith, nat_tests) in
@@ -91,10 +91,10 @@ lost_from t n (suc k) (p ∷ ps) s r h o g =
     ap₂ (listed n) (o n p f) (lost_from t (suc n) k ps s r (omega arith) o g)
     ∙ sym (lose_other t n (held_at n p s) (entries_from (suc n) ps s) e)
 
-pub lost_entries : (t : ℕ) (ps : List ℕ) (s r : List Slot) → OthersStay t s r → held_at t (get_or ps t 0) r ≡ None → entries_from 0 ps r ≡ lose t (entries_from 0 ps s)
+pub lost_entries : (t : ℕ) (ps : List ℕ) (s r : List Slot) → OtherTicketsStay t s r → held_at t (get_or ps t 0) r ≡ None → entries_from 0 ps r ≡ lose t (entries_from 0 ps s)
 lost_entries t ps s r o g = lost_from t 0 t ps s r (omega arith) o g
 
-held_from : (t n k : ℕ) (held : Held) (ps : List ℕ) (s r : List Slot) → t ≡ n + k → OthersStay t s r → held_at t (get_or ps k 0) r ≡ option_map (kept held) (held_at t (get_or ps k 0) s)
+held_from : (t n k : ℕ) (held : Held) (ps : List ℕ) (s r : List Slot) → t ≡ n + k → OtherTicketsStay t s r → held_at t (get_or ps k 0) r ≡ option_map (kept held) (held_at t (get_or ps k 0) s)
     → entries_from n ps r ≡ with_held t held (entries_from n ps s)
 held_from t n k held [] s r h o g = refl
 held_from t n zero held (p ∷ ps) s r h o g =
@@ -109,7 +109,7 @@ held_from t n (suc k) held (p ∷ ps) s r h o g =
     ap₂ (listed n) (o n p f) (held_from t (suc n) k held ps s r (omega arith) o g)
     ∙ sym (hold_other t n held (held_at n p s) (entries_from (suc n) ps s) e)
 
-pub held_entries : (t : ℕ) (held : Held) (ps : List ℕ) (s r : List Slot) → OthersStay t s r → held_at t (get_or ps t 0) r ≡ option_map (kept held) (held_at t (get_or ps t 0) s)
+pub held_entries : (t : ℕ) (held : Held) (ps : List ℕ) (s r : List Slot) → OtherTicketsStay t s r → held_at t (get_or ps t 0) r ≡ option_map (kept held) (held_at t (get_or ps t 0) s)
     → entries_from 0 ps r ≡ with_held t held (entries_from 0 ps s)
 held_entries t held ps s r o g = held_from t 0 t held ps s r (omega arith) o g
 
@@ -133,7 +133,7 @@ listed_append : (n : ℕ) (o : Option Waiting) (es fs : List (ℕ × Waiting)) �
 listed_append n None es fs = refl
 listed_append n (Some w) es fs = refl
 
-added_from : (t n k p : ℕ) (w : Waiting) (ps : List ℕ) (s r : List Slot) → t ≡ n + k → k < length ps → OthersStay t s r → held_at t p r ≡ Some w → AllBelow t (entries_from n ps s)
+added_from : (t n k p : ℕ) (w : Waiting) (ps : List ℕ) (s r : List Slot) → t ≡ n + k → k < length ps → OtherTicketsStay t s r → held_at t p r ≡ Some w → AllBelow t (entries_from n ps s)
     → entries_from n (set ps k p) r ≡ entries_from n ps s ++ (t, w) ∷ []
 added_from t n k p w [] s r h l o g b = absurd (omega arith)
 added_from t n zero p w (q ∷ ps) s r h l o g b =
@@ -149,7 +149,7 @@ added_from t n (suc k) p w (q ∷ ps) s r h l o g b =
     ap₂ (listed n) (o n q f) (added_from t (suc n) k p w ps s r (omega arith) (omega arith) o g (below_rest t n (held_at n q s) (entries_from (suc n) ps s) b))
     ∙ listed_append n (held_at n q s) (entries_from (suc n) ps s) ((t, w) ∷ [])
 
-pub added_entries : (t p : ℕ) (w : Waiting) (ps : List ℕ) (s r : List Slot) → t < length ps → OthersStay t s r → held_at t p r ≡ Some w → AllBelow t (entries_from 0 ps s)
+pub added_entries : (t p : ℕ) (w : Waiting) (ps : List ℕ) (s r : List Slot) → t < length ps → OtherTicketsStay t s r → held_at t p r ≡ Some w → AllBelow t (entries_from 0 ps s)
     → entries_from 0 (set ps t p) r ≡ entries_from 0 ps s ++ (t, w) ∷ []
 added_entries t p w ps s r l o g b = added_from t 0 t p w ps s r (omega arith) l o g b
 
@@ -216,7 +216,7 @@ no_end : (a : Bool) → (a && false) ≡ true → false ≡ true
 no_end true h = h
 no_end false h = h
 
-found_end : (t n p : ℕ) (s : List Slot) → (nat_eq t n && kept_ends (found_in n (slice_get s p))) ≡ true → has_end t s ≡ true
+found_end : (t n p : ℕ) (s : List Slot) → (nat_eq t n && kept_ends (waiting_found n (slice_get s p))) ≡ true → has_end t s ≡ true
 found_end t n p [] h = no_end (nat_eq t n) h
 found_end t n zero (x ∷ s) h = here_end (nat_eq t n) (nat_eq x.number n) (nat_eq t x.number) x.waiting (has_end t s) (both_same t n x.number) h
 found_end t n (suc p) (x ∷ s) h = rest_end (nat_eq t x.number && kept_ends x.waiting) (has_end t s) (found_end t n p s h)
@@ -242,21 +242,21 @@ last_get (suc n) x [] h = absurd (omega arith)
 last_get zero x (y ∷ s) h = absurd (omega arith)
 last_get (suc n) x (y ∷ s) h = last_get n x s (omega arith)
 
-last_held : (n t : ℕ) (x : Slot) (s : List Slot) → n ≡ length s → held_at t (n + 1) (s ++ x ∷ []) ≡ owned t x
-last_held n t x s h = rw (add-one n) (ap (found_in t) (last_get n x s h))
+last_held : (n t : ℕ) (x : Slot) (s : List Slot) → n ≡ length s → held_at t (n + 1) (s ++ x ∷ []) ≡ waiting_in t x
+last_held n t x s h = rw (add-one n) (ap (waiting_found t) (last_get n x s h))
 
 pub last_owned : (n t : ℕ) (w : Waiting) (s : List Slot) → n ≡ length s → held_at t (n + 1) (s ++ record { number = t; waiting = Some w } ∷ []) ≡ Some w
 last_owned n t w s h =
     let e : nat_eq t t ≡ true = grind (arith, nat_tests) in
     last_held n t (record { number = t; waiting = Some w }) s h ∙ rw e refl
 
-last_other : (u p : ℕ) (x : Slot) (s : List Slot) → nat_eq u x.number ≡ false → found_in u (slice_get (s ++ x ∷ []) p) ≡ found_in u (slice_get s p)
+last_other : (u p : ℕ) (x : Slot) (s : List Slot) → nat_eq u x.number ≡ false → waiting_found u (slice_get (s ++ x ∷ []) p) ≡ waiting_found u (slice_get s p)
 last_other u zero x [] h = let e : nat_eq x.number u ≡ false = grind (arith, nat_tests) in rw e refl
 last_other u (suc p) x [] h = refl
 last_other u zero x (y ∷ s) h = refl
 last_other u (suc p) x (y ∷ s) h = last_other u p x s h
 
-pub last_others : (x : Slot) (s : List Slot) → OthersStay x.number s (s ++ x ∷ [])
+pub last_others : (x : Slot) (s : List Slot) → OtherTicketsStay x.number s (s ++ x ∷ [])
 last_others x s u zero h = refl
 last_others x s u (suc p) h = last_other u p x s h
 
@@ -303,10 +303,10 @@ above_end a i ps s h = rw (drop_all i ps h) refl
 pub kept_at_place : (t p : ℕ) (ps : List ℕ) (s : List Slot) → p ≡ get_or ps t 0 → held_at t p s ≡ kept_at t (entries_from 0 ps s)
 kept_at_place t p ps s e = ap (λ (q : ℕ). held_at t q s) e ∙ sym (kept_entries t ps s)
 
-pub lost_at_place : (t p : ℕ) (ps : List ℕ) (s r : List Slot) → p ≡ get_or ps t 0 → OthersStay t s r → held_at t p r ≡ None → entries_from 0 ps r ≡ lose t (entries_from 0 ps s)
+pub lost_at_place : (t p : ℕ) (ps : List ℕ) (s r : List Slot) → p ≡ get_or ps t 0 → OtherTicketsStay t s r → held_at t p r ≡ None → entries_from 0 ps r ≡ lose t (entries_from 0 ps s)
 lost_at_place t p ps s r e o g = lost_entries t ps s r o (ap (λ (q : ℕ). held_at t q r) (sym e) ∙ g)
 
-pub held_at_place : (t p : ℕ) (held : Held) (ps : List ℕ) (s r : List Slot) → p ≡ get_or ps t 0 → OthersStay t s r → held_at t p r ≡ option_map (kept held) (held_at t p s)
+pub held_at_place : (t p : ℕ) (held : Held) (ps : List ℕ) (s r : List Slot) → p ≡ get_or ps t 0 → OtherTicketsStay t s r → held_at t p r ≡ option_map (kept held) (held_at t p s)
     → entries_from 0 ps r ≡ with_held t held (entries_from 0 ps s)
 held_at_place t p held ps s r e o g =
     held_entries t held ps s r o (subst (λ (q : ℕ). held_at t q r ≡ option_map (kept held) (held_at t q s)) e g)
@@ -374,8 +374,8 @@ above_skip a i ps s e =
     none_of u (held_at u (get_or ps u 0) s) (entries_from 0 ps s) (kept_entries u ps s) (ap (λ (b : ℕ). chunk_count b (entries_from 0 ps s)) same ∙ e))
 
 -- ---- what is kept
-pub kept_lost : (t p count : ℕ) (chunk_counts left : List ℕ) (blocks : Verdict) (w : Waiting) (ps : List ℕ) (s r : List Slot) → p ≡ get_or ps t 0 → OthersStay t s r → held_at t p r ≡ None → Some w ≡ held_at t p s
-    → ((b : ℕ) → get_or left b 0 + one_of t b ≡ get_or chunk_counts b 0) → AreKept ps s count chunk_counts blocks → AreKept ps r (count - 1) left blocks
+pub kept_lost : (t p count : ℕ) (chunk_counts left : List ℕ) (blocks : Verdict) (w : Waiting) (ps : List ℕ) (s r : List Slot) → p ≡ get_or ps t 0 → OtherTicketsStay t s r → held_at t p r ≡ None → Some w ≡ held_at t p s
+    → ((b : ℕ) → get_or left b 0 + one_of t b ≡ get_or chunk_counts b 0) → AreInPlace ps s count chunk_counts blocks → AreInPlace ps r (count - 1) left blocks
 kept_lost t p count chunk_counts left blocks w ps s r e o g f c k =
     let is = lost_at_place t p ps s r e o g in
     let here : kept_at t (entries_from 0 ps s) ≡ Some w = sym (kept_at_place t p ps s e) ∙ sym f in
@@ -396,7 +396,7 @@ kept_lost t p count chunk_counts left blocks w ps s r e o g f c k =
 
 -- the block that leaves is counted
 pub lost_counts : (t p count : ℕ) (chunk_counts : List ℕ) (blocks : Verdict) (w : Waiting) (ps : List ℕ) (s : List Slot) → p ≡ get_or ps t 0 → Some w ≡ held_at t p s
-    → AreKept ps s count chunk_counts blocks → (1 ≤ count) × (1 ≤ get_or chunk_counts (t / 1024) 0)
+    → AreInPlace ps s count chunk_counts blocks → (1 ≤ count) × (1 ≤ get_or chunk_counts (t / 1024) 0)
 lost_counts t p count chunk_counts blocks w ps s e f k =
     let here : kept_at t (entries_from 0 ps s) ≡ Some w = sym (kept_at_place t p ps s e) ∙ sym f in
     let less : length (lose t (entries_from 0 ps s)) + 1 ≡ length (entries_from 0 ps s) = lost_length t w (entries_from 0 ps s) here in
@@ -405,14 +405,14 @@ lost_counts t p count chunk_counts blocks w ps s e f k =
     let y : get_or chunk_counts (t / 1024) 0 ≡ chunk_count (t / 1024) (entries_from 0 ps s) = k.by_chunk (t / 1024) in
     (omega arith, omega arith)
 
-pub kept_none : (t p count : ℕ) (chunk_counts : List ℕ) (blocks : Verdict) (ps : List ℕ) (s r : List Slot) → p ≡ get_or ps t 0 → OthersStay t s r → held_at t p r ≡ None → None ≡ held_at t p s
-    → AreKept ps s count chunk_counts blocks → AreKept ps r count chunk_counts blocks
+pub kept_none : (t p count : ℕ) (chunk_counts : List ℕ) (blocks : Verdict) (ps : List ℕ) (s r : List Slot) → p ≡ get_or ps t 0 → OtherTicketsStay t s r → held_at t p r ≡ None → None ≡ held_at t p s
+    → AreInPlace ps s count chunk_counts blocks → AreInPlace ps r count chunk_counts blocks
 kept_none t p count chunk_counts blocks ps s r e o g f k =
     let is = lost_at_place t p ps s r e o g ∙ lost_none t (entries_from 0 ps s) (sym (kept_at_place t p ps s e) ∙ sym f) in
     record { counted = k.counted ∙ sym (ap length is); by_chunk = λ b. k.by_chunk b ∙ sym (ap (chunk_count b) is); short = k.short; lent = k.lent }
 
-pub kept_held : (t p count : ℕ) (chunk_counts : List ℕ) (held : Held) (blocks : Verdict) (ps : List ℕ) (s r : List Slot) → p ≡ get_or ps t 0 → OthersStay t s r → held_at t p r ≡ option_map (kept held) (held_at t p s)
-    → AreKept ps s count chunk_counts blocks → AreKept ps r count chunk_counts blocks
+pub kept_held : (t p count : ℕ) (chunk_counts : List ℕ) (held : Held) (blocks : Verdict) (ps : List ℕ) (s r : List Slot) → p ≡ get_or ps t 0 → OtherTicketsStay t s r → held_at t p r ≡ option_map (kept held) (held_at t p s)
+    → AreInPlace ps s count chunk_counts blocks → AreInPlace ps r count chunk_counts blocks
 kept_held t p count chunk_counts held blocks ps s r e o g k =
     let is = held_at_place t p held ps s r e o g in
     record {
@@ -423,7 +423,7 @@ kept_held t p count chunk_counts held blocks ps s r e o g k =
     }
 
 pub added_at : (t p : ℕ) (w : Waiting) (first ps : List ℕ) (s r : List Slot) (es : List (ℕ × Waiting)) → entries_from 0 first s ≡ es → ((q : List Slot) → entries_from 0 ps q ≡ entries_from 0 first q)
-    → t < length ps → OthersStay t s r → held_at t p r ≡ Some w → AllBelow t es → entries_from 0 (set ps t p) r ≡ es ++ (t, w) ∷ []
+    → t < length ps → OtherTicketsStay t s r → held_at t p r ≡ Some w → AllBelow t es → entries_from 0 (set ps t p) r ≡ es ++ (t, w) ∷ []
 added_at t p w first ps s r es e same l o g b =
     let is : entries_from 0 ps s ≡ es = same s ∙ e in
     let below : AllBelow t (entries_from 0 ps s) = rw is b in
@@ -431,7 +431,7 @@ added_at t p w first ps s r es e same l o g b =
 
 pub kept_added : (t p count : ℕ) (chunk_counts more : List ℕ) (w : Waiting) (blocks : Verdict) (first ps : List ℕ) (s r : List Slot) (es : List (ℕ × Waiting)) → entries_from 0 first s ≡ es
     → ((q : List Slot) → entries_from 0 ps q ≡ entries_from 0 first q) → length ps ≤ 2 ^ 32
-    → t < length ps → OthersStay t s r → held_at t p r ≡ Some w → AllBelow t es → ((b : ℕ) → get_or more b 0 ≡ get_or chunk_counts b 0 + one_of t b) → AreKept first s count chunk_counts blocks → AreKept (set ps t p) r (count + 1) more blocks
+    → t < length ps → OtherTicketsStay t s r → held_at t p r ≡ Some w → AllBelow t es → ((b : ℕ) → get_or more b 0 ≡ get_or chunk_counts b 0 + one_of t b) → AreInPlace first s count chunk_counts blocks → AreInPlace (set ps t p) r (count + 1) more blocks
 kept_added t p count chunk_counts more w blocks first ps s r es e same short l o g b c k =
     let is = added_at t p w first ps s r es e same l o g b in
     let long : length (entries_from 0 (set ps t p) r) ≡ length es + 1 = ap length is ∙ length-append es ((t, w) ∷ []) in
@@ -444,7 +444,7 @@ kept_added t p count chunk_counts more w blocks first ps s r es e same short l o
       lent = k.lent;
     }
 
-pub count_small : (t count : ℕ) (chunk_counts : List ℕ) (blocks : Verdict) (ps : List ℕ) (s : List Slot) → AreKept ps s count chunk_counts blocks → (count ≤ 2 ^ 32) × (get_or chunk_counts (t / 1024) 0 ≤ 2 ^ 32)
+pub count_small : (t count : ℕ) (chunk_counts : List ℕ) (blocks : Verdict) (ps : List ℕ) (s : List Slot) → AreInPlace ps s count chunk_counts blocks → (count ≤ 2 ^ 32) × (get_or chunk_counts (t / 1024) 0 ≤ 2 ^ 32)
 count_small t count chunk_counts blocks ps s k =
     let n : count ≡ length (entries_from 0 ps s) = k.counted in
     let m : length ps ≤ 2 ^ 32 = k.short in

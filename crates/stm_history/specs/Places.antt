@@ -9,22 +9,22 @@ use Rattle.stm_history.specs.declared.places.Slot.{Slot}
 use Rattle.stm_history.specs.Entries.{kept, kept_ends}
 
 -- what is kept there, if it is this ticket's
-abbrev pub owned : ℕ → Slot → Option Waiting
-owned t s = if nat_eq s.number t then s.waiting else None
+abbrev pub waiting_in : ℕ → Slot → Option Waiting
+waiting_in t s = if nat_eq s.number t then s.waiting else None
 
 -- what is kept there, where it is this ticket's with what a delivery brought
 abbrev pub with_owned : ℕ → Held → Slot → Option Waiting
 with_owned t held s = if nat_eq s.number t then option_map (kept held) s.waiting else s.waiting
 
 -- the same of a place that there may be
-abbrev pub found_in : ℕ → Option Slot → Option Waiting
-found_in t None = None
-found_in t (Some s) = owned t s
+abbrev pub waiting_found : ℕ → Option Slot → Option Waiting
+waiting_found t None = None
+waiting_found t (Some s) = waiting_in t s
 
 -- what is kept for a ticket at a place, counted from 1
 abbrev pub held_at : ℕ → ℕ → List Slot → Option Waiting
 held_at t zero slots = None
-held_at t (suc p) slots = found_in t (slice_get slots p)
+held_at t (suc p) slots = waiting_found t (slice_get slots p)
 
 -- the block under the ticket, if there is one, before others
 abbrev pub listed : ℕ → Option Waiting → List (ℕ × Waiting) → List (ℕ × Waiting)
@@ -37,8 +37,8 @@ entries_from n [] slots = []
 entries_from n (p ∷ ps) slots = listed n (held_at n p slots) (entries_from (suc n) ps slots)
 
 -- whatever is found for other tickets is still found
-abbrev pub OthersStay : ℕ → List Slot → List Slot → Type 0
-OthersStay t slots new = (u p : ℕ) → nat_eq u t ≡ false → held_at u p new ≡ held_at u p slots
+abbrev pub OtherTicketsStay : ℕ → List Slot → List Slot → Type 0
+OtherTicketsStay t slots new = (u p : ℕ) → nat_eq u t ≡ false → held_at u p new ≡ held_at u p slots
 
 -- a place has a block with this ticket whose last delivery brought a verdict that doesn't block
 abbrev pub has_end : ℕ → List Slot → Bool
@@ -55,7 +55,7 @@ chunk_count b (e ∷ es) = one_of e.0 b + chunk_count b es
 
 -- the counts of blocks are right, in all and by chunk; the table is no longer than there are tickets; and what is lent for `Blocks`
 -- is it
-pub record AreKept (places : List ℕ) (slots : List Slot) (count : ℕ) (chunk_counts : List ℕ) (blocks : Verdict) : Type 0 where
+pub record AreInPlace (places : List ℕ) (slots : List Slot) (count : ℕ) (chunk_counts : List ℕ) (blocks : Verdict) : Type 0 where
   pub counted : count ≡ length (entries_from 0 places slots)
   pub by_chunk : (b : ℕ) → slice_index_or chunk_counts b 0 ≡ chunk_count b (entries_from 0 places slots)
   pub short : length places ≤ 2 ^ 32

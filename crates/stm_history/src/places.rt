@@ -8,7 +8,7 @@ ghost use Rattle.std.specs.Option.{option_copied};
 ghost use Rattle.std.specs.Vec.{vec_len};
 ghost use Rattle.stm_queue.specs.SortedTickets.{member};
 ghost use Rattle.stm_history.specs.Entries.{kept, kept_ends, first_above};
-ghost use Rattle.stm_history.specs.Places.{owned, with_owned, held_at, entries_from, OthersStay, has_end, one_of, chunk_count};
+ghost use Rattle.stm_history.specs.Places.{waiting_in, with_owned, held_at, entries_from, OtherTicketsStay, has_end, one_of, chunk_count};
 ghost use Rattle.stm_history.specs.declared.places.Slot.{Slot};
 
 use crate::ticket_set::TicketSet;
@@ -24,8 +24,8 @@ pub(crate) struct Slot {
 }
 
 /// What the slot holds for this ticket.
-fn owned(slot: &Slot, ticket: u32) -> Option<&Waiting>
-    ensures { option_copied result ≡ owned ticket slot.now }
+fn waiting_in(slot: &Slot, ticket: u32) -> Option<&Waiting>
+    ensures { option_copied result ≡ waiting_in ticket slot.now }
 {
     if slot.number == ticket {
         slot.waiting.as_ref()
@@ -52,7 +52,7 @@ pub(crate) fn held_at(slots: &[Slot], place: u32, ticket: u32) -> Option<&Waitin
         return None;
     }
     match slots.get(place as usize - 1) {
-        Some(slot) => owned(slot, ticket),
+        Some(slot) => waiting_in(slot, ticket),
         None => None,
     }
 }
@@ -74,7 +74,7 @@ fn hold_in(slot: &mut Slot, ticket: u32, held: Held)
 pub(crate) fn hold_at(slots: &mut Vec<Slot>, place: u32, ticket: u32, held: Held)
     ensures held { held_at ticket place slots.new.items
         ≡ option_map (kept held) (held_at ticket place slots.old.items) }
-    ensures others { OthersStay ticket slots.old.items slots.new.items }
+    ensures others { OtherTicketsStay ticket slots.old.items slots.new.items }
 {
     if place != 0 {
         let at = place as usize - 1;
@@ -85,9 +85,9 @@ pub(crate) fn hold_at(slots: &mut Vec<Slot>, place: u32, ticket: u32, held: Held
 }
 
 fn take_from(slot: &mut Slot, ticket: u32, next: u32) -> Option<Waiting>
-    ensures was { result ≡ owned ticket slot.old }
-    ensures gone { owned ticket slot.new ≡ None }
-    ensures others { (t : ℕ) → nat_eq t ticket ≡ false → owned t slot.new ≡ owned t slot.old }
+    ensures was { result ≡ waiting_in ticket slot.old }
+    ensures gone { waiting_in ticket slot.new ≡ None }
+    ensures others { (t : ℕ) → nat_eq t ticket ≡ false → waiting_in t slot.new ≡ waiting_in t slot.old }
 {
     if slot.number == ticket {
         slot.number = next;
@@ -101,7 +101,7 @@ fn take_from(slot: &mut Slot, ticket: u32, next: u32) -> Option<Waiting>
 pub(crate) fn take_at(slots: &mut Vec<Slot>, place: u32, ticket: u32, next: u32) -> Option<Waiting>
     ensures was { result ≡ held_at ticket place slots.old.items }
     ensures gone { held_at ticket place slots.new.items ≡ None }
-    ensures others { OthersStay ticket slots.old.items slots.new.items }
+    ensures others { OtherTicketsStay ticket slots.old.items slots.new.items }
 {
     if place == 0 {
         return None;
@@ -133,7 +133,7 @@ fn put_at(slots: &mut Vec<Slot>, place: u32, ticket: u32, waiting: Waiting) -> u
     requires within { (0 < place) × (place ≤ vec_len slots.old) }
     requires unused { (t : ℕ) → held_at t place slots.old.items ≡ None }
     ensures held { held_at ticket place slots.new.items ≡ Some waiting }
-    ensures others { OthersStay ticket slots.old.items slots.new.items }
+    ensures others { OtherTicketsStay ticket slots.old.items slots.new.items }
 {
     let slot = Slot {
         number: ticket,
@@ -148,7 +148,7 @@ fn put_at(slots: &mut Vec<Slot>, place: u32, ticket: u32, waiting: Waiting) -> u
 /// Puts a block into a new slot after the others. Returns its place.
 fn put_last(slots: &mut Vec<Slot>, ticket: u32, waiting: Waiting) -> Result<u32, NoMemory>
     ensures held { IfOk result (λ p. held_at ticket p slots.new.items ≡ Some waiting) }
-    ensures others { OnOk result (OthersStay ticket slots.old.items slots.new.items) }
+    ensures others { OnOk result (OtherTicketsStay ticket slots.old.items slots.new.items) }
     ensures err { OnErr result (slots.new.items ≡ slots.old.items) }
 {
     let len = slots.len();
@@ -171,7 +171,7 @@ pub(crate) fn put(
     waiting: Waiting,
 ) -> Result<(u32, u32), NoMemory>
     ensures held { IfOk result (λ r. held_at ticket r.0 slots.new.items ≡ Some waiting) }
-    ensures others { OnOk result (OthersStay ticket slots.old.items slots.new.items) }
+    ensures others { OnOk result (OtherTicketsStay ticket slots.old.items slots.new.items) }
     ensures err { OnErr result (slots.new.items ≡ slots.old.items) }
 {
     if is_unused(slots, free) {

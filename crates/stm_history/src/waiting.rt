@@ -75,7 +75,7 @@ impl Model for WaitingBlocks {
     ghost use Rattle.stm_terms.specs.TreeEncoding.{act_code};
     ghost use Rattle.stm_terms.specs.declared.verdicts.Verdict.TheVariants.{Blocks};
     ghost use Rattle.stm_history.specs.declared.waiting.Waiting.{Waiting as AnyWaiting};
-    ghost use Rattle.stm_history.specs.Places.{entries_from, AreKept};
+    ghost use Rattle.stm_history.specs.Places.{entries_from, AreInPlace};
 
     ghost Value = { List (ℕ × AnyWaiting) };
 
@@ -83,7 +83,7 @@ impl Model for WaitingBlocks {
 
     ghost view = { λ w. entries_from 0 w.places.items w.slots.items };
 
-    ghost invariant = { λ w. AreKept w.places.items w.slots.items w.count w.chunk_counts.items w.blocks };
+    ghost invariant = { λ w. AreInPlace w.places.items w.slots.items w.count w.chunk_counts.items w.blocks };
 }
 
 impl WaitingBlocks {

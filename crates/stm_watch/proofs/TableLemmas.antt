@@ -8,21 +8,21 @@ use Rattle.stm_queue.specs.SortedTickets.{member}
 use Rattle.stm_watch.specs.declared.table.Slot.{Slot}
 use Rattle.stm_watch.specs.declared.table.Table.{Table}
 use Rattle.stm_watch.specs.PairList.{lists}
-use Rattle.stm_watch.specs.Tabled.{owned, found_in, tickets_at, pairs_from, pairs_of, holds, OthersStay}
+use Rattle.stm_watch.specs.Tabled.{watchers_in, watchers_found, tickets_at, pairs_from, pairs_of, holds, OtherVariablesStay}
 
 -- ---- a place that is written where nothing was kept
-set_here : (w v : ℕ) (ws : List ℕ) (y : Slot) → nat_eq w v ≡ false → owned w y ≡ [] → owned w (record { number = v; watchers = ws }) ≡ owned w y
+set_here : (w v : ℕ) (ws : List ℕ) (y : Slot) → nat_eq w v ≡ false → watchers_in w y ≡ [] → watchers_in w (record { number = v; watchers = ws }) ≡ watchers_in w y
 set_here w v ws y h e = let n : nat_eq v w ≡ false = grind (arith, nat_tests) in rw (n, e) refl
 
-set_found : (w v i q : ℕ) (ws : List ℕ) (s : List Slot) → nat_eq w v ≡ false → found_in w (slice_get s i) ≡ []
-    → found_in w (slice_get (set s i (record { number = v; watchers = ws })) q) ≡ found_in w (slice_get s q)
+set_found : (w v i q : ℕ) (ws : List ℕ) (s : List Slot) → nat_eq w v ≡ false → watchers_found w (slice_get s i) ≡ []
+    → watchers_found w (slice_get (set s i (record { number = v; watchers = ws })) q) ≡ watchers_found w (slice_get s q)
 set_found w v i q ws [] h e = refl
 set_found w v zero zero ws (y ∷ s) h e = set_here w v ws y h e
 set_found w v zero (suc q) ws (y ∷ s) h e = refl
 set_found w v (suc i) zero ws (y ∷ s) h e = refl
 set_found w v (suc i) (suc q) ws (y ∷ s) h e = set_found w v i q ws s h e
 
-pub put_others : (v p : ℕ) (ws : List ℕ) (s : List Slot) → 0 < p → ((w : ℕ) → tickets_at w p s ≡ []) → OthersStay v s (set s (p - 1) (record { number = v; watchers = ws }))
+pub put_others : (v p : ℕ) (ws : List ℕ) (s : List Slot) → 0 < p → ((w : ℕ) → tickets_at w p s ≡ []) → OtherVariablesStay v s (set s (p - 1) (record { number = v; watchers = ws }))
 put_others v zero ws s l e = absurd (omega arith)
 put_others v (suc i) ws s l e = λ w p h. let is : suc i - 1 ≡ i = omega arith in rw is (other w p h) where
   other : (w p : ℕ) → nat_eq w v ≡ false → tickets_at w p (set s i (record { number = v; watchers = ws })) ≡ tickets_at w p s

@@ -4,7 +4,7 @@ use Rattle.stm_watch.specs.declared.watchers.Kept.{Kept}
 use Rattle.stm_watch.specs.declared.watchers.Kept.TheVariants.{Nobody, One, Many}
 
 -- the tickets, rising
-abbrev pub tickets_of : Kept → List ℕ
-tickets_of Nobody = []
-tickets_of (One t) = t ∷ []
-tickets_of (Many b) = b.value.items
+abbrev pub kept_tickets : Kept → List ℕ
+kept_tickets Nobody = []
+kept_tickets (One t) = t ∷ []
+kept_tickets (Many b) = b.value.items

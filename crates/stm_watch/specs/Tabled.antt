@@ -5,18 +5,18 @@ use Rattle.stm_watch.specs.declared.table.Slot.{Slot}
 use Rattle.stm_watch.specs.declared.table.Table.{Table}
 
 -- the tickets that are kept there, if they are this variable's
-abbrev pub owned : ℕ → Slot → List ℕ
-owned v s = if nat_eq s.number v then s.watchers else []
+abbrev pub watchers_in : ℕ → Slot → List ℕ
+watchers_in v s = if nat_eq s.number v then s.watchers else []
 
 -- the same of a place that there may be
-abbrev pub found_in : ℕ → Option Slot → List ℕ
-found_in v None = []
-found_in v (Some s) = owned v s
+abbrev pub watchers_found : ℕ → Option Slot → List ℕ
+watchers_found v None = []
+watchers_found v (Some s) = watchers_in v s
 
 -- the tickets of a variable at a place, counted from 1
 abbrev pub tickets_at : ℕ → ℕ → List Slot → List ℕ
 tickets_at v zero slots = []
-tickets_at v (suc p) slots = found_in v (slice_get slots p)
+tickets_at v (suc p) slots = watchers_found v (slice_get slots p)
 
 -- the number that stands at a place
 abbrev pub number_at : ℕ → List Slot → Option ℕ
@@ -41,5 +41,5 @@ abbrev pub holds : Table → ℕ → ℕ → Bool
 holds table v t = member t (tickets_of table v)
 
 -- whatever is found for other variables is still found
-abbrev pub OthersStay : ℕ → List Slot → List Slot → Type 0
-OthersStay v slots new = (w p : ℕ) → nat_eq w v ≡ false → tickets_at w p new ≡ tickets_at w p slots
+abbrev pub OtherVariablesStay : ℕ → List Slot → List Slot → Type 0
+OtherVariablesStay v slots new = (w p : ℕ) → nat_eq w v ≡ false → tickets_at w p new ≡ tickets_at w p slots

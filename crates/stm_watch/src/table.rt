@@ -6,7 +6,7 @@
 ghost use Rattle.std.specs.Prelude.{◌≡◌, ℕ, List, ◌<◌, ◌≤◌, ◌&&◌, ◌||◌, ◌++◌, ◌∷◌, [], Some, false, not, nat_eq, length, slice_index_or, IsTrue, IfOk, OnOk, OnErr};
 ghost use Rattle.std.specs.Vec.{vec_len};
 ghost use Rattle.stm_queue.specs.SortedTickets.{IsRising, member};
-ghost use Rattle.stm_watch.specs.Tabled.{owned, tickets_at, number_at, OthersStay};
+ghost use Rattle.stm_watch.specs.Tabled.{watchers_in, tickets_at, number_at, OtherVariablesStay};
 
 use crate::watchers::Watchers;
 use std::alloc::{AllocError as NoMemory, Global};
@@ -103,7 +103,7 @@ pub(crate) fn add_at(
     ensures ok { OnOk result ((u : ℕ)
         → member u (tickets_at variable place slots.new.items)
         ≡ (nat_eq u ticket || member u (tickets_at variable place slots.old.items))) }
-    ensures others { OthersStay variable slots.old.items slots.new.items }
+    ensures others { OtherVariablesStay variable slots.old.items slots.new.items }
     ensures err { OnErr result (tickets_at variable place slots.new.items
         ≡ tickets_at variable place slots.old.items) }
 {
@@ -115,7 +115,7 @@ fn put_at(slots: &mut Vec<Slot>, place: u32, variable: u32, ticket: u32) -> u32
     requires within { (0 < place) × (place ≤ vec_len slots.old) }
     requires unused { (v : ℕ) → tickets_at v place slots.old.items ≡ [] }
     ensures held { tickets_at variable place slots.new.items ≡ ticket ∷ [] }
-    ensures others { OthersStay variable slots.old.items slots.new.items }
+    ensures others { OtherVariablesStay variable slots.old.items slots.new.items }
 {
     let slot = Slot {
         number: variable,
@@ -130,7 +130,7 @@ fn put_at(slots: &mut Vec<Slot>, place: u32, variable: u32, ticket: u32) -> u32
 /// Puts a variable's first ticket into a new slot after the others. Returns its place.
 fn put_last(slots: &mut Vec<Slot>, variable: u32, ticket: u32) -> Result<u32, NoMemory>
     ensures held { IfOk result (λ p. tickets_at variable p slots.new.items ≡ ticket ∷ []) }
-    ensures others { OnOk result (OthersStay variable slots.old.items slots.new.items) }
+    ensures others { OnOk result (OtherVariablesStay variable slots.old.items slots.new.items) }
     ensures err { OnErr result (slots.new.items ≡ slots.old.items) }
 {
     let len = slots.len();
@@ -153,7 +153,7 @@ pub(crate) fn put(
     ticket: u32,
 ) -> Result<(u32, u32), NoMemory>
     ensures held { IfOk result (λ r. tickets_at variable r.0 slots.new.items ≡ ticket ∷ []) }
-    ensures others { OnOk result (OthersStay variable slots.old.items slots.new.items) }
+    ensures others { OnOk result (OtherVariablesStay variable slots.old.items slots.new.items) }
     ensures err { OnErr result (slots.new.items ≡ slots.old.items) }
 {
     if is_unused(slots, free) {
@@ -177,9 +177,9 @@ pub(crate) fn reach(places: &mut Vec<u32>, variable: u32) -> Result<(), NoMemory
 }
 
 fn remove_in(slot: &mut Slot, variable: u32, ticket: u32, next: u32) -> bool
-    ensures removed { (u : ℕ) → member u (owned variable slot.new)
-        ≡ (member u (owned variable slot.old) && not (nat_eq u ticket)) }
-    ensures others { (v : ℕ) → nat_eq v variable ≡ false → owned v slot.new ≡ owned v slot.old }
+    ensures removed { (u : ℕ) → member u (watchers_in variable slot.new)
+        ≡ (member u (watchers_in variable slot.old) && not (nat_eq u ticket)) }
+    ensures others { (v : ℕ) → nat_eq v variable ≡ false → watchers_in v slot.new ≡ watchers_in v slot.old }
 {
     if slot.number != variable {
         return false;
@@ -205,7 +205,7 @@ pub(crate) fn remove_at(
 ) -> bool
     ensures removed { (u : ℕ) → member u (tickets_at variable place slots.new.items)
         ≡ (member u (tickets_at variable place slots.old.items) && not (nat_eq u ticket)) }
-    ensures others { OthersStay variable slots.old.items slots.new.items }
+    ensures others { OtherVariablesStay variable slots.old.items slots.new.items }
 {
     if place == 0 {
         return false;
@@ -219,9 +219,9 @@ pub(crate) fn remove_at(
 }
 
 fn take_from(slot: &mut Slot, variable: u32, next: u32) -> Watchers
-    ensures was { result ≡ owned variable slot.old }
-    ensures gone { owned variable slot.new ≡ [] }
-    ensures others { (v : ℕ) → nat_eq v variable ≡ false → owned v slot.new ≡ owned v slot.old }
+    ensures was { result ≡ watchers_in variable slot.old }
+    ensures gone { watchers_in variable slot.new ≡ [] }
+    ensures others { (v : ℕ) → nat_eq v variable ≡ false → watchers_in v slot.new ≡ watchers_in v slot.old }
 {
     if slot.number != variable || slot.watchers.is_empty() {
         return Watchers::nobody();
@@ -234,7 +234,7 @@ fn take_from(slot: &mut Slot, variable: u32, next: u32) -> Watchers
 pub(crate) fn take_at(slots: &mut Vec<Slot>, place: u32, variable: u32, next: u32) -> Watchers
     ensures was { result ≡ tickets_at variable place slots.old.items }
     ensures gone { tickets_at variable place slots.new.items ≡ [] }
-    ensures others { OthersStay variable slots.old.items slots.new.items }
+    ensures others { OtherVariablesStay variable slots.old.items slots.new.items }
 {
     if place == 0 {
         return Watchers::nobody();

@@ -27,13 +27,13 @@ pub(crate) struct Watchers {
 impl Model for Watchers {
     ghost use Rattle.std.specs.Prelude.{List, ℕ};
     ghost use Rattle.stm_queue.specs.SortedTickets.{IsRising};
-    ghost use Rattle.stm_watch.specs.KeptTickets.{tickets_of};
+    ghost use Rattle.stm_watch.specs.KeptTickets.{kept_tickets};
 
     ghost Value = { List ℕ };
 
-    ghost view = { λ w. tickets_of w.kept };
+    ghost view = { λ w. kept_tickets w.kept };
 
-    ghost invariant = { λ w. IsRising (tickets_of w.kept) };
+    ghost invariant = { λ w. IsRising (kept_tickets w.kept) };
 }
 
 /// A list of two tickets, in ascending order.
