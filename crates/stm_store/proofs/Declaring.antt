@@ -1,6 +1,6 @@
 -- A table with one more variable.
-use Rattle.std.proofs.Common.{◌≡◌, inl, inr, ℕ, zero, suc, ◌+◌, ◌<◌, ◌≤◌, true, false, List, [], ◌∷◌, ◌++◌, Some, None, length, take, refl, sym, ap, subst, ◌∙◌, arith, length-append}
-use Rattle.std.specs.Prelude.{is_some, nat_lt, slice_get, option_map, IsTrue, if◌then◌else◌}
+use Rattle.std.proofs.Common.{◌≡◌, inl, inr, ℕ, suc, ◌+◌, ◌<◌, ◌≤◌, true, false, List, [], ◌∷◌, ◌++◌, Some, None, length, take, refl, sym, ap, subst, ◌∙◌, arith, length-append}
+use Rattle.std.specs.Prelude.{is_some, nat_lt, IsTrue, if◌then◌else◌}
 use Rattle.std.specs.Str.{bytes_eq}
 use Rattle.std.proofs.lemmas.List.{map-append, take-append-le}
 use Rattle.std.proofs.Math.Seq.{take-append_seam}
@@ -94,20 +94,3 @@ table-added t d i less holds fresh name =
       distinct = distinct-added t d i.distinct fresh;
       declared = declared-added t d i.declared (name, unrefused t d less holds fresh);
     }
-
--- a variable of a table, by its parts
-pub declared_at : (t : List Declared) (i : ℕ) (n : List ℕ) (k : Ty) (v : Value) → i < length t → option_map (λ d. d.name) (slice_get t i) ≡ Some n → option_map (λ d. d.kind) (slice_get t i) ≡ Some k → option_map (λ d. d.value) (slice_get t i) ≡ Some v
-    → slice_get t i ≡ Some (record { name = n; kind = k; value = v })
-declared_at [] i n k v h p q r = absurd (cc)
-declared_at (d ∷ t) zero n k v h p q r =
-    let a : d.name ≡ n = cc in
-    let b : d.kind ≡ k = cc in
-    let c : d.value ≡ v = cc in
-    λ i. Some (record { name = a i; kind = b i; value = c i })
-declared_at (d ∷ t) (suc i) n k v h p q r = declared_at t i n k v (omega arith) p q r
-
--- one more of a table's variables
-pub take-next : (t : List Declared) (i : ℕ) (d : Declared) → slice_get t i ≡ Some d → take (suc i) t ≡ take i t ++ d ∷ []
-take-next [] i d e = absurd (cc)
-take-next (x ∷ t) zero d e = let same : x ≡ d = cc in ap (λ (y : Declared). y ∷ []) same
-take-next (x ∷ t) (suc i) d e = ap (λ (ys : List Declared). x ∷ ys) (take-next t i d e)

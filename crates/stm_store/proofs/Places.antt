@@ -3,7 +3,7 @@ use Rattle.std.proofs.Common.{◌≡◌, ℕ, ◌+◌, Bool, List, [], ◌∷◌
 use Rattle.std.specs.Prelude.{not, nat_lt, if◌then◌else◌}
 use Rattle.std.proofs.lemmas.Bool.Decides.{nat_tests, same_from_decides}
 use Rattle.std.proofs.lemmas.Slice.Eq.{bytes_eq-Decides}
-use Rattle.std.specs.List.{position_or_len}
+use Rattle.std.specs.List.{position_or_len, AllZip}
 use Rattle.std.specs.Global.{Global}
 use Rattle.std.specs.Str.{bytes_eq}
 use Rattle.std.specs.Map.{keys_of}
@@ -70,3 +70,12 @@ inserted name es key kind value same none =
     let none_there : is_some (number_of (string_bytes key) (map declared_of es)) ≡ false = rw same none in
     absent es key (kind, value) (unplaced (string_bytes key) es none_there)
     ∙ ap (λ (n : List ℕ). map declared_of es ++ record { name = n; kind = kind; value = value } ∷ []) same
+
+-- the entries of a clone of the map are the same variables
+pub cloned : (es fs : List Entry) → AllZip (λ (e f : Entry). (string_bytes f.0 ≡ string_bytes e.0) × ((f.1.0 ≡ e.1.0) × (f.1.1 ≡ e.1.1))) es fs → map declared_of fs ≡ map declared_of es
+cloned [] [] h = refl
+cloned [] (f ∷ fs) h = absurd h
+cloned (e ∷ es) [] h = absurd h
+cloned (e ∷ es) (f ∷ fs) h =
+    let same : declared_of f ≡ declared_of e = cc in
+    rw (same, cloned es fs h.1) refl

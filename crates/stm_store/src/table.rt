@@ -5,6 +5,7 @@ ghost use Rattle.stm_terms.specs.Names.{is_name_text};
 ghost use Rattle.stm_store.specs.Cells.{most_cells, StoreIsTyped, StoreHasAtMost8Refs, kinds_of};
 ghost use Rattle.stm_store.specs.Tables.{Declared, declared_cells, number_of, is_of, may_hold, declare_refusal, refusal_of, NamesAreNames, NamesAreDistinct, AreDeclared};
 
+use crate::seed::Seed;
 use crate::types::{plain_type, refers_to};
 use indexmap::IndexMap;
 use std::alloc::{AllocError, Global};
@@ -44,7 +45,7 @@ impl From<AllocError> for DeclareError {
 /// The declared variables in the order of their declaration, each with its name, its type and its first value.
 #[derive(Drop)]
 pub struct Table {
-    entries: IndexMap<String, (Ty, Value)>,
+    entries: IndexMap<String, (Ty, Value), Seed>,
 }
 
 impl Model for Table {
@@ -63,39 +64,28 @@ impl Table {
     /// How many variables a table, and a store, may have.
     pub const LIMIT: usize = 1_000_000;
 
-    /// A table of no variables.
+    /// A table of no variables, under the fixed seed.
     pub fn empty(alloc: Global) -> Table
         ensures { result ≡ [] }
     {
+        Table::with_seed(alloc, Seed::fixed())
+    }
+
+    /// A table of no variables, whose names are looked up under the seed.
+    pub fn with_seed(alloc: Global, seed: Seed) -> Table
+        ensures { result ≡ [] }
+    {
         Table {
-            entries: IndexMap::new(alloc),
+            entries: IndexMap::with_hasher(alloc, seed),
         }
     }
 
-    /// A second table of the same variables.
-    pub fn copy(&self, alloc: Global) -> Result<Table, NoMemory>
+    /// A second table of the same variables, under the same seed. It takes memory from the allocator of the first.
+    pub fn copy(&self, _alloc: Global) -> Result<Table, NoMemory>
         ensures { IfOk result (λ t. t ≡ self.now) }
     {
-        let mut copy = Table {
-            entries: IndexMap::with_capacity(alloc, self.len())?,
-        };
-        copy.declare_all(self)?;
-        Ok(copy)
-    }
-
-    /// Declares the variables of a table where there are none. They were declared before, so only memory can be refused.
-    fn declare_all(&mut self, table: &Table) -> Result<(), NoMemory>
-        requires { self.old ≡ [] }
-        ensures { OnOk result (self.new ≡ table.now) }
-    {
-        for id in 0..table.len() as u32 {
-            match self.declare(table.name(id), table.kind(id), table.value(id)) {
-                Ok(_) => {}
-                Err(DeclareError::NoMemory) => return Err(NoMemory),
-                Err(_) => unreachable!(),
-            }
-        }
-        Ok(())
+        let entries = self.entries.clone()?;
+        Ok(Table { entries })
     }
 
     /// How many variables there are. What holds of every table stands here.

@@ -22,7 +22,7 @@ use crate::lines::variable::Variable;
 use std::alloc::Global;
 use std::io::{ErrorKind, Read};
 use std::mem;
-use stm_store::{DeclareError, Table};
+use stm_store::{DeclareError, Seed, Table};
 
 /// The most bytes of a line.
 const MAX_LINE: usize = 1_048_576;
@@ -71,14 +71,15 @@ fn with_table(alloc: Global, format: u32, vars: u32, table: Table) -> Result<Sta
 }
 
 /// Takes the first line.
-fn take_header(alloc: Global, line: &[u8]) -> Result<Stage, HistoryFault>
+fn take_header(alloc: Global, seed: Seed, line: &[u8]) -> Result<Stage, HistoryFault>
     ensures leads { IfOk result (λ s. LeadsToStage at_header line.now s) }
     ensures refused { IfErr result (λ e. MayRefuse at_header line.now e) }
 {
     match read_header(alloc, line) {
         Ok(header) => {
             if header.vars <= MAX_CELLS {
-                with_table(alloc, header.format, header.vars, Table::empty(alloc))
+                let table = Table::with_seed(alloc, seed);
+                with_table(alloc, header.format, header.vars, table)
             } else {
                 Err(HistoryFault::BadHeader)
             }
@@ -208,7 +209,7 @@ fn run_on(
 }
 
 /// Takes a whole line.
-fn take_line(alloc: Global, stage: Stage, line: &[u8]) -> Result<Stage, HistoryFault>
+fn take_line(alloc: Global, seed: Seed, stage: Stage, line: &[u8]) -> Result<Stage, HistoryFault>
     requires { (p : CheckerState) × IsStage stage p × CountsWithinLimits p }
     ensures leads { IfOk result (λ s. (p : CheckerState) → IsStage stage p
         → LeadsToStage p line.now s) }
@@ -216,7 +217,7 @@ fn take_line(alloc: Global, stage: Stage, line: &[u8]) -> Result<Stage, HistoryF
         → MayRefuse p line.now e) }
 {
     match stage {
-        Stage::Before => take_header(alloc, line),
+        Stage::Before => take_header(alloc, seed, line),
         Stage::Declaring {
             format,
             vars,
@@ -246,20 +247,22 @@ fn strange_fault(stage: &Stage) -> HistoryFault
     }
 }
 
-/// A check under way: the stage, and the bytes of a line that has begun.
+/// A check under way: the seed of its table, the stage, and the bytes of a line that has begun.
 #[derive(Drop)]
 struct Checker {
     alloc: Global,
+    seed: Seed,
     stage: Stage,
     line: Vec<u8>,
 }
 
 impl Checker {
-    fn new(alloc: Global) -> Checker
+    fn new(alloc: Global, seed: Seed) -> Checker
         ensures { Reached result.stage result.line.items [] }
     {
         Checker {
             alloc,
+            seed,
             stage: Stage::Before,
             line: Vec::new(alloc),
         }
@@ -276,7 +279,7 @@ impl Checker {
             → TellsFault e (taken ++ 10 ∷ more)) }
     {
         let stage = mem::replace(&mut self.stage, Stage::Before);
-        match take_line(self.alloc, stage, &self.line) {
+        match take_line(self.alloc, self.seed, stage, &self.line) {
             Ok(next) => {
                 self.stage = next;
                 self.line.clear();
@@ -377,6 +380,21 @@ pub fn check_history<R: Read>(alloc: Global, reader: &mut R) -> Result<Legal, Hi
     ensures fault { IfErr result (λ e.
         IfSome (R.remaining reader.old) (λ bytes. TellsFault e bytes)) }
 {
-    let mut checker = Checker::new(alloc);
+    check_history_with(alloc, Seed::fixed(), reader)
+}
+
+/// Judges the bytes of a reader as `check_history` does, and looks up the names of variables under the seed.
+pub fn check_history_with<R: Read>(
+    alloc: Global,
+    seed: Seed,
+    reader: &mut R,
+) -> Result<Legal, HistoryFault>
+    // The bytes are the text of a legal history, and the numbers are its own.
+    ensures ok { IfOk result (λ n. IfSome (R.remaining reader.old) (λ bytes. IsHistory bytes n)) }
+    // Otherwise the first fault of the bytes is reported.
+    ensures fault { IfErr result (λ e.
+        IfSome (R.remaining reader.old) (λ bytes. TellsFault e bytes)) }
+{
+    let mut checker = Checker::new(alloc, seed);
     check_rest(&mut checker, reader)
 }
