@@ -32,6 +32,7 @@ pub mod Taking
 -- Histories as text.
 pub mod Cuts
 pub mod Exact
+pub mod FirstFault
 pub mod FitsPushed
 pub mod OneLines
 pub mod Parts

@@ -142,6 +142,7 @@ TellsFault-refused (at_events format table history) line taken more e h (inr (in
       refl,
       k.2,
       k.3,
+      subst IsShort (sym k.1) h.short,
       k.4,
     )
 

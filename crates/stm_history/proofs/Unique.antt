@@ -10,7 +10,7 @@ use Rattle.stm_history.proofs.ReadsBack.{event_one_line, header_one_line, variab
 use Rattle.stm_history.specs.declared.files.fault.HistoryFault.TheVariants.{BadHeader}
 use Rattle.stm_history.specs.HistoryText.{head_text, history_text, variable_lines, event_lines}
 use Rattle.stm_history.specs.Judgement.{IsShort, AreVariables, AreVariablesFrom, AreEvents, BeginsWithHistory, NoEventNext, IsIllegalBy, TellsFault, numbers_by}
-use Rattle.stm_history.specs.FileLaws.{NumbersAreFixed, TextsAreOfOneHistory, HistoriesAreTaken}
+use Rattle.stm_history.specs.FileLaws.{NumbersAreFixed, TextsAreOfOneHistory}
 use Rattle.stm_history.proofs.Cuts.{IsCut, cut_unique, no_feed}
 use Rattle.stm_history.proofs.Written.{few_variables}
 
@@ -49,107 +49,116 @@ one_head p q T U H K a b i j f g e =
     record { formats = same.0; variables = tables [] T U _ _ f g same.1 c.rest }
 
 -- ---- the events
--- a whole history, and another reading of its bytes that has come less far: an event of the history comes next
-pub record IsNext (p : ℕ) (T : List Declared) (H K : List Event) (rest : List ℕ) : Type 0 where
+-- where one reading of the bytes ends, an event of the other comes next
+pub record IsNext (p : ℕ) (T : List Declared) (H K : List Event) (a b : List ℕ) : Type 0 where
   pub event : Event
   pub later : List Event
   pub whole : H ≡ K ++ event ∷ later
   pub fits : FitsTable T event
   pub may : FitsFormat p event
   pub short : IsShort (event_line event)
-  pub text : rest ≡ event_line event ++ 10 ∷ event_lines later
+  pub text : b ≡ event_line event ++ 10 ∷ (event_lines later ++ a)
 
--- either the same events and nothing left, or an event next
-data Compared (p : ℕ) (T : List Declared) (H K : List Event) (rest : List ℕ) : Type 0 where
-  all : H ≡ K → rest ≡ [] → Compared p T H K rest
-  more : IsNext p T H K rest → Compared p T H K rest
+-- two readings have the same events and the same rest, or one of them has an event next where the other ends
+pub data Compared (p : ℕ) (T : List Declared) (H K : List Event) (a b : List ℕ) : Type 0 where
+  same : H ≡ K → a ≡ b → Compared p T H K a b
+  more : IsNext p T H K a b → Compared p T H K a b
+  fewer : IsNext p T K H b a → Compared p T H K a b
 
-cons_compared : (p : ℕ) (T : List Declared) (x : Event) (H K : List Event) (rest : List ℕ) → Compared p T H K rest → Compared p T (x ∷ H) (x ∷ K) rest
-cons_compared p T x H K rest (all e f) = all (ap (λ (z : List Event). x ∷ z) e) f
-cons_compared p T x H K rest (more n) =
-    more (record { event = n.event; later = n.later; whole = ap (λ (z : List Event). x ∷ z) n.whole; fits = n.fits; may = n.may; short = n.short; text = n.text })
+cons_next : (p : ℕ) (T : List Declared) (x : Event) (H K : List Event) (a b : List ℕ) → IsNext p T H K a b → IsNext p T (x ∷ H) (x ∷ K) a b
+cons_next p T x H K a b n =
+    record { event = n.event; later = n.later; whole = ap (λ (z : List Event). x ∷ z) n.whole; fits = n.fits; may = n.may; short = n.short; text = n.text }
 
-compared : (p : ℕ) (T : List Declared) (H K : List Event) (rest : List ℕ) → AreEvents p T H → AreEvents p T K → event_lines H ++ [] ≡ event_lines K ++ rest → Compared p T H K rest
-compared p T [] [] rest h k e = all refl (sym e)
-compared p T (x ∷ H) [] rest h k e = more (record { event = x; later = H; whole = refl; fits = h.0; may = h.1; short = h.2; text = sym e ∙ append-nil _ })
-compared p T [] (y ∷ K) rest h k e =
-    let l : 0 ≡ length ((event_line y ++ 10 ∷ event_lines K) ++ rest) = ap length e in
-    let m = length-append (event_line y ++ 10 ∷ event_lines K) rest in
-    let n = length-append (event_line y) (10 ∷ event_lines K) in
-    absurd (omega (arith, l, m, n))
-compared p T (x ∷ H) (y ∷ K) rest h k e =
-    let c : IsCut (event_line x) (event_lines H ++ []) (event_line y) (event_lines K ++ rest) =
+cons_compared : (p : ℕ) (T : List Declared) (x : Event) (H K : List Event) (a b : List ℕ) → Compared p T H K a b → Compared p T (x ∷ H) (x ∷ K) a b
+cons_compared p T x H K a b (same e f) = same (ap (λ (z : List Event). x ∷ z) e) f
+cons_compared p T x H K a b (more n) = more (cons_next p T x H K a b n)
+cons_compared p T x H K a b (fewer n) = fewer (cons_next p T x K H b a n)
+
+first_next : (p : ℕ) (T : List Declared) (x : Event) (H : List Event) (a b : List ℕ) → AreEvents p T (x ∷ H) → event_lines (x ∷ H) ++ a ≡ b → IsNext p T (x ∷ H) [] a b
+first_next p T x H a b h e =
+    record { event = x; later = H; whole = refl; fits = h.0; may = h.1; short = h.2; text = sym e ∙ append_assoc (event_line x) (10 ∷ event_lines H) a }
+
+compared : (p : ℕ) (T : List Declared) (H K : List Event) (a b : List ℕ) → AreEvents p T H → AreEvents p T K → event_lines H ++ a ≡ event_lines K ++ b → Compared p T H K a b
+compared p T [] [] a b h k e = same refl e
+compared p T (x ∷ H) [] a b h k e = more (first_next p T x H a b h e)
+compared p T [] (y ∷ K) a b h k e = fewer (first_next p T y K b a k (sym e))
+compared p T (x ∷ H) (y ∷ K) a b h k e =
+    let c : IsCut (event_line x) (event_lines H ++ a) (event_line y) (event_lines K ++ b) =
     cut_unique (event_line x) _ (event_line y) _ (no_feed _ (event_one_line T x h.0)) (no_feed _ (event_one_line T y k.0))
-    (sym (append_assoc (event_line x) (10 ∷ event_lines H) []) ∙ e ∙ append_assoc (event_line y) (10 ∷ event_lines K) rest) in
-    let same : x ≡ y = event_same T x y h.0 k.0 c.line in
-    subst (λ (z : Event). Compared p T (x ∷ H) (z ∷ K) rest) same (cons_compared p T x H K rest (compared p T H K rest h.3 k.3 c.rest))
+    (sym (append_assoc (event_line x) (10 ∷ event_lines H) a) ∙ e ∙ append_assoc (event_line y) (10 ∷ event_lines K) b) in
+    let one : x ≡ y = event_same T x y h.0 k.0 c.line in
+    subst (λ (z : Event). Compared p T (x ∷ H) (z ∷ K) a b) one (cons_compared p T x H K a b (compared p T H K a b h.3 k.3 c.rest))
 
--- events over one table are those over another that is the same
-events_of : (p q : ℕ) (T U : List Declared) (H : List Event) → p ≡ q → T ≡ U → AreEvents p T H → AreEvents q U H
-events_of p q T U H d e h = subst (λ (z : List Declared). AreEvents q z H) e (subst (λ (z : ℕ). AreEvents z T H) d h)
+-- what holds at a format and a table holds at others that are the same
+pub at_same : (P : ℕ → List Declared → Type 0) (p q : ℕ) (T U : List Declared) → p ≡ q → T ≡ U → P p T → P q U
+at_same P p q T U d e h = subst (λ (z : List Declared). P q z) e (subst (λ (z : ℕ). P z T) d h)
 
--- two readings of the bytes of a history
-both : (bytes : List ℕ) (p q : ℕ) (T U : List Declared) (H K : List Event) (rest : List ℕ) → IsFormat p → IsFormat q → BeginsWithHistory p bytes T H [] → BeginsWithHistory q bytes U K rest
-    → (T ≡ U) × Compared q U H K rest × (p ≡ q)
-both bytes p q T U H K rest i j f g =
-    let t = one_head p q T U H K [] rest i j f.variables g.variables (sym f.text ∙ g.text) in
+-- two readings of the same bytes
+pub record AreCompared (p q : ℕ) (T U : List Declared) (H K : List Event) (a b : List ℕ) : Type 0 where
+  pub formats : p ≡ q
+  pub tables : T ≡ U
+  pub events : Compared q U H K a b
+
+pub both : (bytes : List ℕ) (p q : ℕ) (T U : List Declared) (H K : List Event) (a b : List ℕ) → IsFormat p → IsFormat q → BeginsWithHistory p bytes T H a → BeginsWithHistory q bytes U K b
+    → AreCompared p q T U H K a b
+both bytes p q T U H K a b i j f g =
+    let t = one_head p q T U H K a b i j f.variables g.variables (sym f.text ∙ g.text) in
     let tables : T ≡ U = (t.variables).tables in
-    (tables, compared q U H K rest (events_of p q T U H t.formats tables f.events) g.events (t.variables).rest, t.formats)
+    record {
+      formats = t.formats;
+      tables = tables;
+      events = compared q U H K a b (at_same (λ z V. AreEvents z V H) p q T U t.formats tables f.events) g.events (t.variables).rest;
+    }
 
 -- ---- whole texts
-same_events : (q : ℕ) (U : List Declared) (H K : List Event) → Compared q U H K [] → H ≡ K
-same_events q U H K (all e f) = e
-same_events q U H K (more n) =
-    let l : 0 ≡ length (event_line n.event ++ 10 ∷ event_lines n.later) = ap length n.text in
-    let m = length-append (event_line n.event) (10 ∷ event_lines n.later) in
-    absurd (omega (arith, l, m))
+-- no event comes next where nothing is left
+pub nothing_next : (q : ℕ) (U : List Declared) (H K : List Event) (a : List ℕ) → IsNext q U H K a [] → ⊥
+nothing_next q U H K a n =
+    let l : 0 ≡ length (event_line n.event ++ 10 ∷ (event_lines n.later ++ a)) = ap length n.text in
+    let m = length-append (event_line n.event) (10 ∷ (event_lines n.later ++ a)) in
+    omega (arith, l, m)
+
+same_events : (q : ℕ) (U : List Declared) (H K : List Event) → Compared q U H K [] [] → H ≡ K
+same_events q U H K (same e f) = e
+same_events q U H K (more n) = absurd (nothing_next q U H K [] n)
+same_events q U H K (fewer n) = absurd (nothing_next q U K H [] n)
 
 pub texts_are_of_one_history : TextsAreOfOneHistory
 texts_are_of_one_history p q T U H K i j f g h k e =
     let t = one_head p q T U H K [] [] i j f g (ap (λ (x : List ℕ). x ++ []) e) in
     let tables : T ≡ U = (t.variables).tables in
-    (t.formats, tables, same_events q U H K (compared q U H K [] (events_of p q T U H t.formats tables h) k (t.variables).rest))
+    (t.formats, tables, same_events q U H K (compared q U H K [] [] (at_same (λ z V. AreEvents z V H) p q T U t.formats tables h) k (t.variables).rest))
 
 pub numbers_are_fixed : NumbersAreFixed
 numbers_are_fixed bytes m n a c =
-    let b = both bytes a.0 c.0 a.2 c.2 a.3 c.3 [] a.1 c.1 a.4 c.4 in
-    a.5 ∙ ap (λ (z : ℕ). numbers_by (rule_of z) a.2 a.3) b.2 ∙ ap (λ (z : List Declared). numbers_by (rule_of c.0) z a.3) b.0
-    ∙ ap (numbers_by (rule_of c.0) c.2) (same_events c.0 c.2 a.3 c.3 b.1) ∙ sym c.5
+    let b = both bytes a.0 c.0 a.2 c.2 a.3 c.3 [] [] a.1 c.1 a.4 c.4 in
+    a.5 ∙ ap (λ (z : ℕ). numbers_by (rule_of z) a.2 a.3) b.formats ∙ ap (λ (z : List Declared). numbers_by (rule_of c.0) z a.3) b.tables
+    ∙ ap (numbers_by (rule_of c.0) c.2) (same_events c.0 c.2 a.3 c.3 b.events) ∙ sym c.5
 
+-- ---- faults
 -- a legal history goes on legally: each front of it is legal
 front_legal : (rule : StalenessRule) (s : Slow) (K later : List Event) (e : Event) → LegalFromBy rule s (K ++ e ∷ later) → LegalFromBy rule s (K ++ e ∷ [])
 front_legal rule s [] later e l = (l.0, tt)
 front_legal rule s (x ∷ K) later e l = (l.0, front_legal rule (after_by rule s x.what) K later e l.1)
 
-bad_by : (q : ℕ) (U : List Declared) (H K : List Event) (rest : List ℕ) → Compared q U H K rest → 0 < length rest → NoEventNext q U rest → ⊥
-bad_by q U H K rest (all e f) some never = let l : length rest ≡ 0 = ap length f in absurd (omega (arith, l, some))
-bad_by q U H K rest (more n) some never = never n.event n.fits n.may n.short (event_lines n.later) n.text
+-- where no line of an event comes next, no other reading has an event next
+pub never_next : (q : ℕ) (U : List Declared) (H K : List Event) (a b : List ℕ) → NoEventNext q U b → IsNext q U H K a b → ⊥
+never_next q U H K a b never n = never n.event n.fits n.may n.short (event_lines n.later ++ a) n.text
 
-refused_by : (q : ℕ) (U : List Declared) (H K : List Event) (e : Event) (text : List ℕ) → Compared q U H K (event_line e ++ 10 ∷ text) → FitsTable U e → IsLegalBy (rule_of q) U H → IsIllegalBy (rule_of q) U K e → ⊥
-refused_by q U H K e text (all w f) fits legal illegal =
-    let l : length (event_line e ++ 10 ∷ text) ≡ 0 = ap length f in
-    let m = length-append (event_line e) (10 ∷ text) in
-    omega (arith, l, m)
-refused_by q U H K e text (more n) fits legal illegal =
-    let c = cut_unique (event_line e) text (event_line n.event) (event_lines n.later) (no_feed _ (event_one_line U e fits)) (no_feed _ (event_one_line U n.event n.fits)) n.text in
-    let same : e ≡ n.event = event_same U e n.event fits n.fits c.line in
-    let whole : H ≡ K ++ e ∷ n.later = n.whole ∙ ap (λ (z : Event). K ++ z ∷ n.later) (sym same) in
+-- an event that comes next in a legal history can follow
+pub legal_next : (q : ℕ) (U : List Declared) (H K : List Event) (a b text : List ℕ) (e : Event) → b ≡ event_line e ++ 10 ∷ text → FitsTable U e → IsLegalBy (rule_of q) U H
+    → IsIllegalBy (rule_of q) U K e → IsNext q U H K a b → ⊥
+legal_next q U H K a b text e here fits legal illegal n =
+    let c = cut_unique (event_line e) text (event_line n.event) (event_lines n.later ++ a) (no_feed _ (event_one_line U e fits)) (no_feed _ (event_one_line U n.event n.fits)) (sym here ∙ n.text) in
+    let one : e ≡ n.event = event_same U e n.event fits n.fits c.line in
+    let whole : H ≡ K ++ e ∷ n.later = n.whole ∙ ap (λ (z : Event). K ++ z ∷ n.later) (sym one) in
     let h : LegalFromBy (rule_of q) (initial_state U) (K ++ e ∷ n.later) = subst (λ (z : List Event). LegalFromBy (rule_of q) (initial_state U) z) whole legal.each in
     let few : length (K ++ e ∷ n.later) ≤ max_events = subst (λ (z : List Event). length z ≤ max_events) whole legal.few in
     let l = length-append K (e ∷ n.later) in
     let m = length-append K (e ∷ []) in
     illegal (record { each = front_legal (rule_of q) (initial_state U) K n.later e h; few = omega (arith, few, l, m) })
 
--- the header and the variables of a history are those of a table
-header_by : (bytes : List ℕ) (p : ℕ) (T : List Declared) (H : List Event) → IsFormat p → BeginsWithHistory p bytes T H [] → TellsFault BadHeader bytes → ⊥
-header_by bytes p T H i f t =
-    t p i T f.few f.variables (event_lines H ++ []) (f.text ∙ append_assoc (head_text p (length T) T) (event_lines H) [])
-
-pub histories_are_taken : HistoriesAreTaken
-histories_are_taken bytes n k a = (
-  header_by bytes a.0 a.2 a.3 a.1 a.4,
-  (λ t. bad_by t.0 t.2 a.3 t.3 t.4 (both bytes a.0 t.0 a.2 t.2 a.3 t.3 t.4 a.1 t.1 a.4 t.5).1 t.7 t.8),
-  (λ t.
-      let b = both bytes a.0 t.0 a.2 t.2 a.3 t.3 (event_line t.4 ++ 10 ∷ t.5) a.1 t.1 a.4 t.6 in
-      refused_by t.0 t.2 a.3 t.3 t.4 t.5 b.1 t.8 (subst (λ (z : List Declared). IsLegalBy (rule_of t.0) z a.3) b.0 (subst (λ (z : ℕ). IsLegalBy (rule_of z) a.2 a.3) b.2 (a.4).legal)) t.10),
-)
+-- the header and the variables of a reading are those of a table
+pub header_by : (bytes : List ℕ) (p : ℕ) (T : List Declared) (H : List Event) (a : List ℕ) → IsFormat p → BeginsWithHistory p bytes T H a → TellsFault BadHeader bytes → ⊥
+header_by bytes p T H a i f t =
+    t p i T f.few f.variables (event_lines H ++ a) (f.text ∙ append_assoc (head_text p (length T) T) (event_lines H) a)

@@ -1,12 +1,10 @@
 -- What a JSON value stands for, as the reader finds it. A line is accepted where what was found has this very line again.
-use Rattle.std.specs.Prelude.{ℕ, suc, ◌^◌, List, [], ◌∷◌, codes, Bool, nat_lt, nat_le, nat_eq, if◌then◌else◌, Option, Some, None, Result, Ok, Err, option_map, option_and_then, is_some}
-use Rattle.std.specs.List.{list_any}
+use Rattle.std.specs.Prelude.{ℕ, ◌^◌, List, [], ◌∷◌, codes, nat_lt, if◌then◌else◌, Option, Some, None, Result, Ok, Err, option_map, option_and_then, is_some}
+use Rattle.std.specs.Result.{result_ok}
 use Rattle.std.specs.Str.{bytes_eq}
 use Rattle.serde_json.specs.Data.{Data, Items, no_items, item}
 use Rattle.serde_json.specs.Find.{get, at, as_null, as_bool, as_str, as_number, as_array, as_u64, as_i64}
 use Rattle.stm_terms.specs.declared.kinds.Ty.{Ty}
-use Rattle.stm_terms.specs.declared.kinds.Base.{Base}
-use Rattle.stm_terms.specs.declared.kinds.Base.TheVariants as base
 use Rattle.stm_terms.specs.declared.values.Value.{Value}
 use Rattle.stm_terms.specs.declared.values.Value.TheVariants as value
 use Rattle.stm_terms.specs.declared.values.Ref.TheVariants.{Old, New}
@@ -14,7 +12,7 @@ use Rattle.stm_terms.specs.declared.values.Fault.{Fault}
 use Rattle.stm_terms.specs.declared.values.Fault.TheVariants.{Thrown, Overflow}
 use Rattle.stm_terms.specs.declared.verdicts.Verdict.{Verdict}
 use Rattle.stm_terms.specs.declared.verdicts.Verdict.TheVariants.{Commits, Throws, Blocks}
-use Rattle.stm_terms.specs.Limits.{most_refs}
+use Rattle.stm_parse.specs.TypeFunction.{parsed_type}
 use Rattle.stm_store.specs.Tables.{Declared}
 use Rattle.stm_history.specs.declared.event.Event.{Event}
 use Rattle.stm_history.specs.declared.event.What.{What}
@@ -45,23 +43,9 @@ abbrev pub or_else : {A : Type 0} → Option A → Option A → Option A
 or_else None o = o
 or_else (Some x) o = Some x
 
--- how often a byte stands in a text
-abbrev pub count_of : ℕ → List ℕ → ℕ
-count_of b [] = 0
-count_of b (x ∷ xs) = if nat_eq x b then suc (count_of b xs) else count_of b xs
-
--- the byte stands in the text
-abbrev pub stands_in : ℕ → List ℕ → Bool
-stands_in b text = list_any (λ x. nat_eq x b) text
-
--- the base of a type, by the letter that no other type text has
-abbrev pub base_in : List ℕ → Base
-base_in text = if stands_in 73 text then base.Int else if stands_in 66 text then base.Bool else base.Unit
-
--- The type of a type text: as many `TVar` as it has letters `V`. What is no type text has another text again.
+-- the type that a text writes; none if the text has a fault
 abbrev pub type_in : List ℕ → Option Ty
-type_in text =
-    if nat_le (count_of 86 text) most_refs then Some (record { base = base_in text; refs = count_of 86 text }) else None
+type_in text = result_ok (parsed_type text)
 
 -- a reference: the number of a variable that is there, or of a new one, by its key
 abbrev pub reference_of : Data → Option Value

@@ -1,9 +1,10 @@
 -- Laws of histories as text. The clauses of the checker fix its answer: bytes are the text of one history at most, and then no
--- fault can be told of them. What is written is taken.
-use Rattle.std.specs.Prelude.{◌≡◌, ℕ, List}
+-- fault can be told of them; otherwise they have one first fault. What is written is taken.
+use Rattle.std.specs.Prelude.{◌≡◌, ℕ, List, ⊤}
 use Rattle.stm_store.specs.Tables.{Declared, AreDeclared}
 use Rattle.stm_history.specs.declared.event.Event.{Event}
-use Rattle.stm_history.specs.declared.files.fault.HistoryFault.TheVariants.{BadHeader, BadLine, NotLegal}
+use Rattle.stm_history.specs.declared.files.fault.HistoryFault.{HistoryFault}
+use Rattle.stm_history.specs.declared.files.fault.HistoryFault.TheVariants.{ReadFault, BadHeader, BadLine, NotLegal, NoMemory}
 use Rattle.stm_history.specs.declared.files.fault.Legal.{Legal}
 use Rattle.stm_history.specs.Fits.{FitsTable, AreInRange, IsOneLine}
 use Rattle.stm_history.specs.HistoryText.{history_text}
@@ -38,6 +39,19 @@ abbrev pub HistoriesAreTaken : Type 0
 HistoriesAreTaken =
     (bytes : List ℕ) (n : Legal) (k : ℕ) → IsHistory bytes n
     → (TellsFault BadHeader bytes → ⊥) × (TellsFault (BadLine k) bytes → ⊥) × (TellsFault (NotLegal k) bytes → ⊥)
+
+-- the fault is one of the bytes, and not of the reader or of memory
+abbrev pub IsOfBytes : HistoryFault → Type 0
+IsOfBytes ReadFault = ⊥
+IsOfBytes BadHeader = ⊤
+IsOfBytes (BadLine n) = ⊤
+IsOfBytes (NotLegal n) = ⊤
+IsOfBytes NoMemory = ⊥
+
+-- the first fault is fixed: two faults that are reported of the same bytes are equal
+abbrev pub FaultsAreFixed : Type 0
+FaultsAreFixed =
+    (bytes : List ℕ) (f g : HistoryFault) → IsOfBytes f → IsOfBytes g → TellsFault f bytes → TellsFault g bytes → f ≡ g
 
 -- The text of a history in a format that is read, legal by the rule of the format, is one of its numbers. The table is one that
 -- declarations make, and its values are in the range of the program's types; each event fits the table and the format, and its

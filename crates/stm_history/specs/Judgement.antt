@@ -85,8 +85,10 @@ IsIllegalBy rule table history e = IsLegalBy rule table (history ++ e ∷ []) �
 abbrev pub IsIllegal : List Declared → List Event → Event → Type 0
 IsIllegal = IsIllegalBy Changed
 
--- What is reported of bytes that are no legal history: the first fault. The first line and those of the variables are at fault
--- where the bytes begin with those of no table in any format that is read; a later line where a legal history stands before it.
+-- What is reported of bytes that are no legal history: the first fault, as a law says (`FileLaws.FaultsAreFixed`). The header is
+-- at fault if the bytes begin with the first lines of no table in any format that is read. A later line is at fault if a legal
+-- history precedes it: it is bad if it is not a short line of an event of the format, and not legal if it is the short line of an
+-- event that cannot follow.
 abbrev pub TellsFault : HistoryFault → List ℕ → Type 0
 TellsFault ReadFault bytes = ⊤
 TellsFault NoMemory bytes = ⊤
@@ -100,7 +102,7 @@ TellsFault (BadLine n) bytes =
 TellsFault (NotLegal n) bytes =
     (format : ℕ) × IsFormat format × (table : List Declared) × (history : List Event) × (e : Event) × (more : List ℕ)
     × BeginsWithHistory format bytes table history (event_line e ++ 10 ∷ more) × (n ≡ next_line table history) × FitsTable table e
-    × FitsFormat format e × IsIllegalBy (rule_of format) table history e
+    × FitsFormat format e × IsShort (event_line e) × IsIllegalBy (rule_of format) table history e
 
 -- what replaying tells of a list that isn't legal: the first event, counted from 1, that can't follow those before it
 abbrev pub Refuses : HistoryFault → List Declared → List Event → Type 0

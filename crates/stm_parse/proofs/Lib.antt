@@ -20,6 +20,7 @@ pub mod TokenizationUnique
 pub mod TokenizedIsAscii
 pub mod TokenizerTurn
 pub mod TreeNamesAndSize
+pub mod TypeAnswers
 pub mod TypeLevels
 pub mod TypeReaders
 pub mod TypesBack

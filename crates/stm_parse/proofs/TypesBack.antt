@@ -12,7 +12,8 @@ use Rattle.stm_parse.specs.Lexing.{control_mark, action_mark, choice_mark, value
 use Rattle.stm_parse.specs.ParseResult.{most_bytes, most_tokens}
 use Rattle.stm_parse.specs.Descent.{inside_type, bare_at, type_at}
 use Rattle.stm_parse.specs.Tokenizer.{cut, front_of}
-use Rattle.stm_parse.specs.TypeTexts.{declaring, TypesAreReadBack}
+use Rattle.stm_parse.specs.TypeFunction.{parsed_type}
+use Rattle.stm_parse.specs.TypeTexts.{declaring, TypesAreReadAlone, TypesAreReadBack}
 
 abbrev IsReadBack : Ty → Type 0
 IsReadBack t = (at : ℕ) × (parsed_declaration (declaring t) ≡ Ok (record { name = codes "a"; kind = t; init = named (codes "a") at }))
@@ -63,3 +64,55 @@ by_base base.Unit n h = unit_back n h
 
 pub types_are_read_back : TypesAreReadBack
 types_are_read_back t h = by_base t.base t.refs h
+
+-- ---- by itself
+
+abbrev IsReadAlone : Ty → Type 0
+IsReadAlone t = parsed_type (type_text t) ≡ Ok t
+
+int_alone : (n : ℕ) → n ≤ 8 → IsReadAlone (record { base = base.Int; refs = n })
+unfolding type_text parsed_type answered cut front_of pair_mark single_mark number_of_digits control_mark action_mark choice_mark value_mark most_bytes most_tokens inside_type bare_at type_at is_name_text is_control_word is_action_word is_value_word
+int_alone zero h = refl
+int_alone (suc zero) h = refl
+int_alone (suc (suc zero)) h = refl
+int_alone (suc (suc (suc zero))) h = refl
+int_alone (suc (suc (suc (suc zero)))) h = refl
+int_alone (suc (suc (suc (suc (suc zero))))) h = refl
+int_alone (suc (suc (suc (suc (suc (suc zero)))))) h = refl
+int_alone (suc (suc (suc (suc (suc (suc (suc zero))))))) h = refl
+int_alone (suc (suc (suc (suc (suc (suc (suc (suc zero)))))))) h = refl
+int_alone (suc (suc (suc (suc (suc (suc (suc (suc (suc n))))))))) h = absurd (omega (arith, h))
+
+bool_alone : (n : ℕ) → n ≤ 8 → IsReadAlone (record { base = base.Bool; refs = n })
+unfolding type_text parsed_type answered cut front_of pair_mark single_mark number_of_digits control_mark action_mark choice_mark value_mark most_bytes most_tokens inside_type bare_at type_at is_name_text is_control_word is_action_word is_value_word
+bool_alone zero h = refl
+bool_alone (suc zero) h = refl
+bool_alone (suc (suc zero)) h = refl
+bool_alone (suc (suc (suc zero))) h = refl
+bool_alone (suc (suc (suc (suc zero)))) h = refl
+bool_alone (suc (suc (suc (suc (suc zero))))) h = refl
+bool_alone (suc (suc (suc (suc (suc (suc zero)))))) h = refl
+bool_alone (suc (suc (suc (suc (suc (suc (suc zero))))))) h = refl
+bool_alone (suc (suc (suc (suc (suc (suc (suc (suc zero)))))))) h = refl
+bool_alone (suc (suc (suc (suc (suc (suc (suc (suc (suc n))))))))) h = absurd (omega (arith, h))
+
+unit_alone : (n : ℕ) → n ≤ 8 → IsReadAlone (record { base = base.Unit; refs = n })
+unfolding type_text parsed_type answered cut front_of pair_mark single_mark number_of_digits control_mark action_mark choice_mark value_mark most_bytes most_tokens inside_type bare_at type_at is_name_text is_control_word is_action_word is_value_word
+unit_alone zero h = refl
+unit_alone (suc zero) h = refl
+unit_alone (suc (suc zero)) h = refl
+unit_alone (suc (suc (suc zero))) h = refl
+unit_alone (suc (suc (suc (suc zero)))) h = refl
+unit_alone (suc (suc (suc (suc (suc zero))))) h = refl
+unit_alone (suc (suc (suc (suc (suc (suc zero)))))) h = refl
+unit_alone (suc (suc (suc (suc (suc (suc (suc zero))))))) h = refl
+unit_alone (suc (suc (suc (suc (suc (suc (suc (suc zero)))))))) h = refl
+unit_alone (suc (suc (suc (suc (suc (suc (suc (suc (suc n))))))))) h = absurd (omega (arith, h))
+
+alone_by_base : (b : Base) (n : ℕ) → n ≤ 8 → IsReadAlone (record { base = b; refs = n })
+alone_by_base base.Int n h = int_alone n h
+alone_by_base base.Bool n h = bool_alone n h
+alone_by_base base.Unit n h = unit_alone n h
+
+pub types_are_read_alone : TypesAreReadAlone
+types_are_read_alone t h = alone_by_base t.base t.refs h

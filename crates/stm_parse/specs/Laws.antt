@@ -2,6 +2,7 @@
 use Rattle.std.specs.Prelude.{◌≡◌, ◌≢◌, ℕ, List, [], ◌∷◌, ◌++◌, All}
 use Rattle.stm_terms.specs.declared.expr.Op.{Op}
 use Rattle.stm_terms.specs.declared.expr.Op.TheVariants as op
+use Rattle.stm_terms.specs.declared.kinds.Ty.{Ty}
 use Rattle.stm_terms.specs.ParsedAst.{RawTerm, name, bin, RawAct, return}
 use Rattle.stm_parse.specs.declared.token.Mark.{Mark}
 use Rattle.stm_parse.specs.declared.token.Mark.TheVariants as mark
@@ -14,6 +15,7 @@ use Rattle.stm_parse.specs.Expectations.{ExpectationTree, IsExpectation}
 use Rattle.stm_parse.specs.Grammar.{IsBlock, DeclarationTree, IsDeclaration}
 use Rattle.stm_parse.specs.Faults.{Language, IsText}
 use Rattle.stm_parse.specs.ParseResult.{IsTextOf, IsReported}
+use Rattle.stm_parse.specs.TypeFunction.{IsWholeType}
 
 -- tokens are a text of one block at most
 abbrev pub BlocksAreUnambiguous : Type 0
@@ -29,6 +31,11 @@ DeclarationsAreUnambiguous =
 abbrev pub ExpectationsAreUnambiguous : Type 0
 ExpectationsAreUnambiguous =
     (ls : List Lexeme) (t u : ExpectationTree) → IsText IsExpectation ls t → IsText IsExpectation ls u → t ≡ u
+
+-- tokens are a text of one type at most
+abbrev pub TypesAreUnambiguous : Type 0
+TypesAreUnambiguous =
+    (ls : List Lexeme) (t u : Ty) → IsText IsWholeType ls t → IsText IsWholeType ls u → t ≡ u
 
 -- two faults that are reported of a text, neither of them an out-of-memory error, are one
 abbrev pub OneFault : {A : Type 0} → Language A → Type 0
@@ -50,6 +57,10 @@ EachDeclarationFaultIsOne = OneFault IsDeclaration
 abbrev pub EachExpectationFaultIsOne : Type 0
 EachExpectationFaultIsOne = OneFault IsExpectation
 
+-- nor of one that is read as a type
+abbrev pub EachTypeFaultIsOne : Type 0
+EachTypeFaultIsOne = OneFault IsWholeType
+
 -- no fault is reported of the text of a block, an out-of-memory error apart
 abbrev pub BlockOrFault : Type 0
 BlockOrFault = TextOrFault IsBlock
@@ -61,6 +72,10 @@ DeclarationOrFault = TextOrFault IsDeclaration
 -- nor of that of an expectation
 abbrev pub ExpectationOrFault : Type 0
 ExpectationOrFault = TextOrFault IsExpectation
+
+-- nor of that of a type
+abbrev pub TypeOrFault : Type 0
+TypeOrFault = TextOrFault IsWholeType
 
 -- an operator with its sign
 abbrev pub Signed : Type 0

@@ -14,6 +14,7 @@ pub mod TypeTexts
 pub mod ExpectationFunction
 pub mod ParseFunction
 pub mod Tokenizer
+pub mod TypeFunction
 -- The words inside, for the descent and for the front of a text.
 pub mod Descent
 pub mod DescentResults

@@ -1,17 +1,19 @@
 //! What holds of the grammar. Each function is a law: its contract says it, and its body does nothing.
 
 ghost use Rattle.stm_parse.specs.ExpectationFunction.{ExpectationAnswersAreRight};
-ghost use Rattle.stm_parse.specs.Laws.{BlocksAreUnambiguous, DeclarationsAreUnambiguous, ExpectationsAreUnambiguous};
-ghost use Rattle.stm_parse.specs.Laws.{EachBlockFaultIsOne, EachDeclarationFaultIsOne, EachExpectationFaultIsOne, BlockOrFault, DeclarationOrFault, ExpectationOrFault};
+ghost use Rattle.stm_parse.specs.Laws.{BlocksAreUnambiguous, DeclarationsAreUnambiguous, ExpectationsAreUnambiguous, TypesAreUnambiguous};
+ghost use Rattle.stm_parse.specs.Laws.{EachBlockFaultIsOne, EachDeclarationFaultIsOne, EachExpectationFaultIsOne, EachTypeFaultIsOne, BlockOrFault, DeclarationOrFault, ExpectationOrFault, TypeOrFault};
 ghost use Rattle.stm_parse.specs.Laws.{ProductsGroupToTheLeft, SumsGroupToTheLeft, ComparisonsAreNotChained, ConjunctionsGroupToTheRight, DisjunctionsGroupToTheRight, ProductsBindTightest, SumsBindTighter, ComparisonsBindTighter, ConjunctionsBindTighter};
 ghost use Rattle.stm_parse.specs.ParseFunction.{BlockAnswersAreRight, DeclarationAnswersAreRight};
-ghost use Rattle.stm_parse.specs.TypeTexts.{TypesAreReadBack};
+ghost use Rattle.stm_parse.specs.TypeFunction.{TypeAnswersAreRight};
+ghost use Rattle.stm_parse.specs.TypeTexts.{TypesAreReadAlone, TypesAreReadBack};
 
 /// Each text has one tree.
 pub fn texts_are_unambiguous()
     ensures block { BlocksAreUnambiguous }
     ensures declaration { DeclarationsAreUnambiguous }
     ensures expectation { ExpectationsAreUnambiguous }
+    ensures ty { TypesAreUnambiguous }
 {}
 
 /// Of each text one fault is reported, an out-of-memory error apart.
@@ -19,6 +21,7 @@ pub fn each_fault_is_one()
     ensures block { EachBlockFaultIsOne }
     ensures declaration { EachDeclarationFaultIsOne }
     ensures expectation { EachExpectationFaultIsOne }
+    ensures ty { EachTypeFaultIsOne }
 {}
 
 /// Of a text that has a tree no fault is reported, an out-of-memory error apart.
@@ -26,6 +29,7 @@ pub fn tree_or_fault()
     ensures block { BlockOrFault }
     ensures declaration { DeclarationOrFault }
     ensures expectation { ExpectationOrFault }
+    ensures ty { TypeOrFault }
 {}
 
 /// `a * b * c` is `(a * b) * c`, and `a - b + c` is `(a - b) + c`, for each two of `+` and `-`.
@@ -59,9 +63,11 @@ pub fn answers_are_right()
     ensures blocks { BlockAnswersAreRight }
     ensures declarations { DeclarationAnswersAreRight }
     ensures expectations { ExpectationAnswersAreRight }
+    ensures types { TypeAnswersAreRight }
 {}
 
-/// A declaration that is written with the text of a type, of at most 8 `TVar`, has that type.
+/// The text of a type of at most 8 `TVar` is read as that type: by itself, and in a declaration.
 pub fn types_are_read_back()
-    ensures { TypesAreReadBack }
+    ensures alone { TypesAreReadAlone }
+    ensures declared { TypesAreReadBack }
 {}

@@ -1,4 +1,4 @@
-//! Texts: their tokens, the grammar, and the trees that blocks, declarations and expectations write.
+//! Texts: their tokens, the grammar, and the trees that blocks, declarations, expectations and types write.
 //!
 //! What a reader must believe stands in `specs/`: `Bytes` (letters, blanks, the number that digits write) and
 //! `MaximalMunch` (which tokens a text has, or which fault first, as a relation), `Terminals` (reserved words and symbols
@@ -13,7 +13,7 @@
 //! Contracts also cite two functions that say this in another way, and laws say that they are right. `tokens_of` in
 //! `Tokenizer` cuts a text: it is in the relation of `MaximalMunch`, and nothing else is (`laws_of_tokens`). `parsed_block` in
 //! `ParseFunction` is the one answer for a text, by way of the descent in `Descent`: it is right by the grammar
-//! (`laws::answers_are_right`). So is `parsed_expectation` in `ExpectationFunction`.
+//! (`laws::answers_are_right`). So are `parsed_expectation` in `ExpectationFunction` and `parsed_type` in `TypeFunction`.
 #![tactic(auto)]
 
 pub mod action;
@@ -30,6 +30,7 @@ pub mod lexer;
 pub mod limits;
 pub mod token;
 pub mod tokenizer;
+pub mod type_text;
 pub mod types;
 
 pub use block::parse_block;
@@ -38,3 +39,4 @@ pub use expectation::{Expectation, parse_expectation};
 pub use fault::ParseFault;
 pub use stm_terms::Raw;
 pub use tokenizer::{Token, TokenClass, tokens};
+pub use type_text::parse_type;

@@ -17,7 +17,7 @@ use stm_terms::{Base, RawExpr, Span, Ty};
 // A type with the given number of `TVar` around it.
 #[cycle(types)]
 #[tactic(auto, unfolding(crate::specs::Descent::type_at))]
-fn type_within(levels: u8, refs: u8, toks: &[Lexeme]) -> Parsed<'_, Ty>
+pub(crate) fn type_within(levels: u8, refs: u8, toks: &[Lexeme]) -> Parsed<'_, Ty>
     requires low { levels ≤ deepest }
     requires few { refs ≤ most_refs }
     ensures gives { GivesReading (λ t. t) result (type_at levels refs toks.now) }

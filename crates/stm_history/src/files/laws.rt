@@ -1,6 +1,6 @@
 //! What holds of histories as text: each function's contract is a law of the definitions, and its body is empty.
 
-ghost use Rattle.stm_history.specs.FileLaws.{EachLineIsOneEvent, EventsAreLines, NumbersAreFixed, TextsAreOfOneHistory, HistoriesAreTaken, WhatIsWrittenIsTaken};
+ghost use Rattle.stm_history.specs.FileLaws.{EachLineIsOneEvent, EventsAreLines, NumbersAreFixed, TextsAreOfOneHistory, HistoriesAreTaken, FaultsAreFixed, WhatIsWrittenIsTaken};
 
 /// Different events have different lines, and none has a line feed.
 pub fn each_line_is_one_event()
@@ -21,6 +21,12 @@ pub fn texts_are_of_one_history()
 /// No fault can be told of the text of a legal history: the clauses of `check_history` fix its answer.
 pub fn histories_are_taken()
     ensures { HistoriesAreTaken }
+{}
+
+/// Bytes have one first fault: two of a bad header, a bad line and an event that is not legal, each reported of the same bytes,
+/// are equal, with equal line numbers. So the clauses of `check_history` determine its error too.
+pub fn faults_are_fixed()
+    ensures { FaultsAreFixed }
 {}
 
 /// What `write_history` writes of a legal history, `check_history` takes, and so its text in each format that is read.

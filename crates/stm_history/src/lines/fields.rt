@@ -1,15 +1,17 @@
 //! The fields of a JSON value: numbers, texts, types and values.
 
-ghost use Rattle.std.specs.Prelude.{◌≡◌, ◌<◌, ◌^◌, ◌≤◌, Some, None, IfSome, option_map, option_and_then, length};
-ghost use Rattle.std.specs.List.{list_any};
+ghost use Rattle.std.specs.Prelude.{◌≡◌, ◌<◌, ◌^◌, ◌≤◌, Some, None, IfOk, IfSome, option_map, option_and_then};
 ghost use Rattle.serde_json.specs.View.{view, items_view};
 ghost use Rattle.serde_json.specs.Find.{get, at, as_array};
-ghost use Rattle.stm_history.specs.Fields.{u32_of, text_field, number_field, count_of, stands_in, base_in, type_in as type_meant, reference_of, value_of};
+ghost use Rattle.stm_history.specs.Fields.{u32_of, text_field, number_field, type_in as type_meant, reference_of, value_of};
 ghost use Rattle.stm_terms.specs.Limits.{most_refs};
 ghost use Rattle.stm_history.specs.Fits.{Is32Bit, FitsValue};
 
 use serde_json::Value as Json;
-use stm_terms::kinds::{Base, Ty};
+use std::alloc::Global;
+use stm_parse::{ParseFault, parse_type};
+use stm_terms::NoMemory;
+use stm_terms::kinds::Ty;
 use stm_terms::values::{Ref, Value};
 
 pub(crate) fn number(json: &Json) -> Option<u32>
@@ -37,56 +39,14 @@ pub(crate) fn number_at(json: &Json, key: &str) -> Option<u32>
     number(json.get(key)?)
 }
 
-fn count(byte: u8, bytes: &[u8]) -> usize
-    ensures value { result ≡ count_of byte bytes.now }
-    ensures few { result ≤ length bytes.now }
+pub(crate) fn type_of(alloc: Global, text: &str) -> Result<Option<Ty>, NoMemory>
+    ensures value { IfOk result (λ o. o ≡ type_meant text.now) }
+    ensures fits { IfOk result (λ o. IfSome o (λ t. t.refs ≤ most_refs)) }
 {
-    let mut found = 0;
-    for other in bytes {
-        if *other == byte {
-            found += 1;
-        }
-    }
-    found
-}
-
-fn has(byte: u8, bytes: &[u8]) -> bool
-    ensures { result ≡ stands_in byte bytes.now }
-{
-    for other in bytes {
-        if *other == byte {
-            return true;
-        }
-    }
-    false
-}
-
-fn base_of(bytes: &[u8]) -> Base
-    ensures { result ≡ base_in bytes.now }
-{
-    if has(b'I', bytes) {
-        Base::Int
-    } else if has(b'B', bytes) {
-        Base::Bool
-    } else {
-        Base::Unit
-    }
-}
-
-pub(crate) fn type_of(text: &str) -> Option<Ty>
-    ensures value { result ≡ type_meant text.now }
-    ensures fits { IfSome result (λ t. t.refs ≤ most_refs) }
-{
-    let bytes = text.as_bytes();
-    let refs = count(b'V', bytes);
-    let base = base_of(bytes);
-    if refs <= Ty::MOST_REFS as usize {
-        Some(Ty {
-            base,
-            refs: refs as u8,
-        })
-    } else {
-        None
+    match parse_type(alloc, text) {
+        Ok(ty) => Ok(Some(ty)),
+        Err(ParseFault::NoMemory) => Err(NoMemory),
+        Err(_) => Ok(None),
     }
 }
 

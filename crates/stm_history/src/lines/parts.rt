@@ -2,7 +2,8 @@
 
 ghost use Rattle.std.specs.Prelude.{◌≡◌, ◌≤◌, Some, None, IfOk, IfSome, option_map, option_and_then};
 ghost use Rattle.serde_json.specs.View.{view, items_view};
-ghost use Rattle.stm_history.specs.Fields.{u32_of, write_of, new_of, all_of, list_field};
+ghost use Rattle.serde_json.specs.Find.{at, as_str};
+ghost use Rattle.stm_history.specs.Fields.{u32_of, value_of, type_in, write_of, new_of, all_of, list_field};
 ghost use Rattle.stm_terms.specs.Limits.{most_refs};
 ghost use Rattle.stm_history.specs.Fits.{Is32Bit, FitsValue, FitWrites, FitNews, FitNumbers};
 
@@ -22,13 +23,42 @@ fn write(json: &Json) -> Option<(u32, Value)>
     Some((id, value))
 }
 
-fn new(json: &Json) -> Option<(Ty, Value)>
-    ensures value { result ≡ new_of (view json.now) }
-    ensures fits { IfSome result (λ n. (n.0.refs ≤ most_refs) × FitsValue n.1) }
+fn first_text(json: &Json) -> Option<&str>
+    ensures { option_map (λ s. s.now) result ≡ option_and_then as_str (at 0 (view json.now)) }
 {
-    let ty = type_of(json.get(0usize)?.as_str()?)?;
-    let value = value(json.get(1usize)?)?;
-    Some((ty, value))
+    json.get(0usize)?.as_str()
+}
+
+fn second_value(json: &Json) -> Option<Value>
+    ensures value { result ≡ option_and_then value_of (at 1 (view json.now)) }
+    ensures fits { IfSome result (λ v. FitsValue v) }
+{
+    value(json.get(1usize)?)
+}
+
+fn first_type(alloc: Global, json: &Json) -> Result<Option<Ty>, NoMemory>
+    ensures value { IfOk result (λ o. o
+        ≡ option_and_then type_in (option_and_then as_str (at 0 (view json.now)))) }
+    ensures fits { IfOk result (λ o. IfSome o (λ t. t.refs ≤ most_refs)) }
+{
+    match first_text(json) {
+        Some(text) => type_of(alloc, text),
+        None => Ok(None),
+    }
+}
+
+fn new(alloc: Global, json: &Json) -> Result<Option<(Ty, Value)>, NoMemory>
+    ensures value { IfOk result (λ o. o ≡ new_of (view json.now)) }
+    ensures fits { IfOk result (λ o.
+        IfSome o (λ n. (n.0.refs ≤ most_refs) × FitsValue n.1)) }
+{
+    let Some(ty) = first_type(alloc, json)? else {
+        return Ok(None);
+    };
+    match second_value(json) {
+        Some(value) => Ok(Some((ty, value))),
+        None => Ok(None),
+    }
 }
 
 fn writes(alloc: Global, list: &[Json]) -> Result<Option<Vec<(u32, Value)>>, NoMemory>
@@ -53,7 +83,7 @@ fn news(alloc: Global, list: &[Json]) -> Result<Option<Vec<(Ty, Value)>>, NoMemo
 {
     let mut found = Vec::new(alloc);
     for json in list {
-        match new(json) {
+        match new(alloc, json)? {
             Some(n) => found.push(n)?,
             None => return Ok(None),
         }

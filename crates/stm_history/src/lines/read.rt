@@ -263,7 +263,7 @@ fn variable_of(alloc: Global, json: &Json) -> Result<Option<Variable>, NoMemory>
     let Some(name) = text_at(json, "name") else {
         return Ok(None);
     };
-    let Some(kind) = kind_at(json) else {
+    let Some(kind) = kind_at(alloc, json)? else {
         return Ok(None);
     };
     let Some(value) = value_at(json, "init") else {
@@ -276,12 +276,15 @@ fn variable_of(alloc: Global, json: &Json) -> Result<Option<Variable>, NoMemory>
     }))
 }
 
-fn kind_at(json: &Json) -> Option<Ty>
-    ensures value { result ≡ option_and_then type_meant
-        (text_field (codes "type") (view json.now)) }
-    ensures fits { IfSome result (λ t. t.refs ≤ most_refs) }
+fn kind_at(alloc: Global, json: &Json) -> Result<Option<Ty>, NoMemory>
+    ensures value { IfOk result (λ o. o ≡ option_and_then type_meant
+        (text_field (codes "type") (view json.now))) }
+    ensures fits { IfOk result (λ o. IfSome o (λ t. t.refs ≤ most_refs)) }
 {
-    type_of(text_at(json, "type")?)
+    match text_at(json, "type") {
+        Some(text) => type_of(alloc, text),
+        None => Ok(None),
+    }
 }
 
 /// The variable that the value stands for, where it has a name and the line is that variable's.
