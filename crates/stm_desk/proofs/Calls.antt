@@ -17,6 +17,8 @@ use Rattle.stm_history.specs.SlowDesk.{Waiter, is_new, is_current, verdict_on, f
 use Rattle.stm_history.specs.Machine.{Parts, StandsFor, MovesTo, CanWait, CanInstall, CanFinish, CanLeave, event}
 use Rattle.stm_history.specs.Plans.{IsPlan}
 use Rattle.stm_history.specs.Refusals.{submit_first, submit_refused, cancel_first, cancel_refused, blocks_there, overflows, finish_first, finish_refused, overtaken_first, DeliverTold, TellsDelivery as Tells}
+use Rattle.stm_history.specs.Laws.{SubmitsWellTyped}
+use Rattle.stm_history.proofs.TypedStores.{submitted-append}
 use Rattle.stm_desk.specs.Kept.{DeskInvariant}
 
 -- ---- a call that nothing refuses has room in the history
@@ -89,16 +91,17 @@ module _ (table : List Declared) (limit : ℕ) (history : List Event) (m : Parts
       }
 
   -- the machine moved, and the history has the event more
-  pub kept_move : (client : ℕ) (what : What) (new : Parts) → client < max_clients → full ≡ false → MovesTo table history what new → DeskInvariant table limit (history ++ event client what ∷ []) new
-  kept_move client what new low e move = record {
+  pub kept_move : (client : ℕ) (what : What) (new : Parts) → client < max_clients → full ≡ false → SubmitsWellTyped what → MovesTo table history what new → DeskInvariant table limit (history ++ event client what ∷ []) new
+  kept_move client what new low e typed move = record {
     stands = move client low;
     few = let a : length history < limit = fits_in limit (length history) e in omega (arith, length-append history (event client what ∷ []));
     small = k.small;
+    typed = submitted-append history (event client what ∷ []) k.typed (typed, tt);
   }
 
   -- the machine stands for what it stood for
   pub kept_still : (new : Parts) → (StandsFor table history m → StandsFor table history new) → DeskInvariant table limit history new
-  kept_still new f = record { stands = f k.stands; few = k.few; small = k.small }
+  kept_still new f = record { stands = f k.stands; few = k.few; small = k.small; typed = k.typed }
 
   pub submit_full : (block : Block) → None ≡ submit_refused (state table history) full block → full ≡ false
   submit_full block e = submit_room _ _ full e

@@ -3,3 +3,4 @@ pub mod Ripe
 pub mod Runs
 pub mod Settles
 pub mod Turns
+pub mod Verdicts

@@ -45,7 +45,7 @@ above_by k t n ws c b none f = λ l. let e = none l in no (find_waiter t ws) e f
   no None e f = cc
   no (Some w) e f = cc
 
-waits_above : (n k t : ℕ) (ws : List Waiter) (c : Waiter) → AreRising n k ws → find_waiter t ws ≡ Some c → k < t
+pub waits_above : (n k t : ℕ) (ws : List Waiter) (c : Waiter) → AreRising n k ws → find_waiter t ws ≡ Some c → k < t
 waits_above n k t ws c r f = by (nat_le t k) refl where
   by : (b : Bool) → nat_le t k ≡ b → k < t
   by true e = absurd (above_by k t n ws c true (λ l. not_above t n k ws l r) f (grind (arith, nat_tests)))

@@ -5,15 +5,17 @@ use Rattle.std.proofs.lemmas.List.Elements.{filter-append}
 use Rattle.stm_store.specs.declared.cell.Cell.{Cell}
 use Rattle.stm_history.specs.declared.event.What.{What}
 use Rattle.stm_history.specs.declared.staleness.StalenessRule.TheVariants.{Changed}
-use Rattle.stm_history.specs.SlowDesk.{Waiter, Slow, verdict_on, is_current, find_waiter, after, initial_state, state_from}
+use Rattle.stm_terms.specs.declared.verdicts.Verdict.{Verdict}
+use Rattle.stm_terms.specs.declared.verdicts.Verdict.TheVariants.{Commits, Throws, Blocks}
+use Rattle.stm_history.specs.SlowDesk.{Waiter, Slow, verdict_on, is_blocks, is_current, find_waiter, after, initial_state, state_from}
 use Rattle.stm_history.specs.SlowSettle.{lowest, is_due, ends, can_end, next_what, has_cells, settling, Stop, NoRoom, NoCells, settle_stop, is_finish, is_install, finishes, installs}
 use Rattle.stm_history.proofs.Folds.{state-push}
 use Rattle.stm_desk.specs.declared.errors.SettleWhy.{SettleWhy}
 use Rattle.stm_desk.specs.declared.errors.SettleWhy.TheVariants.{HistoryFull, CellsFull, NoMemory}
 use Rattle.stm_history.specs.SettleChoices.{some_out}
 use Rattle.stm_history.specs.Machine.{event}
-use Rattle.stm_desk.specs.Seen.{Seen, now, with_event}
-use Rattle.stm_desk.specs.Settling.{slow_settle, slow_stop, with_whats, called_back, HasSettled, HasBegun, StopTold, AllBlock}
+use Rattle.stm_desk.specs.Seen.{Seen, now, with_event, AllHaveVerdicts}
+use Rattle.stm_desk.specs.Settling.{slow_settle, slow_stop, with_whats, called_back, HasSettled, HasBegun, StopTold, IsSettled, AllBlock}
 use Rattle.stm_desk.specs.Steps.{IsNextEvent, WhyTold}
 use Rattle.stm_desk.proofs.Settles.{out_after, out_recalled}
 
@@ -184,6 +186,16 @@ unnot : (b : Bool) → not b ≡ false → b ≡ true
 unnot true e = refl
 unnot false e = cc
 
+blocks_is : (v : Verdict) → not (is_blocks v) ≡ false → v ≡ Blocks
+blocks_is (Commits writes news result) e = cc
+blocks_is (Throws f) e = cc
+blocks_is Blocks e = refl
+
+-- a verdict that is there, and by which the block doesn't end
+verdict_blocks : (o : Option Verdict) → is_some o ≡ true → ends o ≡ false → o ≡ Some Blocks
+verdict_blocks None h e = cc
+verdict_blocks (Some v) h e = ap Some (blocks_is v e)
+
 block_step : (b : Bool) (store : List Cell) (w one : Waiter) (o : Option Waiter) → is_due w ≡ false → can_end store w ≡ false
     → (o ≡ Some one → (is_current one ≡ true) × (ends (verdict_on store one.block) ≡ false)) → cond b (Some w) o ≡ Some one → (is_current one ≡ true) × (ends (verdict_on store one.block) ≡ false)
 block_step true store w one o d e more f =
@@ -198,8 +210,12 @@ block_each store (w ∷ ws) t one d e f =
     let b = not_found (can_end store) (can_end store w) w (lowest (can_end store) ws) refl e in
     block_step (nat_eq t w.ticket) store w one (find_waiter t ws) a.0 b.0 (block_each store ws t one a.1 b.1) f
 
-pub all_block : (s : Slow) → lowest is_due s.waiters ≡ None → lowest (can_end s.store) s.waiters ≡ None → AllBlock s
-all_block s d e = λ t w f. block_each s.store s.waiters t w d e f
+pub all_block : (s : Slow) → AllHaveVerdicts s → lowest is_due s.waiters ≡ None → lowest (can_end s.store) s.waiters ≡ None → AllBlock s
+all_block s v d e = λ t w f.
+    let b = block_each s.store s.waiters t w d e f in (b.0, verdict_blocks (verdict_on s.store w.block) (v t w f) b.1)
 
 pub nothing_next : (s : Slow) → lowest is_due s.waiters ≡ None → lowest (can_end s.store) s.waiters ≡ None → next_what s ≡ None
 nothing_next s d e = rw (d, e) refl
+
+pub is_settled : (d : Seen) → lowest is_due (now d).waiters ≡ None → lowest (can_end (now d).store) (now d).waiters ≡ None → IsSettled d
+is_settled d e f = record { none_due = e; none_ends = f; nothing_next = nothing_next (now d) e f }

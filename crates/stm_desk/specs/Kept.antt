@@ -1,12 +1,15 @@
--- What the type of a desk keeps: its history is legal and no longer than it may be, and its machine stands for it.
+-- What the type of a desk keeps: its history is legal and no longer than it may be, its machine stands for it, and the blocks
+-- that were submitted are well typed.
 use Rattle.std.specs.Prelude.{ℕ, ◌≤◌, List, length}
 use Rattle.stm_store.specs.Tables.{Declared}
 use Rattle.stm_history.specs.declared.event.Event.{Event}
 use Rattle.stm_history.specs.SlowDesk.{max_events}
+use Rattle.stm_history.specs.Laws.{SubmittedAreWellTyped}
 use Rattle.stm_history.specs.Machine.{Parts, StandsFor}
 
--- the machine stands for the history, which has no more events than the desk takes
+-- the machine stands for the history, which has no more events than the desk takes, and well typed blocks alone
 pub record DeskInvariant (table : List Declared) (limit : ℕ) (history : List Event) (m : Parts) : Type 0 where
   pub stands : StandsFor table history m
   pub few : length history ≤ limit
   pub small : limit ≤ max_events
+  pub typed : SubmittedAreWellTyped history

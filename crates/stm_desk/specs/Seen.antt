@@ -1,11 +1,13 @@
 -- What contracts see of a desk: all else follows from it.
-use Rattle.std.specs.Prelude.{◌≡◌, ℕ, Bool, nat_le, List, [], ◌∷◌, ◌++◌, length}
+use Rattle.std.specs.Prelude.{◌≡◌, ℕ, Bool, true, nat_le, List, [], ◌∷◌, ◌++◌, length, Some, is_some}
 use Rattle.stm_store.specs.Tables.{Declared}
 use Rattle.stm_queue.specs.Queue.{Entry, has_ticket, with_ticket, without_ticket}
 use Rattle.stm_history.specs.declared.event.Event.{Event}
 use Rattle.stm_history.specs.declared.event.What.{What}
 use Rattle.stm_history.specs.declared.event.What.TheVariants.{Submitted, Installed, Finished, Cancelled}
-use Rattle.stm_history.specs.SlowDesk.{Slow, find_waiter, state}
+use Rattle.stm_history.specs.SlowDesk.{Slow, Waiter, verdict_on, find_waiter, state}
+use Rattle.stm_history.specs.SlowSettle.{settling}
+use Rattle.stm_history.specs.Rounds.{a_round}
 use Rattle.stm_history.specs.QueueAndIndex.{due_of, with_tickets}
 
 -- the table that it was opened on, how many events it takes, its history, and the tickets that are queued or out
@@ -37,3 +39,11 @@ is_full d = nat_le d.limit (length d.history)
 -- each ticket of a new or stale block is queued or out, and no other is
 abbrev pub DeskQueueIsRight : Seen → Type 0
 DeskQueueIsRight d = (t : ℕ) → has_ticket t d.pending ≡ due_of (find_waiter t (now d).waiters)
+
+-- each waiting block has a verdict on the present store
+abbrev pub AllHaveVerdicts : Slow → Type 0
+AllHaveVerdicts s = (t : ℕ) (w : Waiter) → find_waiter t s.waiters ≡ Some w → is_some (verdict_on s.store w.block) ≡ true
+
+-- settling begins with a round, however many events there may be
+abbrev pub SettlesInRounds : Slow → Type 0
+SettlesInRounds s = (room : ℕ) → settling room s ≡ a_round room s

@@ -1,9 +1,10 @@
 -- What settling a desk does: it adds the events of the slow desk's settling, and answers their numbers.
 use Rattle.std.specs.Prelude.{◌≡◌, ℕ, ◌<◌, ◌-◌, true, false, List, [], ◌∷◌, ◌++◌, length, Option, Some, None, is_some}
+use Rattle.stm_terms.specs.declared.verdicts.Verdict.TheVariants.{Blocks}
 use Rattle.stm_queue.specs.Queue.{recalled}
 use Rattle.stm_history.specs.declared.event.What.{What}
 use Rattle.stm_history.specs.SlowDesk.{Waiter, Slow, is_current, verdict_on, find_waiter}
-use Rattle.stm_history.specs.SlowSettle.{next_what, has_cells, settling, Stop, NoRoom, NoCells, settle_stop, finishes, installs, ends}
+use Rattle.stm_history.specs.SlowSettle.{lowest, is_due, can_end, next_what, has_cells, settling, Stop, NoRoom, NoCells, settle_stop, finishes, installs}
 use Rattle.stm_history.specs.Machine.{event}
 use Rattle.stm_desk.specs.declared.errors.SettleWhy.{SettleWhy}
 use Rattle.stm_desk.specs.declared.errors.SettleWhy.TheVariants.{HistoryFull, CellsFull, NoMemory}
@@ -42,9 +43,11 @@ pub record HasBegun (client : ℕ) (old new : Seen) (f e : ℕ) : Type 0 where
   pub finished : f ≡ finishes done
   pub evaluated : e ≡ installs done
 
--- nothing is left to do
-abbrev pub IsSettled : Seen → Type 0
-IsSettled d = next_what (now d) ≡ None
+-- nothing is left to do: no block is new or stale, and none has a verdict that doesn't block
+pub record IsSettled (d : Seen) : Type 0 where
+  pub none_due : lowest is_due (now d).waiters ≡ None
+  pub none_ends : lowest (can_end (now d).store) (now d).waiters ≡ None
+  pub nothing_next : next_what (now d) ≡ None
 
 -- something is left, and the history is full
 pub record IsFull (d : Seen) : Type 0 where
@@ -67,4 +70,4 @@ StopTold NoMemory client old new f e = HasBegun client old new f e
 -- each waiting block is current and blocks on the present store
 abbrev pub AllBlock : Slow → Type 0
 AllBlock s =
-    (t : ℕ) (w : Waiter) → find_waiter t s.waiters ≡ Some w → (is_current w ≡ true) × (ends (verdict_on s.store w.block) ≡ false)
+    (t : ℕ) (w : Waiter) → find_waiter t s.waiters ≡ Some w → (is_current w ≡ true) × (verdict_on s.store w.block ≡ Some Blocks)

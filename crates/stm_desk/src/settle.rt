@@ -253,6 +253,8 @@ impl Desk {
             let ticket = match self.next_end(&mut candidates) {
                 Some(ticket) => ticket,
                 None => {
+                    // Each waiting block is known to have a verdict by this.
+                    let _events = self.history();
                     return Ok(Settled {
                         finished,
                         evaluations,

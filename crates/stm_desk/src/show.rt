@@ -7,11 +7,14 @@ ghost use Rattle.stm_history.specs.SlowDesk.{Waiter, IsLegal, is_current, find_w
 ghost use Rattle.stm_history.specs.SlowSettle.{lowest};
 ghost use Rattle.stm_history.specs.BlockStatus.{shown, read_then, read_now};
 ghost use Rattle.stm_history.specs.JobsHandedOut.{block_at};
-ghost use Rattle.stm_desk.specs.Seen.{now, DeskQueueIsRight};
+ghost use Rattle.stm_history.specs.Headline.{HeadlineHoldsBy};
+ghost use Rattle.stm_queue.specs.Queue.{tickets};
+ghost use Rattle.stm_queue.specs.SortedTickets.{IsRising};
+ghost use Rattle.stm_desk.specs.Seen.{now, DeskQueueIsRight, AllHaveVerdicts, SettlesInRounds};
 
 use crate::desk::Desk;
 use stm_check::SharedBlock;
-use stm_history::{Event, Status};
+use stm_history::{Event, StalenessRule, Status};
 use stm_store::{Store, Table};
 use stm_terms::values::Value;
 
@@ -67,9 +70,14 @@ impl Desk {
         ensures legal { IsLegal self.now.table self.now.history }
         ensures few { length self.now.history ≤ self.now.limit }
         ensures queue { DeskQueueIsRight self.now }
+        ensures rising { IsRising (tickets self.now.pending) }
+        ensures verdicts { AllHaveVerdicts (now self.now) }
+        ensures rounds { SettlesInRounds (now self.now) }
+        ensures headline { HeadlineHoldsBy StalenessRule.Changed self.now.table self.now.history }
     {
-        // The queue is known to be right by this.
+        // The queue is known to be right by this, and the store to be well typed by the next call.
         let _queue = self.machine.waiting();
+        let _variables = self.machine.store().len();
         self.history.as_slice()
     }
 

@@ -3,6 +3,7 @@
 ghost use Rattle.std.specs.Prelude.{◌≡◌, ◌<◌, IfOk, OnErr};
 ghost use Rattle.stm_history.specs.SlowDesk.{IsLegal, max_clients};
 ghost use Rattle.stm_history.specs.declared.event.What.{What as AnyWhat};
+ghost use Rattle.stm_history.specs.Laws.{IsWellTyped};
 ghost use Rattle.stm_history.specs.Machine.{event};
 ghost use Rattle.stm_history.specs.Refusals.{submit_told};
 ghost use Rattle.stm_desk.specs.Seen.{now, with_event};
@@ -11,6 +12,13 @@ ghost use Rattle.stm_desk.specs.Refusals.{submit_refusal};
 use crate::desk::Desk;
 use stm_check::SharedBlock;
 use stm_history::{Event, SubmitError, What};
+
+/// Every block is well typed. Its type keeps that, and this says it.
+fn say_typed(block: &SharedBlock)
+    ensures { IsWellTyped block.now }
+{
+    let _action = block.block().action();
+}
 
 impl Desk {
     /// Why the block can't be submitted, an out-of-memory error aside.
@@ -34,6 +42,7 @@ impl Desk {
             Ok(()) => {}
             Err(refusal) => return Err(refusal),
         }
+        say_typed(&block);
         let told = block.share()?;
         self.history.reserve(1)?;
         let ticket = self.machine.wait(block)?;

@@ -3,6 +3,8 @@
 ghost use Rattle.std.specs.Prelude.{◌≡◌, ◌≤◌, List, nat_lt, true, Some, length, option_map};
 ghost use Rattle.std.specs.Option.{option_copied};
 ghost use Rattle.stm_store.specs.Tables.{Declared, opened};
+ghost use Rattle.stm_queue.specs.Queue.{tickets};
+ghost use Rattle.stm_queue.specs.SortedTickets.{IsRising};
 ghost use Rattle.stm_history.specs.declared.event.Event.{Event};
 ghost use Rattle.stm_history.specs.declared.staleness.StalenessRule.{StalenessRule as AnyRule};
 ghost use Rattle.stm_history.specs.SlowDesk.{Waiter, is_current, find_waiter, standing, initial_state, state_by, serial, finished_from_by, max_waiting};
@@ -93,7 +95,10 @@ impl Machine {
             → StandsForBy R T H self.now → result ≤ max_waiting }
         ensures queue { (R : AnyRule) (T : List Declared) (H : List Event)
             → StandsForBy R T H self.now → QueueIsRight (state_by R T H) self.now.pending }
+        ensures rising { IsRising (tickets self.now.pending) }
     {
+        // The tickets are known to rise by this.
+        let _rising = self.pending.has_room(0);
         self.waiting.len()
     }
 

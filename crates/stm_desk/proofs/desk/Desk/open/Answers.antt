@@ -4,4 +4,4 @@ use Rattle.stm_desk.proofs.desk.Desk.open.Goals as goal
 
 pub invariant_of-result : goal.invariant_of-result
 invariant_of-result c =
-    rw (c.in_ok-table.ensures, c.new.ensures.items) (record { stands = c.in_ok-machine.ensures.stands Changed; few = omega arith; small = c.requires })
+    rw (c.in_ok-table.ensures, c.new.ensures.items) (record { stands = c.in_ok-machine.ensures.stands Changed; few = omega arith; small = c.requires; typed = tt })

@@ -3,7 +3,7 @@ use Rattle.stm_history.specs.SlowSettle.{is_due, can_end}
 use Rattle.stm_desk.specs.Seen.{now}
 use Rattle.stm_desk.specs.Settling.{called_back}
 use Rattle.stm_desk.proofs.Turns.{none_at}
-use Rattle.stm_desk.proofs.Runs.{all_block, nothing_next, begun_here, begun_round, begun_finish, settled_end, stop_told, finished_fits, evaluated_fits, less_after, out_one, out_back}
+use Rattle.stm_desk.proofs.Runs.{all_block, nothing_next, is_settled, begun_here, begun_round, begun_finish, settled_end, stop_told, finished_fits, evaluated_fits, less_after, out_one, out_back}
 use Rattle.stm_desk.proofs.desk.Desk.settle.Goals as goal
 
 pub returns-in-Err-clause-none_out : goal.returns-in-Err-clause-none_out
@@ -41,12 +41,12 @@ returns-in-None-clause-done c =
 pub returns-in-None-clause-settled : goal.returns-in-None-clause-settled
 returns-in-None-clause-settled c =
     let s = now c.deliver_all.new.self in
-    nothing_next s (none_at is_due s c.in-Ok-deliver_all.ensures.none_due) (none_at (can_end s.store) s (sym c.next_end.ensures.first ∙ c.in-None.is))
+    is_settled c.deliver_all.new.self (none_at is_due s c.in-Ok-deliver_all.ensures.none_due) (none_at (can_end s.store) s (sym c.next_end.ensures.first ∙ c.in-None.is))
 
 pub returns-in-None-clause-blocks : goal.returns-in-None-clause-blocks
 returns-in-None-clause-blocks c =
     let s = now c.deliver_all.new.self in
-    all_block s (none_at is_due s c.in-Ok-deliver_all.ensures.none_due) (none_at (can_end s.store) s (sym c.next_end.ensures.first ∙ c.in-None.is))
+    all_block s c.history-events.ensures.verdicts (none_at is_due s c.in-Ok-deliver_all.ensures.none_due) (none_at (can_end s.store) s (sym c.next_end.ensures.first ∙ c.in-None.is))
 
 pub overflow_add-finished : goal.overflow_add-finished
 overflow_add-finished c =

@@ -14,7 +14,7 @@ pub invariant_of-self-2 : goal.invariant_of-self-2
 invariant_of-self-2 c =
     let e = subst (λ (d : Seen). None ≡ submit_refusal d c.args.block) (sym c.self.view_is) c.in-Ok.ensures in
     rw (c.push_reserved.ensures.items, c.in_ok-reserve.ensures.items, c.in_ok-told.ensures)
-    (kept_move _ _ _ _ c.self.invariant c.args.client _ _ c.requires (submit_full _ _ _ _ c.self.invariant c.args.block e)
+    (kept_move _ _ _ _ c.self.invariant c.args.client _ _ c.requires (submit_full _ _ _ _ c.self.invariant c.args.block e) c.say_typed.ensures
     (c.in_ok-ticket.ensures.moved Changed c.self.inside.table c.self.inside.history.items (can_wait _ _ _ _ c.self.invariant c.args.block e)))
 
 pub returns-clause-legal : goal.returns-clause-legal

@@ -1,0 +1,40 @@
+-- Each waiting block has a verdict on the present store, so settling is rounds.
+use Rattle.std.proofs.Common.{◌≡◌, ℕ, ◌<◌, Bool, true, false, cond, List, [], ◌∷◌, Option, Some, None, refl, ap, sym, ◌∙◌, arith}
+use Rattle.std.specs.Prelude.{nat_eq, is_some}
+use Rattle.std.proofs.lemmas.Bool.Decides.{nat_tests}
+use Rattle.stm_store.specs.declared.cell.Cell.{Cell}
+use Rattle.stm_store.specs.Cells.{plains, StoreIsTyped}
+use Rattle.stm_history.specs.declared.staleness.StalenessRule.TheVariants.{Changed}
+use Rattle.stm_history.specs.SlowDesk.{Waiter, verdict_on, find_waiter, IsLegal}
+use Rattle.stm_history.specs.Laws.{AreRising, SubmittedAreWellTyped}
+use Rattle.stm_history.specs.Rounds as rounds
+use Rattle.stm_history.proofs.Rounds.{settling_is_rounds}
+use Rattle.stm_history.proofs.TypedStores.{waiting_are_well_typed, blocks_have_verdicts}
+use Rattle.stm_desk.specs.Seen.{Seen, now, AllHaveVerdicts, SettlesInRounds}
+use Rattle.stm_desk.proofs.Ripe.{waits_above}
+use Rattle.stm_desk.proofs.Turns.{rising_now}
+
+pub have_verdicts : (d : Seen) → IsLegal d.table d.history → SubmittedAreWellTyped d.history → StoreIsTyped (plains (now d).store) → AllHaveVerdicts (now d)
+have_verdicts d legal typed store = λ t w f.
+    let b = waiting_are_well_typed Changed d.table d.history t w typed f in
+    let v = blocks_have_verdicts Changed d.table d.history t w b.0 legal store f b.1 in
+    ap is_some v.1
+
+itself : (t : ℕ) → nat_eq t t ≡ true
+itself t = grind (arith, nat_tests)
+
+unlike : (t u : ℕ) → u < t → nat_eq t u ≡ false
+unlike t u l = grind (arith, nat_tests)
+
+-- the same of the list
+listed : (n k : ℕ) (store : List Cell) (ws : List Waiter) → AreRising n k ws
+    → ((t : ℕ) (w : Waiter) → find_waiter t ws ≡ Some w → is_some (verdict_on store w.block) ≡ true) → rounds.HaveVerdicts store ws
+listed n k store [] r each = tt
+listed n k store (w ∷ ws) r each = (
+  λ d. each w.ticket w (rw (itself w.ticket) refl),
+  listed n w.ticket store ws r.2 (λ t x f. each t x (rw (unlike t w.ticket (waits_above n w.ticket t ws x r.2 f)) f)),
+)
+
+pub settles_in_rounds : (d : Seen) → IsLegal d.table d.history → AllHaveVerdicts (now d) → SettlesInRounds (now d)
+settles_in_rounds d legal have = λ room.
+    let r = rising_now d legal in settling_is_rounds room (now d) r (listed (now d).next 0 (now d).store (now d).waiters r have)

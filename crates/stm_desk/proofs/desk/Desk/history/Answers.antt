@@ -1,0 +1,28 @@
+use Rattle.std.proofs.Common.{◌≡◌, List, subst}
+use Rattle.stm_store.specs.declared.cell.Cell.{Cell}
+use Rattle.stm_store.specs.Cells.{plains, StoreIsTyped}
+use Rattle.stm_history.specs.declared.staleness.StalenessRule.TheVariants.{Changed}
+use Rattle.stm_history.specs.Headline.{HeadlineHoldsBy}
+use Rattle.stm_history.proofs.Headline.{headline}
+use Rattle.stm_desk.specs.Seen.{Seen, now, AllHaveVerdicts, SettlesInRounds}
+use Rattle.stm_desk.proofs.Verdicts.{have_verdicts, settles_in_rounds}
+use Rattle.stm_desk.proofs.desk.Desk.history.Goals as goal
+
+pub returns-clause-verdicts : goal.returns-clause-verdicts
+returns-clause-verdicts c =
+    let d : Seen = record { table = c.self.inside.table; limit = c.self.inside.limit; history = c.self.inside.history.items; pending = c.self.inside.machine.pending } in
+    let k = c.self.invariant in
+    let store : StoreIsTyped (plains (now d).store) = subst (λ (cells : List Cell). StoreIsTyped (plains cells)) (c.store.ensures.store Changed d.table d.history k.stands) c.len-variables.ensures.typed in
+    subst (λ (d : Seen). AllHaveVerdicts (now d)) c.self.view_is (have_verdicts d k.stands.legal k.typed store)
+
+pub returns-clause-rounds : goal.returns-clause-rounds
+returns-clause-rounds c =
+    let d : Seen = record { table = c.self.inside.table; limit = c.self.inside.limit; history = c.self.inside.history.items; pending = c.self.inside.machine.pending } in
+    let k = c.self.invariant in
+    let store : StoreIsTyped (plains (now d).store) = subst (λ (cells : List Cell). StoreIsTyped (plains cells)) (c.store.ensures.store Changed d.table d.history k.stands) c.len-variables.ensures.typed in
+    subst (λ (d : Seen). SettlesInRounds (now d)) c.self.view_is (settles_in_rounds d k.stands.legal (have_verdicts d k.stands.legal k.typed store))
+
+pub returns-clause-headline : goal.returns-clause-headline
+returns-clause-headline c =
+    let d : Seen = record { table = c.self.inside.table; limit = c.self.inside.limit; history = c.self.inside.history.items; pending = c.self.inside.machine.pending } in
+    subst (λ (d : Seen). HeadlineHoldsBy Changed d.table d.history) c.self.view_is (headline Changed d.table d.history c.self.invariant.stands.legal)
