@@ -23,21 +23,20 @@ class Answers:
     """
 
     def __init__(self) -> None:
-        self.names: dict[int, str] = {}
+        self.refs: dict[str, Ref] = {}  # of each declared variable, by its text
         self.types: dict[str, str] = {}  # of each declared name
         self.first: str | None = None  # the command that ended the declarations
 
     def tvar(self, words: Sequence[str], declaration: str) -> Ref:
         """`tvar #0 x`: the variable, whose name and type are kept."""
-        number, name = int(words[1].removeprefix("#")), words[2]
-        self.names[number] = name
+        name = words[2]
         self.types[name] = " ".join(declaration.partition(":")[2].partition("=")[0].split())
-        return self.ref(words[1])
+        self.refs[words[1]] = ref = Ref(int(words[1].removeprefix("#")), name)
+        return ref
 
     def ref(self, text: str) -> Ref:
         """`#0`"""
-        number = int(text.removeprefix("#"))
-        return Ref(number, self.names.get(number))
+        return self.refs.get(text) or Ref(int(text.removeprefix("#")))
 
     def value(self, text: str) -> Value:
         """`7`, `True`, `()`, `#0` or `new0`"""

@@ -344,7 +344,9 @@ def _decimal(number: int) -> str:
 def _line(command: str, text: str) -> str:
     """The line of a command with its argument, in which each line feed is a blank, and a carriage return before it, too.
     Raises ValueError if another control character is in the argument, and TypeError if it is no text."""
-    found = None if str.isprintable(text) else _CONTROL.search(text)
-    if found:
-        raise ValueError(f"control character {found[0]!r} at {found.start()} of {text[:80]!r}")
-    return f"{command} {text}".translate({10: 32, 13: 32}) if text else command
+    if not str.isprintable(text):
+        found = _CONTROL.search(text)
+        if found:
+            raise ValueError(f"control character {found[0]!r} at {found.start()} of {text[:80]!r}")
+        text = text.replace("\r", " ").replace("\n", " ")
+    return f"{command} {text}" if text else command
