@@ -1,9 +1,15 @@
 """The words of the command line: the options, those of help, and those that are refused; nothing is read for these two."""
 
+import pathlib
 import re
 
 import tours
 import transcript
+
+ROOT = pathlib.Path(__file__).resolve().parent.parent
+HELP_TEXTS = ROOT / "docs" / "help"
+HELP_NAMES = ("stmdesk", "run", "storm", "check")
+VERSION_FILE = ROOT / "crates" / "stm_console" / "src" / "version.rt"
 
 ARGUMENTS = {  # of each command of the console
     **{"tvar": "NAME : TYPE = INIT", "try": "BLOCK", "looks": "BLOCK", "submit": "BLOCK", "take": "N", "deliver": "J"},
@@ -12,7 +18,7 @@ ARGUMENTS = {  # of each command of the console
 }
 COMMANDS = [rf"  {word} ?{argument}( .*)?" for word, argument in ARGUMENTS.items()]
 HELP = [r"Usage: stmdesk \[COMMAND\]", r"Commands:", *(rf"  {word} +.*" for word in ("run", "storm", "check", "help"))]
-HELP += [r"  -h, --help +.*"]
+HELP += [r"  -h, --help +.*", r"  -V, --version +.*"]
 EXAMPLE_IN_HELP = rf" {{4,}}(({'|'.join(ARGUMENTS)})( .*)?)"
 REFUSED_ALONE = ["NotOut", "NotEvaluated", "Stale", "Blocks", "NoTicket", "NoJob", "Already"]  # what an example may be
 HELP_OF_RUN = [r"Usage: stmdesk run .*", r" +--workers .*", r" +--levels .*", r" +--max-events .*", *COMMANDS]
@@ -23,6 +29,7 @@ FORMS_OF_HELP = [["--help"], ["-h"], ["help"]]
 FORMS_OF_HELP_OF_RUN = [["run", "--help"], ["run", "-h"], ["help", "run"]]
 FORMS_OF_HELP_OF_STORM = [["storm", "--help"], ["storm", "-h"], ["help", "storm"]]
 FORMS_OF_HELP_OF_CHECK = [["check", "--help"], ["check", "-h"], ["help", "check"]]
+FORMS_OF_VERSION = [["--version"], ["-V"]]
 RUN = [[], ["run"], ["run", "--"], ["--"]]
 RUNS = ["run", "storm"]  # the commands that take the options
 OPTIONS = {"--workers": (1, 64, 2), "--levels": (0, 8, 0), "--max-events": (0, 1048576, 1048576)}  # least, most, default
@@ -108,6 +115,20 @@ def judge_sessions(program, words):
     return next((said for said in (tours.judge(program, *session) for session in sessions) if said), None)
 
 
+def judge_kept(program, words, name):
+    """The text that the launcher prints while nothing is built is the program's."""
+    printed = transcript.run(program, of(words)).stdout.decode()
+    return None if printed == (HELP_TEXTS / f"{name}.txt").read_text() else f"docs/help/{name}.txt isn't what the program prints"
+
+
+def judge_version(program, words):
+    version = re.search(r'pub const VERSION: &str = "(.*)";', VERSION_FILE.read_text())[1]
+    done = transcript.run(program, of(words))
+    if (done.returncode, done.stdout, done.stderr, done.taken) != (0, f"stmdesk {version}\n".encode(), b"", 0):
+        return f"status {done.returncode}, {done.stdout!r}, {done.stderr!r}, {done.taken} bytes read"
+    return None
+
+
 def judge_refused(program, words):
     done = transcript.run(program, of(words))
     if (done.returncode, done.stdout, done.taken) != (2, b"", 0) or not done.stderr.startswith(b"error: "):
@@ -143,6 +164,10 @@ def judged(program, cases):
     ):
         for words in forms:
             yield f"words {words}", judge_help(program, words, patterns)
+    for words, name in zip((FORMS_OF_HELP, FORMS_OF_HELP_OF_RUN, FORMS_OF_HELP_OF_STORM, FORMS_OF_HELP_OF_CHECK), HELP_NAMES):
+        yield f"words {words[0]}, the launcher's text", judge_kept(program, words[0], name)
+    for words in FORMS_OF_VERSION:
+        yield f"words {words}", judge_version(program, words)
     yield f"words {FORMS_OF_HELP_OF_RUN[0]}, the examples", judge_examples(program, FORMS_OF_HELP_OF_RUN[0])
     for forms in (FORMS_OF_HELP, FORMS_OF_HELP_OF_RUN, FORMS_OF_HELP_OF_STORM, FORMS_OF_HELP_OF_CHECK):
         yield f"words {forms[0]}, what it says to run", judge_sessions(program, forms[0])
