@@ -9,7 +9,7 @@ use Rattle.stm_history.specs.Fits.{FitsTable, FitsFormat}
 use Rattle.stm_history.specs.Lines.{IsFormat, rule_of, event_line}
 use Rattle.stm_history.specs.Judgement.{IsShort, BeginsWithHistory, NoEventNext, IsIllegalBy, TellsFault, next_line}
 use Rattle.stm_history.specs.FileLaws.{HistoriesAreTaken, FaultsAreFixed}
-use Rattle.stm_history.proofs.Unique.{IsNext, Compared, same, more, fewer, AreCompared, at_same, both, nothing_next, never_next, legal_next, header_by}
+use Rattle.stm_history.proofs.Unique.{IsNext, Compared, same, more, fewer, at_same, both, nothing_next, never_next, legal_next, header_by}
 
 -- the line after these events is bad: something is left, and no line of an event
 pub record IsBadNext (q : ℕ) (U : List Declared) (H : List Event) (a : List ℕ) (n : ℕ) : Type 0 where

@@ -1,5 +1,5 @@
 -- The reader of whole types is good, and the call answers as the grammar allows.
-use Rattle.std.proofs.Common.{◌≡◌, ℕ, ◌≤◌, List, arith, Ok, Err, IfSome}
+use Rattle.std.proofs.Common.{◌≡◌, ℕ, List, arith, Ok, Err, IfSome}
 use Rattle.stm_terms.specs.declared.kinds.Ty.{Ty}
 use Rattle.stm_parse.specs.declared.token.Lexeme.{Lexeme}
 use Rattle.stm_parse.specs.declared.token.Failure.{Failure}
