@@ -145,17 +145,18 @@ sent_later u t k f es e l s =
       out = ap (is_out u) m ∙ ap (λ (b : Bool). (nat_eq u f.0 && f.1) || b) s.out ∙ swap_or (nat_eq u f.0 && f.1) (nat_eq u t) (is_out u es);
     }
 
+sent_after : (o : Bool) (u t : ℕ) (f g : Entry) (es : List Entry) → f.1 ≡ o → RisesAbove f.0 (g.0 ∷ tickets es) → cond o (first_queued (g ∷ es)) (Some f.0) ≡ Some t
+    → (first_queued (g ∷ es) ≡ Some t → IsSent u t g.0 (g ∷ es)) → IsSent u t f.0 (f ∷ g ∷ es)
+sent_after true u t f g es e r h more = sent_later u t g.0 f (g ∷ es) e r.0 (more h)
+sent_after false u t f g es e r h more = let q : f.0 ≡ t = cc in sent_here u t f (g ∷ es) r e q
+
 sent_first : (u t : ℕ) (f : Entry) (es : List Entry) → RisesAbove f.0 (tickets es) → first_queued (f ∷ es) ≡ Some t → IsSent u t f.0 (f ∷ es)
 sent_first u t f [] r h = by f.1 refl h
   where
     by : (o : Bool) → f.1 ≡ o → cond o None (Some f.0) ≡ Some t → IsSent u t f.0 (f ∷ [])
     by true e g = absurd cc
     by false e g = let q : f.0 ≡ t = cc in sent_here u t f [] r e q
-sent_first u t f (g ∷ es) r h = by f.1 refl h
-  where
-    by : (o : Bool) → f.1 ≡ o → cond o (first_queued (g ∷ es)) (Some f.0) ≡ Some t → IsSent u t f.0 (f ∷ g ∷ es)
-    by true e i = sent_later u t g.0 f (g ∷ es) e r.0 (sent_first u t g es r.1 i)
-    by false e i = let q : f.0 ≡ t = cc in sent_here u t f (g ∷ es) r e q
+sent_first u t f (g ∷ es) r h = sent_after f.1 u t f g es refl r h (sent_first u t g es r.1)
 
 -- ---- many that are handed out
 none_by : (o : Bool) (f : Entry) (es : List Entry) → f.1 ≡ o → (first_queued es ≡ None → queued es ≡ []) → cond o (first_queued es) (Some f.0) ≡ None → queued (f ∷ es) ≡ []
@@ -171,9 +172,9 @@ or_assoc true true c = refl
 or_assoc true false c = refl
 or_assoc false b c = refl
 
-take_none : (n : ℕ) → take n [] ≡ []
-take_none zero = refl
-take_none (suc n) = refl
+take_none : (n : ℕ) (ts : List ℕ) → ts ≡ [] → take n ts ≡ []
+take_none zero ts e = refl
+take_none (suc n) ts e = ap (take (suc n)) e
 
 -- where none is queued, none is handed out
 sent_none : (n u : ℕ) (es : List Entry) → first_queued es ≡ None → is_out u (sent n es) ≡ is_out u es
@@ -181,26 +182,29 @@ sent_none zero u es h = refl
 sent_none (suc n) u es h = ap (λ (o : Option ℕ). is_out u (sent n (sent_out o es))) h ∙ sent_none n u es h
 
 none_taken : (n u : ℕ) (es : List Entry) → first_queued es ≡ None → is_out u (sent n es) ≡ (member u (take n (queued es)) || is_out u es)
-none_taken n u es h = sent_none n u es h ∙ sym (ap (λ (ts : List ℕ). member u (take n ts) || is_out u es) (none_queued es h) ∙ ap (λ (ts : List ℕ). member u ts || is_out u es) (take_none n))
+none_taken n u es h = sent_none n u es h ∙ sym (ap (λ (ts : List ℕ). member u ts || is_out u es) (take_none n (queued es) (none_queued es h)))
 
 first_sent : (u t : ℕ) (es : List Entry) → IsRising (tickets es) → first_queued es ≡ Some t → (queued es ≡ t ∷ queued (marked t true es)) × (is_out u (marked t true es) ≡ (nat_eq u t || is_out u es))
 first_sent u t [] r h = absurd cc
 first_sent u t (f ∷ es) r h = let s = sent_first u t f es r h in (s.front, s.out)
 
-out_sent : (n u : ℕ) (es : List Entry) → IsRising (tickets es) → is_out u (sent n es) ≡ (member u (take n (queued es)) || is_out u es)
+abbrev AreSent : ℕ → ℕ → List Entry → Type 0
+AreSent n u es = is_out u (sent n es) ≡ (member u (take n (queued es)) || is_out u es)
+
+out_more : (n u : ℕ) (es : List Entry) (o : Option ℕ) → first_queued es ≡ o → IsRising (tickets es) → ((fs : List Entry) → IsRising (tickets fs) → AreSent n u fs) → AreSent (suc n) u es
+out_more n u es None e r more = none_taken (suc n) u es e
+out_more n u es (Some t) e r more =
+    let s = first_sent u t es r e in
+    let next = marked t true es in
+    let rising : IsRising (tickets next) = subst IsRising (sym (tickets_marked t true es)) r in
+    ap (λ (o : Option ℕ). is_out u (sent n (sent_out o es))) e ∙ more next rising
+    ∙ ap (λ (b : Bool). member u (take n (queued next)) || b) s.1
+    ∙ or_assoc (nat_eq u t) (member u (take n (queued next))) (is_out u es)
+    ∙ ap (λ (ts : List ℕ). member u (take (suc n) ts) || is_out u es) (sym s.0)
+
+out_sent : (n u : ℕ) (es : List Entry) → IsRising (tickets es) → AreSent n u es
 out_sent zero u es r = refl
-out_sent (suc n) u es r = by (first_queued es) refl
-  where
-    by : (o : Option ℕ) → first_queued es ≡ o → is_out u (sent (suc n) es) ≡ (member u (take (suc n) (queued es)) || is_out u es)
-    by None e = none_taken (suc n) u es e
-    by (Some t) e =
-        let s = first_sent u t es r e in
-        let next = marked t true es in
-        let rising : IsRising (tickets next) = subst IsRising (sym (tickets_marked t true es)) r in
-        ap (λ (o : Option ℕ). is_out u (sent n (sent_out o es))) e ∙ out_sent n u next rising
-        ∙ ap (λ (b : Bool). member u (take n (queued next)) || b) s.1
-        ∙ or_assoc (nat_eq u t) (member u (take n (queued next))) (is_out u es)
-        ∙ ap (λ (ts : List ℕ). member u (take (suc n) ts) || is_out u es) (sym s.0)
+out_sent (suc n) u es r = out_more n u es (first_queued es) refl r (out_sent n u)
 
 pub out_tickets_are_a_set : OutTicketsAreASet
 out_tickets_are_a_set = record {
