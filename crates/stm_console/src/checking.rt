@@ -10,7 +10,8 @@ use crate::output::write_line;
 use crate::streams::RunFault;
 use std::alloc::Global;
 use std::io::{Read, Write};
-use stm_history::{HistoryFault, check_history};
+use stm_history::{HistoryFault, check_history_with};
+use stm_store::Seed;
 use stm_terms::NoMemory;
 use stm_terms::text::write_number;
 
@@ -38,10 +39,10 @@ impl Finding {
 }
 
 /// Judges all bytes of a reader.
-fn judge<R: Read>(alloc: Global, reader: &mut R) -> Result<Finding, RunFault>
+fn judge<R: Read>(alloc: Global, seed: Seed, reader: &mut R) -> Result<Finding, RunFault>
     ensures { IfOk result (λ f. IfSome (R.remaining reader.old) (λ bytes. IsFinding bytes f)) }
 {
-    match check_history(alloc, reader) {
+    match check_history_with(alloc, seed, reader) {
         Ok(legal) => Ok(Finding::Legal(legal.events)),
         Err(HistoryFault::BadHeader) => Ok(Finding::BadHeader),
         Err(HistoryFault::BadLine(line)) => Ok(Finding::BadLine(line)),
@@ -105,7 +106,28 @@ pub fn check<R: Read, W: Write>(
     ensures unfound { IfErr result (λ e.
         e ≢ RunFault.Write → Keeps (W.contents writer.old) (W.contents writer.new)) }
 {
-    let finding = judge(alloc, reader)?;
+    check_with(alloc, Seed::fixed(), reader, writer)
+}
+
+/// Does what `check` does, and looks up the names of variables under the seed.
+pub fn check_with<R: Read, W: Write>(
+    alloc: Global,
+    seed: Seed,
+    reader: &mut R,
+    writer: &mut W,
+) -> Result<Finding, RunFault>
+    // What is found of the bytes was written.
+    ensures found { IfOk result (λ f. IfSome (R.remaining reader.old) (λ bytes. IsFinding bytes f)
+        × Appends (W.contents writer.old) (W.contents writer.new) (finding_text f)) }
+    // After a fault nothing or a prefix of it.
+    ensures part { OnErr result (IfSome (R.remaining reader.old) (λ bytes.
+        (front : List ℕ) × BeginsFindingText bytes front
+        × Appends (W.contents writer.old) (W.contents writer.new) front)) }
+    // After a read fault, or where memory is refused, nothing.
+    ensures unfound { IfErr result (λ e.
+        e ≢ RunFault.Write → Keeps (W.contents writer.old) (W.contents writer.new)) }
+{
+    let finding = judge(alloc, seed, reader)?;
     let line = finding_line(alloc, finding)?;
     write_line(writer, line.as_bytes())?;
     Ok(finding)

@@ -22,7 +22,7 @@ use std::io::Write;
 use std::str;
 use std::thread::Threads;
 use stm_history::WriteFault;
-use stm_store::Table;
+use stm_store::{Seed, Table};
 use stm_terms::NoMemory;
 
 /// The declared variables, and how many events the desk will take; or the desk once it is open.
@@ -84,13 +84,13 @@ impl Console {
     ghost use Rattle.std.specs.Borrow.{sem};
     ghost use Rattle.stm_console.specs.LentDesk.{LendsDesk};
 
-    /// A console of no variables, whose desk will take so many events.
+    /// A console of no variables, whose names will be looked up under the seed, and whose desk will take so many events.
     #[tactic(auto, unfolding(crate::specs::Console::initial_console))]
-    pub fn new(alloc: Global, limit: EventLimit) -> Console
+    pub fn new(alloc: Global, seed: Seed, limit: EventLimit) -> Console
         ensures { result ≡ initial_console limit }
     {
         Console::Declaring {
-            table: Table::empty(alloc),
+            table: Table::with_seed(alloc, seed),
             limit,
         }
     }

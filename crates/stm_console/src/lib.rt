@@ -61,7 +61,7 @@ mod threading;
 mod trying;
 pub mod version;
 
-pub use checking::{Finding, check};
+pub use checking::{Finding, check, check_with};
 pub use options::Options;
 pub use program::start;
 pub use steps::Steps;

@@ -11,7 +11,7 @@ ghost use Rattle.stm_console.specs.CommandLine.{answers_of, asks_for_help, asks_
 ghost use Rattle.stm_console.specs.Options.{AreRunOptions};
 ghost use Rattle.stm_console.specs.StormText.{IsStormText};
 
-use crate::checking::{Finding, check};
+use crate::checking::{Finding, check_with};
 use crate::command_line::{Request, read_words};
 use crate::output::{flush, write_line};
 use crate::storming::{StormFault, storm};
@@ -22,8 +22,10 @@ use clap::error::ErrorKind;
 use std::alloc::Global;
 use std::convert::AsStr;
 use std::io::{Read, Write};
+use std::random::RandomSource;
 use std::sync::Wait;
 use std::thread::Threads;
+use stm_store::Seed;
 
 /// The exit status where a line of a script is faulty.
 const FAULTY_SCRIPT: u8 = 1;
@@ -164,7 +166,7 @@ fn end_storm<E: Write>(ended: Result<(), StormFault>, errors: &mut E) -> u8
 /// 0: the input was read to its end, or help or the version was written. 1: a read or a write failed, or a line of a script is faulty. 2: the
 /// words were refused. 3: the history isn't legal. 4: memory ran out, or a thread couldn't be started. That `errors` fails
 /// changes nothing.
-pub fn start<'a, T: Threads + Wait + Sync, S: AsStr, R: Read, W: Write, E: Write>(
+pub fn start<'a, T: Threads + Wait + RandomSource + Sync, S: AsStr, R: Read, W: Write, E: Write>(
     rt: &T,
     alloc: Global,
     words: &'a [S],
@@ -237,6 +239,6 @@ pub fn start<'a, T: Threads + Wait + Sync, S: AsStr, R: Read, W: Write, E: Write
     match request {
         Request::Run(options) => end_run(run(rt, alloc, reader, writer, options), errors),
         Request::Storm(options) => end_storm(storm(rt, alloc, reader, writer, options), errors),
-        Request::Check => end_check(check(alloc, reader, writer), errors),
+        Request::Check => end_check(check_with(alloc, Seed::random(rt), reader, writer), errors),
     }
 }

@@ -17,6 +17,7 @@ use memchr::memchr;
 use std::alloc::Global;
 use std::io::Write;
 use std::thread::Threads;
+use stm_store::Seed;
 
 /// The console, the bytes of a line that has begun, room for an answer, and how many threads evaluate.
 pub struct Session {
@@ -39,12 +40,12 @@ impl Drop for Session {
 }
 
 impl Session {
-    pub fn new(alloc: Global, limit: EventLimit, threading: Threading) -> Session
+    pub fn new(alloc: Global, seed: Seed, limit: EventLimit, threading: Threading) -> Session
         ensures console { result.console ≡ initial_console limit }
         ensures line { result.line.items ≡ [] }
     {
         Session {
-            console: Console::new(alloc, limit),
+            console: Console::new(alloc, seed, limit),
             line: Vec::new(alloc),
             answer: String::new(alloc),
             threading,

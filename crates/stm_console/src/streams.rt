@@ -18,9 +18,11 @@ use crate::threading::Threading;
 use std::alloc::Global;
 use std::io::{ErrorKind, Read, Write};
 use std::marker::Brand;
+use std::random::RandomSource;
 use std::sync::ledger::{Blank, Ledger};
 use std::thread::Threads;
 use stm_history::WriteFault;
+use stm_store::Seed;
 use thiserror::Error;
 
 /// Why a run ended before its input did.
@@ -99,7 +101,7 @@ fn run_session<T: Threads + Sync, R: Read, W: Write, L: Ledger>(
 
 /// Does what `run` does, and counts the calls of the reader: each call is one step, and the reader is called in no other place.
 #[tactic(auto, unfolding(crate::specs::Console::console_text, crate::specs::Console::whole_lines_text, crate::specs::Streaming::rest_text, crate::specs::Streaming::whole_rest_text))]
-pub fn run_counted<T: Threads + Sync, R: Read, W: Write, L: Ledger>(
+pub fn run_counted<T: Threads + RandomSource + Sync, R: Read, W: Write, L: Ledger>(
     rt: &T,
     alloc: Global,
     reader: &mut R,
@@ -126,6 +128,7 @@ pub fn run_counted<T: Threads + Sync, R: Read, W: Write, L: Ledger>(
 {
     let mut session = Session::new(
         alloc,
+        Seed::random(rt),
         EventLimit::new(options.max_events),
         Threading::new(options.workers, options.levels),
     );
@@ -134,7 +137,7 @@ pub fn run_counted<T: Threads + Sync, R: Read, W: Write, L: Ledger>(
 }
 
 /// A run whose calls of the reader are counted by a new ledger.
-fn run_from<T: Threads + Sync, R: Read, W: Write, L: Ledger>(
+fn run_from<T: Threads + RandomSource + Sync, R: Read, W: Write, L: Ledger>(
     rt: &T,
     alloc: Global,
     reader: &mut R,
@@ -169,7 +172,7 @@ fn run_from<T: Threads + Sync, R: Read, W: Write, L: Ledger>(
 /// What each command answers is said in docs/CONSOLE.md. An interrupted read is tried again. After 4,294,967,295 calls of
 /// the reader a run ends as it does after a read that fails. The writer is flushed before each read and at the end, so it
 /// may keep a buffer. Of a line that is too long no more than its first 65,538 bytes are kept.
-pub fn run<T: Threads + Sync, R: Read, W: Write>(
+pub fn run<T: Threads + RandomSource + Sync, R: Read, W: Write>(
     rt: &T,
     alloc: Global,
     reader: &mut R,
