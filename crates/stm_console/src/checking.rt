@@ -6,7 +6,7 @@ ghost use Rattle.stm_terms.specs.Texts.{IsPrefixOf};
 ghost use Rattle.stm_console.specs.Checking.{IsFinding, BeginsFindingText, finding_text};
 ghost use Rattle.stm_console.specs.ExitStatus.{finding_status};
 
-use crate::output::{flush, write_text};
+use crate::output::write_line;
 use crate::streams::RunFault;
 use std::alloc::Global;
 use std::io::{Read, Write};
@@ -82,22 +82,6 @@ fn finding_line(alloc: Global, finding: Finding) -> Result<String, RunFault>
     match write_finding(finding, &mut text) {
         Ok(()) => Ok(text),
         Err(_) => Err(RunFault::NoMemory),
-    }
-}
-
-/// Writes a line and flushes.
-fn write_line<W: Write>(writer: &mut W, line: &[u8]) -> Result<(), RunFault>
-    ensures done { OnOk result (Appends (W.contents writer.old) (W.contents writer.new) line.now) }
-    ensures part { OnErr result ((front : List ℕ) × IsPrefixOf front line.now
-        × Appends (W.contents writer.old) (W.contents writer.new) front) }
-    ensures fault { IfErr result (λ e. e ≡ RunFault.Write) }
-{
-    match write_text(writer, line) {
-        Ok(()) => match flush(writer) {
-            Ok(()) => Ok(()),
-            Err(_) => Err(RunFault::Write),
-        },
-        Err(_) => Err(RunFault::Write),
     }
 }
 
