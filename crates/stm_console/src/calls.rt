@@ -4,24 +4,31 @@ ghost use Rattle.std.specs.Prelude.{◌≡◌, ◌↔◌, ◌+◌, ◌<◌, IsTr
 ghost use Rattle.std.specs.Io.{ReadsAtMost};
 ghost use Rattle.std.specs.Io.KnownBytes.{ReadConsumes};
 
+use crate::steps::Steps;
 use std::io;
 use std::io::Read;
+use std::sync::ledger::Ledger;
 
-/// A reader that may be called 4,294,967,295 times. It is reached by `read` alone, and each call is one less that is left.
+/// A reader that may be called 4,294,967,295 times. It is reached by `read` alone, and each call is one less that is left and
+/// one step more.
 #[derive(Drop)]
-pub struct Calls<'a, R> {
+pub struct Calls<'a, R, L: Ledger> {
     reader: &'a mut R,
+    steps: &'a mut Steps<L>,
     left: u32,
 }
 
-impl<'a, R: Read> Calls<'a, R> {
-    pub fn new(reader: &'a mut R) -> Calls<'a, R>
+impl<'a, R: Read, L: Ledger> Calls<'a, R, L> {
+    pub fn new(reader: &'a mut R, steps: &'a mut Steps<L>) -> Calls<'a, R, L>
         ensures same_reader { result.reader.ghost_name ≡ reader.entry.ghost_name }
+        ensures same_steps { result.steps.ghost_name ≡ steps.entry.ghost_name }
         ensures reader { result.reader.now ≡ reader.old }
+        ensures steps { result.steps.now ≡ steps.old }
         ensures all { result.left ≡ u32.MAX }
     {
         Calls {
             reader,
+            steps,
             left: u32::MAX,
         }
     }
@@ -37,12 +44,15 @@ impl<'a, R: Read> Calls<'a, R> {
     pub fn read(&mut self, buffer: &mut [u8]) -> io::Result<usize>
         requires { 0 < self.old.left }
         ensures same_reader { self.new.reader.ghost_name ≡ self.old.reader.ghost_name }
+        ensures same_steps { self.new.steps.ghost_name ≡ self.old.steps.ghost_name }
         ensures one_less { self.new.left + 1 ≡ self.old.left }
+        ensures counted { self.new.steps.now ≡ self.old.steps.now + 1 }
         ensures bound { ReadsAtMost result buffer.new }
         ensures bytes { ReadConsumes (R.remaining self.old.reader.now)
             (R.remaining self.new.reader.now) result buffer.new }
     {
         self.left -= 1;
+        self.steps.tick();
         self.reader.read(buffer)
     }
 }

@@ -7,6 +7,7 @@ use crate::calls::Calls;
 use std::io;
 use std::io::Read;
 use std::marker::Model;
+use std::sync::ledger::Ledger;
 
 /// The most bytes that one call of a reader gives.
 pub const CHUNK: usize = 8_192;
@@ -57,7 +58,7 @@ impl Chunk {
     }
 
     /// Reads the next bytes in place of those that were there, and answers how many they are: none only at the end.
-    pub fn read<R: Read>(&mut self, calls: &mut Calls<R>) -> io::Result<usize>
+    pub fn read<R: Read, L: Ledger>(&mut self, calls: &mut Calls<R, L>) -> io::Result<usize>
         requires { 0 < calls.old.left }
         ensures one_less { calls.new.left + 1 ≡ calls.old.left }
         ensures bytes { OnOk result (Consumes (R.remaining calls.old.reader.now)

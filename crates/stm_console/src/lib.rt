@@ -2,7 +2,7 @@
 //!
 //! `run` writes exactly the text that `specs/Console` gives for what it reads; `check` judges a history; `start` is the
 //! program over its words and streams, and `command_line` judges the words.
-//! Below them stand the reader with the calls that are left of it (`calls`), a run under way (`session`), how many threads
+//! Below them stand the reader with the calls that are left of it (`calls`, counted by `steps`), a run under way (`session`), how many threads
 //! evaluate (`threading`), the judgement of a line (`judging`), what the console knows (`console`: the declared variables, or
 //! an open desk, `opened`) and the commands:
 //! `declaring` has `tvar`; `trying` has `try`, `looks` and `submit`; `delivering` has `take`, `deliver`, `handback` and `eval`,
@@ -52,6 +52,7 @@ mod script_reader;
 mod script_so_far;
 mod session;
 mod showing;
+pub mod steps;
 mod storm_text;
 mod storm_word;
 pub mod storming;
@@ -62,5 +63,6 @@ mod trying;
 pub use checking::{Finding, check};
 pub use options::Options;
 pub use program::start;
+pub use steps::Steps;
 pub use storming::{StormFault, storm};
-pub use streams::{RunFault, run};
+pub use streams::{RunFault, run, run_counted};

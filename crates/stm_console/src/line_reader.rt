@@ -8,10 +8,12 @@ ghost use Rattle.stm_console.specs.LineReading.{classes_from, IsNextLine, IsNoLi
 use crate::begun_line::{drop_return, keep};
 use crate::calls::Calls;
 use crate::chunk::Chunk;
+use crate::steps::Steps;
 use crate::streams::RunFault;
 use memchr::memchr;
 use std::alloc::Global;
 use std::io::{ErrorKind, Read};
+use std::sync::ledger::Ledger;
 
 /// Takes bytes to the line that has begun: all of them, or, where there is a line feed, those up to it, which ends the line.
 /// Then it answers how many they are.
@@ -39,7 +41,7 @@ fn take_part(line: &mut Vec<u8>, bytes: &[u8]) -> Result<Option<usize>, RunFault
 
 /// Reads the next bytes in place of those that were there; answers whether there are any. An interrupted read is tried
 /// again.
-fn fill<R: Read>(chunk: &mut Chunk, calls: &mut Calls<R>) -> Result<bool, RunFault>
+fn fill<R: Read, L: Ledger>(chunk: &mut Chunk, calls: &mut Calls<R, L>) -> Result<bool, RunFault>
     ensures fewer { OnOk result (calls.new.left < calls.old.left) }
     ensures bytes { OnOk result (Consumes (R.remaining calls.old.reader.now)
         (R.remaining calls.new.reader.now) chunk.new) }
@@ -59,20 +61,20 @@ fn fill<R: Read>(chunk: &mut Chunk, calls: &mut Calls<R>) -> Result<bool, RunFau
 
 /// Reads lines. The reader is called 4,294,967,295 times at most; an interrupted read is tried again.
 #[derive(Drop)]
-pub struct LineReader<'a, R> {
-    calls: Calls<'a, R>,
+pub struct LineReader<'a, R, L: Ledger> {
+    calls: Calls<'a, R, L>,
     chunk: Chunk,
     line: Vec<u8>,
 }
 
-impl<'a, R: Read> LineReader<'a, R> {
-    pub fn new(alloc: Global, reader: &'a mut R) -> LineReader<'a, R>
+impl<'a, R: Read, L: Ledger> LineReader<'a, R, L> {
+    pub fn new(alloc: Global, reader: &'a mut R, steps: &'a mut Steps<L>) -> LineReader<'a, R, L>
         ensures same_reader { result.calls.reader.ghost_name ≡ reader.entry.ghost_name }
         ensures reader { result.calls.reader.now ≡ reader.old }
         ensures chunk { result.chunk ≡ [] }
     {
         LineReader {
-            calls: Calls::new(reader),
+            calls: Calls::new(reader, steps),
             chunk: Chunk::new(),
             line: Vec::new(alloc),
         }

@@ -1,7 +1,7 @@
 use Rattle.std.proofs.Common.{ap, ◌∙◌}
 use Rattle.stm_console.specs.Console.{initial_console}
 use Rattle.stm_console.proofs.Running.{part_from_start}
-use Rattle.stm_console.proofs.streams.run.Goals as goal
+use Rattle.stm_console.proofs.streams.run_counted.Goals as goal
 
 pub returns-clause-part : goal.returns-clause-part
 returns-clause-part g c =
