@@ -1,5 +1,5 @@
 -- What the type of an open desk keeps.
-use Rattle.std.specs.Prelude.{◌≡◌, List, [], ◌∷◌, ◌++◌, Option, Some, None, Result}
+use Rattle.std.specs.Prelude.{◌≡◌, List, [], ◌∷◌, ◌++◌, Option, Some, None, Result, if◌then◌else◌}
 use Rattle.std.specs.declared.alloc.AllocError.{AllocError}
 use Rattle.stm_terms.specs.declared.kinds.Ty.{Ty}
 use Rattle.stm_terms.specs.declared.values.Value.{Value}
@@ -8,11 +8,12 @@ use Rattle.stm_eval.specs.declared.job.Job.{Job}
 use Rattle.stm_eval.specs.declared.message.Evaluated.{Evaluated}
 use Rattle.stm_eval.specs.EvaluatedFields.{message_ticket, message_verdict}
 use Rattle.stm_history.specs.declared.errors.DeliverError.{DeliverError}
+use Rattle.stm_history.specs.declared.errors.DeliverError.TheVariants.{Gone, Already}
 use Rattle.stm_history.specs.declared.event.Event.{Event}
 use Rattle.stm_history.specs.declared.event.What.TheVariants.{Installed}
 use Rattle.stm_history.specs.JobsHandedOut.{block_at}
 use Rattle.stm_history.specs.Machine.{event}
-use Rattle.stm_history.specs.SlowDesk.{IsLegal, state}
+use Rattle.stm_history.specs.SlowDesk.{Waiter, IsLegal, is_current, state}
 use Rattle.stm_pool.specs.Answers.{AnswersJob}
 use Rattle.stm_desk.specs.Refusals.{left_by}
 use Rattle.stm_desk.specs.Seen.{Seen, now, with_event}
@@ -56,6 +57,11 @@ pub record HasGrown (old new : Seen) : Type 0 where
   pub more : List Event
   pub history : new.history ≡ old.history ++ more
   pub legal : IsLegal new.table new.history
+
+-- why a delivery is refused whatever is delivered: no block waits, or the one that does is current
+abbrev pub refusal_unevaluated : Option Waiter → Option DeliverError
+refusal_unevaluated None = Some Gone
+refusal_unevaluated (Some w) = if is_current w then Some Already else None
 
 -- the desk after a message was delivered, or refused
 abbrev pub after_message : Seen → Evaluated → Option DeliverError → Seen

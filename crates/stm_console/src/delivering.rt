@@ -9,7 +9,7 @@ ghost use Rattle.stm_console.specs.Kept.{JobsStand};
 ghost use Rattle.stm_console.specs.Delivering.{taken, jobs_of, job_text, numbered, jobs_line, take_text, after_take, take_answer, take_state, job_at, deliver_text, after_deliver, deliver_answer, deliver_state, handback_text, handed_back, handback_answer, handback_state, delivered_line, queued_line, evaluated_line, evaluated_text, delivery_text, eval_answer, eval_state};
 
 use crate::arguments::number_of;
-use crate::jobs::{HandedOut, deliver_job, evaluate_queued, with_store};
+use crate::jobs::{HandedOut, deliver_job, evaluate_queued, refused_unevaluated, with_store};
 use crate::opened::OpenDesk;
 use crate::refusal::{refuse, refuse_delivery};
 use crate::threading::Threading;
@@ -189,7 +189,8 @@ impl OpenDesk {
         }
     }
 
-    /// Delivers what the block of a job does on the store of its `take`.
+    /// Delivers what the block of a job does on the store of its `take`. The block isn't evaluated if no delivery to its ticket
+    /// would be accepted.
     fn deliver(&mut self, alloc: Global, number: u32, out: &mut String) -> Result<(), NoMemory>
         ensures text { OnOk result (string_bytes out.new
             ≡ string_bytes out.old ++ deliver_text self.old.desk (job_at number self.old.jobs)) }
@@ -199,8 +200,11 @@ impl OpenDesk {
     {
         match job_of_number(&self.jobs, number) {
             Some(handed) => {
-                let job = handed.job()?;
                 let ticket = handed.ticket;
+                if let Some(refusal) = refused_unevaluated(&self.desk, ticket) {
+                    return write_delivery(ticket, Some(refusal), out);
+                }
+                let job = handed.job()?;
                 let refusal = deliver_job(&mut self.desk, alloc, &handed.store, job)?;
                 write_delivery(ticket, refusal, out)
             }

@@ -8,11 +8,11 @@ ghost use Rattle.stm_eval.specs.declared.job.Job.{Job};
 ghost use Rattle.stm_pool.specs.Answers.{IsMessageOf, AnswersJob};
 ghost use Rattle.stm_history.specs.JobsHandedOut.{AreCovered};
 ghost use Rattle.stm_history.specs.Refusals.{deliver_error};
-ghost use Rattle.stm_history.specs.SlowDesk.{IsLegal, max_waiting};
+ghost use Rattle.stm_history.specs.SlowDesk.{IsLegal, find_waiter, max_waiting};
 ghost use Rattle.stm_desk.specs.Refusals.{TellsDeskDelivery};
 ghost use Rattle.stm_desk.specs.Seen.{now};
 ghost use Rattle.stm_console.specs.declared.options.TheConstants.Options.{MAX_WORKERS};
-ghost use Rattle.stm_console.specs.Kept.{handed_out, JobStands, JobsStand, HasGrown, after_message, AnswerJobs, delivered_so_far, none_delivered};
+ghost use Rattle.stm_console.specs.Kept.{refusal_unevaluated, handed_out, JobStands, JobsStand, HasGrown, after_message, AnswerJobs, delivered_so_far, none_delivered};
 ghost use Rattle.stm_console.specs.Delivering.{delivery_refusal, after_delivery, delivered_next, delivered_all, evaluated};
 
 use crate::threading::Threading;
@@ -20,7 +20,7 @@ use std::alloc::{AllocError, Global};
 use std::mem;
 use std::thread::Threads;
 use stm_check::SharedBlock;
-use stm_desk::{DeliverError, Desk};
+use stm_desk::{DeliverError, Desk, Status};
 use stm_eval::{Evaluated, Job, evaluate};
 use stm_history::laws::blocks_stay;
 use stm_pool::{Answer, evaluate_all};
@@ -62,6 +62,17 @@ pub fn with_store(alloc: Global, store: &Frozen, jobs: Vec<Job>) -> Result<Vec<H
         })?;
     }
     Ok(made)
+}
+
+/// Why a delivery to a ticket is refused whatever is delivered: no block waits under it, or the block is current.
+pub fn refused_unevaluated(desk: &Desk, ticket: u32) -> Option<DeliverError>
+    ensures { result ≡ refusal_unevaluated (find_waiter ticket (now desk.now).waiters) }
+{
+    match desk.status(ticket) {
+        None => Some(DeliverError::Gone),
+        Some(Status::Current(_)) => Some(DeliverError::Already),
+        Some(Status::New | Status::Stale(_)) => None,
+    }
 }
 
 /// A refusal, unless memory ran out.
