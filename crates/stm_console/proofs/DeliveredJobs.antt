@@ -16,16 +16,19 @@ use Rattle.stm_history.specs.declared.event.Event.{Event}
 use Rattle.stm_history.specs.declared.event.What.TheVariants.{Installed}
 use Rattle.stm_history.specs.declared.errors.DeliverError.{DeliverError}
 use Rattle.stm_history.specs.declared.errors.DeliverError.TheVariants as deliver
-use Rattle.stm_history.specs.JobsHandedOut.{block_at}
+use Rattle.stm_queue.specs.Queue.{marked}
+use Rattle.stm_history.specs.JobsHandedOut.{block_at, sent}
 use Rattle.stm_history.specs.Laws.{BlocksStay}
-use Rattle.stm_history.specs.Refusals.{differing, overtaken_first}
+use Rattle.stm_history.specs.Refusals.{differing, overtaken_first, pending_left}
 use Rattle.stm_history.specs.SlowDesk.{Waiter, under, is_current, find_waiter, state, MayInstall, IsLegal}
+use Rattle.stm_desk.specs.Refusals.{left_by}
 use Rattle.stm_desk.specs.Seen.{Seen, now, is_full}
 use Rattle.stm_console.specs.declared.jobs.HandedOut.{HandedOut}
 use Rattle.stm_console.specs.Delivering.{max_jobs, job_of, jobs_of, taken, with_jobs, after_take, delivery_first, delivery_refusal, installed, after_refusal, job_at, after_deliver, Delivered, delivered_by, delivered_next, delivered_all, all_queued, evaluated}
 use Rattle.stm_console.specs.OpenDesk.{OpenDesk}
 use Rattle.stm_console.proofs.AgreeingReads.{agrees_there}
-use Rattle.stm_console.proofs.StandingDesk.{WasTaken, AllTaken, Stands, stands_event, stands_with, taken_append, taken_at}
+use Rattle.stm_console.proofs.KeptQueue.{tickets_left, tickets_marked, tickets_sent}
+use Rattle.stm_console.proofs.StandingDesk.{WasTaken, AllTaken, Stands, stands_event, stands_marked, stands_with, taken_append, taken_at}
 
 -- ---- refusals
 record MayCome (current : Bool) (o : Option ℕ) (full : Bool) : Type 0 where
@@ -73,8 +76,10 @@ pub take_stands : (d : OpenDesk) (n : ℕ) → Stands d.desk d.jobs → Stands (
 take_stands d n k =
     let tickets = taken d.desk n in
     let js = jobs_of (now d.desk) tickets in
+    let pending = sent (length tickets) d.desk.pending in
     either_stands (nat_lt max_jobs (n + length d.jobs)) d (with_jobs d tickets) k
-    (stands_with d.desk d.jobs (d.jobs ++ js) (taken_append d.desk.table d.desk.history d.jobs js k.taken (jobs_taken d.desk.table d.desk.history tickets)) k)
+    (stands_with (record d.desk { pending = pending }) d.jobs (d.jobs ++ js) (taken_append d.desk.table d.desk.history d.jobs js k.taken (jobs_taken d.desk.table d.desk.history tickets))
+    (stands_marked d.desk pending d.jobs (tickets_sent (length tickets) d.desk.pending) k))
 
 module _ (stay : BlocksStay) (stable : VerdictIsStable) where
   -- ---- a delivery
@@ -106,7 +111,7 @@ module _ (stay : BlocksStay) (stable : VerdictIsStable) where
       installs_by d jobs j w (verdict (cell_value j.store) j.block.tree) t f refl (may_come (is_current w) differs (is_full d) e) k
 
   after_stands : (d : Seen) (jobs : List HandedOut) (j : HandedOut) (o : Option DeliverError) → WasTaken d.table d.history j → delivery_refusal d j ≡ o → Stands d jobs → Stands (after_refusal d j o) jobs
-  after_stands d jobs j (Some x) t e k = k
+  after_stands d jobs j (Some x) t e k = stands_marked d (pending_left x j.ticket d.pending) jobs (tickets_left x j.ticket d.pending) k
   after_stands d jobs j None t e k = installs_of d jobs j (find_waiter j.ticket (now d).waiters) t refl e k
 
   pub delivered_stands : (d : Seen) (jobs : List HandedOut) (n : ℕ) → Stands d jobs → Stands (after_deliver d (job_at n jobs)) jobs
@@ -121,11 +126,14 @@ module _ (stay : BlocksStay) (stable : VerdictIsStable) where
   by_stands : (d : Delivered) (j : HandedOut) (rest : List HandedOut) (o : Option DeliverError) → delivery_refusal d.desk j ≡ o → WasTaken d.desk.table d.desk.history j → Stands d.desk rest
       → Stands (delivered_by d j o).desk rest
   by_stands d j rest None e t k = after_stands d.desk rest j None t e k
-  by_stands d j rest (Some x) e t k = k
+  by_stands d j rest (Some x) e t k =
+      let left = left_by x j.ticket d.desk in
+      stands_marked left (marked j.ticket false left.pending) rest (tickets_marked j.ticket false left.pending) (after_stands d.desk rest j (Some x) t e k)
 
   next_stands : (d : Delivered) (j : HandedOut) (rest : List HandedOut) (o : Option DeliverError) → Stands d.desk (j ∷ rest) → Stands (delivered_next d j o).desk rest
   next_stands d j rest None k = by_stands d j rest (delivery_refusal d.desk j) refl k.taken.0 (stands_with d.desk (j ∷ rest) rest k.taken.1 k)
-  next_stands d j rest (Some x) k = stands_with d.desk (j ∷ rest) rest k.taken.1 k
+  next_stands d j rest (Some x) k =
+      stands_marked d.desk (marked j.ticket false d.desk.pending) rest (tickets_marked j.ticket false d.desk.pending) (stands_with d.desk (j ∷ rest) rest k.taken.1 k)
 
   all_stand : (js kept : List HandedOut) (d : Delivered) → Stands d.desk (js ++ kept) → Stands (delivered_all d js).desk kept
   all_stand [] kept d k = k
@@ -134,7 +142,9 @@ module _ (stay : BlocksStay) (stable : VerdictIsStable) where
   pub evaluated_stands : (d : Seen) (jobs : List HandedOut) → Stands d jobs → Stands (evaluated d).desk jobs
   evaluated_stands d jobs k =
       let js = jobs_of (now d) (all_queued d) in
-      all_stand js jobs _ (stands_with d jobs (js ++ jobs) (taken_append d.table d.history js jobs (jobs_taken d.table d.history (all_queued d)) k.taken) k)
+      let pending = sent (length (all_queued d)) d.pending in
+      all_stand js jobs _ (stands_with (record d { pending = pending }) jobs (js ++ jobs) (taken_append d.table d.history js jobs (jobs_taken d.table d.history (all_queued d)) k.taken)
+      (stands_marked d pending jobs (tickets_sent (length (all_queued d)) d.pending) k))
 
 -- ---- what stops an eval is printed
 abbrev IsTold : Option DeliverError → Type 0

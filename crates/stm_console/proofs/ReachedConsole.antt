@@ -5,6 +5,7 @@ use Rattle.stm_check.specs.Laws.{CheckNeverSaysNoMemory}
 use Rattle.stm_check.specs.TypedBlock.{Block}
 use Rattle.stm_eval.specs.Laws.{VerdictIsStable}
 use Rattle.stm_parse.specs.ParseFunction.{BlockAnswersAreRight, DeclarationAnswersAreRight}
+use Rattle.stm_queue.specs.Queue.{marked, recalled}
 use Rattle.stm_store.specs.Cells.{StoreIsTyped}
 use Rattle.stm_store.specs.Tables.{Declared, declared_cells}
 use Rattle.stm_history.specs.Laws.{TicketsRise, BlocksStay, CheckedAreWellTyped}
@@ -31,7 +32,8 @@ use Rattle.stm_console.specs.Laws.{state_after_lines}
 use Rattle.stm_console.proofs.DeliveredJobs.{take_stands, delivered_stands, evaluated_stands}
 use Rattle.stm_console.proofs.DeskMoves.{submitted_stands, finished_stands, cancelled_stands}
 use Rattle.stm_console.proofs.LegalSettling.{settled_stands}
-use Rattle.stm_console.proofs.StandingDesk.{Stands}
+use Rattle.stm_console.proofs.KeptQueue.{tickets_marked, tickets_recalled}
+use Rattle.stm_console.proofs.StandingDesk.{Stands, stands_marked}
 use Rattle.stm_console.proofs.TextsJudged.{MayHoldOrTold, declares, BlockOrTold, compiled}
 use Rattle.stm_console.proofs.TypedTable.{typed_more}
 
@@ -47,6 +49,7 @@ present_stands (Declaring table limit) h = record {
   typed = tt;
   limit_low = h.1;
   taken = tt;
+  queue = record { rising = tt; right = λ t. refl };
 }
 present_stands (Open d) h = h
 
@@ -87,11 +90,14 @@ module _ (blocks : BlockAnswersAreRight) (declarations : DeclarationAnswersAreRi
   desk_stands d k Submit argument = submit_stands d.desk d.jobs (compiled_block d.desk.table argument) (judged d.desk.table argument) k
   desk_stands d k Take argument = take_number d (number_argument argument) k
   desk_stands d k Deliver argument = number_stands _ d.desk d.jobs (number_argument argument) (λ n. delivered_stands stay stable d.desk d.jobs n k) k
-  desk_stands d k Handback argument = number_stands _ d.desk d.jobs (number_argument argument) (λ t. k) k
+  desk_stands d k Handback argument =
+      number_stands _ d.desk d.jobs (number_argument argument) (λ t. stands_marked d.desk (marked t false d.desk.pending) d.jobs (tickets_marked t false d.desk.pending) k) k
   desk_stands d k Eval argument = nothing_stands _ d.desk d.jobs argument (evaluated_stands stay stable d.desk d.jobs k) k
   desk_stands d k Finish argument = number_stands _ d.desk d.jobs (number_argument argument) (λ t. finished_stands d.desk d.jobs t (finish_refusal d.desk t) refl k) k
   desk_stands d k Cancel argument = number_stands _ d.desk d.jobs (number_argument argument) (λ t. cancelled_stands d.desk d.jobs t (cancel_refusal d.desk t) refl k) k
-  desk_stands d k Settle argument = nothing_stands _ d.desk d.jobs argument (settled_stands rise (d.desk.limit - length d.desk.history) d.jobs (called_back d.desk) (omega arith) k) k
+  desk_stands d k Settle argument =
+      nothing_stands _ d.desk d.jobs argument (settled_stands rise (d.desk.limit - length d.desk.history) d.jobs (called_back d.desk) (omega arith)
+      (stands_marked d.desk (recalled d.desk.pending) d.jobs (tickets_recalled d.desk.pending) k)) k
   desk_stands d k c argument = k
 
   tvar_reached : (s : Console) → IsReached s → (argument : List ℕ) → IsReached (tvar_state s argument)

@@ -1,17 +1,22 @@
 -- What an open desk of the console stands on: its table is well typed, its history is legal, each block that was submitted
--- is well typed, and each job is of a block that waited. Each event that the desk allows keeps it.
-use Rattle.std.proofs.Common.{◌≡◌, ℕ, zero, suc, ◌<◌, ◌≤◌, false, List, [], ◌∷◌, ◌++◌, length, Some, refl, ap, ◌∙◌, subst, append_assoc, arith, length-append}
+-- is well typed, each job is of a block that waited, and the queue has the tickets of the new and stale blocks. Each event that
+-- the desk allows keeps it.
+use Rattle.std.proofs.Common.{◌≡◌, ℕ, zero, suc, ◌<◌, ◌≤◌, false, List, [], ◌∷◌, ◌++◌, length, Some, refl, sym, ap, ◌∙◌, subst, append_assoc, arith, length-append}
 use Rattle.std.specs.Prelude.{nat_le, slice_get}
 use Rattle.std.proofs.lemmas.Bool.Decides.{nat_tests}
+use Rattle.stm_queue.specs.Queue.{Entry, tickets}
 use Rattle.stm_store.specs.Cells.{StoreIsTyped}
 use Rattle.stm_store.specs.Tables.{Declared, declared_cells}
 use Rattle.stm_history.specs.declared.event.Event.{Event}
+use Rattle.stm_history.specs.declared.staleness.StalenessRule.TheVariants.{Changed}
 use Rattle.stm_history.specs.declared.event.What.{What}
 use Rattle.stm_history.specs.Laws.{SubmitsWellTyped, SubmittedAreWellTyped}
 use Rattle.stm_history.specs.Machine.{event}
-use Rattle.stm_history.specs.SlowDesk.{Waiter, Slow, find_waiter, after, Allows, AllowsEvent, state_from, state, LegalFrom, IsLegal, max_events}
-use Rattle.stm_desk.specs.Seen.{Seen, now, is_full, with_event}
+use Rattle.stm_history.specs.SlowDesk.{Waiter, Slow, find_waiter, after, Allows, AllowsEvent, initial_state, state_from, state, LegalFrom, IsLegal, max_events}
+use Rattle.stm_history.proofs.Rising.{tickets_rise}
+use Rattle.stm_desk.specs.Seen.{Seen, now, is_full, pending_after, with_event}
 use Rattle.stm_console.specs.declared.jobs.HandedOut.{HandedOut}
+use Rattle.stm_console.proofs.KeptQueue.{QueueKept, kept_event, kept_marks}
 
 -- a job is of a block that waited when some of the events had happened
 pub record WasTaken (table : List Declared) (history : List Event) (j : HandedOut) : Type 0 where
@@ -26,16 +31,16 @@ abbrev pub AllTaken : List Declared → List Event → List HandedOut → Type 0
 AllTaken table history [] = Unit {0}
 AllTaken table history (j ∷ js) = WasTaken table history j × AllTaken table history js
 
-pub record StandsOn (table : List Declared) (limit : ℕ) (history : List Event) (jobs : List HandedOut) : Type 0 where
+pub record StandsOn (table : List Declared) (limit : ℕ) (history : List Event) (pending : List Entry) (jobs : List HandedOut) : Type 0 where
   pub table_typed : StoreIsTyped (declared_cells table)
   pub legal : IsLegal table history
   pub typed : SubmittedAreWellTyped history
   pub limit_low : limit ≤ max_events
   pub taken : AllTaken table history jobs
+  pub queue : QueueKept (state table history).waiters pending
 
--- which tickets are queued or out doesn't matter
 abbrev pub Stands : Seen → List HandedOut → Type 0
-Stands d jobs = StandsOn d.table d.limit d.history jobs
+Stands d jobs = StandsOn d.table d.limit d.history d.pending jobs
 
 -- ---- one event more
 taken_later : (table : List Declared) (history : List Event) (e : Event) (jobs : List HandedOut) → AllTaken table history jobs → AllTaken table (history ++ e ∷ []) jobs
@@ -78,6 +83,19 @@ stands_event d jobs what room a w k = record {
   typed = typed_later d.history (event 0 what) k.typed w;
   limit_low = k.limit_low;
   taken = taken_later d.table d.history (event 0 what) jobs k.taken;
+  queue = subst (λ (s : Slow). QueueKept s.waiters (pending_after what d.pending)) (sym (state_later (initial_state d.table) d.history (event 0 what)))
+      (kept_event (now d) what d.pending (tickets_rise Changed d.table d.history k.legal).rising a k.queue);
+}
+
+-- which of the tickets are queued and which are out doesn't matter
+pub stands_marked : (d : Seen) (pending : List Entry) (jobs : List HandedOut) → tickets pending ≡ tickets d.pending → Stands d jobs → Stands (record d { pending = pending }) jobs
+stands_marked d pending jobs e k = record {
+  table_typed = k.table_typed;
+  legal = k.legal;
+  typed = k.typed;
+  limit_low = k.limit_low;
+  taken = k.taken;
+  queue = kept_marks (now d).waiters d.pending pending e k.queue;
 }
 
 -- ---- jobs
@@ -92,4 +110,4 @@ taken_at table history (x ∷ xs) (suc n) j k e = taken_at table history xs n j 
 
 -- the same desk, with other jobs
 pub stands_with : (d : Seen) (old new : List HandedOut) → AllTaken d.table d.history new → Stands d old → Stands d new
-stands_with d old new t k = record { table_typed = k.table_typed; legal = k.legal; typed = k.typed; limit_low = k.limit_low; taken = t }
+stands_with d old new t k = record { table_typed = k.table_typed; legal = k.legal; typed = k.typed; limit_low = k.limit_low; taken = t; queue = k.queue }

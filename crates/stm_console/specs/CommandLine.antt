@@ -1,5 +1,5 @@
 -- What the words of a command line ask for. The first is the program's name.
-use Rattle.std.specs.Prelude.{ℕ, Bool, true, false, List, [], ◌∷◌, ◌&&◌, Option, Some, None, if◌then◌else◌, codes, nat_le, option_and_then, ⊤, pos}
+use Rattle.std.specs.Prelude.{ℕ, Bool, true, false, List, [], ◌∷◌, ◌++◌, ◌&&◌, Option, Some, None, if◌then◌else◌, codes, nat_le, option_and_then, ⊤, pos}
 use Rattle.std.specs.List.{list_all}
 use Rattle.std.specs.Str.{bytes_eq}
 use Rattle.std.specs.Str.Parse.{digits_value, without_leading_plus}
@@ -15,6 +15,7 @@ use Rattle.stm_pool.specs.Limits.{max_workers}
 use Rattle.stm_console.specs.declared.command_line.Request.{Request}
 use Rattle.stm_console.specs.declared.command_line.Request.TheVariants.{Run, Storm, Check}
 use Rattle.stm_console.specs.declared.options.Options.{Options}
+use Rattle.stm_console.specs.declared.version.TheConstants.{VERSION}
 use Rattle.stm_console.specs.Options.{default_options}
 
 -- the program's name alone, or the word `run` after it
@@ -24,7 +25,7 @@ asks_for_run (name ∷ []) = true
 asks_for_run (name ∷ word ∷ []) = bytes_eq word (codes "run")
 asks_for_run (name ∷ word ∷ next ∷ rest) = false
 
--- ---- what the program takes: `run` and `storm` with their options, `check`, and what clap adds for help
+-- ---- what the program takes: `run` and `storm` with their options, `check`, and what clap adds for help and the version
 
 -- an option that takes a number from low to high, and its default in digits
 abbrev pub number_option : List ℕ → ℕ → ℕ → List ℕ → Rule
@@ -54,9 +55,13 @@ storm_command = with_options (new_app (codes "storm"))
 abbrev pub check_command : App
 check_command = new_app (codes "check")
 
+-- a command that has a version, so that clap adds `--version` and `-V`
+abbrev pub with_version : App → App
+with_version command = record command { top = record command.top { has_version = true } }
+
 -- the program with all its commands
 abbrev pub command_line : App
-command_line = with_subcommand (with_subcommand (with_subcommand (new_app (codes "stmdesk"))
+command_line = with_subcommand (with_subcommand (with_subcommand (with_version (new_app (codes "stmdesk")))
     run_command.top) storm_command.top) check_command.top
 
 -- ---- which words are taken
@@ -65,7 +70,7 @@ command_line = with_subcommand (with_subcommand (with_subcommand (new_app (codes
 unfoldable pub answers_of : List (List ℕ) → Kinds
 answers_of words = fault_of command_line words
 
--- the words are wrong, and not a request for help
+-- the words are wrong, and not a request for help or the version
 abbrev pub is_mistake : ErrorKind → Bool
 is_mistake DisplayHelp = false
 is_mistake DisplayVersion = false
@@ -88,6 +93,19 @@ is_help _ = false
 -- clap finds a request for help in the words, as `--help`; of the word `help` it promises help or a refusal of what follows
 abbrev pub asks_for_help : List (List ℕ) → Bool
 asks_for_help words = is_help (answers_of words)
+
+-- all that there is to tell is the version
+abbrev pub is_version : Kinds → Bool
+is_version (DisplayVersion ∷ []) = true
+is_version _ = false
+
+-- clap finds a request for the version in the words, `--version` or `-V` as the first option
+abbrev pub asks_for_version : List (List ℕ) → Bool
+asks_for_version words = is_version (answers_of words)
+
+-- the line that is printed of the version
+abbrev pub version_line : List ℕ
+version_line = codes "stmdesk " ++ VERSION.now ++ 10 ∷ []
 
 -- ---- what they ask for
 

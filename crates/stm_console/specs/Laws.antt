@@ -1,6 +1,8 @@
--- The console's text has no gap: each line that says something is answered. And which words ask for a run, a storm
--- or a check, and what they say.
+-- The console's text has no gap: each line that says something is answered. The desk's queue is a set of tickets that are out,
+-- and no more. And which words ask for a run, a storm, a check or the version, and what they say.
 use Rattle.std.specs.Prelude.{◌≡◌, ◌≢◌, ◌≤◌, ◌<◌, ◌^◌, ℕ, List, [], ◌∷◌, ◌++◌, Some, IsSome, slice_get, codes, decimal, IsTrue}
+use Rattle.stm_queue.specs.Queue.{Entry}
+use Rattle.stm_queue.specs.SortedTickets.{IsRising}
 use Rattle.stm_eval.specs.Limits.{max_levels}
 use Rattle.stm_history.specs.SlowDesk as slow
 use Rattle.stm_desk.specs.Seen.{now}
@@ -8,9 +10,10 @@ use Rattle.stm_pool.specs.Limits.{max_workers}
 use Rattle.stm_console.specs.declared.console.Console.{Console}
 use Rattle.stm_console.specs.declared.command_line.Request.TheVariants.{Run, Storm, Check}
 use Rattle.stm_console.specs.declared.options.Options.{Options}
-use Rattle.stm_console.specs.CommandLine.{answers_of, asks_for_run, has_mistake, request_of, IfRun, IfStorm}
+use Rattle.stm_console.specs.CommandLine.{answers_of, asks_for_run, asks_for_version, has_mistake, request_of, IfRun, IfStorm}
 use Rattle.stm_console.specs.Console.{initial_console, answer_to, state_after}
 use Rattle.stm_console.specs.ConsoleState.{present_desk}
+use Rattle.stm_console.specs.DueTickets.{due_tickets, queue_for, tickets_out}
 use Rattle.stm_console.specs.Options.{AreRunOptions, default_options}
 use Rattle.stm_console.specs.LineClass.{Silent, line_class}
 
@@ -34,6 +37,10 @@ EachLineIsAnswered =
 abbrev pub desk_after_lines : ℕ → List (List ℕ) → slow.Slow
 desk_after_lines max_events lines = now (present_desk (state_after_lines (initial_console max_events) lines)).desk
 
+-- the tickets that are queued or out after some lines
+abbrev pub pending_after_lines : ℕ → List (List ℕ) → List Entry
+pending_after_lines max_events lines = (present_desk (state_after_lines (initial_console max_events) lines)).desk.pending
+
 -- a block that isn't new stands with a verdict
 abbrev pub HasVerdict : slow.Standing → Type 0
 HasVerdict slow.New = Unit {0}
@@ -46,6 +53,15 @@ VerdictsAreShown =
     (max_events : ℕ) → max_events ≤ slow.max_events → (before : List (List ℕ)) (i : ℕ) (w : slow.Waiter)
     → slice_get (desk_after_lines max_events before).waiters i ≡ Some w
     → HasVerdict (slow.standing (desk_after_lines max_events before).store w)
+
+-- whatever lines came before, the desk's queue is the one for the set of tickets that are out: it has the tickets of the new and
+-- stale blocks in ascending order, each once, and no other
+abbrev pub QueueIsOfDueTickets : Type 0
+QueueIsOfDueTickets =
+    (max_events : ℕ) → max_events ≤ slow.max_events → (before : List (List ℕ))
+    → (pending_after_lines max_events before
+    ≡ queue_for (tickets_out (pending_after_lines max_events before)) (desk_after_lines max_events before).waiters)
+    × IsRising (due_tickets (desk_after_lines max_events before).waiters)
 
 -- of the program's name alone, and of the word `run` after it, there is nothing to tell, so they ask for a run
 abbrev pub RunsAreAccepted : Type 0
@@ -81,6 +97,11 @@ StormsAreAsRuns = (name : List ℕ) (rest : List (List ℕ))
 abbrev pub ChecksAreAccepted : Type 0
 ChecksAreAccepted =
     (name : List ℕ) → (answers_of (name ∷ codes "check" ∷ []) ≡ []) × (request_of (name ∷ codes "check" ∷ []) ≡ Check)
+
+-- `--version` and `-V` after the program's name ask for the version, whatever follows
+abbrev pub VersionsAreAskedFor : Type 0
+VersionsAreAskedFor = (name : List ℕ) (rest : List (List ℕ))
+    → IsTrue (asks_for_version (name ∷ codes "--version" ∷ rest)) × IsTrue (asks_for_version (name ∷ codes "-V" ∷ rest))
 
 -- ---- numbers of options
 

@@ -8,6 +8,7 @@ pub mod Console
 pub mod ConsoleState
 pub mod Declaring
 pub mod Delivering
+pub mod DueTickets
 pub mod ExitStatus
 pub mod Finishing
 pub mod Laws

@@ -5,10 +5,11 @@ ghost use Rattle.clap.specs.Simple.{subcommand_rows_of};
 ghost use Rattle.clap.specs.Walk.{one_of, rows_of, rule_of};
 ghost use Rattle.clap.specs.Words.{app_of, found_of, new_app, with_subcommand, FailsBy};
 ghost use Rattle.clap.specs.declared.builder.command.Command.TheViews.{out-Command as fields_of};
-ghost use Rattle.stm_console.specs.CommandLine.{answers_of, asks_for_run, command_line, number_of_text, number_option, number_said, number_within, options_said, request_of, request_said, run_command, storm_command, with_options, IfRun, IfStorm};
+ghost use Rattle.stm_console.specs.CommandLine.{answers_of, asks_for_run, command_line, number_of_text, number_option, number_said, number_within, options_said, request_of, request_said, run_command, storm_command, with_options, with_version, IfRun, IfStorm};
 ghost use Rattle.stm_console.specs.Options.{AreRunOptions};
 
 use crate::options::Options;
+use crate::version::VERSION;
 use clap::{Arg, ArgMatches, Command, Error, value_parser};
 use std::alloc::{AllocError, Global};
 use std::convert::AsStr;
@@ -22,17 +23,17 @@ pub enum Request {
 }
 
 const ABOUT: &str =
-    "A scheduler for memory transactions: blocks of code wait under tickets, a change of what they read \
-makes them stale, and each takes effect at once and whole, or not at all";
+    "A scheduler for memory transactions: blocks of code wait under tickets, become stale when a variable that they read \
+changes, and take effect whole or not at all";
 
 const RUN: &str =
-    "Reads commands from standard input, one a line, and answers each on standard output (as without a command)";
+    "Reads commands from standard input, one per line, and prints the answer to each on standard output (the default when no \
+command is given)";
 
 const STORM: &str =
-    "Reads a script from standard input, runs each of its clients in a thread of its own over one desk, and prints what came of \
-it";
+    "Reads a script from standard input, runs each of its clients in its own thread on one shared desk, and prints the result";
 
-const CHECK: &str = "Reads a history from standard input, and says whether it is legal";
+const CHECK: &str = "Reads a history from standard input and reports whether it is legal";
 
 const NEXT: &str = "\
 Without a command stmdesk reads commands from standard input, as `stmdesk run` does:
@@ -42,65 +43,66 @@ Without a command stmdesk reads commands from standard input, as `stmdesk run` d
   #0 x : Int = 1 count 0
   cells 1
 
-`stmdesk run --help` teaches the commands, each with an example, and the options; `stmdesk storm --help` the lines of a
-script; `stmdesk check --help` says what a check prints. Exit statuses: 0 done, 1 the input or the output failed, or a line of
-a script is faulty, 2 the words were refused, 3 a history isn't legal, 4 memory or a thread was refused.
+`stmdesk run --help` describes the commands, each with an example, and the options; `stmdesk storm --help` describes the lines
+of a script, and `stmdesk check --help` what a check prints. Exit statuses: 0 success, 1 the input or the output failed, or a
+line of a script is wrong, 2 the arguments were refused, 3 a history isn't legal, 4 out of memory, or a thread didn't start.
 
-docs/CONSOLE.md says more about all of it, docs/LANGUAGE.md about blocks, docs/HISTORY.md about histories, docs/STORM.md about
-storms.";
+docs/CONSOLE.md describes the console, docs/LANGUAGE.md blocks, docs/HISTORY.md histories, and docs/STORM.md storms.";
 
 const COMMANDS: &str = "\
-Commands on standard input, one a line. A line that begins with `--` is a comment.
+Commands on standard input, one per line. A line that begins with `--` is a comment.
   tvar NAME : TYPE = INIT  Declares a variable, before any other command: `tvar #0 x`
       tvar x : Int = 1
-  try BLOCK                Runs a block on the present store, which stays as it is, and prints its verdict
+  try BLOCK                Runs a block on the present store without changing it, and prints its verdict
       try do { a <- readTVar x; writeTVar x (a + 1); return a }
-  looks BLOCK              The same, and prints what the block reads: `reads #0=1`
+  looks BLOCK              Runs a block in the same way, and prints what it reads: `reads #0=1`
       looks readTVar x
   submit BLOCK             Puts a block on the desk, where it waits: `ticket 1`
       submit do { a <- readTVar x; if a < 1 then retry else writeTVar x (a + 1) }
   take N                   Hands out the N lowest queued tickets as jobs on the present store: `jobs 1=1 2=3`
       take 2
-  deliver J                Evaluates job J on the store of its `take`, and hands its verdict in: `delivered 1`
+  deliver J                Evaluates job J on the store of its `take`, and delivers its verdict: `delivered 1`
       deliver 1
-  handback T               Queues a ticket that is out again: `queued 1`
+  handback T               Puts a ticket that is out back into the queue: `queued 1`
       handback 1
   eval                     Evaluates and delivers all queued tickets: `evaluated 3`
       eval
-  finish T                 Lets a current block take effect, and prints its result and the tickets that its writes
-                           made stale: `finished 1 result () stale 2 3`
+  finish T                 Applies the verdict of a current block, and prints its result and the tickets that become stale:
+                           `finished 1 result () stale 2 3`
       finish 1
-  cancel T                 Takes a block off the desk: `cancelled 2`
+  cancel T                 Removes a block from the desk: `cancelled 2`
       cancel 2
   show                     Prints each waiting ticket as `1 new`, `1 current VERDICT` or `1 stale VERDICT`, then `waiting 1`
       show
-  reads T                  What the block under a ticket read when it was last evaluated: `reads #0=1`
+  reads T                  Prints what the block under a ticket read at its last evaluation: `reads #0=1`
       reads 1
-  store                    Prints each variable with its value and how often it was changed, then `cells 1`
+  store                    Prints each variable with its value and how often it changed, then `cells 1`
       store
-  settle                   Evaluates and finishes until nothing can go on: `settled 2 evaluations 3`
+  settle                   Evaluates and finishes blocks until none can continue: `settled 2 evaluations 3`
       settle
-  history                  Prints all that happened, one JSON object a line, as `stmdesk check` reads it
+  history                  Prints the history, one JSON object per line, as `stmdesk check` reads it
       history
 
-A verdict is `commits writes W news N result V` (#0=2 writes 2 to variable 0), `throws 4`, `throws overflow`, or `blocks`
-where the block retries. A ticket is new until its first delivery, then current, and stale once a finish changed a variable
-that its block read. New and stale tickets are queued for `take` and `eval`, or out as jobs.
-A line that can't be taken prints `refused NAME`, with the place of its cause where it has one.
+A verdict is `commits writes W news N result V` (#0=2 writes 2 to variable 0), `throws 4`, `throws overflow`, or `blocks` if
+the block retries. A ticket is new until its first delivery, then current, and stale after a finish changed a variable that
+its block read. New and stale tickets are queued for `take` and `eval`, or out as jobs.
+A refused line prints `refused NAME`, followed by the place of the error if it has one.
 
-docs/CONSOLE.md says more about the commands, docs/LANGUAGE.md about blocks.";
+Answers don't depend on `--workers` or `--levels`. The number of an option may begin with `+` or with zeros.
+
+docs/CONSOLE.md describes the commands in full, and docs/LANGUAGE.md describes blocks.";
 
 const SCRIPT: &str = "\
-A script on standard input: variables, then a section for each client. Blank lines and lines that begin with `--` say nothing.
+A script on standard input: variables, then one section per client. Blank lines and lines that begin with `--` are ignored.
   tvar NAME : TYPE = INIT  Declares a variable, before the first section
-  client                   Begins the section of the next client, which runs in a thread of its own
+  client                   Begins the section of the next client, which runs in its own thread
   submit BLOCK             Puts a block on the desk
-  finish K                 Lets the block of the K-th `submit` of the section take effect, as soon as it is evaluated
-  cancel K                 Takes that block off the desk
-  expect NAME VALUE        Looks whether the variable holds the value
+  finish K                 Finishes the block of the section's K-th `submit`, as soon as it is evaluated
+  cancel K                 Cancels that block
+  expect NAME VALUE        Checks whether the variable holds the value
 
-Prints a line for each client, with how many blocks it submitted, finished and cancelled, how often it was refused, and how
-often it missed an expected value; then the number of events, and `replay ok` where the history that all left is legal.
+Prints one line per client, with how many blocks it submitted, finished and cancelled, how often it was refused, and how often
+it missed an expected value; then the number of events, and `replay ok` if the history of all clients is legal.
 
 Example:
   $ printf 'tvar x : Int = 1\\nclient\\nsubmit readTVar x\\nfinish 1\\nclient\\nexpect x 1\\n' | stmdesk storm
@@ -109,17 +111,18 @@ Example:
   events 3
   replay ok
 
-Where a line is faulty, standard error has `stmdesk: script line N`, nothing is printed, and the status is 1. With `replay
-failed` the status is 3.
+For a script in a file, run `stmdesk storm < FILE`. If a line is wrong, standard error has `stmdesk: script line N`, nothing is
+printed, and the status is 1. With `replay failed` the status is 3. If clients use the same variables, what is printed may
+depend on which thread comes first. The number of an option may begin with `+` or with zeros.
 
-docs/STORM.md says more about scripts.";
+docs/STORM.md describes scripts in full.";
 
 const FINDINGS: &str = "\
 Prints one line:
-  legal N events   A desk can have taken the N events; status 0
-  bad header       The first line or a variable's line is wrong; status 3
-  bad line N       Line N is no event's line; status 3
-  not legal N      The event in line N can't follow those before it; status 3
+  legal N events   A desk can have accepted the N events; status 0
+  bad header       The first line or the line of a variable is wrong; status 3
+  bad line N       Line N is not the line of an event; status 3
+  not legal N      The event in line N can't follow the events before it; status 3
 
 Example:
   $ printf 'tvar x : Int = 1\\nsubmit readTVar x\\neval\\nfinish 1\\nhistory\\n' | stmdesk | sed '1,4d' | stmdesk check
@@ -127,11 +130,9 @@ Example:
 
 docs/HISTORY.md describes the lines.";
 
-const WORKERS: &str =
-    "How many threads evaluate blocks, from 1 to 64; no answer of a run depends on it";
+const WORKERS: &str = "How many threads evaluate blocks, from 1 to 64";
 
-const LEVELS: &str =
-    "How many `orElse` deep both branches may run at once, from 0 to 8; no answer of a run depends on it";
+const LEVELS: &str = "How many nested `orElse` may run both branches at the same time, from 0 to 8";
 
 const MAX_EVENTS: &str = "How many events the history may have, from 0 to 1048576";
 
@@ -211,22 +212,24 @@ fn storm_words<'a>(alloc: Global) -> Result<Command<'a>, AllocError>
     with_options(alloc, "storm", STORM, SCRIPT)
 }
 
-/// The program with the commands that take options: `run`, which is meant where nothing is said, and `storm`.
+/// The program with its version and the commands that take options: `run`, which is the default, and `storm`.
 fn command_of_runs<'a>(alloc: Global) -> Result<Command<'a>, AllocError>
     ensures { IfOk result (λ c. app_of c
-        ≡ with_subcommand (with_subcommand (new_app (codes "stmdesk")) run_command.top)
+        ≡ with_subcommand
+        (with_subcommand (with_version (new_app (codes "stmdesk"))) run_command.top)
         storm_command.top) }
 {
     let run = run_words(alloc)?;
     let storm = storm_words(alloc)?;
     Command::new(alloc, "stmdesk")
+        .version(VERSION)
         .about(ABOUT)
         .after_help(NEXT)
         .subcommand(run)?
         .subcommand(storm)
 }
 
-/// What the program takes: `run`, `storm`, `check`, and what clap adds for help.
+/// What the program takes: `run`, `storm`, `check`, and what clap adds for help and the version.
 fn command<'a>(alloc: Global) -> Result<Command<'a>, AllocError>
     ensures { IfOk result (λ c. app_of c ≡ command_line) }
 {
@@ -315,7 +318,7 @@ fn request_of<'a>(matches: &ArgMatches<'a>) -> Request
     }
 }
 
-/// Reads the words, the program's name first: what they ask for, else the help or the fault to be reported.
+/// Reads the words, the program's name first: what they ask for, else the help, the version or the fault to be reported.
 pub fn read_words<'a, S: AsStr>(alloc: Global, words: &'a [S]) -> Result<Request, Error>
     ensures run { IsTrue (asks_for_run (map S.text words.now)) → IsOk result }
     ensures answers { FailsBy (answers_of (map S.text words.now)) result }

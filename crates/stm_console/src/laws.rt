@@ -1,7 +1,8 @@
 //! What holds of the console's text and of the program's words. Each function is a law: its contract says it, and its body
 //! does nothing but call the laws that it rests on.
 
-ghost use Rattle.stm_console.specs.Laws.{EachLineIsAnswered, VerdictsAreShown};
+ghost use Rattle.stm_console.specs.DueTickets.{OutTicketsAreASet};
+ghost use Rattle.stm_console.specs.Laws.{EachLineIsAnswered, QueueIsOfDueTickets, VerdictsAreShown, VersionsAreAskedFor};
 ghost use Rattle.stm_console.specs.Laws.{RunsAreAccepted, LastDashesChangeNothing, RunsHaveDefaults, OptionsAreInRange, StormsAreAccepted, StormsAreAsRuns, ChecksAreAccepted, NumbersAreTaken, OthersAreRefused, NoOptionTwice, OptionsNeedRun};
 
 /// A line that is neither blank nor a comment is answered by a text that ends with a line feed, whatever lines came before
@@ -35,6 +36,22 @@ pub fn verdicts_are_shown()
     stm_history::laws::weak_is_present();
 }
 
+/// The queue of the desk is no more than a set of tickets that are out: whatever lines came before, it has the tickets of the new
+/// and stale blocks in ascending order, each once, and each is out or queued as the set says. And each change of the queue
+/// changes the set as a set: `take` puts its tickets into it, a delivery, `cancel` and `handback` take theirs out of it, `settle`
+/// empties it, and no other change touches it.
+pub fn queue_is_a_set_of_tickets()
+    ensures queue { QueueIsOfDueTickets }
+    ensures out { OutTicketsAreASet }
+{
+    stm_parse::laws::answers_are_right();
+    stm_check::laws::check_never_says_no_memory();
+    stm_eval::laws::verdict_is_stable();
+    stm_history::laws::tickets_rise();
+    stm_history::laws::blocks_stay();
+    stm_history::laws::waiting_are_well_typed();
+}
+
 /// The program's name alone, and `run` after it, ask for a run with the default options, also with a last word `--`. No
 /// words give a run or a storm options that are out of their ranges.
 pub fn words_of_a_run_are_accepted()
@@ -54,6 +71,11 @@ pub fn words_of_a_storm_are_those_of_a_run()
 /// `check` after the program's name asks for a check.
 pub fn words_of_a_check_are_accepted()
     ensures { ChecksAreAccepted }
+{}
+
+/// `--version` and `-V` ask for the version.
+pub fn versions_are_asked_for()
+    ensures { VersionsAreAskedFor }
 {}
 
 /// `run` with `--workers=N`, `--levels=N` or `--max-events=N` runs with this number where it is in the option's range, and

@@ -1,7 +1,7 @@
 //! The console: commands by line from a reader, answers to a writer.
 //!
 //! `run` writes exactly the text that `specs/Console` gives for what it reads; `check` judges a history; `start` is the
-//! program over its words and streams, and `command_line` judges the words.
+//! program over its words and streams, `command_line` judges the words, and `version` has the version.
 //! Below them stand the reader with the calls that are left of it (`calls`, counted by `steps`), a run under way (`session`), how many threads
 //! evaluate (`threading`), the judgement of a line (`judging`), what the console knows (`console`: the declared variables, or
 //! an open desk, `opened`) and the commands:
@@ -59,6 +59,7 @@ pub mod storming;
 mod streams;
 mod threading;
 mod trying;
+pub mod version;
 
 pub use checking::{Finding, check};
 pub use options::Options;

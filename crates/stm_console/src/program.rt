@@ -1,20 +1,22 @@
 //! The program over its words and streams, and its exit status.
 
-ghost use Rattle.std.specs.Prelude.{◌≡◌, ◌≢◌, ◌⊎◌, ℕ, List, [], IfErr, IfOk, IfSome, IsTrue, OnOk, map};
+ghost use Rattle.std.specs.Prelude.{◌≡◌, ◌≢◌, ◌⊎◌, ℕ, List, [], IfErr, IfOk, IfSome, IsTrue, OnErr, OnOk, map};
 ghost use Rattle.std.specs.Io.KnownBytes.{Appends, Keeps};
 ghost use Rattle.clap.specs.Values.{kind_of};
 ghost use Rattle.stm_terms.specs.Texts.{IsPrefixOf};
 ghost use Rattle.stm_console.specs.Checking.{IsFinding, BeginsFindingText, finding_text};
 ghost use Rattle.stm_console.specs.Console.{console_text};
 ghost use Rattle.stm_console.specs.ExitStatus.{finding_status, status_of, storm_status, IsStatus};
-ghost use Rattle.stm_console.specs.CommandLine.{answers_of, asks_for_help, has_mistake, is_mistake, judges_history, request_of, IfRun, IfStorm};
+ghost use Rattle.stm_console.specs.CommandLine.{answers_of, asks_for_help, asks_for_version, has_mistake, is_mistake, judges_history, request_of, version_line, IfRun, IfStorm};
 ghost use Rattle.stm_console.specs.Options.{AreRunOptions};
 ghost use Rattle.stm_console.specs.StormText.{IsStormText};
 
 use crate::checking::{Finding, check};
 use crate::command_line::{Request, read_words};
+use crate::output::{flush, write_line};
 use crate::storming::{StormFault, storm};
 use crate::streams::{RunFault, run};
+use crate::version::version_line;
 use clap::Error;
 use clap::error::ErrorKind;
 use std::alloc::Global;
@@ -54,8 +56,39 @@ fn tell_fault<E: Write>(fault: RunFault, errors: &mut E) -> u8
     fault.status()
 }
 
-/// Tells help on the writer, or what is wrong with the words on `errors`, and answers the status.
-fn tell_words<W: Write, E: Write>(error: &Error, writer: &mut W, errors: &mut E) -> u8
+/// Writes the version's line.
+fn write_version<W: Write>(alloc: Global, writer: &mut W) -> Result<(), RunFault>
+    ensures done { OnOk result
+        (Appends (W.contents writer.old) (W.contents writer.new) version_line) }
+    ensures part { OnErr result ((front : List ℕ) × IsPrefixOf front version_line
+        × Appends (W.contents writer.old) (W.contents writer.new) front) }
+{
+    let line = version_line(alloc)?;
+    write_line(writer, line.as_bytes())
+}
+
+/// Prints the version, and returns the status.
+fn print_version<W: Write, E: Write>(alloc: Global, writer: &mut W, errors: &mut E) -> u8
+    ensures status { IsStatus result }
+    ensures unjudged { result ≢ 3 }
+    ensures accepted { result ≢ 2 }
+    ensures done { result ≡ 0 → Appends (W.contents writer.old) (W.contents writer.new) version_line }
+    ensures part { result ≢ 0 → (front : List ℕ) × IsPrefixOf front version_line
+        × Appends (W.contents writer.old) (W.contents writer.new) front }
+{
+    match write_version(alloc, writer) {
+        Ok(()) => 0,
+        Err(fault) => tell_fault(fault, errors),
+    }
+}
+
+/// Prints help or the version on the writer, or what is wrong with the words on `errors`, and returns the status.
+fn tell_words<W: Write, E: Write>(
+    alloc: Global,
+    error: &Error,
+    writer: &mut W,
+    errors: &mut E,
+) -> u8
     ensures status { IsStatus result }
     ensures unjudged { result ≢ 3 }
     ensures refused { result ≡ 2 → Keeps (W.contents writer.old) (W.contents writer.new) }
@@ -65,15 +98,22 @@ fn tell_words<W: Write, E: Write>(error: &Error, writer: &mut W, errors: &mut E)
         × Keeps (W.contents writer.old) (W.contents writer.new) }
     ensures help { (kind_of error.now ≡ ErrorKind.OutOfMemory)
         ⊎ (kind_of error.now ≡ ErrorKind.DisplayHelp) → result ≢ 2 }
+    ensures version { kind_of error.now ≡ ErrorKind.DisplayVersion → (result ≢ 2)
+        × (result ≡ 0 → Appends (W.contents writer.old) (W.contents writer.new) version_line)
+        × (result ≢ 0 → (front : List ℕ) × IsPrefixOf front version_line
+        × Appends (W.contents writer.old) (W.contents writer.new) front) }
 {
     if error.kind() == ErrorKind::OutOfMemory {
         return tell_fault(RunFault::NoMemory, errors);
+    }
+    if error.kind() == ErrorKind::DisplayVersion {
+        return print_version(alloc, writer, errors);
     }
     if error.use_stderr() {
         let _ = write!(errors, "{error}");
         return REFUSED;
     }
-    if write!(writer, "{error}").is_err() || writer.flush().is_err() {
+    if write!(writer, "{error}").is_err() || flush(writer).is_err() {
         return tell_fault(RunFault::Write, errors);
     }
     0
@@ -121,7 +161,7 @@ fn end_storm<E: Write>(ended: Result<(), StormFault>, errors: &mut E) -> u8
 /// writer; where they ask for a storm, does what the script on the reader says; where they ask for a check, judges the history
 /// on the reader; reports a fault on `errors`, and answers the exit status.
 ///
-/// 0: the input was read to its end, or help was written. 1: a read or a write failed, or a line of a script is faulty. 2: the
+/// 0: the input was read to its end, or help or the version was written. 1: a read or a write failed, or a line of a script is faulty. 2: the
 /// words were refused. 3: the history isn't legal. 4: memory ran out, or a thread couldn't be started. That `errors` fails
 /// changes nothing.
 pub fn start<'a, T: Threads + Wait + Sync, S: AsStr, R: Read, W: Write, E: Write>(
@@ -181,10 +221,18 @@ pub fn start<'a, T: Threads + Wait + Sync, S: AsStr, R: Read, W: Write, E: Write
     // A request for help isn't refused, and nothing is read.
     ensures help { IsTrue (asks_for_help (map S.text words.now)) → (result ≢ 2)
         × Keeps (R.remaining reader.old) (R.remaining reader.new) }
+    // A request for the version isn't refused, nothing is read, and with status 0 its line was written.
+    ensures version { IsTrue (asks_for_version (map S.text words.now)) → (result ≢ 2)
+        × Keeps (R.remaining reader.old) (R.remaining reader.new)
+        × (result ≡ 0 → Appends (W.contents writer.old) (W.contents writer.new) version_line) }
+    // With any other status it is a prefix of the line.
+    ensures version_part { IsTrue (asks_for_version (map S.text words.now)) → result ≢ 0 →
+        (front : List ℕ) × IsPrefixOf front version_line
+        × Appends (W.contents writer.old) (W.contents writer.new) front }
 {
     let request = match read_words(alloc, words) {
         Ok(request) => request,
-        Err(error) => return tell_words(&error, writer, errors),
+        Err(error) => return tell_words(alloc, &error, writer, errors),
     };
     match request {
         Request::Run(options) => end_run(run(rt, alloc, reader, writer, options), errors),
