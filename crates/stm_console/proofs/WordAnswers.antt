@@ -1,6 +1,8 @@
 -- What clap answers to words.
 use Rattle.std.proofs.Common.{bytes_eq, ◌≡◌, ◌≤◌, ℕ, Bool, true, false, List, [], ◌∷◌, ◌++◌, ◌&&◌, inl, inr, codes, refl, ap, sym, ◌∙◌, subst, cond, arith, Option, Some, None}
-use Rattle.std.specs.Prelude.{Ok, Err, ◌⊎◌, nat_le, option_and_then}
+use Rattle.std.specs.Prelude.{Ok, Err, ◌≢◌, IfSome, ◌⊎◌, nat_le, option_and_then}
+use Rattle.std.specs.Io.KnownBytes.{Appends, Keeps}
+use Rattle.std.proofs.KnownBytes.{Appends-kept, Appends-nil}
 use Rattle.std.specs.Str.Parse.{ParsesUnsigned, digits_value, without_leading_plus}
 use Rattle.clap.specs.Matches.{ReadsOne, one_text}
 use Rattle.clap.specs.ValueTests.{is_unsigned_in}
@@ -20,9 +22,13 @@ use Rattle.clap.specs.declared.error.kind.ErrorKind.{ErrorKind}
 use Rattle.clap.specs.declared.error.kind.ErrorKind.TheVariants.{DisplayVersion, OutOfMemory}
 use Rattle.clap.proofs.OnLiterals.{clap_on_literals}
 use Rattle.std.specs.Prelude.{Result}
+use Rattle.stm_console.specs.Checking.{BeginsFindingText}
+use Rattle.stm_console.specs.Console.{console_text}
 use Rattle.stm_console.specs.CommandLine.{answers_of, are_mistakes, asks_for_run, asks_for_version, command_line, is_mistake, is_version, number_of_text, number_within, options_said, request_of, request_said, IfRun, IfStorm}
 use Rattle.stm_console.specs.Laws.{VersionsAreAskedFor}
 use Rattle.stm_console.specs.Options.{AreRunOptions, default_options}
+use Rattle.stm_console.specs.declared.options.Options.{Options}
+use Rattle.stm_terms.specs.Texts.{IsPrefixOf}
 use Rattle.stm_console.specs.declared.command_line.Request.{Request}
 use Rattle.stm_console.specs.declared.command_line.Request.TheVariants.{Run, Storm, Check}
 
@@ -224,3 +230,37 @@ told_among e (inr (inr h)) = absurd h
 -- what is reported of a request for the version is the version, or an out-of-memory error
 pub told_version : (kinds : Kinds) (e : Error) → HasKind kinds e → is_version kinds ≡ true → (kind_of e ≡ OutOfMemory) ⊎ (kind_of e ≡ DisplayVersion)
 told_version kinds e h v = told_among e (subst (λ (ks : Kinds). HasKind ks e) (version_alone kinds v) h)
+
+-- ---- words that nothing is done for
+
+among_none : (e : Error) → HasKind [] e → kind_of e ≡ OutOfMemory
+among_none e (inl same) = same
+among_none e (inr h) = absurd h
+
+-- where there is nothing to tell, what is reported is an out-of-memory error
+pub told_nothing : (kinds : Kinds) (e : Error) → HasKind kinds e → kinds ≡ [] → kind_of e ≡ OutOfMemory
+told_nothing kinds e h none = among_none e (subst (λ (ks : Kinds). HasKind ks e) none h)
+
+-- a writer that holds what it held has got nothing, which begins each text
+appends_nothing : (a b : Option (List ℕ)) → Keeps a b → Appends a b []
+appends_nothing a b k = Appends-kept a a b [] (Appends-nil a) k
+
+pub nothing_written : (a b : Option (List ℕ)) (text : List ℕ) → Keeps a b → (front : List ℕ) × IsPrefixOf front text × Appends a b front
+nothing_written a b text k = ([], (text, refl), appends_nothing a b k)
+
+-- so it is of a run's text
+run_part : (remaining old new : Option (List ℕ)) (max_events : ℕ) → Keeps old new
+    → IfSome remaining (λ input. (front : List ℕ) × IsPrefixOf front (console_text max_events input) × Appends old new front)
+run_part None old new max_events k = tt
+run_part (Some input) old new max_events k = nothing_written old new (console_text max_events input) k
+
+pub run_unwritten : (r : Request) (remaining old new : Option (List ℕ)) (n : ℕ) → Keeps old new
+    → IfRun r (λ o. n ≢ 0 → IfSome remaining (λ input. (front : List ℕ) × IsPrefixOf front (console_text o.max_events input) × Appends old new front))
+run_unwritten (Run o) remaining old new n k = λ _. run_part remaining old new o.max_events k
+run_unwritten (Storm o) remaining old new n k = tt
+run_unwritten Check remaining old new n k = tt
+
+-- and of what a check finds
+pub found_unwritten : (remaining old new : Option (List ℕ)) → Keeps old new → IfSome remaining (λ bytes. (front : List ℕ) × BeginsFindingText bytes front × Appends old new front)
+found_unwritten None old new k = tt
+found_unwritten (Some bytes) old new k = ([], inl refl, appends_nothing old new k)

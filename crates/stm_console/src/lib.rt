@@ -2,9 +2,9 @@
 //!
 //! `run` writes exactly the text that `specs/Console` gives for what it reads; `check` judges a history; `start` is the
 //! program over its words and streams, `command_line` judges the words, and `version` has the version.
-//! Below them stand the reader with the calls that are left of it (`calls`, counted by `steps`), a run under way (`session`), how many threads
-//! evaluate (`threading`), the judgement of a line (`judging`), what the console knows (`console`: the declared variables, or
-//! an open desk, `opened`) and the commands:
+//! Below them stand the reader with the calls that are left of it (`calls`, counted by `steps`), a run under way (`session`),
+//! how many threads evaluate (`threading`), the judgement of a line (`judging`), what the console knows (`console`: the declared
+//! variables, or an open desk, `opened`) and the commands:
 //! `declaring` has `tvar`; `trying` has `try`, `looks` and `submit`; `delivering` has `take`, `deliver`, `handback` and `eval`,
 //! by the jobs of `jobs`; `finishing` has `finish`, `cancel` and `settle`; `showing` has `show`, `reads` and `store`. `laws` says
 //! what holds of the text that is written and of the program's words.

@@ -1,4 +1,4 @@
-use Rattle.std.proofs.Common.{rules, sym, ◌∙◌, [], ◌++◌, append-nil}
+use Rattle.std.proofs.Common.{arith, rules, sym, ◌∙◌, [], ◌++◌, append-nil}
 use Rattle.std.proofs.KnownBytes.{Appends-trans, Appends-kept, Consumes-trans, Consumes-kept}
 use Rattle.std.proofs.lemmas.Result.{err_from_is_err_and}
 use Rattle.stm_console.proofs.Running as Running
@@ -58,12 +58,16 @@ pub reads-preserved : goal.reads-preserved
 reads-preserved g c = record {
   kept = Running.Kept-reread _ _ _ _ _ _ _ _ c.reads.invariant.kept c.in-Err.ensures.bytes;
   same_reader = c.in-Err.ensures.same_reader ∙ c.reads.invariant.same_reader;
+  same_steps = c.in-Err.ensures.same_steps ∙ c.reads.invariant.same_steps;
+  counted = omega (arith, c.in-Err.ensures.counted, c.in-Err.ensures.one_less, c.reads.invariant.counted);
 }
 
 pub reads-preserved-in-Continue-branch-4 : goal.reads-preserved-in-Continue-branch-4
 reads-preserved-in-Continue-branch-4 g c = record {
   kept = Running.Kept-next _ _ _ _ _ _ _ _ _ _ _ _ _ _ c.reads.invariant.kept c.in-Ok.ensures.bytes.0 c.in_ok-take_bytes-in-Ok.ensures.done.1 c.in_ok-take_bytes-in-Ok.ensures.done.2 c.in_ok-flush-in-Ok-2.ensures.kept;
   same_reader = c.in-Ok.ensures.same_reader ∙ c.reads.invariant.same_reader;
+  same_steps = c.in-Ok.ensures.same_steps ∙ c.reads.invariant.same_steps;
+  counted = omega (arith, c.in-Ok.ensures.counted, c.in-Ok.ensures.one_less, c.reads.invariant.counted);
 }
 
 pub returns-clause-read_fault : goal.returns-clause-read_fault
