@@ -1,4 +1,4 @@
-"""Each allocation of a run refused in turn, from the first one on until a run meets none.
+"""Each allocation of a run refused in turn, from the first one on until a run meets none; of a large case only some.
 
 The program stmdesk then does all that it does otherwise, or ends with status 4 behind a part of its answers. The program
 that makes calls makes a refused call again, and its answers are the same; or it answers `no memory` and leaves it at that,
@@ -20,7 +20,9 @@ LEFT = re.compile(rb"(?m)^no memory (call )?(\d+)\n")
 
 def prefixed(case, line):
     """The script with a line before it that answers nothing."""
-    return transcript.Case(case.name, case.words, [(line, b"")] + case.steps)
+    longer = transcript.Case(case.name, case.words, [(line, b"")] + case.steps)
+    longer.is_large = case.is_large
+    return longer
 
 
 def ends_early(first, end):
@@ -109,6 +111,12 @@ def numbers(first):
     return range(1, first.counted + 1)
 
 
+def some(first):
+    """Of a case that is large: the first, tenth, hundredth allocation and so on, and the last three."""
+    powers = {10**power for power in range(len(str(first.counted)))}
+    return sorted(powers | set(range(max(1, first.counted - 2), first.counted + 1)))
+
+
 def as_wanted(case):
     """What is wrong with a run without a fault, where the case says what it answers."""
 
@@ -121,6 +129,8 @@ def as_wanted(case):
 
 def sweeps(program, calls, library, cases, scripts):
     def sweep(name, run, case, judge, judge_first=None):
+        if case.is_large:
+            return Sweep(name, run, library, case, some, judge, judge_first, "chosen allocation")
         return Sweep(name, run, library, case, numbers, judge, judge_first, "allocation", ends_unmet=True)
 
     for case in cases:

@@ -3,7 +3,8 @@ the allocations of a run that can be refused in vain.
 
 Where the left branch returns, whatever the right one is refused changes nothing. So of the runs with one allocation refused
 each, more end with the whole answer where the right branch makes two hundred variables than where it only returns. Where
-the left one retries, what the right one is refused is the block's own want of memory, and more runs end with status 4."""
+the left one retries, what the right one is refused is the block's own want of memory, and more runs end with status 4.
+Neither left branch takes memory, so no number depends on which of the two is faster."""
 
 import preload
 import transcript

@@ -10,6 +10,7 @@ from concurrent.futures import ThreadPoolExecutor
 import preload
 
 BATCH = 0.5  # seconds of runs that one process makes, about
+AT_ONCE = os.cpu_count()
 
 
 class Sweep:
@@ -88,7 +89,7 @@ class Running:
 
 def judged(sweeps, every=1):
     """Names with what was tried and what is said of them, each as soon as it and those before it are known."""
-    with ThreadPoolExecutor(os.cpu_count()) as pool:
+    with ThreadPoolExecutor(AT_ONCE) as pool:
         for running in [Running(pool, sweep, every) for sweep in sweeps]:
             try:
                 tried, of, said = running.result()
