@@ -1,6 +1,6 @@
 """The program over standard input, output and error that fail or give little.
 
-Which calls fail goes by a rule, and not by time: each of the first 200, each 97th up to 20,000, and each 9,973rd above; of a
+Which calls fail goes by a rule, and not by time: each of the first 200, each 97th up to 5,000, and each 9,973rd above; of a
 reader also those at the end of each line."""
 
 import re
@@ -9,7 +9,7 @@ import transcript
 import words
 from sweeps import Sweep
 
-LONG = 500_000  # bytes of a case whose devices don't fail
+LONG = 500_000  # bytes; a case that is longer is not run on such devices
 READ_FAULT = b"stmdesk: read fault\n"
 WRITE_FAULT = b"stmdesk: write fault\n"
 SLOW = [  # devices that change nothing
@@ -22,7 +22,7 @@ SLOW = [  # devices that change nothing
 
 def calls(most):
     """The calls that fail, of so many."""
-    return sorted({*range(1, min(most, 200) + 1), *range(200, min(most, 20_000) + 1, 97), *range(20_000, most + 1, 9_973)})
+    return sorted({*range(1, min(most, 200) + 1), *range(200, min(most, 5_000) + 1, 97), *range(5_000, most + 1, 9_973)})
 
 
 def lines_of(case):

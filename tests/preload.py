@@ -45,9 +45,9 @@ def file_of(content):
     return file
 
 
-def ends(program, library, case, numbers=(), **faults):
-    """The ends of runs of a case, one without the fault of a number, and then one for each number (runs.h)."""
-    packed = struct.pack(f"={len(numbers) + 1}I", 0, *numbers)
+def ends(program, library, case, numbers=(0,), **faults):
+    """The ends of runs of a case, one for each number of a fault (runs.h)."""
+    packed = struct.pack(f"={len(numbers)}I", *numbers)
     with file_of(packed) as asked, file_of(b"") as told, file_of(case.text) as text, file_of(b"") as out, file_of(b"") as errors:
         environment = {name: str(value) for name, value in faults.items()}
         environment |= {"LD_PRELOAD": library, "RUNS_SECONDS": str(transcript.SECONDS)}
@@ -56,8 +56,8 @@ def ends(program, library, case, numbers=(), **faults):
         status = subprocess.run([program] + case.words, env=environment, **files).returncode
         told.seek(0)
         found = parsed(told.read())
-    if status or len(found) != len(numbers) + 1:
-        raise OSError(f"only {len(found)} of {len(numbers) + 1} runs of {case.name} were made, status {status}")
+    if status or len(found) != len(numbers):
+        raise OSError(f"only {len(found)} of {len(numbers)} runs of {case.name} were made, status {status}")
     return found
 
 

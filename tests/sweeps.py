@@ -9,7 +9,7 @@ from concurrent.futures import ThreadPoolExecutor
 
 import preload
 
-BATCH = 0.5  # seconds of runs that one process makes, about
+BATCH = 2  # seconds of runs that one process makes, about
 AT_ONCE = os.cpu_count()
 
 
@@ -25,7 +25,7 @@ class Sweep:
         self.numbers, self.judge, self.judge_first = numbers, judge, judge_first or (lambda first: None)
         self.unit, self.ends_unmet = unit, ends_unmet
 
-    def run(self, numbers=()):
+    def run(self, numbers):
         return preload.ends(self.program, self.library, self.case, numbers, **self.faults)
 
     def said_of(self, first, end):
@@ -34,7 +34,7 @@ class Sweep:
 
     def judge_batch(self, first, numbers):
         """How many were tried, and what is said of the first that isn't right."""
-        for count, end in enumerate(self.run(numbers)[1:], 1):
+        for count, end in enumerate(self.run(numbers), 1):
             said = self.said_of(first, end)
             if said:
                 return count, said
@@ -44,7 +44,7 @@ class Sweep:
         """The same from this number on, until a run meets no fault; that one isn't counted."""
         tried = 0
         while True:
-            end = self.run([number + tried])[1]
+            end = self.run([number + tried])[0]
             said = self.said_of(first, end)
             if said or end.counted < end.number:
                 return tried, said
@@ -66,7 +66,7 @@ class Running:
 
     def begin(self):
         before = time.monotonic()
-        first = self.sweep.run()[0]
+        first = self.sweep.run([0])[0]
         one = time.monotonic() - before
         there_are = list(self.sweep.numbers(first))
         numbers = there_are[:: self.every]
