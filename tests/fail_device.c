@@ -1,59 +1,65 @@
 /* Loaded before the C library: makes standard input, output and error fail or give little.
 
-   READ_FAILS=N, WRITE_FAILS=N   the N-th call and all later ones fail (standard input; standard output)
-   READ_SHORT=1, WRITE_SHORT=1   a call takes one byte
-   INTERRUPTS=1                  each second call of read is interrupted, the first one too
-   ERRORS_FAIL=1                 nothing can be written on standard error */
+   READ_FAILS=1, WRITE_FAILS=1             the call of the run's number, counted from 1, and all later ones fail (standard
+                                           input; standard output); of number 0 none does
+   READ_SHORT=1, WRITE_SHORT=1             a call takes one byte
+   READ_INTERRUPTS=1, WRITE_INTERRUPTS=1   each second call is interrupted, the first one too
+   ERRORS_FAIL=1                           nothing can be written on standard error
+
+   Counts the calls of write. */
 #define _GNU_SOURCE
+#include "runs.h"
 #include <dlfcn.h>
-#include <errno.h>
-#include <stdlib.h>
-#include <unistd.h>
+
+struct device {
+    unsigned long calls, fails;
+    int is_short, interrupts;
+};
 
 static ssize_t (*real_read)(int, void *, size_t);
 static ssize_t (*real_write)(int, const void *, size_t);
-static unsigned long reads, writes, read_fails, write_fails;
-static int read_short, write_short, interrupts, errors_fail;
-
-static unsigned long number(const char *name) {
-    const char *text = getenv(name);
-    return text ? strtoul(text, NULL, 10) : 0;
-}
+static struct device input, output;
+static int errors_fail;
 
 __attribute__((constructor)) static void begin(void) {
+    unsigned long number;
     real_read = (ssize_t(*)(int, void *, size_t))dlsym(RTLD_NEXT, "read");
     real_write = (ssize_t(*)(int, const void *, size_t))dlsym(RTLD_NEXT, "write");
-    read_fails = number("READ_FAILS");
-    write_fails = number("WRITE_FAILS");
-    read_short = (int)number("READ_SHORT");
-    write_short = (int)number("WRITE_SHORT");
-    interrupts = (int)number("INTERRUPTS");
-    errors_fail = (int)number("ERRORS_FAIL");
+    number = next_run();
+    input.fails = number_of("READ_FAILS") * number;
+    output.fails = number_of("WRITE_FAILS") * number;
+    input.is_short = (int)number_of("READ_SHORT");
+    output.is_short = (int)number_of("WRITE_SHORT");
+    input.interrupts = (int)number_of("READ_INTERRUPTS");
+    output.interrupts = (int)number_of("WRITE_INTERRUPTS");
+    errors_fail = (int)number_of("ERRORS_FAIL");
 }
 
-static ssize_t fails(int fault) {
-    errno = fault;
-    return -1;
+/* The error of the next call, or 0. */
+static int fault(struct device *device) {
+    device->calls += 1;
+    if (device->interrupts && device->calls % 2 == 1)
+        return EINTR;
+    return device->fails && device->calls >= device->fails ? EIO : 0;
 }
 
 ssize_t read(int file, void *bytes, size_t count) {
     if (file != STDIN_FILENO)
         return real_read(file, bytes, count);
-    reads += 1;
-    if (interrupts && reads % 2 == 1)
-        return fails(EINTR);
-    if (read_fails && reads >= read_fails)
-        return fails(EIO);
-    return real_read(file, bytes, read_short && count > 1 ? 1 : count);
+    if ((errno = fault(&input)))
+        return -1;
+    return real_read(file, bytes, input.is_short && count > 1 ? 1 : count);
 }
 
 ssize_t write(int file, const void *bytes, size_t count) {
-    if (file == STDERR_FILENO && errors_fail)
-        return fails(EIO);
+    if (file == STDERR_FILENO && errors_fail) {
+        errno = EIO;
+        return -1;
+    }
     if (file != STDOUT_FILENO)
         return real_write(file, bytes, count);
-    writes += 1;
-    if (write_fails && writes >= write_fails)
-        return fails(EIO);
-    return real_write(file, bytes, write_short && count > 1 ? 1 : count);
+    *counted += 1;
+    if ((errno = fault(&output)))
+        return -1;
+    return real_write(file, bytes, output.is_short && count > 1 ? 1 : count);
 }

@@ -3,13 +3,12 @@ the allocations of a run that can be refused in vain.
 
 Where the left branch returns, whatever the right one is refused changes nothing. So of the runs with one allocation refused
 each, more end with the whole answer where the right branch makes two hundred variables than where it only returns. Where
-the left one retries, what the right one is refused is the block's own want of memory, and more runs end with status 4."""
+the left one retries, what the right one is refused is the block's own want of memory, and more runs end with status 4.
+Neither left branch takes memory, so no number depends on which of the two is faster."""
 
-import pathlib
-import tempfile
-
+import preload
 import transcript
-from allocations import OUT_OF_MEMORY, Refuser
+from allocations import OUT_OF_MEMORY
 
 MAKES = "do { " + "newTVar 2; " * 200 + "return 3 }"
 MORE = 4  # runs, at least
@@ -25,23 +24,21 @@ def case(left, right, result):
     return transcript.Case("a fork", words, [(line.encode(), answer.encode()) for line, answer in lines])
 
 
-def ends(refuser, left, right, result):
+def ends(program, library, left, right, result):
     """How many runs with one allocation refused end with the whole answer, and how many for want of memory."""
     asked = case(left, right, result)
-    _, count = refuser.run(asked, 0)
-    runs = [refuser.run(asked, number)[0] for number in range(1, count + 1)]
-    whole = sum((done.returncode, done.stdout) == (0, asked.printed) for done in runs)
-    refused = sum((done.returncode, done.stderr) == (4, OUT_OF_MEMORY) for done in runs)
+    count = preload.ends(program, library, asked)[0].counted
+    runs = preload.ends(program, library, asked, range(1, count + 1))
+    whole = sum((end.returncode, end.stdout) == (0, asked.printed) for end in runs)
+    refused = sum((end.returncode, end.stderr) == (4, OUT_OF_MEMORY) for end in runs)
     return whole, refused, count
 
 
 def judged(program, library):
     """Names with what was counted and what is said of them."""
-    with tempfile.TemporaryDirectory() as folder:
-        refuser = Refuser(program, library, pathlib.Path(folder))
-        for left, result, at, name in (("return 1", 1, 0, "a fork whose left branch returns"), ("retry", 3, 1, "and retries")):
-            long, short = ends(refuser, left, MAKES, result), ends(refuser, left, "return 3", result)
-            counted = f"{long[at]} and {short[at]} of {long[2]} and {short[2]} runs"
-            said = None if long[at] >= short[at] + MORE else "the right branch makes no difference"
-            others = [end for end in (long, short) if end[0] + end[1] != end[2]]
-            yield name, counted, said or (f"some end otherwise: {others}" if others else None)
+    for left, result, at, name in (("return 1", 1, 0, "a fork whose left branch returns"), ("retry", 3, 1, "and retries")):
+        long, short = ends(program, library, left, MAKES, result), ends(program, library, left, "return 3", result)
+        counted = f"{long[at]} and {short[at]} of {long[2]} and {short[2]} runs"
+        said = None if long[at] >= short[at] + MORE else "the right branch makes no difference"
+        others = [end for end in (long, short) if end[0] + end[1] != end[2]]
+        yield name, counted, said or (f"some end otherwise: {others}" if others else None)

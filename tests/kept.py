@@ -2,29 +2,28 @@
 
 A call that evaluated blocks anew would ask for memory as often as the blocks do. So a finish beside three hundred current
 blocks can be refused fewer than two hundred times; and a block whose discarded branch makes two hundred variables is
-delivered and finished with as many allocations as one that just returns."""
+delivered and finished with as many allocations as one that just returns. And that `apply` takes memory for each page that it
+writes and a copy holds, since it makes each its own: over three pages it can be refused three times or more."""
 
-import pathlib
-import tempfile
-
+import preload
 import transcript
-from allocations import Refuser
 
 LONG = "orElse (do { " + "newTVar 2; " * 200 + "retry }) (return 3)"
 SHORT = "return 3"
+THREE_PAGES = ["table many 130", "store open", "store freeze", "verdict commits writes #0=7 #64=8 #129=9"]
 
 
 def script(name, lines):
     return transcript.Case(name, steps=[(line.encode() + b"\n", b"") for line in lines])
 
 
-def refusals(refuser, lines):
-    """How many allocations of the last line can be refused so that it tells want of memory."""
+def refusals(calls, library, lines):
+    """How many allocations of the last line can be refused so that it answers want of memory."""
     whole = script("whole", ["memory once"] + lines)
-    _, before = refuser.run(script("before", ["memory once"] + lines[:-1]), 0)
-    _, after = refuser.run(whole, 0)
+    first = preload.ends(calls, library, script("before", ["memory once"] + lines[:-1]))[0].counted
+    last = preload.ends(calls, library, whole)[0].counted
     told = b"no memory %d\n" % (len(lines) + 1)
-    return sum(refuser.run(whole, number)[0].stdout.endswith(told) for number in range(before + 1, after + 1))
+    return sum(end.stdout.endswith(told) for end in preload.ends(calls, library, whole, range(first + 1, last + 1)))
 
 
 def readers(count):
@@ -40,12 +39,12 @@ def alone(block):
 
 def judged(calls, library):
     """Names with what was counted and what is said of them."""
-    with tempfile.TemporaryDirectory() as folder:
-        refuser = Refuser(calls, library, pathlib.Path(folder))
-        count = refusals(refuser, readers(300) + ["desk finish 301"])
-        yield "a finish beside 300 current blocks", f"{count} refusals", None if 0 < count < 200 else "200 or more, or none"
-        for call, lines in (("deliver", []), ("finish", ["desk deliver 1"])):
-            last = "desk deliver 1" if call == "deliver" else "desk finish 1"
-            counts = [refusals(refuser, alone(block) + lines + [last]) for block in (LONG, SHORT)]
-            said = None if counts[0] == counts[1] else f"not the same: {counts}"
-            yield f"{call} of a block with a long discarded branch", f"{counts[0]} refusals", said
+    count = refusals(calls, library, readers(300) + ["desk finish 301"])
+    yield "a finish beside 300 current blocks", f"{count} refusals", None if 0 < count < 200 else "200 or more, or none"
+    for call, lines in (("deliver", []), ("finish", ["desk deliver 1"])):
+        last = "desk deliver 1" if call == "deliver" else "desk finish 1"
+        counts = [refusals(calls, library, alone(block) + lines + [last]) for block in (LONG, SHORT)]
+        said = None if counts[0] == counts[1] else f"not the same: {counts}"
+        yield f"{call} of a block with a long discarded branch", f"{counts[0]} refusals", said
+    count = refusals(calls, library, THREE_PAGES + ["store apply"])
+    yield "an apply over three pages that a copy holds", f"{count} refusals", None if count >= 3 else "fewer than 3"

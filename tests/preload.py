@@ -1,12 +1,16 @@
-"""C files of this folder, built to be loaded before the C library of a program."""
+"""C files of this folder, built to be loaded before the C library of a program, and runs of the program with a fault each."""
 
 import os
 import pathlib
 import shutil
+import struct
 import subprocess
 import sys
 
+import transcript
+
 HERE = pathlib.Path(__file__).resolve().parent
+END = struct.Struct("=IiIIIII")  # struct end of runs.h
 
 
 def built(name, folder):
@@ -17,3 +21,54 @@ def built(name, folder):
     library = pathlib.Path(folder) / f"{name}.so"
     subprocess.run([found, "-shared", "-fPIC", "-O1", "-o", library, HERE / f"{name}.c", "-ldl"], check=True)
     return str(library)
+
+
+class End:
+    """How a run ended: `counted` is what the library counted in it, `taken` how many bytes of its input it took."""
+
+    def __init__(self, number, returncode, counted, taken, stdout, stderr):
+        self.number, self.returncode, self.counted, self.taken = number, returncode, counted, taken
+        self.stdout, self.stderr = stdout, stderr
+
+    def whole(self):
+        return self.returncode, self.stdout, self.stderr
+
+    def shown(self):
+        return f"status {self.returncode}, {self.stderr!r}, {self.stdout[-300:]!r}"
+
+
+def file_of(content):
+    """A file in memory, at its start."""
+    file = os.fdopen(os.memfd_create("runs"), "r+b")
+    file.write(content)
+    file.seek(0)
+    return file
+
+
+def ends(program, library, case, numbers=(0,), **faults):
+    """The ends of runs of a case, one for each number of a fault (runs.h)."""
+    packed = struct.pack(f"={len(numbers)}I", *numbers)
+    with file_of(packed) as asked, file_of(b"") as told, file_of(case.text) as text, file_of(b"") as out, file_of(b"") as errors:
+        environment = {name: str(value) for name, value in faults.items()}
+        environment |= {"LD_PRELOAD": library, "RUNS_SECONDS": str(transcript.SECONDS)}
+        environment |= {"RUNS_NUMBERS": str(asked.fileno()), "RUNS_ENDS": str(told.fileno())}
+        files = {"stdin": text, "stdout": out, "stderr": errors, "pass_fds": (asked.fileno(), told.fileno())}
+        status = subprocess.run([program] + case.words, env=environment, **files).returncode
+        told.seek(0)
+        found = parsed(told.read())
+    if status or len(found) != len(numbers):
+        raise OSError(f"only {len(found)} of {len(numbers)} runs of {case.name} were made, status {status}")
+    return found
+
+
+def parsed(text):
+    found, at = [], 0
+    while at < len(text):
+        number, status, counted, taken, shared, rest, errors = END.unpack_from(text, at)
+        at += END.size
+        front = found[0].stdout if found else b""
+        output = front if shared == len(front) and not rest else front[:shared] + text[at : at + rest]
+        at += rest
+        found.append(End(number, status, counted, taken, output, text[at : at + errors]))
+        at += errors
+    return found

@@ -32,6 +32,7 @@ class Case:
         self.status = status
         self.only_again = False  # a refused call is made again, and never left at that
         self.events_are_open = False  # how many events a storm has depends on which thread came first
+        self.is_large = False  # it takes more memory than can be refused bit by bit
 
     def has_one_answer(self):
         """Whether it is the input's end that is answered, and not each line."""
@@ -114,6 +115,7 @@ def parsed(name, lines):
     )
     case.only_again = "again" in said["mode"]
     case.events_are_open = "any events" in said["mode"]
+    case.is_large = "large" in said["mode"]
     return case
 
 
@@ -131,13 +133,13 @@ def all_cases():
     return found
 
 
-def run(program, case, environment=None):
+def run(program, case):
     """The finished process of a case, with `taken`, how many bytes of its input it took."""
     with tempfile.TemporaryFile() as text:
         text.write(case.text)
         text.seek(0)
         command = [program] + case.words
-        done = subprocess.run(command, stdin=text, capture_output=True, timeout=SECONDS, env=environment)
+        done = subprocess.run(command, stdin=text, capture_output=True, timeout=SECONDS)
         done.taken = os.lseek(text.fileno(), 0, os.SEEK_CUR)
     return done
 

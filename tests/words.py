@@ -172,6 +172,7 @@ def judged(program, cases):
     for forms in (FORMS_OF_HELP, FORMS_OF_HELP_OF_RUN, FORMS_OF_HELP_OF_STORM, FORMS_OF_HELP_OF_CHECK):
         yield f"words {forms[0]}, what it says to run", judge_sessions(program, forms[0])
     for case in cases:
-        if case.is_small_run() or (case.words == ["storm"] and case.status == 0):
+        has_options = any(word in case.words for options in VARIED for word in options[::2])
+        if (case.is_small_run() and not has_options) or (case.words == ["storm"] and case.status == 0):
             for options in VARIED:
                 yield f"{case.name} with {' '.join(options)}", judge_varied(program, case, options)
