@@ -85,12 +85,10 @@ fn view<L: Ledger, R: Wait>(
     }
 }
 
-/// Keeps a message, where its block was evaluated; otherwise its ticket is queued again.
-fn keep_message<L: Ledger, R: Wait>(
-    shared: &SharedDesk<L>,
+/// Keeps a message, where its block was evaluated.
+fn keep_message(
     made: Result<Evaluated, (Job, AllocError)>,
     messages: &mut Vec<Option<Evaluated>>,
-    rt: &R,
     out: &mut String,
 ) -> Result<(), AllocError> {
     match made {
@@ -99,14 +97,11 @@ fn keep_message<L: Ledger, R: Wait>(
             messages.push(Some(message))?;
             Ok(())
         }
-        Err((job, refused)) => {
-            shared.hand_back(rt, job.ticket);
-            Err(refused)
-        }
+        Err((_, refused)) => Err(refused),
     }
 }
 
-/// Takes a ticket, and keeps the message of its block. Room for the message is asked for first.
+/// Takes a ticket, and keeps the message of its block.
 fn job<L: Ledger, R: Wait>(
     shared: &SharedDesk<L>,
     messages: &mut Vec<Option<Evaluated>>,
@@ -114,13 +109,10 @@ fn job<L: Ledger, R: Wait>(
     alloc: Global,
     out: &mut String,
 ) -> Result<(), AllocError> {
-    messages.reserve(1)?;
     match shared.next_job(rt)? {
         Next::Stopped => say("stopped", out),
         Next::Idle => say("idle", out),
-        Next::Job(store, job) => {
-            keep_message(shared, evaluate(alloc, job, &store), messages, rt, out)
-        }
+        Next::Job(store, job) => keep_message(evaluate(alloc, job, &store), messages, out),
     }
 }
 
@@ -137,12 +129,10 @@ fn deliver<L: Ledger, R: Wait>(
     };
     match shared.deliver(rt, pass, message) {
         Ok(()) => say("done", out),
+        Err((_, DeliverError::NoMemory)) => Err(AllocError),
         Err((message, refusal)) => {
             *place = Some(message);
-            match refusal {
-                DeliverError::NoMemory => Err(AllocError),
-                _ => writeln!(out, "refused {refusal:?}"),
-            }
+            writeln!(out, "refused {refusal:?}")
         }
     }
 }
