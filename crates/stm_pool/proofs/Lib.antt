@@ -1,4 +1,5 @@
 mod Answered
+mod Closes
 mod Counted
 pub mod Crosses
 mod OneJob

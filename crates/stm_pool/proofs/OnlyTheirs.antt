@@ -1,10 +1,11 @@
 -- A history with as many events as the passes have, of which each is its client's, has no others.
-use Rattle.std.proofs.Common.{◌≡◌, ℕ, zero, suc, ◌+◌, ◌<◌, ◌≤◌, Bool, true, false, ◌&&◌, ◌==◌, nat_lt, List, [], ◌∷◌, length, get_or, refl, sym, ap, ◌∙◌, arith, subst}
+use Rattle.std.proofs.Common.{◌≡◌, ℕ, zero, suc, ◌+◌, ◌<◌, ◌≤◌, Bool, true, false, ◌&&◌, ◌==◌, nat_lt, List, [], ◌∷◌, length, Option, Some, None, refl, sym, ap, ◌∙◌, arith, subst}
 use Rattle.std.proofs.lemmas.Bool.{eqb-true}
 use Rattle.std.proofs.lemmas.Bool.Decides.{nat_tests}
-use Rattle.std.specs.Prelude.{if◌then◌else◌}
+use Rattle.std.specs.Prelude.{if◌then◌else◌, IsSomeAnd}
 use Rattle.stm_history.specs.declared.event.Event.{Event}
-use Rattle.stm_pool.specs.Own.{Known, own_of, are_below, events_in_passes, IsPassOf}
+use Rattle.stm_pool.specs.Own.{Known, own_of, are_below, events_in_passes}
+use Rattle.stm_pool.specs.Closing.{pass_of, AgreesWith, MayClose}
 
 -- the events of n clients from c on, counted
 abbrev pub sum_own : ℕ → ℕ → List Event → ℕ
@@ -69,15 +70,48 @@ all_below : (n : ℕ) (h : List Event) → sum_own 0 n h ≡ length h → are_be
 all_below n [] all = refl
 all_below n (e ∷ es) all = below_at (nat_lt e.client n) n e es refl all (all_below n es)
 
-sum_of_passes : (c : ℕ) (ps : List Known) (h : List Event) → ((k : ℕ) (d : Known) → k < length ps → own_of (c + k) h ≡ (get_or ps k d).own)
-    → events_in_passes ps ≡ sum_own c (length ps) h
-sum_of_passes c [] h each = refl
-sum_of_passes c (p ∷ ps) h each =
-    let at : own_of c h ≡ p.own = subst (λ (m : ℕ). own_of m h ≡ p.own) (omega arith) (each 0 p (omega arith)) in
-    let rest = sum_of_passes (c + 1) ps h (λ k d l. subst (λ (m : ℕ). own_of m h ≡ (get_or ps k d).own) (omega arith) (each (suc k) d (omega arith))) in
-    omega (arith, ap length at, rest)
+-- the passes without the client's first one
+abbrev without_pass : ℕ → List Known → List Known
+without_pass c [] = []
+without_pass c (p ∷ ps) = if p.client == c then ps else p ∷ without_pass c ps
 
-pub only_theirs : (ps : List Known) (h : List Event) (n : ℕ) → n ≡ length ps → ((k : ℕ) (d : Known) → k < n → IsPassOf h k (get_or ps k d)) → length h ≡ events_in_passes ps → are_below n h ≡ true
-only_theirs ps h n len each all =
-    let sum = sum_of_passes 0 ps h (λ k d l. subst (λ (m : ℕ). own_of m h ≡ (get_or ps k d).own) (omega arith) (each k d (omega arith)).events) in
-    subst (λ (m : ℕ). are_below m h ≡ true) (sym len) (all_below (length ps) h (omega (arith, sum, all)))
+taken_step : (b : Bool) (c : ℕ) (h : List Event) (p : Known) (ps rest : List Known) (o : Option Known)
+    → (IsSomeAnd o (λ q. own_of c h ≡ q.own) → (length ps ≡ length rest + 1) × (events_in_passes ps ≡ length (own_of c h) + events_in_passes rest))
+    → IsSomeAnd (if b then Some p else o) (λ q. own_of c h ≡ q.own)
+    → (length (p ∷ ps) ≡ length (if b then ps else p ∷ rest) + 1) × (events_in_passes (p ∷ ps) ≡ length (own_of c h) + events_in_passes (if b then ps else p ∷ rest))
+taken_step true c h p ps rest o more a = (omega arith, omega (arith, ap length a))
+taken_step false c h p ps rest o more a = let m = more a in (omega (arith, m.0), omega (arith, m.1))
+
+-- one pass leaves, with its client's events
+taken : (c : ℕ) (h : List Event) (ps : List Known) → AgreesWith h c ps
+    → (length ps ≡ length (without_pass c ps) + 1) × (events_in_passes ps ≡ length (own_of c h) + events_in_passes (without_pass c ps))
+taken c h [] a = absurd a
+taken c h (p ∷ ps) a = taken_step (p.client == c) c h p ps (without_pass c ps) (pass_of c ps) (taken c h ps) a
+
+skipped : (b : Bool) (p : Known) (o : Option Known) → b ≡ false → o ≡ (if b then Some p else o)
+skipped true p o e = cc
+skipped false p o e = refl
+
+-- the other clients' passes stay
+still : (c k : ℕ) (ps : List Known) → (k ≡ c → ⊥) → pass_of k (without_pass c ps) ≡ pass_of k ps
+still c k [] apart = refl
+still c k (p ∷ ps) apart = by (p.client == c) refl (still c k ps apart) where
+  by : (b : Bool) → (p.client == c) ≡ b → pass_of k (without_pass c ps) ≡ pass_of k ps → pass_of k (if b then ps else p ∷ without_pass c ps) ≡ pass_of k (p ∷ ps)
+  by true e more = skipped (p.client == k) p (pass_of k ps) (not_true (p.client == k) (λ s. apart (sym (eqb-true p.client k s) ∙ eqb-true p.client c e)))
+  by false e more = ap (λ (o : Option Known). if p.client == k then Some p else o) more
+
+sum_of_passes : (n c : ℕ) (ps : List Known) (h : List Event) → length ps ≡ n → ((k : ℕ) → k < n → AgreesWith h (c + k) ps) → events_in_passes ps ≡ sum_own c n h
+sum_of_passes zero c [] h len each = refl
+sum_of_passes zero c (p ∷ ps) h len each = absurd (omega (arith, len))
+sum_of_passes (suc n) c ps h len each =
+    let first : AgreesWith h c ps = subst (λ (m : ℕ). AgreesWith h m ps) (omega arith) (each 0 (omega arith)) in
+    let t = taken c h ps first in
+    let rest = sum_of_passes n (c + 1) (without_pass c ps) h (omega (arith, t.0, len)) (λ k l.
+    let a : AgreesWith h (c + 1 + k) ps = subst (λ (m : ℕ). AgreesWith h m ps) (omega arith) (each (suc k) (omega arith)) in
+    subst (λ (o : Option Known). IsSomeAnd o (λ p. own_of (c + 1 + k) h ≡ p.own)) (sym (still c (c + 1 + k) ps (λ e. absurd (omega (arith, e))))) a) in
+    omega (arith, t.1, rest)
+
+pub only_theirs : (ps : List Known) (h : List Event) (n : ℕ) → MayClose h n ps → length h ≡ events_in_passes ps → are_below n h ≡ true
+only_theirs ps h n may all =
+    let sum = sum_of_passes n 0 ps h may.all.many (λ k l. subst (λ (m : ℕ). AgreesWith h m ps) (omega arith) (may.agree k l)) in
+    all_below n h (omega (arith, sum, all))

@@ -1,5 +1,6 @@
 -- What a reader has to believe: what is answered of a job, known and shown to a client, done by a worker, and left by a storm.
 pub mod Answers
+pub mod Closing
 pub mod Found
 pub mod Limits
 pub mod Own

@@ -39,8 +39,3 @@ with_own k e = record k { own = k.own ++ e ∷ [] }
 -- the same client, who has seen this many events
 abbrev pub having_seen : Known → ℕ → Known
 having_seen k n = record k { seen = n }
-
--- the pass is client c's, and has its events in the history
-pub record IsPassOf (history : List Event) (c : ℕ) (k : Known) : Type 0 where
-  pub client : k.client ≡ c
-  pub events : own_of c history ≡ k.own

@@ -15,3 +15,11 @@ pub record IsShown (table : List Declared) (history : List Event) (old new : Kno
   pub events : v.events ≡ length history
   pub grown : old.seen ≤ v.events
   pub noted : new ≡ having_seen old v.events
+
+-- the store and the length of a legal history, which is no shorter than what the client has seen
+pub record IsPresentView (table : List Declared) (history : List Event) (old new : Known) (v : View) : Type 0 where
+  pub legal : IsLegal table history
+  pub store : v.store ≡ plains (state table history).store
+  pub events : v.events ≡ length history
+  pub grown : old.seen ≤ v.events
+  pub noted : new ≡ having_seen old v.events

@@ -1,5 +1,6 @@
-//! The calls of a shared desk. Each takes the lock, makes one call of `Guarded`, and wakes those
-//! who wait once the lock is given back.
+//! The calls of a shared desk. Each takes the lock, makes one call of `Guarded`, and once the lock
+//! is given back wakes those for whom something changed: who waits for events after an accepted
+//! call, and who waits for a queued ticket when there may be one more.
 
 ghost use Rattle.std.specs.Prelude.{◌≡◌, ◌<◌, List, IfOk, OnOk, IfErr, OnErr, IfSome};
 ghost use Rattle.stm_store.specs.Tables.{Declared};
@@ -9,7 +10,7 @@ ghost use Rattle.stm_history.specs.declared.event.Event.{Event as AnyEvent};
 ghost use Rattle.stm_history.specs.declared.event.What.{What as AnyWhat};
 ghost use Rattle.stm_pool.specs.Own.{with_own};
 ghost use Rattle.stm_pool.specs.Found.{IsFound};
-ghost use Rattle.stm_pool.specs.Shown.{IsShown};
+ghost use Rattle.stm_pool.specs.Shown.{IsShown, IsPresentView};
 
 use crate::errors::ViewError;
 use crate::guarded::View;
@@ -44,7 +45,10 @@ impl<L: Ledger> SharedDesk<L> {
         ensures err { OnErr result (pass.new ≡ pass.old) }
     {
         let answer = self.lock.lock(rt).submit(pass, block);
-        self.changed.notify_all();
+        if answer.is_ok() {
+            self.grown.notify_all();
+            self.queued.notify_all();
+        }
         answer
     }
 
@@ -60,7 +64,10 @@ impl<L: Ledger> SharedDesk<L> {
         ensures err { OnErr result (pass.new ≡ pass.old) }
     {
         let answer = self.lock.lock(rt).finish(pass, ticket);
-        self.changed.notify_all();
+        if answer.is_ok() {
+            self.grown.notify_all();
+            self.queued.notify_all();
+        }
         answer
     }
 
@@ -76,7 +83,9 @@ impl<L: Ledger> SharedDesk<L> {
         ensures err { OnErr result (pass.new ≡ pass.old) }
     {
         let answer = self.lock.lock(rt).cancel(pass, ticket);
-        self.changed.notify_all();
+        if answer.is_ok() {
+            self.grown.notify_all();
+        }
         answer
     }
 
@@ -93,7 +102,12 @@ impl<L: Ledger> SharedDesk<L> {
         ensures back { IfErr result (λ e. e.0 ≡ message) }
     {
         let answer = self.lock.lock(rt).deliver(pass, message);
-        self.changed.notify_all();
+        // After a refusal the ticket may be queued again.
+        if answer.is_ok() {
+            self.grown.notify_all();
+        } else {
+            self.queued.notify_all();
+        }
         answer
     }
 
@@ -107,13 +121,24 @@ impl<L: Ledger> SharedDesk<L> {
         self.lock.lock(rt).view(pass)
     }
 
+    /// The store and the length of a legal history, which is no shorter than what the client has
+    /// seen. The client has seen it from then on. It costs a copy of the store, however long the
+    /// history is.
+    pub fn present<R: Wait>(&self, rt: &R, pass: &mut Pass<L>) -> Result<View, ViewError>
+        ensures ok { IfOk result (λ v. (table : List Declared) × (history : List AnyEvent)
+            × IsPresentView table history pass.old pass.new v) }
+        ensures err { OnErr result (pass.new ≡ pass.old) }
+    {
+        self.lock.lock(rt).present(pass)
+    }
+
     /// Waits until a ticket is queued or the desk is stopped, and takes the ticket. `Idle` where
     /// there is none after all.
     pub fn next_job<R: Wait>(&self, rt: &R) -> Result<Next, NoMemory>
         ensures { IfOk result (λ n. IsFound n) }
     {
         let mut guard = self
-            .changed
+            .queued
             .wait_while(rt, self.lock.lock(rt), |g| !g.stopped && !g.has_queued());
         if guard.stopped {
             return Ok(Next::Stopped);
@@ -127,7 +152,9 @@ impl<L: Ledger> SharedDesk<L> {
     /// `Guarded::hand_back`, under the lock.
     pub fn hand_back<R: Wait>(&self, rt: &R, ticket: u32) -> bool {
         let was = self.lock.lock(rt).hand_back(ticket);
-        self.changed.notify_all();
+        if was {
+            self.queued.notify_all();
+        }
         was
     }
 
@@ -136,7 +163,7 @@ impl<L: Ledger> SharedDesk<L> {
     pub fn wait_past<R: Wait>(&self, rt: &R, seen: u32) -> Option<u32>
         ensures { IfSome result (λ n. seen < n) }
     {
-        let guard = self.changed.wait_while(
+        let guard = self.grown.wait_while(
             rt,
             self.lock.lock(rt),
             |g| g.events() <= seen && !g.stopped,
@@ -148,6 +175,7 @@ impl<L: Ledger> SharedDesk<L> {
     /// Ends all waiting. No later call is refused for it.
     pub fn stop<R: Wait>(&self, rt: &R) {
         self.lock.lock(rt).stopped = true;
-        self.changed.notify_all();
+        self.grown.notify_all();
+        self.queued.notify_all();
     }
 }

@@ -184,7 +184,7 @@ fn expect_value<L: Ledger, R: Wait>(
     id: u32,
     value: Value,
 ) -> Result<Done, NoMemory> {
-    match shared.view(rt, pass) {
+    match shared.present(rt, pass) {
         Ok(view) => {
             if (id as usize) < view.store.len() && view.store.value(id) == value {
                 Ok(Done::Met)

@@ -1,11 +1,12 @@
 //! What the clients of a storm are counted to have done.
 
-ghost use Rattle.std.specs.Prelude.{◌≡◌, ◌≤◌, length, vec_len, IfOk};
+ghost use Rattle.std.specs.Prelude.{◌≡◌, ◌<◌, ◌^◌, length, vec_len, IfOk, IfSome};
+ghost use Rattle.stm_pool.specs.Closing.{pass_of};
 ghost use Rattle.stm_pool.specs.Counted.{CountsPasses};
 ghost use Rattle.stm_pool.specs.Storms.{CountsEvents};
 
 use crate::client::Extra;
-use crate::pass::Pass;
+use crate::pass::{Pass, find_pass};
 use crate::storm::Counts;
 use std::alloc::Global;
 use std::sync::ledger::Ledger;
@@ -34,20 +35,35 @@ fn counts_from(own: &[Event], extra: Extra) -> Counts
     counts
 }
 
-/// The counts of the clients, who have the first of the passes.
+/// The counts of a client by its pass; of what left no event alone, if it has no pass.
+fn counts_in<L: Ledger>(passes: &[Pass<L>], client: u32, extra: Extra) -> Counts
+    ensures { IfSome (pass_of client passes.now) (λ p. CountsEvents p.own result) }
+{
+    match find_pass(passes, client) {
+        Some(pass) => counts_from(pass.own.as_slice(), extra),
+        None => Counts {
+            submitted: 0,
+            finished: 0,
+            cancelled: 0,
+            refused: extra.refused,
+            missed: extra.missed,
+        },
+    }
+}
+
+/// The counts of the first clients, of whom each has what left no event here.
 pub(crate) fn counts_of<L: Ledger>(
     alloc: Global,
     passes: &[Pass<L>],
     extras: &[Extra],
 ) -> Result<Vec<Counts>, NoMemory>
-    requires { length extras.now ≤ length passes.now }
+    requires { length extras.now < 2 ^ 32 }
     ensures len { IfOk result (λ v. vec_len v ≡ length extras.now) }
     ensures each { IfOk result (λ v. CountsPasses passes.now v.items) }
 {
     let mut all = Vec::with_capacity(alloc, extras.len())?;
     for k in 0..extras.len() {
-        let pass = &passes[k];
-        all.push(counts_from(pass.own.as_slice(), extras[k]))?;
+        all.push(counts_in(passes, k as u32, extras[k]))?;
     }
     Ok(all)
 }

@@ -1,7 +1,7 @@
 //! The desk under its lock: what each call does that is lent the desk and a pass.
 
-ghost use Rattle.std.specs.Prelude.{◌≡◌, ◌≢◌, ◌<◌, ◌⊎◌, ℕ, false, Some, None, length, option_map, is_some, slice_index_or, IfOk, OnOk, IfErr, OnErr, IfSome};
-ghost use Rattle.stm_store.specs.Cells.{plains, Covers};
+ghost use Rattle.std.specs.Prelude.{◌≡◌, ◌≢◌, ◌<◌, ◌⊎◌, ℕ, false, Some, None, length, option_map, is_some, IfOk, OnOk, IfErr, OnErr, IfSome};
+ghost use Rattle.stm_store.specs.Cells.{plains, Covers, applied_answer as told_of};
 ghost use Rattle.stm_eval.specs.EvaluatedFields.{message_ticket, message_block, message_reads, message_verdict};
 ghost use Rattle.stm_history.specs.declared.event.What.{What as AnyWhat};
 ghost use Rattle.stm_history.specs.JobsHandedOut.{block_at};
@@ -10,11 +10,12 @@ ghost use Rattle.stm_history.specs.Refusals.{submit_told, cancel_told, finish_to
 ghost use Rattle.stm_queue.specs.Queue.{is_out, marked, first_queued, sent_out};
 ghost use Rattle.stm_desk.specs.Seen.{now, with_event};
 ghost use Rattle.stm_desk.specs.Refusals.{submit_refusal, cancel_refusal, finish_refusal, TellsDeskDelivery, left_by};
-ghost use Rattle.stm_pool.specs.Own.{own_of, with_own, IsPassOf};
-ghost use Rattle.stm_pool.specs.Shown.{IsShown};
+ghost use Rattle.stm_pool.specs.Own.{own_of, with_own, events_in_passes};
+ghost use Rattle.stm_pool.specs.Shown.{IsShown, IsPresentView};
+ghost use Rattle.stm_pool.specs.Closing.{close_told, TellsClose, MayClose, ClosingTells};
 
 use crate::errors::{CloseError, ViewError};
-use crate::pass::{Pass, is_own};
+use crate::pass::{Pass, audit_passes, find_pass, is_own, lacks_one};
 use std::sync::ledger::{Book, Ledger, Share};
 use stm_check::SharedBlock;
 use stm_desk::{CancelError, DeliverError, Desk, Finish, FinishError, SubmitError};
@@ -107,6 +108,8 @@ impl<L: Ledger> Guarded<L> {
             (AnyWhat.Finished ticket f.verdict f.applied.first_new f.stale))) }
         ensures pass { IfOk result (λ f. pass.new ≡ with_own pass.old (event pass.old.client
             (AnyWhat.Finished ticket f.verdict f.applied.first_new f.stale))) }
+        ensures applied { IfOk result (λ f.
+            f.applied ≡ told_of (now self.old.desk).store f.verdict) }
         ensures told { finish_told result ≡ finish_refusal self.old.desk ticket }
         ensures err { OnErr result ((self.new.desk ≡ self.old.desk) × (pass.new ≡ pass.old)) }
         ensures stopped { self.new.stopped ≡ self.old.stopped }
@@ -207,7 +210,8 @@ impl<L: Ledger> Guarded<L> {
         self.desk.history().len() as u32
     }
 
-    /// The store and the number of events, which the client has seen from then on.
+    /// The store and the number of events, which the client has seen from then on, if the history
+    /// has the client's events: all of them are compared.
     pub fn view(&self, pass: &mut Pass<L>) -> Result<View, ViewError>
         ensures ok { IfOk result (λ v.
             IsShown self.now.desk.table self.now.desk.history pass.old pass.new v) }
@@ -216,8 +220,24 @@ impl<L: Ledger> Guarded<L> {
             → (own_of pass.old.client self.now.desk.history ≢ pass.old.own)
             ⊎ (length self.now.desk.history < pass.old.seen) }
     {
+        if !is_own(pass.client, self.desk.history(), pass.own.as_slice()) {
+            return Err(ViewError::Lost);
+        }
+        self.present(pass)
+    }
+
+    /// The store and the number of events, which the client has seen from then on. The client's
+    /// events aren't compared with the history, so it costs the same however long that is.
+    pub fn present(&self, pass: &mut Pass<L>) -> Result<View, ViewError>
+        ensures ok { IfOk result (λ v.
+            IsPresentView self.now.desk.table self.now.desk.history pass.old pass.new v) }
+        ensures err { OnErr result (pass.new ≡ pass.old) }
+        ensures lost { result ≡ Err ViewError.Lost → length self.now.desk.history < pass.old.seen }
+    {
+        // The history is known to be legal by this.
+        let _events = self.desk.history();
         let events = self.events();
-        if events < pass.seen || !is_own(pass.client, self.desk.history(), pass.own.as_slice()) {
+        if events < pass.seen {
             return Err(ViewError::Lost);
         }
         let Ok(store) = self.desk.store().freeze() else {
@@ -227,29 +247,44 @@ impl<L: Ledger> Guarded<L> {
         Ok(View { events, store })
     }
 
-    /// Whether these are so many passes, in the order of their clients, and each has its client's
+    /// Whether these are the passes of `count` clients, in any order, and each has its client's
     /// events.
     pub fn agrees(&self, passes: &[Pass<L>], count: u32) -> Result<(), CloseError>
-        ensures ok { OnOk result ((length passes.now ≡ count) × ((k : ℕ) (d : _) → k < count
-            → IsPassOf self.now.desk.history k (slice_index_or passes.now k d))) }
-        ensures missing { result ≡ Err CloseError.PassMissing → length passes.now ≡ count
-            → (k : ℕ) × (k < count) × ((d : _) → (slice_index_or passes.now k d).client ≢ k) }
-        ensures differs { (c : ℕ) → result ≡ Err (CloseError.Differs c)
-            → (c < length passes.now)
-            × ((d : _) → own_of c self.now.desk.history ≢ (slice_index_or passes.now c d).own) }
+        ensures { TellsClose (close_told result) self.now.desk.history count passes.now }
     {
-        if passes.len() != count as usize {
+        if lacks_one(passes, count) {
             return Err(CloseError::PassMissing);
         }
-        for k in 0..count {
-            let pass = &passes[k as usize];
-            if pass.client != k {
-                return Err(CloseError::PassMissing);
-            }
-            if !is_own(k, self.desk.history(), pass.own.as_slice()) {
-                return Err(CloseError::Differs(k));
+        for client in 0..count {
+            match find_pass(passes, client) {
+                Some(pass) => {
+                    if !is_own(client, self.desk.history(), pass.own.as_slice()) {
+                        return Err(CloseError::Differs(client));
+                    }
+                }
+                None => unreachable!(),
             }
         }
         Ok(())
+    }
+
+    /// The same. A pass that differs does so from a legal history with as many events as all passes
+    /// have. Nothing changes.
+    pub(crate) fn compare(&mut self, passes: &mut [Pass<L>], count: u32) -> Result<(), CloseError>
+        requires { count ≡ L.parts }
+        ensures ok { OnOk result (MayClose self.old.desk.history count passes.old) }
+        ensures refused { IfErr result (λ e. ClosingTells e count passes.old) }
+        ensures counted { length passes.old ≡ count
+            → length self.old.desk.history ≡ events_in_passes passes.old }
+        ensures desk { self.new.desk ≡ self.old.desk }
+        ensures stopped { self.new.stopped ≡ self.old.stopped }
+        ensures passes { passes.new ≡ passes.old }
+    {
+        // The history is known to be legal by this.
+        let _events = self.desk.history();
+        let answer = self.agrees(passes, count);
+        let Guarded { book, rest, .. } = self;
+        audit_passes(book, rest, passes);
+        answer
     }
 }

@@ -1,10 +1,12 @@
 //! What each client carries.
 
-ghost use Rattle.std.specs.Prelude.{◌≡◌, IsTrue, ◌↔◌};
-ghost use Rattle.stm_pool.specs.Own.{own_of};
+ghost use Rattle.std.specs.Prelude.{◌≡◌, ◌+◌, IsTrue, ◌↔◌, false, length};
+ghost use Rattle.std.specs.Option.{option_copied};
+ghost use Rattle.stm_pool.specs.Own.{own_of, events_in_passes};
+ghost use Rattle.stm_pool.specs.Closing.{pass_of, HasAll, LacksOne};
 
 use std::marker::Model;
-use std::sync::ledger::{Ledger, Share};
+use std::sync::ledger::{Book, Ledger, Share};
 use stm_history::Event;
 
 /// A client's number, its share of the count of all events, its own accepted events, and the
@@ -56,4 +58,79 @@ pub fn is_own(client: u32, history: &[Event], own: &[Event]) -> bool
         }
     }
     left.is_empty()
+}
+
+/// The client's pass, the first one if it has several.
+pub(crate) fn find_pass<L: Ledger>(passes: &[Pass<L>], client: u32) -> Option<&Pass<L>>
+    ensures { option_copied result ≡ pass_of client passes.now }
+{
+    for pass in passes {
+        if pass.client == client {
+            return Some(pass);
+        }
+    }
+    None
+}
+
+/// Whether these are not the passes of `count` clients, in any order.
+pub(crate) fn lacks_one<L: Ledger>(passes: &[Pass<L>], count: u32) -> bool
+    ensures lacks { IsTrue result → LacksOne count passes.now }
+    ensures all { result ≡ false → HasAll count passes.now }
+{
+    if passes.len() != count as usize {
+        return true;
+    }
+    for client in 0..count {
+        if find_pass(passes, client).is_none() {
+            return true;
+        }
+    }
+    false
+}
+
+/// Adds all shares up, beside one that is given. Nothing changes: each pass lends its share and has
+/// it back.
+#[cycle(audit)]
+pub(crate) fn audit_passes<L: Ledger>(
+    book: &mut Book<L>,
+    all: &mut Share<L>,
+    passes: &mut [Pass<L>],
+)
+    requires { all.old.parts ≡ 0 → all.old.amount ≡ 0 }
+    ensures total { book.new.total ≡ book.old.total }
+    ensures parts { all.new.parts ≡ all.old.parts }
+    ensures amount { all.new.amount ≡ all.old.amount }
+    ensures passes { passes.new ≡ passes.old }
+    ensures whole { all.old.parts + length passes.old ≡ L.parts
+        → all.old.amount + events_in_passes passes.old ≡ book.old.total }
+{
+    if passes.is_empty() {
+        book.audit(all);
+    } else {
+        let (here, rest) = passes.split_at_mut(1);
+        audit_first(book, all, &mut here[0], rest);
+    }
+}
+
+/// The same of a first pass and the others.
+#[cycle(audit)]
+fn audit_first<L: Ledger>(
+    book: &mut Book<L>,
+    all: &mut Share<L>,
+    first: &mut Pass<L>,
+    rest: &mut [Pass<L>],
+)
+    requires { all.old.parts ≡ 0 → all.old.amount ≡ 0 }
+    ensures total { book.new.total ≡ book.old.total }
+    ensures parts { all.new.parts ≡ all.old.parts }
+    ensures amount { all.new.amount ≡ all.old.amount }
+    ensures first { first.new ≡ first.old }
+    ensures rest { rest.new ≡ rest.old }
+    ensures whole { all.old.parts + 1 + length rest.old ≡ L.parts
+        → all.old.amount + length first.old.own + events_in_passes rest.old ≡ book.old.total }
+{
+    let events = first.own.len() as u64;
+    first.share.give(all, 1, events);
+    audit_passes(book, all, rest);
+    all.give(&mut first.share, 1, events);
 }

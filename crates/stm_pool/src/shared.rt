@@ -22,7 +22,10 @@ use stm_terms::NoMemory;
 #[derive(Drop)]
 pub struct SharedDesk<L: Ledger> {
     pub(crate) lock: Mutex<Guarded<L>>,
-    pub(crate) changed: Condvar,
+    // Notified when there are more events.
+    pub(crate) grown: Condvar,
+    // Notified when a ticket was queued.
+    pub(crate) queued: Condvar,
     pub(crate) passes: u32,
 }
 
@@ -83,7 +86,8 @@ impl<L: Ledger> SharedDesk<L> {
         });
         let shared = SharedDesk {
             lock,
-            changed: Condvar::new(),
+            grown: Condvar::new(),
+            queued: Condvar::new(),
             passes,
         };
         Ok((shared, all))

@@ -68,8 +68,7 @@ fn judge(alloc: Global, table: &Table, report: &Report) -> Result<Replay, NoMemo
     }
 }
 
-/// Closes a desk with its passes, of which the clients counted have the first, and replays its
-/// history.
+/// Closes a desk with its passes, by which the first clients are counted, and replays its history.
 fn close_and_replay<L: Ledger>(
     alloc: Global,
     table: &Table,
@@ -77,7 +76,7 @@ fn close_and_replay<L: Ledger>(
     passes: Vec<Pass<L>>,
     counts: &[Counts],
 ) -> Result<Replay, NoMemory>
-    requires few { length counts.now ≤ vec_len passes }
+    requires few { length counts.now ≤ shared }
     requires each { CountsPasses passes.items counts.now }
     ensures { IfOk result (λ r. IsStormEnd table.now counts.now r) }
 {

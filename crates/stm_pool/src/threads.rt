@@ -1,6 +1,6 @@
 //! The threads of a storm.
 
-ghost use Rattle.std.specs.Prelude.{◌≤◌, vec_len};
+ghost use Rattle.std.specs.Prelude.{◌<◌, ◌≤◌, IsTrue, vec_len, vec_capacity};
 ghost use Rattle.std.specs.Thread.{IsSync};
 ghost use Rattle.stm_eval.specs.Limits.{max_levels};
 
@@ -80,20 +80,37 @@ fn run_worker<'a, 'b, L: Ledger, R: Threads + Wait + Sync>(
     work(rt, alloc, shared, &Open, pass, levels)
 }
 
-/// Keeps the handle of a thread. Where the thread couldn't be started, or there is no memory for
-/// its handle, the desk is stopped, so that nobody waits for the thread.
+/// Reserves room for a handle before its thread is started: a handle that can't be kept would take
+/// with it what the thread gives back. If memory runs out, the desk is stopped.
+fn make_room<L: Ledger, R: Wait, T: Drop>(
+    rt: &R,
+    shared: &SharedDesk<L>,
+    handles: &mut Vec<JoinHandle<T>>,
+) -> bool
+    ensures { IsTrue result → vec_len handles.new < vec_capacity handles.new }
+{
+    match handles.reserve(1) {
+        Ok(()) => true,
+        Err(_) => {
+            shared.stop(rt);
+            false
+        }
+    }
+}
+
+/// Keeps the handle of a thread. If the thread couldn't be started, the desk is stopped, so that
+/// nobody waits for the thread.
 fn keep<L: Ledger, R: Wait, T: Drop>(
     rt: &R,
     shared: &SharedDesk<L>,
     handles: &mut Vec<JoinHandle<T>>,
     started: Option<JoinHandle<T>>,
-) {
-    let kept = match started {
-        Some(handle) => handles.push(handle).is_ok(),
-        None => false,
-    };
-    if !kept {
-        shared.stop(rt);
+)
+    requires { vec_len handles.old < vec_capacity handles.old }
+{
+    match started {
+        Some(handle) => handles.push_reserved(handle),
+        None => shared.stop(rt),
     }
 }
 
@@ -157,16 +174,20 @@ pub(crate) fn run_all<L: Ledger + Send + Sync, R: Threads + Wait + Sync>(
                 };
                 match sections.next() {
                     Some(section) => {
-                        let spawned = scope.spawn(move || run_client(errand, section));
-                        keep(rt, shared, &mut clients, spawned.ok());
+                        if make_room(rt, shared, &mut clients) {
+                            let spawned = scope.spawn(move || run_client(errand, section));
+                            keep(rt, shared, &mut clients, spawned.ok());
+                        }
                     }
                     None => {
-                        let spawned = scope.spawn(
-                            move || -> WorkerEnd<L>
-                                requires { levels ≤ max_levels }
-                            { run_worker(errand, levels) },
-                        );
-                        keep(rt, shared, &mut workers, spawned.ok());
+                        if make_room(rt, shared, &mut workers) {
+                            let spawned = scope.spawn(
+                                move || -> WorkerEnd<L>
+                                    requires { levels ≤ max_levels }
+                                { run_worker(errand, levels) },
+                            );
+                            keep(rt, shared, &mut workers, spawned.ok());
+                        }
                     }
                 }
             }

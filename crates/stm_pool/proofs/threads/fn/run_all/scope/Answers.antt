@@ -9,8 +9,8 @@ spawn-spawned-requires-send-F g c κs within = search (sendable, errand_send, se
 pub spawn-spawned-requires-send-T : goal.spawn-spawned-requires-send-T
 spawn-spawned-requires-send-T g c κs within = search (sendable, crosses, pass_send) depth 40 fits 100000
 
-pub spawn-spawned-requires-in-None-next-send-F : goal.spawn-spawned-requires-in-None-next-send-F
-spawn-spawned-requires-in-None-next-send-F g c κs within = search (sendable, errand_send, c.requires) depth 40 fits 100000
+pub spawn-spawned-requires-then-make_room-2-send-F : goal.spawn-spawned-requires-then-make_room-2-send-F
+spawn-spawned-requires-then-make_room-2-send-F g c κs within = search (sendable, errand_send, c.requires) depth 40 fits 100000
 
-pub spawn-spawned-requires-in-None-next-send-T : goal.spawn-spawned-requires-in-None-next-send-T
-spawn-spawned-requires-in-None-next-send-T g c κs within = search (sendable, crosses, pass_send) depth 40 fits 100000
+pub spawn-spawned-requires-then-make_room-2-send-T : goal.spawn-spawned-requires-then-make_room-2-send-T
+spawn-spawned-requires-then-make_room-2-send-T g c κs within = search (sendable, crosses, pass_send) depth 40 fits 100000

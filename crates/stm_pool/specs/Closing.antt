@@ -1,0 +1,66 @@
+-- When a shared desk may be closed, and what its refusal says.
+use Rattle.std.specs.Prelude.{◌≡◌, ◌≢◌, ◌⊎◌, ℕ, ◌<◌, true, ◌==◌, List, [], ◌∷◌, length, if◌then◌else◌, Option, Some, None, Result, Ok, Err, is_some, IsSomeAnd}
+use Rattle.stm_store.specs.Tables.{Declared}
+use Rattle.stm_history.specs.declared.event.Event.{Event}
+use Rattle.stm_history.specs.SlowDesk.{IsLegal}
+use Rattle.stm_pool.specs.declared.errors.CloseError.{CloseError}
+use Rattle.stm_pool.specs.declared.errors.CloseError.TheVariants.{PassMissing, Differs}
+use Rattle.stm_pool.specs.Own.{Known, own_of, events_in_passes}
+
+-- the client's pass, the first one if it has several
+abbrev pub pass_of : ℕ → List Known → Option Known
+pass_of c [] = None
+pass_of c (p ∷ ps) = if p.client == c then Some p else pass_of c ps
+
+-- there are n passes, and each client below n has one: so each has exactly one, and they are all, in any order
+pub record HasAll (n : ℕ) (passes : List Known) : Type 0 where
+  pub many : length passes ≡ n
+  pub each : (c : ℕ) → c < n → is_some (pass_of c passes) ≡ true
+
+-- their number is another one, or a client below n has none
+abbrev pub LacksOne : ℕ → List Known → Type 0
+LacksOne n passes = (length passes ≢ n) ⊎ ((c : ℕ) × (c < n) × (pass_of c passes ≡ None))
+
+-- the client has a pass, which has the client's events in the history
+abbrev pub AgreesWith : List Event → ℕ → List Known → Type 0
+AgreesWith history c passes = IsSomeAnd (pass_of c passes) (λ p. own_of c history ≡ p.own)
+
+-- the client has a pass, which has other events than those of the client in the history
+abbrev pub DiffersFrom : List Event → ℕ → List Known → Type 0
+DiffersFrom history c passes = IsSomeAnd (pass_of c passes) (λ p. own_of c history ≢ p.own)
+
+-- the desk may be closed with these passes
+pub record MayClose (history : List Event) (n : ℕ) (passes : List Known) : Type 0 where
+  pub all : HasAll n passes
+  pub agree : (c : ℕ) → c < n → AgreesWith history c passes
+
+-- all passes are there, and the client is the first whose pass differs from the history
+pub record FirstDiffers (history : List Event) (n : ℕ) (passes : List Known) (c : ℕ) : Type 0 where
+  pub all : HasAll n passes
+  pub low : c < n
+  pub before : (b : ℕ) → b < c → AgreesWith history b passes
+  pub differs : DiffersFrom history c passes
+
+-- the refusal that an answer to closing tells, if it tells one
+abbrev pub close_told : {A : Type 0} → Result A CloseError → Option CloseError
+close_told (Ok x) = None
+close_told (Err e) = Some e
+
+-- what the comparison of a history with the passes tells
+abbrev pub TellsClose : Option CloseError → List Event → ℕ → List Known → Type 0
+TellsClose None history n passes = MayClose history n passes
+TellsClose (Some PassMissing) history n passes = LacksOne n passes
+TellsClose (Some (Differs c)) history n passes = FirstDiffers history n passes c
+
+-- the client is the first whose pass differs from a legal history, which has as many events as the passes
+pub record IsCompared (n : ℕ) (passes : List Known) (c : ℕ) : Type 0 where
+  pub table : List Declared
+  pub history : List Event
+  pub legal : IsLegal table history
+  pub counted : length history ≡ events_in_passes passes
+  pub first : FirstDiffers history n passes c
+
+-- why a desk isn't closed
+abbrev pub ClosingTells : CloseError → ℕ → List Known → Type 0
+ClosingTells PassMissing n passes = LacksOne n passes
+ClosingTells (Differs c) n passes = IsCompared n passes c
