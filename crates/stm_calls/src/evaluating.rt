@@ -7,8 +7,9 @@ use crate::blocks::typed;
 use crate::words::{first_word, number, say, say_whether};
 use std::alloc::{AllocError, Global};
 use std::fmt::Write;
+use std::thread::Threads;
 use stm_check::{SharedBlock, Typed};
-use stm_eval::{Evaluated, Job, Reads, evaluate, try_block};
+use stm_eval::{Evaluated, Job, MAX_LEVELS, Reads, evaluate, evaluate_forked, try_block};
 use stm_store::{Frozen, Table};
 use stm_terms::text::write_writes;
 use stm_terms::{Verdict, write_verdict};
@@ -202,19 +203,16 @@ fn make_job(evaluating: &mut Evaluating, ticket: u32, out: &mut String) -> Resul
     }
 }
 
-/// Evaluates a job. It is there again where memory was refused.
-fn evaluate_job(
+/// Keeps the message of a job. The job is there again where memory was refused.
+fn keep_message(
     evaluating: &mut Evaluating,
-    job: Job,
-    frozen: &Frozen,
-    alloc: Global,
-) -> Result<(), AllocError>
-    requires { Covers frozen.now job.block.uses }
-{
-    match evaluate(alloc, job, frozen) {
+    made: Result<Evaluated, (Job, AllocError)>,
+    out: &mut String,
+) -> Result<(), AllocError> {
+    match made {
         Ok(message) => {
             evaluating.message = Some(message);
-            Ok(())
+            say("done", out)
         }
         Err((job, refused)) => {
             evaluating.job = Some(job);
@@ -232,12 +230,38 @@ fn answer_evaluate(
     match evaluating.job.take() {
         None => say("refused no job", out),
         Some(job) if frozen.covers(job.block.block().uses()) => {
-            evaluate_job(evaluating, job, frozen, alloc)?;
-            say("done", out)
+            keep_message(evaluating, evaluate(alloc, job, frozen), out)
         }
         Some(job) => {
             evaluating.job = Some(job);
             say("refused not covered", out)
+        }
+    }
+}
+
+/// Evaluates the job with both branches of an `orElse` at once, so many levels deep.
+pub fn answer_forked<R: Threads + Sync>(
+    evaluating: &mut Evaluating,
+    frozen: &Option<Frozen>,
+    rt: &R,
+    alloc: Global,
+    levels: u32,
+    out: &mut String,
+) -> Result<(), AllocError> {
+    if levels > MAX_LEVELS {
+        return say("refused too many levels", out);
+    }
+    match (evaluating.job.take(), frozen) {
+        (Some(job), Some(frozen)) if frozen.covers(job.block.block().uses()) => {
+            keep_message(
+                evaluating,
+                evaluate_forked(rt, alloc, job, frozen, levels),
+                out,
+            )
+        }
+        (job, _) => {
+            evaluating.job = job;
+            say("refused no job that is covered", out)
         }
     }
 }

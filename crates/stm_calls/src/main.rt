@@ -161,11 +161,28 @@ fn answer_pool<T: Threads + Wait + Clock + Sync>(
             let workers = number(rest) as usize;
             desk_work::evaluate_by_threads(objects.desks.work_mut(), rt, alloc, workers, out)
         }
-        "open" => pools::answer(rt, &objects.table, alloc, rest, out),
+        "open" => pools::answer(rt, &objects.table, alloc, objects.calls_once, rest, out),
         "gate" => pool_gate::answer(rt, &objects.table, alloc, rest, out),
         "late" => pool_late::answer(rt, &objects.table, alloc, rest, out),
         _ => say("no such call", out),
     }
+}
+
+/// Makes a call of the evaluator.
+fn answer_eval<T: Threads + Sync>(
+    objects: &mut Objects,
+    rt: &T,
+    alloc: Global,
+    text: &str,
+    out: &mut String,
+) -> Result<(), AllocError> {
+    let (call, levels) = first_word(text);
+    let (table, frozen) = (&objects.table, &objects.frozen);
+    let kept = &mut objects.evaluating;
+    if call == "forked" {
+        return evaluating::answer_forked(kept, frozen, rt, alloc, number(levels), out);
+    }
+    evaluating::answer(kept, table, frozen, alloc, text, out)
 }
 
 /// Makes a call on a text, a block that many hold, or what `answer_store` answers.
@@ -181,14 +198,6 @@ fn answer_block(
         "block" => evaluating::answer_block(
             &mut objects.evaluating,
             &objects.table,
-            alloc,
-            call,
-            out,
-        ),
-        "eval" => evaluating::answer(
-            &mut objects.evaluating,
-            &objects.table,
-            &objects.frozen,
             alloc,
             call,
             out,
@@ -231,6 +240,7 @@ fn answer<T: Threads + Wait + Clock + Sync>(
             Ok(())
         }
         "pool" => answer_pool(objects, rt, alloc, call, out),
+        "eval" => answer_eval(objects, rt, alloc, call, out),
         _ => answer_part(objects, alloc, module, call, out),
     }
 }

@@ -85,10 +85,12 @@ fn view<L: Ledger, R: Wait>(
     }
 }
 
-/// Keeps a message, where its block was evaluated.
-fn keep_message(
+/// Keeps a message, where its block was evaluated; otherwise its ticket is queued again.
+fn keep_message<L: Ledger, R: Wait>(
+    shared: &SharedDesk<L>,
     made: Result<Evaluated, (Job, AllocError)>,
     messages: &mut Vec<Option<Evaluated>>,
+    rt: &R,
     out: &mut String,
 ) -> Result<(), AllocError> {
     match made {
@@ -97,11 +99,14 @@ fn keep_message(
             messages.push(Some(message))?;
             Ok(())
         }
-        Err((_, refused)) => Err(refused),
+        Err((job, refused)) => {
+            shared.hand_back(rt, job.ticket);
+            Err(refused)
+        }
     }
 }
 
-/// Takes a ticket, and keeps the message of its block.
+/// Takes a ticket, and keeps the message of its block. Room for the message is asked for first.
 fn job<L: Ledger, R: Wait>(
     shared: &SharedDesk<L>,
     messages: &mut Vec<Option<Evaluated>>,
@@ -109,10 +114,13 @@ fn job<L: Ledger, R: Wait>(
     alloc: Global,
     out: &mut String,
 ) -> Result<(), AllocError> {
+    messages.reserve(1)?;
     match shared.next_job(rt)? {
         Next::Stopped => say("stopped", out),
         Next::Idle => say("idle", out),
-        Next::Job(store, job) => keep_message(evaluate(alloc, job, &store), messages, out),
+        Next::Job(store, job) => {
+            keep_message(shared, evaluate(alloc, job, &store), messages, rt, out)
+        }
     }
 }
 
@@ -129,10 +137,12 @@ fn deliver<L: Ledger, R: Wait>(
     };
     match shared.deliver(rt, pass, message) {
         Ok(()) => say("done", out),
-        Err((_, DeliverError::NoMemory)) => Err(AllocError),
         Err((message, refusal)) => {
             *place = Some(message);
-            writeln!(out, "refused {refusal:?}")
+            match refusal {
+                DeliverError::NoMemory => Err(AllocError),
+                _ => writeln!(out, "refused {refusal:?}"),
+            }
         }
     }
 }

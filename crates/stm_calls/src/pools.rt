@@ -44,16 +44,27 @@ impl<L: Ledger> Drop for Session<L> {
     }
 }
 
-/// The calls of a line, which are parted by ` / `.
+/// The calls of a line, which are separated by ` / `, and whether one that is refused memory is left
+/// at that.
 #[derive(Clone, Copy)]
 struct Calls<'a> {
     text: &'a str,
+    are_once: bool,
 }
 
-/// Answers with what a desk was when it was closed.
+/// Answers with what a desk was when it was closed. Its history is judged again where that was
+/// refused memory, since the desk is open no more.
 fn say_report(report: &Report, alloc: Global, out: &mut String) -> Result<(), AllocError> {
-    writeln!(out, "events {}", report.events)?;
-    say_replay(&report.desk, alloc, out)
+    let queued = if report.desk.has_queued() {
+        "yes"
+    } else {
+        "no"
+    };
+    writeln!(out, "events {} queued {queued}", report.events)?;
+    match say_replay(&report.desk, alloc, out) {
+        Ok(()) => Ok(()),
+        Err(_) => say_replay(&report.desk, alloc, out),
+    }
 }
 
 /// Moves the last few passes from one list to the end of another.
@@ -138,6 +149,25 @@ fn answer_call<L: Ledger, R: Wait + Threads + Sync>(
     }
 }
 
+/// Makes a call of a line. One that is refused memory is made again, or answered as `no memory` with
+/// its number, from 0, and left at that. A worker that is refused memory has stopped the desk, so
+/// the line begins anew where its call isn't left at that.
+fn answer_numbered<L: Ledger, R: Wait + Threads + Sync>(
+    session: &mut Session<L>,
+    rt: &R,
+    alloc: Global,
+    call: Calls<'_>,
+    number: usize,
+    out: &mut String,
+) -> Result<(), AllocError> {
+    match answer_call(session, rt, alloc, call.text, out) {
+        Ok(()) => Ok(()),
+        Err(_) if call.are_once => writeln!(out, "no memory call {number}"),
+        Err(refused) if call.text.starts_with("work") => Err(refused),
+        Err(_) => answer_call(session, rt, alloc, call.text, out),
+    }
+}
+
 /// Makes the calls of a line.
 fn answer_calls<L: Ledger, R: Wait + Threads + Sync>(
     session: &mut Session<L>,
@@ -146,15 +176,18 @@ fn answer_calls<L: Ledger, R: Wait + Threads + Sync>(
     calls: Calls<'_>,
     out: &mut String,
 ) -> Result<(), AllocError> {
-    let mut left = calls.text;
-    for _ in 0..calls.text.len() {
-        match left.split_once(" / ") {
-            Some((call, more)) => {
-                answer_call(session, rt, alloc, call, out)?;
-                left = more;
-            }
-            None => return answer_call(session, rt, alloc, left, out),
+    let Calls { mut text, are_once } = calls;
+    for number in 0..text.len() {
+        let (call, more) = text.split_once(" / ").unwrap_or((text, ""));
+        let call = Calls {
+            text: call,
+            are_once,
+        };
+        answer_numbered(session, rt, alloc, call, number, out)?;
+        if more.is_empty() {
+            return Ok(());
         }
+        text = more;
     }
     Ok(())
 }
@@ -202,12 +235,13 @@ fn answer_open<R: Wait + Threads + Sync>(
     answer_with::<Brand, R>(rt, alloc, blank, table, passes, limit, calls, out)
 }
 
-/// Answers a line of calls of a shared desk, behind the numbers of its passes and of the events
+/// Answers a line of calls of a shared desk, after the numbers of its passes and of the events
 /// that it takes.
 pub fn answer<R: Wait + Threads + Sync>(
     rt: &R,
     table: &Table,
     alloc: Global,
+    are_once: bool,
     text: &str,
     out: &mut String,
 ) -> Result<(), AllocError> {
@@ -218,6 +252,6 @@ pub fn answer<R: Wait + Threads + Sync>(
     if passes > PASSES || limit > Desk::MAX_EVENTS {
         return say("refused too many", out);
     }
-    let calls = Calls { text };
+    let calls = Calls { text, are_once };
     answer_open(rt, alloc, table, passes, limit, calls, out)
 }
