@@ -1,4 +1,4 @@
-"""Scripts of `storm` in which a line is faulty: nothing is printed, and the first such line is told."""
+"""Scripts of `storm` and of `explore` in which a line is faulty: nothing is printed, and the first such line is reported."""
 
 import transcript
 
@@ -85,24 +85,45 @@ RIGHT = [  # scripts of one client that does nothing
     "client\n" + " " * 65_536 + "\n" + "-" * 65_536 + "\r\n",
     "client\n" + "\n" * 1_048_575,
 ]
-NOTHING = b"client 0 submitted 0 finished 0 cancelled 0 refused 0 missed 0\nevents 0\nreplay ok\n"
+STORM_ONLY = [  # what only a storm's script may not have
+    ("always return True\nclient\n", 1),
+    ("never retry\nclient\n", 1),
+]
+EXPLORE_ONLY = [  # wrong invariants of an exploration
+    (X + "always\nclient\n", 2),
+    (X + "never\nclient\n", 2),
+    (X + "always readTVar y\nclient\n", 2),
+    (X + "never writeTVar x True\nclient\n", 2),
+    (X + "always return True True\nclient\n", 2),
+    ("always readTVar x\n" + X + "client\n", 1),
+    (X + "Always return True\nclient\n", 2),
+    (X + "client\nalways return True\n", 3),
+    (X + "client\nnever retry\n", 3),
+    (X + "always return True\nnever retry\n", 4),
+    (X + "always return True\ntvar x : Int = 1\nclient\n", 3),
+]
+NOTHING = {
+    "storm": b"client 0 submitted 0 finished 0 cancelled 0 refused 0 missed 0\nevents 0\nreplay ok\n",
+    "explore": b"states 1 steps 0\nended 1\ncells 0\nright\n",
+}
 
 
-def named(name, script):
-    case = transcript.Case(name, ["storm"])
+def named(word, name, script):
+    case = transcript.Case(f"{word}: {name}", [word])
     case.text = script.encode(transcript.ENCODING)
     return case
 
 
 def cases():
-    for script, line in FAULTS:
-        case = named(f"storm: line {line} of {script[:60]!r}", script)
-        case.status, case.errors = 1, f"stmdesk: script line {line}\n".encode()
-        yield case
-    for script in RIGHT:
-        case = named(f"storm: {script[:60]!r}", script)
-        case.printed = NOTHING
-        yield case
+    for word, faults in (("storm", FAULTS + STORM_ONLY), ("explore", FAULTS + EXPLORE_ONLY)):
+        for script, line in faults:
+            case = named(word, f"line {line} of {script[:60]!r}", script)
+            case.status, case.errors = 1, f"stmdesk: script line {line}\n".encode()
+            yield case
+        for script in RIGHT:
+            case = named(word, f"{script[:60]!r}", script)
+            case.printed = NOTHING[word]
+            yield case
 
 
 def judged(program):

@@ -36,7 +36,7 @@ class Case:
 
     def has_one_answer(self):
         """Whether it is the input's end that is answered, and not each line."""
-        return self.words[:1] in (["check"], ["storm"])
+        return self.words[:1] in (["check"], ["storm"], ["explore"])
 
     def comparable(self, text):
         """A text without what is left open of it."""
@@ -125,11 +125,15 @@ def read(path):
 
 
 def all_cases():
-    """The cases of tests/cases, and the examples, NAME.stm with NAME.out."""
+    """The cases of tests/cases, and the examples, NAME.stm with NAME.out; those of examples/explore are explored."""
     found = [read(path) for path in sorted((HERE / "cases").glob("*.case"))]
     for path in sorted((HERE.parent / "examples").glob("*.stm")):
         found.append(Case(path.name, printed=path.with_suffix(".out").read_bytes()))
         found[-1].text = path.read_bytes()
+    for path in sorted((HERE.parent / "examples" / "explore").glob("*.stm")):
+        found.append(Case(f"explore {path.name}", ["explore"], printed=path.with_suffix(".out").read_bytes()))
+        found[-1].text = path.read_bytes()
+        found[-1].status = 0 if found[-1].printed.endswith(b"\nright\n") else 3
     return found
 
 

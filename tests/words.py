@@ -8,7 +8,7 @@ import transcript
 
 ROOT = pathlib.Path(__file__).resolve().parent.parent
 HELP_TEXTS = ROOT / "docs" / "help"
-HELP_NAMES = ("stmdesk", "run", "storm", "check")
+HELP_NAMES = ("stmdesk", "run", "storm", "explore", "check")
 VERSION_FILE = ROOT / "crates" / "stm_console" / "src" / "version.rt"
 
 ARGUMENTS = {  # of each command of the console
@@ -17,18 +17,22 @@ ARGUMENTS = {  # of each command of the console
     "history": "",
 }
 COMMANDS = [rf"  {word} ?{argument}( .*)?" for word, argument in ARGUMENTS.items()]
-HELP = [r"Usage: stmdesk \[COMMAND\]", r"Commands:", *(rf"  {word} +.*" for word in ("run", "storm", "check", "help"))]
+HELP = [r"Usage: stmdesk \[COMMAND\]", r"Commands:", *(rf"  {word} +.*" for word in ("run", "storm", "explore", "check", "help"))]
 HELP += [r"  -h, --help +.*", r"  -V, --version +.*"]
 EXAMPLE_IN_HELP = rf" {{4,}}(({'|'.join(ARGUMENTS)})( .*)?)"
 REFUSED_ALONE = ["NotOut", "NotEvaluated", "Stale", "Blocks", "NoTicket", "NoJob", "Already"]  # what an example may be
 HELP_OF_RUN = [r"Usage: stmdesk run .*", r" +--workers .*", r" +--levels .*", r" +--max-events .*", *COMMANDS]
 HELP_OF_STORM = [r"Usage: stmdesk storm .*", r" +--workers .*", r" +--levels .*", r" +--max-events .*"]
 HELP_OF_STORM += [rf"  {word}( .*)?" for word in ("tvar NAME", "client", "submit BLOCK", "finish K", "cancel K", "expect NAME VALUE")]
+HELP_OF_EXPLORE = [r"Usage: stmdesk explore .*", r" +--max-states .*", r" +--history .*", r"  always BLOCK .*", r"  never BLOCK .*"]
+HELP_OF_EXPLORE += [rf"  {word}( .*)?" for word in ("tvar NAME", "client", "submit BLOCK", "finish K", "cancel K", "expect NAME VALUE")]
 HELP_OF_CHECK = [r"Usage: stmdesk check.*", r".*histor.*"]
 FORMS_OF_HELP = [["--help"], ["-h"], ["help"]]
 FORMS_OF_HELP_OF_RUN = [["run", "--help"], ["run", "-h"], ["help", "run"]]
 FORMS_OF_HELP_OF_STORM = [["storm", "--help"], ["storm", "-h"], ["help", "storm"]]
+FORMS_OF_HELP_OF_EXPLORE = [["explore", "--help"], ["explore", "-h"], ["help", "explore"]]
 FORMS_OF_HELP_OF_CHECK = [["check", "--help"], ["check", "-h"], ["help", "check"]]
+ALL_FORMS_OF_HELP = [FORMS_OF_HELP, FORMS_OF_HELP_OF_RUN, FORMS_OF_HELP_OF_STORM, FORMS_OF_HELP_OF_EXPLORE, FORMS_OF_HELP_OF_CHECK]
 FORMS_OF_VERSION = [["--version"], ["-V"]]
 RUN = [[], ["run"], ["run", "--"], ["--"]]
 RUNS = ["run", "storm"]  # the commands that take the options
@@ -51,6 +55,12 @@ REFUSED = [
     *([word, option, str(most + 1)] for word in RUNS for option, (_, most, _) in OPTIONS.items()),
     *([word, f"{option}={most + 1}"] for word in RUNS for option, (_, most, _) in OPTIONS.items()),
     *([word, option, number] for word in RUNS for option in OPTIONS for number in NO_NUMBERS),
+    *(["explore", *rest] for rest in (["frob"], ["run"], ["explore"], ["a_file"], [""], ["--workers", "2"], ["--max-events", "1"])),
+    *(["explore", "--max-states", number] for number in ("0", *NO_NUMBERS)),
+    *(["explore", *rest] for rest in (["--max-states"], ["--max-states=0"], ["--max-states", "2", "--max-states", "2"])),
+    *(["explore", *rest] for rest in (["--history=true"], ["--history", "--history"], ["--history", "1"], ["--", "--history"])),
+    *([option] for option in ("--max-states", "--history")),
+    *([word, "--history"] for word in ("run", "storm", "check")),
 ]
 ACCEPTED = [  # behind a command that takes the options
     *([option, str(number)] for option, ends in OPTIONS.items() for number in ends),
@@ -63,6 +73,15 @@ ACCEPTED = [  # behind a command that takes the options
 VARIED = [["--workers", "1", "--levels", "8"], ["--workers", "64", "--levels", "0"]]
 INPUT = b"tvar x : Int = 1\nstore\n"
 ANSWERS = b"tvar #0 x\n#0 x : Int = 1 count 0\ncells 1\n"
+NO_STEP = b"tvar x : Int = 1\nclient\n"
+EXPLORED = b"states 1 steps 0\nended 1\n#0 x : Int = 1\ncells 1\nright\n"
+NO_FAULT = b"stmdesk: right: there is no history of a fault\n"
+EXPLORE_ACCEPTED = [  # behind `explore`
+    [],
+    ["--"],
+    *(["--max-states", number] for number in ("1", "+1", "0001", "1000000", "4294967295")),
+    ["--max-states=1"],
+]
 SCRIPT = b"tvar x : Int = 1\nclient\nexpect x 1\n"  # of a storm without events, so that it takes any number of them
 COUNTS = b"client 0 submitted 0 finished 0 cancelled 0 refused 0 missed 0\nevents 0\nreplay ok\n"
 
@@ -136,9 +155,9 @@ def judge_refused(program, words):
     return None
 
 
-def judge_run(program, words, text, printed):
+def judge_run(program, words, text, printed, errors=b""):
     case = of(words)
-    case.text, case.printed = text, printed
+    case.text, case.printed, case.errors = text, printed, errors
     return transcript.judged(program, case)
 
 
@@ -154,22 +173,27 @@ def judged(program, cases):
         yield f"words {words}", judge_run(program, words, INPUT, ANSWERS)
     for words in [["storm", *options] for options in [[], ["--"], *ACCEPTED]]:
         yield f"words {words}", judge_run(program, words, SCRIPT, COUNTS)
+    for words in [["explore", *options] for options in EXPLORE_ACCEPTED]:
+        yield f"words {words}", judge_run(program, words, NO_STEP, EXPLORED)
+    for words in [["explore", "--history"], ["explore", "--max-states", "1", "--history"]]:
+        yield f"words {words}", judge_run(program, words, NO_STEP, b"", NO_FAULT)
     for words in REFUSED:
         yield f"words {words}", judge_refused(program, words)
     for forms, patterns in (
         (FORMS_OF_HELP, HELP),
         (FORMS_OF_HELP_OF_RUN, HELP_OF_RUN),
         (FORMS_OF_HELP_OF_STORM, HELP_OF_STORM),
+        (FORMS_OF_HELP_OF_EXPLORE, HELP_OF_EXPLORE),
         (FORMS_OF_HELP_OF_CHECK, HELP_OF_CHECK),
     ):
         for words in forms:
             yield f"words {words}", judge_help(program, words, patterns)
-    for words, name in zip((FORMS_OF_HELP, FORMS_OF_HELP_OF_RUN, FORMS_OF_HELP_OF_STORM, FORMS_OF_HELP_OF_CHECK), HELP_NAMES):
-        yield f"words {words[0]}, the launcher's text", judge_kept(program, words[0], name)
+    for words, name in zip((forms[0] for forms in ALL_FORMS_OF_HELP), HELP_NAMES):
+        yield f"words {words}, the launcher's text", judge_kept(program, words, name)
     for words in FORMS_OF_VERSION:
         yield f"words {words}", judge_version(program, words)
     yield f"words {FORMS_OF_HELP_OF_RUN[0]}, the examples", judge_examples(program, FORMS_OF_HELP_OF_RUN[0])
-    for forms in (FORMS_OF_HELP, FORMS_OF_HELP_OF_RUN, FORMS_OF_HELP_OF_STORM, FORMS_OF_HELP_OF_CHECK):
+    for forms in ALL_FORMS_OF_HELP:
         yield f"words {forms[0]}, what it says to run", judge_sessions(program, forms[0])
     for case in cases:
         has_options = any(word in case.words for options in VARIED for word in options[::2])

@@ -14,14 +14,20 @@ RUN_WEIGHT = 1000  # of a run, beside the lines of a crate's proof
 # What is run: what is shown, the script, the program that it is given, if it is, and the crates that it stands on.
 RUNS = [
     ("cases and examples", "tests/run_cases", "stmdesk", ["stmdesk"]),
+    ("random explorations", "tests/run_explore", "stmdesk", ["stmdesk"]),
     ("the Python client", "clients/python/test_stmdesk.py", "stmdesk", ["stmdesk"]),
     ("drawings of histories", "tests/run_timeline", "stmdesk", ["stmdesk"]),
+    ("pages of histories", "tests/run_view", "stmdesk", ["stmdesk"]),
+    ("the shell", "tests/run_shell", "stmdesk", ["stmdesk"]),
     (EXAMPLE, "tests/run_library", None, ["stm_desk"]),
     ("names of definitions", "tests/spec_names", None, []),
     ("names of clauses in docs/PROOFS.md", "tests/clause_names", None, ["stmdesk"]),
     ("calls", "tests/run_calls", "stm_calls", ["stm_calls"]),
     ("each allocation refused in turn", "tests/refused", None, ["stmdesk", "stm_calls"]),
 ]
+
+# The files of tools/ that are run, or that a page is made of.
+TOOLS = [f"tools/{it}" for it in ("timeline", "view", "view.html", "shell", "histories.py", "blocks.py")]
 
 
 def runs(root=ROOT, quick=False):
@@ -76,7 +82,7 @@ def of_crate(crate, anew=False):
 def of_runs():
     """The parts that run what is built."""
     texts = [it for it in sorted((ROOT / "tests").iterdir()) if it.name not in ("edits", "budget", "__pycache__")]
-    texts += [ROOT / it for it in ("clients", "tools/timeline", "examples", "README.md", "docs")]
+    texts += [ROOT / it for it in ("clients", *TOOLS, "stmdesk", "examples", "README.md", "docs")]
     known, made = repository.crates(), []
     texts += [it.folder / "specs" for it in known.values()]
     for shown, command, names in runs(quick=True):

@@ -7,10 +7,16 @@ lines stands in for it. The last line is 'N passed, M failed'.
 """
 
 import argparse
+import asyncio
+import concurrent.futures
+import contextlib
 import doctest
+import fcntl
+import gc
 import os
 import pathlib
 import pickle
+import random
 import re
 import shutil
 import signal
@@ -22,6 +28,7 @@ import time
 import types
 import typing
 import unittest
+import warnings
 import zipfile
 from unittest import mock
 
@@ -29,8 +36,8 @@ sys.dont_write_bytecode = True
 
 import stmdesk
 from stmdesk import (
-    BadAnswer, Blocks, Cell, Commits, Current, Desk, Ended, Finished, FinishedThrows, Job, New, NewRef, Ref, Refused,
-    Settled, Stale, Stopped, Throws, _desk, _hints, _program, find_program,
+    BadAnswer, Blocks, Cell, ClientAt, Commits, Current, Desk, Ended, FinalCell, Finished, FinishedThrows, Job, New, NewRef, Ref,
+    Refused, ScriptRefused, Settled, Stale, Stopped, Throws, _commands, _hints, _program, aio, explore, find_program,
 )  # fmt: skip
 
 HERE = pathlib.Path(__file__).resolve().parent
@@ -590,6 +597,17 @@ class Ends(OnProgram):
         self.assertEqual((ends, caught.exception.status), ([-signal.SIGKILL], -signal.SIGKILL))
         self.assert_gone(desk.pid)
 
+    def test_a_close_during_a_write_of_another_thread(self):
+        path = self.stand_in('touch "$0.has_begun"', "sleep 1000")  # it reads nothing, so the pipe fills
+        desk = Desk(path, patience=0.2)
+        future = concurrent.futures.ThreadPoolExecutor(1).submit(desk.submit, "retry" + " " * 10**6)
+        while not path.with_name("stand_in.has_begun").exists():
+            time.sleep(0.01)
+        with self.assertRaises(Ended):
+            desk.close()
+        self.assertIsInstance(future.exception(), (Ended, ValueError))  # it may have come after the close
+        self.assert_gone(desk.pid)
+
     def test_answers_that_no_stmdesk_gives(self):
         calls = {
             "nothing": lambda desk: desk.submit("retry"),
@@ -858,6 +876,9 @@ class Carets(OnProgram):
             Stopped("HistoryFull", Settled(1, 2)),
             Ended(4, "out of memory"),
             BadAnswer("eval", "x"),
+            stmdesk.Thrown(4),
+            stmdesk.TimedOut(0.5),
+            stmdesk.Cancelled(),
         ):
             same = pickle.loads(pickle.dumps(error))
             self.assertEqual((type(same), str(same), vars(same)), (type(error), str(error), vars(error)))
@@ -966,6 +987,819 @@ class BrokenOff(OnProgram):
         self.assert_gone(desk.pid)
 
 
+class Stores(OnProgram):
+    def test_by_name_and_by_reference(self):
+        desk = self.start()
+        slot = desk.tvar("slot : TVar Int = x")
+        desk.submit("do { r <- newTVar 3; writeTVar slot r }")
+        desk.settle()
+        store = desk.store()
+        self.assert_is(store["x"], cell(0, "x", "Int", 1, 0))
+        self.assert_is(store[slot].value, Ref(2))
+        self.assert_is(store[store["slot"].value].value, 3)
+        self.assert_is([store[0], store[-1], store[1:2]], [store["x"], store[Ref(2)], [store["slot"]]])
+        for key in ("x", "slot", X, slot, Ref(2), store["x"]):
+            self.assertIn(key, store)
+        for key in ("y", "", Ref(3), None, 0):
+            self.assertNotIn(key, store)
+        for key in ("y", Ref(3)):
+            with self.assertRaises(KeyError):
+                store[key]
+            self.assert_is((store.get(key), store.get(key, 7)), (None, 7))
+        self.assert_is((store.get("x"), store.get(slot)), (store["x"], store[slot]))
+        self.assertEqual(store, list(store))
+        self.assertEqual(pickle.loads(pickle.dumps(store))["slot"], store["slot"])
+
+    def test_values(self):
+        desk = self.start()
+        slot = desk.tvar("slot : TVar Int = x")
+        desk.submit("do { r <- newTVar 3; writeTVar slot r }")
+        desk.settle()
+        self.assert_is([desk.value(it) for it in ("x", X, "slot", slot, Ref(2))], [1, 1, Ref(2), Ref(2), 3])
+        self.assert_refused(lambda: desk.value("y"), "Unknown", 9)
+        with self.assertRaises(KeyError):
+            desk.value(Ref(3))
+
+
+class Batches(OnProgram):
+    def test_all_commands(self):
+        with Desk(program) as desk:
+            with desk.batch() as batch:
+                answers = [
+                    batch.tvar("x : Int = 1"), batch.tvar("flag : Bool = False"), batch.try_(INCREMENT), batch.looks("readTVar x"),
+                    batch.submit("writeTVar x 5"), batch.submit("do { f <- readTVar flag; retry }"), batch.take(2), batch.handback(2),
+                    batch.deliver(Job(1, 1)), batch.eval(), batch.show(), batch.reads(2), batch.finish(1), batch.store(),
+                    batch.cancel(2), batch.settle(), batch.history(), batch.eval(),
+                ]  # fmt: skip
+            self.assertEqual(list(batch), answers)
+            self.assert_is(
+                [it.result() for it in answers],
+                [
+                    X, FLAG, Commits({X: 2}, [], 1), {X: 1}, 1, 2, [Job(1, 1), Job(2, 2)], None, 1, 1,
+                    [Current(1, Commits({X: 5}, [], None)), Current(2, Blocks())], {FLAG: False}, Finished(1, None, []),
+                    [cell(0, "x", "Int", 5, 1), cell(1, "flag", "Bool", False, 0)], None, Settled(0, 0), desk.history(), 0,
+                ],
+            )  # fmt: skip
+
+    def test_a_refused_command(self):
+        desk = self.start()
+        with desk.batch() as batch:
+            before, wrong, after = batch.submit("retry"), batch.submit("return a + 1"), batch.submit("retry")
+        self.assert_is((before.result(), after.result()), (1, 2))
+        for _ in range(2):
+            self.assert_refused(wrong.result, "Unexpected", 9)
+        self.assertIn("write `return (a + 1)`", str(wrong.error))
+        self.assertIsNone(before.error)
+
+    def test_a_wrong_argument_is_not_added(self):
+        desk = self.start()
+        with desk.batch() as batch:
+            with self.assertRaises(ValueError):
+                batch.submit("re\0try")
+            with self.assertRaises(ValueError):
+                batch.submit("return \udc80")
+            with self.assertRaises(TypeError):
+                batch.finish("1")
+            ticket = batch.submit("retry")
+        self.assert_is((ticket.result(), len(list(batch))), (1, 1))
+
+    def test_before_and_after(self):
+        desk = self.start()
+        with desk.batch() as batch:
+            answer = batch.eval()
+            with self.assertRaisesRegex(RuntimeError, "isn't sent yet"):
+                answer.result()
+        with self.assertRaisesRegex(RuntimeError, "is over"):
+            batch.eval()
+        self.assert_is(answer.result(), 0)
+
+    def test_of_nothing_and_one_that_raises_send_nothing(self):
+        desk = self.start()
+        with desk.batch():
+            pass
+        with self.assertRaises(ZeroDivisionError), desk.batch() as batch:
+            answer = batch.submit("retry")
+            raise ZeroDivisionError
+        with self.assertRaises(RuntimeError):
+            answer.result()
+        self.assert_is(desk.tvar("flag : Bool = False"), FLAG)  # so no other command was given
+        self.assert_is(desk.show(), [])
+
+    def test_hints_know_what_a_batch_declared(self):
+        with Desk(program) as desk:
+            with desk.batch() as batch:
+                batch.tvar("x : Int = 1")
+                wrong, late = batch.submit("if x == 0 then retry else return 1"), batch.tvar("y : Int = 1")
+            self.assertIn("`x` is a variable (TVar Int)", str(wrong.error))
+            self.assertIn("which was `submit`", str(late.error))
+
+    def test_full_pipes(self):
+        for is_small in (False, True):
+            with Desk(program) as desk:
+                if is_small and hasattr(fcntl, "F_SETPIPE_SZ"):  # 4096 bytes in each pipe
+                    for pipe in (desk._process._input, desk._process._output):
+                        fcntl.fcntl(pipe.fileno(), fcntl.F_SETPIPE_SZ, 4096)
+                with desk.batch() as batch:
+                    for number in range(2000):
+                        batch.tvar(f"variable_of_a_long_name_{number:04} : Int = {number}")
+                    longs = [batch.try_("return " + " " * 60_000 + str(number)) for number in range(50)]
+                    stores = [batch.store() for _ in range(50)]
+                    shorts = [batch.try_(f"return {number}") for number in range(20_000)]
+                    long = batch.try_("return" + " " * 70_000 + "1")
+                    history = batch.history()
+                self.assertEqual([it.result() for it in longs], [Commits({}, [], number) for number in range(50)])
+                self.assertEqual([len(it.result()) for it in stores], [2000] * 50)
+                self.assertEqual([it.result().result for it in shorts], list(range(20_000)))
+                self.assert_refused(long.result, "LineTooLong")
+                self.assertEqual(history.result().count("\n"), 2001)
+
+    def test_no_command_of_another_thread_comes_between(self):
+        desk = self.start()
+
+        def hammer():
+            for _ in range(50):
+                with desk.batch() as batch:
+                    before, ticket, after, _ = batch.show(), batch.submit("retry"), batch.show(), batch.eval()
+                if after.result() != before.result() + [New(ticket.result())]:
+                    return False
+            return True
+
+        self.assertEqual(in_threads(4, hammer), [True] * 4)
+        self.assertEqual(len(desk.show()), 200)
+
+    def test_a_program_that_ends_within_one(self):
+        path = self.stand_in("read line", "echo ticket 7", "read line", "echo refused Unexpected 0", "read line", "kill -9 $$")
+        with Desk(path) as desk:
+            with self.assertRaises(Ended) as caught, desk.batch() as batch:
+                first, wrong, *others = [batch.submit("retry") for _ in range(10)]
+            self.assertEqual(caught.exception.status, -signal.SIGKILL)
+            self.assert_is(first.result(), 7)
+            self.assert_refused(wrong.result, "Unexpected", 0)
+            for answer in others:
+                with self.assertRaises(Ended):
+                    answer.result()
+        self.assert_gone(desk.pid)
+
+    def test_a_program_that_is_killed_within_a_large_one(self):
+        desk, read = self.start(), _commands.Answers.refusal
+
+        def kill_in_the_midst(*of_the_refusal):
+            os.kill(desk.pid, signal.SIGKILL)
+            return read(*of_the_refusal)
+
+        with (
+            mock.patch.object(_commands.Answers, "refusal", kill_in_the_midst),
+            self.assertRaises(Ended),
+            desk.batch() as batch,
+        ):
+            answers = [batch.try_(f"return {number}") for number in range(10_000)]
+            refused = batch.finish(1)
+            others = [batch.try_("return 1") for number in range(100_000)]
+        self.assert_is([it.result().result for it in answers], list(range(10_000)))
+        self.assert_refused(refused.result, "NoTicket")
+        for answer in others[50_000::1000]:
+            with self.assertRaises(Ended):
+                answer.result()
+        self.assert_gone(desk.pid)
+
+    def test_an_answer_that_no_stmdesk_gives(self):
+        path = self.stand_in("read line", "echo ticket 1", "read line", "echo evaluated 0", "sleep 1000")
+        with Desk(path) as desk:
+            with self.assertRaises(BadAnswer) as caught, desk.batch() as batch:
+                first, second, third = batch.submit("retry"), batch.submit("retry"), batch.eval()
+            self.assertEqual(caught.exception.args, ("submit retry", "evaluated 0"))
+            self.assert_is(first.result(), 1)
+            for answer in (second, third):
+                with self.assertRaises(BadAnswer):
+                    answer.result()
+        self.assert_gone(desk.pid)
+
+    def test_of_a_closed_desk(self):
+        with Desk(program) as desk:
+            pass
+        with self.assertRaises(ValueError), desk.batch() as batch:
+            answer = batch.eval()
+        with self.assertRaises(ValueError):
+            answer.result()
+
+
+def waits_for(number):
+    """A block that waits until x has this value, and returns it."""
+    return f"do {{ a <- readTVar x; if a == {number} then return a else retry }}"
+
+
+def in_threads(count, call, *arguments):
+    """What the call returned in each of `count` threads, or raised."""
+    with concurrent.futures.ThreadPoolExecutor(count) as pool:
+        return [future.exception() or future.result() for future in [pool.submit(call, *arguments) for _ in range(count)]]
+
+
+class InThreads(OnProgram):
+    def setUp(self):
+        super().setUp()
+        self.threads = concurrent.futures.ThreadPoolExecutor(200)
+        self.addCleanup(self.threads.shutdown)  # after the desks of the test were closed
+
+    def begin(self, call, *arguments):
+        """A future of the call in another thread."""
+        return self.threads.submit(call, *arguments)
+
+    def until_blocked(self, desk, *tickets):
+        """Waits until these tickets wait, and no others, each evaluated and found blocked."""
+        while desk.show() != [Current(ticket, Blocks()) for ticket in tickets]:
+            time.sleep(0.001)
+
+    def waiting(self, desk, *blocks):
+        """Futures of blocks that wait, in the order of their tickets."""
+        futures = []
+        for number, block in enumerate(blocks, 1):
+            futures.append(self.begin(desk.atomically, block))
+            self.until_blocked(desk, *range(1, number + 1))
+        return futures
+
+
+class Atomically(InThreads):
+    def test_it_returns_the_result(self):
+        desk = self.start()
+        self.assert_is([desk.atomically(INCREMENT) for _ in range(3)], [1, 2, 3])
+        self.assert_is(desk.atomically("return (1 == 1)"), True)
+        self.assert_is(desk.atomically("writeTVar x 7"), None)
+        self.assert_is(desk.atomically("newTVar 3"), Ref(1))
+        self.assert_is(desk.atomically("return x"), X)
+        self.assert_is(desk.value("x"), 7)
+        self.assert_is(desk.show(), [])
+
+    def test_its_events_are_those_of_the_calls(self):
+        desk, other = self.start(), self.start()
+        desk.atomically("return 0")
+        desk.atomically(INCREMENT)
+        for block in ("return 0", INCREMENT):
+            ticket = other.submit(block)
+            other.eval()
+            other.finish(ticket)
+        self.assertEqual(desk.history(), other.history())
+
+    def test_a_throw_raises(self):
+        desk = self.start()
+        for block, fault in (("do { writeTVar x 5; throw (-4) }", -4), ("return (9223372036854775807 + 1)", "overflow")):
+            with self.assertRaises(stmdesk.Thrown) as caught:
+                desk.atomically(block)
+            self.assert_is(caught.exception.fault, fault)
+            self.assertEqual(str(caught.exception), f"the block threw {fault}")
+        self.assert_is(desk.value("x"), 1)
+
+    def test_a_wrong_block_is_refused(self):
+        desk = self.start()
+        for _ in range(2):
+            with self.assertRaises(Refused) as caught:
+                desk.atomically("return a + 1")
+            refused = caught.exception
+            self.assertEqual((refused.name, refused.place, refused.command), ("Unexpected", 9, "submit"))
+            self.assertIn("write `return (a + 1)`", str(refused))
+            self.assert_is(desk.atomically("return 1"), 1)
+        with self.assertRaises(ValueError):
+            desk.atomically("re\0try")
+        with self.assertRaises(TypeError):
+            desk.atomically(None)
+
+    def test_it_waits_for_another(self):
+        desk = self.start()
+        waits = self.waiting(desk, waits_for(5), waits_for(6))
+        self.assert_is(desk.atomically("writeTVar x 4"), None)
+        self.until_blocked(desk, 1, 2)
+        self.assert_is(desk.atomically("writeTVar x 5"), None)
+        self.assert_is(waits[0].result(), 5)
+        self.until_blocked(desk, 2)
+        self.assert_is(desk.atomically(INCREMENT), 5)
+        self.assert_is(waits[1].result(), 6)
+
+    def test_it_waits_for_plain_calls(self):
+        def by_finish(desk, number):
+            ticket, _ = desk.submit(f"writeTVar x {number}"), desk.eval()
+            desk.finish(ticket)
+
+        def by_batch(desk, number):
+            ticket = desk.submit(f"writeTVar x {number}")
+            with desk.batch() as batch:
+                batch.eval()
+                batch.finish(ticket)
+
+        for change in (by_finish, by_batch):
+            desk = self.start()
+            (wait,) = self.waiting(desk, waits_for(5))
+            change(desk, 4)
+            self.until_blocked(desk, 1)
+            change(desk, 5)
+            self.assert_is(wait.result(), 5)
+            self.assert_is(desk.show(), [])
+
+    def test_it_waits_for_a_block_that_waited(self):
+        desk = self.start()
+        steps = [f"do {{ a <- readTVar x; if a == {n} then writeTVar x {n + 1} else retry }}" for n in range(100, 1, -1)]
+        waits = self.waiting(desk, *steps)
+        desk.atomically("writeTVar x 2")
+        self.assert_is([it.result() for it in waits], [None] * 99)
+        self.assert_is(desk.value("x"), 101)
+
+    def test_another_finishes_its_ticket(self):
+        desk = self.start()
+        (wait,) = self.waiting(desk, waits_for(5))
+        with desk.batch() as batch:  # the helper can't come between
+            batch.submit("writeTVar x 5")
+            batch.eval()
+            batch.finish(2)
+            batch.eval()
+            done = batch.finish(1)
+        self.assert_is(done.result(), Finished(1, 5, []))
+        self.assert_is(wait.result(), 5)
+        self.assert_is(desk.atomically("return 1"), 1)
+
+    def test_another_cancels_its_ticket(self):
+        desk = self.start()
+        waits = self.waiting(desk, "retry", "retry")
+        desk.cancel(1)
+        with self.assertRaises(stmdesk.Cancelled):
+            waits[0].result()
+        with desk.batch() as batch:
+            batch.cancel(2)
+        with self.assertRaisesRegex(stmdesk.Cancelled, "the block was cancelled"):
+            waits[1].result()
+        self.assert_is(desk.atomically("return 1"), 1)
+
+    def test_another_takes_its_ticket(self):
+        desk = self.start()
+        (wait,) = self.waiting(desk, waits_for(5))
+        with desk.batch() as batch:
+            batch.submit("writeTVar x 5")
+            batch.eval()
+            batch.finish(2)
+            jobs = batch.take(10)
+        self.assert_is(jobs.result(), [Job(1, 1)])
+        self.assert_is(wait.result(), 5)
+        self.assert_refused(lambda: desk.deliver(1), "Gone")
+
+    def test_a_settle_is_refused_while_it_waits(self):
+        desk = self.start()
+        (wait,) = self.waiting(desk, waits_for(5))
+        with self.assertRaisesRegex(RuntimeError, "settle"):
+            desk.settle()
+        with self.assertRaisesRegex(RuntimeError, "settle"), desk.batch() as batch:
+            ticket = batch.submit("retry")
+            batch.settle()
+        with self.assertRaises(RuntimeError):
+            ticket.result()
+        self.until_blocked(desk, 1)
+        desk.atomically("writeTVar x 5")
+        self.assert_is(wait.result(), 5)
+        self.assert_is(desk.settle(), Settled(0, 0))
+
+    def test_others_tickets_are_left(self):
+        desk = self.start()
+        desk.submit(waits_for(5))
+        desk.submit("return 1")
+        desk.atomically("writeTVar x 5")
+        desk.eval()
+        self.assert_is(desk.show(), [Current(1, Commits({}, [], 5)), Current(2, Commits({}, [], 1))])
+
+    def test_a_timeout(self):
+        desk = self.start()
+        for timeout in (0.001, 0, -1):
+            with self.assertRaises(stmdesk.TimedOut) as caught:
+                desk.atomically("retry", timeout=timeout)
+            self.assertIsInstance(caught.exception, TimeoutError)
+            self.assertIsInstance(caught.exception, stmdesk.DeskError)
+            self.assert_is(desk.show(), [])
+        self.assert_is(str(stmdesk.TimedOut(0.5)), "the block couldn't finish within 0.5 seconds")
+        self.assert_is(desk.atomically("return 1", timeout=0), 1)  # it is tried once
+        self.assert_is(desk.atomically("return 1", timeout=10**12), 1)
+        with self.assertRaises(stmdesk.Thrown):
+            desk.atomically("throw 1", timeout=0)
+
+    def test_timeouts_of_many_threads(self):
+        desk = self.start()
+        for error in in_threads(8, lambda: desk.atomically("do { a <- readTVar x; retry }", timeout=0.001)):
+            self.assertIsInstance(error, stmdesk.TimedOut)
+        self.assert_is(desk.show(), [])
+        self.assert_is(desk.atomically(INCREMENT), 1)
+
+    def test_many_threads_hammer_one_variable(self):
+        desk = self.start()
+        found = in_threads(8, lambda: [desk.atomically(INCREMENT) for _ in range(100)])
+        self.assertEqual(sorted(it for of_one in found for it in of_one), list(range(1, 801)))
+        self.assert_is((desk.value("x"), desk.show()), (801, []))
+
+    def test_many_threads_pass_values_on(self):
+        desk = Desk(program)
+        self.addCleanup(desk.close)
+        for slot in ("a", "b"):
+            desk.tvar(f"{slot} : Int = 0")
+
+        def put(value):
+            when_free = "do {{ v <- readTVar {0}; if v == 0 then writeTVar {0} {1} else retry }}"
+            return stmdesk.or_else(when_free.format("a", value), when_free.format("b", value))
+
+        take = "do {{ v <- readTVar {0}; if v == 0 then retry else do {{ writeTVar {0} 0; return v }} }}"
+        take_any = stmdesk.or_else(take.format("a"), take.format("b"))
+        numbers = iter(range(1, 5))
+
+        def produce():
+            number = next(numbers)
+            for value in range(number * 1000, number * 1000 + 50):
+                desk.atomically(put(value))
+
+        puts = self.begin(in_threads, 4, produce)
+        takes = in_threads(4, lambda: [desk.atomically(take_any) for _ in range(50)])
+        self.assertEqual(puts.result(), [None] * 4)
+        values = sorted(value for of_one in takes for value in of_one)
+        self.assertEqual(values, sorted(number * 1000 + at for number in range(1, 5) for at in range(50)))
+        self.assert_is([desk.value("a"), desk.value("b"), desk.show()], [0, 0, []])
+
+    def test_with_plain_calls_of_other_threads(self):
+        desk = self.start()
+
+        def plain():
+            for number in range(50):
+                ticket = desk.submit("retry")
+                desk.eval()
+                desk.show()
+                desk.cancel(ticket)
+
+        def atomic():
+            for number in range(50):
+                desk.atomically(INCREMENT)
+
+        others = self.begin(in_threads, 4, plain)
+        self.assertEqual(in_threads(4, atomic) + others.result(), [None] * 8)
+        self.assert_is((desk.value("x"), desk.show()), (201, []))
+
+    def test_a_program_that_is_killed(self):
+        for count in (1, 8):
+            desk = self.start()
+            waits = self.waiting(desk, *["do { a <- readTVar x; retry }"] * count)
+            os.kill(desk.pid, signal.SIGKILL)
+            errors = [it.exception() for it in waits]
+            self.assertEqual([(type(it), it.status) for it in errors], [(Ended, -signal.SIGKILL)] * count)
+            self.assertEqual(len({id(it) for it in errors}), count)  # each thread has an error of its own
+            for _ in range(2):
+                with self.assertRaises(Ended):
+                    desk.atomically("return 1")
+            self.assert_gone(desk.pid)
+
+    def test_a_program_that_is_killed_while_nothing_waits(self):
+        before = threading.enumerate()
+        with self.assertRaises(Ended), Desk(program) as desk:
+            desk.atomically("return 1")
+            os.kill(desk.pid, signal.SIGKILL)
+            for thread in threading.enumerate():
+                if thread not in before:
+                    thread.join()
+        self.assert_gone(desk.pid)
+
+    def test_a_program_that_ends_in_the_midst(self):
+        path = self.stand_in("read line", "echo ticket 1", "read line", "exit 3")
+        desk = Desk(path)
+        self.assertEqual([(type(it), it.status) for it in in_threads(8, desk.atomically, "retry")], [(Ended, 3)] * 8)
+        self.assert_gone(desk.pid)
+
+    def test_an_answer_that_no_stmdesk_gives(self):
+        path = self.stand_in("read line", "echo ticket 1", "read line", "echo ticket 2", "sleep 1000")
+        desk = Desk(path)
+        (error,) = in_threads(1, desk.atomically, "retry")
+        self.assertEqual((type(error), error.args), (BadAnswer, ("eval", "ticket 2")))
+        self.assert_gone(desk.pid)
+
+    def test_a_close_while_it_waits(self):
+        desk = self.start()
+        waits = self.waiting(desk, "retry", "retry")
+        desk.close()
+        self.assertEqual([(type(it.exception()), it.exception().status) for it in waits], [(Ended, 0)] * 2)
+        with self.assertRaises(ValueError):
+            desk.atomically("return 1")
+
+    def test_its_thread_ends_with_the_program(self):
+        for is_closed in (True, False):
+            before = threading.enumerate()
+            desk = Desk(program)
+            desk.atomically("return 1")
+            (thread,) = (it for it in threading.enumerate() if it not in before)
+            self.assertEqual(thread.name, "stmdesk")
+            if is_closed:
+                desk.close()
+            else:
+                with warnings.catch_warnings():
+                    warnings.simplefilter("ignore", ResourceWarning)
+                    del desk
+                    gc.collect()
+            thread.join()
+
+    def test_a_full_history(self):
+        desk = self.start(max_events=5)
+        waits = self.waiting(desk, "retry", "retry")
+        self.assert_refused(lambda: desk.atomically("return 1"), "HistoryFull")
+        for wait in waits:
+            self.assert_refused(wait.result, "HistoryFull")
+        self.assert_refused(lambda: desk.atomically("return 1"), "HistoryFull")
+        self.assert_is(desk.value("x"), 1)
+
+    def test_a_full_store(self):
+        path = self.stand_in(
+            "while read command argument",
+            "do case $command in",
+            "submit) echo ticket 1;;",
+            "eval) echo evaluated 1;;",
+            "finish) echo refused CellsFull;;",
+            'cancel) echo "$argument" > "$0.cancelled"; echo cancelled 1;;',
+            "esac; done",
+        )
+        with Desk(path) as desk:
+            self.assert_refused(lambda: desk.atomically("newTVar 1"), "CellsFull")
+            desk.eval()
+        self.assertEqual(path.with_name("stand_in.cancelled").read_text(), "1\n")
+
+    def test_a_ticket_that_was_not_foreseen(self):
+        desk = self.start()
+        desk.atomically("return 1")
+        # Of many blocks at once some are refused, so the tickets of those after them are lower than foreseen.
+        blocks = iter(["return 1 2", INCREMENT] * 100)
+        lock = threading.Lock()
+
+        def run():
+            for _ in range(25):
+                with lock:
+                    block = next(blocks)
+                with contextlib.suppress(Refused):
+                    desk.atomically(block)
+
+        self.assertEqual(in_threads(8, run), [None] * 8)
+        self.assert_is((desk.value("x"), desk.show()), (101, []))
+
+
+class Interrupted(InThreads):
+    """A signal handler raises while the main thread is in an `atomically`."""
+
+    def test_while_it_waits(self):
+        for error in (KeyboardInterrupt(), TimeoutError("mine"), ValueError("mine"), Ended(1, "mine")):
+            desk = self.start()
+
+            def interrupt(number, frame, error=error):
+                raise error
+
+            signal.signal(signal.SIGUSR1, interrupt)
+            (other,) = self.waiting(desk, waits_for(5))
+
+            def send(desk=desk):
+                self.until_blocked(desk, 1, 2)
+                signal.pthread_kill(threading.main_thread().ident, signal.SIGUSR1)
+
+            sender = self.begin(send)
+            with self.assertRaises(type(error)) as caught:
+                desk.atomically("do { a <- readTVar x; retry }")
+            self.assertIs(caught.exception, error)
+            sender.result()
+            self.assert_is(desk.show(), [Current(1, Blocks())])
+            self.assert_is(desk.atomically("writeTVar x 5"), None)
+            self.assert_is(other.result(), 5)
+
+    def test_at_any_time(self):
+        class Interruption(Exception):
+            pass
+
+        desk = self.start()
+        wanted, is_over = threading.Event(), threading.Event()
+        self.is_pending = False  # whether a signal is to come: one at a time
+
+        def interrupt(number, frame):
+            while frame and frame.f_code is not Desk.atomically.__code__:
+                frame = frame.f_back
+            if frame:
+                self.is_pending = False
+                raise Interruption
+            wanted.set()  # too early or too late
+
+        def send():
+            while not is_over.is_set():
+                wanted.wait()
+                wanted.clear()
+                time.sleep(random.random() * 0.0005)
+                signal.pthread_kill(threading.main_thread().ident, signal.SIGUSR1)
+
+        signal.signal(signal.SIGUSR1, interrupt)
+        sender = self.begin(send)
+        done = broken = 0
+        while broken < 300:
+            try:
+                if not self.is_pending:
+                    self.is_pending = True
+                    wanted.set()
+                desk.atomically("retry" if broken % 2 else INCREMENT)
+                done += 1
+            except Interruption:
+                broken += 1
+        signal.signal(signal.SIGUSR1, signal.SIG_IGN)
+        is_over.set()
+        wanted.set()
+        sender.result()
+        self.assertTrue(done <= desk.value("x") - 1 <= done + broken)
+        self.assert_is(desk.show(), [])
+
+    def test_a_handler_can_not_call_it_in_the_midst_of_a_call(self):
+        path = self.stand_in("read line", "sleep 1000")
+        desk = Desk(path, patience=10**6)
+        BrokenOff.on_alarm(self, lambda: desk.atomically("retry"))
+        with self.assertRaisesRegex(RuntimeError, "signal handler"):
+            desk.submit("retry")
+        self.assert_gone(desk.pid)
+
+
+class Asynchronous(OnProgram):
+    """The package's `aio`."""
+
+    def run_on_desk(self, main, **options):
+        """Runs a coroutine function on a desk with x = 1."""
+
+        async def run():
+            async with aio.Desk(program, **options) as desk:
+                self.assert_is(await desk.tvar("x : Int = 1"), X)
+                self.desk = desk
+                return await main(desk)
+
+        try:
+            return asyncio.run(run())
+        finally:
+            self.assert_gone(self.desk.pid)
+
+    async def until_blocked(self, desk, *tickets):
+        while await desk.show() != [Current(ticket, Blocks()) for ticket in tickets]:
+            await asyncio.sleep(0.001)
+
+    def test_all_commands(self):
+        async def main(desk):
+            await desk.tvar("flag : Bool = False")
+            self.assert_is(await desk.try_(INCREMENT), Commits({X: 2}, [], 1))
+            self.assert_is(await desk.looks("readTVar x"), {X: 1})
+            self.assert_is([await desk.submit("writeTVar x 5"), await desk.submit("retry")], [1, 2])
+            self.assert_is(await desk.take(2), [Job(1, 1), Job(2, 2)])
+            self.assert_is(await desk.handback(2), None)
+            self.assert_is(await desk.deliver(Job(1, 1)), 1)
+            self.assert_is(await desk.eval(), 1)
+            self.assert_is(await desk.show(), [Current(1, Commits({X: 5}, [], None)), Current(2, Blocks())])
+            self.assert_is(await desk.reads(2), {})
+            self.assert_is(await desk.finish(1), Finished(1, None, []))
+            self.assert_is(await desk.cancel(2), None)
+            self.assert_is((await desk.store())["x"], cell(0, "x", "Int", 5, 1))
+            self.assert_is([await desk.value("x"), await desk.value(X)], [5, 5])
+            self.assert_is(await desk.settle(), Settled(0, 0))
+            self.assertEqual((await desk.history()).count("\n"), 9)
+            async with desk.batch() as batch:
+                answers = [batch.eval(), batch.submit("return 1 2"), batch.submit("retry")]
+            self.assert_is([answers[0].result(), answers[2].result()], [0, 3])
+            self.assert_refused(answers[1].result, "Unexpected", 9)
+            with self.assertRaises(Refused):
+                await desk.finish(3)
+            with self.assertRaises(ValueError):
+                await desk.submit("re\0try")
+            with self.assertRaises(TypeError):
+                await desk.finish("3")
+
+        self.run_on_desk(main)
+
+    def test_atomically(self):
+        async def main(desk):
+            self.assert_is(await desk.atomically(INCREMENT), 1)
+            for error, block in ((stmdesk.Thrown, "throw 4"), (Refused, "return 1 2"), (ValueError, "re\0try")):
+                with self.assertRaises(error):
+                    await desk.atomically(block)
+            waiting = asyncio.create_task(desk.atomically(waits_for(5)))
+            await self.until_blocked(desk, 3)
+            await desk.atomically("writeTVar x 5")
+            self.assert_is(await waiting, 5)
+
+        self.run_on_desk(main)
+
+    def test_many_tasks(self):
+        async def main(desk):
+            found = await asyncio.gather(*[desk.atomically(INCREMENT) for _ in range(500)])
+            self.assertEqual(sorted(found), list(range(1, 501)))
+            tickets = await asyncio.gather(*[desk.submit("retry") for _ in range(500)])
+            self.assertEqual(tickets, sorted(tickets))
+            waits = [asyncio.create_task(desk.atomically(waits_for(number))) for number in range(601, 621)]
+            await desk.atomically("writeTVar x 601")
+            for number in range(601, 621):
+                self.assert_is(await waits[number - 601], number)
+                await desk.atomically(INCREMENT)
+
+        self.run_on_desk(main)
+
+    def test_timeouts(self):
+        async def main(desk):
+            for timeout in (0.001, 0, -1):
+                with self.assertRaises(stmdesk.TimedOut):
+                    await desk.atomically("retry", timeout=timeout)
+            with self.assertRaises(asyncio.TimeoutError):
+                await asyncio.wait_for(desk.atomically("retry"), 0.001)
+            self.assert_is(await desk.show(), [])
+            self.assert_is(await desk.atomically("return 1", timeout=0), 1)
+
+        self.run_on_desk(main)
+
+    def test_a_task_that_is_cancelled(self):
+        async def main(desk):
+            task = asyncio.create_task(desk.atomically("retry"))
+            await self.until_blocked(desk, 1)
+            task.cancel()
+            with self.assertRaises(asyncio.CancelledError):
+                await task
+            self.assert_is(await desk.show(), [])
+            task = asyncio.create_task(desk.atomically("retry"))
+            task.cancel()  # before it began
+            plain = [asyncio.create_task(desk.submit("retry")) for _ in range(2)]
+            plain[1].cancel()
+            self.assertEqual(await plain[0], 2)
+            self.assert_is(await desk.show(), [New(2)])
+
+        self.run_on_desk(main)
+
+    def test_another_cancels_its_ticket(self):
+        async def main(desk):
+            task = asyncio.create_task(desk.atomically("retry"))
+            await self.until_blocked(desk, 1)
+            await desk.cancel(1)
+            with self.assertRaises(stmdesk.Cancelled):
+                await task
+
+        self.run_on_desk(main)
+
+    def test_a_program_that_is_killed(self):
+        async def main(desk):
+            tasks = [asyncio.create_task(desk.atomically("retry")) for _ in range(8)]
+            await self.until_blocked(desk, *range(1, 9))
+            os.kill(desk.pid, signal.SIGKILL)
+            errors = await asyncio.gather(*tasks, return_exceptions=True)
+            self.assertEqual([(type(it), it.status) for it in errors], [(Ended, -signal.SIGKILL)] * 8)
+            for call in (desk.eval, lambda: desk.atomically("return 1")):
+                with self.assertRaises(Ended):
+                    await call()
+
+        self.run_on_desk(main)
+
+    def test_a_body_that_raises(self):
+        async def main():
+            with self.assertRaises(ZeroDivisionError):
+                async with aio.Desk(program) as desk:
+                    task = asyncio.create_task(desk.atomically("retry"))
+                    await self.until_blocked(desk, 1)
+                    raise ZeroDivisionError
+            with self.assertRaises(Ended):
+                await task
+            self.assert_gone(desk.pid)
+
+        asyncio.run(main())
+
+    def test_the_loop_goes_on_meanwhile(self):
+        async def main(call):
+            self.path = self.stand_in(
+                "read line", 'while [ ! -e "$0.goes" ]; do sleep 0.01; done', "echo ticket 1", "while read line; do", "case $line in",
+                "eval) echo evaluated 1;; finish*) echo finished 1 result 7 stale none;; esac; done",
+            )  # fmt: skip
+            async with aio.Desk(self.path) as desk:
+                task = asyncio.create_task(call(desk))
+                await asyncio.sleep(0)
+                self.path.with_name("stand_in.goes").touch()
+                return await task
+
+        for call, result in ((lambda desk: desk.atomically("return 7"), 7), (lambda desk: desk.submit("return 7"), 1)):
+            self.assertEqual(asyncio.run(main(call)), result)
+            self.assertEqual(in_threads(1, lambda: asyncio.run(main(call))), [result])
+
+    def test_a_loop_that_ended(self):
+        desk = aio.Desk(program)
+
+        async def begin():
+            asyncio.create_task(desk.atomically("retry"))
+            await self.until_blocked(desk, 1)
+
+        asyncio.run(begin())  # which cancels the task
+        self.assert_is(asyncio.run(desk.show()), [])
+        asyncio.run(desk.close())
+        with self.assertRaises(ValueError):
+            asyncio.run(desk.eval())
+        self.assert_gone(desk.pid)
+
+
+class Choices(OnProgram):
+    def test_or_else(self):
+        desk = self.start()
+        for count in (1, 2, 3, 5, 100):
+            blocks = ["retry"] * (count - 1)
+            for at in (0, count // 2, count - 1):
+                self.assert_is(desk.try_(stmdesk.or_else(*blocks[:at], "return 7", *blocks[at:])), Commits({}, [], 7))
+            self.assert_is(desk.try_(stmdesk.or_else(*blocks, "retry")), Blocks())
+            order = [f"return {number}" for number in range(count)]
+            self.assert_is(desk.try_(stmdesk.or_else(*order)), Commits({}, [], 0))
+        with self.assertRaises(ValueError):
+            stmdesk.or_else()
+
+
 class Floods(OnProgram):
     """A program that never ends its answer."""
 
@@ -986,7 +1820,7 @@ class Floods(OnProgram):
 
     def test_of_lines(self):
         self.assert_bad(lambda desk: desk.show(), "yes '1 new'")
-        with mock.patch.multiple(_desk, CELLS_LIMIT=1000, EVENTS_LIMIT=1000):
+        with mock.patch.multiple(_commands, CELLS_LIMIT=1000, EVENTS_LIMIT=1000):
             self.assert_bad(lambda desk: desk.store(), "yes '#0 x : Int = 1 count 0'")
             self.assert_bad(lambda desk: desk.history(), "yes '{}'")
 
@@ -1072,6 +1906,198 @@ class Finding(OnProgram):
             find_program()
 
 
+LOST = """\
+tvar ready : Bool = False
+-- tvar no : Int = 1
+\ttvar\tasleep : Bool = False
+client
+submit do { r <- readTVar ready; if r then return () else writeTVar asleep True }
+finish 1
+submit do { a <- readTVar asleep; if a then retry else return () }
+finish 2
+client
+submit writeTVar ready True
+finish 1
+expect ready True
+"""
+
+
+class Explorations(OnProgram):
+    def explore(self, script, **options):
+        return explore(script, program=program, **options)
+
+    def assert_found(self, found, states, steps, ended, outcome, line=None, order=None, clients=()):
+        """What was found, without the stores."""
+        got = (found.states, found.steps, found.ended, found.outcome, found.line, found.order, found.clients)
+        self.assert_is(got, (states, steps, ended, outcome, line, order, list(clients)))
+        self.assertIs(bool(found), outcome == "right")
+        self.assertIn(outcome, str(found))
+
+    def test_right(self):
+        client = "client\nsubmit do { a <- readTVar x; writeTVar x (a + 1) }\nfinish 1\n"
+        found = self.explore("tvar x : Int = 0\n" + client * 2)
+        self.assert_found(found, 4, 4, 1, "right")
+        self.assert_is(found.stores, [[FinalCell(X, "x", "Int", 2)]])
+        self.assertEqual(str(found), "states 4 steps 4\nended 1\n#0 x : Int = 2\ncells 1\nright")
+        self.assertIs(found.history(), None)
+
+    def test_no_variables_and_no_steps(self):
+        found = self.explore("client")
+        self.assert_found(found, 1, 0, 1, "right")
+        self.assert_is(found.stores, [[]])
+
+    def test_deadlock(self):
+        found = self.explore(LOST)
+        # One state after no step, two after one, three after two, and three after three, of which the first is the deadlock.
+        where = [ClientAt(0, 8, "waits", {Ref(1, "asleep"): True})]
+        self.assert_found(found, 9, 9, 0, "deadlock", None, (0, 1, 1), where)
+        self.assert_is(found.stores, [])
+
+    def test_a_deadlock_at_once(self):
+        found = self.explore("client\nsubmit retry\nfinish 1\nclient\n")
+        self.assert_found(found, 1, 0, 0, "deadlock", None, (), [ClientAt(0, 3, "waits", {})])
+
+    def test_broken(self):
+        never = "tvar x : Int = 0\nnever do { a <- readTVar x; if a == 5 then return () else retry }\n"
+        found = self.explore(never + "client\nsubmit writeTVar x 5\nfinish 1\nclient\nsubmit readTVar x\nfinish 1")
+        self.assert_found(found, 3, 2, 0, "broken", 2, (0,), [ClientAt(1, 8, "ready", {})])
+
+    def test_missed(self):
+        found = self.explore("tvar x : Int = 0\nclient\nexpect x 1\n")
+        self.assert_found(found, 1, 0, 0, "missed", 3, (), [ClientAt(0, 3, "ready", {})])
+
+    def test_incomplete(self):
+        script = "tvar x : Int = 0\nclient\nsubmit writeTVar x 1\nfinish 1\n"
+        found = self.explore(script, max_states=1)
+        self.assert_found(found, 1, 0, 0, "incomplete")
+        self.assertIs(found.history(), None)
+        self.assert_found(self.explore(script, max_states=2), 2, 1, 1, "right")
+
+    def test_values(self):
+        declared = ("x : Int = (-7)", "r : TVar Int = x", "deep : TVar (TVar Int) = r", "flag : Bool = True", "u : () = ()")
+        lines = [*(f"tvar {it}" for it in declared), "client", "submit do { n <- newTVar 5; writeTVar r n }", "finish 1"]
+        (store,) = self.explore("\n".join(lines)).stores
+        self.assert_is(
+            store,
+            [
+                FinalCell(X, "x", "Int", -7),
+                FinalCell(Ref(1, "r"), "r", "TVar Int", Ref(5)),
+                FinalCell(Ref(2, "deep"), "deep", "TVar (TVar Int)", Ref(1, "r")),
+                FinalCell(Ref(3, "flag"), "flag", "Bool", True),
+                FinalCell(Ref(4, "u"), "u", "()", None),
+                FinalCell(Ref(5), None, "Int", 5),
+            ],
+        )
+        self.assert_is([store["deep"].value, store[Ref(5)].value], [Ref(1, "r"), 5])
+        self.assert_is([store.get("y"), "y" in store, Ref(6) in store], [None, False, False])
+
+    def test_histories(self):
+        for script, events in ((LOST, 8), ("tvar x : Int = 0\nclient\nexpect x 1\n", 0)):
+            history = self.explore(script).history()
+            done = subprocess.run([program, "check"], input=history, stdout=subprocess.PIPE, text=True, timeout=SECONDS)
+            self.assertEqual(done.stdout, f"legal {events} events\n")
+
+    def test_a_refused_line(self):
+        scripts = {
+            "tvar x : Int = 0\r\n\n  client  \n\tsubmit return a + 1 \r\n": (4, "submit return a + 1"),
+            "": (1, ""),
+            "tvar x : Int = 0\n": (2, ""),
+            "client\nstore": (2, "store"),
+            "-- \xe4\nclient\nfinish 1 -- \xe4": (3, "finish 1 -- \xe4"),
+        }
+        for script, wanted in scripts.items():
+            with self.assertRaises(ScriptRefused) as caught:
+                self.explore(script)
+            refused = pickle.loads(pickle.dumps(caught.exception))
+            self.assertEqual((refused.line, refused.text), wanted)
+            self.assertEqual(str(refused), str(caught.exception))
+            self.assertIn(f"line {wanted[0]}", str(refused))
+            self.assertIn(wanted[1], str(refused))
+
+    def test_wrong_arguments(self):
+        for script in (None, b"client", ["client"]):
+            with self.assertRaises(TypeError):
+                self.explore(script)
+        for most in ("5", 1.5):
+            with self.assertRaises(TypeError):
+                self.explore("client", max_states=most)
+        for most in (0, 1 << 32):
+            with self.assertRaisesRegex(Ended, f"status 2: error: invalid value '{most}'"):
+                self.explore("client", max_states=most)
+        with self.assertRaises(FileNotFoundError):
+            explore("client", program="/no/such/program")
+
+    def test_full_pipes(self):
+        lines = [f"tvar v{n} : Int = 0" for n in range(20_000)]
+        client = "client\nsubmit do {{ a <- readTVar v0; writeTVar v0 (2 * a + {}) }}\nfinish 1"
+        found = self.explore("\n".join([*lines, *(client.format(n) for n in range(4))]))
+        self.assertEqual([len(it) for it in found.stores], [20_000] * len(found.stores))
+        self.assertEqual((found.stores[0]["v19999"].value, bool(found), len(found.stores)), (0, True, min(10, found.ended)))
+
+    def test_a_found_one_is_pickled(self):
+        found = self.explore(LOST)
+        self.assert_is(pickle.loads(pickle.dumps(found)), found)
+        self.assertEqual(pickle.loads(pickle.dumps(found)).history(), found.history())
+
+    def test_of_a_full_store(self):
+        answer = "states 2 steps 1\\nended 0\\ndeadlock\\norder 1\\nclient 0 line 3 refused CellsFull\\n"
+        found = explore("client", program=self.stand_in(f"printf '{answer}'; exit 3"))
+        self.assert_found(found, 2, 1, 0, "deadlock", None, (1,), [ClientAt(0, 3, "refused", {})])
+
+    def test_a_program_that_fails(self):
+        ends = {"exit 4": (4, ""), "echo no memory >&2; exit 4": (4, "no memory"), "kill -9 $$": (-9, ""), "exit 1": (1, "")}
+        for command, wanted in ends.items():
+            with self.assertRaises(Ended) as caught:
+                explore("client", program=self.stand_in(command))
+            self.assertEqual((caught.exception.status, caught.exception.said), wanted)
+        answer = "states 1 steps 0\\nended 0\\ndeadlock\\norder none\\n"
+        full = self.stand_in(f"case $* in *--history) echo full >&2;; *) printf '{answer}';; esac; exit 3")
+        with self.assertRaisesRegex(Ended, "status 3: full"):
+            explore("client", program=full).history()
+
+    def test_answers_that_no_stmdesk_gives(self):
+        head, fault = "states 1 steps 0\\nended 0\\n", "deadlock\\norder 0\\n"
+        ends = ["", "wrong\\n", "right\\n", "broken\\norder 0\\n", "deadlock line 1\\norder 0\\n", "deadlock\\n", "deadlock\\norder\\n"]
+        ends += ["deadlock\\norder x\\n", "incomplete\\nmore\\n", "cells 1\\nincomplete\\n", "#0 x\\ncells 1\\nincomplete\\n"]
+        ends += [fault + it for it in ("client 0\\n", "client 0 line 1 waits\\n", "client 0 line 1 waits x\\n", "client 0 line 1 ready x\\n")]
+        answers = ["", "hello\\n", *(head + it for it in ends)]
+        for answer in answers:
+            with self.subTest(answer=answer), self.assertRaises(BadAnswer):
+                explore("client", program=self.stand_in(f"printf '{answer}'; exit 3"))
+        with self.assertRaises(BadAnswer):
+            explore("client", program=self.stand_in(f"printf '{head}incomplete\\n'"))
+
+    def test_it_is_broken_off(self):
+        with tempfile.TemporaryDirectory() as folder:
+            number = pathlib.Path(folder) / "number"
+            silent = self.stand_in(f"echo $$ >{number}.new; mv {number}.new {number}; sleep 1000 & wait")
+
+            def stop(signum, frame):
+                while not number.exists():
+                    time.sleep(0.01)
+                raise KeyboardInterrupt
+
+            signal.signal(signal.SIGALRM, stop)
+            signal.setitimer(signal.ITIMER_REAL, 0.1)
+            with self.assertRaises(KeyboardInterrupt):
+                explore("client", program=silent)
+            self.assert_gone(int(number.read_text()))
+
+    def test_in_threads(self):
+        with concurrent.futures.ThreadPoolExecutor(8) as pool:
+            found = list(pool.map(self.explore, [LOST] * 8))
+        self.assertEqual(found, found[:1] * 8)
+
+    def test_nothing_is_built_yet(self):
+        with tempfile.TemporaryDirectory() as folder:
+            launcher = pathlib.Path(folder) / "stmdesk"
+            launcher.write_text("#!/bin/sh\n")
+            launcher.chmod(0o755)
+            (launcher.parent / "crates" / "stmdesk").mkdir(parents=True)
+            with self.assertRaisesRegex(FileNotFoundError, "--build once"):
+                explore("client", program=launcher)
+
+
 class Package(OnProgram):
     def test_its_version_is_the_program_s(self):
         source = REPOSITORY / "crates" / "stm_console" / "src" / "version.rt"
@@ -1130,18 +2156,31 @@ class Pages(OnProgram):
                 self.assertGreaterEqual(tried.attempted, page.parent == HERE)
                 self.assertEqual(tried.failed, 0)
 
+    def test_the_engine_of_the_examples(self):
+        folder = REPOSITORY / "examples" / "engine"
+        if not folder.exists():
+            self.skipTest("the package was copied without the examples")
+        command = [sys.executable, "-B", str(folder / "engine.py"), program]
+        done = subprocess.run(command, capture_output=True, text=True, timeout=SECONDS)
+        self.assertEqual((done.stdout, done.stderr), ((folder / "engine.out").read_text(), ""))
+
     def test_the_docstrings(self):
-        tests = {it.name: it for it in doctest.DocTestFinder().find(stmdesk, module=False)}
-        public = [stmdesk, *(it for it in vars(stmdesk).values() if isinstance(it, type) or it is find_program)]
+        finder = doctest.DocTestFinder()
+        tests = {it.name: it for it in [*finder.find(stmdesk, module=False), *finder.find(aio, module=aio)]}
+        public = [stmdesk, *(it for it in vars(stmdesk).values() if isinstance(it, (type, types.FunctionType)))]
         names = [it.__name__ if it is stmdesk else f"stmdesk.{it.__name__}" for it in public]
-        names += [f"stmdesk.Desk.{name}" for name in vars(Desk) if not name.startswith("_") and name != "pid"]
+        names += ["stmdesk.aio", "stmdesk.aio.Desk", "stmdesk.aio.Batch", "stmdesk.Answer.result", "stmdesk.Exploration.history"]
+        for module, desk in (("stmdesk", Desk), ("stmdesk.aio", aio.Desk)):
+            names += [f"{module}.Desk.{name}" for name in vars(desk) if not name.startswith("_") and name != "pid"]
         self.assertEqual([it for it in names if it not in tests or it != "stmdesk.DeskError" and not tests[it].examples], [])
         runner = doctest.DocTestRunner()
         for test in tests.values():
-            with self.subTest(test=test.name), Desk() as desk:
-                desk.tvar("x : Int = 1")
-                test.globs = vars(stmdesk) | {"desk": desk}
-                self.assertEqual(runner.run(test).failed, 0)
+            with self.subTest(test=test.name):
+                desk = aio.Desk() if test.name.startswith("stmdesk.aio") else Desk()
+                with getattr(desk, "_desk", desk) as plain:
+                    plain.tvar("x : Int = 1")
+                    test.globs = vars(stmdesk) | {"desk": desk, "aio": aio, "run": asyncio.run}
+                    self.assertEqual(runner.run(test).failed, 0)
 
 
 def main():

@@ -15,29 +15,38 @@ A value of the language is a value of Python: a number is an `int`, `True` and `
 type if a block could return either. docs/CONSOLE.md says what each command does, and docs/LANGUAGE.md what a block is. A line
 feed in a block is a blank.
 
+`Desk.atomically` runs a block and waits while it retries; `Desk.batch` gives many commands in one go; `stmdesk.aio` is the same
+for asyncio. `explore` needs no desk: it tries every order of the steps of a script's clients.
+
 A call raises `Refused` if the program refuses the command; `Stopped`, which is a `Refused`, if a `settle` stopped; `Ended`
 if the program ended; `BadAnswer` if the program printed what stmdesk never prints; `ValueError` or `TypeError` for an
-argument that is no text or number of the right kind, in which case nothing is sent.
+argument that is no text or number of the right kind, in which case nothing is sent. `atomically` also raises `Thrown`,
+`TimedOut` and `Cancelled`.
 """
 
+from ._batch import Batch
+from ._blocks import or_else
+from ._commands import Answer
 from ._desk import Desk
-from ._errors import BadAnswer, DeskError, Ended, Refused, Stopped
+from ._errors import BadAnswer, Cancelled, DeskError, Ended, Refused, ScriptRefused, Stopped, Thrown, TimedOut
+from ._explore import ClientAt, ClientState, Exploration, Outcome, explore
 from ._program import find_program
 from ._values import (
-    Blocks, Cell, Commits, Current, Fault, Finished, FinishedThrows, Job, New, NewRef, Ref, Settled, Stale, Status, Throws,
-    Value, Verdict,
+    Blocks, Cell, Commits, Current, Fault, FinalCell, FinalStore, Finished, FinishedThrows, Job, New, NewRef, Ref, Settled,
+    Stale, Status, Store, Throws, Value, Verdict,
 )  # fmt: skip
 
-__version__ = "0.2.0"
+__version__ = "0.3.0"
 
 __all__ = [
-    "BadAnswer", "Blocks", "Cell", "Commits", "Current", "Desk", "DeskError", "Ended", "Fault", "Finished", "FinishedThrows",
-    "Job", "New", "NewRef", "Ref", "Refused", "Settled", "Stale", "Status", "Stopped", "Throws", "Value", "Verdict",
-    "find_program",
+    "Answer", "BadAnswer", "Batch", "Blocks", "Cancelled", "Cell", "ClientAt", "ClientState", "Commits", "Current", "Desk",
+    "DeskError", "Ended", "Exploration", "Fault", "FinalCell", "FinalStore", "Finished", "FinishedThrows", "Job", "New",
+    "NewRef", "Outcome", "Ref", "Refused", "ScriptRefused", "Settled", "Stale", "Status", "Stopped", "Store", "Thrown", "Throws",
+    "TimedOut", "Value", "Verdict", "explore", "find_program", "or_else",
 ]  # fmt: skip
 
 for _name in __all__:
     _it = globals()[_name]
-    if isinstance(_it, type) or _it is find_program:
+    if isinstance(_it, type) or _it in (explore, find_program, or_else):
         _it.__module__ = __name__  # so that a traceback says stmdesk.Refused, which can be imported
 del _it, _name

@@ -8,11 +8,14 @@ from collections.abc import Sequence
 from ._errors import Refused, Stopped
 from ._hints import hint
 from ._values import (
-    Blocks, Cell, Commits, Current, Fault, Finished, FinishedThrows, Job, New, NewRef, Ref, Settled, Stale, Status, Throws,
-    Value, Verdict,
+    Blocks, Cell, Commits, Current, Fault, FinalCell, FinalStore, Finished, FinishedThrows, Job, New, NewRef, Ref, Settled,
+    Stale, Status, Store, Throws, Value, Verdict,
 )  # fmt: skip
 
+_CONSTANTS: dict[str, bool | None] = {"True": True, "False": False, "()": None}
+_BLOCKS = Blocks()  # it never changes, so one is enough
 _CELL = re.compile(r"#(\d+) (?:(\S+) )?: (.+) = (\S+) count (\d+)")
+_FINAL_CELL = re.compile(r"#(\d+) (?:(\S+) )?: (.+) = (\S+)")
 
 
 class Answers:
@@ -27,12 +30,22 @@ class Answers:
         self.types: dict[str, str] = {}  # of each declared name
         self.first: str | None = None  # the command that ended the declarations
 
-    def tvar(self, words: Sequence[str], declaration: str) -> Ref:
-        """`tvar #0 x`: the variable, whose name and type are kept."""
-        name = words[2]
-        self.types[name] = " ".join(declaration.partition(":")[2].partition("=")[0].split())
-        self.refs[words[1]] = ref = Ref(int(words[1].removeprefix("#")), name)
+    def tvar(self, words: Sequence[str]) -> Ref:
+        """`tvar #0 x`: the variable, whose name is kept."""
+        self.refs[words[1]] = ref = Ref(int(words[1].removeprefix("#")), words[2])
         return ref
+
+    def note(self, command: str, text: str, answer: object) -> None:
+        """Keeps what hints need of a command and its answer: types of variables, and which command ended the declarations."""
+        if isinstance(answer, Refused):
+            is_first = command != "tvar" and answer.name not in ("LineTooLong", "NotAscii")
+        elif isinstance(answer, Ref) and answer.name is not None and command == "tvar":
+            self.types[answer.name] = " ".join(text.partition(":")[2].partition("=")[0].split())
+            is_first = False
+        else:
+            is_first = True
+        if is_first:
+            self.first = command
 
     def ref(self, text: str) -> Ref:
         """`#0`"""
@@ -40,18 +53,22 @@ class Answers:
 
     def value(self, text: str) -> Value:
         """`7`, `True`, `()`, `#0` or `new0`"""
-        if text in ("True", "False"):
-            return text == "True"
-        if text == "()":
-            return None
+        if text.isdigit():
+            return int(text)
+        if text in _CONSTANTS:
+            return _CONSTANTS[text]
         if text.startswith("#"):
             return self.ref(text)
         return NewRef(int(text[3:])) if text.startswith("new") else int(text)
 
     def pairs(self, words: Sequence[str]) -> dict[Ref, Value]:
         """`#0=1 #2=True`, or `none`"""
-        pairs = (word.split("=") for word in words if word != "none")
-        return {self.ref(variable): self.value(value) for variable, value in pairs}
+        found: dict[Ref, Value] = {}
+        for word in words:
+            if word != "none":
+                variable, value = word.split("=")
+                found[self.refs.get(variable) or self.ref(variable)] = self.value(value)
+        return found
 
     def reads(self, words: Sequence[str]) -> dict[Ref, Value]:
         """`reads #0=1`"""
@@ -60,13 +77,22 @@ class Answers:
     def verdict(self, words: Sequence[str]) -> Verdict:
         """`commits writes #0=2 news none result 1`, `throws 4` or `blocks`"""
         if words[0] == "commits":
-            news, result = words.index("news"), words.index("result")
-            made = [self.value(word) for word in words[news + 1 : result] if word != "none"]
+            if len(words) == 7:  # at most one write and one new variable: the usual case, which is worth some time
+                _, _, write, news_is, new, result_is, value = words
+                if news_is == "news" and result_is == "result":
+                    writes: dict[Ref, Value] = {}
+                    if write != "none":
+                        variable, written = write.split("=")
+                        writes[self.refs.get(variable) or self.ref(variable)] = self.value(written)
+                    return Commits(writes, [] if new == "none" else [self.value(new)], self.value(value))
+            news = words.index("news")
+            result = words.index("result", news)
+            made = [] if words[news + 1] == "none" else [self.value(word) for word in words[news + 1 : result]]
             return Commits(self.pairs(words[2:news]), made, self.value(words[result + 1]))
         if words[0] == "throws":
             return Throws(fault(words[1]))
-        if words == ["blocks"]:
-            return Blocks()
+        if words[0] == "blocks" and len(words) == 1:
+            return _BLOCKS
         raise ValueError("no verdict")
 
     def status(self, words: Sequence[str]) -> Status:
@@ -89,8 +115,10 @@ class Answers:
         ticket = int(words[1])
         if words[2] == "throws":
             return FinishedThrows(ticket, fault(words[3]))
-        stale = [int(word) for word in words[words.index("stale") + 1 :] if word != "none"]
-        return Finished(ticket, self.value(words[words.index("result") + 1]), stale)
+        if words[2] != "result" or words[4] != "stale":
+            raise ValueError("no finish")
+        stale = [] if words[5] == "none" else [int(word) for word in words[5:]]
+        return Finished(ticket, self.value(words[3]), stale)
 
     def cell(self, line: str) -> Cell:
         """A line of `store`: `#0 x : Int = 1 count 0`"""
@@ -100,9 +128,46 @@ class Answers:
         number, name, kind, value, count = found.groups()
         return Cell(Ref(int(number), name), name, kind, self.value(value), int(count))
 
-    def cells(self, lines: Sequence[str]) -> list[Cell]:
+    def cells(self, lines: Sequence[str]) -> Store:
         """The lines of `store`"""
-        return [self.cell(line) for line in counted(lines)]
+        return Store(self.cell(line) for line in counted(lines))
+
+    def final_cell(self, line: str) -> FinalCell:
+        """A line of a store of `explore`: `#0 x : Int = 1`"""
+        found = _FINAL_CELL.fullmatch(line)
+        if not found:
+            raise ValueError("no variable")
+        number, name, kind, value = found.groups()
+        return FinalCell(Ref(int(number), name), name, kind, self.value(value))
+
+    def final_cells(self, lines: Sequence[str]) -> FinalStore:
+        """The lines of a store of `explore`"""
+        return FinalStore(self.final_cell(line) for line in counted(lines))
+
+    def second(self, words: Sequence[str]) -> int:
+        """The number after the first word, as in `ticket 1`"""
+        return int(words[1])
+
+    def nothing(self, words: Sequence[str]) -> None:
+        """`queued 1` or `cancelled 1`: the number is that of the command."""
+        int(words[1])
+
+    def jobs(self, words: Sequence[str]) -> list[Job]:
+        """`jobs 1=4 2=5`, or `jobs none`"""
+        pairs = (word.split("=") for word in words[1:] if word != "none")
+        return [Job(int(number), int(ticket)) for number, ticket in pairs]
+
+    def settled(self, words: Sequence[str]) -> Settled | Refused:
+        """`settled 1 evaluations 2`, or the same after `stopped HistoryFull`"""
+        if words[0] == "stopped":
+            return Stopped(words[1], counts(words[2:]))
+        return counts(words)
+
+    def history(self, lines: Sequence[str]) -> str:
+        """The lines before the last one, which answers `try return ()`, as one text"""
+        if len(lines) < 2 or lines[-1] != "commits writes none news none result ()":
+            raise ValueError("no history")
+        return "\n".join([*lines[:-1], ""])
 
     def refusal(self, words: Sequence[str], command: str, text: str) -> Refused:
         """`refused NAME`, with a place or a `#id` after it: the refusal of the command with this argument."""
@@ -117,27 +182,9 @@ class Answers:
         return Refused(name, place, variable, command, text, found)
 
 
-def second(words: Sequence[str]) -> int:
-    """The number after the first word, as in `ticket 1`"""
-    return int(words[1])
-
-
 def fault(word: str) -> Fault:
     """What a block throws: a number, or `overflow`"""
     return "overflow" if word == "overflow" else int(word)
-
-
-def jobs(words: Sequence[str]) -> list[Job]:
-    """`jobs 1=4 2=5`, or `jobs none`"""
-    pairs = (word.split("=") for word in words[1:] if word != "none")
-    return [Job(int(number), int(ticket)) for number, ticket in pairs]
-
-
-def settled(words: Sequence[str]) -> Settled | Refused:
-    """`settled 1 evaluations 2`, or the same after `stopped HistoryFull`"""
-    if words[0] == "stopped":
-        return Stopped(words[1], counts(words[2:]))
-    return counts(words)
 
 
 def counts(words: Sequence[str]) -> Settled:
@@ -152,10 +199,3 @@ def counted(lines: Sequence[str]) -> Sequence[str]:
     if int(lines[-1].split(" ")[1]) != len(lines) - 1:
         raise ValueError("another number of lines")
     return lines[:-1]
-
-
-def history(lines: Sequence[str]) -> str:
-    """The lines before the last one, which answers `try return ()`, as one text"""
-    if len(lines) < 2 or lines[-1] != "commits writes none news none result ()":
-        raise ValueError("no history")
-    return "\n".join([*lines[:-1], ""])

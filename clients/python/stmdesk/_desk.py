@@ -3,36 +3,36 @@
 from __future__ import annotations
 
 import os
-import re
 import threading
-from collections.abc import Callable
-from operator import index
+from collections.abc import Iterable, Iterator, Sequence
+from threading import get_ident
 from types import TracebackType
-from typing import TypeVar
+from typing import Any, TypeVar
 
-from . import _answers
-from ._errors import BadAnswer, Ended, Refused
+from ._answers import Answers
+from ._batch import Batch
+from ._commands import (
+    CANCEL, DELIVER, EVAL, FINISH, HANDBACK, HISTORY, LOOKS, READS, SETTLE, SHOW, STORE, SUBMIT, TAKE, TRY, TVAR, Answer,
+    Command, decimal, number_of,
+)  # fmt: skip
+from ._errors import BadAnswer, Cancelled, Ended, Refused, TimedOut
 from ._program import Closed, Odd, Process, check_built, find_program, is_ours
-from ._values import Cell, Finished, FinishedThrows, Job, Ref, Settled, Status, Value, Verdict
+from ._values import Commits, Finished, FinishedThrows, Job, Ref, Settled, Status, Store, Value, Verdict
+from ._waits import Wait, Waits
 
 PATIENCE = 5.0  # seconds that the program has to end after its input has ended
+FEW = 8  # commands that are sent in one go whatever their length
+PART = 1 << 15  # bytes of commands that are sent in one go; while one such is answered, the next is sent
 
-# How many tickets wait, variables are, and events happen at most.
-WAITING_LIMIT = 65_536
-CELLS_LIMIT = 1_000_000
-EVENTS_LIMIT = 1_048_576
-
-_CONTROL = re.compile(r"[\x00-\x08\x0b\x0c\x0e-\x1f\x7f]|\r(?!\n)")  # all but the tab, the line feed and CR LF
-
-Answer = TypeVar("Answer")
+T = TypeVar("T")
 
 
 class Desk:
     """A running stmdesk. A `with` ends the program, however its body ends; so does `close`.
 
-    Several threads may call one desk: each call waits until the call before it has returned. A call that any exception
-    breaks off, Ctrl-C for example, ends the program, since what the program still prints would be taken for the answer to
-    the next call.
+    Several threads may call one desk: each call waits until the call before it has returned. Only `atomically` lets other
+    calls come between. A call that any exception breaks off, Ctrl-C for example, ends the program, since what the program
+    still prints would be taken for the answer to the next call. Again `atomically` is the exception: its block is cancelled.
 
     In the examples of the methods `desk` is a new desk on which `x : Int = 1` is declared.
 
@@ -62,14 +62,16 @@ class Desk:
         0
         """
         given = {"--workers": workers, "--levels": levels, "--max-events": max_events}
-        options = [word for name, value in given.items() if value is not None for word in (name, _decimal(value))]
+        options = [word for name, value in given.items() if value is not None for word in (name, decimal(value))]
         path = find_program() if program is None else os.fspath(program)
         check_built(path)
         self._patience = patience
         self._calls = threading.RLock()
-        self._is_calling = False  # so that a signal handler that calls again is seen
+        self._caller = 0  # the thread that gives a command, so that a signal handler that calls again is seen
         self._is_closed = False
-        self._answers = _answers.Answers()
+        self._answers = Answers()
+        self._waits: Waits | None = None  # there is none before the first `atomically`
+        self._beginning = threading.Lock()  # so that two threads don't begin it
         self._process = Process([path, "run", *options])
 
     # One method for each command.
@@ -80,7 +82,7 @@ class Desk:
         >>> desk.tvar("slot : TVar Int = x")
         Ref(1, 'slot')
         """
-        return self._one("tvar", "tvar", lambda words: self._answers.tvar(words, declaration), declaration)
+        return self._ask(TVAR, declaration)
 
     def try_(self, block: str) -> Verdict:
         """What the block would do on the present store, which doesn't change. (`try` is a keyword of Python.)
@@ -88,7 +90,7 @@ class Desk:
         >>> desk.try_("do { a <- readTVar x; if a < 5 then retry else return a }")
         Blocks()
         """
-        return self._one("try", None, self._answers.verdict, block)
+        return self._ask(TRY, block)
 
     def looks(self, block: str) -> dict[Ref, Value]:
         """The variables of the present store that the block would read, in ascending order, with their values.
@@ -96,7 +98,7 @@ class Desk:
         >>> desk.looks("do { a <- readTVar x; writeTVar x (a + 1) }")
         {Ref(0, 'x'): 1}
         """
-        return self._one("looks", "reads", self._answers.reads, block)
+        return self._ask(LOOKS, block)
 
     def submit(self, block: str) -> int:
         """Lets the block wait. Returns its ticket.
@@ -104,7 +106,7 @@ class Desk:
         >>> desk.submit("do { a <- readTVar x; if a < 5 then retry else return a }")
         1
         """
-        return self._one("submit", "ticket", _answers.second, block)
+        return self._ask(SUBMIT, block)
 
     def take(self, count: int) -> list[Job]:
         """Hands out the `count` lowest queued tickets, or all if there are fewer, as jobs on the present store.
@@ -113,7 +115,7 @@ class Desk:
         >>> desk.take(10)
         [Job(number=1, ticket=1)]
         """
-        return self._one("take", "jobs", _answers.jobs, _decimal(count))
+        return self._ask(TAKE, decimal(count))
 
     def deliver(self, job: Job | int) -> int:
         """Evaluates a job, given as such or by its number, on the store of its `take`, and delivers the verdict. Returns
@@ -123,7 +125,7 @@ class Desk:
         >>> [desk.deliver(job) for job in desk.take(10)]
         [1]
         """
-        return self._one("deliver", "delivered", _answers.second, _decimal(job.number if isinstance(job, Job) else job))
+        return self._ask(DELIVER, number_of(job))
 
     def handback(self, ticket: int) -> None:
         """Queues a ticket again that `take` handed out.
@@ -132,7 +134,7 @@ class Desk:
         >>> for job in desk.take(10):
         ...     desk.handback(job.ticket)
         """
-        self._one("handback", "queued", _answers.second, _decimal(ticket))
+        self._ask(HANDBACK, decimal(ticket))
 
     def eval(self) -> int:
         """Evaluates all queued tickets and delivers the verdicts. Returns how many there were.
@@ -141,7 +143,7 @@ class Desk:
         >>> desk.eval()
         1
         """
-        return self._one("eval", "evaluated", _answers.second)
+        return self._ask(EVAL)
 
     def finish(self, ticket: int) -> Finished | FinishedThrows:
         """Applies the verdict of a ticket that is current and doesn't block. The ticket then waits no more.
@@ -150,7 +152,7 @@ class Desk:
         >>> desk.finish(ticket)
         Finished(ticket=1, result=None, stale=[])
         """
-        return self._one("finish", "finished", self._answers.finished, _decimal(ticket))
+        return self._ask(FINISH, decimal(ticket))
 
     def cancel(self, ticket: int) -> None:
         """Ends the waiting of a ticket.
@@ -158,7 +160,7 @@ class Desk:
         >>> ticket = desk.submit("retry")
         >>> desk.cancel(ticket)
         """
-        self._one("cancel", "cancelled", _answers.second, _decimal(ticket))
+        self._ask(CANCEL, decimal(ticket))
 
     def show(self) -> list[Status]:
         """The state of each waiting ticket, in ascending order.
@@ -167,8 +169,7 @@ class Desk:
         >>> desk.show()
         [New(ticket=1)]
         """
-        digits = tuple("123456789")
-        return self._ask("show", "", lambda: self._lines_to("waiting ", digits, WAITING_LIMIT), self._answers.statuses)
+        return self._ask(SHOW)
 
     def reads(self, ticket: int) -> dict[Ref, Value]:
         """What the last evaluation of a waiting ticket read, in ascending order of variables, with the values that it found.
@@ -177,24 +178,28 @@ class Desk:
         >>> desk.reads(ticket)
         {Ref(0, 'x'): 1}
         """
-        return self._one("reads", "reads", self._answers.reads, _decimal(ticket))
+        return self._ask(READS, decimal(ticket))
 
-    def store(self) -> list[Cell]:
-        """All variables, in ascending order.
+    def store(self) -> Store:
+        """All variables, in ascending order: a list, and a mapping by name and by reference.
 
         >>> desk.store()
         [Cell(variable=Ref(0, 'x'), name='x', type='Int', value=1, count=0)]
+        >>> desk.store()["x"].value
+        1
         """
-        return self._ask("store", "", lambda: self._lines_to("cells ", ("#",), CELLS_LIMIT), self._answers.cells)
+        return self._ask(STORE)
 
     def settle(self) -> Settled:
         """Evaluates and finishes tickets until all that still wait block. Raises `Stopped` if there is no room for a step.
+
+        It doesn't say what it finishes. So it raises RuntimeError while a block of `atomically` waits for its result.
 
         >>> ticket = desk.submit("writeTVar x 5")
         >>> desk.settle()
         Settled(finished=1, evaluations=1)
         """
-        return self._one("settle", None, _answers.settled)
+        return self._ask(SETTLE)
 
     def history(self) -> str:
         """The text of all events so far, byte for byte, as docs/HISTORY.md says: what `stmdesk check` judges.
@@ -205,9 +210,81 @@ class Desk:
         {"init":1,"name":"x","type":"Int"}
         {"block":"retry","client":0,"event":"submitted","ticket":1}
         """
-        # A history doesn't say which of its lines is the last. So a second command goes with it, which changes nothing and
-        # is always answered alike, by a line that begins with no brace.
-        return self._ask("history", "", self._history_lines, _answers.history, "\ntry return ()")
+        return self._ask(HISTORY)
+
+    # What a command doesn't do by itself.
+
+    def value(self, variable: str | Ref) -> Value:
+        """The value of a variable of the present store, given by its name or as a reference.
+
+        >>> desk.value("x")
+        1
+        """
+        name = variable.name if isinstance(variable, Ref) else variable
+        if isinstance(variable, Ref) and name is None:
+            return self.store()[variable].value
+        verdict = self.try_(f"readTVar {name}")
+        assert isinstance(verdict, Commits)
+        return verdict.result
+
+    def atomically(self, block: str, timeout: float | None = None) -> Value:
+        """Runs the block and returns its result. While the block retries, waits until what it has read changes.
+
+        Many threads may wait so at the same time. Raises `Thrown` if the block throws; `TimedOut` if it can't finish within
+        `timeout` seconds, and is cancelled; `Cancelled` if another call cancels its ticket; and `Ended`, in each thread, if
+        the program ends. Any other exception that comes out, as KeyboardInterrupt, has cancelled the block, unless the block
+        had finished already. The desk goes on.
+
+        >>> import threading
+        >>> waiting = threading.Thread(target=lambda: print(desk.atomically('''
+        ...     do { a <- readTVar x; if a < 5 then retry else return a }
+        ... ''')))
+        >>> waiting.start()
+        >>> desk.atomically("writeTVar x 5")
+        >>> waiting.join()
+        5
+        """
+        if self._caller == get_ident():
+            raise RuntimeError("a signal handler called the desk in the midst of another call")
+        over = threading.Lock()
+        over.acquire()
+        wait = Wait(block, over.release)
+        waits = self._begin_waits()
+        is_late = False
+        try:
+            waits.ask(wait, by_helper=threading.current_thread() is threading.main_thread())
+            if not over.acquire(timeout=-1 if timeout is None else min(max(timeout, 0), threading.TIMEOUT_MAX)):
+                is_late = True
+                waits.give_up(wait, withdraw=False)
+                over.acquire()
+        except BaseException:
+            waits.give_up(wait, withdraw=True)
+            if not wait.is_over:  # else the lock may be acquired already
+                over.acquire()
+            raise
+        if is_late and isinstance(wait.error, Cancelled) and timeout is not None:
+            raise TimedOut(timeout)
+        return wait.outcome()
+
+    def _begin_waits(self) -> Waits:
+        """The waits of this desk, and their thread. Raises ValueError if the desk is closed, and `Ended`."""
+        with self._beginning:
+            if self._is_closed:
+                raise ValueError("the desk is closed")
+            if self._waits is None:
+                self._waits = Waits(self._calls, self._perform, self._process, self._patience)
+            return self._waits
+
+    def batch(self) -> Batch:
+        """Commands that are sent in one go when the `with` of the batch ends.
+
+        >>> with desk.batch() as batch:
+        ...     tickets = [batch.submit(f"writeTVar x {number}") for number in range(3)]
+        ...     evaluated = batch.eval()
+        >>> [ticket.result() for ticket in tickets], evaluated.result()
+        ([1, 2, 3], 3)
+        """
+        return Batch(self._run)
 
     # The process.
 
@@ -244,109 +321,95 @@ class Desk:
 
     # Lines out, lines in.
 
-    def _one(
-        self, command: str, begin: str | None, read: Callable[[list[str]], Answer | Refused], text: str = ""
-    ) -> Answer:
-        """Gives a command that is answered by one line, whose first word is `begin`. `read` gets its words."""
+    def _ask(self, command: Command[T], text: str = "") -> T:
+        """Gives a command with its argument, and returns what its answer says."""
+        answer = Answer(command, text)
+        self._run((answer,))
+        return answer.result()
 
-        def read_words(lines: list[str]) -> Answer | Refused:
-            words = lines[0].split(" ")
-            if begin not in (None, words[0]):
-                raise ValueError("the answer to another command")
-            return read(words)
-
-        return self._ask(command, text, lambda: [self._process.line()], read_words)
-
-    def _ask(
-        self,
-        command: str,
-        text: str,
-        take: Callable[[], list[str]],
-        read: Callable[[list[str]], Answer | Refused],
-        then: str = "",
-    ) -> Answer:
-        """Writes a command with its argument, and `then` after it; takes all lines of the answer; returns what they say."""
-        line = _line(command, text)
-        sent = f"{line}{then}\n".encode()
+    def _run(self, answers: Sequence[Answer[Any]]) -> None:
+        """Gives commands, with none of another thread between them, and sets their answers."""
         with self._calls:
-            if self._is_calling:
+            if self._caller == get_ident():
                 raise RuntimeError("a signal handler called the desk in the midst of another call")
-            try:
-                self._is_calling = True
-                if self._is_closed:
-                    raise ValueError("the desk is closed")
-                if self._process.end:
-                    raise Ended(*self._process.end.args)
-                answer = self._exchange(line, sent, take, read, text)
-                is_no_command = isinstance(answer, Refused) and answer.name in ("LineTooLong", "NotAscii")
-                if self._answers.first is None and command != "tvar" and not is_no_command:
-                    self._answers.first = command
-            finally:
-                self._is_calling = False
-        if isinstance(answer, Refused):
-            raise answer
-        return answer
+            if self._is_closed:
+                raise ValueError("the desk is closed")
+            waits = self._waits
+            if waits and waits.is_any() and any(it.command is SETTLE for it in answers):
+                raise RuntimeError("a settle would finish blocks of atomically, and doesn't say with what result")
+            self._perform(answers, waits)
 
-    def _exchange(
-        self,
-        line: str,
-        sent: bytes,
-        take: Callable[[], list[str]],
-        read: Callable[[list[str]], Answer | Refused],
-        text: str,
-    ) -> Answer | Refused:
-        """Writes lines, takes the whole answer and reads it. Any exception ends the program."""
-        lines: list[str] = []
+    def _perform(self, answers: Sequence[Answer[Any]], waits: Waits | None = None) -> None:
+        """The same for a caller that has the lock. Shows the answers to the waits if these are given."""
         try:
-            self._process.send(sent)
-            lines = take()
-            if lines[0].startswith("refused "):
-                return self._answers.refusal(lines[0].split(" "), line.partition(" ")[0], text.lstrip())
-            return read(lines)
+            self._caller = get_ident()
+            if self._process.end:
+                raise Ended(*self._process.end.args)
+            self._exchange(answers, waits)
+        finally:
+            self._caller = 0
+
+    def _exchange(self, answers: Sequence[Answer[Any]], waits: Waits | None) -> None:
+        """Writes the commands' lines, takes the answers and reads them. Any exception ends the program."""
+        process, read = self._process, self._answers
+        lines = process.lines
+        it = answers[0]
+        said: str | Sequence[str] = ""
+        parts: Iterable[tuple[Sequence[Answer[Any]], bytes]]
+        parts = _parts(answers) if len(answers) > 1 else ((answers, it.sent),)
+        try:
+            for part, sent in parts:
+                if sent:
+                    process.send(sent)
+                for it in part:
+                    command = it.command
+                    said = line = lines.popleft() if lines else process.line()
+                    words = line.split(" ")
+                    if words[0] == "refused":
+                        value: Any = read.refusal(words, command.word, it.text.lstrip())
+                        if command.then:
+                            process.line()
+                    elif command.take:
+                        said = command.take(process, line)
+                        value = command.read(read, said)
+                    elif command.begin is None or command.begin == words[0]:
+                        value = command.read(read, words)
+                    else:
+                        raise ValueError("the answer to another command")
+                    if isinstance(value, Refused):
+                        it.error = value
+                    else:
+                        it.value = value
+                    if read.first is None:
+                        read.note(command.word, it.text, value)
+            if waits:
+                waits.see(answers)
         except Closed:
-            raise Ended(*self._process.wait(self._patience).args) from None
+            raise Ended(*process.wait(self._patience).args) from None
         except Odd as odd:
-            self._process.kill()
-            raise BadAnswer(line, str(odd)) from None
+            process.kill()
+            raise BadAnswer(it.line(), str(odd)) from None
         except BaseException as error:
-            self._process.kill()
+            process.kill()
             if isinstance(error, (ValueError, LookupError)) and is_ours(error):
-                raise BadAnswer(line, "\n".join(lines)) from None
+                raise BadAnswer(it.line(), said if isinstance(said, str) else "\n".join(said)) from None
             raise
 
-    def _lines_to(self, last: str, begin: tuple[str, ...], limit: int) -> list[str]:
-        """The lines up to the one that begins with `last`, at most `limit` before it, each of which begins with one of
-        `begin`; or a refusal, which is one line."""
-        lines = [self._process.line()]
-        while not lines[-1].startswith((last, "refused ")):
-            if len(lines) > limit or not lines[-1].startswith(begin):
-                raise Odd("\n".join(lines[-3:]))
-            lines.append(self._process.line())
-        return lines
 
-    def _history_lines(self) -> list[str]:
-        """The lines up to the first that begins with no brace; or a refusal, without the answer to the second command."""
-        lines = [self._process.line()]
-        while lines[-1].startswith("{"):
-            if len(lines) > CELLS_LIMIT + EVENTS_LIMIT + 1:
-                raise Odd("\n".join(lines[-3:]))
-            lines.append(self._process.line())
-        if len(lines) == 1:
-            self._process.line()
-        return lines
-
-
-def _decimal(number: int) -> str:
-    """The text of a number as an argument. Raises TypeError if it is no number."""
-    return str(index(number))
-
-
-def _line(command: str, text: str) -> str:
-    """The line of a command with its argument, in which each line feed is a blank, and a carriage return before it, too.
-    Raises ValueError if another control character is in the argument, and TypeError if it is no text."""
-    if not str.isprintable(text):
-        found = _CONTROL.search(text)
-        if found:
-            raise ValueError(f"control character {found[0]!r} at {found.start()} of {text[:80]!r}")
-        text = text.replace("\r", " ").replace("\n", " ")
-    return f"{command} {text}" if text else command
+def _parts(answers: Sequence[Answer[Any]]) -> Iterator[tuple[Sequence[Answer[Any]], bytes]]:
+    """For commands in parts of at most PART bytes each: the part whose answers are to be read now, and the lines to send
+    before that, which are those of the part after it."""
+    if len(answers) <= FEW:
+        yield answers, b"".join([it.sent for it in answers])
+        return
+    reading: Sequence[Answer[Any]] = ()
+    sending: list[Answer[Any]] = []
+    size = 0
+    for it in answers:
+        size += len(it.sent)
+        if size > PART and sending:
+            yield reading, b"".join([it.sent for it in sending])
+            reading, sending, size = sending, [], len(it.sent)
+        sending.append(it)
+    yield reading, b"".join([it.sent for it in sending])
+    yield sending, b""

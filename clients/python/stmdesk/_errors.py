@@ -2,7 +2,7 @@
 
 from __future__ import annotations
 
-from ._values import Ref, Settled
+from ._values import Fault, Ref, Settled
 
 _WIDTH = 100  # characters of a line of the caller's text that an error shows
 
@@ -90,8 +90,81 @@ class Stopped(Refused):
         return f"{self.name}, {self.settled.finished} finished by {self.settled.evaluations} evaluations"
 
 
+class Thrown(DeskError):
+    """The block of an `atomically` threw `fault`: a number, or "overflow". It changed nothing.
+
+    >>> desk.atomically("throw 4")
+    Traceback (most recent call last):
+    stmdesk.Thrown: the block threw 4
+    """
+
+    def __init__(self, fault: Fault) -> None:
+        super().__init__(fault)
+        self.fault = fault
+
+    def __str__(self) -> str:
+        return f"the block threw {self.fault}"
+
+
+class TimedOut(DeskError, TimeoutError):
+    """The block of an `atomically` couldn't finish within `timeout` seconds. It was cancelled, and changed nothing.
+
+    >>> desk.atomically("retry", timeout=0.01)
+    Traceback (most recent call last):
+    stmdesk.TimedOut: the block couldn't finish within 0.01 seconds
+    """
+
+    def __init__(self, timeout: float) -> None:
+        super().__init__(timeout)
+        self.timeout = timeout
+
+    def __str__(self) -> str:
+        return f"the block couldn't finish within {self.timeout:g} seconds"
+
+
+class Cancelled(DeskError):
+    """Another call has cancelled the ticket of a block that waited in `atomically`. The block changed nothing.
+
+    >>> import threading
+    >>> def cancel():
+    ...     while not desk.show():
+    ...         pass
+    ...     desk.cancel(desk.show()[0].ticket)
+    >>> threading.Thread(target=cancel).start()
+    >>> desk.atomically("retry")
+    Traceback (most recent call last):
+    stmdesk.Cancelled: the block was cancelled
+    """
+
+    def __str__(self) -> str:
+        return "the block was cancelled"
+
+
+class ScriptRefused(DeskError):
+    """A line of the script of `explore` is invalid, so nothing was explored. `line` is its number, counted from 1, and `text`
+    the line, which is empty if the script ends too early.
+
+    >>> explore("client\\nsubmit readTVar z")
+    Traceback (most recent call last):
+    stmdesk.ScriptRefused: line 2 of the script is refused
+        submit readTVar z
+    >>> explore("tvar x : Int = 1")
+    Traceback (most recent call last):
+    stmdesk.ScriptRefused: the script is refused at its end, line 2
+    """
+
+    def __init__(self, line: int, text: str) -> None:
+        super().__init__(line, text)
+        self.line, self.text = line, text
+
+    def __str__(self) -> str:
+        if not self.text:
+            return f"the script is refused at its end, line {self.line}"
+        return f"line {self.line} of the script is refused\n    {self.text[:_WIDTH]}"
+
+
 class Ended(DeskError):
-    """The program has ended, and with it the desk. `status` is its exit status, negative for a signal; `said` is the end
+    """The program has ended, and with it the desk or the exploration. `status` is its exit status, negative for a signal; `said` is the end
     of what it wrote on standard error.
 
     >>> Desk(workers=65).store()

@@ -3,18 +3,21 @@
 from __future__ import annotations
 
 import os
+import select
 import shutil
 import signal
 import subprocess
 import tempfile
 import threading
+from collections import deque
 from collections.abc import Sequence
 from contextlib import suppress
+from io import BufferedReader, BufferedWriter
 from pathlib import Path
-from typing import IO
 
 from ._errors import Ended
 
+PIECE = 1 << 16  # bytes that are read at a time: what a pipe holds
 LINE_LIMIT = 16 << 20  # bytes of a line; stmdesk's longest have some 2 MiB
 SAID_LIMIT = 1 << 16  # bytes that are kept of the end of standard error
 
@@ -61,6 +64,22 @@ def check_built(program: str) -> None:
         raise FileNotFoundError(f"the program isn't built yet: run {folder / 'stmdesk'} --build once")
 
 
+def run_once(command: Sequence[str], text: str) -> tuple[int, str, str]:
+    """Runs the program on this input to its end. Returns its exit status, what it printed, and what it wrote on standard error.
+    An exception that breaks this off kills the program, and all that it started."""
+    pipe = subprocess.PIPE
+    with subprocess.Popen(command, stdin=pipe, stdout=pipe, stderr=pipe, start_new_session=True) as process:
+        try:
+            printed, said = process.communicate(text.encode())
+        except BaseException:
+            if process.poll() is None:
+                with suppress(OSError):
+                    os.killpg(process.pid, signal.SIGKILL)
+                process.wait()
+            raise
+    return process.returncode, printed.decode("ascii", "replace"), said.decode("utf-8", "replace").strip()
+
+
 class Closed(Exception):
     """The program's end of a pipe is closed."""
 
@@ -84,6 +103,9 @@ class Process:
     def __init__(self, command: Sequence[str]) -> None:
         self.end: Ended | None = None
         self._ending = threading.RLock()
+        self._sending = threading.RLock()  # so that the input isn't closed in the midst of a write
+        self.lines: deque[str] = deque()  # that were read and not taken
+        self._rest = bytearray()  # of the output, after its last line feed
         self._errors = tempfile.TemporaryFile()  # not a pipe, which somebody would have to empty
         try:
             self._process = subprocess.Popen(
@@ -96,49 +118,78 @@ class Process:
         except BaseException:
             self._errors.close()
             raise
+        assert isinstance(self._process.stdin, BufferedWriter) and isinstance(self._process.stdout, BufferedReader)
+        self._input, self._output = self._process.stdin.raw, self._process.stdout
+        os.set_blocking(self._input.fileno(), False)
 
     @property
     def pid(self) -> int:
         return self._process.pid
 
-    @property
-    def _input(self) -> IO[bytes]:
-        assert self._process.stdin
-        return self._process.stdin
-
-    @property
-    def _output(self) -> IO[bytes]:
-        assert self._process.stdout
-        return self._process.stdout
+    def output_again(self) -> int:
+        """A second descriptor of the pipe from the program, which is the caller's to close. Raises `Ended`."""
+        with self._ending:
+            if self.end:
+                raise Ended(*self.end.args)
+            return os.dup(self._output.fileno())
 
     def send(self, text: bytes) -> None:
-        """Writes to the program. Raises `Closed` if it reads no more."""
+        """Writes to the program. While the program can't take more, keeps what it prints, since it may wait for that. Raises
+        `Closed` if it reads no more."""
+        left: bytes | memoryview = text
         try:
-            self._input.write(text)
-            self._input.flush()
+            while True:
+                with self._sending:
+                    written = self._input.write(left)
+                if written == len(left):
+                    return
+                left = memoryview(left)[written or 0 :]
+                self._wait_to_send()
         except (BrokenPipeError, ValueError) as error:
             if not is_ours(error):
                 raise
             raise Closed from None
 
-    def line(self) -> str:
-        """The next line that the program prints, without its line feed. Raises `Closed` if it prints no more."""
+    def _wait_to_send(self) -> None:
+        """Waits until the program can take more, and reads what it prints."""
+        output, poll = self._output.fileno(), select.poll()
+        poll.register(output, select.POLLIN)
+        poll.register(self._input.fileno(), select.POLLOUT)
+        if any(it == output for it, _ in poll.poll()):
+            self._read()
+
+    def _read(self) -> None:
+        """Reads what the program prints next. Raises `Closed` if it prints no more."""
         try:
-            line = self._output.readline(LINE_LIMIT + 1)
+            piece = self._output.read1(PIECE)
         except ValueError as error:
             if not is_ours(error):
                 raise
             raise Closed from None
-        if line.endswith(b"\n"):
-            return line[:-1].decode("ascii", "replace")
-        if len(line) > LINE_LIMIT:
-            raise Odd(line[:200].decode("ascii", "replace"))
-        raise Closed
+        if not piece:
+            raise Closed
+        rest = self._rest
+        if not rest and piece.endswith(b"\n"):
+            self.lines.extend(piece[:-1].decode("ascii", "replace").split("\n"))
+            return
+        rest += piece
+        end = rest.rfind(b"\n", len(rest) - len(piece))
+        if end >= 0:
+            self.lines.extend(rest[:end].decode("ascii", "replace").split("\n"))
+            del rest[: end + 1]
+        if len(rest) > LINE_LIMIT:
+            raise Odd(rest[:200].decode("ascii", "replace"))
+
+    def line(self) -> str:
+        """The next line that the program prints, without its line feed. Raises `Closed` if it prints no more."""
+        while not self.lines:
+            self._read()
+        return self.lines.popleft()
 
     def wait(self, patience: float) -> Ended:
         """Ends the program's input and waits for the program to end. Kills it after `patience` seconds."""
         try:
-            with suppress(OSError):
+            with suppress(OSError), self._sending:
                 self._input.close()
             with suppress(subprocess.TimeoutExpired):
                 self._process.wait(patience)
@@ -154,9 +205,10 @@ class Process:
                     with suppress(OSError):
                         os.killpg(self._process.pid, signal.SIGKILL)
                 status = self._process.wait()
-                for pipe in (self._input, self._output):
-                    with suppress(OSError):
-                        pipe.close()
+                with suppress(OSError), self._sending:
+                    self._input.close()
+                with suppress(OSError):
+                    self._output.close()
                 self._errors.seek(max(0, self._errors.seek(0, os.SEEK_END) - SAID_LIMIT))
                 self.end = Ended(status, self._errors.read().decode("utf-8", "replace").strip())
                 self._errors.close()

@@ -2,8 +2,9 @@
 
 from __future__ import annotations
 
+from collections.abc import Iterable
 from dataclasses import dataclass, field
-from typing import Literal
+from typing import Literal, SupportsIndex, TypeVar, overload
 
 
 @dataclass(frozen=True, order=True)
@@ -22,6 +23,9 @@ class Ref:
 
     number: int
     name: str | None = field(default=None, compare=False)
+
+    def __hash__(self) -> int:
+        return self.number
 
     def __repr__(self) -> str:
         return f"Ref({self.number})" if self.name is None else f"Ref({self.number}, {self.name!r})"
@@ -51,7 +55,7 @@ Value = int | bool | None | Ref | NewRef
 Fault = int | Literal["overflow"]
 
 
-@dataclass(frozen=True)
+@dataclass(frozen=True, init=False)
 class Commits:
     """A block returns. It would write `writes`, in ascending order of variables, make variables that hold `news`, and
     return `result`.
@@ -63,6 +67,13 @@ class Commits:
     writes: dict[Ref, Value]
     news: list[Value]
     result: Value
+
+    def __init__(self, writes: dict[Ref, Value], news: list[Value], result: Value) -> None:
+        # What a frozen dataclass makes of this takes twice as long, and many answers are one.
+        fields = self.__dict__
+        fields["writes"] = writes
+        fields["news"] = news
+        fields["result"] = result
 
 
 @dataclass(frozen=True)
@@ -144,7 +155,7 @@ class Job:
     ticket: int
 
 
-@dataclass(frozen=True)
+@dataclass(frozen=True, init=False)
 class Finished:
     """A block finished: its result, in which each `NewRef` is a `Ref` now, and the tickets that became stale by it, in
     ascending order.
@@ -157,6 +168,12 @@ class Finished:
     ticket: int
     result: Value
     stale: list[int]
+
+    def __init__(self, ticket: int, result: Value, stale: list[int]) -> None:
+        fields = self.__dict__
+        fields["ticket"] = ticket
+        fields["result"] = result
+        fields["stale"] = stale
 
 
 @dataclass(frozen=True)
@@ -199,3 +216,81 @@ class Cell:
     type: str
     value: Value
     count: int
+
+
+@dataclass(frozen=True)
+class FinalCell:
+    """A variable at the end of an exploration: a `Cell` without the count of changes, which depends on the order.
+
+    >>> explore("tvar x : Int = 1\\nclient").stores
+    [[FinalCell(variable=Ref(0, 'x'), name='x', type='Int', value=1)]]
+    """
+
+    variable: Ref
+    name: str | None
+    type: str
+    value: Value
+
+
+C = TypeVar("C", bound=Cell | FinalCell)
+Default = TypeVar("Default")
+
+
+class Cells(list[C]):
+    """All variables in ascending order: a list of cells, and a mapping to them by name and by reference."""
+
+    def __init__(self, cells: Iterable[C] = ()) -> None:
+        super().__init__(cells)
+        self._by_name = {cell.name: cell for cell in self if cell.name is not None}
+
+    @overload
+    def __getitem__(self, key: SupportsIndex | str | Ref, /) -> C: ...
+
+    @overload
+    def __getitem__(self, key: slice, /) -> list[C]: ...
+
+    def __getitem__(self, key: SupportsIndex | str | Ref | slice, /) -> C | list[C]:
+        if isinstance(key, str):
+            return self._by_name[key]
+        if isinstance(key, Ref):
+            if key not in self:
+                raise KeyError(key)
+            return super().__getitem__(key.number)
+        return super().__getitem__(key)
+
+    def __contains__(self, key: object, /) -> bool:
+        if isinstance(key, Ref):
+            return key.number < len(self) and super().__getitem__(key.number).variable == key
+        return key in self._by_name if isinstance(key, str) else super().__contains__(key)
+
+    @overload
+    def get(self, key: str | Ref) -> C | None: ...
+
+    @overload
+    def get(self, key: str | Ref, default: Default) -> C | Default: ...
+
+    def get(self, key: str | Ref, default: Default | None = None) -> C | Default | None:
+        """The cell of a variable, or `default` if there is none."""
+        return self[key] if key in self else default
+
+
+class Store(Cells[Cell]):
+    """All variables in ascending order: a list of cells, and a mapping to them by name and by reference.
+
+    >>> store = desk.store()
+    >>> store["x"].value, store[Ref(0)].name, "y" in store, len(store)
+    (1, 'x', False, 1)
+    >>> store.get("y", "no variable")
+    'no variable'
+    >>> {cell.name: cell.value for cell in store}
+    {'x': 1}
+    """
+
+
+class FinalStore(Cells[FinalCell]):
+    """All variables at the end of an exploration: a list and a mapping, as `Store` is.
+
+    >>> (store,) = explore("tvar x : Int = 1\\nclient").stores
+    >>> store["x"].value, store[Ref(0)].name, len(store)
+    (1, 'x', 1)
+    """

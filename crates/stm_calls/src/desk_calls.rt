@@ -11,6 +11,7 @@ use stm_check::SharedBlock;
 use stm_desk::{
     CancelError, Desk, Finish, FinishError, SettleStop, SettleWhy, Settled, SubmitError,
 };
+use stm_terms::verdicts::Verdict;
 use stm_terms::{write_value, write_verdict};
 
 /// Submits a block, and answers with its ticket.
@@ -62,7 +63,8 @@ pub fn say_tickets(tickets: &[u32], out: &mut String) -> Result<(), AllocError> 
 
 /// Answers with what a finish did.
 pub fn say_finish(finish: &Finish, out: &mut String) -> Result<(), AllocError> {
-    write_verdict(&finish.verdict, out)?;
+    let blocks = Verdict::Blocks;
+    write_verdict(finish.verdict.get(&blocks), out)?;
     write!(out, " first {} result ", finish.applied.first_new)?;
     match finish.applied.result {
         Some(value) => write_value(value, out)?,

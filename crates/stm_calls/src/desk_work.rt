@@ -9,7 +9,7 @@ use crate::words::say;
 use std::alloc::{AllocError, Global};
 use std::fmt::Write;
 use std::thread::Threads;
-use stm_desk::{DeliverError, Desk};
+use stm_desk::{DeliverError, Desk, Evaluation};
 use stm_eval::{Evaluated, Job, evaluate};
 use stm_pool::{Answer, MAX_WORKERS, evaluate_all};
 use stm_store::Frozen;
@@ -279,6 +279,22 @@ pub fn deliver_all(
         }
     }
     writeln!(out, "accepted {} refused {}", work.accepted, work.refused)
+}
+
+/// Evaluates the n lowest queued blocks on the desk itself.
+pub fn evaluate_queued(
+    desk: &mut Desk,
+    client: u32,
+    n: u32,
+    out: &mut String,
+) -> Result<(), AllocError>
+    requires { client < max_clients }
+{
+    let Evaluation { count, stop } = desk.evaluate_queued(client, n)?;
+    match stop {
+        None => writeln!(out, "evaluated {count}"),
+        Some(refusal) => writeln!(out, "evaluated {count} refused {refusal:?}"),
+    }
 }
 
 /// Evaluates the queued blocks and delivers them, one after another.

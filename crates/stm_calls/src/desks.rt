@@ -187,6 +187,7 @@ fn answer_desk(
             match call {
                 "submit" => answer_submit(desk, client, table, alloc, rest, out),
                 "fill" => answer_fill(desk, client, table, alloc, rest, out),
+                "evaluate_queued" => desk_work::evaluate_queued(desk, client, number(rest), out),
                 _ => answer_change(
                     desk,
                     &mut desks.work,

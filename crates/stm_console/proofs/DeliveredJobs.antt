@@ -23,9 +23,8 @@ use Rattle.stm_history.specs.Refusals.{differing, overtaken_first, pending_left}
 use Rattle.stm_history.specs.SlowDesk.{Waiter, under, is_current, find_waiter, state, MayInstall, IsLegal}
 use Rattle.stm_desk.specs.Refusals.{left_by}
 use Rattle.stm_desk.specs.Seen.{Seen, now, is_full}
-use Rattle.stm_console.specs.declared.jobs.HandedOut.{HandedOut}
 use Rattle.stm_console.specs.Delivering.{max_jobs, job_of, jobs_of, taken, with_jobs, after_take, delivery_first, delivery_refusal, installed, after_refusal, job_at, after_deliver, Delivered, delivered_by, delivered_next, delivered_all, all_queued, evaluated}
-use Rattle.stm_console.specs.OpenDesk.{OpenDesk}
+use Rattle.stm_console.specs.OpenDesk.{HandedOut, OpenDesk}
 use Rattle.stm_console.proofs.AgreeingReads.{agrees_there}
 use Rattle.stm_console.proofs.KeptQueue.{tickets_left, tickets_marked, tickets_sent}
 use Rattle.stm_console.proofs.StandingDesk.{WasTaken, AllTaken, Stands, stands_event, stands_marked, stands_with, taken_append, taken_at}

@@ -26,10 +26,10 @@ use Rattle.stm_history.specs.Refusals.{DeliverTold, differing, overtaken_first}
 use Rattle.stm_history.specs.SlowDesk.{Waiter, IsLegal, under, is_current, state, find_waiter}
 use Rattle.stm_desk.specs.Refusals.{TellsDeskDelivery, left_by}
 use Rattle.stm_desk.specs.Seen.{Seen, now, is_full, with_event}
-use Rattle.stm_console.specs.declared.jobs.HandedOut.{HandedOut}
 use Rattle.stm_console.specs.declared.jobs.Progress.{Progress}
 use Rattle.stm_console.specs.Delivering.{Delivered, delivered_all, all_queued, jobs_of, evaluated, job_at, delivery_first, delivery_refusal, after_delivery, after_refusal, installed}
 use Rattle.stm_console.specs.Kept.{refusal_unevaluated, handed_out, JobStands, JobsStand, HasGrown, after_message}
+use Rattle.stm_console.specs.OpenDesk.{HandedOut}
 use Rattle.stm_console.proofs.Growing.{now_next, grown_next, given_are, given_stand, queued_stand}
 
 -- the block that waits is the job's

@@ -27,14 +27,13 @@ use Rattle.stm_desk.specs.Seen.{Seen, now, is_full}
 use Rattle.stm_desk.specs.Settling.{slow_settle, slow_stop, called_back}
 use Rattle.stm_console.specs.declared.command.Command.{Command}
 use Rattle.stm_console.specs.declared.command.Command.TheVariants.{Tvar, Try, Looks, Submit, Take, Deliver, Handback, Eval, Finish, Cancel, Show, Reads, Store, Settle, History}
-use Rattle.stm_console.specs.declared.jobs.HandedOut.{HandedOut}
 use Rattle.stm_console.specs.declared.refusal.Refusal.{Refusal}
 use Rattle.stm_console.specs.Arguments.{number_argument, with_number, with_nothing}
 use Rattle.stm_console.specs.Blocks.{compiled_block, verdict_line, tried_text, try_answer, reads_line, looked_text, looks_answer, ticket_line, submitted_text, submit_text, submit_answer}
 use Rattle.stm_console.specs.Console.{desk_answer}
 use Rattle.stm_console.specs.Delivering.{max_jobs, taken, job_text, numbered, jobs_line, take_text, take_answer, delivery_refusal, delivered_line, delivery_text, job_at, deliver_text, deliver_answer, queued_line, handback_text, handback_answer, evaluated_line, evaluated_text, evaluated, eval_answer}
 use Rattle.stm_console.specs.Finishing.{finish_of, tickets_text, result_line, finished_line, finish_event_line, finish_text, finish_answer, cancelled_line, cancel_text, cancel_answer, settled_line, settle_text, settle_answer}
-use Rattle.stm_console.specs.OpenDesk.{OpenDesk, present}
+use Rattle.stm_console.specs.OpenDesk.{HandedOut, OpenDesk, present}
 use Rattle.stm_console.specs.Refusals.{refused}
 use Rattle.stm_console.specs.Showing.{waiter_lines, show_text, show_answer, read_text, waiter_reads_text, reads_answer, cell_lines, store_text, store_answer, history_answer}
 use Rattle.stm_console.specs.Laws.{EndsALine}

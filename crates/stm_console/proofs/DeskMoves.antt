@@ -22,9 +22,9 @@ use Rattle.stm_history.specs.SlowDesk.{Waiter, verdict_on, is_new, is_current, f
 use Rattle.stm_history.specs.SlowSettle.{ending}
 use Rattle.stm_desk.specs.Refusals.{submit_refusal, finish_refusal, cancel_refusal}
 use Rattle.stm_desk.specs.Seen.{Seen, now, is_full}
-use Rattle.stm_console.specs.declared.jobs.HandedOut.{HandedOut}
 use Rattle.stm_console.specs.Blocks.{submitted}
 use Rattle.stm_console.specs.Finishing.{finish_of, with_what, after_finish, after_cancel}
+use Rattle.stm_console.specs.OpenDesk.{HandedOut}
 use Rattle.stm_console.proofs.StandingDesk.{Stands, stands_event}
 use Rattle.stm_console.proofs.TypedTable.{same_kind}
 

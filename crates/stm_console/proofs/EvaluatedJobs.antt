@@ -17,7 +17,7 @@ use Rattle.stm_desk.specs.Refusals.{TellsDeskDelivery, left_by}
 use Rattle.stm_desk.specs.Seen.{Seen}
 use Rattle.stm_console.specs.Delivering.{Delivered, delivered_by, delivered_next, delivered_all, handed_back, delivery_refusal}
 use Rattle.stm_console.specs.Kept.{handed_out, JobStands, JobsStand, HasGrown, after_message, AnswerJobs}
-use Rattle.stm_console.specs.declared.jobs.HandedOut.{HandedOut}
+use Rattle.stm_console.specs.OpenDesk.{HandedOut}
 use Rattle.stm_console.proofs.Deliveries.{told_of_job, refused_of_job}
 use Rattle.stm_console.proofs.Growing.{stand_grown}
 

@@ -19,7 +19,7 @@ use Rattle.stm_console.specs.ScriptReading.{HasFewSections, after_class_at}
 use Rattle.stm_console.specs.StormScript.{PartialScript, Begun, sections_so_far, most_lines, numbered_result, declared_more, after_client, with_task, with_block, submission_of, with_submission, with_expectation, expected_task, after_task, before_sections, after_word, after_words, after_class, storm_word_named}
 
 -- a step that leads to a script leads to one with few sections
-abbrev Few : Option PartialScript → Type 0
+abbrev pub Few : Option PartialScript → Type 0
 Few None = Unit {0}
 Few (Some s) = length (sections_so_far s.ended s.begun) ≤ max_sections
 
@@ -74,7 +74,7 @@ few_before r Finish argument h = tt
 few_before r Cancel argument h = tt
 few_before r Expect argument h = tt
 
-few_word : (r : PartialScript) (begun : Option Begun) (word : StormWord) (argument : List ℕ) → r.begun ≡ begun → HasFewSections r → Few (after_word r begun word argument)
+pub few_word : (r : PartialScript) (begun : Option Begun) (word : StormWord) (argument : List ℕ) → r.begun ≡ begun → HasFewSections r → Few (after_word r begun word argument)
 few_word r None word argument e h = few_before r word argument h
 few_word r (Some b) word argument e h = few_in_section r b word argument (subst (λ (x : Option Begun). length (sections_so_far r.ended x) ≤ max_sections) e h)
 

@@ -26,10 +26,12 @@ use Rattle.stm_desk.specs.declared.errors.SettleWhy.TheVariants.{HistoryFull, Ce
 use Rattle.stm_desk.specs.declared.finish.Finish.{Finish}
 use Rattle.stm_desk.specs.declared.settle.Settled.{Settled}
 use Rattle.stm_desk.specs.Settling.{with_whats, called_back, slow_settle, slow_stop, HasSettled, StopTold}
-use Rattle.stm_console.specs.declared.jobs.HandedOut.{HandedOut}
+use Rattle.stm_console.specs.declared.jobs.KeptJob.{KeptJob}
 use Rattle.stm_console.specs.Delivering.{job_of, jobs_of}
 use Rattle.stm_console.specs.Finishing.{finish_of, finish_event, settled_line, why_text, settle_text}
-use Rattle.stm_console.specs.Kept.{handed_out, JobStands, JobsStand, IsPresentCopy, OpenInvariant, HasGrown}
+use Rattle.stm_console.specs.Kept.{handed_out, job_kept, HaveStores, JobStands, JobsStand, IsPresentCopy, OpenInvariant, HasGrown}
+use Rattle.stm_console.specs.OpenDesk.{HandedOut}
+use Rattle.stm_console.proofs.KeptStores.{stores_grown}
 
 state_from-append : (s : Slow) (es fs : List Event) → state_from s (es ++ fs) ≡ state_from (state_from s es) fs
 state_from-append s [] fs = refl
@@ -80,12 +82,28 @@ copied_same d e None p c = tt
 copied_same d e (Some cells) p c = c ∙ ap plains (sym p)
 
 -- and so does what an open desk keeps
-pub kept_grown : (d e : Seen) (copy : Option (List (Ty × Value))) (js : List HandedOut) → HasGrown d e → (now e).store ≡ (now d).store → OpenInvariant d copy js → OpenInvariant e copy js
-kept_grown d e copy js g p k = record { legal = g.legal; copied = copied_same d e copy p k.copied; jobs_stand = stand_grown d e js g k.jobs_stand }
+pub kept_grown : {table : List Declared} → (d e : Seen) (copy : Option (List (Ty × Value))) (ks : List KeptJob) → HasGrown d e → (now e).store ≡ (now d).store → OpenInvariant d copy ks table → OpenInvariant e copy ks table
+kept_grown d e copy ks g p k = record {
+  legal = g.legal;
+  copied = copied_same d e copy p k.copied;
+  jobs_stand = stand_grown d e (map job_kept ks) g k.jobs_stand;
+  have_stores = stores_grown d e ks g k.jobs_stand k.have_stores;
+  same_table = k.same_table ∙ sym g.table;
+}
+
+-- with other blocks by their texts
+pub kept_prepared : (d : Seen) (copy : Option (List (Ty × Value))) (ks : List KeptJob) (table others : List Declared) → others ≡ table → OpenInvariant d copy ks table → OpenInvariant d copy ks others
+kept_prepared d copy ks table others same k = subst (OpenInvariant d copy ks) (sym same) k
 
 -- without a copy the store may be another one
-pub kept_without : (d e : Seen) (copy : Option (List (Ty × Value))) (js : List HandedOut) → HasGrown d e → OpenInvariant d copy js → OpenInvariant e None js
-kept_without d e copy js g k = record { legal = g.legal; copied = tt; jobs_stand = stand_grown d e js g k.jobs_stand }
+pub kept_without : {table : List Declared} → (d e : Seen) (copy : Option (List (Ty × Value))) (ks : List KeptJob) → HasGrown d e → OpenInvariant d copy ks table → OpenInvariant e None ks table
+kept_without d e copy ks g k = record {
+  legal = g.legal;
+  copied = tt;
+  jobs_stand = stand_grown d e (map job_kept ks) g k.jobs_stand;
+  have_stores = stores_grown d e ks g k.jobs_stand k.have_stores;
+  same_table = k.same_table ∙ sym g.table;
+}
 
 -- jobs that a desk gives out stand
 pub given_stand : (d : Seen) (cells : List (Ty × Value)) (js : List Job) → AreJobs (now d) js → AreCovered cells js → JobsStand d (map (handed_out cells) js)
@@ -118,17 +136,27 @@ queued_copied : (d : Seen) (p : List (ℕ × Bool)) (copy : Option (List (Ty × 
 queued_copied d p None c = tt
 queued_copied d p (Some cells) c = c
 
-pub kept_queued : (d e : Seen) (copy : Option (List (Ty × Value))) (js : List HandedOut) → e ≡ record d { pending = e.pending } → OpenInvariant d copy js → OpenInvariant e copy js
-kept_queued d e copy js q k =
-    subst (λ (f : Seen). OpenInvariant f copy js) (sym q) (record { legal = k.legal; copied = queued_copied d e.pending copy k.copied; jobs_stand = queued_stand d e.pending js k.jobs_stand })
+pub kept_queued : {table : List Declared} → (d e : Seen) (copy : Option (List (Ty × Value))) (ks : List KeptJob) → e ≡ record d { pending = e.pending } → OpenInvariant d copy ks table → OpenInvariant e copy ks table
+kept_queued {table = table} d e copy ks q k =
+    subst (λ (f : Seen). OpenInvariant f copy ks table) (sym q)
+    (record { legal = k.legal; copied = queued_copied d e.pending copy k.copied; jobs_stand = queued_stand d e.pending (map job_kept ks) k.jobs_stand; have_stores = k.have_stores; same_table = k.same_table })
 
-pub kept_pending : (d e : Seen) (p : List (ℕ × Bool)) (copy : Option (List (Ty × Value))) (js : List HandedOut) → e ≡ record d { pending = p } → OpenInvariant d copy js → OpenInvariant e copy js
-kept_pending d e p copy js q k =
-    subst (λ (f : Seen). OpenInvariant f copy js) (sym q) (record { legal = k.legal; copied = queued_copied d p copy k.copied; jobs_stand = queued_stand d p js k.jobs_stand })
+pub kept_pending : {table : List Declared} → (d e : Seen) (p : List (ℕ × Bool)) (copy : Option (List (Ty × Value))) (ks : List KeptJob) → e ≡ record d { pending = p } → OpenInvariant d copy ks table → OpenInvariant e copy ks table
+kept_pending {table = table} d e p copy ks q k =
+    subst (λ (f : Seen). OpenInvariant f copy ks table) (sym q)
+    (record { legal = k.legal; copied = queued_copied d p copy k.copied; jobs_stand = queued_stand d p (map job_kept ks) k.jobs_stand; have_stores = k.have_stores; same_table = k.same_table })
 
--- with more jobs that stand
-pub kept_more : (d e : Seen) (copy : Option (List (Ty × Value))) (js ks : List HandedOut) → e ≡ record d { pending = e.pending } → JobsStand d ks → OpenInvariant d copy js → OpenInvariant e copy (js ++ ks)
-kept_more d e copy js ks q s k = kept_queued d e copy (js ++ ks) q (record { legal = k.legal; copied = k.copied; jobs_stand = stand_append d js ks k.jobs_stand s })
+-- with more jobs that stand, where each that needs its store has it
+pub kept_more : {A E : Type 0} {table : List Declared} → (d e : Seen) (copy : Option (List (Ty × Value))) (ks ls ms : List KeptJob) (r : Result A E) → e ≡ record d { pending = e.pending } → JobsStand d (map job_kept ls)
+    → OnOk r (map job_kept ms ≡ map job_kept ks ++ map job_kept ls) → OnErr r (map job_kept ms ≡ map job_kept ks) → HaveStores (now e).waiters ms → OpenInvariant d copy ks table → OpenInvariant e copy ms table
+kept_more {A = A} {E = E} {table = table} d e copy ks ls ms r q s ok err h k = by r ok err (kept_queued d e copy ks q k)
+  where
+    stand : JobsStand e (map job_kept ls)
+    stand = subst (λ (f : Seen). JobsStand f (map job_kept ls)) (sym q) (queued_stand d e.pending (map job_kept ls) s)
+
+    by : (r : Result A E) → OnOk r (map job_kept ms ≡ map job_kept ks ++ map job_kept ls) → OnErr r (map job_kept ms ≡ map job_kept ks) → OpenInvariant e copy ks table → OpenInvariant e copy ms table
+    by (Ok x) p n i = record { legal = i.legal; copied = i.copied; jobs_stand = subst (JobsStand e) (sym p) (stand_append e (map job_kept ks) (map job_kept ls) i.jobs_stand stand); have_stores = h; same_table = i.same_table }
+    by (Err x) p n i = record { legal = i.legal; copied = i.copied; jobs_stand = subst (JobsStand e) (sym n) i.jobs_stand; have_stores = h; same_table = i.same_table }
 
 -- settling
 whats_table : (d : Seen) (client : ℕ) (ws : List What) → (with_whats d client ws).table ≡ d.table
@@ -158,26 +186,26 @@ submitted_grown : (d e : Seen) (b : Block) (r : Result ℕ SubmitError) → IfOk
 submitted_grown d e b (Ok t) p q legal = (grown_next d e 0 (Submitted t b) p legal, ap (λ s. (now s).store) p ∙ submitted_store d 0 t b)
 submitted_grown d e b (Err x) p q legal = (grown_same d e q legal, ap (λ s. (now s).store) q)
 
-pub kept_submitted : (d e : Seen) (copy : Option (List (Ty × Value))) (js : List HandedOut) (b : Block) (r : Result ℕ SubmitError) → IfOk r (λ t. e ≡ with_event d (event 0 (Submitted t b))) → OnErr r (e ≡ d)
-    → IsLegal e.table e.history → OpenInvariant d copy js → OpenInvariant e copy js
-kept_submitted d e copy js b r p q legal k = let g = submitted_grown d e b r p q legal in kept_grown d e copy js g.0 g.1 k
+pub kept_submitted : {table : List Declared} → (d e : Seen) (copy : Option (List (Ty × Value))) (ks : List KeptJob) (b : Block) (r : Result ℕ SubmitError) → IfOk r (λ t. e ≡ with_event d (event 0 (Submitted t b))) → OnErr r (e ≡ d)
+    → IsLegal e.table e.history → OpenInvariant d copy ks table → OpenInvariant e copy ks table
+kept_submitted d e copy ks b r p q legal k = let g = submitted_grown d e b r p q legal in kept_grown d e copy ks g.0 g.1 k
 
 cancelled_grown : (d e : Seen) (t : ℕ) (r : Result (Unit {0}) CancelError) → OnOk r (e ≡ with_event d (event 0 (Cancelled t))) → OnErr r (e ≡ d) → IsLegal e.table e.history
     → HasGrown d e × ((now e).store ≡ (now d).store)
 cancelled_grown d e t (Ok x) p q legal = (grown_next d e 0 (Cancelled t) p legal, ap (λ s. (now s).store) p ∙ cancelled_store d 0 t)
 cancelled_grown d e t (Err x) p q legal = (grown_same d e q legal, ap (λ s. (now s).store) q)
 
-pub kept_cancelled : (d e : Seen) (copy : Option (List (Ty × Value))) (js : List HandedOut) (t : ℕ) (r : Result (Unit {0}) CancelError) → OnOk r (e ≡ with_event d (event 0 (Cancelled t))) → OnErr r (e ≡ d)
-    → IsLegal e.table e.history → OpenInvariant d copy js → OpenInvariant e copy js
-kept_cancelled d e copy js t r p q legal k = let g = cancelled_grown d e t r p q legal in kept_grown d e copy js g.0 g.1 k
+pub kept_cancelled : {table : List Declared} → (d e : Seen) (copy : Option (List (Ty × Value))) (ks : List KeptJob) (t : ℕ) (r : Result (Unit {0}) CancelError) → OnOk r (e ≡ with_event d (event 0 (Cancelled t))) → OnErr r (e ≡ d)
+    → IsLegal e.table e.history → OpenInvariant d copy ks table → OpenInvariant e copy ks table
+kept_cancelled d e copy ks t r p q legal k = let g = cancelled_grown d e t r p q legal in kept_grown d e copy ks g.0 g.1 k
 
 finished_grown : (d e : Seen) (t : ℕ) (r : Result Finish FinishError) → IfOk r (λ f. e ≡ with_event d (event 0 (Finished t f.verdict f.applied.first_new f.stale))) → OnErr r (e ≡ d) → IsLegal e.table e.history → HasGrown d e
 finished_grown d e t (Ok f) p q legal = grown_next d e 0 (Finished t f.verdict f.applied.first_new f.stale) p legal
 finished_grown d e t (Err x) p q legal = grown_same d e q legal
 
-pub kept_finished : (d e : Seen) (copy : Option (List (Ty × Value))) (js : List HandedOut) (t : ℕ) (r : Result Finish FinishError)
-    → IfOk r (λ f. e ≡ with_event d (event 0 (Finished t f.verdict f.applied.first_new f.stale))) → OnErr r (e ≡ d) → IsLegal e.table e.history → OpenInvariant d copy js → OpenInvariant e None js
-kept_finished d e copy js t r p q legal k = kept_without d e copy js (finished_grown d e t r p q legal) k
+pub kept_finished : {table : List Declared} → (d e : Seen) (copy : Option (List (Ty × Value))) (ks : List KeptJob) (t : ℕ) (r : Result Finish FinishError)
+    → IfOk r (λ f. e ≡ with_event d (event 0 (Finished t f.verdict f.applied.first_new f.stale))) → OnErr r (e ≡ d) → IsLegal e.table e.history → OpenInvariant d copy ks table → OpenInvariant e None ks table
+kept_finished d e copy ks t r p q legal k = kept_without d e copy ks (finished_grown d e t r p q legal) k
 
 stopped_grown : (d e : Seen) (w : SettleWhy) (f n : ℕ) → StopTold w 0 (called_back d) e f n → IsLegal e.table e.history → HasGrown d e
 stopped_grown d e HistoryFull f n s legal = grown_whats d e 0 (slow_settle (called_back d)) s.0.grown legal
@@ -188,9 +216,9 @@ settled_grown : (d e : Seen) (r : Result Settled SettleStop) → IfOk r (λ s. H
 settled_grown d e (Ok s) p q legal = grown_whats d e 0 (slow_settle (called_back d)) p.grown legal
 settled_grown d e (Err s) p q legal = stopped_grown d e s.why s.finished s.evaluations q legal
 
-pub kept_settled : (d e : Seen) (copy : Option (List (Ty × Value))) (js : List HandedOut) (r : Result Settled SettleStop) → IfOk r (λ s. HasSettled 0 (called_back d) e s.finished s.evaluations None)
-    → IfErr r (λ s. StopTold s.why 0 (called_back d) e s.finished s.evaluations) → IsLegal e.table e.history → OpenInvariant d copy js → OpenInvariant e None js
-kept_settled d e copy js r p q legal k = kept_without d e copy js (settled_grown d e r p q legal) k
+pub kept_settled : {table : List Declared} → (d e : Seen) (copy : Option (List (Ty × Value))) (ks : List KeptJob) (r : Result Settled SettleStop) → IfOk r (λ s. HasSettled 0 (called_back d) e s.finished s.evaluations None)
+    → IfErr r (λ s. StopTold s.why 0 (called_back d) e s.finished s.evaluations) → IsLegal e.table e.history → OpenInvariant d copy ks table → OpenInvariant e None ks table
+kept_settled d e copy ks r p q legal k = kept_without d e copy ks (settled_grown d e r p q legal) k
 
 -- what settling printed, by what it did
 pub settled_told : (d e : Seen) (f n : ℕ) → HasSettled 0 d e f n None → settled_line f n ≡ settle_text (slow_settle d) (slow_stop d)

@@ -94,7 +94,7 @@ removed_rising : (t : ℕ) (es : List Entry) → IsRising (tickets es) → IsRis
 removed_rising t es r = subst IsRising (sym (tickets_without t es)) (delete_rising t (tickets es) r)
 
 -- ---- many tickets more
-weaker : (j k : ℕ) (ts : List ℕ) → j ≤ k → RisesAbove k ts → RisesAbove j ts
+pub weaker : (j k : ℕ) (ts : List ℕ) → j ≤ k → RisesAbove k ts → RisesAbove j ts
 weaker j k [] l r = tt
 weaker j k (t ∷ ts) l r = let m : k < t = r.0 in (omega arith, r.1)
 

@@ -13,7 +13,7 @@ use Rattle.stm_history.specs.SlowDesk.{Waiter, Slow, verdict_on, is_blocks, is_c
 use Rattle.stm_history.specs.SlowSettle.{lowest, is_due, ends, can_end, installing, ending, next_of, next_what, has_cells, settle_on, settling}
 use Rattle.stm_desk.specs.Seen.{Seen, now, with_event}
 use Rattle.stm_desk.specs.Settling.{with_whats}
-use Rattle.stm_console.specs.declared.jobs.HandedOut.{HandedOut}
+use Rattle.stm_console.specs.OpenDesk.{HandedOut}
 use Rattle.stm_console.proofs.StandingDesk.{Stands, stands_event, state_later}
 
 -- ---- the lowest waiting block of a test

@@ -56,7 +56,7 @@ nothing_left : (a : Bool) → false ≡ (not a && false)
 nothing_left true = refl
 nothing_left false = refl
 
-out_without : (t u : ℕ) (es : List Entry) → is_out u (without_ticket t es) ≡ (not (nat_eq u t) && is_out u es)
+pub out_without : (t u : ℕ) (es : List Entry) → is_out u (without_ticket t es) ≡ (not (nat_eq u t) && is_out u es)
 out_without t u [] = nothing_left (nat_eq u t)
 out_without t u (e ∷ es) = without_step (nat_eq t e.0) t u e es (without_ticket t es) refl (out_without t u es)
 
@@ -83,11 +83,11 @@ marked_absent_step : (b : Bool) (out : Bool) (e : Entry) (es fs : List Entry) �
 marked_absent_step true out e es fs h q = absurd cc
 marked_absent_step false out e es fs h q = ap (λ (gs : List Entry). e ∷ gs) q
 
-left_false : (a b : Bool) → (a || b) ≡ false → a ≡ false
+pub left_false : (a b : Bool) → (a || b) ≡ false → a ≡ false
 left_false true b h = absurd cc
 left_false false b h = refl
 
-right_false : (a b : Bool) → (a || b) ≡ false → b ≡ false
+pub right_false : (a b : Bool) → (a || b) ≡ false → b ≡ false
 right_false true b h = absurd cc
 right_false false b h = h
 
@@ -163,7 +163,7 @@ none_by : (o : Bool) (f : Entry) (es : List Entry) → f.1 ≡ o → (first_queu
 none_by true f es e more g = queued_cons f es ∙ ap (λ (o : Bool). cond (not o) (f.0 ∷ queued es) (queued es)) e ∙ more g
 none_by false f es e more g = absurd cc
 
-none_queued : (es : List Entry) → first_queued es ≡ None → queued es ≡ []
+pub none_queued : (es : List Entry) → first_queued es ≡ None → queued es ≡ []
 none_queued [] h = refl
 none_queued (f ∷ es) h = none_by f.1 f es refl (none_queued es) h
 
@@ -184,7 +184,7 @@ sent_none (suc n) u es h = ap (λ (o : Option ℕ). is_out u (sent n (sent_out o
 none_taken : (n u : ℕ) (es : List Entry) → first_queued es ≡ None → is_out u (sent n es) ≡ (member u (take n (queued es)) || is_out u es)
 none_taken n u es h = sent_none n u es h ∙ sym (ap (λ (ts : List ℕ). member u ts || is_out u es) (take_none n (queued es) (none_queued es h)))
 
-first_sent : (u t : ℕ) (es : List Entry) → IsRising (tickets es) → first_queued es ≡ Some t → (queued es ≡ t ∷ queued (marked t true es)) × (is_out u (marked t true es) ≡ (nat_eq u t || is_out u es))
+pub first_sent : (u t : ℕ) (es : List Entry) → IsRising (tickets es) → first_queued es ≡ Some t → (queued es ≡ t ∷ queued (marked t true es)) × (is_out u (marked t true es) ≡ (nat_eq u t || is_out u es))
 first_sent u t [] r h = absurd cc
 first_sent u t (f ∷ es) r h = let s = sent_first u t f es r h in (s.front, s.out)
 

@@ -17,7 +17,6 @@ use Rattle.stm_console.specs.declared.command.Command.{Command}
 use Rattle.stm_console.specs.declared.command.Command.TheVariants.{Tvar, Submit, Take, Deliver, Handback, Eval, Finish, Cancel, Settle}
 use Rattle.stm_console.specs.declared.console.Console.{Console}
 use Rattle.stm_console.specs.declared.console.Console.TheVariants.{Declaring, Open}
-use Rattle.stm_console.specs.declared.jobs.HandedOut.{HandedOut}
 use Rattle.stm_console.specs.declared.refusal.Refusal.{Refusal}
 use Rattle.stm_console.specs.Arguments.{number_argument, after_number, after_nothing}
 use Rattle.stm_console.specs.Blocks.{compiled_block, after_submit, submit_state}
@@ -27,7 +26,7 @@ use Rattle.stm_console.specs.Declaring.{variable_of, with_variable, tvar_state}
 use Rattle.stm_console.specs.Delivering.{after_take, take_state, deliver_state, handback_state, eval_state}
 use Rattle.stm_console.specs.Finishing.{finish_state, cancel_state, settle_state}
 use Rattle.stm_console.specs.LineClass.{LineClass, TooLong, Silent, NotAscii, Words, line_class}
-use Rattle.stm_console.specs.OpenDesk.{OpenDesk}
+use Rattle.stm_console.specs.OpenDesk.{HandedOut, OpenDesk}
 use Rattle.stm_console.specs.Laws.{state_after_lines}
 use Rattle.stm_console.proofs.DeliveredJobs.{take_stands, delivered_stands, evaluated_stands}
 use Rattle.stm_console.proofs.DeskMoves.{submitted_stands, finished_stands, cancelled_stands}

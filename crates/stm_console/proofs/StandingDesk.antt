@@ -15,7 +15,7 @@ use Rattle.stm_history.specs.Machine.{event}
 use Rattle.stm_history.specs.SlowDesk.{Waiter, Slow, find_waiter, after, Allows, AllowsEvent, initial_state, state_from, state, LegalFrom, IsLegal, max_events}
 use Rattle.stm_history.proofs.Rising.{tickets_rise}
 use Rattle.stm_desk.specs.Seen.{Seen, now, is_full, pending_after, with_event}
-use Rattle.stm_console.specs.declared.jobs.HandedOut.{HandedOut}
+use Rattle.stm_console.specs.OpenDesk.{HandedOut}
 use Rattle.stm_console.proofs.KeptQueue.{QueueKept, kept_event, kept_marks}
 
 -- a job is of a block that waited when some of the events had happened

@@ -1,16 +1,16 @@
 -- What clap answers to words.
 use Rattle.std.proofs.Common.{bytes_eq, ◌≡◌, ◌≤◌, ℕ, Bool, true, false, List, [], ◌∷◌, ◌++◌, ◌&&◌, inl, inr, codes, refl, ap, sym, ◌∙◌, subst, cond, arith, Option, Some, None}
-use Rattle.std.specs.Prelude.{Ok, Err, ◌≢◌, IfSome, ◌⊎◌, nat_le, option_and_then}
+use Rattle.std.specs.Prelude.{Ok, Err, ◌≢◌, IfSome, ◌⊎◌, nat_le, option_and_then, unwrap_or}
 use Rattle.std.specs.Io.KnownBytes.{Appends, Keeps}
 use Rattle.std.proofs.KnownBytes.{Appends-kept, Appends-nil}
 use Rattle.std.specs.Str.Parse.{ParsesUnsigned, digits_value, without_leading_plus}
-use Rattle.clap.specs.Matches.{ReadsOne, one_text}
+use Rattle.clap.specs.Matches.{ReadsOne, first_value, one_text}
 use Rattle.clap.specs.ValueTests.{is_unsigned_in}
 use Rattle.clap.specs.Walk.{Row, one_of, rows_of}
 use Rattle.clap.specs.declared.builder.value_parser.ValueParser.TheVariants.{Unsigned}
 use Rattle.clap.specs.declared.parser.matches.Found.{Found}
 use Rattle.clap.proofs.ValueTestLemmas.{accepts-Accepts, Accepts-accepts}
-use Rattle.clap.proofs.WalkLemmas.{one_text-rows}
+use Rattle.clap.proofs.WalkLemmas.{first_value-rows, one_text-rows}
 use Rattle.std.proofs.lemmas.Bool.{false≢true, leb-true}
 use Rattle.std.specs.List.{list_all}
 use Rattle.std.proofs.lemmas.Slice.Eq.{bytes_eq-Decides}
@@ -24,13 +24,13 @@ use Rattle.clap.proofs.OnLiterals.{clap_on_literals}
 use Rattle.std.specs.Prelude.{Result}
 use Rattle.stm_console.specs.Checking.{BeginsFindingText}
 use Rattle.stm_console.specs.Console.{console_text}
-use Rattle.stm_console.specs.CommandLine.{answers_of, are_mistakes, asks_for_run, asks_for_version, command_line, is_mistake, is_version, number_of_text, number_within, options_said, request_of, request_said, IfRun, IfStorm}
+use Rattle.stm_console.specs.CommandLine.{answers_of, are_mistakes, asks_for_run, asks_for_version, command_line, is_mistake, is_version, number_of_text, number_within, explore_options_said, flag_said, options_said, request_of, request_said, AreExploreOptions, IfExplore, IfRun, IfStorm}
 use Rattle.stm_console.specs.Laws.{VersionsAreAskedFor}
 use Rattle.stm_console.specs.Options.{AreRunOptions, default_options}
 use Rattle.stm_console.specs.declared.options.Options.{Options}
 use Rattle.stm_terms.specs.Texts.{IsPrefixOf}
 use Rattle.stm_console.specs.declared.command_line.Request.{Request}
-use Rattle.stm_console.specs.declared.command_line.Request.TheVariants.{Run, Storm, Check}
+use Rattle.stm_console.specs.declared.command_line.Request.TheVariants.{Run, Storm, Explore, Check}
 
 -- clap's answers to any words are exact
 exact : is_simple_and_free command_line ≡ true
@@ -143,6 +143,11 @@ number_read {E = E} gives f name r parses none some = go (one_of name (rows_of f
     go (Some text) (Some x) is none some = read_number E text x (parses text (Ok x) (some text is))
     go (Some text) None is none some = let failed = some text is in unread_number E text failed.0 (parses text (Err failed.0) failed.1)
 
+-- what the getter reads of an option that is said or not
+pub flag_read : (f : Found) (name : List ℕ) (o : Option (List ℕ)) (text : List ℕ) → o ≡ first_value f name → text ≡ unwrap_or o []
+    → bytes_eq text (codes "true") ≡ flag_said name (rows_of f)
+flag_read f name o text e is = ap (λ t. bytes_eq t (codes "true")) is ∙ ap (λ t. bytes_eq (unwrap_or t []) (codes "true")) (e ∙ first_value-rows f name)
+
 -- ---- the options of a run
 
 within : (low high otherwise : ℕ) (o : Option ℕ) → low ≤ otherwise → otherwise ≤ high
@@ -174,25 +179,36 @@ default_in_range = record {
   few_events = omega arith;
 }
 
+explored_in_range : (rows : List Row) → AreExploreOptions (explore_options_said rows)
+explored_in_range rows = record {
+  some_state = (within 1 4294967295 1000000 (number (codes "max-states") rows) (omega arith) (omega arith)).0;
+  few_states = (within 1 4294967295 1000000 (number (codes "max-states") rows) (omega arith) (omega arith)).1;
+}
+
 abbrev HasOptionsInRange : Request → Type 0
-HasOptionsInRange r = IfRun r AreRunOptions × IfStorm r AreRunOptions
+HasOptionsInRange r = IfRun r AreRunOptions × IfStorm r AreRunOptions × IfExplore r AreExploreOptions
 
 subcommand_in_range : (name : List ℕ) (rows : List Row) → HasOptionsInRange (request_said (Some (name, rows)))
-subcommand_in_range name rows = go (bytes_eq name (codes "check")) (bytes_eq name (codes "storm"))
+subcommand_in_range name rows = go (bytes_eq name (codes "check")) (bytes_eq name (codes "storm")) (bytes_eq name (codes "explore"))
   where
-    go : (b c : Bool) → HasOptionsInRange (cond b Check (cond c (Storm (options_said rows)) (Run (options_said rows))))
-    go true c = (tt, tt)
-    go false true = (tt, said_in_range rows)
-    go false false = (said_in_range rows, tt)
+    go : (b c d : Bool) → HasOptionsInRange (cond b Check (cond c (Storm (options_said rows)) (cond d (Explore (explore_options_said rows)) (Run (options_said rows)))))
+    go true c d = (tt, tt, tt)
+    go false true d = (tt, said_in_range rows, tt)
+    go false false true = (tt, tt, explored_in_range rows)
+    go false false false = (said_in_range rows, tt, tt)
 
 in_range : (p : Option (List ℕ × List Row)) → HasOptionsInRange (request_said p)
-in_range None = (default_in_range, tt)
+in_range None = (default_in_range, tt, tt)
 in_range (Some p) = subcommand_in_range p.0 p.1
 
 -- whatever the words are
 pub options_in_range : (words : List (List ℕ)) → IfRun (request_of words) AreRunOptions × IfStorm (request_of words) AreRunOptions
 unfolding request_of
-options_in_range words = in_range (subcommand_of command_line words)
+options_in_range words = let all = in_range (subcommand_of command_line words) in (all.0, all.1)
+
+pub explore_options_in_range : (words : List (List ℕ)) → IfExplore (request_of words) AreExploreOptions
+unfolding request_of
+explore_options_in_range words = (in_range (subcommand_of command_line words)).2
 
 -- ---- `check`
 
@@ -258,6 +274,7 @@ pub run_unwritten : (r : Request) (remaining old new : Option (List ℕ)) (n : �
     → IfRun r (λ o. n ≢ 0 → IfSome remaining (λ input. (front : List ℕ) × IsPrefixOf front (console_text o.max_events input) × Appends old new front))
 run_unwritten (Run o) remaining old new n k = λ _. run_part remaining old new o.max_events k
 run_unwritten (Storm o) remaining old new n k = tt
+run_unwritten (Explore o) remaining old new n k = tt
 run_unwritten Check remaining old new n k = tt
 
 -- and of what a check finds

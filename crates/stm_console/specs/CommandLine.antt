@@ -1,11 +1,12 @@
 -- What the words of a command line ask for. The first is the program's name.
-use Rattle.std.specs.Prelude.{ℕ, Bool, true, false, List, [], ◌∷◌, ◌++◌, ◌&&◌, Option, Some, None, if◌then◌else◌, codes, nat_le, option_and_then, ⊤, pos}
+use Rattle.std.specs.Prelude.{ℕ, Bool, true, false, List, [], ◌∷◌, ◌++◌, ◌&&◌, Option, Some, None, if◌then◌else◌, codes, nat_le, option_and_then, unwrap_or, ◌≤◌, ⊤, pos}
 use Rattle.std.specs.List.{list_all}
 use Rattle.std.specs.Str.{bytes_eq}
 use Rattle.std.specs.Str.Parse.{digits_value, without_leading_plus}
-use Rattle.clap.specs.Walk.{Row, Rule, one_of}
+use Rattle.clap.specs.Walk.{Row, Rule, first_of, one_of}
 use Rattle.clap.specs.ValueTests.{is_unsigned_in}
 use Rattle.clap.specs.Words.{App, Kinds, fault_of, new_app, new_rule, subcommand_of, with_rule, with_subcommand}
+use Rattle.clap.specs.declared.builder.action.ArgAction.TheVariants.{SetTrue}
 use Rattle.clap.specs.declared.builder.value_parser.ValueParser.TheVariants.{Signed}
 use Rattle.clap.specs.declared.error.kind.ErrorKind.{ErrorKind}
 use Rattle.clap.specs.declared.error.kind.ErrorKind.TheVariants.{DisplayHelp, DisplayVersion}
@@ -13,7 +14,8 @@ use Rattle.stm_eval.specs.Limits.{max_levels}
 use Rattle.stm_history.specs.SlowDesk.{max_events}
 use Rattle.stm_pool.specs.Limits.{max_workers}
 use Rattle.stm_console.specs.declared.command_line.Request.{Request}
-use Rattle.stm_console.specs.declared.command_line.Request.TheVariants.{Run, Storm, Check}
+use Rattle.stm_console.specs.declared.command_line.Request.TheVariants.{Run, Storm, Explore, Check}
+use Rattle.stm_console.specs.declared.explore_options.ExploreOptions.{ExploreOptions}
 use Rattle.stm_console.specs.declared.options.Options.{Options}
 use Rattle.stm_console.specs.declared.version.TheConstants.{VERSION}
 use Rattle.stm_console.specs.Options.{default_options}
@@ -25,7 +27,7 @@ asks_for_run (name ∷ []) = true
 asks_for_run (name ∷ word ∷ []) = bytes_eq word (codes "run")
 asks_for_run (name ∷ word ∷ next ∷ rest) = false
 
--- ---- what the program takes: `run` and `storm` with their options, `check`, and what clap adds for help and the version
+-- ---- what the program takes: `run`, `storm` and `explore` with their options, `check`, and what clap adds for help and the version
 
 -- an option that takes a number from low to high, and its default in digits
 abbrev pub number_option : List ℕ → ℕ → ℕ → List ℕ → Rule
@@ -51,6 +53,16 @@ run_command = with_options (new_app (codes "run"))
 abbrev pub storm_command : App
 storm_command = with_options (new_app (codes "storm"))
 
+-- an option that takes no number: it is said or not
+abbrev pub flag_option : List ℕ → Rule
+flag_option name = record (new_rule name) { long = Some name; action = Some SetTrue }
+
+-- `explore` with its options
+abbrev pub explore_command : App
+explore_command = with_rule (with_rule (new_app (codes "explore"))
+    (number_option (codes "max-states") 1 4294967295 (codes "1000000")))
+    (flag_option (codes "history"))
+
 -- `check`, which takes no option
 abbrev pub check_command : App
 check_command = new_app (codes "check")
@@ -61,12 +73,13 @@ with_version command = record command { top = record command.top { has_version =
 
 -- the program with all its commands
 abbrev pub command_line : App
-command_line = with_subcommand (with_subcommand (with_subcommand (with_version (new_app (codes "stmdesk")))
-    run_command.top) storm_command.top) check_command.top
+command_line = with_subcommand (with_subcommand (with_subcommand (with_subcommand (with_version (new_app (codes "stmdesk")))
+    run_command.top) storm_command.top) explore_command.top) check_command.top
 
 -- ---- which words are taken
 
--- what clap has to say of words in place of what they ask for; nothing where they ask for a run, a storm or a check
+-- what clap has to say of words in place of what they ask for; nothing where they ask for a run, a storm, an exploration or a
+-- check
 unfoldable pub answers_of : List (List ℕ) → Kinds
 answers_of words = fault_of command_line words
 
@@ -131,15 +144,27 @@ options_said rows = record {
   max_events = number_said (codes "max-events") 0 max_events max_events rows;
 }
 
+-- whether an option is said that takes no number: clap keeps `true` or `false` of it
+abbrev pub flag_said : List ℕ → List Row → Bool
+flag_said name rows = bytes_eq (unwrap_or (first_of name rows) []) (codes "true")
+
+-- the options that are said for an exploration, with the default for the number of states
+abbrev pub explore_options_said : List Row → ExploreOptions
+explore_options_said rows = record {
+  max_states = number_said (codes "max-states") 1 4294967295 1000000 rows;
+  history = flag_said (codes "history") rows;
+}
+
 -- a subcommand, by its name and what is said for its options; without one a run
 abbrev pub request_said : Option (List ℕ × List Row) → Request
 request_said None = Run default_options
 request_said (Some p) =
     if bytes_eq p.0 (codes "check") then Check
     else if bytes_eq p.0 (codes "storm") then Storm (options_said p.1)
+    else if bytes_eq p.0 (codes "explore") then Explore (explore_options_said p.1)
     else Run (options_said p.1)
 
--- what words ask for that clap takes: `check`, or a run or a storm with its options
+-- what words ask for that clap takes: `check`, or a run, a storm or an exploration with its options
 unfoldable pub request_of : List (List ℕ) → Request
 request_of words = request_said (subcommand_of command_line words)
 
@@ -147,16 +172,31 @@ request_of words = request_said (subcommand_of command_line words)
 abbrev pub IfRun : Request → (Options → Type 0) → Type 0
 IfRun (Run options) P = P options
 IfRun (Storm options) P = ⊤
+IfRun (Explore options) P = ⊤
 IfRun Check P = ⊤
 
 -- where it is a storm, this holds of its options
 abbrev pub IfStorm : Request → (Options → Type 0) → Type 0
 IfStorm (Run options) P = ⊤
 IfStorm (Storm options) P = P options
+IfStorm (Explore options) P = ⊤
 IfStorm Check P = ⊤
 
--- it judges a history: a check that of the reader, a storm that of its clients
+-- where it is an exploration, this holds of its options
+abbrev pub IfExplore : Request → (ExploreOptions → Type 0) → Type 0
+IfExplore (Run options) P = ⊤
+IfExplore (Storm options) P = ⊤
+IfExplore (Explore options) P = P options
+IfExplore Check P = ⊤
+
+-- an exploration may keep some states, and no more than 32 bits count
+pub record AreExploreOptions (o : ExploreOptions) : Type 0 where
+  pub some_state : 1 ≤ o.max_states
+  pub few_states : o.max_states ≤ 4294967295
+
+-- it judges: a check the history of the reader, a storm that of its clients, and an exploration all that its clients may do
 abbrev pub judges_history : Request → Bool
 judges_history (Run options) = false
 judges_history (Storm options) = true
+judges_history (Explore options) = true
 judges_history Check = true

@@ -19,9 +19,8 @@ use Rattle.stm_history.specs.Refusals.{install_first}
 use Rattle.stm_history.specs.SlowDesk.{Waiter, Slow, find_waiter, max_waiting}
 use Rattle.stm_desk.specs.Refusals.{left_by}
 use Rattle.stm_desk.specs.Seen.{Seen, now, is_full, with_event}
-use Rattle.stm_console.specs.declared.jobs.HandedOut.{HandedOut}
 use Rattle.stm_console.specs.Arguments.{number_argument, with_number, after_number, with_nothing, after_nothing}
-use Rattle.stm_console.specs.OpenDesk.{OpenDesk}
+use Rattle.stm_console.specs.OpenDesk.{HandedOut, OpenDesk}
 use Rattle.stm_console.specs.Refusals.{refused, deliver_error_text}
 
 -- ---- take

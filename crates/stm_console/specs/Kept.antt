@@ -1,9 +1,10 @@
 -- What the type of an open desk keeps.
-use Rattle.std.specs.Prelude.{◌≡◌, List, [], ◌∷◌, ◌++◌, Option, Some, None, Result, if◌then◌else◌}
+use Rattle.std.specs.Prelude.{◌≡◌, List, [], ◌∷◌, ◌++◌, map, Option, Some, None, Result, if◌then◌else◌}
 use Rattle.std.specs.declared.alloc.AllocError.{AllocError}
 use Rattle.stm_terms.specs.declared.kinds.Ty.{Ty}
 use Rattle.stm_terms.specs.declared.values.Value.{Value}
 use Rattle.stm_store.specs.Cells.{Covers, plains}
+use Rattle.stm_store.specs.Tables.{Declared}
 use Rattle.stm_eval.specs.declared.job.Job.{Job}
 use Rattle.stm_eval.specs.declared.message.Evaluated.{Evaluated}
 use Rattle.stm_eval.specs.EvaluatedFields.{message_ticket, message_verdict}
@@ -13,15 +14,16 @@ use Rattle.stm_history.specs.declared.event.Event.{Event}
 use Rattle.stm_history.specs.declared.event.What.TheVariants.{Installed}
 use Rattle.stm_history.specs.JobsHandedOut.{block_at}
 use Rattle.stm_history.specs.Machine.{event}
-use Rattle.stm_history.specs.SlowDesk.{Waiter, IsLegal, is_current, state}
+use Rattle.stm_history.specs.SlowDesk.{Waiter, IsLegal, is_current, find_waiter, state}
 use Rattle.stm_pool.specs.Answers.{AnswersJob}
 use Rattle.stm_desk.specs.Refusals.{left_by}
 use Rattle.stm_desk.specs.Seen.{Seen, now, with_event}
-use Rattle.stm_console.specs.declared.jobs.HandedOut.{HandedOut}
+use Rattle.stm_console.specs.declared.jobs.KeptJob.{KeptJob}
 use Rattle.stm_console.specs.declared.jobs.Progress.{Progress}
 use Rattle.stm_console.specs.Delivering.{Delivered}
+use Rattle.stm_console.specs.OpenDesk.{HandedOut}
 
--- a job that is kept with the store at its `take`
+-- a job with the store at its `take`
 abbrev pub handed_out : List (Ty × Value) → Job → HandedOut
 handed_out store j = record { ticket = j.ticket; block = j.block; store = store }
 
@@ -39,16 +41,40 @@ abbrev pub JobsStand : Seen → List HandedOut → Type 0
 JobsStand d [] = Unit {0}
 JobsStand d (j ∷ js) = JobStands d j × JobsStand d js
 
+-- a kept job with the store at its `take`, whether or not that store is still kept
+abbrev pub job_kept : KeptJob → HandedOut
+job_kept k = record { ticket = k.ticket; block = k.block; store = k.at_take.value }
+
+-- the job has its store
+abbrev pub IsStored : KeptJob → Type 0
+IsStored k = k.store ≡ Some k.at_take.value
+
+-- each of the jobs does
+abbrev pub AreStored : List KeptJob → Type 0
+AreStored [] = Unit {0}
+AreStored (k ∷ ks) = IsStored k × AreStored ks
+
+-- the job has its store if its ticket is one of those that wait
+abbrev pub HasStore : List Waiter → KeptJob → Type 0
+HasStore ws k = (w : Waiter) → find_waiter k.ticket ws ≡ Some w → IsStored k
+
+-- each of the jobs does
+abbrev pub HaveStores : List Waiter → List KeptJob → Type 0
+HaveStores ws [] = Unit {0}
+HaveStores ws (k ∷ ks) = HasStore ws k × HaveStores ws ks
+
 -- the copy of the present store, if there is one
 abbrev pub IsPresentCopy : Seen → Option (List (Ty × Value)) → Type 0
 IsPresentCopy d None = Unit {0}
 IsPresentCopy d (Some cells) = cells ≡ plains (now d).store
 
 -- what the type of an open desk keeps
-pub record OpenInvariant (d : Seen) (copy : Option (List (Ty × Value))) (jobs : List HandedOut) : Type 0 where
+pub record OpenInvariant (d : Seen) (copy : Option (List (Ty × Value))) (jobs : List KeptJob) (prepared : List Declared) : Type 0 where
   pub legal : IsLegal d.table d.history
   pub copied : IsPresentCopy d copy
-  pub jobs_stand : JobsStand d jobs
+  pub jobs_stand : JobsStand d (map job_kept jobs)
+  pub have_stores : HaveStores (now d).waiters jobs
+  pub same_table : prepared ≡ d.table
 
 -- the desk has the same table and limit, and maybe more events
 pub record HasGrown (old new : Seen) : Type 0 where

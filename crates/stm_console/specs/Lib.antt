@@ -10,6 +10,12 @@ pub mod Declaring
 pub mod Delivering
 pub mod DueTickets
 pub mod ExitStatus
+pub mod ExploreEnd
+pub mod ExploreHistory
+pub mod ExploreScript
+pub mod ExploreStatus
+pub mod ExploreSteps
+pub mod ExploreText
 pub mod Finishing
 pub mod Laws
 pub mod LineClass
@@ -22,9 +28,13 @@ pub mod StormScript
 pub mod StormText
 -- The words inside, for what the code keeps between two steps, and for inputs that it takes in parts.
 pub mod Abstraction
+pub mod ExplorePlay
+pub mod ExploreReading
+pub mod ExploreWork
 pub mod Kept
 pub mod LentDesk
 pub mod LineReading
+pub mod Prepared
 pub mod ScriptReading
 pub mod StormEnd
 pub mod Streaming

@@ -1,12 +1,19 @@
 -- An open desk, as the console has it.
 use Rattle.std.specs.Prelude.{ℕ, List, []}
+use Rattle.stm_terms.specs.declared.kinds.Ty.{Ty}
+use Rattle.stm_terms.specs.declared.values.Value.{Value}
+use Rattle.stm_check.specs.TypedBlock.{Block}
 use Rattle.stm_store.specs.declared.cell.Cell.{Cell}
 use Rattle.stm_store.specs.Tables.{Declared}
 use Rattle.stm_desk.specs.Seen.{Seen, now}
-use Rattle.stm_console.specs.declared.jobs.HandedOut.{HandedOut}
 
--- the desk, and the jobs that were handed out on it, in the order of their numbers: each a ticket, its block, and the store
--- at its `take`
+-- a job that was handed out: a ticket, its block, and the store at its `take`
+pub record HandedOut : Type 0 where
+  pub ticket : ℕ
+  pub block : Block
+  pub store : List (Ty × Value)
+
+-- the desk, and the jobs that were handed out on it, in the order of their numbers
 pub record OpenDesk : Type 0 where
   pub desk : Seen
   pub jobs : List HandedOut

@@ -9,8 +9,8 @@ ghost use Rattle.stm_console.specs.Refusals.{told_refusal};
 
 use crate::refusal::Refusal;
 use std::alloc::Global;
-use stm_check::{Typed, check};
-use stm_parse::parse_block;
+use stm_check::{SharedBlock, Typed, check};
+use stm_parse::{ParseFault, parse_block};
 use stm_store::Table;
 
 /// The block of a text. The store that opens on the table has the variables that it names.
@@ -22,4 +22,16 @@ pub fn compile_block(alloc: Global, table: &Table, text: &str) -> Result<Typed, 
     let raw = parse_block(alloc, text)?;
     let block = check(alloc, table, raw)?;
     Ok(block)
+}
+
+/// The block of a text, where many may hold it.
+pub fn compile_shared(alloc: Global, table: &Table, text: &str) -> Result<SharedBlock, Refusal>
+    ensures block { AnswersAs told_refusal (λ b. b) result (compiled_block table.now text.now) }
+    ensures covered { IfOk result (λ b. Covers (plains (opened table.now)) b.uses) }
+{
+    let block = compile_block(alloc, table, text)?;
+    match SharedBlock::new(alloc, block) {
+        Ok(block) => Ok(block),
+        Err(_) => Err(Refusal::Parsing(ParseFault::NoMemory)),
+    }
 }

@@ -5,20 +5,22 @@ ghost use Rattle.clap.specs.Simple.{subcommand_rows_of};
 ghost use Rattle.clap.specs.Walk.{one_of, rows_of, rule_of};
 ghost use Rattle.clap.specs.Words.{app_of, found_of, new_app, with_subcommand, FailsBy};
 ghost use Rattle.clap.specs.declared.builder.command.Command.TheViews.{out-Command as fields_of};
-ghost use Rattle.stm_console.specs.CommandLine.{answers_of, asks_for_run, command_line, number_of_text, number_option, number_said, number_within, options_said, request_of, request_said, run_command, storm_command, with_options, with_version, IfRun, IfStorm};
+ghost use Rattle.stm_console.specs.CommandLine.{answers_of, asks_for_run, command_line, explore_command, explore_options_said, flag_option, flag_said, number_of_text, number_option, number_said, number_within, options_said, request_of, request_said, run_command, storm_command, with_options, with_version, AreExploreOptions, IfExplore, IfRun, IfStorm};
 ghost use Rattle.stm_console.specs.Options.{AreRunOptions};
 
+use crate::explore_options::ExploreOptions;
 use crate::options::Options;
 use crate::version::VERSION;
-use clap::{Arg, ArgMatches, Command, Error, value_parser};
+use clap::{Arg, ArgAction, ArgMatches, Command, Error, value_parser};
 use std::alloc::{AllocError, Global};
 use std::convert::AsStr;
 
-/// What words ask for: a run or a storm with these options, or a check of a history.
+/// What words ask for: a run, a storm or an exploration with these options, or a check of a history.
 #[derive(Clone, Copy, PartialEq, Eq, Debug)]
 pub enum Request {
     Run(Options),
     Storm(Options),
+    Explore(ExploreOptions),
     Check,
 }
 
@@ -33,6 +35,9 @@ command is given)";
 const STORM: &str =
     "Reads a script from standard input, runs each of its clients in its own thread on one shared desk, and prints the result";
 
+const EXPLORE: &str =
+    "Reads a script from standard input, searches every order of its clients' steps, and prints the first fault, if there is any";
+
 const CHECK: &str = "Reads a history from standard input and reports whether it is legal";
 
 const NEXT: &str = "\
@@ -44,10 +49,12 @@ Without a command stmdesk reads commands from standard input, as `stmdesk run` d
   cells 1
 
 `stmdesk run --help` describes the commands, each with an example, and the options; `stmdesk storm --help` describes the lines
-of a script, and `stmdesk check --help` what a check prints. Exit statuses: 0 success, 1 the input or the output failed, or a
-line of a script is wrong, 2 the arguments were refused, 3 a history isn't legal, 4 out of memory, or a thread didn't start.
+of a script, `stmdesk explore --help` those of an exploration and what it prints, and `stmdesk check --help` what a check
+prints. Exit statuses: 0 success, 1 the input or the output failed, or a line of a script is wrong, 2 the arguments were
+refused, 3 a history isn't legal, or an exploration found a fault or didn't end, 4 out of memory, or a thread didn't start.
 
-docs/CONSOLE.md describes the console, docs/LANGUAGE.md blocks, docs/HISTORY.md histories, and docs/STORM.md storms.";
+docs/CONSOLE.md describes the console, docs/LANGUAGE.md blocks, docs/HISTORY.md histories, docs/STORM.md storms, and
+docs/EXPLORE.md explorations.";
 
 const COMMANDS: &str = "\
 Commands on standard input, one per line. A line that begins with `--` is a comment.
@@ -117,6 +124,35 @@ depend on which thread comes first. The number of an option may begin with `+` o
 
 docs/STORM.md describes scripts in full.";
 
+const EXPLORATION: &str = "\
+A script on standard input, as for `stmdesk storm`, with invariants before the first section:
+  tvar NAME : TYPE = INIT  Declares a variable
+  always BLOCK             In every state the block has to commit with the result True; what it writes counts for nothing
+  never BLOCK              In every state the block has to retry
+  client                   Begins the section of the next client
+  submit BLOCK             Names the next block of the client; this is no step
+  finish K                 A step: finishes the block of the section's K-th `submit`, and waits while the block retries
+  cancel K                 Withdraws that block; this is no step, and a `finish K` after it is none
+  expect NAME VALUE        A step: the variable has to hold the value
+
+Each client does its steps in their order, and every interleaving of the clients is searched. Prints how many states and steps
+there are, how many states have ended, with the stores of the first ten, and then `right`, `incomplete` if there are more states
+than may be kept, or the first fault by the fewest steps: `broken line L` (an invariant), `missed line L` (an `expect`), or
+`deadlock`. A fault is followed by the order of the clients' steps that leads there, and by the line at which each client is.
+
+Example:
+  $ printf 'tvar x : Int = 0\\nalways do { a <- readTVar x; return (a < 2) }\\nclient\\nsubmit writeTVar x 1\\nfinish 1\\n' | stmdesk explore
+  states 2 steps 1
+  ended 1
+  #0 x : Int = 1
+  cells 1
+  right
+
+Statuses: 0 right, 1 a line is wrong (standard error has `stmdesk: script line N`), 3 a fault or incomplete. With `--history`
+the history of the order is printed instead, as `stmdesk check` and tools/timeline read it; without a fault nothing is.
+
+docs/EXPLORE.md describes explorations in full.";
+
 const FINDINGS: &str = "\
 Prints one line:
   legal N events   A desk can have accepted the N events; status 0
@@ -135,6 +171,10 @@ const WORKERS: &str = "How many threads evaluate blocks, from 1 to 64";
 const LEVELS: &str = "How many nested `orElse` may run both branches at the same time, from 0 to 8";
 
 const MAX_EVENTS: &str = "How many events the history may have, from 0 to 1048576";
+
+const MAX_STATES: &str = "How many states may be kept, from 1 to 4294967295";
+
+const HISTORY: &str = "Prints the history of the fault instead";
 
 /// Whether the words are those of a run with nothing else, so that clap need not be asked.
 fn is_plain_run<S: AsStr>(words: &[S]) -> bool
@@ -212,7 +252,39 @@ fn storm_words<'a>(alloc: Global) -> Result<Command<'a>, AllocError>
     with_options(alloc, "storm", STORM, SCRIPT)
 }
 
-/// The program with its version and the commands that take options: `run`, which is the default, and `storm`.
+/// An option that is said or not.
+fn flag_option<'a>(alloc: Global, name: &'a str, help: &'a str) -> Arg<'a>
+    ensures rule { rule_of result ≡ flag_option name.entry.now }
+    ensures local { result.global ≡ false }
+{
+    Arg::new(alloc, name)
+        .long(name)
+        .action(ArgAction::SetTrue)
+        .help(help)
+}
+
+/// `explore` with its options.
+fn explore_words<'a>(alloc: Global) -> Result<Command<'a>, AllocError>
+    ensures app { IfOk result (λ c. app_of c ≡ explore_command) }
+    ensures local { IfOk result (λ c. (fields_of c).has_globals ≡ false) }
+{
+    let max_states = number_option(
+        alloc,
+        "max-states",
+        1,
+        ExploreOptions::MAX_STATES,
+        "1000000",
+        MAX_STATES,
+    );
+    let history = flag_option(alloc, "history", HISTORY);
+    Command::new(alloc, "explore")
+        .about(EXPLORE)
+        .after_help(EXPLORATION)
+        .arg(max_states)?
+        .arg(history)
+}
+
+/// The program with its version and the commands that take the options of a run: `run`, which is the default, and `storm`.
 fn command_of_runs<'a>(alloc: Global) -> Result<Command<'a>, AllocError>
     ensures { IfOk result (λ c. app_of c
         ≡ with_subcommand
@@ -229,14 +301,25 @@ fn command_of_runs<'a>(alloc: Global) -> Result<Command<'a>, AllocError>
         .subcommand(storm)
 }
 
-/// What the program takes: `run`, `storm`, `check`, and what clap adds for help and the version.
+/// The same with `explore`.
+fn command_of_scripts<'a>(alloc: Global) -> Result<Command<'a>, AllocError>
+    ensures { IfOk result (λ c. app_of c
+        ≡ with_subcommand (with_subcommand
+        (with_subcommand (with_version (new_app (codes "stmdesk"))) run_command.top)
+        storm_command.top) explore_command.top) }
+{
+    let explore = explore_words(alloc)?;
+    command_of_runs(alloc)?.subcommand(explore)
+}
+
+/// What the program takes: `run`, `storm`, `explore`, `check`, and what clap adds for help and the version.
 fn command<'a>(alloc: Global) -> Result<Command<'a>, AllocError>
     ensures { IfOk result (λ c. app_of c ≡ command_line) }
 {
     let check = Command::new(alloc, "check")
         .about(CHECK)
         .after_help(FINDINGS);
-    command_of_runs(alloc)?.subcommand(check)
+    command_of_scripts(alloc)?.subcommand(check)
 }
 
 /// The number that was said for an option.
@@ -296,23 +379,52 @@ fn options_of(matches: &ArgMatches) -> Options
     }
 }
 
+/// Whether an option was said that takes no number.
+fn flag_of(matches: &ArgMatches, name: &str) -> bool
+    ensures { result ≡ flag_said name.now (rows_of (found_of matches.now)) }
+{
+    match matches.get_str(name) {
+        Some(text) => text == "true",
+        None => false,
+    }
+}
+
+/// The options of `explore`.
+fn explore_options_of(matches: &ArgMatches) -> ExploreOptions
+    ensures said { result ≡ explore_options_said (rows_of (found_of matches.now)) }
+    ensures range { AreExploreOptions result }
+{
+    ExploreOptions {
+        max_states: number_of(
+            matches,
+            "max-states",
+            1,
+            ExploreOptions::MAX_STATES,
+            ExploreOptions::STATES,
+        ),
+        history: flag_of(matches, "history"),
+    }
+}
+
 /// What is asked for by words that clap takes.
 fn request_of<'a>(matches: &ArgMatches<'a>) -> Request
     ensures said { result ≡ request_said (subcommand_rows_of matches.now) }
     ensures range { IfRun result AreRunOptions }
     ensures storm_range { IfStorm result AreRunOptions }
+    ensures explore_range { IfExplore result AreExploreOptions }
 {
     match matches.subcommand() {
         Some((name, inner)) => {
             if name == "check" {
                 return Request::Check;
             }
-            let options = options_of(inner);
             if name == "storm" {
-                Request::Storm(options)
-            } else {
-                Request::Run(options)
+                return Request::Storm(options_of(inner));
             }
+            if name == "explore" {
+                return Request::Explore(explore_options_of(inner));
+            }
+            Request::Run(options_of(inner))
         }
         None => Request::Run(Options::standard()),
     }
@@ -325,6 +437,7 @@ pub fn read_words<'a, S: AsStr>(alloc: Global, words: &'a [S]) -> Result<Request
     ensures request { IfOk result (λ r. r ≡ request_of (map S.text words.now)) }
     ensures range { IfOk result (λ r. IfRun r AreRunOptions) }
     ensures storm_range { IfOk result (λ r. IfStorm r AreRunOptions) }
+    ensures explore_range { IfOk result (λ r. IfExplore r AreExploreOptions) }
 {
     if is_plain_run(words) {
         return Ok(Request::Run(Options::standard()));

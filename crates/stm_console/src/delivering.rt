@@ -1,15 +1,16 @@
 //! `take`, `deliver`, `handback` and `eval`: blocks are handed out, evaluated, and their verdicts delivered.
 
-ghost use Rattle.std.specs.Prelude.{◌≡◌, ◌≤◌, ◌+◌, ◌++◌, map, length, string_bytes, OnOk, IfOk};
+ghost use Rattle.std.specs.Prelude.{◌≡◌, ◌≤◌, ◌+◌, ◌++◌, List, map, length, Some, option_map, string_bytes, OnOk, IfOk, IfSome};
 ghost use Rattle.std.specs.Option.{option_copied};
 ghost use Rattle.stm_terms.specs.Texts.{spaced, list_text};
 ghost use Rattle.stm_history.specs.JobsHandedOut.{sent};
+ghost use Rattle.stm_history.specs.SlowDesk.{Waiter, IsLegal};
 ghost use Rattle.stm_desk.specs.Seen.{now};
-ghost use Rattle.stm_console.specs.Kept.{JobsStand};
+ghost use Rattle.stm_console.specs.Kept.{job_kept, AreStored, HasStore, HaveStores, JobStands, JobsStand, HasGrown};
 ghost use Rattle.stm_console.specs.Delivering.{taken, jobs_of, job_text, numbered, jobs_line, take_text, after_take, take_answer, take_state, job_at, deliver_text, after_deliver, deliver_answer, deliver_state, handback_text, handed_back, handback_answer, handback_state, delivered_line, queued_line, evaluated_line, evaluated_text, delivery_text, eval_answer, eval_state};
 
 use crate::arguments::number_of;
-use crate::jobs::{HandedOut, deliver_job, evaluate_queued, refused_unevaluated, with_store};
+use crate::jobs::{KeptJob, deliver_job, evaluate_queued, refused_unevaluated, with_store};
 use crate::opened::OpenDesk;
 use crate::refusal::{refuse, refuse_delivery};
 use crate::threading::Threading;
@@ -123,8 +124,11 @@ fn write_evaluation(
 }
 
 /// The job of a number, which counts from 1.
-fn job_of_number(jobs: &[HandedOut], number: u32) -> Option<&HandedOut>
-    ensures { option_copied result ≡ job_at number jobs.now }
+fn job_of_number(jobs: &[KeptJob], number: u32) -> Option<&KeptJob>
+    ensures kept { option_map job_kept (option_copied result)
+        ≡ job_at number (map job_kept jobs.now) }
+    ensures stored { (ws : List Waiter) → HaveStores ws jobs.now
+        → IfSome (option_copied result) (λ k. HasStore ws k) }
 {
     if number == 0 {
         return None;
@@ -139,12 +143,14 @@ fn hand_out(
     first: u32,
     n: u32,
     out: &mut String,
-) -> Result<Vec<HandedOut>, NoMemory>
+) -> Result<Vec<KeptJob>, NoMemory>
     requires { first + n ≤ u32.MAX }
     ensures text { OnOk result
         (string_bytes out.new ≡ string_bytes out.old ++ jobs_line first (taken desk.old n)) }
-    ensures made { IfOk result (λ made. made.items ≡ jobs_of (now desk.old) (taken desk.old n)) }
-    ensures stand { IfOk result (λ made. JobsStand desk.old made.items) }
+    ensures made { IfOk result (λ made.
+        map job_kept made.items ≡ jobs_of (now desk.old) (taken desk.old n)) }
+    ensures stand { IfOk result (λ made. JobsStand desk.old (map job_kept made.items)) }
+    ensures stored { IfOk result (λ made. AreStored made.items) }
     ensures out { OnOk result (desk.new
         ≡ record desk.old { pending = sent (length (taken desk.old n)) desk.old.pending }) }
     ensures same { desk.new ≡ record desk.old { pending = desk.new.pending } }
@@ -153,6 +159,36 @@ fn hand_out(
     write_jobs_line(first, &jobs, out)?;
     let made = with_store(alloc, &store, jobs)?;
     Ok(made)
+}
+
+/// Delivers what the block of a job does on the store of its `take`. The block isn't evaluated if no delivery to its ticket
+/// would be accepted.
+fn deliver_kept(
+    desk: &mut Desk,
+    alloc: Global,
+    kept: &KeptJob,
+    out: &mut String,
+) -> Result<(), NoMemory>
+    requires legal { IsLegal desk.old.table desk.old.history }
+    requires stands { JobStands desk.old (job_kept kept.now) }
+    requires stored { HasStore (now desk.old).waiters kept.now }
+    ensures text { OnOk result (string_bytes out.new
+        ≡ string_bytes out.old ++ deliver_text desk.old (Some (job_kept kept.now))) }
+    ensures state { OnOk result (desk.new ≡ after_deliver desk.old (Some (job_kept kept.now))) }
+    ensures grown { HasGrown desk.old desk.new }
+    ensures store { (now desk.new).store ≡ (now desk.old).store }
+{
+    if let Some(refusal) = refused_unevaluated(desk, kept.ticket) {
+        return write_delivery(kept.ticket, Some(refusal), out);
+    }
+    match &kept.store {
+        Some(store) => {
+            let job = kept.job()?;
+            let refusal = deliver_job(desk, alloc, store, job)?;
+            write_delivery(kept.ticket, refusal, out)
+        }
+        None => unreachable!(),
+    }
 }
 
 impl OpenDesk {
@@ -166,9 +202,8 @@ impl OpenDesk {
             return refuse("JobsFull", out);
         }
         let first = self.jobs.len() as u32 + 1;
-        let mut made = hand_out(&mut self.desk, alloc, first, n, out)?;
-        self.jobs.append(&mut made)?;
-        Ok(())
+        let made = hand_out(&mut self.desk, alloc, first, n, out)?;
+        self.stores.append(&self.desk, &mut self.jobs, made)
     }
 
     /// Answers `take`: the jobs of the lowest queued tickets.
@@ -189,8 +224,7 @@ impl OpenDesk {
         }
     }
 
-    /// Delivers what the block of a job does on the store of its `take`. The block isn't evaluated if no delivery to its ticket
-    /// would be accepted.
+    /// Delivers what the block of a job does on the store of its `take`.
     fn deliver(&mut self, alloc: Global, number: u32, out: &mut String) -> Result<(), NoMemory>
         ensures text { OnOk result (string_bytes out.new
             ≡ string_bytes out.old ++ deliver_text self.old.desk (job_at number self.old.jobs)) }
@@ -199,15 +233,7 @@ impl OpenDesk {
         }) }
     {
         match job_of_number(&self.jobs, number) {
-            Some(handed) => {
-                let ticket = handed.ticket;
-                if let Some(refusal) = refused_unevaluated(&self.desk, ticket) {
-                    return write_delivery(ticket, Some(refusal), out);
-                }
-                let job = handed.job()?;
-                let refusal = deliver_job(&mut self.desk, alloc, &handed.store, job)?;
-                write_delivery(ticket, refusal, out)
-            }
+            Some(kept) => deliver_kept(&mut self.desk, alloc, kept, out),
             None => refuse("NoJob", out),
         }
     }

@@ -13,6 +13,7 @@ use crate::opened::OpenDesk;
 use crate::refusal::{refuse, refuse_cancel, refuse_finish};
 use std::alloc::AllocError;
 use stm_desk::{Finish, SettleStop, SettleWhy};
+use stm_store::Applied;
 use stm_terms::NoMemory;
 use stm_terms::text::{write_number, write_value, write_verdict};
 use stm_terms::values::Value;
@@ -57,6 +58,30 @@ fn write_result(ticket: u32, value: Value, stale: &[u32], out: &mut String) -> R
     out.push_str("\n")
 }
 
+/// Appends the answer to the finish of a block with this verdict.
+fn write_finished(
+    ticket: u32,
+    verdict: &Verdict,
+    applied: &Applied,
+    stale: &[u32],
+    out: &mut String,
+) -> Result<(), NoMemory>
+    requires { (cells : List Cell) × (applied.now ≡ applied_answer cells verdict.now) }
+    ensures { OnOk result (string_bytes out.new ≡ string_bytes out.old
+        ++ finished_line ticket applied.now.first_new verdict.now stale.now) }
+{
+    match (verdict, applied.result) {
+        (Verdict::Commits { .. }, Some(value)) => write_result(ticket, value, stale, out),
+        (Verdict::Commits { .. }, None) => unreachable!(),
+        (Verdict::Throws(_), _) => {
+            write!(out, "finished {ticket} ")?;
+            write_verdict(verdict, out)?;
+            out.push_str("\n")
+        }
+        (Verdict::Blocks, _) => Ok(()),
+    }
+}
+
 /// Appends the answer to a finish.
 fn write_finish(ticket: u32, finish: &Finish, out: &mut String) -> Result<(), NoMemory>
     requires { (cells : List Cell)
@@ -64,18 +89,15 @@ fn write_finish(ticket: u32, finish: &Finish, out: &mut String) -> Result<(), No
     ensures { OnOk result (string_bytes out.new ≡ string_bytes out.old
         ++ finished_line ticket finish.now.applied.first_new finish.now.verdict finish.now.stale) }
 {
-    match (&finish.verdict, finish.applied.result) {
-        (Verdict::Commits { .. }, Some(value)) => {
-            write_result(ticket, value, finish.stale.as_slice(), out)
-        }
-        (Verdict::Commits { .. }, None) => unreachable!(),
-        (Verdict::Throws(_), _) => {
-            write!(out, "finished {ticket} ")?;
-            write_verdict(&finish.verdict, out)?;
-            out.push_str("\n")
-        }
-        (Verdict::Blocks, _) => Ok(()),
-    }
+    let blocks = Verdict::Blocks;
+    let verdict = finish.verdict.get(&blocks);
+    write_finished(
+        ticket,
+        verdict,
+        &finish.applied,
+        finish.stale.as_slice(),
+        out,
+    )
 }
 
 #[tactic(auto, unfolding(crate::specs::Finishing::cancelled_line))]

@@ -12,12 +12,13 @@ ghost use Rattle.stm_history.specs.SlowDesk.{IsLegal, find_waiter, max_waiting};
 ghost use Rattle.stm_desk.specs.Refusals.{TellsDeskDelivery};
 ghost use Rattle.stm_desk.specs.Seen.{now};
 ghost use Rattle.stm_console.specs.declared.options.TheConstants.Options.{MAX_WORKERS};
-ghost use Rattle.stm_console.specs.Kept.{refusal_unevaluated, handed_out, JobStands, JobsStand, HasGrown, after_message, AnswerJobs, delivered_so_far, none_delivered};
+ghost use Rattle.stm_console.specs.Kept.{refusal_unevaluated, handed_out, job_kept, IsStored, AreStored, JobStands, JobsStand, HasGrown, after_message, AnswerJobs, delivered_so_far, none_delivered};
 ghost use Rattle.stm_console.specs.Delivering.{delivery_refusal, after_delivery, delivered_next, delivered_all, evaluated};
 
 use crate::threading::Threading;
 use std::alloc::{AllocError, Global};
 use std::mem;
+use std::snapshot::Snapshot;
 use std::thread::Threads;
 use stm_check::SharedBlock;
 use stm_desk::{DeliverError, Desk, Status};
@@ -27,18 +28,20 @@ use stm_pool::{Answer, evaluate_all};
 use stm_store::Frozen;
 use stm_terms::NoMemory;
 
-/// A block that was handed out under its ticket, with the store at its `take`.
+/// A block that was handed out under its ticket. It has its store as long as its ticket waits; what that store was at the
+/// `take` contracts know for ever, and that takes no memory.
 #[derive(Drop)]
-pub struct HandedOut {
+pub struct KeptJob {
     pub ticket: u32,
     pub block: SharedBlock,
-    pub store: Frozen,
+    pub store: Option<Frozen>,
+    pub at_take: Snapshot<Frozen>,
 }
 
-impl HandedOut {
+impl KeptJob {
     /// The job once more.
     pub fn job(&self) -> Result<Job, NoMemory>
-        ensures { IfOk result (λ j. handed_out self.now.store j ≡ self.now) }
+        ensures { IfOk result (λ j. handed_out self.now.at_take.value j ≡ job_kept self.now) }
     {
         Ok(Job {
             ticket: self.ticket,
@@ -47,19 +50,31 @@ impl HandedOut {
     }
 }
 
+/// A job with the store at its `take`.
+fn keep_job(store: &Frozen, job: Job) -> Result<KeptJob, NoMemory>
+    ensures kept { IfOk result (λ k. job_kept k ≡ handed_out store.now job) }
+    ensures stored { IfOk result (λ k. IsStored k) }
+{
+    let Job { ticket, block } = job;
+    let at_take = Snapshot::of(store);
+    Ok(KeptJob {
+        ticket,
+        block,
+        store: Some(store.share()?),
+        at_take,
+    })
+}
+
 /// Jobs, each with the store at its `take`.
-pub fn with_store(alloc: Global, store: &Frozen, jobs: Vec<Job>) -> Result<Vec<HandedOut>, NoMemory>
-    ensures { IfOk result (λ made. made.items ≡ map (handed_out store.now) jobs.items) }
+pub fn with_store(alloc: Global, store: &Frozen, jobs: Vec<Job>) -> Result<Vec<KeptJob>, NoMemory>
+    ensures kept { IfOk result (λ made.
+        map job_kept made.items ≡ map (handed_out store.now) jobs.items) }
+    ensures stored { IfOk result (λ made. AreStored made.items) }
 {
     let mut made = Vec::new(alloc);
     for job in jobs {
-        let Job { ticket, block } = job;
-        let store = store.share()?;
-        made.push(HandedOut {
-            ticket,
-            block,
-            store,
-        })?;
+        let kept = keep_job(store, job)?;
+        made.push(kept)?;
     }
     Ok(made)
 }
@@ -289,8 +304,8 @@ fn evaluate_jobs<T: Threads + Sync>(
     evaluate_batch(desk, rt, alloc, threading, store, batch, so_far)
 }
 
-/// Evaluates by threads and delivers all that is queued, in rising order of the tickets.
-pub fn evaluate_queued<T: Threads + Sync>(
+/// Evaluates by threads and delivers all that is queued, in ascending order of the tickets.
+fn evaluate_by_threads<T: Threads + Sync>(
     desk: &mut Desk,
     rt: &T,
     alloc: Global,
@@ -304,5 +319,74 @@ pub fn evaluate_queued<T: Threads + Sync>(
     match desk.take(Desk::MAX_WAITING) {
         Ok((store, jobs)) => evaluate_jobs(desk, rt, alloc, threading, &store, jobs),
         Err(refused) => Err(refused),
+    }
+}
+
+/// Evaluates all that is queued on the desk itself, in ascending order of the tickets.
+fn evaluate_here(desk: &mut Desk) -> Result<Progress, NoMemory>
+    ensures done { IfOk result (λ p. delivered_so_far desk.new p ≡ evaluated desk.old) }
+    ensures grown { HasGrown desk.old desk.new }
+    ensures store { (now desk.new).store ≡ (now desk.old).store }
+{
+    // The queue is known to be right by this.
+    let _events = desk.history();
+    match desk.evaluate_queued(0, Desk::MAX_WAITING as u32) {
+        Ok(evaluation) => Ok(Progress {
+            count: evaluation.count,
+            stop: evaluation.stop,
+        }),
+        Err(refused) => Err(refused),
+    }
+}
+
+/// Blocks of fewer bytes of text than this, on average, are evaluated on the desk itself: a job and a message of each would take
+/// longer than its evaluation.
+const BYTES_OF_A_JOB: usize = 512;
+
+/// The average is taken over the lowest queued blocks, at most this many.
+const BLOCKS_OF_A_SAMPLE: usize = 64;
+
+/// The bytes of the text of the block that waits under a ticket.
+fn text_bytes(desk: &Desk, ticket: u32) -> usize {
+    match desk.block(ticket) {
+        Some(block) => block.block().text().len(),
+        None => 0,
+    }
+}
+
+/// Whether the queued blocks have short texts on average.
+fn are_short(desk: &Desk) -> bool {
+    let mut bytes: usize = 0;
+    for place in 0..BLOCKS_OF_A_SAMPLE {
+        match desk.queued_at(place) {
+            Some(ticket) => bytes = bytes.saturating_add(text_bytes(desk, ticket)),
+            None => return bytes <= place * BYTES_OF_A_JOB,
+        }
+    }
+    bytes <= BLOCKS_OF_A_SAMPLE * BYTES_OF_A_JOB
+}
+
+/// Whether the queued blocks are evaluated on the desk itself, and not by threads.
+fn is_work_for_one(desk: &Desk, threading: Threading) -> bool {
+    threading.levels() == 0 && (threading.workers() == 1 || are_short(desk))
+}
+
+/// Evaluates and delivers all that is queued, in ascending order of the tickets: by threads, or on the desk itself if that is
+/// faster. No answer depends on which.
+pub fn evaluate_queued<T: Threads + Sync>(
+    desk: &mut Desk,
+    rt: &T,
+    alloc: Global,
+    threading: Threading,
+) -> Result<Progress, NoMemory>
+    requires { IsLegal desk.old.table desk.old.history }
+    ensures done { IfOk result (λ p. delivered_so_far desk.new p ≡ evaluated desk.old) }
+    ensures grown { HasGrown desk.old desk.new }
+    ensures store { (now desk.new).store ≡ (now desk.old).store }
+{
+    if is_work_for_one(desk, threading) {
+        evaluate_here(desk)
+    } else {
+        evaluate_by_threads(desk, rt, alloc, threading)
     }
 }

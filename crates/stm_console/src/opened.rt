@@ -1,28 +1,39 @@
 //! The desk of a console that has opened.
 
 ghost use Rattle.std.specs.Prelude.{◌≡◌, ◌≤◌, IfOk};
-ghost use Rattle.stm_store.specs.Cells.{plains};
+ghost use Rattle.stm_terms.specs.UnlessNoMemory.{AnswersAs};
+ghost use Rattle.stm_store.specs.Cells.{Covers, plains};
+ghost use Rattle.stm_store.specs.Tables.{opened};
 ghost use Rattle.stm_history.specs.SlowDesk.{IsLegal, max_events};
 ghost use Rattle.stm_history.specs.HistoryText.{WritesText};
 ghost use Rattle.stm_desk.specs.Seen.{now};
+ghost use Rattle.stm_console.specs.Blocks.{compiled_block};
 ghost use Rattle.stm_console.specs.OpenDesk.{opened_desk, present};
+ghost use Rattle.stm_console.specs.Refusals.{told_refusal};
 ghost use Rattle.stm_console.specs.Showing.{events_text};
 
-use crate::jobs::HandedOut;
+use crate::jobs::KeptJob;
+use crate::prepared::Prepared;
+use crate::refusal::Refusal;
+use crate::stores::Stores;
 use std::alloc::Global;
 use std::io::Write;
 use std::marker::Model;
+use stm_check::SharedBlock;
 use stm_desk::Desk;
 use stm_history::{WriteFault, write_history};
 use stm_store::{Frozen, Table};
 use stm_terms::NoMemory;
 
 /// The desk, the jobs that were handed out, and a copy of the present store on which `try` and `looks` run blocks: it is
-/// made where it is asked for, and kept until the store may change. Contracts see the desk and the jobs.
+/// made where it is asked for, and kept until the store may change; and blocks that were asked for, by their texts. Contracts see the desk and the jobs, each with the store at
+/// its `take`, whether or not that store is still kept.
 pub struct OpenDesk {
     pub(crate) desk: Desk,
     pub(crate) copy: Option<Frozen>,
-    pub(crate) jobs: Vec<HandedOut>,
+    pub(crate) jobs: Vec<KeptJob>,
+    pub(crate) stores: Stores,
+    pub(crate) prepared: Prepared,
 }
 
 // Written out, and not derived, so that the proof of each owner calls it once.
@@ -32,6 +43,8 @@ impl Drop for OpenDesk {
             desk: _,
             copy: _,
             jobs: _,
+            stores: _,
+            prepared: _,
         } = self;
     }
 }
@@ -39,16 +52,17 @@ impl Drop for OpenDesk {
 impl Model for OpenDesk {
     ghost use Rattle.std.specs.Coded.{codes};
     ghost use Rattle.stm_terms.specs.TreeEncoding.{act_code};
+    ghost use Rattle.std.specs.Prelude.{map};
     ghost use Rattle.stm_console.specs.OpenDesk.{OpenDesk as State};
-    ghost use Rattle.stm_console.specs.Kept.{OpenInvariant};
+    ghost use Rattle.stm_console.specs.Kept.{job_kept, OpenInvariant};
 
     ghost Value = { State };
 
     ghost coded = { Prim.hlevel (codes, act_code) };
 
-    ghost view = { λ d. record { desk = d.desk; jobs = d.jobs.items } };
+    ghost view = { λ d. record { desk = d.desk; jobs = map job_kept d.jobs.items } };
 
-    ghost invariant = { λ d. OpenInvariant d.desk d.copy d.jobs.items };
+    ghost invariant = { λ d. OpenInvariant d.desk d.copy d.jobs.items d.prepared };
 }
 
 impl OpenDesk {
@@ -61,6 +75,8 @@ impl OpenDesk {
             desk: Desk::open(alloc, table, limit)?,
             copy: None,
             jobs: Vec::new(alloc),
+            stores: Stores::new(alloc),
+            prepared: Prepared::new(alloc, table)?,
         })
     }
 
@@ -82,6 +98,17 @@ impl OpenDesk {
         ensures { self.new ≡ self.old }
     {
         self.copy = Some(copy);
+    }
+
+    /// The block of a text.
+    pub fn block(&mut self, alloc: Global, text: &str) -> Result<SharedBlock, Refusal>
+        ensures same { self.new ≡ self.old }
+        ensures block { AnswersAs told_refusal (λ b. b) result
+            (compiled_block self.old.desk.table text.now) }
+        ensures covered { IfOk result (λ b.
+            Covers (plains (opened self.old.desk.table)) b.uses) }
+    {
+        self.prepared.block(alloc, self.desk.table(), text)
     }
 
     /// Writes the history.

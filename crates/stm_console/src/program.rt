@@ -7,12 +7,16 @@ ghost use Rattle.stm_terms.specs.Texts.{IsPrefixOf};
 ghost use Rattle.stm_console.specs.Checking.{IsFinding, BeginsFindingText, finding_text};
 ghost use Rattle.stm_console.specs.Console.{console_text};
 ghost use Rattle.stm_console.specs.ExitStatus.{finding_status, status_of, storm_status, IsStatus};
-ghost use Rattle.stm_console.specs.CommandLine.{answers_of, asks_for_help, asks_for_version, has_mistake, is_mistake, judges_history, request_of, version_line, IfRun, IfStorm};
+ghost use Rattle.stm_console.specs.CommandLine.{answers_of, asks_for_help, asks_for_version, has_mistake, is_mistake, judges_history, request_of, version_line, AreExploreOptions, IfExplore, IfRun, IfStorm};
+ghost use Rattle.stm_console.specs.ExploreEnd.{WritesRight};
+ghost use Rattle.stm_console.specs.ExploreStatus.{explore_status};
 ghost use Rattle.stm_console.specs.Options.{AreRunOptions};
 ghost use Rattle.stm_console.specs.StormText.{IsStormText};
 
 use crate::checking::{Finding, check_with};
 use crate::command_line::{Request, read_words};
+use crate::explore_options::ExploreOptions;
+use crate::exploring::{ExploreFault, explore_with};
 use crate::output::{flush, write_line};
 use crate::storming::{StormFault, storm};
 use crate::streams::{RunFault, run};
@@ -33,7 +37,7 @@ const FAULTY_SCRIPT: u8 = 1;
 /// The exit status where the words are refused.
 const REFUSED: u8 = 2;
 
-/// The exit status where the history that a storm left isn't legal.
+/// The exit status where the history that a storm left isn't legal, and where an exploration doesn't find all right.
 const NOT_LEGAL: u8 = 3;
 
 impl RunFault {
@@ -159,12 +163,53 @@ fn end_storm<E: Write>(ended: Result<(), StormFault>, errors: &mut E) -> u8
     }
 }
 
+/// Reports how an exploration ended, and returns the status. What it found is said by its text; by a history only if it is that
+/// of a fault.
+fn end_explore<E: Write>(
+    ended: Result<(), ExploreFault>,
+    options: ExploreOptions,
+    errors: &mut E,
+) -> u8
+    ensures done { OnOk ended (result ≡ 0) }
+    ensures fault { IfErr ended (λ e. result ≡ explore_status e) }
+{
+    match ended {
+        Ok(()) => {
+            if options.history {
+                let _ = writeln!(errors, "stmdesk: right: there is no history of a fault");
+            }
+            0
+        }
+        Err(ExploreFault::Run(fault)) => tell_fault(fault, errors),
+        Err(ExploreFault::Script(line)) => {
+            let _ = writeln!(errors, "{}", ExploreFault::Script(line));
+            FAULTY_SCRIPT
+        }
+        Err(ExploreFault::Faulty) => NOT_LEGAL,
+        Err(ExploreFault::Incomplete) => {
+            if options.history {
+                let _ = writeln!(errors, "{}", ExploreFault::Incomplete);
+            }
+            NOT_LEGAL
+        }
+        Err(ExploreFault::NoRoom) => {
+            let _ = writeln!(errors, "{}", ExploreFault::NoRoom);
+            NOT_LEGAL
+        }
+        Err(ExploreFault::Replay) => {
+            let _ = writeln!(errors, "{}", ExploreFault::Replay);
+            NOT_LEGAL
+        }
+    }
+}
+
 /// The whole program: reads its words, the program's name first; where they ask for a run, runs from the reader to the
-/// writer; where they ask for a storm, does what the script on the reader says; where they ask for a check, judges the history
-/// on the reader; reports a fault on `errors`, and answers the exit status.
+/// writer; where they ask for a storm, does what the script on the reader says; where they ask for an exploration, finds what the
+/// clients of the script on the reader can do; where they ask for a check, judges the history on the reader; reports a fault on
+/// `errors`, and answers the exit status.
 ///
 /// 0: the input was read to its end, or help or the version was written. 1: a read or a write failed, or a line of a script is faulty. 2: the
-/// words were refused. 3: the history isn't legal. 4: memory ran out, or a thread couldn't be started. That `errors` fails
+/// words were refused. 3: the history isn't legal, or an exploration doesn't find all right. 4: memory ran out, or a thread couldn't be started. That `errors` fails
 /// changes nothing.
 pub fn start<'a, T: Threads + Wait + RandomSource + Sync, S: AsStr, R: Read, W: Write, E: Write>(
     rt: &T,
@@ -180,6 +225,8 @@ pub fn start<'a, T: Threads + Wait + RandomSource + Sync, S: AsStr, R: Read, W: 
     // A run and a storm have options in their ranges.
     ensures options { IfRun (request_of (map S.text words.now)) AreRunOptions
         × IfStorm (request_of (map S.text words.now)) AreRunOptions }
+    // So has an exploration.
+    ensures explore_options { IfExplore (request_of (map S.text words.now)) AreExploreOptions }
     // With status 0 the whole text of a run's input was written.
     ensures answered { answers_of (map S.text words.now) ≡ [] →
         IfRun (request_of (map S.text words.now)) (λ o.
@@ -198,6 +245,12 @@ pub fn start<'a, T: Threads + Wait + RandomSource + Sync, S: AsStr, R: Read, W: 
         result ≡ 0 → IfSome (R.remaining reader.old) (λ input.
         (text : List ℕ) × IsStormText input text
         × Appends (W.contents writer.old) (W.contents writer.new) text)) }
+    // With status 0 an exploration's script is right, nothing is wrong with any state that its clients can reach, and what was
+    // written says so; of a history nothing was written.
+    ensures explored { answers_of (map S.text words.now) ≡ [] →
+        IfExplore (request_of (map S.text words.now)) (λ o.
+        result ≡ 0 → IfSome (R.remaining reader.old) (λ input.
+        WritesRight o.history o.max_states input (W.contents writer.old) (W.contents writer.new))) }
     // A check writes what it finds of the bytes, which the status says too.
     ensures found { answers_of (map S.text words.now) ≡ [] →
         request_of (map S.text words.now) ≡ Request.Check →
@@ -210,7 +263,7 @@ pub fn start<'a, T: Threads + Wait + RandomSource + Sync, S: AsStr, R: Read, W: 
         result ≢ 0 → IfSome (R.remaining reader.old) (λ bytes.
         (front : List ℕ) × BeginsFindingText bytes front
         × Appends (W.contents writer.old) (W.contents writer.new) front) }
-    // Nothing but a check and a storm judges histories.
+    // Nothing but a check, a storm and an exploration judges.
     ensures judged { result ≡ 3 → (answers_of (map S.text words.now) ≡ [])
         × IsTrue (judges_history (request_of (map S.text words.now))) }
     // Where words are refused, nothing is read and nothing written.
@@ -239,6 +292,11 @@ pub fn start<'a, T: Threads + Wait + RandomSource + Sync, S: AsStr, R: Read, W: 
     match request {
         Request::Run(options) => end_run(run(rt, alloc, reader, writer, options), errors),
         Request::Storm(options) => end_storm(storm(rt, alloc, reader, writer, options), errors),
+        Request::Explore(options) => end_explore(
+            explore_with(alloc, Seed::random(rt), reader, writer, options),
+            options,
+            errors,
+        ),
         Request::Check => end_check(check_with(alloc, Seed::random(rt), reader, writer), errors),
     }
 }

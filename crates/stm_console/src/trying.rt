@@ -9,7 +9,6 @@ ghost use Rattle.stm_desk.specs.Refusals.{submit_refusal};
 ghost use Rattle.stm_console.specs.OpenDesk.{present};
 ghost use Rattle.stm_console.specs.Blocks.{try_answer, looks_answer, verdict_line, reads_line, ticket_line, submit_answer, submit_state, submitted_text, submitted};
 
-use crate::block::compile_block;
 use crate::opened::OpenDesk;
 use crate::refusal::{refuse_submit, write_refusal};
 use std::alloc::Global;
@@ -99,8 +98,8 @@ impl OpenDesk {
             (string_bytes out.new ≡ string_bytes out.old ++ try_answer self.old text.now) }
         ensures same { self.new ≡ self.old }
     {
-        match compile_block(alloc, self.desk.table(), text) {
-            Ok(block) => self.write_tried(alloc, &block, out),
+        match self.block(alloc, text) {
+            Ok(block) => self.write_tried(alloc, block.block(), out),
             Err(refusal) => write_refusal(refusal, out),
         }
     }
@@ -117,8 +116,8 @@ impl OpenDesk {
             (string_bytes out.new ≡ string_bytes out.old ++ looks_answer self.old text.now) }
         ensures same { self.new ≡ self.old }
     {
-        match compile_block(alloc, self.desk.table(), text) {
-            Ok(block) => self.write_looked(alloc, &block, out),
+        match self.block(alloc, text) {
+            Ok(block) => self.write_looked(alloc, block.block(), out),
             Err(refusal) => write_refusal(refusal, out),
         }
     }
@@ -149,11 +148,8 @@ impl OpenDesk {
             (string_bytes out.new ≡ string_bytes out.old ++ submit_answer self.old text.now) }
         ensures state { OnOk result (self.new ≡ submit_state self.old text.now) }
     {
-        match compile_block(alloc, self.desk.table(), text) {
-            Ok(block) => {
-                let block = SharedBlock::new(alloc, block)?;
-                self.submit(block, out)
-            }
+        match self.block(alloc, text) {
+            Ok(block) => self.submit(block, out),
             Err(refusal) => write_refusal(refusal, out),
         }
     }

@@ -15,7 +15,9 @@ use Rattle.stm_history.specs.declared.event.Event.{Event}
 use Rattle.stm_history.specs.declared.event.What.{What}
 use Rattle.stm_history.specs.SlowDesk.{Waiter, is_new, is_current, verdict_on, find_waiter, state, max_events, max_clients}
 use Rattle.stm_history.specs.Machine.{Parts, StandsFor, MovesTo, CanWait, CanInstall, CanFinish, CanLeave, event}
+use Rattle.stm_history.specs.Keeping.{IsVerdictUnder, CanKeep}
 use Rattle.stm_history.specs.Plans.{IsPlan}
+use Rattle.stm_history.specs.QueueAndIndex.{due_of}
 use Rattle.stm_history.specs.Refusals.{submit_first, submit_refused, cancel_first, cancel_refused, blocks_there, overflows, finish_first, finish_refused, overtaken_first, DeliverTold, TellsDelivery as Tells}
 use Rattle.stm_history.specs.Laws.{SubmitsWellTyped}
 use Rattle.stm_history.proofs.TypedStores.{submitted-append}
@@ -89,6 +91,9 @@ module _ (table : List Declared) (limit : ℕ) (history : List Event) (m : Parts
         allowed = subst (λ (b : Bool). Tells None (state table history) b (message_ticket message) (message_block message) (message_reads message)) r e;
         same = s;
       }
+
+  pub can_keep : (t : ℕ) (v : Verdict) (reads : List (ℕ × Value)) → full ≡ false → due_of (find_waiter t (state table history).waiters) ≡ true → IsVerdictUnder (state table history) t v reads → CanKeep table history m t v reads
+  can_keep t v reads r u p = record { stands = k.stands; room = has_room r; due = u; told = p }
 
   -- the machine moved, and the history has the event more
   pub kept_move : (client : ℕ) (what : What) (new : Parts) → client < max_clients → full ≡ false → SubmitsWellTyped what → MovesTo table history what new → DeskInvariant table limit (history ++ event client what ∷ []) new

@@ -1,4 +1,5 @@
 pub mod Calls
+pub mod Evaluating
 pub mod Ripe
 pub mod Runs
 pub mod Settles

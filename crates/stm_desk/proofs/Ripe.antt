@@ -1,33 +1,29 @@
 -- The candidates: each ticket of a block that is current and can end is among them.
-use Rattle.std.proofs.Common.{◌≡◌, ℕ, ◌<◌, ◌≤◌, Bool, true, false, not, ◌&&◌, ◌||◌, cond, List, [], ◌∷◌, map, drop, Option, Some, None, IsSome, refl, sym, ap, subst, ◌∙◌, arith, eqb-true}
-use Rattle.std.specs.Prelude.{nat_eq, nat_le, slice_get, option_map, Result, Ok, Err, IfOk}
+use Rattle.std.proofs.Common.{◌≡◌, ℕ, ◌<◌, ◌≤◌, Bool, true, false, not, ◌&&◌, ◌||◌, cond, List, [], ◌∷◌, map, drop, Option, Some, None, refl, sym, ap, subst, ◌∙◌, arith, eqb-true}
+use Rattle.std.specs.Prelude.{nat_eq, nat_le, slice_get, option_map}
 use Rattle.std.proofs.lemmas.Bool.Decides.{nat_tests}
+use Rattle.stm_terms.specs.declared.values.Value.{Value}
 use Rattle.stm_terms.specs.declared.verdicts.Verdict.{Verdict}
 use Rattle.stm_check.specs.TypedBlock.{Block}
-use Rattle.stm_eval.specs.declared.message.Evaluated.{Evaluated}
-use Rattle.stm_eval.specs.EvaluatedFields.{message_ticket, message_verdict}
 use Rattle.stm_queue.specs.SortedTickets.{member}
 use Rattle.stm_store.specs.Cells.{changed_by}
-use Rattle.stm_store.specs.Tables.{Declared}
-use Rattle.stm_history.specs.declared.event.Event.{Event}
+use Rattle.stm_history.specs.Keeping.{IsVerdictUnder}
 use Rattle.stm_history.specs.declared.event.What.{What}
 use Rattle.stm_history.specs.declared.event.What.TheVariants.{Installed, Finished}
-use Rattle.stm_history.specs.declared.staleness.StalenessRule.{StalenessRule}
 use Rattle.stm_history.specs.declared.staleness.StalenessRule.TheVariants.{Changed}
-use Rattle.stm_history.specs.SlowDesk.{Since, Waiter, Slow, Standing, verdict_on, is_blocks, is_stale_since, current_since, is_current, woken_more, after_writes, find_waiter, without_waiter, with_delivery, after, initial_state, state, state_by, IsLegal, standing_since, weak_since}
+use Rattle.stm_history.specs.SlowDesk.{Since, Waiter, Slow, Standing, verdict_on, is_blocks, is_stale_since, current_since, is_current, woken_more, after_writes, find_waiter, without_waiter, with_delivery, after, initial_state, IsLegal, standing_since, weak_since}
 use Rattle.stm_history.specs.SlowDesk as slow
 use Rattle.stm_history.specs.SlowSettle.{lowest, is_due, ends, can_end}
 use Rattle.stm_history.specs.Laws.{AreRising}
 use Rattle.stm_history.specs.SettleChoices.{ended_since, ended_then, is_ripe, AreCandidates, next_due, next_end}
-use Rattle.stm_history.specs.Machine.{Parts, StandsFor, StandsForBy, event}
-use Rattle.stm_history.specs.JobsHandedOut.{IsPresent}
+use Rattle.stm_history.specs.Machine.{event}
 use Rattle.stm_history.proofs.Folds.{state-push}
 use Rattle.stm_history.proofs.Rising.{waiter_without, waiter_delivered, waiter_marks}
 use Rattle.stm_history.proofs.Points.{not_above, still_current}
 use Rattle.stm_history.proofs.Heads.{lowest_waits, lowest_holds}
 use Rattle.stm_history.proofs.Headline.{weak_is_present}
 use Rattle.stm_desk.specs.Seen.{Seen, now, with_event}
-use Rattle.stm_desk.specs.Steps.{IsDueMessage}
+use Rattle.stm_desk.specs.Steps.{IsDueVerdict}
 use Rattle.stm_desk.proofs.Turns.{found_at, all_current, rising_now}
 
 and_left : (a b : Bool) → (a && b) ≡ true → a ≡ true
@@ -158,40 +154,18 @@ empty_by (c ∷ cs) u e h = cc
 pub none_ends : (d : Seen) (cs : List ℕ) → IsLegal d.table d.history → lowest is_due (now d).waiters ≡ None → slice_get cs 0 ≡ None → AreCandidates (now d) cs → None ≡ next_end (now d)
 none_ends d cs l none e a = no_least d (lowest (can_end (now d).store) (now d).waiters) l refl none (λ u h. empty_by cs u e (a u h))
 
--- ---- the message of the lowest that is due
-pub due_waits : (d : Seen) (t : ℕ) → IsLegal d.table d.history → next_due (now d) ≡ Some t → IsSome (find_waiter t (now d).waiters)
-due_waits d t l n =
-    let s = now d in
-    let f = found_at is_due s t n in
-    let a : find_waiter t s.waiters ≡ Some f.one = subst (λ (u : ℕ). find_waiter u s.waiters ≡ Some f.one) f.ticket (lowest_waits is_due s.next 0 s.waiters f.one (rising_now d l) f.first) in
-    rw a refl
-
+-- ---- the verdict of the lowest that is due
 one_waits : (o : Option Waiter) (v w : Waiter) → o ≡ Some v → o ≡ Some w → v ≡ w
 one_waits None v w e f = cc
 one_waits (Some x) v w e f = let a : x ≡ v = cc in let b : x ≡ w = cc in sym a ∙ b
 
-pub due_message : (d : Seen) (t : ℕ) (m : Evaluated) → IsLegal d.table d.history → next_due (now d) ≡ Some t → IsPresent (now d) t m → IsDueMessage (now d) t m
-due_message d t m l n p =
+pub due_verdict : (d : Seen) (t : ℕ) (v : Verdict) (reads : List (ℕ × Value)) → IsLegal d.table d.history → next_due (now d) ≡ Some t → IsVerdictUnder (now d) t v reads → IsDueVerdict (now d) t v
+due_verdict d t v reads l n p =
     let s = now d in
     let f = found_at is_due s t n in
     let a : find_waiter t s.waiters ≡ Some f.one = subst (λ (u : ℕ). find_waiter u s.waiters ≡ Some f.one) f.ticket (lowest_waits is_due s.next 0 s.waiters f.one (rising_now d l) f.first) in
     let q : p.one ≡ f.one = one_waits (find_waiter t s.waiters) p.one f.one p.found a in
-    let g : lowest is_due s.waiters ≡ Some p.one = f.first ∙ ap Some (sym q) in
-    let h : t ≡ p.one.ticket = sym (ap (λ (w : Waiter). w.ticket) q ∙ f.ticket) in
-    record {
-      one = p.one;
-      first = g;
-      same = h;
-      ticket = p.ticket ∙ h;
-      block = p.block;
-      verdict = p.verdict;
-      reads = p.reads;
-    }
-
-pub if_due : {E : Type 0} (d : Seen) (parts : Parts) (t : ℕ) (r : Result Evaluated E) → StandsFor d.table d.history parts → next_due (now d) ≡ Some t
-    → IfOk r (λ m. (R : StalenessRule) (T : List Declared) (H : List Event) → StandsForBy R T H parts → IsPresent (state_by R T H) t m) → IfOk r (λ m. IsDueMessage (now d) t m)
-if_due d parts t (Ok m) k n p = due_message d t m k.legal n (p Changed d.table d.history k)
-if_due d parts t (Err e) k n p = tt
+    record { one = p.one; first = f.first ∙ ap Some (sym q); same = sym (ap (λ (w : Waiter). w.ticket) q ∙ f.ticket); verdict = p.verdict }
 
 -- ---- candidates after an event
 install_by : (u t : ℕ) (b : Bool) (s : Slow) (v : Verdict) (one : Waiter) (o : Option Waiter) (cs cs' : List ℕ) → nat_eq u t ≡ b → (is_ripe o ≡ true → member u cs ≡ true) → (b ≡ true → o ≡ Some one) → verdict_on s.store one.block ≡ Some v
@@ -238,14 +212,11 @@ finish_back s n t woken u r h =
 after_one : (d new : Seen) (client : ℕ) (x : What) → new ≡ with_event d (event client x) → after (now d) x ≡ now new
 after_one d new client x e = sym (ap now e ∙ state-push Changed (initial_state d.table) d.history (event client x))
 
-pub installed_candidates : (d new : Seen) (client t : ℕ) (m : Evaluated) (cs cs' : List ℕ) → IsLegal d.table d.history → IsDueMessage (now d) t m → new ≡ with_event d (event client (Installed (message_ticket m) (message_verdict m)))
-    → AreCandidates (now d) cs → ((u : ℕ) → member u cs ≡ true → member u cs' ≡ true) → (is_blocks (message_verdict m) ≡ false → member t cs' ≡ true) → AreCandidates (now new) cs'
-installed_candidates d new client t m cs cs' l f e a keeps add =
-    let s = now d in
-    let i : t ≡ message_ticket m = f.same ∙ sym f.ticket in
-    let w : find_waiter (message_ticket m) s.waiters ≡ Some f.one = ap (λ (u : ℕ). find_waiter u s.waiters) f.ticket ∙ lowest_waits is_due _ 0 s.waiters f.one (rising_now d l) f.first in
-    subst (λ (z : Slow). AreCandidates z cs') (after_one d new client (Installed (message_ticket m) (message_verdict m)) e)
-    (candidates_install s (message_ticket m) (message_verdict m) f.one cs cs' a w f.verdict keeps (λ b. subst (λ (x : ℕ). member x cs' ≡ true) i (add b)))
+pub installed_candidates : (d new : Seen) (client t : ℕ) (v : Verdict) (reads : List (ℕ × Value)) (cs cs' : List ℕ) → IsVerdictUnder (now d) t v reads → new ≡ with_event d (event client (Installed t v))
+    → AreCandidates (now d) cs → ((u : ℕ) → member u cs ≡ true → member u cs' ≡ true) → (is_blocks v ≡ false → member t cs' ≡ true) → AreCandidates (now new) cs'
+installed_candidates d new client t v reads cs cs' f e a keeps add =
+    subst (λ (z : Slow). AreCandidates z cs') (after_one d new client (Installed t v) e)
+    (candidates_install (now d) t v f.one cs cs' a f.found f.verdict keeps add)
 
 pub finished_candidates : (d new : Seen) (client t n : ℕ) (v : Verdict) (stale cs : List ℕ) → IsLegal d.table d.history → new ≡ with_event d (event client (Finished t v n stale)) → AreCandidates (now d) cs → AreCandidates (now new) cs
 finished_candidates d new client t n v stale cs l e a =

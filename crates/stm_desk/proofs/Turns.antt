@@ -1,14 +1,12 @@
 -- One event of settling, and a run of them.
 use Rattle.std.proofs.Common.{◌≡◌, ℕ, ◌+◌, ◌<◌, ◌≤◌, Bool, true, false, not, cond, List, [], ◌∷◌, length, Option, Some, None, Err, refl, sym, ap, subst, ◌∙◌, arith}
-use Rattle.std.specs.Prelude.{is_some, nat_le, option_map, IsSomeAnd}
+use Rattle.std.specs.Prelude.{is_some, nat_le, option_map}
 use Rattle.std.proofs.lemmas.Bool.Decides.{nat_tests}
 use Rattle.stm_terms.specs.declared.verdicts.Verdict.{Verdict}
 use Rattle.stm_store.specs.Cells.{made_by, changed_by}
-use Rattle.stm_eval.specs.declared.message.Evaluated.{Evaluated}
-use Rattle.stm_eval.specs.EvaluatedFields.{message_ticket, message_block, message_reads, message_verdict}
 use Rattle.stm_history.specs.declared.event.What.TheVariants.{Installed, Finished}
 use Rattle.stm_history.specs.declared.staleness.StalenessRule.TheVariants.{Changed}
-use Rattle.stm_history.specs.SlowDesk.{Since, Waiter, Slow, MayFinish, under, verdict_on, is_blocks, is_new_since, is_new, current_since, is_current, find_waiter, without_waiter, stale_after, initial_state, IsLegal, max_cells}
+use Rattle.stm_history.specs.SlowDesk.{Since, Waiter, Slow, MayFinish, verdict_on, is_blocks, is_new_since, is_new, current_since, is_current, find_waiter, without_waiter, stale_after, initial_state, IsLegal, max_cells}
 use Rattle.stm_history.specs.SlowSettle.{lowest, is_due, ends, can_end, next_what}
 use Rattle.stm_history.specs.Laws.{AreRising}
 use Rattle.stm_history.proofs.Folds.{state-push, legal_split}
@@ -17,13 +15,13 @@ use Rattle.stm_history.specs.declared.errors.FinishError.{FinishError}
 use Rattle.stm_history.specs.declared.errors.FinishError.TheVariants as finish
 use Rattle.stm_history.specs.SettleChoices.{next_due, next_end}
 use Rattle.stm_history.specs.Machine.{event}
-use Rattle.stm_history.specs.Refusals.{differing, overflows, finish_told}
+use Rattle.stm_history.specs.QueueAndIndex.{due_of}
+use Rattle.stm_history.specs.Refusals.{overflows, finish_told}
 use Rattle.stm_history.proofs.Heads.{lowest_waits, lowest_holds}
 use Rattle.stm_desk.specs.Seen.{Seen, now, with_event, is_full}
-use Rattle.stm_desk.specs.Refusals.{TellsDeskDelivery, finish_refusal}
+use Rattle.stm_desk.specs.Refusals.{finish_refusal}
 use Rattle.stm_desk.specs.Settling.{IsFull}
-use Rattle.stm_desk.specs.Steps.{IsDueMessage, IsNextEvent, WhyTold, StopsFinish, finish_why}
-use Rattle.stm_desk.proofs.Settles.{reads_differ_nowhere}
+use Rattle.stm_desk.specs.Steps.{IsDueVerdict, IsNextEvent, WhyTold, StopsFinish, finish_why}
 
 -- ---- the blocks that come next
 pub record Found (p : Waiter → Bool) (s : Slow) (t : ℕ) : Type 0 where
@@ -65,32 +63,21 @@ full_of : (d : Seen) → length d.history ≤ d.limit → is_full d ≡ true →
 full_of d l e = let g : d.limit ≤ length d.history = grind (arith, nat_tests) in omega arith
 
 -- ---- a delivery
--- the lowest block that is new or stale waits under the ticket of its message
-due_waits_under : (d : Seen) (t : ℕ) (m : Evaluated) → IsLegal d.table d.history → (f : IsDueMessage (now d) t m) → find_waiter (message_ticket m) (now d).waiters ≡ Some f.one
-due_waits_under d t m l f = ap (λ (u : ℕ). find_waiter u (now d).waiters) f.ticket ∙ found_waits is_due d f.one l f.first
-
-due_tree : (d : Seen) (t : ℕ) (m : Evaluated) → (f : IsDueMessage (now d) t m) → f.one.block.tree ≡ (message_block m).tree
-due_tree d t m f = ap (λ b. b.tree) (sym f.block)
-
--- where there is room, nothing refuses a message of settling
-pub due_allowed : (d : Seen) (t : ℕ) (m : Evaluated) → IsLegal d.table d.history → IsDueMessage (now d) t m → is_full d ≡ false → TellsDeskDelivery None d (message_ticket m) (message_block m) (message_reads m)
-due_allowed d t m l f e =
+-- the lowest block that is new or stale is so
+pub due_at : (d : Seen) (t : ℕ) → IsLegal d.table d.history → next_due (now d) ≡ Some t → due_of (find_waiter t (now d).waiters) ≡ true
+due_at d t l n =
     let s = now d in
-    let c : is_current f.one ≡ false = unnot (is_current f.one) (lowest_holds is_due s.waiters f.one f.first) in
-    let n : differing (under s.store) (message_reads m) ≡ None = ap (differing (under s.store)) f.reads ∙ reads_differ_nowhere (under s.store) f.one.block.tree in
-    rw (due_waits_under d t m l f) ((λ other. absurd (other (due_tree d t m f))), (λ same. rw (c, n, e) refl))
+    let f = found_at is_due s t n in
+    let a : find_waiter t s.waiters ≡ Some f.one = subst (λ (u : ℕ). find_waiter u s.waiters ≡ Some f.one) f.ticket (found_waits is_due d f.one l f.first) in
+    ap due_of a ∙ lowest_holds is_due s.waiters f.one f.first
 
-pub due_same : (d : Seen) (t : ℕ) (m : Evaluated) → IsLegal d.table d.history → IsDueMessage (now d) t m → IsSomeAnd (find_waiter (message_ticket m) (now d).waiters) (λ w. w.block.tree ≡ (message_block m).tree)
-due_same d t m l f = rw (due_waits_under d t m l f) (due_tree d t m f)
+due_next : (d : Seen) (t : ℕ) (v : Verdict) → IsDueVerdict (now d) t v → next_what (now d) ≡ Some (Installed t v)
+due_next d t v f = rw (f.first, f.verdict, f.same) refl
 
-due_next : (d : Seen) (t : ℕ) (m : Evaluated) → IsDueMessage (now d) t m → next_what (now d) ≡ Some (Installed (message_ticket m) (message_verdict m))
-due_next d t m f = rw (f.first, f.verdict, f.ticket) refl
-
-pub next_install : (d new : Seen) (client t : ℕ) (m : Evaluated) → IsDueMessage (now d) t m → is_full d ≡ false
-    → new ≡ with_event d (event client (Installed (message_ticket m) (message_verdict m))) → IsNextEvent client 0 1 d new
-next_install d new client t m f r e = record {
-  what = Installed (message_ticket m) (message_verdict m);
-  next = due_next d t m f;
+pub next_install : (d new : Seen) (client t : ℕ) (v : Verdict) → IsDueVerdict (now d) t v → is_full d ≡ false → new ≡ with_event d (event client (Installed t v)) → IsNextEvent client 0 1 d new
+next_install d new client t v f r e = record {
+  what = Installed t v;
+  next = due_next d t v f;
   fits = refl;
   grown = e;
   room = room_of d r;
@@ -98,8 +85,8 @@ next_install d new client t m f r e = record {
   evaluating = refl;
 }
 
-pub full_at : (d : Seen) (t : ℕ) (m : Evaluated) → length d.history ≤ d.limit → IsDueMessage (now d) t m → is_full d ≡ true → IsFull d
-full_at d t m k f e = record { left = ap is_some (due_next d t m f); full = full_of d k e }
+pub full_at : (d : Seen) (t : ℕ) (v : Verdict) → length d.history ≤ d.limit → IsDueVerdict (now d) t v → is_full d ≡ true → IsFull d
+full_at d t v k f e = record { left = ap is_some (due_next d t v f); full = full_of d k e }
 
 -- the store stays
 pub store_install : (d new : Seen) (client t : ℕ) (v : Verdict) → new ≡ with_event d (event client (Installed t v)) → (now new).store ≡ (now d).store

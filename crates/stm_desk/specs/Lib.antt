@@ -1,4 +1,5 @@
 -- What a reader has to believe: what contracts see of a desk, what each call is refused for, and what settling does.
+pub mod Evaluating
 pub mod Refusals
 pub mod Seen
 pub mod Settling

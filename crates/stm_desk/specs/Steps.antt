@@ -1,10 +1,8 @@
 -- One step of settling, and why it can't be made.
 use Rattle.std.specs.Prelude.{◌≡◌, ℕ, ◌<◌, true, [], ◌∷◌, length, Some}
-use Rattle.stm_terms.specs.ReadSet.{reads_of}
-use Rattle.stm_eval.specs.declared.message.Evaluated.{Evaluated}
-use Rattle.stm_eval.specs.EvaluatedFields.{message_ticket, message_block, message_reads, message_verdict}
+use Rattle.stm_terms.specs.declared.verdicts.Verdict.{Verdict}
 use Rattle.stm_history.specs.declared.event.What.{What}
-use Rattle.stm_history.specs.SlowDesk.{Waiter, Slow, under, verdict_on}
+use Rattle.stm_history.specs.SlowDesk.{Waiter, Slow, verdict_on}
 use Rattle.stm_history.specs.SlowSettle.{lowest, is_due, next_what, has_cells, finishes, installs}
 use Rattle.stm_history.specs.Machine.{event}
 use Rattle.stm_history.specs.declared.errors.FinishError.{FinishError}
@@ -14,15 +12,12 @@ use Rattle.stm_desk.specs.declared.errors.SettleWhy.TheVariants.{HistoryFull, Ce
 use Rattle.stm_desk.specs.Seen.{Seen, now, with_event}
 use Rattle.stm_desk.specs.Settling.{IsFull, IsCrowded}
 
--- what the lowest block that is new or stale does on the present store
-pub record IsDueMessage (s : Slow) (t : ℕ) (m : Evaluated) : Type 0 where
+-- the verdict on the present store of the lowest block that is new or stale
+pub record IsDueVerdict (s : Slow) (t : ℕ) (v : Verdict) : Type 0 where
   pub one : Waiter
   pub first : lowest is_due s.waiters ≡ Some one
   pub same : t ≡ one.ticket
-  pub ticket : message_ticket m ≡ one.ticket
-  pub block : message_block m ≡ one.block
-  pub verdict : verdict_on s.store one.block ≡ Some (message_verdict m)
-  pub reads : message_reads m ≡ reads_of (under s.store) one.block.tree
+  pub verdict : verdict_on s.store one.block ≡ Some v
 
 -- one event more, the next one of settling
 pub record IsNextEvent (client f e : ℕ) (old new : Seen) : Type 0 where

@@ -11,17 +11,15 @@ ghost use Rattle.stm_desk.specs.Seen.{now, with_event};
 ghost use Rattle.stm_desk.specs.Refusals.{finish_refusal};
 
 use crate::desk::Desk;
-use std::alloc::Global;
 use stm_history::{Event, FinishError, Plan, SharedVerdict, StalenessRule, Tickets, What};
 use stm_store::Applied;
 use stm_terms::NoMemory;
-use stm_terms::verdicts::Verdict;
 
 /// What a finish did: the verdict, with the new variables before they were numbered; what applying it did; and the tickets
 /// that became stale, rising.
 #[derive(Drop)]
 pub struct Finish {
-    pub verdict: Verdict,
+    pub verdict: SharedVerdict,
     pub applied: Applied,
     pub stale: Tickets,
 }
@@ -50,34 +48,22 @@ fn finished_event(
     })
 }
 
-/// The event of a finish by its plan, twice, and room for it in both lists.
-fn finished_events(
-    history: &mut Vec<Event>,
-    own: &mut Vec<Event>,
-    client: u32,
-    ticket: u32,
-    plan: &Plan,
-) -> Result<(Event, Event), NoMemory>
-    ensures told { IfOk result (λ p. p.0 ≡ event client
-        (AnyWhat.Finished ticket plan.now.verdict plan.now.first_new plan.now.stale)) }
-    ensures noted { IfOk result (λ p. p.1 ≡ event client
-        (AnyWhat.Finished ticket plan.now.verdict plan.now.first_new plan.now.stale)) }
-    ensures items { history.new.items ≡ history.old.items }
-    ensures own { own.new.items ≡ own.old.items }
-    ensures room { OnOk result (vec_len history.new < vec_capacity history.new) }
-    ensures own_room { OnOk result (vec_len own.new < vec_capacity own.new) }
+/// What a finish did by its plan.
+fn finish_of(plan: Plan, applied: Applied) -> Finish
+    ensures verdict { result.verdict ≡ plan.verdict }
+    ensures applied { result.applied ≡ applied }
+    ensures stale { result.stale ≡ plan.stale }
 {
-    let told = finished_event(history, client, ticket, plan)?;
-    let noted = finished_event(own, client, ticket, plan)?;
-    Ok((told, noted))
-}
-
-/// A verdict that the caller alone holds.
-fn copy_of(alloc: Global, verdict: &SharedVerdict) -> Result<Verdict, NoMemory>
-    ensures { IfOk result (λ v. v ≡ verdict.now) }
-{
-    let blocks = Verdict::Blocks;
-    verdict.get(&blocks).copy(alloc)
+    let Plan {
+        verdict,
+        first_new: _,
+        stale,
+    } = plan;
+    Finish {
+        verdict,
+        applied,
+        stale,
+    }
 }
 
 impl Desk {
@@ -92,9 +78,28 @@ impl Desk {
             .plan(ticket, self.is_full(), StalenessRule::Changed)
     }
 
-    /// The finish by its plan: its event joins the history, and the list that is lent. The answer is what applying the verdict
-    /// did. All memory is taken before the first change.
-    fn apply_plan(
+    /// The finish by its plan: its event joins the history. The answer is what applying the verdict did. All memory is taken
+    /// before the first change.
+    fn apply_plan(&mut self, client: u32, ticket: u32, plan: &Plan) -> Result<Applied, NoMemory>
+        requires client { client < max_clients }
+        requires allowed { finish_refusal self.old ticket ≡ None }
+        requires plan { IsPlan (now self.old) ticket
+            plan.now.verdict plan.now.first_new plan.now.stale }
+        ensures done { OnOk result (self.new
+            ≡ with_event self.old (event client
+            (AnyWhat.Finished ticket plan.now.verdict plan.now.first_new plan.now.stale))) }
+        ensures applied { IfOk result (λ a. a ≡ told_of (now self.old).store plan.now.verdict) }
+        ensures err { OnErr result (self.new ≡ self.old) }
+        ensures legal { IsLegal self.new.table self.new.history }
+    {
+        let told = finished_event(&mut self.history, client, ticket, plan)?;
+        let applied = self.machine.finish(ticket, plan)?;
+        self.history.push_reserved(told);
+        Ok(applied)
+    }
+
+    /// The same, and the event joins the list that is lent, too.
+    fn apply_noted(
         &mut self,
         client: u32,
         ticket: u32,
@@ -105,6 +110,7 @@ impl Desk {
         requires allowed { finish_refusal self.old ticket ≡ None }
         requires plan { IsPlan (now self.old) ticket
             plan.now.verdict plan.now.first_new plan.now.stale }
+        requires legal { IsLegal self.old.table self.old.history }
         ensures done { OnOk result (self.new
             ≡ with_event self.old (event client
             (AnyWhat.Finished ticket plan.now.verdict plan.now.first_new plan.now.stale))) }
@@ -115,39 +121,10 @@ impl Desk {
         ensures err { OnErr result ((self.new ≡ self.old) × (own.new.items ≡ own.old.items)) }
         ensures legal { IsLegal self.new.table self.new.history }
     {
-        let (told, noted) = finished_events(&mut self.history, own, client, ticket, plan)?;
-        let applied = self.machine.finish(ticket, plan)?;
-        self.history.push_reserved(told);
+        let noted = finished_event(own, client, ticket, plan)?;
+        let applied = self.apply_plan(client, ticket, plan)?;
         own.push_reserved(noted);
         Ok(applied)
-    }
-
-    /// The same, and the answer begins with a copy of the verdict.
-    fn finish_by(
-        &mut self,
-        client: u32,
-        ticket: u32,
-        plan: &Plan,
-        own: &mut Vec<Event>,
-    ) -> Result<(Verdict, Applied), NoMemory>
-        requires client { client < max_clients }
-        requires allowed { finish_refusal self.old ticket ≡ None }
-        requires plan { IsPlan (now self.old) ticket
-            plan.now.verdict plan.now.first_new plan.now.stale }
-        ensures done { OnOk result (self.new
-            ≡ with_event self.old (event client
-            (AnyWhat.Finished ticket plan.now.verdict plan.now.first_new plan.now.stale))) }
-        ensures noted { OnOk result (own.new.items
-            ≡ own.old.items ++ event client
-            (AnyWhat.Finished ticket plan.now.verdict plan.now.first_new plan.now.stale) ∷ []) }
-        ensures verdict { IfOk result (λ p. p.0 ≡ plan.now.verdict) }
-        ensures applied { IfOk result (λ p. p.1 ≡ told_of (now self.old).store plan.now.verdict) }
-        ensures err { OnErr result ((self.new ≡ self.old) × (own.new.items ≡ own.old.items)) }
-        ensures legal { IsLegal self.new.table self.new.history }
-    {
-        let verdict = copy_of(*self.history.allocator(), &plan.verdict)?;
-        let applied = self.apply_plan(client, ticket, plan, own)?;
-        Ok((verdict, applied))
     }
 
     /// The block takes effect and waits no more, and the event is at the end of the client's own list too, where it is
@@ -176,12 +153,8 @@ impl Desk {
             Ok(plan) => plan,
             Err(refusal) => return Err(refusal),
         };
-        match self.finish_by(client, ticket, &plan, own) {
-            Ok((verdict, applied)) => Ok(Finish {
-                verdict,
-                applied,
-                stale: plan.stale,
-            }),
+        match self.apply_noted(client, ticket, &plan, own) {
+            Ok(applied) => Ok(finish_of(plan, applied)),
             Err(_) => Err(FinishError::NoMemory),
         }
     }
@@ -199,7 +172,13 @@ impl Desk {
         ensures err { OnErr result (self.new ≡ self.old) }
         ensures legal { IsLegal self.new.table self.new.history }
     {
-        let mut own = Vec::new(*self.history.allocator());
-        self.finish_noted(client, ticket, &mut own)
+        let plan = match self.plan(ticket) {
+            Ok(plan) => plan,
+            Err(refusal) => return Err(refusal),
+        };
+        match self.apply_plan(client, ticket, &plan) {
+            Ok(applied) => Ok(finish_of(plan, applied)),
+            Err(_) => Err(FinishError::NoMemory),
+        }
     }
 }

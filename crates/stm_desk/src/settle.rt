@@ -7,11 +7,11 @@ ghost use Rattle.stm_history.specs.SlowSettle.{can_end};
 ghost use Rattle.stm_history.specs.SettleChoices.{some_out, next_due, next_end, ended_then, AreCandidates};
 ghost use Rattle.stm_desk.specs.Seen.{now};
 ghost use Rattle.stm_desk.specs.Settling.{called_back, HasBegun, HasSettled, IsSettled, AllBlock, StopTold};
-ghost use Rattle.stm_desk.specs.Steps.{IsDueMessage, IsNextEvent, WhyTold, StopsFinish, finish_why};
+ghost use Rattle.stm_desk.specs.Steps.{IsNextEvent, WhyTold, StopsFinish, finish_why};
 
 use crate::desk::Desk;
 use crate::errors::{SettleStop, SettleWhy};
-use stm_eval::Evaluated;
+use stm_eval::Scratch;
 use stm_history::{FinishError, TicketSet};
 use stm_store::Frozen;
 use stm_terms::NoMemory;
@@ -77,22 +77,12 @@ impl Desk {
         self.machine.first_queued()
     }
 
-    /// What the block of that ticket does on the present store.
-    fn evaluated(&self, frozen: &Frozen, ticket: u32) -> Result<Evaluated, NoMemory>
-        requires next { next_due (now self.now) ≡ Some ticket }
-        requires store { frozen.now ≡ plains (now self.now).store }
-        ensures message { IfOk result (λ m. IsDueMessage (now self.now) ticket m) }
-        ensures legal { IsLegal self.now.table self.now.history }
-        ensures few { length self.now.history ≤ self.now.limit }
-    {
-        self.machine.evaluated(frozen, ticket)
-    }
-
     /// The block of the lowest ticket that is new or stale is evaluated and delivered. Where it doesn't block, it becomes a
     /// candidate.
     fn deliver_next(
         &mut self,
         client: u32,
+        scratch: &mut Scratch,
         frozen: &Frozen,
         ticket: u32,
         candidates: &mut TicketSet,
@@ -101,6 +91,7 @@ impl Desk {
         requires next { next_due (now self.old) ≡ Some ticket }
         requires store { frozen.now ≡ plains (now self.old).store }
         requires candidates { AreCandidates (now self.old) candidates.old }
+        requires legal { IsLegal self.old.table self.old.history }
         ensures done { OnOk result (IsNextEvent client 0 1 self.old self.new) }
         ensures why { IfErr result (λ why. WhyTold why self.old) }
         ensures unchanged { OnErr result (self.new ≡ self.old) }
@@ -108,11 +99,11 @@ impl Desk {
         ensures candidates { AreCandidates (now self.new) candidates.new }
         ensures legal { IsLegal self.new.table self.new.history }
     {
-        let message = match self.evaluated(frozen, ticket) {
-            Ok(message) => message,
+        let verdict = match self.verdict_due(scratch, frozen, ticket) {
+            Ok(verdict) => verdict,
             Err(_) => return Err(SettleWhy::NoMemory),
         };
-        let ends = !blocks(message.verdict());
+        let ends = !blocks(&verdict);
         match candidates.add_if(ends, ticket) {
             Ok(()) => {}
             Err(_) => return Err(SettleWhy::NoMemory),
@@ -120,7 +111,7 @@ impl Desk {
         if self.is_full() {
             return Err(SettleWhy::HistoryFull);
         }
-        match self.install_allowed(client, message) {
+        match self.keep_verdict(client, ticket, verdict, scratch) {
             Ok(()) => Ok(()),
             Err(_) => Err(SettleWhy::NoMemory),
         }
@@ -130,6 +121,7 @@ impl Desk {
     fn deliver_all(
         &mut self,
         client: u32,
+        scratch: &mut Scratch,
         candidates: &mut TicketSet,
     ) -> Result<u32, (u32, SettleWhy)>
         requires client { client < max_clients }
@@ -157,7 +149,7 @@ impl Desk {
                 Some(ticket) => ticket,
                 None => return Ok(delivered),
             };
-            match self.deliver_next(client, &frozen, ticket, candidates) {
+            match self.deliver_next(client, scratch, &frozen, ticket, candidates) {
                 Ok(()) => {}
                 Err(why) => return Err((delivered, why)),
             }
@@ -239,8 +231,9 @@ impl Desk {
                 });
             }
         };
+        let mut scratch = Scratch::new(*self.history.allocator());
         loop {
-            match self.deliver_all(client, &mut candidates) {
+            match self.deliver_all(client, &mut scratch, &mut candidates) {
                 Ok(delivered) => evaluations += delivered,
                 Err((delivered, why)) => {
                     return Err(SettleStop {

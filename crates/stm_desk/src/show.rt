@@ -1,6 +1,6 @@
 //! What a desk shows.
 
-ghost use Rattle.std.specs.Prelude.{◌≡◌, ◌≤◌, nat_lt, true, Some, length, option_map};
+ghost use Rattle.std.specs.Prelude.{◌≡◌, ◌≤◌, nat_lt, true, Some, length, option_map, slice_get};
 ghost use Rattle.std.specs.Option.{option_copied};
 ghost use Rattle.stm_store.specs.Tables.{opened};
 ghost use Rattle.stm_history.specs.SlowDesk.{Waiter, IsLegal, is_current, find_waiter, standing, initial_state, serial, finished_from};
@@ -8,7 +8,7 @@ ghost use Rattle.stm_history.specs.SlowSettle.{lowest};
 ghost use Rattle.stm_history.specs.BlockStatus.{shown, read_then, read_now};
 ghost use Rattle.stm_history.specs.JobsHandedOut.{block_at};
 ghost use Rattle.stm_history.specs.Headline.{HeadlineHoldsBy};
-ghost use Rattle.stm_queue.specs.Queue.{tickets};
+ghost use Rattle.stm_queue.specs.Queue.{queued, tickets};
 ghost use Rattle.stm_queue.specs.SortedTickets.{IsRising};
 ghost use Rattle.stm_desk.specs.Seen.{now, DeskQueueIsRight, AllHaveVerdicts, SettlesInRounds};
 
@@ -45,6 +45,13 @@ impl Desk {
         ensures { option_copied result ≡ block_at (now self.now) ticket }
     {
         self.machine.block(ticket)
+    }
+
+    /// The i-th queued ticket, counted from the lowest.
+    pub fn queued_at(&self, i: usize) -> Option<u32>
+        ensures { result ≡ slice_get (queued self.now.pending) i }
+    {
+        self.machine.queued_at(i)
     }
 
     /// The present store: that of running the finished blocks alone, one after another.

@@ -19,10 +19,12 @@ pub mod laws;
 pub mod message;
 mod outcome;
 mod primitives;
+pub mod scratch;
 
 pub use block::{try_action, try_block};
 pub use evaluate_job::evaluate;
 pub use forked::{MAX_LEVELS, evaluate_forked};
 pub use job::Job;
 pub use message::Evaluated;
+pub use scratch::{Scratch, try_block_in};
 pub use stm_log::Reads;

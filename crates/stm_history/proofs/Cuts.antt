@@ -1,5 +1,5 @@
 -- Bytes are cut at line feeds in one way.
-use Rattle.std.proofs.Common.{◌≡◌, ◌≢◌, ℕ, suc, ◌<◌, List, [], ◌∷◌, ◌++◌, length, refl, sym, ap, ◌∙◌, arith}
+use Rattle.std.proofs.Common.{◌≡◌, ℕ, suc, ◌<◌, List, [], ◌∷◌, ◌++◌, length, refl, sym, ap, ◌∙◌, arith}
 use Rattle.stm_history.specs.Checking.{NoFeed}
 use Rattle.stm_history.specs.Fits.{IsOneLine}
 
@@ -37,9 +37,9 @@ no_feed_at_end [] (y ∷ ys) b h e = let f : 0 ≡ suc (length (ys ++ 10 ∷ b))
 no_feed_at_end (x ∷ xs) [] b h e = h.0 (ap head e)
 no_feed_at_end (x ∷ xs) (y ∷ ys) b h e = no_feed_at_end xs ys b h.1 (ap tail e)
 
-pub nofeed-push : (xs : List ℕ) (x : ℕ) → NoFeed xs → x ≢ 10 → NoFeed (xs ++ x ∷ [])
-nofeed-push [] x h k = (k, tt)
-nofeed-push (y ∷ ys) x h k = (h.0, nofeed-push ys x h.1 k)
+pub nofeed-append : (xs ys : List ℕ) → NoFeed xs → NoFeed ys → NoFeed (xs ++ ys)
+nofeed-append [] ys h k = k
+nofeed-append (x ∷ xs) ys h k = (h.0, nofeed-append xs ys h.1 k)
 
 pub no_feed : (xs : List ℕ) → IsOneLine xs → NoFeed xs
 no_feed [] h = tt

@@ -4,6 +4,7 @@ pub mod Few
 pub mod Folds
 pub mod Fresh
 pub mod Headline
+pub mod Keeping
 pub mod Kept
 pub mod Rising
 pub mod Rounds
@@ -13,7 +14,6 @@ pub mod Stores
 pub mod TypedStores
 -- What the machine keeps.
 pub mod Due
-pub mod Keys
 pub mod Placed
 pub mod Points
 pub mod Rises
@@ -25,6 +25,7 @@ pub mod Calls
 pub mod Delivery
 pub mod Finishing
 pub mod Heads
+pub mod Marks
 pub mod Moves
 pub mod Reading
 pub mod Ripe
@@ -32,6 +33,7 @@ pub mod Taking
 -- Histories as text.
 pub mod Cuts
 pub mod Exact
+pub mod Sent
 pub mod FirstFault
 pub mod FitsPushed
 pub mod OneLines
@@ -43,7 +45,9 @@ pub mod RoundTrips
 pub mod Shortness
 pub mod Standing
 pub mod Steps
+pub mod Feeding
 pub mod Telling
+pub mod TicketLists
 pub mod Types
 pub mod Unique
 pub mod Variables

@@ -12,7 +12,7 @@ use Rattle.stm_history.specs.HistoryText.{variable_lines, event_lines, history_t
 use Rattle.stm_terms.specs.Texts.{IsPrefixOf}
 
 -- the rest of a slice
-drop-all : (at : ℕ) (text : List ℕ) → take (length text - at) (drop at text) ≡ drop at text
+pub drop-all : (at : ℕ) (text : List ℕ) → take (length text - at) (drop at text) ≡ drop at text
 drop-all at text = ap (λ n. take n (drop at text)) (sym (length-drop at text)) ∙ take-length (drop at text)
 
 pub Appends-more : (a b c : Option (List ℕ)) (at n : ℕ) (text : List ℕ) → Appends a b (take at text) → Appends b c (take n (take (length text - at) (drop at text))) → Appends a c (take (at + n) text)

@@ -10,7 +10,7 @@ use Rattle.stm_history.specs.declared.waiting.Held.{Held}
 use Rattle.stm_history.specs.declared.waiting.Waiting.{Waiting}
 use Rattle.stm_history.specs.declared.places.Slot.{Slot}
 use Rattle.stm_history.specs.Entries.{kept_at, kept, lose, with_held, AllBelow, first_above, kept_ends, ends_under}
-use Rattle.stm_history.specs.Places.{waiting_in, waiting_found, held_at, listed, entries_from, OtherTicketsStay, has_end, one_of, chunk_count, AreInPlace}
+use Rattle.stm_history.specs.Places.{waiting_in, waiting_found, held_at, listed, entries_from, OtherTicketsStay, one_of, chunk_count, AreInPlace}
 use Rattle.stm_terms.specs.declared.verdicts.Verdict.{Verdict}
 
 -- ---- one step of the lists, by whether the ticket is that of the head
@@ -200,40 +200,58 @@ any_more : (t n : ℕ) (o : Option Waiting) (es : List (ℕ × Waiting)) → end
 any_more t n None es = grind arith
 any_more t n (Some w) es = refl
 
-here_end : (a b c : Bool) (o : Option Waiting) (rest : Bool) → (a ≡ true → b ≡ true → c ≡ true) → (a && kept_ends (cond b o None)) ≡ true → ((c && kept_ends o) || rest) ≡ true
-here_end true true c o rest f h = rw (f refl refl) (ap (λ (x : Bool). x || rest) h)
-here_end true false c o rest f h = cc
-here_end false b c o rest f h = cc
-
-rest_end : (a b : Bool) → b ≡ true → (a || b) ≡ true
-rest_end true b h = refl
-rest_end false b h = h
-
-both_same : (t n m : ℕ) → nat_eq t n ≡ true → nat_eq m n ≡ true → nat_eq t m ≡ true
-both_same t n m g h = grind (arith, nat_tests)
-
 no_end : (a : Bool) → (a && false) ≡ true → false ≡ true
 no_end true h = h
 no_end false h = h
-
-found_end : (t n p : ℕ) (s : List Slot) → (nat_eq t n && kept_ends (waiting_found n (slice_get s p))) ≡ true → has_end t s ≡ true
-found_end t n p [] h = no_end (nat_eq t n) h
-found_end t n zero (x ∷ s) h = here_end (nat_eq t n) (nat_eq x.number n) (nat_eq t x.number) x.waiting (has_end t s) (both_same t n x.number) h
-found_end t n (suc p) (x ∷ s) h = rest_end (nat_eq t x.number && kept_ends x.waiting) (has_end t s) (found_end t n p s h)
-
-place_end : (t n p : ℕ) (s : List Slot) → (nat_eq t n && kept_ends (held_at n p s)) ≡ true → has_end t s ≡ true
-place_end t n zero s h = absurd (false≢true (no_end (nat_eq t n) h))
-place_end t n (suc p) s h = found_end t n p s h
 
 either : (a b c : Bool) → (a ≡ true → c ≡ true) → (b ≡ true → c ≡ true) → (a || b) ≡ true → c ≡ true
 either true b c f g h = f refl
 either false b c f g h = g h
 
-pub ends_from : (t n : ℕ) (ps : List ℕ) (s : List Slot) → ends_under t (entries_from n ps s) ≡ true → has_end t s ≡ true
-ends_from t n [] s h = absurd (false≢true h)
-ends_from t n (p ∷ ps) s h =
-    either (nat_eq t n && kept_ends (held_at n p s)) (ends_under t (entries_from (suc n) ps s)) (has_end t s)
-    (place_end t n p s) (ends_from t (suc n) ps s) (sym (any_more t n (held_at n p s) (entries_from (suc n) ps s)) ∙ h)
+none_above : (t n : ℕ) (ps : List ℕ) (s : List Slot) → t < n → ends_under t (entries_from n ps s) ≡ true → false ≡ true
+none_above t n [] s l h = h
+none_above t n (p ∷ ps) s l h =
+    let e : nat_eq t n ≡ false = grind (arith, nat_tests) in
+    none_above t (suc n) ps s (omega arith) (rw e at (sym (any_more t n (held_at n p s) (entries_from (suc n) ps s)) ∙ h))
+
+end_here : (b : Bool) (t n p : ℕ) (s : List Slot) (rest : Bool) → n ≡ t → (rest ≡ true → false ≡ true) → ((b && kept_ends (held_at n p s)) || rest) ≡ true → kept_ends (held_at t p s) ≡ true
+end_here true t n p s rest e none h = ap (λ (m : ℕ). kept_ends (held_at m p s)) (sym e) ∙ either (kept_ends (held_at n p s)) rest (kept_ends (held_at n p s)) (λ x. x) (λ x. absurd (false≢true (none x))) h
+end_here false t n p s rest e none h = absurd (false≢true (none h))
+
+ends_from : (t n k : ℕ) (ps : List ℕ) (s : List Slot) → t ≡ n + k → ends_under t (entries_from n ps s) ≡ true → kept_ends (held_at t (get_or ps k 0) s) ≡ true
+ends_from t n k [] s e h = absurd (false≢true h)
+ends_from t n zero (p ∷ ps) s e h =
+    let same : n ≡ t = omega arith in
+    end_here (nat_eq t n) t n p s (ends_under t (entries_from (suc n) ps s)) same (none_above t (suc n) ps s (omega arith)) (sym (any_more t n (held_at n p s) (entries_from (suc n) ps s)) ∙ h)
+ends_from t n (suc k) (p ∷ ps) s e h =
+    let f : nat_eq t n ≡ false = grind (arith, nat_tests) in
+    ends_from t (suc n) k ps s (omega arith) (rw f at (sym (any_more t n (held_at n p s) (entries_from (suc n) ps s)) ∙ h))
+
+pub ends_at_place : (t : ℕ) (ps : List ℕ) (s : List Slot) → ends_under t (entries_from 0 ps s) ≡ true → kept_ends (held_at t (get_or ps t 0) s) ≡ true
+ends_at_place t ps s h = ends_from t 0 t ps s (omega arith) h
+
+past : (ps : List ℕ) (t : ℕ) → length ps ≤ t → get_or ps t 0 ≡ 0
+past [] t h = refl
+past (p ∷ ps) zero h = absurd (omega arith)
+past (p ∷ ps) (suc t) h = past ps t (omega arith)
+
+within_by : (b : Bool) (t : ℕ) (ps : List ℕ) (s : List Slot) → nat_lt t (length ps) ≡ b → kept_ends (held_at t (get_or ps t 0) s) ≡ true → t < length ps
+within_by true t ps s e h = grind (arith, nat_tests)
+within_by false t ps s e h =
+    let l : length ps ≤ t = grind (arith, nat_tests) in
+    absurd (false≢true (sym (ap (λ (p : ℕ). kept_ends (held_at t p s)) (past ps t l)) ∙ h))
+
+pub ends_within : (t : ℕ) (ps : List ℕ) (s : List Slot) → kept_ends (held_at t (get_or ps t 0) s) ≡ true → t < length ps
+ends_within t ps s h = within_by (nat_lt t (length ps)) t ps s refl h
+
+some_within : (b : Bool) (t : ℕ) (ps : List ℕ) (s : List Slot) → nat_lt t (length ps) ≡ b → (kept_at t (entries_from 0 ps s) ≡ None → ⊥) → t < length ps
+some_within true t ps s e n = grind (arith, nat_tests)
+some_within false t ps s e n =
+    let l : length ps ≤ t = grind (arith, nat_tests) in
+    absurd (n (kept_entries t ps s ∙ ap (λ (p : ℕ). held_at t p s) (past ps t l)))
+
+pub kept_within : (t : ℕ) (ps : List ℕ) (s : List Slot) → (kept_at t (entries_from 0 ps s) ≡ None → ⊥) → t < length ps
+kept_within t ps s n = some_within (nat_lt t (length ps)) t ps s refl n
 
 -- ---- a place behind the others
 last_get : (n : ℕ) (x : Slot) (s : List Slot) → n ≡ length s → slice_get (s ++ x ∷ []) n ≡ Some x
@@ -348,6 +366,14 @@ chunk_count_some t w es h =
 none_of : (t : ℕ) (o : Option Waiting) (es : List (ℕ × Waiting)) → kept_at t es ≡ o → chunk_count (t / 1024) es ≡ 0 → is_some o ≡ false
 none_of t None es h e = refl
 none_of t (Some w) es h e = let l : 1 ≤ chunk_count (t / 1024) es = chunk_count_some t w es h in absurd (omega arith)
+
+ends_some : (o : Option Waiting) → is_some o ≡ false → kept_ends o ≡ true → false ≡ true
+ends_some None h e = e
+ends_some (Some w) h e = cc
+
+-- where no block of the chunk waits, none ends
+pub chunk_ends : (t : ℕ) (ps : List ℕ) (s : List Slot) → chunk_count (t / 1024) (entries_from 0 ps s) ≡ 0 → kept_ends (held_at t (get_or ps t 0) s) ≡ true → false ≡ true
+chunk_ends t ps s e h = ends_some (held_at t (get_or ps t 0) s) (none_of t (held_at t (get_or ps t 0) s) (entries_from 0 ps s) (kept_entries t ps s) e) h
 
 chunk_count_length : (b : ℕ) (es : List (ℕ × Waiting)) → chunk_count b es ≤ length es
 chunk_count_length b [] = omega arith

@@ -1,7 +1,5 @@
 -- What is reported of the bytes where a line is refused.
-use Rattle.std.proofs.Common.{◌≡◌, ◌≢◌, ℕ, ◌+◌, ◌≤◌, ◌<◌, ◌^◌, List, [], ◌∷◌, ◌++◌, length, refl, sym, ap, ◌∙◌, subst, arith, append_assoc, append-nil, length-append, ◌⊎◌, inl, inr, take, drop, get_or, add-one, Result, Ok, Err, IfOk}
-use Rattle.std.proofs.Math.Seq.{drop-cons}
-use Rattle.std.proofs.lemmas.List.{take-append-drop}
+use Rattle.std.proofs.Common.{◌≡◌, ℕ, ◌+◌, ◌≤◌, ◌<◌, ◌^◌, List, [], ◌∷◌, ◌++◌, length, refl, sym, ap, ◌∙◌, subst, arith, append_assoc, append-nil, length-append, ◌⊎◌, inl, inr, Result, Ok, Err, IfOk}
 use Rattle.stm_store.specs.Tables.{Declared}
 use Rattle.stm_history.specs.declared.event.Event.{Event}
 use Rattle.stm_history.specs.SlowDesk.{max_cells}
@@ -19,7 +17,7 @@ use Rattle.stm_history.specs.declared.files.replayer.Replayer.{Replayer}
 use Rattle.stm_history.specs.Following.{FollowsIn}
 use Rattle.stm_history.specs.Checking.{CheckerState, at_header, at_variables, at_events, LeadsTo, LinesUpTo, NoNext, NoFeed, IsStrange, strange, MayRefuse, HasTaken}
 use Rattle.stm_history.specs.Stages.{IsStage, Reached, LeadsToStage}
-use Rattle.stm_history.proofs.Cuts.{IsCut, cut_unique, no_cut, no_feed_at_end, nofeed-push, no_feed}
+use Rattle.stm_history.proofs.Cuts.{IsCut, cut_unique, no_cut, no_feed_at_end, nofeed-append, no_feed}
 use Rattle.stm_history.proofs.Shortness.{header_short, variable_short}
 use Rattle.stm_history.proofs.Standing.{LinesUpTo-line}
 
@@ -105,13 +103,13 @@ HasTaken-feed r t line taken h k = record {
   short = omega arith;
 }
 
-pub HasTaken-byte : (r : CheckerState) (line taken : List ℕ) (b : ℕ) → HasTaken r line taken → b ≢ 10 → length line < max_line → HasTaken r (line ++ b ∷ []) (taken ++ b ∷ [])
-HasTaken-byte r line taken b h k l = record {
+pub HasTaken-part : (r : CheckerState) (line taken part : List ℕ) → HasTaken r line taken → NoFeed part → length line + length part ≤ max_line → HasTaken r (line ++ part) (taken ++ part)
+HasTaken-part r line taken part h k l = record {
   whole = h.whole;
-  taken_is = ap (λ x. x ++ b ∷ []) h.taken_is ∙ append_assoc h.whole line (b ∷ []);
+  taken_is = ap (λ x. x ++ part) h.taken_is ∙ append_assoc h.whole line part;
   lines = h.lines;
-  one_line = nofeed-push line b h.one_line k;
-  short = omega (arith, length-append line (b ∷ []));
+  one_line = nofeed-append line part h.one_line k;
+  short = omega (arith, length-append line part);
 }
 
 some_more : (line more : List ℕ) (b : ℕ) → 0 < length (line ++ b ∷ more)
@@ -147,11 +145,11 @@ TellsFault-refused (at_events format table history) line taken more e h (inr (in
     )
 
 -- a line too long
-pub TellsFault-long : (r : CheckerState) (line taken more : List ℕ) (b : ℕ) → HasTaken r line taken → b ≢ 10 → max_line ≤ length line → TellsFault (strange r) (taken ++ b ∷ more)
-TellsFault-long r line taken more b h k l =
-    let same : (line ++ b ∷ []) ++ more ≡ line ++ b ∷ more = append_assoc line (b ∷ []) more in
-    let never : NoNext r (line ++ b ∷ more) = subst (NoNext r) same (NoNext-long r (line ++ b ∷ []) more (nofeed-push line b h.one_line k) (omega (arith, length-append line (b ∷ [])))) in
-    tells_at (strange r) r line taken (b ∷ more) h refl (TellsFault-strange r h.whole (line ++ b ∷ more) h.lines never (inl (some_more line more b)))
+pub TellsFault-long : (r : CheckerState) (line taken part more : List ℕ) → HasTaken r line taken → NoFeed part → max_line < length line + length part → TellsFault (strange r) (taken ++ (part ++ more))
+TellsFault-long r line taken part more h k l =
+    let never : NoNext r (line ++ (part ++ more)) = subst (NoNext r) (append_assoc line part more) (NoNext-long r (line ++ part) more (nofeed-append line part h.one_line k) (omega (arith, length-append line part))) in
+    let some : 0 < length (line ++ (part ++ more)) = omega (arith, length-append line (part ++ more), length-append part more) in
+    tells_at (strange r) r line taken (part ++ more) h refl (TellsFault-strange r h.whole (line ++ (part ++ more)) h.lines never (inl some))
 
 -- the end of the bytes
 pub TellsFault-end : (r : CheckerState) (line taken : List ℕ) → HasTaken r line taken → (0 < length line ⊎ (strange r ≡ BadHeader)) → TellsFault (strange r) taken
@@ -187,15 +185,15 @@ fed_byte s s' t line line' left taken b b10 es el e h r =
     let led : LeadsTo r.progress line k.0 = subst (λ (l : List ℕ). LeadsTo r.progress l k.0) el k.1 in
     rw (b10, e) (record { progress = k.0; stage = k.2; held = HasTaken-feed r.progress k.0 line taken r.held led })
 
-pub byte_more : (s : Stage) (line taken : List ℕ) (b : ℕ) → Reached s line taken → b ≢ 10 → length line < max_line → Reached s (line ++ b ∷ []) (taken ++ b ∷ [])
-byte_more s line taken b r k l = record { progress = r.progress; stage = r.stage; held = HasTaken-byte r.progress line taken b r.held k l }
+pub part_more : (s : Stage) (line taken part : List ℕ) → Reached s line taken → NoFeed part → length line + length part ≤ max_line → Reached s (line ++ part) (taken ++ part)
+part_more s line taken part r k l = record { progress = r.progress; stage = r.stage; held = HasTaken-part r.progress line taken part r.held k l }
 
 pub ends_early : (s : Stage) (line taken : List ℕ) (e : HistoryFault) → ((p : CheckerState) → IsStage s p → e ≡ strange p) → Reached s line taken → (0 < length line ⊎ (e ≡ BadHeader)) → TellsFault e taken
 ends_early s line taken e k r (inl some) = let same = k r.progress r.stage in subst (λ (x : HistoryFault). TellsFault x taken) (sym same) (TellsFault-end r.progress line taken r.held (inl some))
 ends_early s line taken e k r (inr bad) = let same = k r.progress r.stage in subst (λ (x : HistoryFault). TellsFault x taken) (sym same) (TellsFault-end r.progress line taken r.held (inr (sym same ∙ bad)))
 
-pub too_long : (s : Stage) (line taken more : List ℕ) (b : ℕ) (e : HistoryFault) → ((p : CheckerState) → IsStage s p → e ≡ strange p) → Reached s line taken → b ≢ 10 → max_line ≤ length line → TellsFault e (taken ++ b ∷ more)
-too_long s line taken more b e k r n l = subst (λ (x : HistoryFault). TellsFault x (taken ++ b ∷ more)) (sym (k r.progress r.stage)) (TellsFault-long r.progress line taken more b r.held n l)
+pub too_long : (s : Stage) (line taken part more : List ℕ) (e : HistoryFault) → ((p : CheckerState) → IsStage s p → e ≡ strange p) → Reached s line taken → NoFeed part → max_line < length line + length part → TellsFault e (taken ++ (part ++ more))
+too_long s line taken part more e k r n l = subst (λ (x : HistoryFault). TellsFault x (taken ++ (part ++ more))) (sym (k r.progress r.stage)) (TellsFault-long r.progress line taken part more r.held n l)
 
 -- a stage with variables is at fault in the head
 pub declaring_strange : (s : Stage) (format vars : ℕ) (names : List Declared) (p : CheckerState) → s ≡ Declaring format vars names → IsStage s p → BadHeader ≡ strange p
@@ -217,11 +215,3 @@ pub run_leads : (o : Result Stage HistoryFault) (format : ℕ) (names : List Dec
     → IfOk o (λ s. (p : CheckerState) → IsStage (Running format names r) p → LeadsToStage p line s)
 run_leads (Ok s) format names r line f = λ p i. leads_by format names r line s p i f
 run_leads (Err e) format names r line f = tt
-
-split : (bytes : List ℕ) (i : ℕ) (more : List ℕ) → i < length bytes → bytes ++ more ≡ take i bytes ++ (get_or bytes i 0 ∷ (drop (i + 1) bytes ++ more))
-split bytes i more h =
-    let next : drop i bytes ≡ get_or bytes i 0 ∷ drop (i + 1) bytes = rw add-one (drop-cons bytes i 0 h) in
-    ap (λ l. l ++ more) (sym (take-append-drop i bytes)) ∙ append_assoc (take i bytes) (drop i bytes) more ∙ ap (λ l. take i bytes ++ (l ++ more)) next
-
-pub told_within : (taken bytes more : List ℕ) (i : ℕ) (e : HistoryFault) → i < length bytes → TellsFault e ((taken ++ take i bytes) ++ (get_or bytes i 0 ∷ (drop (i + 1) bytes ++ more))) → TellsFault e (taken ++ (bytes ++ more))
-told_within taken bytes more i e h t = subst (TellsFault e) (append_assoc taken (take i bytes) _ ∙ ap (λ x. taken ++ x) (sym (split bytes i more h))) t

@@ -8,10 +8,13 @@ pub mod SlowSettle
 -- The words inside, for what the machine holds and hands out.
 pub mod BlockStatus
 pub mod Entries
+pub mod FreshReads
 pub mod IndexEncoding
 pub mod JobsHandedOut
+pub mod Keeping
 pub mod Machine
 pub mod MachineInvariant
+pub mod Marks
 pub mod Places
 pub mod Plans
 pub mod QueueAndIndex
@@ -28,5 +31,6 @@ pub mod WholeBlocks
 pub mod Checking
 pub mod Fields
 pub mod Following
+pub mod Sending
 pub mod Stages
 pub mod Variables

@@ -1,12 +1,11 @@
 -- The waiting blocks as they are kept: a place for each ticket, and in the slot at a place a block with its ticket, or none.
-use Rattle.std.specs.Prelude.{◌≡◌, ℕ, zero, suc, ◌+◌, ◌/◌, ◌≤◌, ◌^◌, Bool, false, ◌&&◌, length, nat_eq, if◌then◌else◌, List, [], ◌∷◌, Option, Some, None, slice_get, slice_index_or, option_map}
-use Rattle.std.specs.List.{list_any}
+use Rattle.std.specs.Prelude.{◌≡◌, ℕ, zero, suc, ◌+◌, ◌/◌, ◌≤◌, ◌^◌, Bool, false, length, nat_eq, if◌then◌else◌, List, [], ◌∷◌, Option, Some, None, slice_get, slice_index_or, option_map}
 use Rattle.stm_terms.specs.declared.verdicts.Verdict.{Verdict}
 use Rattle.stm_terms.specs.declared.verdicts.Verdict.TheVariants.{Blocks}
 use Rattle.stm_history.specs.declared.waiting.Held.{Held}
 use Rattle.stm_history.specs.declared.waiting.Waiting.{Waiting}
 use Rattle.stm_history.specs.declared.places.Slot.{Slot}
-use Rattle.stm_history.specs.Entries.{kept, kept_ends}
+use Rattle.stm_history.specs.Entries.{kept}
 
 -- what is kept there, if it is this ticket's
 abbrev pub waiting_in : ℕ → Slot → Option Waiting
@@ -39,10 +38,6 @@ entries_from n (p ∷ ps) slots = listed n (held_at n p slots) (entries_from (su
 -- whatever is found for other tickets is still found
 abbrev pub OtherTicketsStay : ℕ → List Slot → List Slot → Type 0
 OtherTicketsStay t slots new = (u p : ℕ) → nat_eq u t ≡ false → held_at u p new ≡ held_at u p slots
-
--- a place has a block with this ticket whose last delivery brought a verdict that doesn't block
-abbrev pub has_end : ℕ → List Slot → Bool
-has_end t slots = list_any (λ s. nat_eq t s.number && kept_ends s.waiting) slots
 
 -- one if the ticket is in the b-th chunk of 1,024, else none
 abbrev pub one_of : ℕ → ℕ → ℕ

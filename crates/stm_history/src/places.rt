@@ -3,18 +3,22 @@
 //! A place is the number of a slot, counted from 1; 0 is none. A slot belongs to a ticket only if the ticket's number is in it, so
 //! the table may hold a place that was given to another ticket since, and no invariant has to rule that out.
 
-ghost use Rattle.std.specs.Prelude.{◌≡◌, ℕ, List, ◌+◌, ◌/◌, ◌<◌, ◌≤◌, ◌^◌, ◌&&◌, ◌||◌, Some, None, true, false, nat_eq, length, slice_index_or, option_map, IsTrue, IfOk, OnOk, OnErr};
+ghost use Rattle.std.specs.Prelude.{◌≡◌, ℕ, List, ◌+◌, ◌/◌, ◌<◌, ◌≤◌, ◌^◌, ◌&&◌, ◌||◌, Some, None, true, false, nat_eq, length, max, slice_index_or, option_map, IsTrue, IfOk, OnOk, OnErr};
 ghost use Rattle.std.specs.Option.{option_copied};
 ghost use Rattle.std.specs.Vec.{vec_len};
 ghost use Rattle.stm_queue.specs.SortedTickets.{member};
 ghost use Rattle.stm_history.specs.Entries.{kept, kept_ends, first_above};
-ghost use Rattle.stm_history.specs.Places.{waiting_in, with_owned, held_at, entries_from, OtherTicketsStay, has_end, one_of, chunk_count};
+ghost use Rattle.stm_history.specs.FreshReads.{AreFresh, AreFreshFor};
+ghost use Rattle.stm_history.specs.Places.{waiting_in, with_owned, held_at, entries_from, OtherTicketsStay, one_of, chunk_count};
 ghost use Rattle.stm_history.specs.declared.places.Slot.{Slot};
 
+use crate::shared_verdict::SharedVerdict;
 use crate::ticket_set::TicketSet;
-use crate::waiting::{Held, Waiting, keep};
+use crate::waiting::{Held, Waiting, keep, keep_reads};
 use std::alloc::AllocError as NoMemory;
 use stm_check::SharedBlock;
+use stm_eval::Scratch;
+use stm_log::Reads;
 
 /// A slot. `number` is the ticket of the block in it; in an unused slot it is a place that may be unused too.
 #[derive(Drop)]
@@ -80,6 +84,80 @@ pub(crate) fn hold_at(slots: &mut Vec<Slot>, place: u32, ticket: u32, held: Held
         let at = place as usize - 1;
         if at < slots.len() {
             hold_in(&mut slots[at], ticket, held);
+        }
+    }
+}
+
+/// The reads that `keep_reads` is to put into a block: none if it has a list of as many, which is to be used again.
+fn fresh_in(waiting: &Waiting, scratch: &Scratch) -> Result<Option<Reads>, NoMemory>
+    ensures { IfOk result (λ fresh. AreFresh fresh waiting.now.held scratch.now) }
+{
+    match &waiting.held {
+        Some(held) => {
+            if held.reads.len() == scratch.as_slice().len() {
+                Ok(None)
+            } else {
+                Ok(Some(scratch.copy()?))
+            }
+        }
+        None => Ok(Some(scratch.copy()?)),
+    }
+}
+
+/// The same for the block of a ticket at this place.
+pub(crate) fn fresh_at(
+    slots: &[Slot],
+    place: u32,
+    ticket: u32,
+    scratch: &Scratch,
+) -> Result<Option<Reads>, NoMemory>
+    ensures { IfOk result (λ fresh. AreFreshFor fresh (held_at ticket place slots.now) scratch.now) }
+{
+    match held_at(slots, place, ticket) {
+        Some(waiting) => fresh_in(waiting, scratch),
+        None => Ok(None),
+    }
+}
+
+/// Keeps a verdict, and what was read, with the block of a ticket at this place.
+pub(crate) fn hold_reads_at(
+    slots: &mut Vec<Slot>,
+    place: u32,
+    ticket: u32,
+    fresh: Option<Reads>,
+    scratch: &Scratch,
+    verdict: SharedVerdict,
+)
+    requires { AreFreshFor fresh (held_at ticket place slots.old.items) scratch.now }
+    ensures held { held_at ticket place slots.new.items
+        ≡ option_map (kept (record { reads = scratch.now; verdict = verdict }))
+        (held_at ticket place slots.old.items) }
+    ensures others { OtherTicketsStay ticket slots.old.items slots.new.items }
+{
+    if place != 0 {
+        let at = place as usize - 1;
+        if at < slots.len() {
+            hold_reads_in(&mut slots[at], ticket, fresh, scratch, verdict);
+        }
+    }
+}
+
+fn hold_reads_in(
+    slot: &mut Slot,
+    ticket: u32,
+    fresh: Option<Reads>,
+    scratch: &Scratch,
+    verdict: SharedVerdict,
+)
+    requires { AreFreshFor fresh (waiting_in ticket slot.old) scratch.now }
+    ensures number { slot.new.number ≡ slot.old.number }
+    ensures waiting { slot.new.waiting
+        ≡ with_owned ticket (record { reads = scratch.now; verdict = verdict }) slot.old }
+{
+    if slot.number == ticket {
+        match &mut slot.waiting {
+            Some(waiting) => keep_reads(waiting, fresh, scratch, verdict),
+            None => {}
         }
     }
 }
@@ -186,6 +264,7 @@ pub(crate) fn put(
 pub(crate) fn reach(places: &mut Vec<u32>, ticket: u32) -> Result<(), NoMemory>
     requires { vec_len places.old ≤ 2 ^ 32 }
     ensures reached { OnOk result (ticket < vec_len places.new) }
+    ensures little { vec_len places.new ≤ max (vec_len places.old) (ticket + 1) }
     ensures short { vec_len places.new ≤ 2 ^ 32 }
     ensures same { (slots : List Slot) → entries_from 0 places.new.items slots
         ≡ entries_from 0 places.old.items slots }
@@ -270,29 +349,87 @@ pub(crate) fn next_held(
     None
 }
 
-/// Adds the tickets of the blocks whose last delivery brought a verdict that doesn't block.
-pub(crate) fn add_ending(slots: &[Slot], tickets: &mut TicketSet) -> Result<(), NoMemory>
-    ensures { OnOk result ((t : ℕ) → has_end t slots.now ≡ true → member t tickets.new ≡ true) }
+/// For this many tickets in a row it is kept whether a verdict that doesn't block was ever brought to one of them.
+const MARKED: usize = 256;
+
+/// Makes the list of marks long enough for a ticket.
+pub(crate) fn reach_mark(marks: &mut Vec<bool>, ticket: u32) -> Result<(), NoMemory>
+    ensures reached { OnOk result (ticket / 256 < vec_len marks.new) }
+    ensures longer { vec_len marks.old ≤ vec_len marks.new }
+    ensures same { (b : ℕ) → slice_index_or marks.new.items b false ≡ slice_index_or marks.old.items b false }
 {
-    for slot in slots {
-        add_if_ends(slot, tickets)?;
+    let len = ticket as usize / MARKED + 1;
+    if marks.len() < len {
+        marks.resize(len, false)?;
     }
     Ok(())
 }
 
-fn add_if_ends(slot: &Slot, tickets: &mut TicketSet) -> Result<(), NoMemory>
-    ensures ok { OnOk result ((t : ℕ)
-        → member t tickets.new
-        ≡ ((nat_eq t slot.now.number && kept_ends slot.now.waiting) || member t tickets.old)) }
+/// Marks the tickets around this one, if it is wanted.
+pub(crate) fn mark_if(marks: &mut Vec<bool>, wanted: bool, ticket: u32)
+    ensures set { wanted ≡ true → ticket / 256 < vec_len marks.old
+        → slice_index_or marks.new.items (ticket / 256) false ≡ true }
+    ensures keeps { (b : ℕ) → slice_index_or marks.old.items b false ≡ true
+        → slice_index_or marks.new.items b false ≡ true }
+    ensures len { vec_len marks.new ≡ vec_len marks.old }
 {
-    match &slot.waiting {
-        Some(waiting) => {
-            if waiting.ends() {
-                tickets.add(slot.number)
-            } else {
-                Ok(())
-            }
+    let at = ticket as usize / MARKED;
+    if wanted && at < marks.len() {
+        marks[at] = true;
+    }
+}
+
+/// Whether the tickets around this one are marked.
+fn is_marked(marks: &[bool], ticket: usize) -> bool
+    ensures { result ≡ slice_index_or marks.now (ticket / 256) false }
+{
+    match marks.get(ticket / MARKED) {
+        Some(marked) => *marked,
+        None => false,
+    }
+}
+
+/// Adds the tickets of the blocks whose last delivery brought a verdict that doesn't block. Tickets that aren't marked are skipped,
+/// and those of chunks in which no block waits.
+pub(crate) fn add_ending(
+    places: &[u32],
+    slots: &[Slot],
+    chunk_counts: &[usize],
+    marks: &[bool],
+    tickets: &mut TicketSet,
+) -> Result<(), NoMemory>
+    requires short { length places.now ≤ 2 ^ 32 }
+    requires by_chunk { (b : ℕ) → slice_index_or chunk_counts.now b 0
+        ≡ chunk_count b (entries_from 0 places.now slots.now) }
+    ensures { OnOk result ((t : ℕ) → t < length places.now
+        → slice_index_or marks.now (t / 256) false ≡ true
+        → kept_ends (held_at t (slice_index_or places.now t 0) slots.now) ≡ true
+        → member t tickets.new ≡ true) }
+{
+    let mut ticket: usize = 0;
+    while ticket < places.len() {
+        if is_marked(marks, ticket) && chunk_has_waiting(chunk_counts, ticket) {
+            let waiting = held_at(slots, places[ticket], ticket as u32);
+            add_if_ends(waiting, ticket as u32, tickets)?;
+            ticket += 1;
+        } else {
+            ticket = (ticket / MARKED + 1) * MARKED;
         }
+    }
+    Ok(())
+}
+
+fn add_if_ends(
+    waiting: Option<&Waiting>,
+    ticket: u32,
+    tickets: &mut TicketSet,
+) -> Result<(), NoMemory>
+    ensures keeps { (u : ℕ) → member u tickets.old ≡ true → member u tickets.new ≡ true }
+    ensures added { OnOk result (kept_ends (option_copied waiting.entry) ≡ true
+        → member ticket tickets.new ≡ true) }
+{
+    match waiting {
+        Some(waiting) => tickets.add_if(waiting.ends(), ticket),
         None => Ok(()),
     }
 }

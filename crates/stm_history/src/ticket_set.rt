@@ -4,22 +4,34 @@ ghost use Rattle.std.specs.Prelude.{◌≡◌, ℕ, ◌≤◌, ◌||◌, [], tru
 ghost use Rattle.stm_queue.specs.SortedTickets.{member};
 
 use std::alloc::{AllocError as NoMemory, Global};
-use std::collections::BTreeSet;
+use std::collections::VecDeque;
 use std::marker::Model;
+use stm_queue::sorted::{has_ticket_in, put_in};
 
 /// Tickets, rising.
 #[derive(Drop)]
 pub struct TicketSet {
-    tickets: BTreeSet<u32>,
+    tickets: VecDeque<u32>,
 }
 
 impl Model for TicketSet {
     ghost use Rattle.std.specs.Prelude.{List, ℕ};
-    ghost use Rattle.std.specs.BTreeSet.{keys};
+    ghost use Rattle.stm_queue.specs.SortedTickets.{IsRising};
 
     ghost Value = { List ℕ };
 
-    ghost view = { λ s. keys s.tickets };
+    ghost view = { λ s. s.tickets.items };
+
+    ghost invariant = { λ s. IsRising s.tickets.items };
+}
+
+fn lowest_in(tickets: &VecDeque<u32>) -> Option<u32>
+    ensures { result ≡ slice_get tickets.now.items 0 }
+{
+    match tickets.front() {
+        Some(ticket) => Some(*ticket),
+        None => None,
+    }
 }
 
 impl TicketSet {
@@ -28,7 +40,7 @@ impl TicketSet {
         ensures { result ≡ [] }
     {
         TicketSet {
-            tickets: BTreeSet::new(alloc),
+            tickets: VecDeque::new(alloc),
         }
     }
 
@@ -37,17 +49,14 @@ impl TicketSet {
         ensures first { result ≡ slice_get self.now 0 }
         ensures least { IfSome result (λ t. (u : ℕ) → member u self.now ≡ true → t ≤ u) }
     {
-        match self.tickets.first() {
-            Some(ticket) => Some(*ticket),
-            None => None,
-        }
+        lowest_in(&self.tickets)
     }
 
     /// The others.
     pub fn drop_least(&mut self)
         ensures { self.new ≡ drop 1 self.old }
     {
-        let _ = self.tickets.pop_first();
+        let _ = self.tickets.pop_front();
     }
 
     /// One ticket more.
@@ -56,7 +65,11 @@ impl TicketSet {
             → member u self.new ≡ (nat_eq u ticket || member u self.old)) }
         ensures err { OnErr result (self.new ≡ self.old) }
     {
-        self.tickets.insert(ticket)?;
+        if has_ticket_in(&self.tickets, ticket) {
+            return Ok(());
+        }
+        self.tickets.reserve(1)?;
+        put_in(&mut self.tickets, ticket);
         Ok(())
     }
 

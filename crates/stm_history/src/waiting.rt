@@ -4,16 +4,18 @@ ghost use Rattle.std.specs.Prelude.{◌≡◌, ◌≢◌, ℕ, ◌++◌, ◌∷�
 ghost use Rattle.stm_queue.specs.SortedTickets.{member};
 ghost use Rattle.std.specs.Option.{option_copied};
 ghost use Rattle.stm_history.specs.Entries.{kept_at, kept, lose, with_held, AllBelow, held_reads, held_ends, ends_under, first_above};
+ghost use Rattle.stm_history.specs.FreshReads.{AreFresh, AreFreshFor};
 
 use crate::places::{
-    Slot, add_ending, decrement_chunk, held_at, hold_at, increment_chunk, next_held, place_of, put,
-    reach, reach_chunk, take_at,
+    Slot, add_ending, decrement_chunk, fresh_at, held_at, hold_at, hold_reads_at, increment_chunk,
+    mark_if, next_held, place_of, put, reach, reach_chunk, reach_mark, take_at,
 };
 use crate::shared_verdict::SharedVerdict;
 use crate::ticket_set::TicketSet;
 use std::alloc::{AllocError as NoMemory, Global};
 use std::marker::Model;
 use stm_check::SharedBlock;
+use stm_eval::Scratch;
 use stm_log::Reads;
 use stm_terms::values::Value;
 use stm_terms::verdicts::Verdict;
@@ -65,6 +67,8 @@ pub(crate) struct WaitingBlocks {
     count: usize,
     // How many blocks wait in each chunk of 1,024 tickets.
     chunk_counts: Vec<usize>,
+    // For each 256 tickets, whether one of them ever had a verdict that doesn't block.
+    marks: Vec<bool>,
     // Lent for each verdict `Blocks` that is held.
     blocks: Verdict,
 }
@@ -76,6 +80,7 @@ impl Model for WaitingBlocks {
     ghost use Rattle.stm_terms.specs.declared.verdicts.Verdict.TheVariants.{Blocks};
     ghost use Rattle.stm_history.specs.declared.waiting.Waiting.{Waiting as AnyWaiting};
     ghost use Rattle.stm_history.specs.Places.{entries_from, AreInPlace};
+    ghost use Rattle.stm_history.specs.Marks.{AreMarked};
 
     ghost Value = { List (ℕ × AnyWaiting) };
 
@@ -83,7 +88,8 @@ impl Model for WaitingBlocks {
 
     ghost view = { λ w. entries_from 0 w.places.items w.slots.items };
 
-    ghost invariant = { λ w. AreInPlace w.places.items w.slots.items w.count w.chunk_counts.items w.blocks };
+    ghost invariant = { λ w. AreInPlace w.places.items w.slots.items w.count w.chunk_counts.items w.blocks
+        × AreMarked w.marks.items (length w.places.items) (entries_from 0 w.places.items w.slots.items) };
 }
 
 impl WaitingBlocks {
@@ -97,6 +103,7 @@ impl WaitingBlocks {
             free: 0,
             count: 0,
             chunk_counts: Vec::new(alloc),
+            marks: Vec::new(alloc),
             blocks: Verdict::Blocks,
         }
     }
@@ -134,7 +141,13 @@ impl WaitingBlocks {
         ensures { IfOk result (λ cs. (t : ℕ) → ends_under t self.now ≡ true → member t cs ≡ true) }
     {
         let mut tickets = TicketSet::empty(alloc);
-        add_ending(&self.slots, &mut tickets)?;
+        add_ending(
+            &self.places,
+            &self.slots,
+            &self.chunk_counts,
+            &self.marks,
+            &mut tickets,
+        )?;
         Ok(tickets)
     }
 
@@ -145,6 +158,7 @@ impl WaitingBlocks {
             ≡ self.old ++ (ticket, record { block = block; held = None }) ∷ []) }
         ensures err { OnErr result (self.new ≡ self.old) }
     {
+        reach_mark(&mut self.marks, ticket)?;
         reach(&mut self.places, ticket)?;
         reach_chunk(&mut self.chunk_counts, ticket)?;
         let waiting = Waiting { block, held: None };
@@ -164,7 +178,37 @@ impl WaitingBlocks {
         ensures { self.new ≡ with_held ticket held self.old }
     {
         let place = place_of(&self.places, ticket);
+        mark_if(&mut self.marks, !held.verdict.blocks(), ticket);
         hold_at(&mut self.slots, place, ticket, held);
+    }
+
+    /// The list for `hold_reads` of what was read: none if the block under the ticket has one of as many reads.
+    pub(crate) fn fresh_reads(
+        &self,
+        ticket: u32,
+        scratch: &Scratch,
+    ) -> Result<Option<Reads>, NoMemory>
+        ensures { IfOk result (λ fresh. AreFreshFor fresh (kept_at ticket self.now) scratch.now) }
+    {
+        fresh_at(&self.slots, place_of(&self.places, ticket), ticket, scratch)
+    }
+
+    /// A verdict of a block that waits, and what was read for it. It takes no memory.
+    pub(crate) fn hold_reads(
+        &mut self,
+        ticket: u32,
+        fresh: Option<Reads>,
+        scratch: &Scratch,
+        verdict: SharedVerdict,
+    )
+        requires waits { kept_at ticket self.old ≢ None }
+        requires fresh { AreFreshFor fresh (kept_at ticket self.old) scratch.now }
+        ensures { self.new
+            ≡ with_held ticket (record { reads = scratch.now; verdict = verdict }) self.old }
+    {
+        let place = place_of(&self.places, ticket);
+        mark_if(&mut self.marks, !verdict.blocks(), ticket);
+        hold_reads_at(&mut self.slots, place, ticket, fresh, scratch, verdict);
     }
 
     /// The block waits no more.
@@ -189,4 +233,32 @@ pub(crate) fn keep(waiting: &mut Waiting, held: Held)
     ensures { waiting.new ≡ kept held waiting.old }
 {
     waiting.held = Some(held);
+}
+
+/// Keeps a verdict, and what was read: in a fresh list, or in the memory of the list that was kept.
+pub(crate) fn keep_reads(
+    waiting: &mut Waiting,
+    fresh: Option<Reads>,
+    scratch: &Scratch,
+    verdict: SharedVerdict,
+)
+    requires { AreFresh fresh waiting.old.held scratch.now }
+    ensures { waiting.new
+        ≡ kept (record { reads = scratch.now; verdict = verdict }) waiting.old }
+{
+    match fresh {
+        Some(reads) => keep(waiting, Held { reads, verdict }),
+        None => match &mut waiting.held {
+            Some(held) => keep_in(held, scratch, verdict),
+            None => unreachable!(),
+        },
+    }
+}
+
+fn keep_in(held: &mut Held, scratch: &Scratch, verdict: SharedVerdict)
+    requires { length held.old.reads ≡ length scratch.now }
+    ensures { held.new ≡ record { reads = scratch.now; verdict = verdict } }
+{
+    scratch.overwrite(&mut held.reads);
+    held.verdict = verdict;
 }

@@ -80,6 +80,14 @@ impl Frame {
         Ok(Ref::New(number))
     }
 
+    /// Nothing is changed from now on, in the same memory.
+    pub(crate) fn clear(&mut self)
+        ensures { self.new ≡ no_changes }
+    {
+        self.writes.clear();
+        self.news.clear();
+    }
+
     /// A second frame that has changed the same.
     pub(crate) fn copy(&self) -> Result<Frame, NoMemory>
         ensures { IfOk result (λ f. f ≡ self.now) }

@@ -3,6 +3,7 @@
 ghost use Rattle.std.specs.Prelude.{◌≡◌, ◌≢◌, ◌∷◌, [], length, drop, ◌<◌, ◌^◌, OnOk, OnErr, IfOk, Ok, Some, None};
 ghost use Rattle.stm_terms.specs.Changes.{no_changes, cell_value, view_at, written, made};
 ghost use Rattle.stm_terms.specs.ReadSet.{looked_at, insert_reads};
+ghost use Rattle.stm_terms.specs.Typing.{Rising};
 ghost use Rattle.stm_log.specs.LogModel.{joined_reads};
 
 use crate::frame::{Frame, copy_frames};
@@ -10,6 +11,7 @@ use crate::reads::Reads;
 use crate::value_map::ValueMap;
 use std::alloc::Global;
 use std::marker::Model;
+use std::mem;
 use stm_store::Frozen;
 use stm_terms::NoMemory;
 use stm_terms::kinds::Ty;
@@ -171,6 +173,34 @@ impl Log {
         })
     }
 
+    /// The log has one frame and nothing in it from now on, in the same memory.
+    pub fn restart(&mut self)
+        ensures { self.new ≡ record { top = no_changes; below = []; reads = [] } }
+    {
+        self.top.clear();
+        self.below.clear();
+        self.reads.clear();
+    }
+
+    /// Moves out what the top frame has. Nothing is left in it.
+    pub fn take_changes(&mut self) -> (Writes, News)
+        ensures writes { result.0 ≡ self.old.top.writes }
+        ensures news { result.1 ≡ self.old.top.news }
+        ensures left { self.new ≡ record self.old { top = no_changes } }
+    {
+        let alloc = *self.below.allocator();
+        let Frame { writes, news } = mem::replace(&mut self.top, Frame::empty(alloc));
+        (Writes::from_vec(writes.into_vec()), News::from_vec(news))
+    }
+
+    /// What was read so far.
+    pub fn reads(&self) -> &[(u32, Value)]
+        ensures value { result.now ≡ self.now.reads }
+        ensures rising { Rising self.now.reads }
+    {
+        self.reads.as_slice()
+    }
+
     /// A second log, equal to this one.
     pub fn copy(&self) -> Result<Log, NoMemory>
         ensures { IfOk result (λ l. l ≡ self.now) }
@@ -180,6 +210,21 @@ impl Log {
             below: copy_frames(&self.below)?,
             reads: self.reads.copy()?,
         })
+    }
+
+    /// A list of what was read so far.
+    pub fn copy_reads(&self) -> Result<Reads, NoMemory>
+        ensures { IfOk result (λ r. r ≡ self.now.reads) }
+    {
+        Ok(Reads::of(self.reads.copy()?))
+    }
+
+    /// Puts what was read so far in place of a list of as many reads. It takes no memory.
+    pub fn overwrite_reads(&self, reads: &mut Reads)
+        requires { length reads.old ≡ length self.now.reads }
+        ensures { reads.new ≡ self.now.reads }
+    {
+        reads.overwrite(&self.reads);
     }
 
     /// Adds the reads of a log over the same content.

@@ -1,6 +1,6 @@
 //! What a block read.
 
-ghost use Rattle.std.specs.Prelude.{◌≡◌, IfOk};
+ghost use Rattle.std.specs.Prelude.{◌≡◌, length, IfOk};
 ghost use Rattle.stm_terms.specs.Typing.{Rising};
 ghost use Rattle.stm_terms.specs.Changes.{find};
 
@@ -45,6 +45,21 @@ impl Reads {
         ensures { result ≡ find variable self.now }
     {
         self.pairs.find(variable)
+    }
+
+    /// The pairs of another list of as many, in the same memory.
+    pub(crate) fn overwrite(&mut self, pairs: &ValueMap)
+        requires { length self.old ≡ length pairs.now }
+        ensures { self.new ≡ pairs.now }
+    {
+        self.pairs.overwrite(pairs);
+    }
+
+    /// How many variables were read.
+    pub fn len(&self) -> usize
+        ensures { result ≡ length self.now }
+    {
+        self.pairs.len()
     }
 
     /// A second list of the same reads.

@@ -4,7 +4,7 @@ use Rattle.stm_parse.specs.declared.token.Lexeme.{Lexeme}
 use Rattle.stm_terms.specs.ParsedAst.{RawTerm}
 use Rattle.stm_parse.specs.Grammar.{deepest, widest, grouping_of}
 use Rattle.stm_parse.proofs.ExpressionReaders as expressions
-use Rattle.stm_parse.specs.Descent.{◌>>=◌, one_level_inside, atom_at, tier_with, tier_at, tail_at, tail_turn, op_next, step_from}
+use Rattle.stm_parse.specs.Descent.{one_level_inside, atom_at, tier_at, tail_at, tail_turn, op_next}
 
 pub inside_none : (n : ℕ) → n ≡ 0 → one_level_inside n ≡ None
 unfolding one_level_inside
@@ -15,16 +15,6 @@ pub inside_some : (n : ℕ) → 0 < n → one_level_inside n ≡ Some (tier_at w
 unfolding one_level_inside tier_at atom_at
 inside_some zero h = absurd (omega arith)
 inside_some (suc n) h = let e : n ≡ suc n - 1 = omega arith in ap (λ m. Some (tier_at widest m)) e
-
-pub tier_zero : (k n : ℕ) (toks : List Lexeme) → k ≡ 0 → tier_at k n toks ≡ atom_at n toks
-unfolding tier_with tier_at
-tier_zero zero n toks e = refl
-tier_zero (suc k) n toks e = absurd (omega arith)
-
-pub tier_more : (k n : ℕ) (toks : List Lexeme) → 0 < k → tier_at k n toks ≡ (tier_at (k - 1) n toks >>= λ a. tail_at (k - 1) n a.0 a.1)
-unfolding tier_with tier_at tail_at step_from
-tier_more zero n toks h = absurd (omega arith)
-tier_more (suc k) n toks h = let e : k ≡ suc k - 1 = omega arith in ap (λ m. tier_at m n toks >>= λ a. tail_at m n a.0 a.1) e
 
 pub tail_more : (k n : ℕ) (left : RawTerm) (toks : List Lexeme) → n ≤ deepest → tail_at k n left toks ≡ tail_turn (grouping_of k) (tier_at k n) (tier_at (k + 1) n) (tail_at k n) left toks (op_next k toks)
 tail_more k n left toks h = let e : suc k ≡ k + 1 = omega arith in expressions.tail_more k n left toks h ∙ ap (λ j. tail_turn (grouping_of k) (tier_at k n) (tier_at j n) (tail_at k n) left toks (op_next k toks)) e

@@ -216,6 +216,37 @@ tier_at k n = tier_with k (atom_at n)
 unfoldable pub tail_at : ℕ → ℕ → RawTerm → Reader RawTerm
 tail_at k n = tail_from (grouping_of k) k (tier_at k n)
 
+-- an operator with its tier, and the tokens after it
+abbrev pub op_found : Option (ℕ × Op) → List Lexeme → Option (ℕ × Op × List Lexeme)
+op_found None rest = None
+op_found (Some p) rest = Some (p.0, p.1, rest)
+
+-- the next operator with its tier, and the tokens after it
+abbrev pub op_ahead : List Lexeme → Option (ℕ × Op × List Lexeme)
+op_ahead [] = None
+op_ahead (x ∷ rest) = op_found (operator_of x.sym) rest
+
+-- what follows an operand of tiers below k: the operators of the next c tiers, with this many levels left
+unfoldable pub climbs : ℕ → ℕ → ℕ → RawTerm → Reader RawTerm
+climbs zero k n left toks = Ok (left, toks)
+climbs (suc c) k n left toks = tail_at k n left toks >>= λ a. climbs c (suc k) n a.0 a.1
+
+-- what follows an operand of tiers below k: the operators of tiers from k on and below width
+unfoldable pub climb_at : ℕ → ℕ → ℕ → RawTerm → Reader RawTerm
+climb_at k width n = climbs (width - k) k n
+
+-- after an operator of tier k, by how the tier groups: its right side, and what follows both
+abbrev pub climb_by : Grouping → ℕ → ℕ → ℕ → RawTerm → Op → Reader RawTerm
+climb_by grouping.ToLeft k width n left o rest = do
+  b ← tier_at k n rest
+  climb_at k width n (bin o left b.0) b.1
+climb_by grouping.NotChained k width n left o rest = do
+  b ← tier_at k n rest
+  climb_at (k + 1) width n (bin o left b.0) b.1
+climb_by grouping.ToRight k width n left o rest = do
+  b ← tier_at (k + 1) n rest
+  climb_at (k + 1) width n (bin o left b.0) b.1
+
 -- what reads one level deeper
 pub record Level : Type 0 where
   pub expression : Reader RawTerm

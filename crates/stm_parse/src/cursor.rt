@@ -3,7 +3,7 @@
 ghost use Rattle.std.specs.Prelude.{◌≡◌, ◌-◌, ◌<◌, ◌≤◌, length, IfOk, IfErr, IfSome, MatchOption, MatchResult, None, Some, Err};
 ghost use Rattle.stm_parse.specs.Grammar.{operator_of, operator_mark, grouping_of};
 ghost use Rattle.stm_parse.specs.DescentResults.{GivesReading};
-ghost use Rattle.stm_parse.specs.Descent.{told_failure, Leaves, accept, expect, expect_name, is_name_kind, op_next, unexpected, too_deep, bad_number};
+ghost use Rattle.stm_parse.specs.Descent.{told_failure, Leaves, accept, expect, expect_name, is_name_kind, op_ahead, unexpected, too_deep, bad_number};
 
 use crate::token::{ErrorKind, Failure, Fault, Lexeme, Mark, TokenKind};
 use stm_terms::Op;
@@ -135,19 +135,19 @@ fn operator_of(sym: TokenKind) -> Option<(u8, Op)>
     }
 }
 
-/// An operator of this tier and the tokens after it, where it is the next.
-pub fn operator(tier: u8, toks: &[Lexeme]) -> Option<(Op, &[Lexeme])>
-    ensures value { MatchOption result (op_next tier toks.now ≡ None)
-        (λ r. op_next tier toks.now ≡ Some (r.0, r.1.now)) }
-    ensures shorter { IfSome result (λ r. length r.1.now < length toks.now) }
+/// The next operator with its tier, and the tokens after it.
+pub fn operator(toks: &[Lexeme]) -> Option<(u8, Op, &[Lexeme])>
+    ensures value { MatchOption result (op_ahead toks.now ≡ None)
+        (λ r. op_ahead toks.now ≡ Some (r.0, r.1, r.2.now)) }
+    ensures shorter { IfSome result (λ r. length r.2.now < length toks.now) }
 {
     let Some((first, rest)) = toks.split_first() else {
         return None;
     };
-    let Some((own, op)) = operator_of(first.sym) else {
+    let Some((tier, op)) = operator_of(first.sym) else {
         return None;
     };
-    if own == tier { Some((op, rest)) } else { None }
+    Some((tier, op, rest))
 }
 
 /// How the operators of a tier group.

@@ -4,7 +4,7 @@ ghost use Rattle.std.specs.Prelude.{◌≡◌, ◌+◌, ◌-◌, ◌<◌, ◌≤
 ghost use Rattle.stm_terms.specs.ParsedAst.{raw_term_of, bin};
 ghost use Rattle.stm_parse.specs.Grammar.{deepest, widest, greatest};
 ghost use Rattle.stm_parse.specs.DescentResults.{GivesReading};
-ghost use Rattle.stm_parse.specs.Descent.{in_reach, literal, bracketed, short_of, refuse, init, atom_at, tier_at, tail_at};
+ghost use Rattle.stm_parse.specs.Descent.{in_reach, literal, bracketed, short_of, refuse, init, atom_at, tier_at, climb_at};
 
 use crate::cursor::{
     Grouping, Parsed, accept, bad_number, expect, groups, one_level_deeper, operator, unexpected,
@@ -127,11 +127,8 @@ fn tier<'t>(alloc: Global, levels: u8, width: u8, toks: &'t [Lexeme]) -> Parsed<
     ensures gives { GivesReading raw_term_of result (tier_at width levels toks.now) }
     ensures shorter { IfOk result (λ r. length r.1.now ≤ length toks.now) }
 {
-    if width == 0 {
-        return atom(alloc, levels, toks);
-    }
-    let (first, rest) = tier(alloc, levels, width - 1, toks)?;
-    tail(alloc, levels, width - 1, first, rest)
+    let (first, rest) = atom(alloc, levels, toks)?;
+    climb(alloc, levels, 0, width, first, rest)
 }
 
 // An operator with its operands.
@@ -145,39 +142,43 @@ fn joined(alloc: Global, op: Op, left: RawExpr, right: RawExpr) -> Result<RawExp
     Ok(RawExpr::Bin(op, left, right))
 }
 
-// What may follow the first operand of the operators of a tier.
+// What may follow an operand of tiers below `from`: operators of tiers from there on and below `width`.
 #[cycle(expressions)]
-fn tail<'t>(
+fn climb<'t>(
     alloc: Global,
     levels: u8,
+    from: u8,
     width: u8,
     left: RawExpr,
     toks: &'t [Lexeme],
 ) -> Parsed<'t, RawExpr>
     requires low { levels ≤ deepest }
-    requires width { width < widest }
+    requires width { width ≤ widest }
     ensures gives { GivesReading raw_term_of result
-        (tail_at width levels (raw_term_of left) toks.now) }
+        (climb_at from width levels (raw_term_of left) toks.now) }
     ensures shorter { IfOk result (λ r. length r.1.now ≤ length toks.now) }
 {
-    let Some((op, rest)) = operator(width, toks) else {
+    let Some((own, op, rest)) = operator(toks) else {
         return Ok((left, toks));
     };
-    match groups(width) {
+    if own < from || width <= own {
+        return Ok((left, toks));
+    }
+    match groups(own) {
         Grouping::ToLeft => {
-            let (right, rest) = tier(alloc, levels, width, rest)?;
+            let (right, rest) = tier(alloc, levels, own, rest)?;
             let both = joined(alloc, op, left, right)?;
-            tail(alloc, levels, width, both, rest)
+            climb(alloc, levels, own, width, both, rest)
         }
         Grouping::NotChained => {
-            let (right, rest) = tier(alloc, levels, width, rest)?;
+            let (right, rest) = tier(alloc, levels, own, rest)?;
             let both = joined(alloc, op, left, right)?;
-            Ok((both, rest))
+            climb(alloc, levels, own + 1, width, both, rest)
         }
         Grouping::ToRight => {
-            let (right, rest) = tier(alloc, levels, width + 1, rest)?;
+            let (right, rest) = tier(alloc, levels, own + 1, rest)?;
             let both = joined(alloc, op, left, right)?;
-            Ok((both, rest))
+            climb(alloc, levels, own + 1, width, both, rest)
         }
     }
 }

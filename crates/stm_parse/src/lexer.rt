@@ -22,7 +22,7 @@ use crate::token::{Lexeme, Mark, TokenKind};
 use std::alloc::Global;
 
 // The most tokens that room is made for before the first is found.
-const FIRST_ROOM: usize = 64;
+const FIRST_ROOM: usize = 32;
 
 /// What stands at the front of some bytes, a token with what the grammar sees in it and its length.
 #[derive(Clone, Copy)]

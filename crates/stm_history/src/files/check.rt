@@ -3,7 +3,7 @@
 ghost use Rattle.std.specs.Prelude.{◌≡◌, ◌++◌, ◌∷◌, [], ◌≤◌, ◌<◌, ℕ, List, OnOk, IfOk, IfErr, IfSome, length};
 ghost use Rattle.stm_store.specs.Tables.{Declared};
 ghost use Rattle.stm_history.specs.declared.event.Event.{Event as AnyEvent};
-ghost use Rattle.stm_history.specs.Checking.{CheckerState, at_header, at_variables, at_events, LeadsTo, MayRefuse, strange};
+ghost use Rattle.stm_history.specs.Checking.{CheckerState, at_header, at_variables, at_events, LeadsTo, MayRefuse, NoFeed, strange};
 ghost use Rattle.stm_history.specs.Fits.{FitsTable, FitsFormat};
 ghost use Rattle.stm_history.specs.Following.{Follows, FollowsIn};
 ghost use Rattle.stm_history.specs.Judgement.{IsHistory, TellsFault, next_line};
@@ -19,6 +19,7 @@ use crate::files::stepping::StepError;
 use crate::lines::formats::{fits_format, staleness_rule};
 use crate::lines::read::{LineError, read_event, read_header, read_variable};
 use crate::lines::variable::Variable;
+use memchr::memchr;
 use std::alloc::Global;
 use std::io::{ErrorKind, Read};
 use std::mem;
@@ -289,23 +290,21 @@ impl Checker {
         }
     }
 
-    /// Takes one more byte.
-    fn take_byte(&mut self, byte: u8) -> Result<(), HistoryFault>
-        requires { (taken : List ℕ) × Reached self.old.stage self.old.line.items taken }
+    /// Takes bytes of the line that has begun, none of which is a line feed.
+    fn take_part(&mut self, bytes: &[u8]) -> Result<(), HistoryFault>
+        requires reached { (taken : List ℕ) × Reached self.old.stage self.old.line.items taken }
+        requires plain { NoFeed bytes.now }
         ensures done { OnOk result ((taken : List ℕ)
             → Reached self.old.stage self.old.line.items taken
-            → Reached self.new.stage self.new.line.items (taken ++ byte ∷ [])) }
+            → Reached self.new.stage self.new.line.items (taken ++ bytes.now)) }
         ensures fault { IfErr result (λ e. (taken more : List ℕ)
             → Reached self.old.stage self.old.line.items taken
-            → TellsFault e (taken ++ byte ∷ more)) }
+            → TellsFault e (taken ++ (bytes.now ++ more))) }
     {
-        if byte == b'\n' {
-            return self.end_line();
-        }
-        if self.line.len() >= MAX_LINE {
+        if bytes.len() > MAX_LINE.saturating_sub(self.line.len()) {
             return Err(strange_fault(&self.stage));
         }
-        match self.line.push(byte) {
+        match self.line.extend_from_slice(bytes) {
             Ok(()) => Ok(()),
             Err(_) => Err(HistoryFault::NoMemory),
         }
@@ -321,10 +320,13 @@ impl Checker {
             → Reached self.old.stage self.old.line.items taken
             → TellsFault e (taken ++ (bytes.now ++ more))) }
     {
-        for byte in bytes {
-            self.take_byte(*byte)?;
+        let mut rest = bytes;
+        while let Some(at) = memchr(b'\n', rest) {
+            self.take_part(&rest[..at])?;
+            self.end_line()?;
+            rest = &rest[at + 1..];
         }
-        Ok(())
+        self.take_part(rest)
     }
 
     /// Judges where the bytes end.

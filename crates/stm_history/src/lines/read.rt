@@ -14,6 +14,7 @@ ghost use Rattle.stm_history.specs.Lines.{IsFormat, event_line, header_line, var
 ghost use Rattle.stm_history.specs.Variables.{declared};
 
 use crate::event::{Event, What};
+use crate::lines::drafted::{block_of, drafted_event};
 use crate::lines::fields::{number_at, text_at, type_of, value_at};
 use crate::lines::formats::is_format;
 use crate::lines::parts::numbers_at;
@@ -24,8 +25,6 @@ use crate::shared_verdict::SharedVerdict;
 use crate::tickets::Tickets;
 use serde_json::Value as Json;
 use std::alloc::Global;
-use stm_check::{SharedBlock, TypeFault, check};
-use stm_parse::{ParseFault, parse_block};
 use stm_store::Table;
 use stm_terms::kinds::Ty;
 use stm_terms::{NoMemory, is_name};
@@ -57,23 +56,6 @@ fn json_of(alloc: Global, line: &[u8]) -> Result<Json, LineError>
         Ok(json) => Ok(json),
         Err(e) if e.is_memory() => Err(LineError::NoMemory),
         Err(_) => Err(LineError::Bad),
-    }
-}
-
-/// The block that a text is, by the table; none where it has a fault.
-#[tactic(auto, unfolding(crate::specs::WholeBlocks::checked_block))]
-fn block_of(alloc: Global, table: &Table, text: &str) -> Result<Option<SharedBlock>, NoMemory>
-    ensures { IfOk result (λ o. o ≡ block_of_text table.now text.now) }
-{
-    let raw = match parse_block(alloc, text) {
-        Ok(raw) => raw,
-        Err(ParseFault::NoMemory) => return Err(NoMemory),
-        Err(_) => return Ok(None),
-    };
-    match check(alloc, table, raw) {
-        Ok(block) => Ok(Some(SharedBlock::new(alloc, block)?)),
-        Err(TypeFault::NoMemory) => Err(NoMemory),
-        Err(_) => Ok(None),
     }
 }
 
@@ -202,8 +184,8 @@ fn event_in(alloc: Global, table: &Table, json: &Json, line: &[u8]) -> Result<Ev
     }
 }
 
-/// Reads a line, exactly where it is the text of an event that fits the table.
-pub fn read_event(alloc: Global, table: &Table, line: &[u8]) -> Result<Event, LineError>
+/// Reads a line as `read_event` does, by its JSON value.
+fn read_by_value(alloc: Global, table: &Table, line: &[u8]) -> Result<Event, LineError>
     ensures ok { IfOk result (λ e. event_line e ≡ line.now) }
     ensures fits { IfOk result (λ e. FitsTable table.now e) }
     ensures bad { IsErrOf result LineError.Bad → (e : AnyEvent) → FitsTable table.now e
@@ -212,6 +194,19 @@ pub fn read_event(alloc: Global, table: &Table, line: &[u8]) -> Result<Event, Li
     match json_of(alloc, line) {
         Ok(json) => event_in(alloc, table, &json, line),
         Err(e) => Err(e),
+    }
+}
+
+/// Reads a line, exactly where it is the text of an event that fits the table.
+pub fn read_event(alloc: Global, table: &Table, line: &[u8]) -> Result<Event, LineError>
+    ensures ok { IfOk result (λ e. event_line e ≡ line.now) }
+    ensures fits { IfOk result (λ e. FitsTable table.now e) }
+    ensures bad { IsErrOf result LineError.Bad → (e : AnyEvent) → FitsTable table.now e
+        → event_line e ≢ line.now }
+{
+    match drafted_event(alloc, table, line)? {
+        Some(event) => Ok(event),
+        None => read_by_value(alloc, table, line),
     }
 }
 

@@ -7,10 +7,10 @@ use Rattle.stm_console.proofs.delivering.hand_out.Goals as goal
 
 pub returns-clause-made : goal.returns-clause-made
 returns-clause-made c =
-    c.in_ok-made.ensures ∙ given_are c.args.desk.now c.in_ok-store.store c.in_ok-store.jobs.items c.in_ok-store.ensures.store c.in_ok-store.ensures.blocks
+    c.in_ok-made.ensures.kept ∙ given_are c.args.desk.now c.in_ok-store.store c.in_ok-store.jobs.items c.in_ok-store.ensures.store c.in_ok-store.ensures.blocks
     ∙ ap (jobs_of (now c.args.desk.now)) c.in_ok-store.ensures.tickets
 
 pub returns-clause-stand : goal.returns-clause-stand
 returns-clause-stand c =
-    subst (JobsStand c.args.desk.now) (sym c.in_ok-made.ensures)
+    subst (JobsStand c.args.desk.now) (sym c.in_ok-made.ensures.kept)
     (given_stand c.args.desk.now c.in_ok-store.store c.in_ok-store.jobs.items c.in_ok-store.ensures.blocks c.in_ok-store.ensures.covered)

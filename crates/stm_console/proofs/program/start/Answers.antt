@@ -1,6 +1,6 @@
 use Rattle.std.proofs.Common.{inl, inr, rules}
 use Rattle.stm_console.specs.CommandLine.{version_line}
-use Rattle.stm_console.proofs.WordAnswers.{found_unwritten, nothing_written, options_in_range, run_unwritten, told_mistake, told_nothing, told_version}
+use Rattle.stm_console.proofs.WordAnswers.{explore_options_in_range, found_unwritten, nothing_written, options_in_range, run_unwritten, told_mistake, told_nothing, told_version}
 use Rattle.stm_console.proofs.program.start.Goals as goal
 
 pub returns-in-Err-clause-mistake : goal.returns-in-Err-clause-mistake
@@ -10,6 +10,9 @@ returns-in-Err-clause-mistake g c = λ wrong.
 
 pub returns-in-Err-clause-options : goal.returns-in-Err-clause-options
 returns-in-Err-clause-options g c = options_in_range _
+
+pub returns-in-Err-clause-explore_options : goal.returns-in-Err-clause-explore_options
+returns-in-Err-clause-explore_options g c = explore_options_in_range _
 
 pub returns-in-Err-clause-part : goal.returns-in-Err-clause-part
 returns-in-Err-clause-part g c = λ none.

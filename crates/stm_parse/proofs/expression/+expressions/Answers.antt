@@ -1,7 +1,10 @@
 -- One level or tier deeper, and one operator after another.
-use Rattle.std.proofs.Common.{arith}
+use Rattle.std.proofs.Common.{arith, rules, inl, inr}
+use Rattle.stm_parse.specs.declared.cursor.Grouping.TheVariants as grouping
 use Rattle.stm_parse.specs.Descent.{atom_at}
-use Rattle.stm_parse.proofs.DepthLevels.{inside_none, inside_some, tier_zero, tier_more, tail_more}
+use Rattle.stm_terms.specs.ParsedAst.{raw_term_of}
+use Rattle.stm_parse.proofs.DepthLevels.{inside_none, inside_some}
+use Rattle.stm_parse.proofs.Climbing.{tier_from_atom, climb_ends, climb_leaves, climb_more}
 use Rattle.stm_parse.proofs.expression.+expressions.Goals as goal
 
 pub atom-returns-in_err-inner-clause-gives : goal.atom-returns-in_err-inner-clause-gives
@@ -12,32 +15,53 @@ pub atom-returns-clause-gives : goal.atom-returns-clause-gives
 unfolding atom_at
 atom-returns-clause-gives t c = grind (arith, inside_some)
 
-pub tier-returns-then-width-eq0-clause-gives : goal.tier-returns-then-width-eq0-clause-gives
-tier-returns-then-width-eq0-clause-gives t c = grind (arith, tier_zero)
-
 pub tier-returns-in_err-first-clause-gives : goal.tier-returns-in_err-first-clause-gives
-tier-returns-in_err-first-clause-gives t c = grind (arith, tier_more)
+tier-returns-in_err-first-clause-gives t c = grind (arith, tier_from_atom)
 
 pub tier-returns-clause-gives : goal.tier-returns-clause-gives
-tier-returns-clause-gives t c = grind (arith, tier_more)
+tier-returns-clause-gives t c = grind (arith, tier_from_atom)
 
-pub tail-returns-in_default-clause-gives : goal.tail-returns-in_default-clause-gives
-tail-returns-in_default-clause-gives t c = grind (arith, tail_more)
+pub climb-returns-in_default-clause-gives : goal.climb-returns-in_default-clause-gives
+climb-returns-in_default-clause-gives t c = climb_ends c.args.from c.args.width c.args.levels (raw_term_of c.args.left) c.args.toks.now c.requires.low (search rules)
 
-pub tail-returns-in_err-right-in-ToLeft-clause-gives : goal.tail-returns-in_err-right-in-ToLeft-clause-gives
-tail-returns-in_err-right-in-ToLeft-clause-gives t c = grind (arith, tail_more)
+pub climb-returns-then-own-from-clause-gives : goal.climb-returns-then-own-from-clause-gives
+climb-returns-then-own-from-clause-gives t c =
+    let s = c.in-Some in
+    climb_leaves c.args.from c.args.width c.args.levels (raw_term_of c.args.left) c.args.toks.now s.own s.op s.rest.now c.requires.low (search rules)
+    (elim c.then-own-from.either [ inl below ↦ inl below | inr over ↦ inr over.1 ])
 
-pub tail-returns-in_ok-both-in-ToLeft-clause-gives : goal.tail-returns-in_ok-both-in-ToLeft-clause-gives
-tail-returns-in_ok-both-in-ToLeft-clause-gives t c = grind (arith, tail_more)
+pub climb-returns-in_err-right-in-ToLeft-clause-gives : goal.climb-returns-in_err-right-in-ToLeft-clause-gives
+climb-returns-in_err-right-in-ToLeft-clause-gives t c =
+    let s = c.in-Some in
+    let e = climb_more c.args.from c.args.width c.args.levels (raw_term_of c.args.left) c.args.toks.now s.own s.op s.rest.now grouping.ToLeft c.requires.low (search rules) (omega arith) (omega arith) (cc) in
+    rw e (grind arith)
 
-pub tail-returns-in_err-right-in-NotChained-clause-gives : goal.tail-returns-in_err-right-in-NotChained-clause-gives
-tail-returns-in_err-right-in-NotChained-clause-gives t c = grind (arith, tail_more)
+pub climb-returns-in_ok-both-in-ToLeft-clause-gives : goal.climb-returns-in_ok-both-in-ToLeft-clause-gives
+climb-returns-in_ok-both-in-ToLeft-clause-gives t c =
+    let s = c.in-Some in
+    let e = climb_more c.args.from c.args.width c.args.levels (raw_term_of c.args.left) c.args.toks.now s.own s.op s.rest.now grouping.ToLeft c.requires.low (search rules) (omega arith) (omega arith) (cc) in
+    rw e (grind arith)
 
-pub tail-returns-in_ok-both-in-NotChained-clause-gives : goal.tail-returns-in_ok-both-in-NotChained-clause-gives
-tail-returns-in_ok-both-in-NotChained-clause-gives t c = grind (arith, tail_more)
+pub climb-returns-in_err-right-in-NotChained-clause-gives : goal.climb-returns-in_err-right-in-NotChained-clause-gives
+climb-returns-in_err-right-in-NotChained-clause-gives t c =
+    let s = c.in-Some in
+    let e = climb_more c.args.from c.args.width c.args.levels (raw_term_of c.args.left) c.args.toks.now s.own s.op s.rest.now grouping.NotChained c.requires.low (search rules) (omega arith) (omega arith) (cc) in
+    rw e (grind arith)
 
-pub tail-returns-in_err-right-in-ToRight-clause-gives : goal.tail-returns-in_err-right-in-ToRight-clause-gives
-tail-returns-in_err-right-in-ToRight-clause-gives t c = grind (arith, tail_more)
+pub climb-returns-in_ok-both-in-NotChained-clause-gives : goal.climb-returns-in_ok-both-in-NotChained-clause-gives
+climb-returns-in_ok-both-in-NotChained-clause-gives t c =
+    let s = c.in-Some in
+    let e = climb_more c.args.from c.args.width c.args.levels (raw_term_of c.args.left) c.args.toks.now s.own s.op s.rest.now grouping.NotChained c.requires.low (search rules) (omega arith) (omega arith) (cc) in
+    rw e (grind arith)
 
-pub tail-returns-in_ok-both-in-ToRight-clause-gives : goal.tail-returns-in_ok-both-in-ToRight-clause-gives
-tail-returns-in_ok-both-in-ToRight-clause-gives t c = grind (arith, tail_more)
+pub climb-returns-in_err-right-in-ToRight-clause-gives : goal.climb-returns-in_err-right-in-ToRight-clause-gives
+climb-returns-in_err-right-in-ToRight-clause-gives t c =
+    let s = c.in-Some in
+    let e = climb_more c.args.from c.args.width c.args.levels (raw_term_of c.args.left) c.args.toks.now s.own s.op s.rest.now grouping.ToRight c.requires.low (search rules) (omega arith) (omega arith) (cc) in
+    rw e (grind arith)
+
+pub climb-returns-in_ok-both-in-ToRight-clause-gives : goal.climb-returns-in_ok-both-in-ToRight-clause-gives
+climb-returns-in_ok-both-in-ToRight-clause-gives t c =
+    let s = c.in-Some in
+    let e = climb_more c.args.from c.args.width c.args.levels (raw_term_of c.args.left) c.args.toks.now s.own s.op s.rest.now grouping.ToRight c.requires.low (search rules) (omega arith) (omega arith) (cc) in
+    rw e (grind arith)

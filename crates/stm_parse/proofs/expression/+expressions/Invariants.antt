@@ -9,7 +9,7 @@ abbrev pub decreases-bracketed : goal.decreases-bracketed
 decreases-bracketed l = 8 * length l.toks.now + 7
 
 abbrev pub decreases-tier : goal.decreases-tier
-decreases-tier l = 8 * length l.toks.now + l.width + 1
+decreases-tier l = 8 * length l.toks.now + 2
 
-abbrev pub decreases-tail : goal.decreases-tail
-decreases-tail l = 8 * length l.toks.now
+abbrev pub decreases-climb : goal.decreases-climb
+decreases-climb l = 8 * length l.toks.now + 1

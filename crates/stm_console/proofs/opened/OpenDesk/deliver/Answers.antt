@@ -1,16 +1,14 @@
-use Rattle.std.proofs.Common.{sym, subst}
-use Rattle.stm_console.specs.Kept.{JobStands, JobsStand}
+use Rattle.std.proofs.Common.{List, map, sym, subst}
+use Rattle.stm_console.specs.declared.jobs.KeptJob.{KeptJob}
+use Rattle.stm_console.specs.Kept.{job_kept, JobsStand}
 use Rattle.stm_console.proofs.Deliveries.{stands_at}
 use Rattle.stm_console.proofs.Growing.{kept_grown}
 use Rattle.stm_console.proofs.opened.OpenDesk.deliver.Goals as goal
 
-pub deliver_job-requires-clause-stands : goal.deliver_job-requires-clause-stands
-deliver_job-requires-clause-stands c =
-    subst (JobStands c.self.inside.desk) (sym c.in_ok-job-in-Some.ensures)
-    (stands_at c.self.inside.desk c.deref.result.now c.args.number c.in-Some.handed.now (subst (JobsStand c.self.inside.desk) (sym c.deref.ensures.value) c.self.invariant.jobs_stand) c.in-Some.ensures)
+pub deliver_kept-requires-clause-stands : goal.deliver_kept-requires-clause-stands
+deliver_kept-requires-clause-stands c =
+    stands_at c.self.inside.desk (map job_kept c.deref.result.now) c.args.number (job_kept c.in-Some.kept.now)
+    (subst (λ (ks : List KeptJob). JobsStand c.self.inside.desk (map job_kept ks)) (sym c.deref.ensures.value) c.self.invariant.jobs_stand) c.in-Some.ensures.kept
 
 pub invariant_of-self : goal.invariant_of-self
-invariant_of-self c = kept_grown _ _ _ _ c.deliver_job.ensures.grown c.deliver_job.ensures.store c.self.invariant
-
-pub invariant_of-self-in-Some : goal.invariant_of-self-in-Some
-invariant_of-self-in-Some c = kept_grown _ _ _ _ c.deliver_job.ensures.grown c.deliver_job.ensures.store c.self.invariant
+invariant_of-self c = kept_grown _ _ _ _ c.deliver_kept.ensures.grown c.deliver_kept.ensures.store c.self.invariant

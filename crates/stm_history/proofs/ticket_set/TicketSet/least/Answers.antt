@@ -1,5 +1,9 @@
-use Rattle.stm_history.proofs.Keys.{low}
+use Rattle.std.proofs.Common.{◌≡◌, ℕ, ◌≤◌, true, List, subst}
+use Rattle.std.specs.Prelude.{IfSome}
+use Rattle.stm_queue.specs.SortedTickets.{member}
+use Rattle.stm_history.proofs.TicketLists.{lowest_first}
 use Rattle.stm_history.proofs.ticket_set.TicketSet.least.Goals as goal
 
-pub returns-in-Some-clause-least : goal.returns-in-Some-clause-least
-returns-in-Some-clause-least c = λ u h. low c.in-Some.ticket.now u c.self.inside.tickets.keys c.in-Some.ensures.least (rw c.self.view_is h)
+pub returns-clause-least : goal.returns-clause-least
+returns-clause-least c =
+    subst (λ (ts : List ℕ). IfSome c.lowest_in.result (λ t. (u : ℕ) → member u ts ≡ true → t ≤ u)) c.self.view_is (lowest_first c.self.inside.tickets.items c.lowest_in.result c.self.invariant c.lowest_in.ensures)

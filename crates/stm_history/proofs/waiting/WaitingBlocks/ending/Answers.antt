@@ -1,6 +1,11 @@
-use Rattle.stm_history.proofs.Placed.{ends_from}
+use Rattle.std.proofs.Common.{arith}
+use Rattle.stm_history.proofs.Placed.{ends_at_place, ends_within}
 use Rattle.stm_history.proofs.waiting.WaitingBlocks.ending.Goals as goal
 
 pub returns : goal.returns
 returns c = λ t h.
-    c.in_ok-add_ending.ensures t (rw c.deref.ensures.value (ends_from t 0 c.self.inside.places.items c.self.inside.slots.items (rw c.self.view_is h)))
+    let i = c.self.inside in
+    let e = rw (← c.self.view_is) at h in
+    let f = ends_at_place t i.places.items i.slots.items e in
+    let l = ends_within t i.places.items i.slots.items f in
+    rw (c.deref.ensures.value, c.deref-2.ensures.value, c.deref-4.ensures.value) at c.in_ok-add_ending.ensures t l (c.self.invariant.1.marked t e) f

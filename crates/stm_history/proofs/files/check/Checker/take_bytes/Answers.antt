@@ -1,15 +1,41 @@
-use Rattle.std.proofs.Common.{◌+◌, ◌++◌, take, drop, rules}
+use Rattle.std.proofs.Common.{[], ◌∷◌, ◌+◌, ◌++◌, take, drop, refl}
 use Rattle.std.proofs.lemmas.Result.{err_from_is_err_and}
-use Rattle.stm_history.proofs.Telling.{told_within}
+use Rattle.stm_history.proofs.Feeding.{none_found, none_before, split_at, fed_more, fed_fault, fed_faults}
+use Rattle.stm_history.proofs.Parts.{drop-all}
 use Rattle.stm_history.proofs.files.check.Checker.take_bytes.Goals as goal
 
-pub take_byte-requires : goal.take_byte-requires
-take_byte-requires c = (c.requires.0 ++ take c.loop-byte.byte-index c.args.bytes.now, c.loop-byte.invariant c.requires.0 c.requires.1)
+pub take_part-requires-clause-reached : goal.take_part-requires-clause-reached
+take_part-requires-clause-reached c = let f = c.loop-at.invariant in (c.requires.0 ++ f.part, f.reached c.requires.0 c.requires.1)
 
-pub returns-in_err-take_byte-clause-fault : goal.returns-in_err-take_byte-clause-fault
-returns-in_err-take_byte-clause-fault c =
+pub take_part-requires-clause-plain : goal.take_part-requires-clause-plain
+take_part-requires-clause-plain c = none_before c.loop-at.rest.now _ c.in-Some.ensures
+
+pub returns-in_err-take_part-clause-fault : goal.returns-in_err-take_part-clause-fault
+returns-in_err-take_part-clause-fault c =
     let p = err_from_is_err_and c.from_residual.result c.from_residual.ensures.1 in
-    let i = c.loop-byte.byte-index in
-    let bytes = c.args.bytes.now in
-    rw (p.1, p.2) (λ taken more h. told_within taken bytes more i _ (search rules)
-    (c.in_err-take_byte.ensures.fault (taken ++ take i bytes) (drop (i + 1) bytes ++ more) (c.loop-byte.invariant taken h)))
+    rw (p.1, p.2) (fed_fault _ _ _ _ _ _ _ _ _ c.loop-at.invariant (split_at _ _ c.in-Some.ensures) c.in_err-take_part.ensures.fault)
+
+pub end_line-requires : goal.end_line-requires
+end_line-requires c =
+    let f = c.loop-at.invariant in
+    ((c.requires.0 ++ f.part) ++ take c.in-Some.at c.loop-at.rest.now, c.in_ok-take_part.ensures.done (c.requires.0 ++ f.part) (f.reached c.requires.0 c.requires.1))
+
+pub returns-in_err-end_line-clause-fault : goal.returns-in_err-end_line-clause-fault
+returns-in_err-end_line-clause-fault c =
+    let p = err_from_is_err_and c.from_residual-in_err-end_line.result c.from_residual-in_err-end_line.ensures.1 in
+    let f = fed_more _ _ _ _ _ _ _ _ _ _ c.loop-at.invariant (split_at _ _ c.in-Some.ensures) c.in_ok-take_part.ensures.done in
+    rw (p.1, p.2) (fed_fault _ _ _ _ _ _ (10 ∷ []) (drop (c.in-Some.at + 1) c.loop-at.rest.now) _ f refl c.in_err-end_line.ensures.fault)
+
+pub loop-at-preserved : goal.loop-at-preserved
+loop-at-preserved c =
+    let f = fed_more _ _ _ _ _ _ _ _ _ _ c.loop-at.invariant (split_at _ _ c.in-Some.ensures) c.in_ok-take_part.ensures.done in
+    rw drop-all (fed_more _ _ _ _ _ _ _ _ (10 ∷ []) _ f refl c.in_ok-end_line.ensures.done)
+
+pub take_part-requires-2-clause-reached : goal.take_part-requires-2-clause-reached
+take_part-requires-2-clause-reached c = let f = c.loop-at.invariant in (c.requires.0 ++ f.part, f.reached c.requires.0 c.requires.1)
+
+pub take_part-requires-2-clause-plain : goal.take_part-requires-2-clause-plain
+take_part-requires-2-clause-plain c = none_found c.loop-at.rest.now c.in_default.ensures
+
+pub returns-clause-fault : goal.returns-clause-fault
+returns-clause-fault c = fed_faults _ _ _ _ _ _ _ c.loop-at.invariant c.take_part-2.ensures.fault

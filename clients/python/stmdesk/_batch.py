@@ -1,0 +1,137 @@
+"""Batches: many commands that are sent in one go."""
+
+from __future__ import annotations
+
+from collections.abc import Callable, Iterator, Sequence
+from types import TracebackType
+from typing import Any, TypeVar
+
+from ._commands import (
+    CANCEL, DELIVER, EVAL, FINISH, HANDBACK, HISTORY, LOOKS, READS, SETTLE, SHOW, STORE, SUBMIT, TAKE, TRY, TVAR, Answer,
+    Command, decimal, number_of,
+)  # fmt: skip
+from ._values import Finished, FinishedThrows, Job, Ref, Settled, Status, Store, Value, Verdict
+
+T = TypeVar("T")
+
+
+class Commands:
+    """Commands that are given later: a method for each, which returns the `Answer` that will be there."""
+
+    def __init__(self) -> None:
+        self._answers: list[Answer[Any]] = []
+        self._is_over = False
+
+    def __iter__(self) -> Iterator[Answer[Any]]:
+        """The answers, in the order of the commands."""
+        return iter(self._answers)
+
+    def _ends(self, kind: type[BaseException] | None) -> bool:
+        """Ends the batch. Returns whether there is something to send."""
+        self._is_over = True
+        return kind is None and bool(self._answers)
+
+    def _give(self, run: Callable[[Sequence[Answer[Any]]], None]) -> None:
+        """Gives the commands by this function."""
+        try:
+            run(self._answers)
+        except BaseException as error:
+            for answer in self._answers:
+                answer.fail(error)
+            raise
+
+    def _add(self, command: Command[T], text: str = "") -> Answer[T]:
+        if self._is_over:
+            raise RuntimeError("the batch is over")
+        answer = Answer(command, text)
+        self._answers.append(answer)
+        return answer
+
+    def tvar(self, declaration: str) -> Answer[Ref]:
+        """`Desk.tvar`, when the batch is sent."""
+        return self._add(TVAR, declaration)
+
+    def try_(self, block: str) -> Answer[Verdict]:
+        """`Desk.try_`, when the batch is sent."""
+        return self._add(TRY, block)
+
+    def looks(self, block: str) -> Answer[dict[Ref, Value]]:
+        """`Desk.looks`, when the batch is sent."""
+        return self._add(LOOKS, block)
+
+    def submit(self, block: str) -> Answer[int]:
+        """`Desk.submit`, when the batch is sent."""
+        return self._add(SUBMIT, block)
+
+    def take(self, count: int) -> Answer[list[Job]]:
+        """`Desk.take`, when the batch is sent."""
+        return self._add(TAKE, decimal(count))
+
+    def deliver(self, job: Job | int) -> Answer[int]:
+        """`Desk.deliver`, when the batch is sent."""
+        return self._add(DELIVER, number_of(job))
+
+    def handback(self, ticket: int) -> Answer[None]:
+        """`Desk.handback`, when the batch is sent."""
+        return self._add(HANDBACK, decimal(ticket))
+
+    def eval(self) -> Answer[int]:
+        """`Desk.eval`, when the batch is sent."""
+        return self._add(EVAL)
+
+    def finish(self, ticket: int) -> Answer[Finished | FinishedThrows]:
+        """`Desk.finish`, when the batch is sent."""
+        return self._add(FINISH, decimal(ticket))
+
+    def cancel(self, ticket: int) -> Answer[None]:
+        """`Desk.cancel`, when the batch is sent."""
+        return self._add(CANCEL, decimal(ticket))
+
+    def show(self) -> Answer[list[Status]]:
+        """`Desk.show`, when the batch is sent."""
+        return self._add(SHOW)
+
+    def reads(self, ticket: int) -> Answer[dict[Ref, Value]]:
+        """`Desk.reads`, when the batch is sent."""
+        return self._add(READS, decimal(ticket))
+
+    def store(self) -> Answer[Store]:
+        """`Desk.store`, when the batch is sent."""
+        return self._add(STORE)
+
+    def settle(self) -> Answer[Settled]:
+        """`Desk.settle`, when the batch is sent."""
+        return self._add(SETTLE)
+
+    def history(self) -> Answer[str]:
+        """`Desk.history`, when the batch is sent."""
+        return self._add(HISTORY)
+
+
+class Batch(Commands):
+    """Commands that `with` sends in one go when it ends, with none of another thread between them. Then their answers are
+    there. If the body raises, nothing is sent.
+
+    A refused command raises when its result is asked for; those after it are given all the same. If the program ends in the
+    midst of a batch, the `with` raises `Ended`, and so does each answer that didn't come.
+
+    >>> with desk.batch() as batch:
+    ...     looked = batch.try_("readTVar x")
+    ...     wrong = batch.try_("readTVar y")
+    ...     evaluated = batch.eval()
+    >>> looked.result()
+    Commits(writes={}, news=[], result=1)
+    >>> [type(answer.error) for answer in batch]
+    [<class 'NoneType'>, <class 'stmdesk.Refused'>, <class 'NoneType'>]
+    """
+
+    def __init__(self, run: Callable[[Sequence[Answer[Any]]], None]) -> None:
+        super().__init__()
+        self._run = run
+
+    def __enter__(self) -> Batch:
+        return self
+
+    def __exit__(self, kind: type[BaseException] | None, error: BaseException | None, trace: TracebackType | None) -> None:
+        if self._ends(kind):
+            self._give(self._run)

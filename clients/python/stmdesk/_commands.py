@@ -1,0 +1,159 @@
+"""The commands of the console: what each sends, where its answer ends, what reads it; and the answer to one that was given."""
+
+from __future__ import annotations
+
+import re
+from collections.abc import Callable, Sequence
+from copy import copy
+from dataclasses import dataclass
+from functools import cached_property
+from operator import index
+from typing import Generic, TypeVar
+
+from ._answers import Answers
+from ._errors import Refused
+from ._program import Odd, Process
+from ._values import Finished, FinishedThrows, Job, Ref, Settled, Status, Store, Value, Verdict
+
+# How many tickets wait, variables are, and events happen at most.
+WAITING_LIMIT = 65_536
+CELLS_LIMIT = 1_000_000
+EVENTS_LIMIT = 1_048_576
+
+_CONTROL = re.compile(r"[\x00-\x08\x0b\x0c\x0e-\x1f\x7f]|\r(?!\n)")  # all but the tab, the line feed and CR LF
+
+T = TypeVar("T")
+
+
+@dataclass(frozen=True, eq=False)
+class Command(Generic[T]):
+    """A command of the console. `read` is called with the words of the answer's line, or with all its lines if there is a `take`."""
+
+    word: str
+    read: Callable[[Answers, Sequence[str]], T | Refused]
+    begin: str | None = None  # the first word of each answer but a refusal, if that is always the same
+    take: Callable[[Process, str], list[str]] | None = None  # takes the lines of an answer of many, given the first
+    then: str = ""  # what is sent after it
+
+    @cached_property
+    def bare(self) -> bytes:
+        """What is sent if there is no argument."""
+        return f"{self.word}\n{self.then}".encode()
+
+
+class Unset:
+    """What an answer holds that isn't there yet."""
+
+
+UNSET = Unset()
+
+
+class Answer(Generic[T]):
+    """The answer to a command of a batch. It is there when the `with` of the batch has ended.
+
+    >>> with desk.batch() as batch:
+    ...     answer = batch.eval()
+    >>> answer.result()
+    0
+    """
+
+    __slots__ = ("command", "error", "sent", "text", "value")
+
+    def __init__(self, command: Command[T], text: str = "") -> None:
+        """Raises ValueError if the text has a control character, and TypeError if it is no text."""
+        self.command = command
+        self.text = text
+        line = text if str.isprintable(text) else _in_one_line(text)
+        self.sent = f"{command.word} {line}\n".encode() if text else command.bare
+        self.value: T | Unset = UNSET
+        self.error: Exception | None = None
+
+    def fail(self, error: BaseException) -> None:
+        """The answer, if it isn't there, doesn't come, since the error broke the batch off."""
+        if self.value is UNSET and self.error is None:
+            self.error = copy(error) if isinstance(error, Exception) else RuntimeError("the batch was broken off")
+
+    def result(self) -> T:
+        """What the method of `Desk` of this name returns. Raises what it raises: `Refused` for a refused command.
+
+        >>> with desk.batch() as batch:
+        ...     wrong = batch.finish(7)
+        >>> wrong.result()
+        Traceback (most recent call last):
+        stmdesk.Refused: NoTicket
+            finish 7
+            hint: no block waits under this ticket: it finished, or was cancelled, or never was
+        """
+        if self.error is not None:
+            raise self.error
+        if isinstance(self.value, Unset):
+            raise RuntimeError("the batch isn't sent yet")
+        return self.value
+
+    def line(self) -> str:
+        """The line that was sent, without its line feed."""
+        return self.sent.decode().partition("\n")[0]
+
+
+def _in_one_line(text: str) -> str:
+    """The text in which each line feed is a blank, and a carriage return before it, too."""
+    found = _CONTROL.search(text)
+    if found:
+        raise ValueError(f"control character {found[0]!r} at {found.start()} of {text[:80]!r}")
+    return text.replace("\r", " ").replace("\n", " ")
+
+
+def decimal(number: int) -> str:
+    """The text of a number as an argument. Raises TypeError if it is no number."""
+    return str(index(number))
+
+
+def number_of(job: Job | int) -> str:
+    """The number of a job as an argument."""
+    return decimal(job.number if isinstance(job, Job) else job)
+
+
+def _lines_to(last: str, begin: tuple[str, ...], limit: Callable[[], int]) -> Callable[[Process, str], list[str]]:
+    """Takes the lines up to the one that begins with `last`, at most `limit` before it, each of which begins with one of
+    `begin`."""
+
+    def take(process: Process, first: str) -> list[str]:
+        lines = [first]
+        while not lines[-1].startswith(last):
+            if len(lines) > limit() or not lines[-1].startswith(begin):
+                raise Odd("\n".join(lines[-3:]))
+            lines.append(process.line())
+        return lines
+
+    return take
+
+
+def _history_lines(process: Process, first: str) -> list[str]:
+    """Takes the lines up to the first that begins with no brace."""
+    lines = [first]
+    while lines[-1].startswith("{"):
+        if len(lines) > CELLS_LIMIT + EVENTS_LIMIT + 1:
+            raise Odd("\n".join(lines[-3:]))
+        lines.append(process.line())
+    return lines
+
+
+TVAR: Command[Ref] = Command("tvar", Answers.tvar, "tvar")
+TRY: Command[Verdict] = Command("try", Answers.verdict)
+LOOKS: Command[dict[Ref, Value]] = Command("looks", Answers.reads, "reads")
+SUBMIT: Command[int] = Command("submit", Answers.second, "ticket")
+TAKE: Command[list[Job]] = Command("take", Answers.jobs, "jobs")
+DELIVER: Command[int] = Command("deliver", Answers.second, "delivered")
+HANDBACK: Command[None] = Command("handback", Answers.nothing, "queued")
+EVAL: Command[int] = Command("eval", Answers.second, "evaluated")
+FINISH: Command[Finished | FinishedThrows] = Command("finish", Answers.finished, "finished")
+CANCEL: Command[None] = Command("cancel", Answers.nothing, "cancelled")
+READS: Command[dict[Ref, Value]] = Command("reads", Answers.reads, "reads")
+SETTLE: Command[Settled] = Command("settle", Answers.settled)
+SHOW: Command[list[Status]] = Command(
+    "show", Answers.statuses, take=_lines_to("waiting ", tuple("123456789"), lambda: WAITING_LIMIT)
+)
+STORE: Command[Store] = Command("store", Answers.cells, take=_lines_to("cells ", ("#",), lambda: CELLS_LIMIT))
+# A history doesn't say which of its lines is the last. So a second command goes with it, which changes nothing and is always
+# answered alike, by a line that begins with no brace.
+HISTORY: Command[str] = Command("history", Answers.history, take=_history_lines, then="try return ()\n")

@@ -1,0 +1,58 @@
+"""A thread of a desk's own, which makes calls for others and notices the end of the program."""
+
+from __future__ import annotations
+
+import os
+import select
+import threading
+from collections import deque
+from collections.abc import Callable
+from contextlib import suppress
+
+
+class Helper:
+    """A thread that runs the functions that it is given, in their order, and `on_end` when the program prints no more.
+
+    Python runs signal handlers in the main thread, so no Ctrl-C breaks off what this thread does. The functions must not
+    raise. The thread ends with the program; functions that come later run at once, in the caller's thread.
+    """
+
+    def __init__(self, output: int, on_end: Callable[[], None]) -> None:
+        """`output` is a descriptor of the pipe from the program, which the thread closes."""
+        self._on_end = on_end
+        self._functions: deque[Callable[[], None]] = deque()
+        self._is_over = False
+        self._ending = threading.Lock()
+        self._output = output
+        self._woken, self._wake = os.pipe()
+        os.set_blocking(self._wake, False)
+        threading.Thread(target=self._work, name="stmdesk", daemon=True).start()
+
+    def run(self, function: Callable[[], None]) -> None:
+        """Lets the thread run the function soon."""
+        with self._ending:
+            is_over = self._is_over
+            if not is_over:
+                self._functions.append(function)
+                with suppress(BlockingIOError):  # a full pipe wakes the thread as well
+                    os.write(self._wake, b"\0")
+        if is_over:
+            function()
+
+    def _work(self) -> None:
+        poll = select.poll()
+        poll.register(self._woken, select.POLLIN)
+        poll.register(self._output, 0)  # which reports only the end
+        while self._output not in (it for it, _ in poll.poll()):
+            os.read(self._woken, 4096)  # before the functions are run, so that one that comes meanwhile wakes the thread again
+            self._run_all()
+        with self._ending:
+            self._is_over = True
+        self._on_end()
+        self._run_all()
+        for it in (self._output, self._woken, self._wake):
+            os.close(it)
+
+    def _run_all(self) -> None:
+        while self._functions:
+            self._functions.popleft()()

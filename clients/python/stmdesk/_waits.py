@@ -1,0 +1,258 @@
+"""`atomically`: blocks that run to their end, each for a caller that waits for it."""
+
+from __future__ import annotations
+
+import weakref
+from collections import deque
+from collections.abc import Callable, Sequence
+from contextlib import AbstractContextManager
+from copy import copy
+from typing import Any
+
+from ._commands import CANCEL, EVAL, FINISH, HANDBACK, SUBMIT, Answer
+from ._errors import Cancelled, DeskError, Refused, Thrown
+from ._helper import Helper
+from ._program import Process
+from ._values import Finished, FinishedThrows, Value
+
+
+class Wait:
+    """A block that a caller gave to `atomically`, until its outcome is there: a result or an error."""
+
+    __slots__ = ("_tell", "error", "is_over", "is_withdrawn", "result", "submission", "ticket")
+
+    def __init__(self, block: str, tell: Callable[[], None]) -> None:
+        """`tell` is called once, by another thread, when the outcome is there."""
+        self.submission = Answer(SUBMIT, block)
+        self.ticket: int | None = None
+        self.is_withdrawn = False  # then the block isn't submitted any more
+        self.result: Value = None
+        self.error: Exception | None = None
+        self.is_over = False
+        self._tell = tell
+
+    def end(self, result: Value = None, error: Exception | None = None) -> None:
+        self.result, self.error, self.is_over = result, error, True
+        self._tell()
+
+    def outcome(self) -> Value:
+        if self.error is not None:
+            raise self.error
+        return self.result
+
+
+class Waits:
+    """All blocks of one desk's `atomically`.
+
+    A turn submits, evaluates and finishes them in rounds, no matter who asked. Each caller runs a turn in its own thread until
+    its block was tried. The main thread, which a signal handler may interrupt anywhere, and a task, whose event loop has to
+    go on, leave that to the helper, a thread of the desk's own. Then the caller sleeps on a lock of its own, which is released
+    when the outcome is there. The helper sleeps until a turn is queued or the program ends. So nobody polls.
+
+    Why no wake-up is lost: every command is given under the lock of the desk, and its answer is looked at under the same lock:
+    those of a round in `_round`, those of other calls in `see`. Whenever that lock is free, each ticket in `_waiting` is due,
+    or else the last try to finish it, right after an evaluation, was refused with `Blocks`, and no finish since then has named
+    it as stale. The program names each ticket whose evaluation read what a finish changed. So a ticket that isn't due blocks
+    on the present store. While a ticket is due or a block is asked, a turn is under way or queued in the helper: whoever adds
+    one runs or queues a turn after that, and a turn ends when there is none, or queues another. Two commands of others need
+    care. `settle` doesn't say what it finished, so the desk refuses it while something waits. A ticket that `take` has handed
+    out is left out by `eval`; its finish is then refused with `Stale` or `NotEvaluated`, so it is handed back and stays due.
+    """
+
+    def __init__(
+        self,
+        lock: AbstractContextManager[Any],
+        perform: Callable[[Sequence[Answer[Any]]], None],
+        process: Process,
+        patience: float,
+    ) -> None:
+        """`lock` is the lock of the desk. `perform` gives commands, with that lock."""
+        self._lock, self._perform, self._process, self._patience = lock, perform, process, patience
+        self._asked: deque[Wait] = deque()  # whose blocks aren't submitted yet
+        self._given_up: deque[Wait] = deque()  # which are to be cancelled, each after it was asked
+        # What follows is used with the lock only.
+        self._new: list[Wait] = []  # whose blocks are being submitted
+        self._waiting: dict[int, Wait] = {}  # by ticket
+        self._due: set[int] = set()  # tickets that may be able to finish
+        self._out: set[int] = set()  # those of them that somebody else has taken
+        self._unwanted: set[int] = set()  # tickets to cancel
+        self._last: int | None = None  # the last ticket that the program gave, if that is known
+        this = weakref.ref(self)  # so that the thread doesn't keep a desk alive that nobody uses
+
+        def on_end() -> None:
+            waits = this()
+            if waits is not None:
+                waits._program_ended()
+
+        self.helper = Helper(process.output_again(), on_end)
+
+    def ask(self, wait: Wait, *, by_helper: bool) -> None:
+        """Runs a block in this thread or by the helper, and waits while it blocks. `wait.end` is called with the outcome."""
+        self._asked.append(wait)
+        if by_helper:
+            self.helper.run(self._turn)
+        else:
+            self._turn(wait)
+
+    def give_up(self, wait: Wait, *, withdraw: bool) -> None:
+        """Ends a wait with `Cancelled`, unless it has another outcome first. A block that isn't submitted yet is withdrawn, or
+        else tried once."""
+        wait.is_withdrawn = withdraw
+        self._given_up.append(wait)
+        self.helper.run(self._turn)
+
+    def is_any(self) -> bool:
+        """Whether a block waits. Needs the lock."""
+        return bool(self._waiting)
+
+    def see(self, answers: Sequence[Answer[Any]]) -> None:
+        """Looks at the answers to commands of other calls. Needs the lock."""
+        for answer in answers:
+            if answer.error is not None:
+                continue
+            if answer.command is FINISH:
+                self._finished(answer.result())
+            elif answer.command is CANCEL:
+                self._cancelled(int(answer.text))
+            elif answer.command is SUBMIT:
+                self._last = answer.result()
+        if self._due:
+            self.helper.run(self._turn)
+
+    def _turn(self, only: Wait | None = None) -> None:
+        """Does what there is to do, until each block that still waits blocks. If a wait is given, stops when that was tried,
+        and leaves the rest to the helper."""
+        while self._asked or self._due or self._given_up:
+            if only is not None and (only.is_over or only.ticket is not None):
+                self.helper.run(self._turn)
+                return
+            with self._lock:  # for each round by itself, so that other calls come between
+                try:
+                    self._round()
+                except DeskError as error:
+                    self._fail(error)
+                except BaseException:
+                    self._fail(self._process.kill())
+                    raise
+
+    def _program_ended(self) -> None:
+        with self._lock:
+            if self._waiting or self._asked or self._given_up:  # else nobody sees it yet, and `close` has to raise it
+                self._fail(self._process.wait(self._patience))
+
+    def _fail(self, error: DeskError) -> None:
+        """Ends every wait with the error."""
+        failed = [*self._waiting.values(), *self._new, *self._asked, *self._given_up]
+        self._waiting.clear()
+        self._new.clear()
+        self._asked.clear()
+        self._given_up.clear()
+        for tickets in (self._due, self._out, self._unwanted):
+            tickets.clear()
+        for wait in failed:
+            if not wait.is_over:
+                wait.end(error=copy(error))  # an error of its own for each thread, since raising it changes it
+
+    def _round(self) -> None:
+        """Tries once to finish each block that is due or new, all in one go; then cancels those that were given up."""
+        given_up = _taken(self._given_up)
+        for wait in _taken(self._asked):
+            if wait.is_withdrawn:
+                wait.end(error=Cancelled())
+            else:
+                self._new.append(wait)
+        for wait in given_up:
+            if wait.ticket is None and wait not in self._new and not wait.is_over:  # it was broken off before it was asked
+                wait.end(error=Cancelled())
+        # A finish that goes with its submission has to foresee the ticket. If a submission is refused, the tickets after it
+        # are lower than foreseen; those foreseen aren't given yet then, and their finish is refused with `NoTicket`.
+        tries: list[tuple[Wait | None, Answer[Finished | FinishedThrows] | None]]
+        tries = [(None, Answer(FINISH, str(ticket))) for ticket in sorted(self._due)]
+        for number, wait in enumerate(self._new, 1):
+            tries.append((wait, None if self._last is None else Answer(FINISH, str(self._last + number))))
+        backs = [Answer(HANDBACK, str(ticket)) for ticket in self._out]  # refused if others did it meanwhile
+        evaluated = Answer(EVAL)  # which is given before each finish, and keeps a refusal
+        commands: list[Answer[Any]] = [*backs]
+        for new, finish in tries:
+            if new:
+                commands.append(new.submission)
+            if finish:
+                commands += (evaluated, finish)
+        if commands:
+            self._perform(commands)
+        self._out.clear()
+        for new, finish in tries:
+            if new:
+                self._submitted(new)
+            if finish:
+                self._tried(finish)
+        self._new.clear()
+        if evaluated.error is not None:  # HistoryFull: no block can finish any more
+            raise evaluated.error
+        if given_up or self._unwanted:
+            self._cancel(given_up)
+
+    def _submitted(self, wait: Wait) -> None:
+        if wait.submission.error is not None:
+            wait.end(error=wait.submission.error)
+            return
+        wait.ticket = self._last = wait.submission.result()
+        self._waiting[wait.ticket] = wait
+        self._due.add(wait.ticket)
+
+    def _tried(self, finish: Answer[Finished | FinishedThrows]) -> None:
+        """Looks at the answer to a try to finish. Raises a refusal after which no block can finish any more."""
+        refused = finish.error
+        if not isinstance(refused, Refused):
+            self._finished(finish.result())
+            return
+        ticket = int(finish.text)
+        if refused.name == "HistoryFull":
+            raise refused
+        elif ticket not in self._waiting:
+            self._due.discard(ticket)  # it was foreseen and not given
+        elif refused.name == "Blocks":
+            self._due.discard(ticket)
+        elif refused.name in ("Stale", "NotEvaluated"):
+            self._out.add(ticket)
+        else:
+            self._due.discard(ticket)
+            self._unwanted.add(ticket)
+            self._waiting.pop(ticket).end(error=refused)
+
+    def _finished(self, done: Finished | FinishedThrows) -> None:
+        wait = self._waiting.pop(done.ticket, None)
+        self._due.discard(done.ticket)
+        if isinstance(done, Finished):
+            self._due.update(ticket for ticket in done.stale if ticket in self._waiting)
+        if wait is not None:
+            if isinstance(done, Finished):
+                wait.end(done.result)
+            else:
+                wait.end(error=Thrown(done.fault))
+
+    def _cancelled(self, ticket: int) -> None:
+        wait = self._waiting.pop(ticket, None)
+        self._due.discard(ticket)
+        if wait is not None:
+            wait.end(error=Cancelled())
+
+    def _cancel(self, given_up: Sequence[Wait]) -> None:
+        for wait in given_up:
+            if wait.ticket is not None and wait.ticket in self._waiting:
+                self._unwanted.add(wait.ticket)
+        cancels = [Answer(CANCEL, str(ticket)) for ticket in self._unwanted]
+        self._unwanted.clear()
+        if cancels:
+            self._perform(cancels)
+        for cancel in cancels:
+            cancel.result()
+            self._cancelled(int(cancel.text))
+
+
+def _taken(waits: deque[Wait]) -> list[Wait]:
+    """Takes all of them out."""
+    taken = []
+    while waits:
+        taken.append(waits.popleft())
+    return taken

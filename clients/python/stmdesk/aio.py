@@ -1,0 +1,315 @@
+"""The same for asyncio: a `Desk` whose methods are awaited.
+
+>>> import asyncio
+>>> async def main():
+...     async with aio.Desk() as desk:
+...         await desk.tvar("x : Int = 1")
+...         waiting = asyncio.create_task(desk.atomically("do { a <- readTVar x; if a < 5 then retry else return a }"))
+...         await desk.atomically("writeTVar x 5")
+...         return await waiting
+>>> asyncio.run(main())
+5
+
+In the examples of the methods `desk` is a new desk on which `x : Int = 1` is declared, and `run` is `asyncio.run`.
+"""
+
+from __future__ import annotations
+
+import asyncio
+import os
+from collections.abc import Callable
+from contextlib import suppress
+from functools import partial
+from types import TracebackType
+from typing import Any, TypeVar
+
+from . import _desk
+from ._batch import Commands
+from ._errors import Cancelled, TimedOut
+from ._values import Finished, FinishedThrows, Job, Ref, Settled, Status, Store, Value, Verdict
+from ._waits import Wait
+
+T = TypeVar("T")
+
+
+class Desk:
+    """A running stmdesk for asyncio. An `async with` ends the program, however its body ends; so does `close`.
+
+    Many tasks may call one desk: their calls are made in the order in which they began. The calls are made in a thread, so
+    the event loop goes on meanwhile. A plain call whose task is cancelled before its turn isn't made; one that is under way
+    is made to its end, and its answer is dropped.
+
+    >>> async def main():
+    ...     async with aio.Desk() as desk:
+    ...         await desk.tvar("y : Int = 1")
+    ...         return await desk.value("y")
+    >>> run(main())
+    1
+    """
+
+    def __init__(
+        self,
+        program: str | os.PathLike[str] | None = None,
+        *,
+        workers: int | None = None,
+        levels: int | None = None,
+        max_events: int | None = None,
+        patience: float = _desk.PATIENCE,
+    ) -> None:
+        """Starts the program, as `stmdesk.Desk` does.
+
+        >>> other = aio.Desk(workers=4, max_events=1000)
+        >>> run(other.close())
+        """
+        self._desk = _desk.Desk(program, workers=workers, levels=levels, max_events=max_events, patience=patience)
+
+    async def tvar(self, declaration: str) -> Ref:
+        """Declares a variable.
+
+        >>> run(desk.tvar("y : Int = 2"))
+        Ref(1, 'y')
+        """
+        return await self._call(partial(self._desk.tvar, declaration))
+
+    async def try_(self, block: str) -> Verdict:
+        """What the block would do on the present store, which doesn't change.
+
+        >>> run(desk.try_("retry"))
+        Blocks()
+        """
+        return await self._call(partial(self._desk.try_, block))
+
+    async def looks(self, block: str) -> dict[Ref, Value]:
+        """The variables that the block would read, with their values.
+
+        >>> run(desk.looks("readTVar x"))
+        {Ref(0, 'x'): 1}
+        """
+        return await self._call(partial(self._desk.looks, block))
+
+    async def submit(self, block: str) -> int:
+        """Lets the block wait. Returns its ticket.
+
+        >>> run(desk.submit("retry"))
+        1
+        """
+        return await self._call(partial(self._desk.submit, block))
+
+    async def take(self, count: int) -> list[Job]:
+        """Hands out the `count` lowest queued tickets as jobs.
+
+        >>> run(desk.take(10))
+        []
+        """
+        return await self._call(partial(self._desk.take, count))
+
+    async def deliver(self, job: Job | int) -> int:
+        """Evaluates a job on the store of its `take`. Returns its ticket.
+
+        >>> ticket = run(desk.submit("readTVar x"))
+        >>> [run(desk.deliver(job)) for job in run(desk.take(10))]
+        [1]
+        """
+        return await self._call(partial(self._desk.deliver, job))
+
+    async def handback(self, ticket: int) -> None:
+        """Queues a ticket again that `take` handed out.
+
+        >>> ticket = run(desk.submit("readTVar x"))
+        >>> for job in run(desk.take(10)):
+        ...     run(desk.handback(job.ticket))
+        """
+        return await self._call(partial(self._desk.handback, ticket))
+
+    async def eval(self) -> int:
+        """Evaluates all queued tickets. Returns how many there were.
+
+        >>> run(desk.eval())
+        0
+        """
+        return await self._call(self._desk.eval)
+
+    async def finish(self, ticket: int) -> Finished | FinishedThrows:
+        """Applies the verdict of a ticket that is current and doesn't block.
+
+        >>> ticket, evaluated = run(desk.submit("writeTVar x 5")), run(desk.eval())
+        >>> run(desk.finish(ticket))
+        Finished(ticket=1, result=None, stale=[])
+        """
+        return await self._call(partial(self._desk.finish, ticket))
+
+    async def cancel(self, ticket: int) -> None:
+        """Ends the waiting of a ticket.
+
+        >>> ticket = run(desk.submit("retry"))
+        >>> run(desk.cancel(ticket))
+        """
+        return await self._call(partial(self._desk.cancel, ticket))
+
+    async def show(self) -> list[Status]:
+        """The state of each waiting ticket, in ascending order.
+
+        >>> run(desk.show())
+        []
+        """
+        return await self._call(self._desk.show)
+
+    async def reads(self, ticket: int) -> dict[Ref, Value]:
+        """What the last evaluation of a waiting ticket read.
+
+        >>> ticket, evaluated = run(desk.submit("readTVar x")), run(desk.eval())
+        >>> run(desk.reads(ticket))
+        {Ref(0, 'x'): 1}
+        """
+        return await self._call(partial(self._desk.reads, ticket))
+
+    async def store(self) -> Store:
+        """All variables, in ascending order, and by name.
+
+        >>> run(desk.store())
+        [Cell(variable=Ref(0, 'x'), name='x', type='Int', value=1, count=0)]
+        """
+        return await self._call(self._desk.store)
+
+    async def settle(self) -> Settled:
+        """Evaluates and finishes tickets until all that still wait block.
+
+        >>> run(desk.settle())
+        Settled(finished=0, evaluations=0)
+        """
+        return await self._call(self._desk.settle)
+
+    async def history(self) -> str:
+        """The text of all events so far.
+
+        >>> print(run(desk.history()), end="")
+        {"format":3,"vars":1}
+        {"init":1,"name":"x","type":"Int"}
+        """
+        return await self._call(self._desk.history)
+
+    async def value(self, variable: str | Ref) -> Value:
+        """The value of a variable of the present store.
+
+        >>> run(desk.value("x"))
+        1
+        """
+        return await self._call(partial(self._desk.value, variable))
+
+    async def atomically(self, block: str, timeout: float | None = None) -> Value:
+        """Runs the block and returns its result. While the block retries, waits until what it has read changes.
+
+        Raises `Thrown` if the block throws; `TimedOut` if it can't finish within `timeout` seconds, and is cancelled;
+        `Cancelled` if another call cancels its ticket; and `Ended` if the program ends. If the task is cancelled, so is the
+        block, unless it had finished already.
+
+        >>> run(desk.atomically("do { a <- readTVar x; writeTVar x (a + 1); return a }"))
+        1
+        """
+        loop = asyncio.get_running_loop()
+        over: asyncio.Future[None] = loop.create_future()
+        wait = Wait(block, lambda: _tell(loop, over, None, None))
+        waits = self._desk._begin_waits()
+        is_late = False
+        try:
+            waits.ask(wait, by_helper=True)
+            if timeout is not None:
+                await asyncio.wait((over,), timeout=max(timeout, 0))
+                if not over.done():
+                    is_late = True
+                    waits.give_up(wait, withdraw=False)
+            await over
+        except BaseException:
+            waits.give_up(wait, withdraw=True)
+            raise
+        if is_late and isinstance(wait.error, Cancelled) and timeout is not None:
+            raise TimedOut(timeout)
+        return wait.outcome()
+
+    def batch(self) -> Batch:
+        """Commands that are sent in one go when the `async with` of the batch ends.
+
+        >>> async def main():
+        ...     async with desk.batch() as batch:
+        ...         tickets = [batch.submit("retry") for _ in range(3)]
+        ...     return [ticket.result() for ticket in tickets]
+        >>> run(main())
+        [1, 2, 3]
+        """
+        return Batch(self)
+
+    @property
+    def pid(self) -> int:
+        """The number of the program's process."""
+        return self._desk.pid
+
+    async def close(self) -> None:
+        """Ends the program's input and waits for the program to end, as `stmdesk.Desk.close` does.
+
+        >>> run(desk.close())
+        """
+        await asyncio.to_thread(self._desk.close)
+
+    async def __aenter__(self) -> Desk:
+        return self
+
+    async def __aexit__(
+        self, kind: type[BaseException] | None, error: BaseException | None, trace: TracebackType | None
+    ) -> None:
+        await asyncio.to_thread(self._desk.__exit__, kind, error, trace)
+
+    async def _call(self, function: Callable[[], T]) -> T:
+        """Calls the function in the desk's thread."""
+        loop = asyncio.get_running_loop()
+        future: asyncio.Future[T] = loop.create_future()
+
+        def work() -> None:
+            if not future.cancelled():
+                try:
+                    result = function()
+                except BaseException as error:
+                    _tell(loop, future, None, error)
+                else:
+                    _tell(loop, future, result, None)
+
+        self._desk._begin_waits().helper.run(work)
+        return await future
+
+
+class Batch(Commands):
+    """Commands that `async with` sends in one go when it ends, as `stmdesk.Batch` does.
+
+    >>> async def main():
+    ...     async with desk.batch() as batch:
+    ...         looked = batch.try_("readTVar x")
+    ...     return looked.result()
+    >>> run(main())
+    Commits(writes={}, news=[], result=1)
+    """
+
+    def __init__(self, desk: Desk) -> None:
+        super().__init__()
+        self._desk = desk
+
+    async def __aenter__(self) -> Batch:
+        return self
+
+    async def __aexit__(
+        self, kind: type[BaseException] | None, error: BaseException | None, trace: TracebackType | None
+    ) -> None:
+        if self._ends(kind):
+            await self._desk._call(lambda: self._give(self._desk._desk._run))
+
+
+def _tell(loop: asyncio.AbstractEventLoop, future: asyncio.Future[Any], result: object, error: BaseException | None) -> None:
+    """Ends the future from another thread."""
+
+    def end() -> None:
+        if not future.done():
+            if error is None:
+                future.set_result(result)
+            else:
+                future.set_exception(error)
+
+    with suppress(RuntimeError):  # the loop is closed, so nobody waits for the future
+        loop.call_soon_threadsafe(end)
