@@ -10,7 +10,7 @@ use Rattle.stm_terms.specs.declared.values.Value.TheVariants.{Int, Bool as Truth
 use Rattle.stm_terms.specs.Value.{same_value, same_ref}
 use Rattle.stm_terms.specs.Changes.{Variables, find}
 use Rattle.stm_eval.specs.Messages.{Agrees}
-use Rattle.stm_history.specs.Refusals.{has_value, differing}
+use Rattle.stm_events.specs.Refusals.{has_value, differing}
 
 same_refs : (r q : Ref) → same_ref r q ≡ true → r ≡ q
 same_refs (Old i) (Old j) e = ap Old (eqb-true i j e)

@@ -11,16 +11,16 @@ use Rattle.stm_check.specs.TypedBlock.{Block}
 use Rattle.stm_eval.specs.Laws.{VerdictIsStable}
 use Rattle.stm_store.specs.declared.cell.Cell.{Cell}
 use Rattle.stm_store.specs.Tables.{Declared}
-use Rattle.stm_history.specs.declared.staleness.StalenessRule.TheVariants.{Changed}
-use Rattle.stm_history.specs.declared.event.Event.{Event}
-use Rattle.stm_history.specs.declared.event.What.TheVariants.{Installed}
-use Rattle.stm_history.specs.declared.errors.DeliverError.{DeliverError}
-use Rattle.stm_history.specs.declared.errors.DeliverError.TheVariants as deliver
+use Rattle.stm_events.specs.declared.staleness.StalenessRule.TheVariants.{Changed}
+use Rattle.stm_events.specs.declared.event.Event.{Event}
+use Rattle.stm_events.specs.declared.event.What.TheVariants.{Installed}
+use Rattle.stm_events.specs.declared.errors.DeliverError.{DeliverError}
+use Rattle.stm_events.specs.declared.errors.DeliverError.TheVariants as deliver
 use Rattle.stm_queue.specs.Queue.{marked}
-use Rattle.stm_history.specs.JobsHandedOut.{block_at, sent}
-use Rattle.stm_history.specs.Laws.{BlocksStay}
-use Rattle.stm_history.specs.Refusals.{differing, overtaken_first, pending_left}
-use Rattle.stm_history.specs.SlowDesk.{Waiter, under, is_current, find_waiter, state, MayInstall, IsLegal}
+use Rattle.stm_machine.specs.JobsHandedOut.{block_at, sent}
+use Rattle.stm_events.specs.Laws.{BlocksStay}
+use Rattle.stm_events.specs.Refusals.{differing, overtaken_first, pending_left}
+use Rattle.stm_events.specs.SlowDesk.{Waiter, under, is_current, find_waiter, state, MayInstall, IsLegal}
 use Rattle.stm_desk.specs.Refusals.{left_by}
 use Rattle.stm_desk.specs.Seen.{Seen, now, is_full}
 use Rattle.stm_console.specs.Delivering.{max_jobs, job_of, jobs_of, taken, with_jobs, after_take, delivery_first, delivery_refusal, installed, after_refusal, job_at, after_deliver, Delivered, delivered_by, delivered_next, delivered_all, all_queued, evaluated}

@@ -11,19 +11,19 @@ use Rattle.stm_check.specs.TypedBlock.{Block}
 use Rattle.stm_eval.specs.declared.job.Job.{Job}
 use Rattle.stm_eval.specs.declared.message.Evaluated.{Evaluated}
 use Rattle.stm_eval.specs.EvaluatedFields.{message_ticket, message_block, message_reads, message_verdict}
-use Rattle.stm_history.specs.declared.staleness.StalenessRule.TheVariants.{Changed}
-use Rattle.stm_history.specs.declared.errors.DeliverError.{DeliverError}
-use Rattle.stm_history.specs.declared.errors.DeliverError.TheVariants.{Gone, Already}
-use Rattle.stm_history.specs.declared.event.Event.{Event}
-use Rattle.stm_history.specs.declared.event.What.TheVariants.{Installed}
+use Rattle.stm_events.specs.declared.staleness.StalenessRule.TheVariants.{Changed}
+use Rattle.stm_events.specs.declared.errors.DeliverError.{DeliverError}
+use Rattle.stm_events.specs.declared.errors.DeliverError.TheVariants.{Gone, Already}
+use Rattle.stm_events.specs.declared.event.Event.{Event}
+use Rattle.stm_events.specs.declared.event.What.TheVariants.{Installed}
 use Rattle.stm_queue.specs.Queue.{Entry}
 use Rattle.stm_store.specs.Cells.{plains}
 use Rattle.stm_store.specs.declared.cell.Cell.{Cell}
-use Rattle.stm_history.specs.JobsHandedOut.{AreJobs, AreCovered, sent}
-use Rattle.stm_history.specs.Laws.{BlocksStay}
-use Rattle.stm_history.specs.Machine.{event}
-use Rattle.stm_history.specs.Refusals.{DeliverTold, differing, overtaken_first}
-use Rattle.stm_history.specs.SlowDesk.{Waiter, IsLegal, under, is_current, state, find_waiter}
+use Rattle.stm_machine.specs.JobsHandedOut.{AreJobs, AreCovered, sent}
+use Rattle.stm_events.specs.Laws.{BlocksStay}
+use Rattle.stm_machine.specs.Machine.{event}
+use Rattle.stm_events.specs.Refusals.{DeliverTold, differing, overtaken_first}
+use Rattle.stm_events.specs.SlowDesk.{Waiter, IsLegal, under, is_current, state, find_waiter}
 use Rattle.stm_desk.specs.Refusals.{TellsDeskDelivery, left_by}
 use Rattle.stm_desk.specs.Seen.{Seen, now, is_full, with_event}
 use Rattle.stm_console.specs.declared.jobs.Progress.{Progress}

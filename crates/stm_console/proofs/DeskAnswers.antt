@@ -11,17 +11,17 @@ use Rattle.stm_check.specs.TypedBlock.{Block}
 use Rattle.stm_store.specs.declared.cell.Cell.{Cell}
 use Rattle.stm_store.specs.Cells.{StoreIsTyped, plains, renumbered, changed_by}
 use Rattle.stm_store.specs.Tables.{Declared}
-use Rattle.stm_history.specs.declared.staleness.StalenessRule.TheVariants.{Changed}
-use Rattle.stm_history.specs.declared.errors.CancelError.{CancelError}
-use Rattle.stm_history.specs.declared.errors.DeliverError.{DeliverError}
-use Rattle.stm_history.specs.declared.errors.FinishError.{FinishError}
-use Rattle.stm_history.specs.declared.errors.SubmitError.{SubmitError}
-use Rattle.stm_history.specs.declared.event.What.{What}
-use Rattle.stm_history.specs.Laws.{DeclaredAreCovered, WaitingAreWellTyped, StoresAreTyped, BlocksHaveVerdicts}
+use Rattle.stm_events.specs.declared.staleness.StalenessRule.TheVariants.{Changed}
+use Rattle.stm_events.specs.declared.errors.CancelError.{CancelError}
+use Rattle.stm_events.specs.declared.errors.DeliverError.{DeliverError}
+use Rattle.stm_events.specs.declared.errors.FinishError.{FinishError}
+use Rattle.stm_events.specs.declared.errors.SubmitError.{SubmitError}
+use Rattle.stm_events.specs.declared.event.What.{What}
+use Rattle.stm_events.specs.Laws.{DeclaredAreCovered, WaitingAreWellTyped, StoresAreTyped, BlocksHaveVerdicts}
 use Rattle.stm_history.specs.Lines.{latest_format}
-use Rattle.stm_history.specs.Refusals.{missing, blocks_there, overflows, finish_first}
-use Rattle.stm_history.specs.SlowDesk.{Since, Waiter, Slow, under, verdict_on, is_blocks, is_new, is_current, find_waiter, without_waiter, stale_after, max_waiting}
-use Rattle.stm_history.specs.SlowSettle.{Stop, NoRoom, NoCells, ending, finishes, installs}
+use Rattle.stm_events.specs.Refusals.{missing, blocks_there, overflows, finish_first}
+use Rattle.stm_events.specs.SlowDesk.{Since, Waiter, Slow, under, verdict_on, is_blocks, is_new, is_current, find_waiter, without_waiter, stale_after, max_waiting}
+use Rattle.stm_events.specs.SlowSettle.{Stop, NoRoom, NoCells, ending, finishes, installs}
 use Rattle.stm_desk.specs.Refusals.{submit_refusal, finish_refusal, cancel_refusal}
 use Rattle.stm_desk.specs.Seen.{Seen, now, is_full}
 use Rattle.stm_desk.specs.Settling.{slow_settle, slow_stop, called_back}

@@ -9,17 +9,17 @@ use Rattle.stm_store.specs.declared.cell.Cell.{Cell}
 use Rattle.stm_store.specs.Cells.{plains, Covers, kinds_of, made_by, changed_by}
 use Rattle.stm_store.specs.Tables.{is_type}
 use Rattle.stm_check.specs.TypedBlock.{Block}
-use Rattle.stm_history.specs.declared.event.What.TheVariants.{Submitted, Finished, Cancelled}
-use Rattle.stm_history.specs.declared.errors.SubmitError.{SubmitError}
-use Rattle.stm_history.specs.declared.errors.SubmitError.TheVariants as submit
-use Rattle.stm_history.specs.declared.errors.FinishError.{FinishError}
-use Rattle.stm_history.specs.declared.errors.FinishError.TheVariants as finish
-use Rattle.stm_history.specs.declared.errors.CancelError.{CancelError}
-use Rattle.stm_history.specs.declared.errors.CancelError.TheVariants as cancel
-use Rattle.stm_history.specs.Laws.{IsWellTyped}
-use Rattle.stm_history.specs.Refusals.{missing, submit_first, blocks_there, overflows, finish_first, cancel_first}
-use Rattle.stm_history.specs.SlowDesk.{Waiter, verdict_on, is_new, is_current, find_waiter, without_waiter, stale_after, max_cells, max_waiting, MayFinish}
-use Rattle.stm_history.specs.SlowSettle.{ending}
+use Rattle.stm_events.specs.declared.event.What.TheVariants.{Submitted, Finished, Cancelled}
+use Rattle.stm_events.specs.declared.errors.SubmitError.{SubmitError}
+use Rattle.stm_events.specs.declared.errors.SubmitError.TheVariants as submit
+use Rattle.stm_events.specs.declared.errors.FinishError.{FinishError}
+use Rattle.stm_events.specs.declared.errors.FinishError.TheVariants as finish
+use Rattle.stm_events.specs.declared.errors.CancelError.{CancelError}
+use Rattle.stm_events.specs.declared.errors.CancelError.TheVariants as cancel
+use Rattle.stm_events.specs.Laws.{IsWellTyped}
+use Rattle.stm_events.specs.Refusals.{missing, submit_first, blocks_there, overflows, finish_first, cancel_first}
+use Rattle.stm_events.specs.SlowDesk.{Waiter, verdict_on, is_new, is_current, find_waiter, without_waiter, stale_after, max_cells, max_waiting, MayFinish}
+use Rattle.stm_events.specs.SlowSettle.{ending}
 use Rattle.stm_desk.specs.Refusals.{submit_refusal, finish_refusal, cancel_refusal}
 use Rattle.stm_desk.specs.Seen.{Seen, now, is_full}
 use Rattle.stm_console.specs.Blocks.{submitted}

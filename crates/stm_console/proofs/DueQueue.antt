@@ -10,11 +10,11 @@ use Rattle.stm_queue.specs.SortedTickets.{RisesAbove, IsRising, member}
 use Rattle.stm_queue.proofs.BoolLemmas.{neither}
 use Rattle.stm_queue.proofs.Merging.{itself}
 use Rattle.stm_queue.proofs.SortedInsertion.{absent_above}
-use Rattle.stm_history.specs.declared.staleness.StalenessRule.TheVariants.{Changed}
-use Rattle.stm_history.specs.Laws.{AreRising, TicketsRise, BlocksStay, CheckedAreWellTyped}
-use Rattle.stm_history.specs.QueueAndIndex.{due_of}
-use Rattle.stm_history.specs.SlowDesk.{Waiter, is_current, find_waiter}
-use Rattle.stm_history.proofs.Points.{not_above}
+use Rattle.stm_events.specs.declared.staleness.StalenessRule.TheVariants.{Changed}
+use Rattle.stm_events.specs.Laws.{AreRising, TicketsRise, BlocksStay, CheckedAreWellTyped}
+use Rattle.stm_machine.specs.QueueAndIndex.{due_of}
+use Rattle.stm_events.specs.SlowDesk.{Waiter, is_current, find_waiter}
+use Rattle.stm_events.proofs.Rising.{not_above}
 use Rattle.stm_desk.specs.Seen.{now}
 use Rattle.stm_console.specs.Console.{initial_console}
 use Rattle.stm_console.specs.ConsoleState.{present_desk}

@@ -13,17 +13,17 @@ use Rattle.stm_queue.specs.Queue.{Entry, tickets, has_ticket, is_out, without_ti
 use Rattle.stm_queue.specs.SortedTickets.{RisesAbove, IsRising, member}
 use Rattle.stm_queue.proofs.Merging.{itself}
 use Rattle.stm_queue.proofs.SortedInsertion.{absent_above}
-use Rattle.stm_history.specs.declared.errors.DeliverError.{DeliverError}
-use Rattle.stm_history.specs.declared.errors.DeliverError.TheVariants.{Already, HistoryFull}
-use Rattle.stm_history.specs.declared.event.Event.{Event}
-use Rattle.stm_history.specs.declared.event.What.TheVariants.{Installed}
-use Rattle.stm_history.specs.JobsHandedOut.{sent}
-use Rattle.stm_history.specs.Machine.{event}
-use Rattle.stm_history.specs.QueueAndIndex.{due_of}
-use Rattle.stm_history.specs.Refusals.{differing, overtaken_first}
-use Rattle.stm_history.specs.SlowDesk.{Waiter, Slow, IsLegal, max_waiting, under, verdict_on, is_current, find_waiter, with_delivery}
-use Rattle.stm_history.proofs.Agreeing.{reads_differ_nowhere}
-use Rattle.stm_history.proofs.Rising.{waiter_delivered}
+use Rattle.stm_events.specs.declared.errors.DeliverError.{DeliverError}
+use Rattle.stm_events.specs.declared.errors.DeliverError.TheVariants.{Already, HistoryFull}
+use Rattle.stm_events.specs.declared.event.Event.{Event}
+use Rattle.stm_events.specs.declared.event.What.TheVariants.{Installed}
+use Rattle.stm_machine.specs.JobsHandedOut.{sent}
+use Rattle.stm_machine.specs.Machine.{event}
+use Rattle.stm_machine.specs.QueueAndIndex.{due_of}
+use Rattle.stm_events.specs.Refusals.{differing, overtaken_first}
+use Rattle.stm_events.specs.SlowDesk.{Waiter, Slow, IsLegal, max_waiting, under, verdict_on, is_current, find_waiter, with_delivery}
+use Rattle.stm_machine.proofs.Agreeing.{reads_differ_nowhere}
+use Rattle.stm_events.proofs.Rising.{waiter_delivered}
 use Rattle.stm_desk.specs.Evaluating.{EvaluatedSoFar, verdict_of_waiter, verdict_under, with_installed, with_evaluated, evaluate_unless, evaluate_each, none_evaluated, evaluate_lowest}
 use Rattle.stm_desk.specs.Seen.{Seen, now, is_full, with_event, DeskQueueIsRight, AllHaveVerdicts}
 use Rattle.stm_console.specs.Delivering.{Delivered, delivered_by, delivered_all, delivery_first, delivery_refusal, installed, jobs_of, job_of, taken, evaluated}

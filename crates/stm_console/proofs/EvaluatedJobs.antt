@@ -8,10 +8,10 @@ use Rattle.stm_terms.specs.declared.values.Value.{Value}
 use Rattle.stm_eval.specs.declared.job.Job.{Job}
 use Rattle.stm_eval.specs.declared.message.Evaluated.{Evaluated}
 use Rattle.stm_eval.specs.EvaluatedFields.{message_ticket, message_block, message_reads}
-use Rattle.stm_history.specs.declared.errors.DeliverError.{DeliverError}
-use Rattle.stm_history.specs.JobsHandedOut.{AreCovered}
-use Rattle.stm_history.specs.Laws.{BlocksStay}
-use Rattle.stm_history.specs.SlowDesk.{IsLegal}
+use Rattle.stm_events.specs.declared.errors.DeliverError.{DeliverError}
+use Rattle.stm_machine.specs.JobsHandedOut.{AreCovered}
+use Rattle.stm_events.specs.Laws.{BlocksStay}
+use Rattle.stm_events.specs.SlowDesk.{IsLegal}
 use Rattle.stm_pool.specs.Answers.{IsMessageOf, AnswersJob}
 use Rattle.stm_desk.specs.Refusals.{TellsDeskDelivery, left_by}
 use Rattle.stm_desk.specs.Seen.{Seen}

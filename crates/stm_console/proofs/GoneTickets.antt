@@ -3,16 +3,16 @@ use Rattle.std.proofs.Common.{◌≡◌, ℕ, ◌<◌, Bool, true, false, cond, 
 use Rattle.std.specs.Prelude.{nat_eq, option_map}
 use Rattle.std.proofs.lemmas.Bool.Decides.{nat_tests}
 use Rattle.stm_store.specs.Tables.{Declared}
-use Rattle.stm_history.specs.declared.event.Event.{Event}
-use Rattle.stm_history.specs.declared.event.What.{What}
-use Rattle.stm_history.specs.declared.event.What.TheVariants.{Submitted, Installed, Finished, Cancelled}
-use Rattle.stm_history.specs.declared.staleness.StalenessRule.TheVariants.{Changed}
-use Rattle.stm_history.specs.Laws.{AreRising}
-use Rattle.stm_history.specs.SlowDesk.{Waiter, Slow, waking, find_waiter, without_waiter, with_delivery, after_writes, after, Allows, initial_state, state_from, state, LegalFrom, IsLegal}
-use Rattle.stm_history.proofs.Folds.{state-append}
-use Rattle.stm_history.proofs.Kept.{legal-append}
-use Rattle.stm_history.proofs.Rising.{rising_after, rising_state, waiter_without, waiter_delivered, waiter_marks, waiter_push}
-use Rattle.stm_history.proofs.Since.{low}
+use Rattle.stm_events.specs.declared.event.Event.{Event}
+use Rattle.stm_events.specs.declared.event.What.{What}
+use Rattle.stm_events.specs.declared.event.What.TheVariants.{Submitted, Installed, Finished, Cancelled}
+use Rattle.stm_events.specs.declared.staleness.StalenessRule.TheVariants.{Changed}
+use Rattle.stm_events.specs.Laws.{AreRising}
+use Rattle.stm_events.specs.SlowDesk.{Waiter, Slow, waking, find_waiter, without_waiter, with_delivery, after_writes, after, Allows, initial_state, state_from, state, LegalFrom, IsLegal}
+use Rattle.stm_events.proofs.Folds.{state-append}
+use Rattle.stm_events.proofs.Kept.{legal-append}
+use Rattle.stm_events.proofs.Rising.{rising_after, rising_state, waiter_without, waiter_delivered, waiter_marks, waiter_push}
+use Rattle.stm_events.proofs.Since.{low}
 
 -- the ticket was given
 record IsGiven (t : ℕ) (s : Slow) : Type 0 where

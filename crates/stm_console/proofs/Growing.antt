@@ -8,17 +8,17 @@ use Rattle.stm_store.specs.Tables.{Declared}
 use Rattle.stm_terms.specs.declared.verdicts.Verdict.{Verdict}
 use Rattle.stm_check.specs.TypedBlock.{Block}
 use Rattle.stm_eval.specs.declared.job.Job.{Job}
-use Rattle.stm_history.specs.declared.errors.CancelError.{CancelError}
-use Rattle.stm_history.specs.declared.errors.FinishError.{FinishError}
-use Rattle.stm_history.specs.declared.errors.SubmitError.{SubmitError}
-use Rattle.stm_history.specs.declared.event.Event.{Event}
-use Rattle.stm_history.specs.declared.event.What.{What}
-use Rattle.stm_history.specs.declared.event.What.TheVariants.{Submitted, Finished, Cancelled}
-use Rattle.stm_history.specs.JobsHandedOut.{block_at, AreJobs, AreCovered}
-use Rattle.stm_history.specs.Machine.{event}
-use Rattle.stm_history.specs.Plans.{IsPlan}
-use Rattle.stm_history.specs.SlowDesk.{Slow, IsLegal, state, state_from, after, initial_state, stale_after, without_waiter}
-use Rattle.stm_history.specs.SlowSettle.{ending, finishes}
+use Rattle.stm_events.specs.declared.errors.CancelError.{CancelError}
+use Rattle.stm_events.specs.declared.errors.FinishError.{FinishError}
+use Rattle.stm_events.specs.declared.errors.SubmitError.{SubmitError}
+use Rattle.stm_events.specs.declared.event.Event.{Event}
+use Rattle.stm_events.specs.declared.event.What.{What}
+use Rattle.stm_events.specs.declared.event.What.TheVariants.{Submitted, Finished, Cancelled}
+use Rattle.stm_machine.specs.JobsHandedOut.{block_at, AreJobs, AreCovered}
+use Rattle.stm_machine.specs.Machine.{event}
+use Rattle.stm_machine.specs.Plans.{IsPlan}
+use Rattle.stm_events.specs.SlowDesk.{Slow, IsLegal, state, state_from, after, initial_state, stale_after, without_waiter}
+use Rattle.stm_events.specs.SlowSettle.{ending, finishes}
 use Rattle.stm_desk.specs.Seen.{Seen, now, with_event}
 use Rattle.stm_desk.specs.declared.errors.SettleStop.{SettleStop}
 use Rattle.stm_desk.specs.declared.errors.SettleWhy.{SettleWhy}

@@ -12,18 +12,18 @@ use Rattle.stm_queue.proofs.InvariantPreserved.{insert_rising, delete_rising}
 use Rattle.stm_queue.proofs.Membership.{has_without}
 use Rattle.stm_queue.proofs.Merging.{has_with, itself}
 use Rattle.stm_queue.proofs.SortedInsertion.{absent_above}
-use Rattle.stm_history.specs.declared.errors.DeliverError.{DeliverError}
-use Rattle.stm_history.specs.declared.errors.DeliverError.TheVariants as deliver
-use Rattle.stm_history.specs.declared.event.What.{What}
-use Rattle.stm_history.specs.declared.event.What.TheVariants.{Submitted, Installed, Finished, Cancelled}
-use Rattle.stm_history.specs.declared.staleness.StalenessRule.TheVariants.{Changed}
-use Rattle.stm_history.specs.JobsHandedOut.{sent}
-use Rattle.stm_history.specs.Laws.{AreRising}
-use Rattle.stm_history.specs.QueueAndIndex.{AreQueued, due_of, with_tickets}
-use Rattle.stm_history.specs.Refusals.{pending_left}
-use Rattle.stm_history.specs.SlowDesk.{Waiter, Slow, is_current, waking, becomes_stale, stale_after, after_writes, find_waiter, without_waiter, after, Allows, MayFinish}
-use Rattle.stm_history.proofs.Points.{not_yet, has_with_tickets, queue_push, queue_delivered, queue_gone, stale_of, queue_finished, has_stale}
-use Rattle.stm_history.proofs.Rising.{rising_without, waiter_without, waiter_delivered, waiter_marks, waiter_push}
+use Rattle.stm_events.specs.declared.errors.DeliverError.{DeliverError}
+use Rattle.stm_events.specs.declared.errors.DeliverError.TheVariants as deliver
+use Rattle.stm_events.specs.declared.event.What.{What}
+use Rattle.stm_events.specs.declared.event.What.TheVariants.{Submitted, Installed, Finished, Cancelled}
+use Rattle.stm_events.specs.declared.staleness.StalenessRule.TheVariants.{Changed}
+use Rattle.stm_machine.specs.JobsHandedOut.{sent}
+use Rattle.stm_events.specs.Laws.{AreRising}
+use Rattle.stm_machine.specs.QueueAndIndex.{AreQueued, due_of, with_tickets}
+use Rattle.stm_events.specs.Refusals.{pending_left}
+use Rattle.stm_events.specs.SlowDesk.{Waiter, Slow, is_current, waking, becomes_stale, stale_after, after_writes, find_waiter, without_waiter, after, Allows, MayFinish}
+use Rattle.stm_machine.proofs.Points.{not_yet, has_with_tickets, queue_push, queue_delivered, queue_gone, stale_of, queue_finished, has_stale}
+use Rattle.stm_events.proofs.Rising.{rising_without, waiter_without, waiter_delivered, waiter_marks, waiter_push}
 use Rattle.stm_desk.specs.Seen.{pending_after}
 
 pub record QueueKept (ws : List Waiter) (es : List Entry) : Type 0 where

@@ -6,9 +6,9 @@ use Rattle.stm_terms.specs.declared.values.Value.{Value}
 use Rattle.stm_check.specs.TypedBlock.{Block}
 use Rattle.stm_store.specs.Tables.{Declared}
 use Rattle.stm_eval.specs.declared.job.Job.{Job}
-use Rattle.stm_history.specs.declared.event.Event.{Event}
-use Rattle.stm_history.specs.JobsHandedOut.{block_at}
-use Rattle.stm_history.specs.SlowDesk.{Waiter, IsLegal, find_waiter, state}
+use Rattle.stm_events.specs.declared.event.Event.{Event}
+use Rattle.stm_machine.specs.JobsHandedOut.{block_at}
+use Rattle.stm_events.specs.SlowDesk.{Waiter, IsLegal, find_waiter, state}
 use Rattle.stm_desk.specs.Seen.{Seen, now}
 use Rattle.stm_console.specs.declared.jobs.KeptJob.{KeptJob}
 use Rattle.stm_console.specs.Delivering.{job_at}

@@ -6,8 +6,8 @@ use Rattle.stm_queue.specs.Queue.{Entry, tickets, has_ticket, is_out, with_entry
 use Rattle.stm_queue.specs.SortedTickets.{RisesAbove, IsRising, member}
 use Rattle.stm_queue.proofs.Merging.{itself}
 use Rattle.stm_queue.proofs.SortedInsertion.{absent_above}
-use Rattle.stm_history.specs.JobsHandedOut.{sent}
-use Rattle.stm_history.specs.QueueAndIndex.{with_tickets}
+use Rattle.stm_machine.specs.JobsHandedOut.{sent}
+use Rattle.stm_machine.specs.QueueAndIndex.{with_tickets}
 use Rattle.stm_console.specs.DueTickets.{OutTicketsAreASet}
 use Rattle.stm_console.proofs.KeptQueue.{member_tickets, tickets_marked}
 

@@ -10,13 +10,13 @@ use Rattle.stm_parse.specs.ParseFunction.{BlockAnswersAreRight, DeclarationAnswe
 use Rattle.stm_store.specs.Cells.{changed_by}
 use Rattle.stm_store.specs.declared.cell.Cell.{Cell}
 use Rattle.stm_store.specs.Tables.{Declared}
-use Rattle.stm_history.specs.declared.staleness.StalenessRule.TheVariants.{Changed}
-use Rattle.stm_history.specs.declared.event.Event.{Event}
-use Rattle.stm_history.specs.declared.event.What.{What}
-use Rattle.stm_history.specs.declared.event.What.TheVariants.{Submitted, Installed, Finished, Cancelled}
-use Rattle.stm_history.specs.Laws.{AreRising, TicketsRise, BlocksStay, CheckedAreWellTyped, WeakIsPresent}
-use Rattle.stm_history.specs.SlowDesk as slow
-use Rattle.stm_history.specs.SlowDesk.{Since, Waiter, Slow, verdict_on, is_stale_since, find_waiter, without_waiter, delivered, after_writes, after, MayInstall, Allows, initial_state, state_from, state, standing, weak_since, LegalFrom, IsLegal}
+use Rattle.stm_events.specs.declared.staleness.StalenessRule.TheVariants.{Changed}
+use Rattle.stm_events.specs.declared.event.Event.{Event}
+use Rattle.stm_events.specs.declared.event.What.{What}
+use Rattle.stm_events.specs.declared.event.What.TheVariants.{Submitted, Installed, Finished, Cancelled}
+use Rattle.stm_events.specs.Laws.{AreRising, TicketsRise, BlocksStay, CheckedAreWellTyped, WeakIsPresent}
+use Rattle.stm_events.specs.SlowDesk as slow
+use Rattle.stm_events.specs.SlowDesk.{Since, Waiter, Slow, verdict_on, is_stale_since, find_waiter, without_waiter, delivered, after_writes, after, MayInstall, Allows, initial_state, state_from, state, standing, weak_since, LegalFrom, IsLegal}
 use Rattle.stm_console.specs.Console.{initial_console}
 use Rattle.stm_console.specs.ConsoleState.{present_desk}
 use Rattle.stm_console.specs.Laws.{state_after_lines, HasVerdict, VerdictsAreShown}

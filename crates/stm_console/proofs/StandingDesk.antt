@@ -7,13 +7,13 @@ use Rattle.std.proofs.lemmas.Bool.Decides.{nat_tests}
 use Rattle.stm_queue.specs.Queue.{Entry, tickets}
 use Rattle.stm_store.specs.Cells.{StoreIsTyped}
 use Rattle.stm_store.specs.Tables.{Declared, declared_cells}
-use Rattle.stm_history.specs.declared.event.Event.{Event}
-use Rattle.stm_history.specs.declared.staleness.StalenessRule.TheVariants.{Changed}
-use Rattle.stm_history.specs.declared.event.What.{What}
-use Rattle.stm_history.specs.Laws.{SubmitsWellTyped, SubmittedAreWellTyped}
-use Rattle.stm_history.specs.Machine.{event}
-use Rattle.stm_history.specs.SlowDesk.{Waiter, Slow, find_waiter, after, Allows, AllowsEvent, initial_state, state_from, state, LegalFrom, IsLegal, max_events}
-use Rattle.stm_history.proofs.Rising.{tickets_rise}
+use Rattle.stm_events.specs.declared.event.Event.{Event}
+use Rattle.stm_events.specs.declared.staleness.StalenessRule.TheVariants.{Changed}
+use Rattle.stm_events.specs.declared.event.What.{What}
+use Rattle.stm_events.specs.Laws.{SubmitsWellTyped, SubmittedAreWellTyped}
+use Rattle.stm_machine.specs.Machine.{event}
+use Rattle.stm_events.specs.SlowDesk.{Waiter, Slow, find_waiter, after, Allows, AllowsEvent, initial_state, state_from, state, LegalFrom, IsLegal, max_events}
+use Rattle.stm_events.proofs.Rising.{tickets_rise}
 use Rattle.stm_desk.specs.Seen.{Seen, now, is_full, pending_after, with_event}
 use Rattle.stm_console.specs.OpenDesk.{HandedOut}
 use Rattle.stm_console.proofs.KeptQueue.{QueueKept, kept_event, kept_marks}

@@ -3,9 +3,9 @@ use Rattle.std.proofs.Common.{◌≡◌, ℕ, suc, ◌<◌, ◌≤◌, Bool, tru
 use Rattle.std.specs.Prelude.{nat_lt, nat_eq, filter, length, option_map}
 use Rattle.std.proofs.lemmas.Bool.Decides.{nat_tests}
 use Rattle.stm_store.specs.declared.cell.Cell.{Cell}
-use Rattle.stm_history.specs.Laws.{AreRising}
-use Rattle.stm_history.specs.SlowDesk.{Waiter, find_waiter}
-use Rattle.stm_history.specs.SlowSettle.{lowest}
+use Rattle.stm_events.specs.Laws.{AreRising}
+use Rattle.stm_events.specs.SlowDesk.{Waiter, find_waiter}
+use Rattle.stm_events.specs.SlowSettle.{lowest}
 use Rattle.stm_console.specs.Showing.{waiter_line, waiter_lines}
 
 -- those whose tickets are above this number

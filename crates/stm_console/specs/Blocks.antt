@@ -7,10 +7,10 @@ use Rattle.stm_terms.specs.ReadSet.{reads_of}
 use Rattle.stm_check.specs.TypedBlock.{Block}
 use Rattle.stm_store.specs.declared.cell.Cell.{Cell}
 use Rattle.stm_store.specs.Tables.{Declared}
-use Rattle.stm_history.specs.declared.errors.SubmitError.{SubmitError}
-use Rattle.stm_history.specs.declared.event.What.TheVariants.{Submitted}
-use Rattle.stm_history.specs.Machine.{event}
-use Rattle.stm_history.specs.SlowDesk.{under, verdict_on}
+use Rattle.stm_events.specs.declared.errors.SubmitError.{SubmitError}
+use Rattle.stm_events.specs.declared.event.What.TheVariants.{Submitted}
+use Rattle.stm_machine.specs.Machine.{event}
+use Rattle.stm_events.specs.SlowDesk.{under, verdict_on}
 use Rattle.stm_history.specs.WholeBlocks.{BlockFault, NotParsed, NotTyped, checked_block}
 use Rattle.stm_desk.specs.Seen.{Seen, now, with_event}
 use Rattle.stm_desk.specs.Refusals.{submit_refusal}

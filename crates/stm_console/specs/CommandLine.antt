@@ -11,7 +11,7 @@ use Rattle.clap.specs.declared.builder.value_parser.ValueParser.TheVariants.{Sig
 use Rattle.clap.specs.declared.error.kind.ErrorKind.{ErrorKind}
 use Rattle.clap.specs.declared.error.kind.ErrorKind.TheVariants.{DisplayHelp, DisplayVersion}
 use Rattle.stm_eval.specs.Limits.{max_levels}
-use Rattle.stm_history.specs.SlowDesk.{max_events}
+use Rattle.stm_events.specs.SlowDesk.{max_events}
 use Rattle.stm_pool.specs.Limits.{max_workers}
 use Rattle.stm_console.specs.declared.command_line.Request.{Request}
 use Rattle.stm_console.specs.declared.command_line.Request.TheVariants.{Run, Storm, Explore, Check}

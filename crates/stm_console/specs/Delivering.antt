@@ -10,13 +10,13 @@ use Rattle.stm_check.specs.TypedBlock.{Block}
 use Rattle.stm_store.specs.declared.cell.Cell.{Cell}
 use Rattle.stm_store.specs.Cells.{plains}
 use Rattle.stm_queue.specs.Queue.{queued, is_out, marked}
-use Rattle.stm_history.specs.declared.errors.DeliverError.{DeliverError}
-use Rattle.stm_history.specs.declared.errors.DeliverError.TheVariants.{Gone}
-use Rattle.stm_history.specs.declared.event.What.TheVariants.{Installed}
-use Rattle.stm_history.specs.JobsHandedOut.{block_at, sent}
-use Rattle.stm_history.specs.Machine.{event}
-use Rattle.stm_history.specs.Refusals.{install_first}
-use Rattle.stm_history.specs.SlowDesk.{Waiter, Slow, find_waiter, max_waiting}
+use Rattle.stm_events.specs.declared.errors.DeliverError.{DeliverError}
+use Rattle.stm_events.specs.declared.errors.DeliverError.TheVariants.{Gone}
+use Rattle.stm_events.specs.declared.event.What.TheVariants.{Installed}
+use Rattle.stm_machine.specs.JobsHandedOut.{block_at, sent}
+use Rattle.stm_machine.specs.Machine.{event}
+use Rattle.stm_events.specs.Refusals.{install_first}
+use Rattle.stm_events.specs.SlowDesk.{Waiter, Slow, find_waiter, max_waiting}
 use Rattle.stm_desk.specs.Refusals.{left_by}
 use Rattle.stm_desk.specs.Seen.{Seen, now, is_full, with_event}
 use Rattle.stm_console.specs.Arguments.{number_argument, with_number, after_number, with_nothing, after_nothing}

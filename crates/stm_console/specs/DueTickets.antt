@@ -3,9 +3,9 @@ use Rattle.std.specs.Prelude.{◌≡◌, ℕ, Bool, false, not, ◌&&◌, ◌||�
 use Rattle.std.specs.List.{filter}
 use Rattle.stm_queue.specs.Queue.{Entry, tickets, with_ticket, without_ticket, is_out, marked, recalled, queued}
 use Rattle.stm_queue.specs.SortedTickets.{IsRising, member}
-use Rattle.stm_history.specs.JobsHandedOut.{sent}
-use Rattle.stm_history.specs.QueueAndIndex.{with_tickets}
-use Rattle.stm_history.specs.SlowDesk.{Waiter, is_current}
+use Rattle.stm_machine.specs.JobsHandedOut.{sent}
+use Rattle.stm_machine.specs.QueueAndIndex.{with_tickets}
+use Rattle.stm_events.specs.SlowDesk.{Waiter, is_current}
 
 -- the tickets of the waiting blocks that are new or stale, in the order in which the blocks wait
 abbrev pub due_tickets : List Waiter → List ℕ

@@ -5,13 +5,13 @@ use Rattle.stm_terms.specs.declared.verdicts.Verdict.{Verdict}
 use Rattle.stm_terms.specs.declared.verdicts.Verdict.TheVariants.{Commits, Throws, Blocks}
 use Rattle.stm_terms.specs.Texts.{list_text, value_text, verdict_text}
 use Rattle.stm_store.specs.Cells.{renumbered}
-use Rattle.stm_history.specs.declared.errors.CancelError.{CancelError}
-use Rattle.stm_history.specs.declared.errors.FinishError.{FinishError}
-use Rattle.stm_history.specs.declared.event.What.{What}
-use Rattle.stm_history.specs.declared.event.What.TheVariants.{Submitted, Installed, Finished, Cancelled}
-use Rattle.stm_history.specs.Machine.{event}
-use Rattle.stm_history.specs.SlowDesk.{Waiter, Slow, verdict_on, find_waiter}
-use Rattle.stm_history.specs.SlowSettle.{ending, finishes, installs, Stop, NoRoom, NoCells}
+use Rattle.stm_events.specs.declared.errors.CancelError.{CancelError}
+use Rattle.stm_events.specs.declared.errors.FinishError.{FinishError}
+use Rattle.stm_events.specs.declared.event.What.{What}
+use Rattle.stm_events.specs.declared.event.What.TheVariants.{Submitted, Installed, Finished, Cancelled}
+use Rattle.stm_machine.specs.Machine.{event}
+use Rattle.stm_events.specs.SlowDesk.{Waiter, Slow, verdict_on, find_waiter}
+use Rattle.stm_events.specs.SlowSettle.{ending, finishes, installs, Stop, NoRoom, NoCells}
 use Rattle.stm_desk.specs.declared.errors.SettleWhy.{SettleWhy}
 use Rattle.stm_desk.specs.declared.errors.SettleWhy.TheVariants.{HistoryFull, CellsFull, NoMemory}
 use Rattle.stm_desk.specs.Refusals.{finish_refusal, cancel_refusal}

@@ -8,13 +8,13 @@ use Rattle.stm_store.specs.Tables.{Declared}
 use Rattle.stm_eval.specs.declared.job.Job.{Job}
 use Rattle.stm_eval.specs.declared.message.Evaluated.{Evaluated}
 use Rattle.stm_eval.specs.EvaluatedFields.{message_ticket, message_verdict}
-use Rattle.stm_history.specs.declared.errors.DeliverError.{DeliverError}
-use Rattle.stm_history.specs.declared.errors.DeliverError.TheVariants.{Gone, Already}
-use Rattle.stm_history.specs.declared.event.Event.{Event}
-use Rattle.stm_history.specs.declared.event.What.TheVariants.{Installed}
-use Rattle.stm_history.specs.JobsHandedOut.{block_at}
-use Rattle.stm_history.specs.Machine.{event}
-use Rattle.stm_history.specs.SlowDesk.{Waiter, IsLegal, is_current, find_waiter, state}
+use Rattle.stm_events.specs.declared.errors.DeliverError.{DeliverError}
+use Rattle.stm_events.specs.declared.errors.DeliverError.TheVariants.{Gone, Already}
+use Rattle.stm_events.specs.declared.event.Event.{Event}
+use Rattle.stm_events.specs.declared.event.What.TheVariants.{Installed}
+use Rattle.stm_machine.specs.JobsHandedOut.{block_at}
+use Rattle.stm_machine.specs.Machine.{event}
+use Rattle.stm_events.specs.SlowDesk.{Waiter, IsLegal, is_current, find_waiter, state}
 use Rattle.stm_pool.specs.Answers.{AnswersJob}
 use Rattle.stm_desk.specs.Refusals.{left_by}
 use Rattle.stm_desk.specs.Seen.{Seen, now, with_event}

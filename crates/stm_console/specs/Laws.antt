@@ -4,7 +4,7 @@ use Rattle.std.specs.Prelude.{◌≡◌, ◌≢◌, ◌≤◌, ◌<◌, ◌^◌,
 use Rattle.stm_queue.specs.Queue.{Entry}
 use Rattle.stm_queue.specs.SortedTickets.{IsRising}
 use Rattle.stm_eval.specs.Limits.{max_levels}
-use Rattle.stm_history.specs.SlowDesk as slow
+use Rattle.stm_events.specs.SlowDesk as slow
 use Rattle.stm_desk.specs.Seen.{now}
 use Rattle.stm_pool.specs.Limits.{max_workers}
 use Rattle.stm_console.specs.declared.console.Console.{Console}

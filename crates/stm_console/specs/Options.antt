@@ -1,7 +1,7 @@
 -- The options of a run.
 use Rattle.std.specs.Prelude.{◌≤◌, ◌<◌}
 use Rattle.stm_eval.specs.Limits.{max_levels}
-use Rattle.stm_history.specs.SlowDesk.{max_events}
+use Rattle.stm_events.specs.SlowDesk.{max_events}
 use Rattle.stm_pool.specs.Limits.{max_workers}
 use Rattle.stm_console.specs.declared.options.Options.{Options}
 

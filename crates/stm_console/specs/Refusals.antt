@@ -6,14 +6,14 @@ use Rattle.stm_check.specs.declared.fault.TypeFault.{TypeFault}
 use Rattle.stm_check.specs.declared.fault.TypeFault.TheVariants as typed
 use Rattle.stm_store.specs.declared.table.DeclareError.{DeclareError}
 use Rattle.stm_store.specs.declared.table.DeclareError.TheVariants as declare
-use Rattle.stm_history.specs.declared.errors.SubmitError.{SubmitError}
-use Rattle.stm_history.specs.declared.errors.SubmitError.TheVariants as submit
-use Rattle.stm_history.specs.declared.errors.DeliverError.{DeliverError}
-use Rattle.stm_history.specs.declared.errors.DeliverError.TheVariants as deliver
-use Rattle.stm_history.specs.declared.errors.FinishError.{FinishError}
-use Rattle.stm_history.specs.declared.errors.FinishError.TheVariants as finish
-use Rattle.stm_history.specs.declared.errors.CancelError.{CancelError}
-use Rattle.stm_history.specs.declared.errors.CancelError.TheVariants as cancel
+use Rattle.stm_events.specs.declared.errors.SubmitError.{SubmitError}
+use Rattle.stm_events.specs.declared.errors.SubmitError.TheVariants as submit
+use Rattle.stm_events.specs.declared.errors.DeliverError.{DeliverError}
+use Rattle.stm_events.specs.declared.errors.DeliverError.TheVariants as deliver
+use Rattle.stm_events.specs.declared.errors.FinishError.{FinishError}
+use Rattle.stm_events.specs.declared.errors.FinishError.TheVariants as finish
+use Rattle.stm_events.specs.declared.errors.CancelError.{CancelError}
+use Rattle.stm_events.specs.declared.errors.CancelError.TheVariants as cancel
 use Rattle.stm_console.specs.declared.refusal.Refusal.{Refusal}
 use Rattle.stm_console.specs.declared.refusal.Refusal.TheVariants.{Parsing, Typing, Unknown, Declaring}
 

@@ -3,8 +3,8 @@
 ghost use Rattle.std.specs.Prelude.{◌≡◌, ◌≤◌, ◌+◌, ◌++◌, List, map, length, Some, option_map, string_bytes, OnOk, IfOk, IfSome};
 ghost use Rattle.std.specs.Option.{option_copied};
 ghost use Rattle.stm_terms.specs.Texts.{spaced, list_text};
-ghost use Rattle.stm_history.specs.JobsHandedOut.{sent};
-ghost use Rattle.stm_history.specs.SlowDesk.{Waiter, IsLegal};
+ghost use Rattle.stm_machine.specs.JobsHandedOut.{sent};
+ghost use Rattle.stm_events.specs.SlowDesk.{Waiter, IsLegal};
 ghost use Rattle.stm_desk.specs.Seen.{now};
 ghost use Rattle.stm_console.specs.Kept.{job_kept, AreStored, HasStore, HaveStores, JobStands, JobsStand, HasGrown};
 ghost use Rattle.stm_console.specs.Delivering.{taken, jobs_of, job_text, numbered, jobs_line, take_text, after_take, take_answer, take_state, job_at, deliver_text, after_deliver, deliver_answer, deliver_state, handback_text, handed_back, handback_answer, handback_state, delivered_line, queued_line, evaluated_line, evaluated_text, delivery_text, eval_answer, eval_state};

@@ -14,12 +14,13 @@ pub fn each_line_is_answered()
     stm_check::laws::check_never_says_no_memory();
     stm_check::laws::verdict_fits();
     stm_eval::laws::verdict_is_stable();
-    stm_history::laws::tickets_rise();
-    stm_history::laws::declared_are_covered();
-    stm_history::laws::blocks_stay();
-    stm_history::laws::waiting_are_well_typed();
-    stm_history::laws::stores_are_typed();
-    stm_history::laws::blocks_have_verdicts();
+    stm_events::laws::tickets_rise();
+    stm_events::laws::declared_are_covered();
+    stm_events::laws::blocks_stay();
+    stm_history::files::laws::checked_are_well_typed();
+    stm_events::laws::waiting_are_well_typed();
+    stm_events::laws::stores_are_typed();
+    stm_events::laws::blocks_have_verdicts();
 }
 
 /// Each waiting block that isn't new stands with a verdict, whatever lines came before: so none that `show` has to tell is
@@ -30,10 +31,11 @@ pub fn verdicts_are_shown()
     stm_parse::laws::answers_are_right();
     stm_check::laws::check_never_says_no_memory();
     stm_eval::laws::verdict_is_stable();
-    stm_history::laws::tickets_rise();
-    stm_history::laws::blocks_stay();
-    stm_history::laws::waiting_are_well_typed();
-    stm_history::laws::weak_is_present();
+    stm_events::laws::tickets_rise();
+    stm_events::laws::blocks_stay();
+    stm_history::files::laws::checked_are_well_typed();
+    stm_events::laws::waiting_are_well_typed();
+    stm_events::laws::weak_is_present();
 }
 
 /// The queue of the desk is no more than a set of tickets that are out: whatever lines came before, it has the tickets of the new
@@ -47,9 +49,10 @@ pub fn queue_is_a_set_of_tickets()
     stm_parse::laws::answers_are_right();
     stm_check::laws::check_never_says_no_memory();
     stm_eval::laws::verdict_is_stable();
-    stm_history::laws::tickets_rise();
-    stm_history::laws::blocks_stay();
-    stm_history::laws::waiting_are_well_typed();
+    stm_events::laws::tickets_rise();
+    stm_events::laws::blocks_stay();
+    stm_history::files::laws::checked_are_well_typed();
+    stm_events::laws::waiting_are_well_typed();
 }
 
 /// The program's name alone, and `run` after it, ask for a run with the default options, also with a last word `--`. No

@@ -4,7 +4,7 @@ ghost use Rattle.std.specs.Prelude.{◌≡◌, ◌≤◌, IfOk};
 ghost use Rattle.stm_terms.specs.UnlessNoMemory.{AnswersAs};
 ghost use Rattle.stm_store.specs.Cells.{Covers, plains};
 ghost use Rattle.stm_store.specs.Tables.{opened};
-ghost use Rattle.stm_history.specs.SlowDesk.{IsLegal, max_events};
+ghost use Rattle.stm_events.specs.SlowDesk.{IsLegal, max_events};
 ghost use Rattle.stm_history.specs.HistoryText.{WritesText};
 ghost use Rattle.stm_desk.specs.Seen.{now};
 ghost use Rattle.stm_console.specs.Blocks.{compiled_block};

@@ -1,7 +1,7 @@
 //! What the commands refuse, and how it is printed.
 
 ghost use Rattle.std.specs.Prelude.{◌≡◌, ◌++◌, ℕ, Some, Err, string_bytes, OnOk};
-ghost use Rattle.stm_history.specs.Refusals.{submit_told, deliver_error, finish_told, cancel_told};
+ghost use Rattle.stm_events.specs.Refusals.{submit_told, deliver_error, finish_told, cancel_told};
 ghost use Rattle.stm_desk.specs.declared.finish.Finish.{Finish};
 ghost use Rattle.stm_console.specs.Refusals.{refused, refused_at, refused_variable, parse_fault_text, type_fault_text, declare_error_text, submit_error_text, deliver_error_text, finish_error_text, cancel_error_text, refusal_text, told_refusal};
 

@@ -1,7 +1,7 @@
 //! The stores of jobs that were handed out: one whose ticket waits no more needs none.
 
 ghost use Rattle.std.specs.Prelude.{◌≡◌, ◌≤◌, ◌++◌, map, length, is_some, OnOk, OnErr};
-ghost use Rattle.stm_history.specs.SlowDesk.{find_waiter};
+ghost use Rattle.stm_events.specs.SlowDesk.{find_waiter};
 ghost use Rattle.stm_desk.specs.Seen.{now};
 ghost use Rattle.stm_console.specs.Kept.{job_kept, AreStored, HaveStores};
 

@@ -2,7 +2,7 @@
 
 ghost use Rattle.std.specs.Prelude.{◌≡◌, ◌++◌, Some, string_bytes, OnOk};
 ghost use Rattle.stm_terms.specs.ReadSet.{reads_of};
-ghost use Rattle.stm_history.specs.SlowDesk.{under, verdict_on};
+ghost use Rattle.stm_events.specs.SlowDesk.{under, verdict_on};
 ghost use Rattle.stm_store.specs.Cells.{Covers, plains};
 ghost use Rattle.stm_store.specs.Tables.{opened};
 ghost use Rattle.stm_desk.specs.Refusals.{submit_refusal};
@@ -14,7 +14,7 @@ use crate::refusal::{refuse_submit, write_refusal};
 use std::alloc::Global;
 use stm_check::{SharedBlock, Typed};
 use stm_eval::try_block;
-use stm_history::laws::declared_are_covered;
+use stm_events::laws::declared_are_covered;
 use stm_terms::NoMemory;
 use stm_terms::text::{write_verdict, write_writes};
 use stm_terms::values::Value;

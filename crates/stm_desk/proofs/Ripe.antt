@@ -7,21 +7,21 @@ use Rattle.stm_terms.specs.declared.verdicts.Verdict.{Verdict}
 use Rattle.stm_check.specs.TypedBlock.{Block}
 use Rattle.stm_queue.specs.SortedTickets.{member}
 use Rattle.stm_store.specs.Cells.{changed_by}
-use Rattle.stm_history.specs.Keeping.{IsVerdictUnder}
-use Rattle.stm_history.specs.declared.event.What.{What}
-use Rattle.stm_history.specs.declared.event.What.TheVariants.{Installed, Finished}
-use Rattle.stm_history.specs.declared.staleness.StalenessRule.TheVariants.{Changed}
-use Rattle.stm_history.specs.SlowDesk.{Since, Waiter, Slow, Standing, verdict_on, is_blocks, is_stale_since, current_since, is_current, woken_more, after_writes, find_waiter, without_waiter, with_delivery, after, initial_state, IsLegal, standing_since, weak_since}
-use Rattle.stm_history.specs.SlowDesk as slow
-use Rattle.stm_history.specs.SlowSettle.{lowest, is_due, ends, can_end}
-use Rattle.stm_history.specs.Laws.{AreRising}
-use Rattle.stm_history.specs.SettleChoices.{ended_since, ended_then, is_ripe, AreCandidates, next_due, next_end}
-use Rattle.stm_history.specs.Machine.{event}
-use Rattle.stm_history.proofs.Folds.{state-push}
-use Rattle.stm_history.proofs.Rising.{waiter_without, waiter_delivered, waiter_marks}
-use Rattle.stm_history.proofs.Points.{not_above, still_current}
-use Rattle.stm_history.proofs.Heads.{lowest_waits, lowest_holds}
-use Rattle.stm_history.proofs.Headline.{weak_is_present}
+use Rattle.stm_machine.specs.Keeping.{IsVerdictUnder}
+use Rattle.stm_events.specs.declared.event.What.{What}
+use Rattle.stm_events.specs.declared.event.What.TheVariants.{Installed, Finished}
+use Rattle.stm_events.specs.declared.staleness.StalenessRule.TheVariants.{Changed}
+use Rattle.stm_events.specs.SlowDesk.{Since, Waiter, Slow, Standing, verdict_on, is_blocks, is_stale_since, current_since, is_current, woken_more, after_writes, find_waiter, without_waiter, with_delivery, after, initial_state, IsLegal, standing_since, weak_since}
+use Rattle.stm_events.specs.SlowDesk as slow
+use Rattle.stm_events.specs.SlowSettle.{lowest, is_due, ends, can_end}
+use Rattle.stm_events.specs.Laws.{AreRising}
+use Rattle.stm_machine.specs.SettleChoices.{ended_since, ended_then, is_ripe, AreCandidates, next_due, next_end}
+use Rattle.stm_machine.specs.Machine.{event}
+use Rattle.stm_events.proofs.Folds.{state-push}
+use Rattle.stm_events.proofs.Rising.{not_above, waiter_without, waiter_delivered, waiter_marks}
+use Rattle.stm_machine.proofs.Points.{still_current}
+use Rattle.stm_machine.proofs.Heads.{lowest_waits, lowest_holds}
+use Rattle.stm_events.proofs.Headline.{weak_is_present}
 use Rattle.stm_desk.specs.Seen.{Seen, now, with_event}
 use Rattle.stm_desk.specs.Steps.{IsDueVerdict}
 use Rattle.stm_desk.proofs.Turns.{found_at, all_current, rising_now}

@@ -4,20 +4,20 @@ use Rattle.std.specs.Prelude.{is_some, nat_le, option_map}
 use Rattle.std.proofs.lemmas.Bool.Decides.{nat_tests}
 use Rattle.stm_terms.specs.declared.verdicts.Verdict.{Verdict}
 use Rattle.stm_store.specs.Cells.{made_by, changed_by}
-use Rattle.stm_history.specs.declared.event.What.TheVariants.{Installed, Finished}
-use Rattle.stm_history.specs.declared.staleness.StalenessRule.TheVariants.{Changed}
-use Rattle.stm_history.specs.SlowDesk.{Since, Waiter, Slow, MayFinish, verdict_on, is_blocks, is_new_since, is_new, current_since, is_current, find_waiter, without_waiter, stale_after, initial_state, IsLegal, max_cells}
-use Rattle.stm_history.specs.SlowSettle.{lowest, is_due, ends, can_end, next_what}
-use Rattle.stm_history.specs.Laws.{AreRising}
-use Rattle.stm_history.proofs.Folds.{state-push, legal_split}
-use Rattle.stm_history.proofs.Rising.{rising_state}
-use Rattle.stm_history.specs.declared.errors.FinishError.{FinishError}
-use Rattle.stm_history.specs.declared.errors.FinishError.TheVariants as finish
-use Rattle.stm_history.specs.SettleChoices.{next_due, next_end}
-use Rattle.stm_history.specs.Machine.{event}
-use Rattle.stm_history.specs.QueueAndIndex.{due_of}
-use Rattle.stm_history.specs.Refusals.{overflows, finish_told}
-use Rattle.stm_history.proofs.Heads.{lowest_waits, lowest_holds}
+use Rattle.stm_events.specs.declared.event.What.TheVariants.{Installed, Finished}
+use Rattle.stm_events.specs.declared.staleness.StalenessRule.TheVariants.{Changed}
+use Rattle.stm_events.specs.SlowDesk.{Since, Waiter, Slow, MayFinish, verdict_on, is_blocks, is_new_since, is_new, current_since, is_current, find_waiter, without_waiter, stale_after, initial_state, IsLegal, max_cells}
+use Rattle.stm_events.specs.SlowSettle.{lowest, is_due, ends, can_end, next_what}
+use Rattle.stm_events.specs.Laws.{AreRising}
+use Rattle.stm_events.proofs.Folds.{state-push, legal_split}
+use Rattle.stm_events.proofs.Rising.{rising_state}
+use Rattle.stm_events.specs.declared.errors.FinishError.{FinishError}
+use Rattle.stm_events.specs.declared.errors.FinishError.TheVariants as finish
+use Rattle.stm_machine.specs.SettleChoices.{next_due, next_end}
+use Rattle.stm_machine.specs.Machine.{event}
+use Rattle.stm_machine.specs.QueueAndIndex.{due_of}
+use Rattle.stm_events.specs.Refusals.{overflows, finish_told}
+use Rattle.stm_machine.proofs.Heads.{lowest_waits, lowest_holds}
 use Rattle.stm_desk.specs.Seen.{Seen, now, with_event, is_full}
 use Rattle.stm_desk.specs.Refusals.{finish_refusal}
 use Rattle.stm_desk.specs.Settling.{IsFull}

@@ -2,9 +2,9 @@
 
 ghost use Rattle.std.specs.Prelude.{◌≡◌, ℕ, List, ◌<◌, ◌≤◌, true, false, None, Some, length, IfOk, OnOk, IfErr, OnErr};
 ghost use Rattle.stm_store.specs.Cells.{plains};
-ghost use Rattle.stm_history.specs.SlowDesk.{IsLegal, is_blocks, is_current, Waiter, find_waiter, max_clients};
-ghost use Rattle.stm_history.specs.SlowSettle.{can_end};
-ghost use Rattle.stm_history.specs.SettleChoices.{some_out, next_due, next_end, ended_then, AreCandidates};
+ghost use Rattle.stm_events.specs.SlowDesk.{IsLegal, is_blocks, is_current, Waiter, find_waiter, max_clients};
+ghost use Rattle.stm_events.specs.SlowSettle.{can_end};
+ghost use Rattle.stm_machine.specs.SettleChoices.{some_out, next_due, next_end, ended_then, AreCandidates};
 ghost use Rattle.stm_desk.specs.Seen.{now};
 ghost use Rattle.stm_desk.specs.Settling.{called_back, HasBegun, HasSettled, IsSettled, AllBlock, StopTold};
 ghost use Rattle.stm_desk.specs.Steps.{IsNextEvent, WhyTold, StopsFinish, finish_why};
@@ -12,7 +12,8 @@ ghost use Rattle.stm_desk.specs.Steps.{IsNextEvent, WhyTold, StopsFinish, finish
 use crate::desk::Desk;
 use crate::errors::{SettleStop, SettleWhy};
 use stm_eval::Scratch;
-use stm_history::{FinishError, TicketSet};
+use stm_events::FinishError;
+use stm_machine::TicketSet;
 use stm_store::Frozen;
 use stm_terms::NoMemory;
 use stm_terms::verdicts::Verdict;

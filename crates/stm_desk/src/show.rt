@@ -3,18 +3,18 @@
 ghost use Rattle.std.specs.Prelude.{◌≡◌, ◌≤◌, nat_lt, true, Some, length, option_map, slice_get};
 ghost use Rattle.std.specs.Option.{option_copied};
 ghost use Rattle.stm_store.specs.Tables.{opened};
-ghost use Rattle.stm_history.specs.SlowDesk.{Waiter, IsLegal, is_current, find_waiter, standing, initial_state, serial, finished_from};
-ghost use Rattle.stm_history.specs.SlowSettle.{lowest};
-ghost use Rattle.stm_history.specs.BlockStatus.{shown, read_then, read_now};
-ghost use Rattle.stm_history.specs.JobsHandedOut.{block_at};
-ghost use Rattle.stm_history.specs.Headline.{HeadlineHoldsBy};
+ghost use Rattle.stm_events.specs.SlowDesk.{Waiter, IsLegal, is_current, find_waiter, standing, initial_state, serial, finished_from};
+ghost use Rattle.stm_events.specs.SlowSettle.{lowest};
+ghost use Rattle.stm_events.specs.BlockStatus.{shown, read_then, read_now};
+ghost use Rattle.stm_machine.specs.JobsHandedOut.{block_at};
+ghost use Rattle.stm_events.specs.Headline.{HeadlineHoldsBy};
 ghost use Rattle.stm_queue.specs.Queue.{queued, tickets};
 ghost use Rattle.stm_queue.specs.SortedTickets.{IsRising};
 ghost use Rattle.stm_desk.specs.Seen.{now, DeskQueueIsRight, AllHaveVerdicts, SettlesInRounds};
 
 use crate::desk::Desk;
 use stm_check::SharedBlock;
-use stm_history::{Event, StalenessRule, Status};
+use stm_events::{Event, StalenessRule, Status};
 use stm_store::{Store, Table};
 use stm_terms::values::Value;
 

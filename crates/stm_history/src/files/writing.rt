@@ -6,7 +6,7 @@ ghost use Rattle.std.specs.Io.KnownBytes.{WriteAppends};
 ghost use Rattle.stm_history.specs.Lines.{latest_format, header_line};
 ghost use Rattle.stm_history.specs.HistoryText.{variable_lines, event_lines, history_text, WritesText};
 
-use crate::event::Event;
+use stm_events::event::Event;
 use crate::lines::formats::LATEST_FORMAT;
 use crate::lines::write::{event_text, header_text, variable_text};
 use std::alloc::Global;

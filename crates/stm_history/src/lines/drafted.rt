@@ -5,13 +5,13 @@ ghost use Rattle.stm_store.specs.Tables.{Declared};
 ghost use Rattle.stm_history.specs.Fields.{block_of_text};
 ghost use Rattle.stm_history.specs.Fits.{FitsTable, FitsVerdict, FitsValue, FitWrites, FitNumbers, Is32Bit};
 ghost use Rattle.stm_history.specs.Lines.{event_line};
-ghost use Rattle.stm_history.specs.SlowDesk.{max_clients};
+ghost use Rattle.stm_events.specs.SlowDesk.{max_clients};
 
-use crate::event::{Event, What};
+use stm_events::event::{Event, What};
 use crate::lines::draft::{Draft, DraftVerdict};
 use crate::lines::write::event_text;
-use crate::shared_verdict::SharedVerdict;
-use crate::tickets::Tickets;
+use stm_events::shared_verdict::SharedVerdict;
+use stm_events::tickets::Tickets;
 use serde_json::from_slice;
 use std::alloc::Global;
 use stm_check::{SharedBlock, TypeFault, check};

@@ -1,6 +1,6 @@
 use Rattle.std.proofs.Common.{◌++◌, List, ap, string_bytes}
-use Rattle.stm_history.specs.declared.staleness.StalenessRule.TheVariants.{Changed}
-use Rattle.stm_history.specs.SlowDesk.{Waiter}
+use Rattle.stm_events.specs.declared.staleness.StalenessRule.TheVariants.{Changed}
+use Rattle.stm_events.specs.SlowDesk.{Waiter}
 use Rattle.stm_desk.specs.Seen.{now}
 use Rattle.stm_console.specs.Showing.{waiter_lines}
 use Rattle.stm_console.proofs.WaiterLines.{all_waiters, fewer, one_more, no_more}

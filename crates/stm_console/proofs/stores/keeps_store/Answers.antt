@@ -1,5 +1,5 @@
 use Rattle.std.proofs.Common.{◌∙◌, ap, sym, arith}
-use Rattle.stm_history.specs.SlowDesk.{find_waiter}
+use Rattle.stm_events.specs.SlowDesk.{find_waiter}
 use Rattle.stm_desk.specs.Seen.{now}
 use Rattle.stm_console.specs.declared.jobs.KeptJob.{KeptJob}
 use Rattle.stm_console.proofs.KeptStores.{same_without, stored_without, same_element, none_waits}

@@ -1,7 +1,7 @@
 use Rattle.std.proofs.Common.{◌≡◌, ◌-◌, false, length}
 use Rattle.stm_store.specs.Cells.{plains}
 use Rattle.stm_desk.specs.Seen.{now}
-use Rattle.stm_history.specs.SettleChoices.{some_out, AreCandidates}
+use Rattle.stm_machine.specs.SettleChoices.{some_out, AreCandidates}
 use Rattle.stm_desk.specs.Settling.{HasBegun}
 use Rattle.stm_desk.proofs.desk.Desk.deliver_all.Given as goal
 

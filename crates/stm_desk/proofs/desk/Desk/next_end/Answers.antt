@@ -1,6 +1,6 @@
 use Rattle.std.proofs.Common.{◌≡◌, ◌∙◌, None, sym}
 use Rattle.std.specs.Prelude.{slice_get}
-use Rattle.stm_history.specs.SlowSettle.{lowest, is_due}
+use Rattle.stm_events.specs.SlowSettle.{lowest, is_due}
 use Rattle.stm_desk.specs.Seen.{now}
 use Rattle.stm_desk.proofs.Turns.{none_at}
 use Rattle.stm_desk.proofs.Ripe.{least_ends, none_ends}

@@ -1,6 +1,6 @@
 use Rattle.std.proofs.Common.{length}
 use Rattle.stm_desk.specs.Seen.{now}
-use Rattle.stm_history.specs.SettleChoices.{AreCandidates}
+use Rattle.stm_machine.specs.SettleChoices.{AreCandidates}
 use Rattle.stm_desk.proofs.desk.Desk.next_end.Given as goal
 
 abbrev pub invariant-loop-ticket : goal.invariant-loop-ticket

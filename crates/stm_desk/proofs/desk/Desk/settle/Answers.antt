@@ -1,5 +1,5 @@
 use Rattle.std.proofs.Common.{◌∙◌, arith, sym}
-use Rattle.stm_history.specs.SlowSettle.{is_due, can_end}
+use Rattle.stm_events.specs.SlowSettle.{is_due, can_end}
 use Rattle.stm_desk.specs.Seen.{now}
 use Rattle.stm_desk.specs.Settling.{called_back}
 use Rattle.stm_desk.proofs.Turns.{none_at}

@@ -1,6 +1,6 @@
 use Rattle.std.proofs.Common.{◌≡◌, ◌-◌, false, length}
 use Rattle.stm_desk.specs.Seen.{now}
-use Rattle.stm_history.specs.SettleChoices.{some_out, AreCandidates}
+use Rattle.stm_machine.specs.SettleChoices.{some_out, AreCandidates}
 use Rattle.stm_desk.specs.Settling.{called_back, HasBegun}
 use Rattle.stm_desk.proofs.desk.Desk.settle.Given as goal
 

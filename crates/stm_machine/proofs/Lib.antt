@@ -1,0 +1,20 @@
+-- What the machine keeps.
+pub mod Due
+pub mod Few
+pub mod Keeping
+pub mod Placed
+pub mod Points
+pub mod Rises
+pub mod Stales
+-- Its moves, and its questions.
+pub mod Agreeing
+pub mod Calls
+pub mod Delivery
+pub mod Finishing
+pub mod Heads
+pub mod Marks
+pub mod Moves
+pub mod Reading
+pub mod Ripe
+pub mod Taking
+pub mod TicketLists

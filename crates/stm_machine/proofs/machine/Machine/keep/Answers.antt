@@ -1,0 +1,18 @@
+use Rattle.std.proofs.Common.{refl, sym, subst}
+use Rattle.stm_machine.specs.Keeping.{CanKeepBy}
+use Rattle.stm_machine.specs.Machine.{Parts}
+use Rattle.stm_machine.proofs.Keeping.{moves_keep}
+use Rattle.stm_machine.proofs.Taking.{kept_waits}
+use Rattle.stm_machine.proofs.machine.Machine.keep.Goals as goal
+
+pub returns-in-Ok-clause-moved : goal.returns-in-Ok-clause-moved
+returns-in-Ok-clause-moved c = λ R T H h.
+    let k = subst (λ (z : Parts). CanKeepBy R T H z c.args.ticket c.args.verdict c.args.scratch.now) (sym c.self.view_is) h in
+    rw (c.hold_reads.ensures, c.remove.ensures.gone, c.in-Ok.ensures.verdicts.0)
+    (moves_keep R T H _ _ c.args.ticket c.args.verdict c.args.scratch.now k c.in-Ok.ensures.watch)
+
+pub hold_reads-requires-clause-waits : goal.hold_reads-requires-clause-waits
+hold_reads-requires-clause-waits c =
+    let R = c.requires.0 in let T = c.requires.1 in let H = c.requires.2 in
+    let k = subst (λ (z : Parts). CanKeepBy R T H z c.args.ticket c.args.verdict c.args.scratch.now) (sym c.self.view_is) c.requires.3 in
+    kept_waits R T H _ k.stands c.args.ticket (rw k.told.found refl)
