@@ -6,8 +6,8 @@ ghost use Rattle.stm_terms.specs.Texts.{IsPrefixOf};
 ghost use Rattle.stm_console.specs.Checking.{IsFinding, BeginsFindingText, finding_text};
 ghost use Rattle.stm_console.specs.ExitStatus.{finding_status};
 
-use crate::output::write_line;
-use crate::streams::RunFault;
+use stm_lines::output::write_line;
+use stm_lines::RunFault;
 use std::alloc::Global;
 use std::io::{Read, Write};
 use stm_history::{HistoryFault, check_history_with};
