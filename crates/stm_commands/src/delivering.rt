@@ -9,7 +9,6 @@ ghost use Rattle.stm_desk.specs.Seen.{now};
 ghost use Rattle.stm_commands.specs.Kept.{job_kept, AreStored, HasStore, HaveStores, JobStands, JobsStand, HasGrown};
 ghost use Rattle.stm_commands.specs.Delivering.{taken, jobs_of, job_text, numbered, jobs_line, take_text, after_take, take_answer, take_state, job_at, deliver_text, after_deliver, deliver_answer, deliver_state, handback_text, handed_back, handback_answer, handback_state, delivered_line, queued_line, evaluated_line, evaluated_text, delivery_text, eval_answer, eval_state};
 
-use stm_lines::arguments::number_of;
 use crate::jobs::{KeptJob, deliver_job, evaluate_queued, refused_unevaluated, with_store};
 use crate::opened::OpenDesk;
 use crate::refusing::{refuse, refuse_delivery};
@@ -18,6 +17,7 @@ use std::alloc::Global;
 use std::thread::Threads;
 use stm_desk::{DeliverError, Desk};
 use stm_eval::Job;
+use stm_lines::arguments::number_of;
 use stm_terms::NoMemory;
 
 /// The most jobs that a run hands out.

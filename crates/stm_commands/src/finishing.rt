@@ -8,11 +8,11 @@ ghost use Rattle.stm_desk.specs.Refusals.{finish_refusal, cancel_refusal};
 ghost use Rattle.stm_desk.specs.Settling.{slow_settle, slow_stop, called_back, with_whats};
 ghost use Rattle.stm_commands.specs.Finishing.{tickets_text, result_line, finished_line, finish_text, after_finish, finish_answer, finish_state, cancelled_line, cancel_text, after_cancel, cancel_answer, cancel_state, settled_line, settle_text, why_text, settle_answer, settle_state};
 
-use stm_lines::arguments::number_of;
 use crate::opened::OpenDesk;
 use crate::refusing::{refuse, refuse_cancel, refuse_finish};
 use std::alloc::AllocError;
 use stm_desk::{Finish, SettleStop, SettleWhy};
+use stm_lines::arguments::number_of;
 use stm_store::Applied;
 use stm_terms::NoMemory;
 use stm_terms::text::{write_number, write_value, write_verdict};

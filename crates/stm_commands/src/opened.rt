@@ -14,11 +14,11 @@ ghost use Rattle.stm_commands.specs.Showing.{events_text};
 
 use crate::jobs::KeptJob;
 use crate::prepared::Prepared;
-use stm_blocks::Refusal;
 use crate::stores::Stores;
 use std::alloc::Global;
 use std::io::Write;
 use std::marker::Model;
+use stm_blocks::Refusal;
 use stm_check::SharedBlock;
 use stm_desk::Desk;
 use stm_history::{WriteFault, write_history};

@@ -9,11 +9,11 @@ ghost use Rattle.stm_blocks.specs.CompiledBlock.{compiled_block};
 ghost use Rattle.stm_commands.specs.Prepared.{IsBlockOf, ArePrepared};
 ghost use Rattle.stm_blocks.specs.ToldRefusal.{told_refusal};
 
-use stm_blocks::block::compile_shared;
-use stm_blocks::Refusal;
 use std::alloc::Global;
 use std::marker::Model;
 use std::snapshot::Snapshot;
+use stm_blocks::Refusal;
+use stm_blocks::block::compile_shared;
 use stm_check::SharedBlock;
 use stm_parse::ParseFault;
 use stm_store::Table;

@@ -6,8 +6,8 @@ ghost use Rattle.stm_desk.specs.declared.finish.Finish.{Finish};
 ghost use Rattle.stm_commands.specs.Refusals.{refused, refused_at, refused_variable, parse_fault_text, type_fault_text, declare_error_text, submit_error_text, deliver_error_text, finish_error_text, cancel_error_text, refusal_text};
 ghost use Rattle.stm_blocks.specs.ToldRefusal.{told_refusal};
 
-use stm_blocks::Refusal;
 use std::alloc::AllocError;
+use stm_blocks::Refusal;
 use stm_check::TypeFault;
 use stm_desk::{CancelError, DeliverError, FinishError, SubmitError};
 use stm_parse::ParseFault;

@@ -14,15 +14,9 @@ mod program;
 
 pub use checking::{Finding, check, check_with};
 pub use program::start;
-
-pub use stm_exploration::exploring;
-pub use stm_exploration::{ExploreFault, write_exploration, write_fault_history};
-pub use stm_lines::steps;
-pub use stm_lines::{RunFault, Steps};
-pub use stm_options::explore_options;
-pub use stm_options::options;
-pub use stm_options::{ExploreOptions, Options};
+pub use stm_exploration::{ExploreFault, exploring, write_exploration, write_fault_history};
+pub use stm_lines::{RunFault, Steps, steps};
+pub use stm_options::{ExploreOptions, Options, explore_options, options};
 pub use stm_run::{run, run_counted};
-pub use stm_storm::storming;
-pub use stm_storm::{StormFault, storm};
+pub use stm_storm::{StormFault, storm, storming};
 pub use stm_words::version;

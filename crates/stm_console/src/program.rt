@@ -15,15 +15,6 @@ ghost use Rattle.stm_options.specs.Options.{AreRunOptions};
 ghost use Rattle.stm_storm.specs.StormText.{IsStormText};
 
 use crate::checking::{Finding, check_with};
-use stm_words::{Request, read_words};
-use stm_options::ExploreOptions;
-use stm_exploration::ExploreFault;
-use stm_exploration::exploring::explore_with;
-use stm_lines::output::{flush, write_line};
-use stm_storm::{StormFault, storm};
-use stm_lines::RunFault;
-use stm_run::run;
-use stm_words::version::version_line;
 use clap::Error;
 use clap::error::ErrorKind;
 use std::alloc::Global;
@@ -32,7 +23,16 @@ use std::io::{Read, Write};
 use std::random::RandomSource;
 use std::sync::Wait;
 use std::thread::Threads;
+use stm_exploration::ExploreFault;
+use stm_exploration::exploring::explore_with;
+use stm_lines::RunFault;
+use stm_lines::output::{flush, write_line};
+use stm_options::ExploreOptions;
+use stm_run::run;
 use stm_store::Seed;
+use stm_storm::{StormFault, storm};
+use stm_words::version::version_line;
+use stm_words::{Request, read_words};
 
 /// The exit status where a line of a script is faulty.
 const FAULTY_SCRIPT: u8 = 1;

@@ -1,6 +1,7 @@
 -- How an input is cut into lines.
-use Rattle.std.specs.Prelude.{ℕ, List, [], ◌∷◌, ◌++◌, ◌==◌, if◌then◌else◌}
+use Rattle.std.specs.Prelude.{◌≢◌, ℕ, List, [], ◌∷◌, ◌++◌, ◌==◌, if◌then◌else◌}
 use Rattle.std.specs.Io.BufRead.{strip_last}
+use Rattle.std.specs.List.{All}
 
 -- a line that ended by a line feed, without one carriage return at its end
 abbrev pub drop_return : List ℕ → List ℕ

@@ -8,8 +8,8 @@ ghost use Rattle.stm_lines.specs.LineReading.{classes_from, IsNextLine, IsNoLine
 use crate::begun_line::{drop_return, keep};
 use crate::calls::Calls;
 use crate::chunk::Chunk;
-use crate::steps::Steps;
 use crate::run_fault::RunFault;
+use crate::steps::Steps;
 use memchr::memchr;
 use std::alloc::Global;
 use std::io::{ErrorKind, Read};

@@ -10,18 +10,17 @@ ghost use Rattle.stm_run.specs.Declaring.{tvar_answer, tvar_line, tvar_state};
 ghost use Rattle.stm_run.specs.declared.console.Console.TheVariants.{Open as IsOpen};
 
 use crate::command::{Command, command_of};
-use stm_blocks::declaring::declare;
-use stm_lines::judging::{Judgement, judge};
 use crate::limit::EventLimit;
-use stm_commands::OpenDesk;
-use stm_commands::refusing::{refuse, write_refusal};
 use crate::reply::Reply;
-use stm_commands::Threading;
 use std::alloc::Global;
 use std::io::Write;
 use std::str;
 use std::thread::Threads;
+use stm_blocks::declaring::declare;
+use stm_commands::refusing::{refuse, write_refusal};
+use stm_commands::{OpenDesk, Threading};
 use stm_history::WriteFault;
+use stm_lines::judging::{Judgement, judge};
 use stm_store::{Seed, Table};
 use stm_terms::NoMemory;
 
@@ -43,11 +42,7 @@ fn write_declared(number: u32, name: &str, out: &mut String) -> Result<(), NoMem
 
 /// Answers `history`.
 #[tactic(auto, unfolding(stm_commands::specs::Showing::history_answer))]
-fn answer_history(
-    desk: &OpenDesk,
-    argument: &str,
-    out: &mut String,
-) -> Result<Reply, NoMemory>
+fn answer_history(desk: &OpenDesk, argument: &str, out: &mut String) -> Result<Reply, NoMemory>
     ensures { IfOk result (λ r. IsReply r (string_bytes out.old) (string_bytes out.new)
         (IsOpen desk.now) (history_answer desk.now argument.now)) }
 {

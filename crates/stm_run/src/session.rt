@@ -7,18 +7,18 @@ ghost use Rattle.stm_run.specs.Console.{initial_console, answer_to, state_after}
 ghost use Rattle.stm_run.specs.Streaming.{Continues, rest_text};
 ghost use Rattle.stm_lines.specs.Lines.{NoLineFeed};
 
-use stm_lines::begun_line::{drop_return, keep};
 use crate::console::Console;
 use crate::limit::EventLimit;
-use stm_lines::output::write_text;
 use crate::reply::Reply;
-use stm_lines::RunFault;
-use stm_commands::Threading;
 use memchr::memchr;
 use std::alloc::Global;
 use std::io::Write;
 use std::thread::Threads;
+use stm_commands::Threading;
 use stm_history::WriteFault;
+use stm_lines::RunFault;
+use stm_lines::begun_line::{drop_return, keep};
+use stm_lines::output::write_text;
 use stm_store::Seed;
 
 /// What the fault of writing a history is to a run.

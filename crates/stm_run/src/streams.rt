@@ -7,21 +7,20 @@ ghost use Rattle.stm_run.specs.Console.{console_text, whole_lines_text};
 ghost use Rattle.stm_options.specs.Options.{AreRunOptions};
 ghost use Rattle.stm_run.specs.Streaming.{rest_text, whole_rest_text};
 
-use stm_lines::calls::Calls;
-use stm_lines::chunk::CHUNK;
 use crate::limit::EventLimit;
-use stm_options::Options;
-use stm_lines::output::flush;
 use crate::session::Session;
-use stm_lines::Steps;
-use stm_commands::Threading;
 use std::alloc::Global;
 use std::io::{ErrorKind, Read, Write};
 use std::marker::Brand;
 use std::random::RandomSource;
 use std::sync::ledger::{Blank, Ledger};
-use stm_lines::RunFault;
 use std::thread::Threads;
+use stm_commands::Threading;
+use stm_lines::calls::Calls;
+use stm_lines::chunk::CHUNK;
+use stm_lines::output::flush;
+use stm_lines::{RunFault, Steps};
+use stm_options::Options;
 use stm_store::Seed;
 
 /// A run in a session in which no line has begun. `run` owns the session, so that this function, with a loop and many ends,

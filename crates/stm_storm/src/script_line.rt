@@ -15,12 +15,12 @@ ghost use Rattle.stm_blocks.specs.ToldRefusal.{told_refusal};
 ghost use Rattle.stm_storm.specs.ScriptReading.{told_line_fault, some_or_faulty};
 ghost use Rattle.stm_storm.specs.StormScript.{submission_of as submission_told, expected_at, expected_task};
 
-use stm_lines::arguments::number_of;
+use std::alloc::Global;
+use stm_blocks::Refusal;
 use stm_blocks::block::compile_block;
 use stm_blocks::declaring::initial;
-use stm_blocks::Refusal;
-use std::alloc::Global;
 use stm_check::{SharedBlock, TypeFault};
+use stm_lines::arguments::number_of;
 use stm_parse::{Init, ParseFault, parse_expectation};
 use stm_pool::Task;
 use stm_store::{DeclareError, Table};

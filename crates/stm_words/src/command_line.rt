@@ -8,12 +8,11 @@ ghost use Rattle.clap.specs.declared.builder.command.Command.TheViews.{out-Comma
 ghost use Rattle.stm_words.specs.CommandLine.{answers_of, asks_for_run, command_line, explore_command, explore_options_said, flag_option, flag_said, number_of_text, number_option, number_said, number_within, options_said, request_of, request_said, run_command, storm_command, with_options, with_version, AreExploreOptions, IfExplore, IfRun, IfStorm};
 ghost use Rattle.stm_options.specs.Options.{AreRunOptions};
 
-use stm_options::ExploreOptions;
-use stm_options::Options;
 use crate::version::VERSION;
 use clap::{Arg, ArgAction, ArgMatches, Command, Error, value_parser};
 use std::alloc::{AllocError, Global};
 use std::convert::AsStr;
+use stm_options::{ExploreOptions, Options};
 
 /// What words ask for: a run, a storm or an exploration with these options, or a check of a history.
 #[derive(Clone, Copy, PartialEq, Eq, Debug)]

@@ -3,8 +3,8 @@
 ghost use Rattle.std.specs.Prelude.{◌≡◌, ◌++◌, IfErr, IfOk, OnOk, string_bytes};
 ghost use Rattle.stm_words.specs.CommandLine.{version_line};
 
-use stm_lines::RunFault;
 use std::alloc::Global;
+use stm_lines::RunFault;
 use stm_terms::NoMemory;
 
 /// The version, which `--version` prints. No other place states it.
