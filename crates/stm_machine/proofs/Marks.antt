@@ -1,12 +1,12 @@
 -- Marks of where blocks may wait that have a verdict which doesn't block.
-use Rattle.std.proofs.Common.{◌≡◌, ◌≢◌, ℕ, zero, suc, ◌+◌, ◌*◌, ◌/◌, ◌<◌, ◌≤◌, Bool, true, false, ◌&&◌, ◌||◌, cond, ◌⊎◌, inl, inr, List, [], ◌∷◌, ◌++◌, length, get_or, Some, refl, sym, ap, subst, ◌∙◌, arith, eqb-true}
+use Rattle.std.proofs.Common.{◌≡◌, ℕ, ◌+◌, ◌*◌, ◌/◌, ◌<◌, ◌≤◌, Bool, true, false, ◌&&◌, ◌||◌, cond, ◌⊎◌, inl, inr, List, [], ◌∷◌, ◌++◌, length, get_or, Some, refl, sym, ap, ◌∙◌, arith, eqb-true}
 use Rattle.std.specs.Prelude.{nat_eq, nat_lt, slice_index_or}
 use Rattle.std.proofs.lemmas.Bool.{false≢true}
 use Rattle.std.proofs.lemmas.Bool.Decides.{nat_tests}
 use Rattle.stm_machine.specs.declared.waiting.Held.{Held}
 use Rattle.stm_machine.specs.declared.waiting.Waiting.{Waiting}
 use Rattle.stm_machine.specs.declared.places.Slot.{Slot}
-use Rattle.stm_machine.specs.Entries.{kept_at, kept, lose, with_held, held_ends, kept_ends, ends_under}
+use Rattle.stm_machine.specs.Entries.{kept, lose, with_held, held_ends, kept_ends, ends_under}
 use Rattle.stm_machine.specs.Places.{held_at, entries_from, chunk_count}
 use Rattle.stm_machine.specs.Marks.{AreMarked}
 use Rattle.stm_machine.proofs.Placed.{chunk_ends}

@@ -6,11 +6,11 @@ ghost use Rattle.std.specs.Io.KnownBytes.{WriteAppends};
 ghost use Rattle.stm_history.specs.Lines.{latest_format, header_line};
 ghost use Rattle.stm_history.specs.HistoryText.{variable_lines, event_lines, history_text, WritesText};
 
-use stm_events::event::Event;
 use crate::lines::formats::LATEST_FORMAT;
 use crate::lines::write::{event_text, header_text, variable_text};
 use std::alloc::Global;
 use std::io::{ErrorKind, Write};
+use stm_events::event::Event;
 use stm_store::Table;
 
 /// Why a history wasn't written whole. What was written is a part of it from its front.

@@ -1,4 +1,4 @@
-use Rattle.std.proofs.Common.{◌≡◌, ◌∙◌, None, sym, subst, arith}
+use Rattle.std.proofs.Common.{◌≡◌, None, sym, subst, arith}
 use Rattle.stm_machine.specs.Entries.{kept_at}
 use Rattle.stm_machine.proofs.Placed.{held_at_place, kept_held, kept_within, kept_at_place}
 use Rattle.stm_machine.proofs.Marks.{marked_held}
