@@ -10,7 +10,7 @@ use std::alloc::Global;
 use std::io::{Read, Write};
 use stm_history::{HistoryFault, check_history_with};
 use stm_lines::RunFault;
-use stm_lines::output::write_line;
+use stm_lines::output::write_flushed;
 use stm_store::Seed;
 use stm_terms::NoMemory;
 use stm_terms::text::write_number;
@@ -129,6 +129,6 @@ pub fn check_with<R: Read, W: Write>(
 {
     let finding = judge(alloc, seed, reader)?;
     let line = finding_line(alloc, finding)?;
-    write_line(writer, line.as_bytes())?;
+    write_flushed(writer, line.as_bytes())?;
     Ok(finding)
 }

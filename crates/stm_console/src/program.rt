@@ -26,7 +26,7 @@ use std::thread::Threads;
 use stm_exploration::ExploreFault;
 use stm_exploration::exploring::explore_with;
 use stm_lines::RunFault;
-use stm_lines::output::{flush, write_line};
+use stm_lines::output::{flush, write_flushed};
 use stm_options::ExploreOptions;
 use stm_run::run;
 use stm_store::Seed;
@@ -59,7 +59,7 @@ fn write_version<W: Write>(alloc: Global, writer: &mut W) -> Result<(), RunFault
         × Appends (W.contents writer.old) (W.contents writer.new) front) }
 {
     let line = version_line(alloc)?;
-    write_line(writer, line.as_bytes())
+    write_flushed(writer, line.as_bytes())
 }
 
 /// Prints the version, and returns the status.

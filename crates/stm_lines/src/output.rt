@@ -58,14 +58,14 @@ pub fn flush<W: Write>(writer: &mut W) -> Result<(), RunFault>
     Err(RunFault::Write)
 }
 
-/// Writes a line and flushes.
-pub fn write_line<W: Write>(writer: &mut W, line: &[u8]) -> Result<(), RunFault>
-    ensures done { OnOk result (Appends (W.contents writer.old) (W.contents writer.new) line.now) }
-    ensures part { OnErr result ((front : List ℕ) × IsPrefixOf front line.now
+/// Writes a text and flushes.
+pub fn write_flushed<W: Write>(writer: &mut W, text: &[u8]) -> Result<(), RunFault>
+    ensures done { OnOk result (Appends (W.contents writer.old) (W.contents writer.new) text.now) }
+    ensures part { OnErr result ((front : List ℕ) × IsPrefixOf front text.now
         × Appends (W.contents writer.old) (W.contents writer.new) front) }
     ensures fault { IfErr result (λ e. e ≡ RunFault.Write) }
 {
-    match write_text(writer, line) {
+    match write_text(writer, text) {
         Ok(()) => match flush(writer) {
             Ok(()) => Ok(()),
             Err(_) => Err(RunFault::Write),
