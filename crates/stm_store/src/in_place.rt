@@ -18,8 +18,57 @@ use std::alloc::AllocError;
 use std::sync::Arc;
 use stm_terms::values::Value;
 
+/// Makes these writes in a page.
+pub(crate) fn write_one_page(
+    page: &mut Arc<Page>,
+    len: u32,
+    writes: &[(u32, Value)],
+) -> Result<(), AllocError>
+    requires { AreWithin len 0 (length (arc_value page.old)) writes.now }
+    ensures ok { OnOk result (arc_value page.new
+        ≡ with_writes_from len 0 writes.now (arc_value page.old)) }
+    ensures err { OnErr result (arc_value page.new ≡ arc_value page.old) }
+{
+    let page = Arc::make_mut(page)?;
+    page.write(0, len, writes);
+    Ok(())
+}
+
+/// Makes these writes, of which there is one, in a part, or where memory is refused none.
+pub(crate) fn write_one_part(
+    part: &mut Arc<Part>,
+    len: u32,
+    writes: &[(u32, Value)],
+) -> Result<(), AllocError>
+    requires small { length (arc_value part.old) ≤ part_cells }
+    requires some { 0 < length writes.now }
+    requires writes { AreWithin len 0 (length (arc_value part.old)) writes.now }
+    ensures ok { OnOk result (arc_value part.new
+        ≡ with_writes_from len 0 writes.now (arc_value part.old)) }
+    ensures err { OnErr result (arc_value part.new ≡ arc_value part.old) }
+    ensures size { length (arc_value part.new) ≡ length (arc_value part.old) }
+{
+    // No part comes after it.
+    write_part(0, part, &mut [], len, writes)
+}
+
+/// Makes these writes in a list of parts, or where memory is refused none.
+pub(crate) fn write_parts(
+    parts: &mut Arc<Parts>,
+    len: u32,
+    writes: &[(u32, Value)],
+) -> Result<(), AllocError>
+    requires { AreWithin len 0 (length (arc_value parts.old)) writes.now }
+    ensures ok { OnOk result (arc_value parts.new
+        ≡ with_writes_from len 0 writes.now (arc_value parts.old)) }
+    ensures err { OnErr result (arc_value parts.new ≡ arc_value parts.old) }
+{
+    let parts = Arc::make_mut(parts)?;
+    write(parts, len, writes)
+}
+
 /// Makes these writes, or where memory is refused none. A part or a page that another list shares is copied first.
-pub(crate) fn write(cells: &mut Parts, len: u32, writes: &[(u32, Value)]) -> Result<(), AllocError>
+fn write(cells: &mut Parts, len: u32, writes: &[(u32, Value)]) -> Result<(), AllocError>
     requires { AreWithin len 0 (length cells.old) writes.now }
     ensures ok { OnOk result (cells.new ≡ with_writes_from len 0 writes.now cells.old) }
     ensures err { OnErr result (cells.new ≡ cells.old) }

@@ -43,8 +43,17 @@ impl<P: AsPage> Paged<P> {
         }
     }
 
-    pub(crate) fn allocator(&self) -> Global {
-        *self.pages.allocator()
+    /// A list of one full page.
+    pub(crate) fn of_page(alloc: Global, page: Arc<P>) -> Result<Paged<P>, AllocError>
+        requires { length (P.cells (arc_value page)) ≡ P.SIZE }
+        ensures { IfOk result (λ l. l ≡ P.cells (arc_value page)) }
+    {
+        let mut pages = Vec::new(alloc);
+        pages.push(page)?;
+        Ok(Paged {
+            pages,
+            len: P::SIZE,
+        })
     }
 
     pub(crate) fn len(&self) -> usize
@@ -132,7 +141,7 @@ pub(crate) fn place<P: AsPage>(id: usize) -> (usize, usize)
     (id / P::SIZE, id % P::SIZE)
 }
 
-fn set_cell<P: Cells>(page: &mut Arc<P>, at: usize, cell: Cell) -> Result<(), AllocError>
+pub(crate) fn set_cell<P: Cells>(page: &mut Arc<P>, at: usize, cell: Cell) -> Result<(), AllocError>
     requires { at < length (P.cells (arc_value page.old)) }
     ensures ok { OnOk result (P.cells (arc_value page.new)
         ≡ slice_set (P.cells (arc_value page.old)) at cell) }
@@ -142,7 +151,7 @@ fn set_cell<P: Cells>(page: &mut Arc<P>, at: usize, cell: Cell) -> Result<(), Al
     page.set(at, cell)
 }
 
-fn push_cell<P: Cells>(page: &mut Arc<P>, cell: Cell) -> Result<(), AllocError>
+pub(crate) fn push_cell<P: Cells>(page: &mut Arc<P>, cell: Cell) -> Result<(), AllocError>
     requires { length (P.cells (arc_value page.old)) < 2 ^ 32 }
     ensures ok { OnOk result (P.cells (arc_value page.new)
         ≡ P.cells (arc_value page.old) ++ cell ∷ []) }
