@@ -12,7 +12,7 @@ write-requires c =
 
 pub invariant_of-self : goal.invariant_of-self
 invariant_of-self c =
-    omega (arith, c.self.invariant, length-after c.write.result c.args.len 0 c.args.writes.now c.self.inside.tree c.write.new.cells c.write.ensures.ok c.write.ensures.err)
+    omega (arith, c.self.invariant, length-after c.write.result c.args.len 0 c.args.writes.now c.self.inside.tree c.write.new.self c.write.ensures.ok c.write.ensures.err)
 
 pub returns-clause-ok : goal.returns-clause-ok
 returns-clause-ok c =
