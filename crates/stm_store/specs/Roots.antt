@@ -1,5 +1,5 @@
 -- What a list of cells points to.
-use Rattle.std.specs.Prelude.{ℕ, ◌≤◌, List, [], length}
+use Rattle.std.specs.Prelude.{◌≤◌, List, [], length}
 use Rattle.std.specs.Arc.{arc_value}
 use Rattle.stm_store.specs.declared.cell.Cell.{Cell}
 use Rattle.stm_store.specs.declared.tree.Root.{Root}
@@ -13,7 +13,7 @@ cells_at (Page p) = arc_value p
 cells_at (Part p) = arc_value p
 cells_at (Parts p) = arc_value p
 
--- a page or a part has at most as many cells as a full one
+-- a page or a part has at most the cells of a full one
 abbrev pub IsRoot : Root → Type 0
 IsRoot Empty = Unit {0}
 IsRoot (Page p) = length (arc_value p) ≤ page_cells

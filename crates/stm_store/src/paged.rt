@@ -14,7 +14,7 @@ use std::sync::Arc;
 /// A list of cells in pages, each of which is a list of at most `P::SIZE` cells.
 ///
 /// A copy shares the pages, so that it moves a pointer for each page and no cell. A change copies the one page that it falls
-/// into, where a copy has it too, and else nothing.
+/// into, if another list shares it, and otherwise nothing.
 #[derive(Drop)]
 pub(crate) struct Paged<P: AsPage> {
     pub(crate) pages: Vec<Arc<P>>,
@@ -60,20 +60,6 @@ impl<P: AsPage> Paged<P> {
         ensures { result ≡ length self.now }
     {
         self.len
-    }
-
-    /// A second list of the same cells, which shares the pages.
-    pub(crate) fn share(&self) -> Result<Paged<P>, AllocError>
-        ensures { IfOk result (λ l. l ≡ self.now) }
-    {
-        let mut pages = Vec::with_capacity(*self.pages.allocator(), self.pages.len())?;
-        for page in &self.pages {
-            pages.push(Arc::try_clone(page)?)?;
-        }
-        Ok(Paged {
-            pages,
-            len: self.len,
-        })
     }
 }
 
@@ -128,8 +114,12 @@ impl<P: AsPage> AsPage for Paged<P> {
 impl<P: AsPage> Clone for Paged<P> {
     ghost is_clone = { λ p q. q ≡ p };
 
+    /// A list of the same cells, which shares the pages.
     fn clone(&self) -> Result<Paged<P>, AllocError> {
-        self.share()
+        Ok(Paged {
+            pages: self.pages.clone()?,
+            len: self.len,
+        })
     }
 }
 

@@ -16,7 +16,7 @@ use std::marker::Model;
 use std::sync::Arc;
 use stm_terms::values::Value;
 
-/// What a list of cells points to: nothing, a page, a part, or a list of parts, whichever is the smallest that it fits into.
+/// What a list of cells points to: nothing, or the smallest of a page, a part and a list of parts that has held all its cells.
 #[derive(Drop)]
 pub(crate) enum Root {
     Empty,
@@ -25,8 +25,8 @@ pub(crate) enum Root {
     Parts(Arc<Parts>),
 }
 
-/// A list of cells behind one pointer. A copy shares what it points to, so that it moves one pointer. A change copies the
-/// pages that it falls into and the lists of pointers that lead to them, where a copy has them too, and else nothing.
+/// A list of cells behind one pointer. A copy moves that pointer. A change copies the page that it falls into and the lists of
+/// pages and parts that lead to it, if another list shares them, and otherwise nothing.
 #[derive(Drop)]
 pub(crate) struct Tree {
     alloc: Global,
@@ -98,7 +98,7 @@ impl Tree {
         })
     }
 
-    /// Makes these writes, or where memory is refused none. What another list shares is copied first.
+    /// Makes these writes, or if memory is refused none. What another list shares is copied first.
     pub(crate) fn write(&mut self, len: u32, writes: &[(u32, Value)]) -> Result<(), AllocError>
         requires { AreWithin len 0 (length self.old) writes.now }
         ensures ok { OnOk result (self.new ≡ with_writes_from len 0 writes.now self.old) }

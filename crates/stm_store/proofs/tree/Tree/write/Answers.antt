@@ -15,12 +15,12 @@ unreachable-requires c =
 pub invariant_of-self : goal.invariant_of-self
 invariant_of-self c =
     elim c.match-self.branch [
-      in-Page w ↦
-        let few : length (arc_value w.in-Page.page) ≤ 64 = rw w.in-Page.is at c.self.invariant in
-        let same = length-after w.write_one_page.result c.args.len 0 c.args.writes.now (arc_value w.in-Page.page) (arc_value w.write_one_page.new.page) w.write_one_page.ensures.ok w.write_one_page.ensures.err in
-        rw w.self-inside-is (omega (arith, few, same))
-    | in-Part w ↦
-        let few : length (arc_value w.in-Part.part) ≤ 4096 = rw w.in-Part.is at c.self.invariant in
-        rw w.self-inside-is (omega (arith, few, w.write_one_part.ensures.size))
-    | in-Parts w ↦ rw w.self-inside-is tt
+      | in-Page w ↦
+          let few : length (arc_value w.in-Page.page) ≤ 64 = rw w.in-Page.is at c.self.invariant in
+          let same = length-after w.write_one_page.result c.args.len 0 c.args.writes.now (arc_value w.in-Page.page) (arc_value w.write_one_page.new.page) w.write_one_page.ensures.ok w.write_one_page.ensures.err in
+          rw w.self-inside-is (omega (arith, few, same))
+      | in-Part w ↦
+          let few : length (arc_value w.in-Part.part) ≤ 4096 = rw w.in-Part.is at c.self.invariant in
+          rw w.self-inside-is (omega (arith, few, w.write_one_part.ensures.size))
+      | in-Parts w ↦ rw w.self-inside-is tt
     ]
