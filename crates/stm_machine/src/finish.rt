@@ -171,6 +171,8 @@ impl Machine {
             Ok(applied) => {
                 unwatch_all(&mut self.watch, &self.waiting, stale);
                 let _ = forget(&mut self.waiting, &mut self.watch, ticket);
+                self.ready.remove(ticket);
+                self.ready.remove_all(stale);
                 queue_all(&mut self.pending, stale);
                 Ok(applied)
             }

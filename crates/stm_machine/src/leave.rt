@@ -40,6 +40,7 @@ impl Machine {
         ensures pending { self.new.pending ≡ without_ticket ticket self.old.pending }
     {
         let _ = forget(&mut self.waiting, &mut self.watch, ticket);
+        self.ready.remove(ticket);
         let _ = self.pending.remove(ticket);
     }
 }
