@@ -164,15 +164,10 @@ impl Console {
         match command_of(word) {
             None => refuse("Command", out).and(Ok(Reply::Text)),
             Some(Command::Tvar) => self.answer_tvar(alloc, argument, out).and(Ok(Reply::Text)),
-            Some(command) => answer_on_desk(
-                self.opened(alloc)?,
-                rt,
-                alloc,
-                threading,
-                command,
-                argument,
-                out,
-            ),
+            Some(command) => {
+                let desk = self.opened(alloc)?;
+                answer_on_desk(desk, rt, alloc, threading, command, argument, out)
+            }
         }
     }
 
