@@ -1,6 +1,6 @@
 //! Why a block waits.
 
-ghost use Rattle.std.specs.Prelude.{◌≡◌, ◌∷◌, [], MatchOption, IfOk, is_some, option_map};
+ghost use Rattle.std.specs.Prelude.{◌≡◌, ◌∷◌, [], MatchOption, IfOk, if◌then◌else◌, is_some, option_map};
 ghost use Rattle.stm_terms.specs.Changes.{find as value_in};
 ghost use Rattle.stm_terms.specs.Typing.{Rising};
 ghost use Rattle.stm_terms.specs.Value.{same_value};
@@ -10,8 +10,8 @@ ghost use Rattle.stm_log.specs.LowerBound.{lower_bound};
 ghost use Rattle.stm_events.specs.Headline.{installs_to as is_delivery_to};
 ghost use Rattle.stm_events.specs.SlowDesk.{find_waiter, is_blocks};
 ghost use Rattle.stm_desk.specs.Seen.{now};
-ghost use Rattle.stm_desk.specs.Reasons.{change_to, changes_from, IsStale, Waits as WaitsFor, CanFinish, reason_of};
-ghost use Rattle.stm_desk.specs.ReasonsTold.{left_by_writes, left_by, HasWritable, EachIsWritable, events_since as events_after, cause_told, cause_of, told_reason};
+ghost use Rattle.stm_desk.specs.Reasons.{change_to, changes_from, ticket_of as ticket_in, IsStale, Waits as WaitsFor, CanFinish, reason_of};
+ghost use Rattle.stm_desk.specs.ReasonsTold.{left_by_writes, left_by, HasWritable, IsWritable, EachIsWritable, events_since as events_after, changes_told as changes_of, cause_told, cause_of, told_reason};
 
 use crate::desk::Desk;
 use crate::reason::{Change, Reason};
@@ -36,12 +36,13 @@ impl Desk {
             return Ok(Some(Reason::New));
         };
         match status {
-            Status::Current(verdict) => Ok(Some(current_reason(verdict, reads))),
-            _ => {
+            Status::New => Ok(Some(Reason::New)),
+            Status::Stale(_) => {
                 // The store is known to be well typed by this.
                 let _variables = self.table.len();
                 stale_reason(alloc, ticket, reads, &self.history)
             }
+            Status::Current(verdict) => Ok(Some(current_reason(verdict, reads))),
         }
     }
 }
@@ -108,20 +109,37 @@ fn first_cause(
     ensures { IfOk result (λ c. option_map cause_of c ≡ cause_told reads.now events.now) }
 {
     for event in events {
-        if let What::Finished {
-            ticket,
-            verdict,
-            first_new,
-            ..
-        } = &event.what
-        {
-            let changes = changes_by(alloc, reads, verdict, *first_new)?;
-            if !changes.is_empty() {
-                return Ok(Some((*ticket, changes)));
-            }
+        let changes = changes_told(alloc, reads, &event.what)?;
+        if !changes.is_empty() {
+            return Ok(Some((ticket_of(&event.what), changes)));
         }
     }
     Ok(None)
+}
+
+/// The ticket of an event.
+fn ticket_of(what: &What) -> u32
+    ensures { result ≡ ticket_in what.now }
+{
+    match what {
+        What::Submitted { ticket, .. } => *ticket,
+        What::Installed { ticket, .. } => *ticket,
+        What::Finished { ticket, .. } => *ticket,
+        What::Cancelled { ticket } => *ticket,
+    }
+}
+
+/// The variables of the reads that an event leaves with another value.
+fn changes_told(alloc: Global, reads: &[(u32, Value)], what: &What) -> Result<Vec<Change>, NoMemory>
+    requires { IsWritable what.now }
+    ensures { IfOk result (λ cs. cs.items ≡ changes_of reads.now what.now) }
+{
+    match what {
+        What::Finished {
+            verdict, first_new, ..
+        } => changes_by(alloc, reads, verdict, *first_new),
+        _ => Ok(Vec::new(alloc)),
+    }
 }
 
 /// The variables of the reads that a verdict leaves with another value, in a store that had this many cells.
