@@ -8,4 +8,5 @@ pub mod KeptQueue
 pub mod KeptStores
 pub mod OutTickets
 pub mod PreparedBlocks
+pub mod ReadyTickets
 pub mod WaiterLines

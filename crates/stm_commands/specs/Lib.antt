@@ -5,6 +5,7 @@ pub mod Delivering
 pub mod DueTickets
 pub mod Finishing
 pub mod OpenDesk
+pub mod Questions
 pub mod Refusals
 pub mod Showing
 -- The words inside, for what the type of an open desk keeps.

@@ -1,7 +1,7 @@
 //! The words of the commands.
 
 ghost use Rattle.std.specs.Prelude.{◌≡◌};
-ghost use Rattle.stm_run.specs.Console.{asking_named, moving_named, command_named};
+ghost use Rattle.stm_run.specs.Console.{question_named, asking_named, moving_named, command_named};
 
 /// A command of the console (docs/CONSOLE.md, "Commands").
 #[derive(Clone, Copy, PartialEq, Eq, Debug)]
@@ -21,6 +21,9 @@ pub enum Command {
     Store,
     Settle,
     History,
+    Ready,
+    Why,
+    Events,
 }
 
 // The command of a word, of those that leave an open desk as it is.
@@ -48,6 +51,23 @@ fn asking_of(word: &[u8]) -> Option<Command>
     }
     if word == b"history".as_slice() {
         return Some(Command::History);
+    }
+    question_of(word)
+}
+
+// The command of a word, of those that ask about the desk's turns.
+#[tactic(auto, unfolding(crate::specs::Console::question_named))]
+fn question_of(word: &[u8]) -> Option<Command>
+    ensures { result ≡ question_named word.now }
+{
+    if word == b"ready".as_slice() {
+        return Some(Command::Ready);
+    }
+    if word == b"why".as_slice() {
+        return Some(Command::Why);
+    }
+    if word == b"events".as_slice() {
+        return Some(Command::Events);
     }
     None
 }

@@ -2,9 +2,10 @@
 
 ghost use Rattle.std.specs.Prelude.{◌≡◌, ◌++◌, Some, string_bytes, OnOk, OnErr, IfOk};
 ghost use Rattle.stm_history.specs.HistoryText.{WritesText};
-ghost use Rattle.stm_run.specs.Abstraction.{IsReply, history_of};
+ghost use Rattle.stm_run.specs.Abstraction.{IsReply, history_of, later_events_of};
 ghost use Rattle.stm_run.specs.Console.{initial_console, command_named, desk_answer, desk_after, answer_to_command, state_after_command, answer_to, state_after};
 ghost use Rattle.stm_run.specs.ConsoleState.{present_desk};
+ghost use Rattle.stm_commands.specs.Questions.{events_answer};
 ghost use Rattle.stm_commands.specs.Showing.{history_answer};
 ghost use Rattle.stm_run.specs.Declaring.{tvar_answer, tvar_line, tvar_state};
 ghost use Rattle.stm_run.specs.declared.console.Console.TheVariants.{Open as IsOpen};
@@ -20,6 +21,7 @@ use stm_blocks::declaring::declare;
 use stm_commands::refusing::{refuse, write_refusal};
 use stm_commands::{OpenDesk, Threading};
 use stm_history::WriteFault;
+use stm_lines::arguments::number_of;
 use stm_lines::judging::{Judgement, judge};
 use stm_store::{Seed, Table};
 use stm_terms::NoMemory;
@@ -52,6 +54,22 @@ fn answer_history(desk: &OpenDesk, argument: &str, out: &mut String) -> Result<R
     refuse("Argument", out).and(Ok(Reply::Text))
 }
 
+/// Answers `events`.
+#[tactic(auto, unfolding(stm_commands::specs::Questions::events_answer))]
+fn answer_events(
+    desk: &OpenDesk,
+    argument: &str,
+    out: &mut String,
+) -> Result<Reply, NoMemory>
+    ensures { IfOk result (λ r. IsReply r (string_bytes out.old) (string_bytes out.new)
+        (IsOpen desk.now) (events_answer desk.now argument.now)) }
+{
+    match number_of(argument.as_bytes()) {
+        Some(n) => Ok(Reply::Events(n)),
+        None => refuse("Argument", out).and(Ok(Reply::Text)),
+    }
+}
+
 /// Answers a command on the open desk.
 fn answer_on_desk<T: Threads + Sync>(
     desk: &mut OpenDesk,
@@ -68,6 +86,7 @@ fn answer_on_desk<T: Threads + Sync>(
 {
     let done = match command {
         Command::History => return answer_history(desk, argument, out),
+        Command::Events => return answer_events(desk, argument, out),
         Command::Tvar => refuse("Late", out),
         Command::Try => desk.answer_try(alloc, argument, out),
         Command::Looks => desk.answer_looks(alloc, argument, out),
@@ -82,6 +101,8 @@ fn answer_on_desk<T: Threads + Sync>(
         Command::Reads => desk.answer_reads(argument, out),
         Command::Store => desk.answer_store(argument, out),
         Command::Settle => desk.answer_settle(argument, out),
+        Command::Ready => desk.answer_ready(argument, out),
+        Command::Why => desk.answer_why(alloc, argument, out),
     };
     done.and(Ok(Reply::Text))
 }
@@ -193,6 +214,22 @@ impl Console {
                 Ok(argument) => self.answer_command(rt, alloc, threading, word, argument, out),
                 Err(_) => unreachable!(),
             },
+        }
+    }
+
+    /// Writes the events from the n-th on and how many there are, if the desk is open.
+    pub fn write_later_events<W: Write>(
+        &self,
+        alloc: Global,
+        writer: &mut W,
+        n: u32,
+    ) -> Result<(), WriteFault>
+        ensures { WritesText result (W.contents writer.old) (W.contents writer.new)
+            (later_events_of self.now n) }
+    {
+        match self {
+            Console::Open(desk) => desk.write_later_events(alloc, writer, n),
+            Console::Declaring { .. } => Ok(()),
         }
     }
 

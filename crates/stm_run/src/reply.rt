@@ -7,4 +7,6 @@ pub enum Reply {
     Text,
     /// It is the history, which is still to be written: it can be longer than memory holds.
     History,
+    /// It is the events from the one with this number on, counted from 1, and how many there are: still to be written, too.
+    Events(u32),
 }

@@ -107,6 +107,10 @@ impl Session {
                 Ok(()) => {}
                 Err(fault) => return Err(fault_of(fault)),
             },
+            Reply::Events(n) => match self.console.write_later_events(alloc, writer, n) {
+                Ok(()) => {}
+                Err(fault) => return Err(fault_of(fault)),
+            },
         }
         self.line.clear();
         Ok(())

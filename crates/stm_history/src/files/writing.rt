@@ -54,7 +54,7 @@ fn write_text<W: Write>(writer: &mut W, text: &[u8]) -> Result<(), WriteFault>
 }
 
 /// Writes a line and its line feed.
-fn write_line<W: Write>(writer: &mut W, mut line: String) -> Result<(), WriteFault>
+pub fn write_line<W: Write>(writer: &mut W, mut line: String) -> Result<(), WriteFault>
     ensures { WritesText result (W.contents writer.old) (W.contents writer.new)
         (string_bytes line ++ 10 ∷ []) }
 {
@@ -114,7 +114,8 @@ fn write_variables<W: Write>(alloc: Global, writer: &mut W, table: &Table) -> Re
     Ok(())
 }
 
-fn write_events<W: Write>(
+/// Writes the lines of events.
+pub fn write_events<W: Write>(
     alloc: Global,
     writer: &mut W,
     history: &[Event],
