@@ -3,7 +3,9 @@ use Rattle.std.proofs.Common.{◌≡◌, ℕ, ◌<◌, Bool, true, false, cond, 
 use Rattle.std.specs.Prelude.{nat_lt, nat_eq, slice_get, option_map, if◌then◌else◌}
 use Rattle.std.proofs.lemmas.Option.{slice_get-map, slice_get_within}
 use Rattle.stm_terms.specs.declared.values.Value.{Value}
+use Rattle.stm_terms.specs.declared.kinds.Ty.{Ty}
 use Rattle.stm_terms.specs.declared.verdicts.Verdict.{Verdict}
+use Rattle.stm_terms.specs.declared.verdicts.Verdict.TheVariants.{Commits, Throws, Blocks}
 use Rattle.stm_terms.specs.Ast.{Act}
 use Rattle.stm_terms.specs.Changes.{Variables, find, put, first_of}
 use Rattle.stm_terms.specs.ReadSet.{insert_read, insert_reads, looks_of, reads_of}
@@ -65,12 +67,22 @@ unchanged (r ∷ rs) u h =
     ap (λ (o : Option Value). change_to r.0 r.1 o ++ changes_from rs u) h.0
     ∙ ap (λ (xs : List Change). xs ++ changes_from rs u) (no_change r.0 r.1) ∙ unchanged rs u h.1
 
-still_by : (b : Bool) (i : ℕ) (x y : Value) → same_value x y ≡ b → cond b [] (record { variable = i; read = x; left = y } ∷ []) ≡ [] → x ≡ y
-still_by true i x y e h = value_equal x y e
-still_by false i x y e h = absurd (cc)
+still_by : (b : Bool) (c : Change) (x y : Value) → same_value x y ≡ b → cond b [] (c ∷ []) ≡ [] → x ≡ y
+still_by true c x y e h = value_equal x y e
+still_by false c x y e h = absurd (cc)
 
 still : (i : ℕ) (x y : Value) → change_to i x (Some y) ≡ [] → x ≡ y
-still i x y h = still_by (same_value x y) i x y refl h
+still i x y h = still_by (same_value x y) (record { variable = i; read = x; left = y }) x y refl h
+
+-- where nothing is left there is no change
+pub none_left : (reads : List (ℕ × Value)) (u : Variables) → ((i : ℕ) → u i ≡ None) → [] ≡ changes_from reads u
+none_left [] u h = refl
+none_left (r ∷ rs) u h = none_left rs u h ∙ sym (ap (λ (o : Option Value). change_to r.0 r.1 o ++ changes_from rs u) (h r.0))
+
+pub no_commit : (reads : List (ℕ × Value)) (n : ℕ) (v : Verdict) → ((ws : List (ℕ × Value)) (ns : List (Ty × Value)) (given : Value) → v ≡ Commits ws ns given → ⊥) → [] ≡ changes_from reads (left_by n v)
+no_commit reads n (Commits ws ns given) h = absurd (h ws ns given refl)
+no_commit reads n (Throws f) h = none_left reads (left_by n (Throws f)) (λ i. refl)
+no_commit reads n Blocks h = none_left reads (left_by n Blocks) (λ i. refl)
 
 -- ---- what a verdict leaves
 -- the change to a variable's new value is the one to the value that is left by a write, if there is one

@@ -1,6 +1,6 @@
 -- What a waiting block waits for, by how it stands.
-use Rattle.std.proofs.Common.{◌≡◌, ℕ, Bool, true, false, not, cond, List, Option, Some, None, refl, sym, ap, subst, ◌∙◌, eqb-true}
-use Rattle.std.specs.Prelude.{nat_eq, is_some, option_map, if◌then◌else◌}
+use Rattle.std.proofs.Common.{◌≡◌, ℕ, Bool, true, false, not, cond, List, [], ◌∷◌, Option, Result, Ok, Err, Some, None, refl, sym, ap, subst, ◌∙◌, eqb-true}
+use Rattle.std.specs.Prelude.{nat_eq, is_some, option_map, if◌then◌else◌, IfOk}
 use Rattle.stm_terms.specs.declared.values.Value.{Value}
 use Rattle.stm_terms.specs.declared.verdicts.Verdict.{Verdict}
 use Rattle.stm_terms.specs.ReadSet.{reads_of}
@@ -12,7 +12,8 @@ use Rattle.stm_events.specs.SlowSettle.{ends, can_end}
 use Rattle.stm_events.proofs.Since.{Tracks, tracked_state}
 use Rattle.stm_desk.specs.Seen.{Seen, now}
 use Rattle.stm_desk.specs.Reasons.{Cause, cause_since_delivery, WaitReason, NotEvaluated, IsStale, Waits, CanFinish, current_reason, reason_since, reason_of_waiter, reason_of}
-use Rattle.stm_desk.specs.ReasonsTold.{cause_told, events_since}
+use Rattle.stm_desk.specs.declared.reason.Reason.{Reason}
+use Rattle.stm_desk.specs.ReasonsTold.{cause_told, events_since, told_reason}
 use Rattle.stm_desk.proofs.Causes.{IsTypedHistory, IsCaused, is_caused}
 
 -- ---- no block, and a new one
@@ -110,6 +111,15 @@ stale_by d t v reads (Some w) k f e r =
 pub stands_stale : (d : Seen) (t : ℕ) (v : Option Verdict) (reads : List (ℕ × Value)) → IsTypedHistory d.table d.history → Some (Stale v) ≡ option_map (standing (now d).store) (find_waiter t (now d).waiters)
     → Some reads ≡ read_then (find_waiter t (now d).waiters) → IsStaleReason d t reads
 stands_stale d t v reads k e r = stale_by d t v reads (find_waiter t (now d).waiters) k refl e r
+
+told_some : (o : Option Reason) (x : Option Cause) → option_map told_reason o ≡ option_map IsStale x → is_some x ≡ true → is_some o ≡ true
+told_some None None e s = s
+told_some None (Some c) e s = absurd (cc)
+told_some (Some r) x e s = refl
+
+pub told_waits : {E : Type 0} (r : Result (Option Reason) E) (x : Option Cause) (b : Bool) → is_some x ≡ true → true ≡ b → IfOk r (λ o. option_map told_reason o ≡ option_map IsStale x) → IfOk r (λ o. is_some o ≡ b)
+told_waits (Ok o) x b s t h = told_some o x h s ∙ t
+told_waits (Err e) x b s t h = tt
 
 -- ---- a current block
 current_if : (b : Bool) (v : Verdict) (x u : Option Verdict) → Current (Some v) ≡ cond b (Stale x) (Current u) → (b ≡ false) × (u ≡ Some v)
