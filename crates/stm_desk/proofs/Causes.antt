@@ -1,5 +1,5 @@
 -- A stale block has a cause, and what the events write tells it.
-use Rattle.std.proofs.Common.{◌≡◌, ⊎_elim, ℕ, ◌+◌, ◌<◌, ◌≤◌, Bool, true, false, ◌||◌, cond, List, [], ◌∷◌, ◌++◌, Option, Some, None, IsSome, inl, inr, length, refl, sym, ap, subst, ◌∙◌, arith, length-append}
+use Rattle.std.proofs.Common.{◌≡◌, ℕ, ◌+◌, ◌≤◌, Bool, true, false, ◌||◌, List, [], ◌∷◌, ◌++◌, Option, Some, None, IsSome, inl, inr, length, refl, sym, ap, subst, ◌∙◌, arith, length-append}
 use Rattle.std.specs.Prelude.{nat_eq, is_some, IsSomeAnd}
 use Rattle.std.specs.List.{list_any}
 use Rattle.std.proofs.lemmas.Bool.Decides.{nat_tests}
@@ -15,24 +15,23 @@ use Rattle.stm_store.specs.Tables.{Declared, declared_cells}
 use Rattle.stm_store.proofs.ChangedVariables.{changed_differ}
 use Rattle.stm_store.proofs.FreshNumbersInRange.{writable, rising}
 use Rattle.stm_store.specs.FreshReferences.{AreWritable}
-use Rattle.stm_check.specs.TypedBlock.{Block}
 use Rattle.stm_eval.specs.Laws.{In}
 use Rattle.stm_eval.proofs.FragmentsAndStores.{looked}
 use Rattle.stm_events.specs.declared.event.Event.{Event}
 use Rattle.stm_events.specs.declared.event.What.{What}
 use Rattle.stm_events.specs.declared.event.What.TheVariants.{Submitted, Installed, Finished, Cancelled}
 use Rattle.stm_events.specs.declared.staleness.StalenessRule.TheVariants.{Changed}
-use Rattle.stm_events.specs.Headline.{installs_to, is_installed, waking_at, waking_from, LastDelivery}
+use Rattle.stm_events.specs.Headline.{waking_at, waking_from}
 use Rattle.stm_events.specs.Laws.{SubmittedAreWellTyped}
-use Rattle.stm_events.specs.SlowDesk.{Since, Waiter, Slow, MayFinish, AllowsEvent, under, looked_on, intersects, is_stale_since, find_waiter, after, initial_state, state_from, state, LegalFrom, IsLegal, max_cells, max_events}
+use Rattle.stm_events.specs.SlowDesk.{Since, Waiter, Slow, MayFinish, AllowsEvent, under, looked_on, intersects, is_stale_since, find_waiter, after, initial_state, state_from, state, LegalFrom, IsLegal, max_events}
 use Rattle.stm_events.proofs.Folds.{state-push, is_legal-push}
 use Rattle.stm_events.proofs.Since.{IsSince}
 use Rattle.stm_events.proofs.TypedStores.{submitted-append, waiting_are_well_typed, stores_are_typed, blocks_have_verdicts}
 use Rattle.stm_desk.specs.declared.reason.Change.{Change}
 use Rattle.stm_desk.specs.Reasons.{changes_from, ticket_of, Cause, cause_or, first_cause, cause_since_delivery}
-use Rattle.stm_desk.specs.ReasonsTold.{left_by, HasWritable, IsWritable, EachIsWritable, changes_told, cause_told, events_since}
+use Rattle.stm_desk.specs.ReasonsTold.{left_by_verdict, HasWritable, IsWritable, EachIsWritable, changes_told, cause_told, events_since}
 use Rattle.stm_desk.proofs.EventsSince.{since_delivery, cause_after}
-use Rattle.stm_desk.proofs.ReadValues.{AreRead, AreLeft, reads_are, found_read, unchanged, is_within, are_left}
+use Rattle.stm_desk.proofs.ReadValues.{AreRead, reads_are, found_read, unchanged, is_within, are_left}
 
 -- ---- each verdict of a history fits the store on which it takes effect
 record IsFinish (s : Slow) (v : Verdict) (n : ℕ) : Type 0 where
@@ -71,11 +70,10 @@ fit_from : (table : List Declared) (h : List Event) (s : Slow) (es : List Event)
 fit_from table h s [] r legal l typed more cells few = tt
 fit_from table h s (e ∷ es) r legal l typed more cells few =
     let allowed : AllowsEvent (state table h) e = subst (λ (x : Slow). AllowsEvent x e) r l.0 in
-    let len : length (h ++ e ∷ []) ≡ length h + 1 = length-append h (e ∷ []) in
-    (
+    let len : length (h ++ e ∷ []) ≡ length h + 1 = length-append h (e ∷ []) in (
       subst (λ (x : Slow). FitsHere x e.what) (sym r) (fits_here table h e legal typed cells e.what refl allowed),
       fit_from table (h ++ e ∷ []) (after s e.what) es (ap (λ (x : Slow). after x e.what) r ∙ sym (state-push Changed (initial_state table) h e))
-      (is_legal-push Changed table h e legal (omega arith) allowed) l.1 (submitted-append h (e ∷ []) typed (more.0, tt)) more.1 cells (omega (arith, len)),
+          (is_legal-push Changed table h e legal (omega arith) allowed) l.1 (submitted-append h (e ∷ []) typed (more.0, tt)) more.1 cells (omega (arith, len)),
     )
 
 pub record IsTypedHistory (table : List Declared) (history : List Event) : Type 0 where
@@ -120,7 +118,7 @@ told_here reads s (Submitted t block) f h = (unchanged reads (under s.store) h, 
 told_here reads s (Installed t v) f h = (unchanged reads (under s.store) h, λ e. h)
 told_here reads s (Finished t v n l) f h =
     let p = are_left reads s.store v f.fits h in
-    let same : changes_from reads (left_by (length s.store) v) ≡ changes_from reads (left_by n v) = ap (λ (m : ℕ). changes_from reads (left_by m v)) (sym f.first_new) in
+    let same : changes_from reads (left_by_verdict (length s.store) v) ≡ changes_from reads (left_by_verdict n v) = ap (λ (m : ℕ). changes_from reads (left_by_verdict m v)) (sym f.first_new) in
     (p.same ∙ same, λ e. p.stay (same ∙ e))
 told_here reads s (Cancelled t) f h = (unchanged reads (under s.store) h, λ e. h)
 
@@ -205,8 +203,8 @@ is_caused table history t w s k since =
           let none_later : cause_told reads d.later ≡ None = ap (cause_told reads) (sym rest) ∙ none in
           let quiet : intersects s.woken (looked_on s.store_then w.block) ≡ false =
           none_met s.woken (looked_on s.store_then w.block) (λ j m.
-            found_by j reads (find j reads) true s.woken refl ((looked w.block.tree (under s.store_then) d.verdict since.verdict j).0 m)
-            (λ x there. subst (λ (woken : List ℕ). list_any (nat_eq j) woken ≡ false) (sym since.woken) (never_woken reads (after then e.what) d.later j x fit read there none_later)))
+          found_by j reads (find j reads) true s.woken refl ((looked w.block.tree (under s.store_then) d.verdict since.verdict j).0 m)
+          (λ x there. subst (λ (woken : List ℕ). list_any (nat_eq j) woken ≡ false) (sym since.woken) (never_woken reads (after then e.what) d.later j x fit read there none_later)))
           in
           sym stale ∙ quiet);
     }

@@ -8,13 +8,13 @@ use Rattle.stm_store.specs.declared.cell.Cell.{Cell}
 use Rattle.stm_events.specs.declared.staleness.StalenessRule.TheVariants.{Changed}
 use Rattle.stm_events.specs.BlockStatus.{read_since_then, read_then, read_now}
 use Rattle.stm_events.specs.SlowDesk.{Since, Waiter, Standing, New, Stale, Current, under, verdict_on, is_blocks, is_stale_since, current_since, is_current, find_waiter, standing_since, standing, initial_state}
-use Rattle.stm_events.specs.SlowSettle.{ends, can_end}
+use Rattle.stm_events.specs.SlowSettle.{ends}
 use Rattle.stm_events.proofs.Since.{Tracks, tracked_state}
 use Rattle.stm_desk.specs.Seen.{Seen, now}
 use Rattle.stm_desk.specs.Reasons.{Cause, cause_since_delivery, WaitReason, NotEvaluated, IsStale, Waits, CanFinish, current_reason, reason_since, reason_of_waiter, reason_of}
 use Rattle.stm_desk.specs.declared.reason.Reason.{Reason}
 use Rattle.stm_desk.specs.ReasonsTold.{cause_told, events_since, told_reason}
-use Rattle.stm_desk.proofs.Causes.{IsTypedHistory, IsCaused, is_caused}
+use Rattle.stm_desk.proofs.Causes.{IsTypedHistory, is_caused}
 
 -- ---- no block, and a new one
 none_by : (store : List Cell) (o : Option Waiter) → None ≡ option_map (standing store) o → o ≡ None

@@ -1,4 +1,4 @@
-use Rattle.std.proofs.Common.{◌≡◌, ◌∙◌, true, List, Option, Some, None, Result, sym, ap, subst}
+use Rattle.std.proofs.Common.{◌≡◌, ◌∙◌, true, List, Option, Some, None, sym, ap, subst}
 use Rattle.std.specs.Prelude.{IfOk, is_some, option_map, if◌then◌else◌}
 use Rattle.stm_events.specs.declared.event.Event.{Event}
 use Rattle.stm_events.specs.declared.status.Status.{Status}
