@@ -1,12 +1,11 @@
 -- The events after the last delivery to a ticket, and the first cause among events.
-use Rattle.std.proofs.Common.{◌≡◌, ℕ, zero, suc, ◌+◌, ◌<◌, Bool, true, false, ◌||◌, cond, List, [], ◌∷◌, ◌++◌, Option, Some, None, length, get_or, drop, refl, sym, ap, subst, ◌∙◌, arith, add-one}
-use Rattle.std.specs.Prelude.{nat_eq, if◌then◌else◌}
+use Rattle.std.proofs.Common.{◌≡◌, ℕ, zero, suc, ◌+◌, ◌<◌, Bool, true, false, ◌||◌, cond, List, [], ◌∷◌, ◌++◌, Option, Some, length, get_or, drop, refl, sym, ap, subst, ◌∙◌, arith}
+use Rattle.std.specs.Prelude.{nat_eq}
 use Rattle.std.proofs.lemmas.List.{drop_more}
 use Rattle.stm_terms.specs.declared.values.Value.{Value}
 use Rattle.stm_terms.specs.Changes.{find}
 use Rattle.stm_store.specs.FreshReferences.{HasNumber, AreWritable}
 use Rattle.stm_events.specs.declared.event.Event.{Event}
-use Rattle.stm_events.specs.declared.event.What.{What}
 use Rattle.stm_events.specs.Headline.{installs_to, is_installed}
 use Rattle.stm_events.specs.SlowDesk.{Slow, after, state_from}
 use Rattle.stm_desk.specs.declared.reason.Change.{Change}

@@ -1,9 +1,11 @@
 -- What a block reads has its values, and which of these values a verdict leaves.
-use Rattle.std.proofs.Common.{◌≡◌, ℕ, ◌<◌, Bool, true, false, cond, List, [], ◌∷◌, ◌++◌, Option, Some, None, length, refl, sym, ap, subst, ◌∙◌, arith, eqb-true}
-use Rattle.std.specs.Prelude.{nat_lt, nat_eq, slice_get, option_map, if◌then◌else◌}
+use Rattle.std.proofs.Common.{◌≡◌, ℕ, ◌<◌, Bool, true, false, cond, List, [], ◌∷◌, ◌++◌, Option, Some, None, length, refl, sym, ap, subst, ◌∙◌, eqb-true}
+use Rattle.std.specs.Prelude.{nat_lt, nat_eq, slice_get, option_map}
 use Rattle.std.proofs.lemmas.Option.{slice_get-map, slice_get_within}
 use Rattle.stm_terms.specs.declared.values.Value.{Value}
+use Rattle.stm_terms.specs.declared.kinds.Ty.{Ty}
 use Rattle.stm_terms.specs.declared.verdicts.Verdict.{Verdict}
+use Rattle.stm_terms.specs.declared.verdicts.Verdict.TheVariants.{Commits, Throws, Blocks}
 use Rattle.stm_terms.specs.Ast.{Act}
 use Rattle.stm_terms.specs.Changes.{Variables, find, put, first_of}
 use Rattle.stm_terms.specs.ReadSet.{insert_read, insert_reads, looks_of, reads_of}
@@ -15,7 +17,7 @@ use Rattle.stm_store.proofs.Lookups.{is_applied}
 use Rattle.stm_events.specs.SlowDesk.{under}
 use Rattle.stm_desk.specs.declared.reason.Change.{Change}
 use Rattle.stm_desk.specs.Reasons.{change_to, changes_from}
-use Rattle.stm_desk.specs.ReasonsTold.{left_by}
+use Rattle.stm_desk.specs.ReasonsTold.{left_by_verdict}
 
 -- each of these reads has its value
 abbrev pub AreRead : List (ℕ × Value) → Variables → Type 0
@@ -65,12 +67,22 @@ unchanged (r ∷ rs) u h =
     ap (λ (o : Option Value). change_to r.0 r.1 o ++ changes_from rs u) h.0
     ∙ ap (λ (xs : List Change). xs ++ changes_from rs u) (no_change r.0 r.1) ∙ unchanged rs u h.1
 
-still_by : (b : Bool) (i : ℕ) (x y : Value) → same_value x y ≡ b → cond b [] (record { variable = i; read = x; left = y } ∷ []) ≡ [] → x ≡ y
-still_by true i x y e h = value_equal x y e
-still_by false i x y e h = absurd (cc)
+still_by : (b : Bool) (c : Change) (x y : Value) → same_value x y ≡ b → cond b [] (c ∷ []) ≡ [] → x ≡ y
+still_by true c x y e h = value_equal x y e
+still_by false c x y e h = absurd (cc)
 
 still : (i : ℕ) (x y : Value) → change_to i x (Some y) ≡ [] → x ≡ y
-still i x y h = still_by (same_value x y) i x y refl h
+still i x y h = still_by (same_value x y) (record { variable = i; read = x; left = y }) x y refl h
+
+-- where nothing is left there is no change
+pub none_left : (reads : List (ℕ × Value)) (u : Variables) → ((i : ℕ) → u i ≡ None) → [] ≡ changes_from reads u
+none_left [] u h = refl
+none_left (r ∷ rs) u h = none_left rs u h ∙ sym (ap (λ (o : Option Value). change_to r.0 r.1 o ++ changes_from rs u) (h r.0))
+
+pub no_commit : (reads : List (ℕ × Value)) (n : ℕ) (v : Verdict) → ((ws : List (ℕ × Value)) (ns : List (Ty × Value)) (given : Value) → v ≡ Commits ws ns given → ⊥) → [] ≡ changes_from reads (left_by_verdict n v)
+no_commit reads n (Commits ws ns given) h = absurd (h ws ns given refl)
+no_commit reads n (Throws f) h = none_left reads (left_by_verdict n (Throws f)) (λ i. refl)
+no_commit reads n Blocks h = none_left reads (left_by_verdict n Blocks) (λ i. refl)
 
 -- ---- what a verdict leaves
 -- the change to a variable's new value is the one to the value that is left by a write, if there is one
@@ -92,16 +104,16 @@ written_value : (n : ℕ) (w : Option Value) (c : Cell) → option_map (λ d. d.
 written_value n None c = refl
 written_value n (Some y) c = refl
 
-under_by : (cells : List Cell) (v : Verdict) (i : ℕ) (x : Value) (o : Option Cell) → Fits (plains cells) v → slice_get cells i ≡ o → option_map (λ c. c.value) o ≡ Some x → under (applied cells v) i ≡ first_of (left_by (length cells) v i) (Some x)
+under_by : (cells : List Cell) (v : Verdict) (i : ℕ) (x : Value) (o : Option Cell) → Fits (plains cells) v → slice_get cells i ≡ o → option_map (λ c. c.value) o ≡ Some x → under (applied cells v) i ≡ first_of (left_by_verdict (length cells) v i) (Some x)
 under_by cells v i x None f at e = absurd (cc)
 under_by cells v i x (Some c) f at e =
     let there = (is_applied cells v f).olds i (slice_get_within cells i c at) in
     value_of (applied cells v) i
     ∙ ap (option_map (λ d. d.value)) (there ∙ ap (option_map (after_write (length cells) (written_by v i))) at)
     ∙ written_value (length cells) (written_by v i) c
-    ∙ ap (first_of (left_by (length cells) v i)) e
+    ∙ ap (first_of (left_by_verdict (length cells) v i)) e
 
-under_left : (cells : List Cell) (v : Verdict) (i : ℕ) (x : Value) → Fits (plains cells) v → under cells i ≡ Some x → under (applied cells v) i ≡ first_of (left_by (length cells) v i) (Some x)
+under_left : (cells : List Cell) (v : Verdict) (i : ℕ) (x : Value) → Fits (plains cells) v → under cells i ≡ Some x → under (applied cells v) i ≡ first_of (left_by_verdict (length cells) v i) (Some x)
 under_left cells v i x f e = under_by cells v i x (slice_get cells i) f refl (sym (value_of cells i) ∙ e)
 
 -- a variable that has a value is there
@@ -116,11 +128,11 @@ pub record AreLeft (reads : List (ℕ × Value)) (new left : Variables) : Type 0
   pub same : changes_from reads new ≡ changes_from reads left
   pub stay : changes_from reads left ≡ [] → AreRead reads new
 
-pub are_left : (reads : List (ℕ × Value)) (cells : List Cell) (v : Verdict) → Fits (plains cells) v → AreRead reads (under cells) → AreLeft reads (under (applied cells v)) (left_by (length cells) v)
+pub are_left : (reads : List (ℕ × Value)) (cells : List Cell) (v : Verdict) → Fits (plains cells) v → AreRead reads (under cells) → AreLeft reads (under (applied cells v)) (left_by_verdict (length cells) v)
 are_left [] cells v f h = record { same = refl; stay = λ e. tt }
 are_left (r ∷ rs) cells v f h =
     let new = under (applied cells v) in
-    let left = left_by (length cells) v in
+    let left = left_by_verdict (length cells) v in
     let more = are_left rs cells v f h.1 in
     let one = left_at r.0 r.1 (new r.0) (left r.0) (under_left cells v r.0 r.1 f h.0) in
     record {

@@ -1,6 +1,6 @@
 -- What is found in a history of why a block is stale, and how a reason is told.
 use Rattle.std.specs.Global.{Vec}
-use Rattle.std.specs.Prelude.{ℕ, if◌then◌else◌, List, [], ◌∷◌, Option, Some, None, option_map}
+use Rattle.std.specs.Prelude.{ℕ, if◌then◌else◌, List, [], ◌∷◌, Option, None, option_map}
 use Rattle.stm_terms.specs.declared.values.Value.{Value}
 use Rattle.stm_terms.specs.declared.verdicts.Verdict.{Verdict}
 use Rattle.stm_terms.specs.declared.verdicts.Verdict.TheVariants.{Commits, Throws, Blocks}
@@ -22,14 +22,14 @@ abbrev pub left_by_writes : ℕ → List (ℕ × Value) → Variables
 left_by_writes n writes i = option_map (renumbered n) (find i writes)
 
 -- the values that a verdict leaves where it writes, in a store that had n cells
-abbrev pub left_by : ℕ → Verdict → Variables
-left_by n v i = option_map (renumbered n) (written_by v i)
+abbrev pub left_by_verdict : ℕ → Verdict → Variables
+left_by_verdict n v i = option_map (renumbered n) (written_by v i)
 
 -- the variables of the reads that an event leaves with another value, by what it writes
 abbrev pub changes_told : List (ℕ × Value) → What → List Change
 changes_told reads (Submitted t block) = []
 changes_told reads (Installed t v) = []
-changes_told reads (Finished t v n stale) = changes_from reads (left_by n v)
+changes_told reads (Finished t v n stale) = changes_from reads (left_by_verdict n v)
 changes_told reads (Cancelled t) = []
 
 -- the first of these events that changed variables of the reads, by what they write

@@ -11,7 +11,7 @@ ghost use Rattle.stm_events.specs.Headline.{installs_to as is_delivery_to};
 ghost use Rattle.stm_events.specs.SlowDesk.{find_waiter, is_blocks};
 ghost use Rattle.stm_desk.specs.Seen.{now};
 ghost use Rattle.stm_desk.specs.Reasons.{change_to, changes_from, ticket_of as ticket_in, IsStale, Waits as WaitsFor, CanFinish, reason_of};
-ghost use Rattle.stm_desk.specs.ReasonsTold.{left_by_writes, left_by, HasWritable, IsWritable, EachIsWritable, events_since as events_after, changes_told as changes_of, cause_told, cause_of, told_reason};
+ghost use Rattle.stm_desk.specs.ReasonsTold.{left_by_writes, left_by_verdict, HasWritable, IsWritable, EachIsWritable, events_since as events_after, changes_told as changes_of, cause_told, cause_of, told_reason};
 
 use crate::desk::Desk;
 use crate::reason::{Change, Reason};
@@ -136,7 +136,9 @@ fn changes_told(alloc: Global, reads: &[(u32, Value)], what: &What) -> Result<Ve
 {
     match what {
         What::Finished {
-            verdict, first_new, ..
+            verdict,
+            first_new,
+            ..
         } => changes_by(alloc, reads, verdict, *first_new),
         _ => Ok(Vec::new(alloc)),
     }
@@ -150,7 +152,7 @@ fn changes_by(
     first_new: u32,
 ) -> Result<Vec<Change>, NoMemory>
     requires { HasWritable first_new verdict.now }
-    ensures { IfOk result (λ cs. cs.items ≡ changes_from reads.now (left_by first_new verdict.now)) }
+    ensures { IfOk result (λ cs. cs.items ≡ changes_from reads.now (left_by_verdict first_new verdict.now)) }
 {
     let blocks = Verdict::Blocks;
     match verdict.get(&blocks) {
@@ -181,12 +183,7 @@ fn changes_in(
 }
 
 /// The change of one variable, if there is one.
-fn change_of(
-    variable: u32,
-    read: Value,
-    writes: &[(u32, Value)],
-    first_new: u32,
-) -> Option<Change>
+fn change_of(variable: u32, read: Value, writes: &[(u32, Value)], first_new: u32) -> Option<Change>
     requires rising { Rising writes.now }
     requires writable { AreWritable first_new writes.now }
     ensures { MatchOption result
