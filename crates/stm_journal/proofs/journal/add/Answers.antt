@@ -1,4 +1,4 @@
-use Rattle.std.proofs.Common.{◌≡◌, List, ℕ, sym, subst, length}
+use Rattle.std.proofs.Common.{sym, subst, length}
 use Rattle.stm_journal.specs.Journal.{MayLeave}
 use Rattle.stm_journal.specs.Device.{LeavesOnly, Torn}
 use Rattle.stm_journal.specs.declared.sync_mode.SyncMode.TheVariants.{Append}

@@ -1,6 +1,6 @@
-use Rattle.std.proofs.Common.{◌≡◌, ◌<◌, ◌++◌, ◌+◌, ◌-◌, ◌∙◌, ℕ, List, ap, length, length-drop, take, drop, arith, sym, refl}
+use Rattle.std.proofs.Common.{◌≡◌, ◌<◌, ◌++◌, ◌+◌, ◌-◌, ◌∙◌, ℕ, List, ap, length, length-drop, take, drop, arith, sym}
 use Rattle.std.proofs.lemmas.List.{take-append-drop, length-take, take_all}
-use Rattle.stm_journal.proofs.Runs.{after_gate, after_rest, after_open, open_text}
+use Rattle.stm_journal.proofs.Runs.{after_gate, after_rest, after_open}
 use Rattle.stm_journal.proofs.journal.add_gated.Goals as goal
 
 -- the bytes after the first

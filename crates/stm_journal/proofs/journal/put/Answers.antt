@@ -1,4 +1,4 @@
-use Rattle.std.proofs.Common.{ℕ, List, length}
+use Rattle.std.proofs.Common.{length}
 use Rattle.stm_journal.specs.Device.{Torn, TornFront}
 use Rattle.stm_journal.proofs.Crash.{torn_none, front_none}
 use Rattle.stm_journal.proofs.Runs.{one_call, two_calls, torn_outcomes}
