@@ -12,10 +12,10 @@ returns-in-Append-clause-any_moment g c honest =
     let r = c.requires.at_rest honest in
     let old = c.args.device.now in
     let batch = c.args.batch.now in
-    subst (λ m. LeavesOnly D.moment D.left_since old c.put.new.device (MayLeave m D.appends_in_order (D.seen old) batch)) (sym c.in-Append.is)
-    (after_write D.seen D.may_leave D.moment D.left_since old c.args.len r.whole r.counts batch c.requires.lines D.appends_in_order c.put.new.device
+    subst (λ m. LeavesOnly D.moment D.left_since old c.put.new.device (MayLeave m D.fills_with_zeros (D.seen old) batch)) (sym c.in-Append.is)
+    (after_write D.seen D.may_leave D.moment D.left_since old c.args.len r.whole r.counts batch c.requires.lines D.fills_with_zeros c.put.new.device
     (c.put.ensures.any_moment honest)
-    (λ in_order. c.put.ensures.in_order honest in_order r.counts))
+    (λ zeros. c.put.ensures.zeros honest zeros r.counts))
 
 pub returns-in-Append-clause-left : goal.returns-in-Append-clause-left
 returns-in-Append-clause-left g c honest =
@@ -24,10 +24,10 @@ returns-in-Append-clause-left g c honest =
     let old = c.args.device.now in
     let new = c.put.new.device in
     let batch = c.args.batch.now in
-    subst (λ m. MayLeave m D.appends_in_order (D.seen old) batch (D.seen new)) (sym c.in-Append.is)
-    (stays D.seen D.may_leave D.moment D.left_since old new (MayLeave Append D.appends_in_order (D.seen old) batch)
-    (after_write D.seen D.may_leave D.moment D.left_since old c.args.len r.whole r.counts batch c.requires.lines D.appends_in_order new (c.put.ensures.any_moment honest)
-    (λ in_order. c.put.ensures.in_order honest in_order r.counts))
+    subst (λ m. MayLeave m D.fills_with_zeros (D.seen old) batch (D.seen new)) (sym c.in-Append.is)
+    (stays D.seen D.may_leave D.moment D.left_since old new (MayLeave Append D.fills_with_zeros (D.seen old) batch)
+    (after_write D.seen D.may_leave D.moment D.left_since old c.args.len r.whole r.counts batch c.requires.lines D.fills_with_zeros new (c.put.ensures.any_moment honest)
+    (λ zeros. c.put.ensures.zeros honest zeros r.counts))
     (g.met.D.Device.may_stay new) (g.met.D.Device.counts_now new))
 
 pub returns-in-Append-clause-kept : goal.returns-in-Append-clause-kept
