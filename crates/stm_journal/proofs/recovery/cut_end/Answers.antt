@@ -5,8 +5,8 @@ use Rattle.stm_journal.proofs.Wholes.{whole-le}
 use Rattle.stm_journal.proofs.Runs.{one_call, two_calls, cut_outcomes}
 use Rattle.stm_journal.proofs.recovery.cut_end.Goals as goal
 
-pub cut-requires : goal.cut-requires
-cut-requires g c honest = omega (arith, c.requires.counted honest, whole-le 0 (g.D.Device.seen c.args.device.now))
+pub cut-requires-clause-within : goal.cut-requires-clause-within
+cut-requires-clause-within g c honest = omega (arith, c.requires.counted honest, whole-le 0 (g.D.Device.seen c.args.device.now))
 
 pub returns-in_err-cut-clause-any_moment : goal.returns-in_err-cut-clause-any_moment
 returns-in_err-cut-clause-any_moment g c honest =
