@@ -1,6 +1,5 @@
 pub mod Calls
 pub mod Evaluating
-pub mod Ripe
 pub mod Runs
 pub mod Settles
 pub mod Turns
