@@ -2,7 +2,7 @@
 //!
 //! `opened` has the desk with the jobs that it handed out. `trying` has `try`, `looks` and `submit`, of blocks that `prepared`
 //! keeps; `delivering` has `take`, `deliver`, `handback` and `eval`, by the jobs of `jobs`, whose stores `stores` drops;
-//! `finishing` has `finish`, `cancel` and `settle`; `showing` has `show`, `reads` and `store`; `questions` has `ready` and `events`.
+//! `finishing` has `finish`, `cancel` and `settle`; `showing` has `show`, `reads` and `store`; `questions` has `ready`, `why` and `events`.
 //! `refusing` prints what is refused, and `threading` says how many threads evaluate.
 //!
 //! What a reader has to believe is in these modules of specs/: `OpenDesk` has the desk with the jobs handed out; `Blocks`,

@@ -1,25 +1,27 @@
-//! `ready` and `events`: which blocks could finish now, and what happened since.
+//! `ready`, `why` and `events`: which blocks could finish now, what one waits for, and what happened since.
 
-ghost use Rattle.std.specs.Prelude.{◌≡◌, ◌++◌, ◌∷◌, [], ◌-◌, drop, codes, decimal, length, string_bytes, OnOk};
+ghost use Rattle.std.specs.Prelude.{◌≡◌, ◌++◌, ◌∷◌, [], ◌-◌, drop, codes, decimal, length, string_bytes, OnOk, option_map};
 ghost use Rattle.stm_history.specs.HistoryText.{WritesText, event_lines};
+ghost use Rattle.stm_desk.specs.ReasonsTold.{told_reason};
 ghost use Rattle.stm_desk.specs.Seen.{now};
 ghost use Rattle.stm_terms.specs.Texts.{spaced};
 ghost use Rattle.stm_events.specs.SlowDesk.{IsLegal};
 ghost use Rattle.stm_commands.specs.Finishing.{tickets_text};
-ghost use Rattle.stm_commands.specs.Questions.{ready_tickets, ready_text, ready_answer, later_events_text};
+ghost use Rattle.stm_commands.specs.Questions.{ready_tickets, ready_text, ready_answer, change_text, reason_text, why_text, why_answer, later_events_text};
 ghost use Rattle.stm_commands.proofs.ReadyTickets.{ready_above};
 
 use crate::opened::OpenDesk;
 use crate::refusing::refuse;
+use stm_lines::arguments::number_of;
 use std::alloc::Global;
 use std::io::Write;
-use stm_desk::Desk;
+use stm_desk::{Change, Desk, Reason};
 use stm_events::Event;
 use stm_events::laws::tickets_rise;
 use stm_history::WriteFault;
 use stm_history::files::writing::{write_events, write_line};
 use stm_terms::NoMemory;
-use stm_terms::text::write_number;
+use stm_terms::text::{write_number, write_value, write_writes};
 
 /// Appends the tickets above this one of the blocks that could finish now, each after a space.
 fn write_ready_above(desk: &Desk, ticket: u32, out: &mut String) -> Result<(), NoMemory>
@@ -65,6 +67,64 @@ fn write_ready(desk: &Desk, out: &mut String) -> Result<(), NoMemory>
     out.push_str("\n")
 }
 
+/// Appends a variable that was changed.
+#[tactic(auto, unfolding(crate::specs::Questions::change_text))]
+fn write_change(change: Change, out: &mut String) -> Result<(), NoMemory>
+    ensures { OnOk result (string_bytes out.new ≡ string_bytes out.old ++ change_text change) }
+{
+    let variable = change.variable;
+    write!(out, "#{variable}=")?;
+    write_value(change.read, out)?;
+    out.push_str("->")?;
+    write_value(change.left, out)
+}
+
+/// Appends variables that were changed, each after a space.
+fn write_changes(changes: &[Change], out: &mut String) -> Result<(), NoMemory>
+    ensures { OnOk result
+        (string_bytes out.new ≡ string_bytes out.old ++ spaced change_text changes.now) }
+{
+    for change in changes {
+        out.push_str(" ")?;
+        write_change(*change, out)?;
+    }
+    Ok(())
+}
+
+/// Appends what a block waits for.
+fn write_reason(reason: &Reason<'_>, out: &mut String) -> Result<(), NoMemory>
+    ensures { OnOk result
+        (string_bytes out.new ≡ string_bytes out.old ++ reason_text (told_reason reason.now)) }
+{
+    match reason {
+        Reason::New => out.push_str("new"),
+        Reason::Stale { finish, changes } => {
+            write!(out, "stale {finish}")?;
+            write_changes(changes, out)
+        }
+        Reason::Waits(reads) => {
+            out.push_str("waits ")?;
+            write_writes(reads, out)
+        }
+        Reason::Ready => out.push_str("ready"),
+    }
+}
+
+/// Appends the answer of `why`.
+fn write_why(ticket: u32, reason: &Option<Reason<'_>>, out: &mut String) -> Result<(), NoMemory>
+    ensures { OnOk result (string_bytes out.new
+        ≡ string_bytes out.old ++ why_text ticket (option_map told_reason reason.now)) }
+{
+    match reason {
+        None => refuse("NoTicket", out),
+        Some(reason) => {
+            write!(out, "why {ticket} ")?;
+            write_reason(reason, out)?;
+            out.push_str("\n")
+        }
+    }
+}
+
 /// Writes the lines of the events after the first n.
 fn write_events_after<W: Write>(
     alloc: Global,
@@ -104,6 +164,26 @@ impl OpenDesk {
             return refuse("Argument", out);
         }
         write_ready(&self.desk, out)
+    }
+
+    /// Answers `why`: what a block waits for.
+    #[tactic(auto, unfolding(crate::specs::Questions::why_answer))]
+    pub fn answer_why(
+        &self,
+        alloc: Global,
+        argument: &str,
+        out: &mut String,
+    ) -> Result<(), NoMemory>
+        ensures { OnOk result
+            (string_bytes out.new ≡ string_bytes out.old ++ why_answer self.now argument.now) }
+    {
+        match number_of(argument.as_bytes()) {
+            Some(ticket) => {
+                let reason = self.desk.why(alloc, ticket)?;
+                write_why(ticket, &reason, out)
+            }
+            None => refuse("Argument", out),
+        }
     }
 
     /// Writes the lines of the events from the n-th on, counted from 1, and how many events there are.

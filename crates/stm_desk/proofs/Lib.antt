@@ -1,5 +1,7 @@
 pub mod Calls
 pub mod Evaluating
+pub mod EventsSince
+pub mod ReadValues
 pub mod Ripe
 pub mod Runs
 pub mod Settles

@@ -1,7 +1,8 @@
--- What a waiting block waits for: a definition over the history.
-use Rattle.std.specs.Prelude.{ℕ, Bool, false, nat_eq, if◌then◌else◌, List, [], ◌∷◌, ◌++◌, Option, Some, None, option_map}
-use Rattle.std.specs.List.{list_any}
+-- What a waiting block waits for: a definition over the history. A block that is stale waits for another evaluation, because of
+-- the first finish after its last delivery that left a variable which it had read with another value.
+use Rattle.std.specs.Prelude.{ℕ, if◌then◌else◌, List, [], ◌∷◌, ◌++◌, Option, Some, None, option_map}
 use Rattle.stm_terms.specs.declared.values.Value.{Value}
+use Rattle.stm_terms.specs.Changes.{Variables}
 use Rattle.stm_terms.specs.ReadSet.{reads_of}
 use Rattle.stm_terms.specs.Value.{same_value}
 use Rattle.stm_store.specs.declared.cell.Cell.{Cell}
@@ -9,25 +10,21 @@ use Rattle.stm_events.specs.declared.event.Event.{Event}
 use Rattle.stm_events.specs.declared.event.What.{What}
 use Rattle.stm_events.specs.declared.event.What.TheVariants.{Submitted, Installed, Finished, Cancelled}
 use Rattle.stm_events.specs.BlockStatus.{read_now}
+use Rattle.stm_events.specs.Headline.{installs_to, is_installed}
 use Rattle.stm_events.specs.SlowDesk.{Since, Slow, Waiter, after, find_waiter, initial_state, is_stale_since, under}
 use Rattle.stm_events.specs.SlowSettle.{can_end}
+use Rattle.stm_desk.specs.declared.reason.Change.{Change}
 use Rattle.stm_desk.specs.Seen.{Seen, now}
-
--- a variable that a block read, with the value that it read and another one that it was left with
-pub record Change : Type 0 where
-  pub variable : ℕ
-  pub read : Value
-  pub left : Value
 
 -- the change of a variable from the value that was read to the one that it has, if that is another one
 abbrev pub change_to : ℕ → Value → Option Value → List Change
 change_to i v None = []
 change_to i v (Some new) = if same_value v new then [] else record { variable = i; read = v; left = new } ∷ []
 
--- the variables of these reads that have another value on a store
-abbrev pub changes_on : List Cell → List (ℕ × Value) → List Change
-changes_on store [] = []
-changes_on store (r ∷ rs) = change_to r.0 r.1 (under store r.0) ++ changes_on store rs
+-- the variables of these reads that have another value
+abbrev pub changes_from : List (ℕ × Value) → Variables → List Change
+changes_from [] variables = []
+changes_from (r ∷ rs) variables = change_to r.0 r.1 (variables r.0) ++ changes_from rs variables
 
 -- the ticket of an event
 abbrev pub ticket_of : What → ℕ
@@ -36,14 +33,7 @@ ticket_of (Installed t v) = t
 ticket_of (Finished t v n stale) = t
 ticket_of (Cancelled t) = t
 
--- the event is a delivery to the ticket
-abbrev pub is_delivery_to : ℕ → What → Bool
-is_delivery_to t (Submitted u block) = false
-is_delivery_to t (Installed u v) = nat_eq t u
-is_delivery_to t (Finished u v n stale) = false
-is_delivery_to t (Cancelled u) = false
-
--- why a block is stale: the ticket of a finish, and the variables that the block had read and that it changed
+-- why a block is stale: the ticket of a finish, and the variables that the block had read and that were left with other values
 pub record Cause : Type 0 where
   pub finish : ℕ
   pub changes : List Change
@@ -57,14 +47,14 @@ cause_or t (c ∷ cs) later = Some (record { finish = t; changes = c ∷ cs })
 abbrev pub first_cause : List (ℕ × Value) → Slow → List Event → Option Cause
 first_cause reads s [] = None
 first_cause reads s (e ∷ es) =
-    cause_or (ticket_of e.what) (changes_on (after s e.what).store reads) (first_cause reads (after s e.what) es)
+    cause_or (ticket_of e.what) (changes_from reads (under (after s e.what).store)) (first_cause reads (after s e.what) es)
 
 -- the same of the events after the last delivery to a ticket, among these events, which begin on a state
 abbrev pub cause_since_delivery : ℕ → List (ℕ × Value) → Slow → List Event → Option Cause
 cause_since_delivery t reads s [] = None
 cause_since_delivery t reads s (e ∷ es) =
-    if list_any (λ later. is_delivery_to t later.what) es then cause_since_delivery t reads (after s e.what) es
-    else if is_delivery_to t e.what then first_cause reads (after s e.what) es
+    if is_installed t es then cause_since_delivery t reads (after s e.what) es
+    else if installs_to t e.what then first_cause reads (after s e.what) es
     else cause_since_delivery t reads (after s e.what) es
 
 -- what a waiting block waits for

@@ -13,10 +13,12 @@ pub mod deliver;
 pub mod desk;
 pub mod evaluate;
 pub mod finish;
+pub mod reason;
 pub mod settle;
 pub mod show;
 pub mod submit;
 pub mod take;
+pub mod why;
 
 // Why settling stops.
 pub mod errors;
@@ -25,5 +27,6 @@ pub use desk::Desk;
 pub use errors::{SettleStop, SettleWhy};
 pub use evaluate::Evaluation;
 pub use finish::Finish;
+pub use reason::{Change, Reason};
 pub use settle::Settled;
 pub use stm_events::{CancelError, DeliverError, FinishError, Status, SubmitError};

@@ -23,10 +23,11 @@ use Rattle.stm_events.specs.Refusals.{missing, blocks_there, overflows, finish_f
 use Rattle.stm_events.specs.SlowDesk.{Since, Waiter, Slow, under, verdict_on, is_blocks, is_new, is_current, find_waiter, without_waiter, stale_after, max_waiting}
 use Rattle.stm_events.specs.SlowSettle.{Stop, NoRoom, NoCells, ending, finishes, installs}
 use Rattle.stm_desk.specs.Refusals.{submit_refusal, finish_refusal, cancel_refusal}
+use Rattle.stm_desk.specs.Reasons.{WaitReason, reason_of}
 use Rattle.stm_desk.specs.Seen.{Seen, now, is_full}
 use Rattle.stm_desk.specs.Settling.{slow_settle, slow_stop, called_back}
 use Rattle.stm_run.specs.declared.command.Command.{Command}
-use Rattle.stm_run.specs.declared.command.Command.TheVariants.{Tvar, Try, Looks, Submit, Take, Deliver, Handback, Eval, Finish, Cancel, Show, Reads, Store, Settle, History, Ready, Events}
+use Rattle.stm_run.specs.declared.command.Command.TheVariants.{Tvar, Try, Looks, Submit, Take, Deliver, Handback, Eval, Finish, Cancel, Show, Reads, Store, Settle, History, Ready, Why, Events}
 use Rattle.stm_blocks.specs.declared.refusal.Refusal.{Refusal}
 use Rattle.stm_lines.specs.NumberArgument.{number_argument}
 use Rattle.stm_commands.specs.Arguments.{with_number, with_nothing}
@@ -37,7 +38,7 @@ use Rattle.stm_commands.specs.Delivering.{max_jobs, taken, job_text, numbered, j
 use Rattle.stm_commands.specs.Finishing.{finish_of, tickets_text, result_line, finished_line, finish_event_line, finish_text, finish_answer, cancelled_line, cancel_text, cancel_answer, settled_line, settle_text, settle_answer}
 use Rattle.stm_commands.specs.OpenDesk.{HandedOut, OpenDesk, present}
 use Rattle.stm_commands.specs.Refusals.{refused}
-use Rattle.stm_commands.specs.Questions.{ready_tickets, ready_text, ready_answer, later_events_text, events_answer}
+use Rattle.stm_commands.specs.Questions.{ready_tickets, ready_text, ready_answer, reason_text, why_text, why_answer, later_events_text, events_answer}
 use Rattle.stm_commands.specs.Showing.{waiter_lines, show_text, show_answer, read_text, waiter_reads_text, reads_answer, cell_lines, store_text, store_answer, history_answer}
 use Rattle.stm_run.specs.Laws.{EndsALine}
 use Rattle.stm_run.proofs.EndedLines.{refused_ends, refusal_ends, submit_error_ends, deliver_error_ends, finish_error_ends, cancel_error_ends, history_ends, counted_end}
@@ -147,6 +148,10 @@ ready_ends : (s : Slow) → EndsALine (ready_text s)
 unfolding ready_text
 ready_ends s = (codes "ready " ++ tickets_text (ready_tickets s), refl)
 
+why_ends : (t : ℕ) (o : Option WaitReason) → EndsALine (why_text t o)
+why_ends t (Some r) = (codes "why " ++ decimal t ++ codes " " ++ reason_text r, refl)
+why_ends t None = refused_ends (codes "NoTicket")
+
 later_events_end : (d : OpenDesk) (n : ℕ) → EndsALine (later_events_text d n)
 later_events_end d n = counted_end (drop (n - 1) d.desk.history) (codes "events " ++ decimal (length d.desk.history))
 
@@ -180,7 +185,7 @@ module _ (judged : (table : List Declared) (text : List ℕ) → BlockOrTold tab
   finish_ends d jobs t (Some x) e k = finish_error_ends x (λ m. finish_told (now d).store (is_full d) (find_waiter t (now d).waiters) (e ∙ ap Some m))
 
   pub desk_ends : (d : OpenDesk) → Stands d.desk d.jobs → (c : Command) (argument : List ℕ) → EndsALine (desk_answer d c argument)
-  unfolding try_answer looks_answer submit_answer take_answer deliver_answer handback_answer eval_answer finish_answer cancel_answer show_answer reads_answer store_answer settle_answer history_answer ready_answer events_answer
+  unfolding try_answer looks_answer submit_answer take_answer deliver_answer handback_answer eval_answer finish_answer cancel_answer show_answer reads_answer store_answer settle_answer history_answer ready_answer why_answer events_answer
   desk_ends d k Tvar argument = refused_ends (codes "Late")
   desk_ends d k Try argument = tried_ends d k (compiled_block d.desk.table argument) (judged d.desk.table argument)
   desk_ends d k Looks argument = looked_ends d.desk.table (present d) (compiled_block d.desk.table argument) (judged d.desk.table argument)
@@ -197,4 +202,5 @@ module _ (judged : (table : List Declared) (text : List ℕ) → BlockOrTold tab
   desk_ends d k Settle argument = nothing_ends _ argument (settle_ends (slow_settle (called_back d.desk)) (slow_stop (called_back d.desk)))
   desk_ends d k History argument = nothing_ends _ argument (history_ends latest_format d.desk.table d.desk.history)
   desk_ends d k Ready argument = nothing_ends (ready_text (now d.desk)) argument (ready_ends (now d.desk))
+  desk_ends d k Why argument = number_ends _ (number_argument argument) (λ t. why_ends t (reason_of d.desk t))
   desk_ends d k Events argument = number_ends _ (number_argument argument) (later_events_end d)

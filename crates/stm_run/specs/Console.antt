@@ -2,7 +2,7 @@
 use Rattle.std.specs.Prelude.{ℕ, List, [], ◌∷◌, ◌++◌, Option, Some, None, codes, if◌then◌else◌}
 use Rattle.std.specs.Str.{bytes_eq}
 use Rattle.stm_run.specs.declared.command.Command.{Command}
-use Rattle.stm_run.specs.declared.command.Command.TheVariants.{Tvar, Try, Looks, Submit, Take, Deliver, Handback, Eval, Finish, Cancel, Show, Reads, Store, Settle, History, Ready, Events}
+use Rattle.stm_run.specs.declared.command.Command.TheVariants.{Tvar, Try, Looks, Submit, Take, Deliver, Handback, Eval, Finish, Cancel, Show, Reads, Store, Settle, History, Ready, Why, Events}
 use Rattle.stm_run.specs.declared.console.Console.{Console}
 use Rattle.stm_run.specs.declared.console.Console.TheVariants.{Declaring, Open}
 use Rattle.stm_commands.specs.Blocks.{try_answer, looks_answer, submit_answer, submit_state}
@@ -14,13 +14,14 @@ use Rattle.stm_commands.specs.Finishing.{finish_answer, finish_state, cancel_ans
 use Rattle.stm_lines.specs.LineClass.{LineClass, TooLong, Silent, NotAscii, Words, line_class}
 use Rattle.stm_lines.specs.Lines.{lines_of, whole_lines_of}
 use Rattle.stm_commands.specs.Refusals.{refused}
-use Rattle.stm_commands.specs.Questions.{ready_answer, events_answer}
+use Rattle.stm_commands.specs.Questions.{ready_answer, why_answer, events_answer}
 use Rattle.stm_commands.specs.Showing.{show_answer, reads_answer, store_answer, history_answer}
 
--- the command of a word, of those that ask who could finish and what happened
+-- the command of a word, of those that ask who could finish, what a block waits for, and what happened
 unfoldable pub question_named : List ℕ → Option Command
 question_named word =
     if bytes_eq word (codes "ready") then Some Ready
+    else if bytes_eq word (codes "why") then Some Why
     else if bytes_eq word (codes "events") then Some Events
     else None
 
@@ -76,6 +77,7 @@ desk_answer d Store argument = store_answer d argument
 desk_answer d Settle argument = settle_answer d argument
 desk_answer d History argument = history_answer d argument
 desk_answer d Ready argument = ready_answer d argument
+desk_answer d Why argument = why_answer d argument
 desk_answer d Events argument = events_answer d argument
 
 -- and what it changes
@@ -96,6 +98,7 @@ desk_after d Store argument = d
 desk_after d Settle argument = settle_state d argument
 desk_after d History argument = d
 desk_after d Ready argument = d
+desk_after d Why argument = d
 desk_after d Events argument = d
 
 -- the first line with a known word other than `tvar` opens the desk, also where it is then refused

@@ -22,6 +22,7 @@ pub enum Command {
     Settle,
     History,
     Ready,
+    Why,
     Events,
 }
 
@@ -61,6 +62,9 @@ fn question_of(word: &[u8]) -> Option<Command>
 {
     if word == b"ready".as_slice() {
         return Some(Command::Ready);
+    }
+    if word == b"why".as_slice() {
+        return Some(Command::Why);
     }
     if word == b"events".as_slice() {
         return Some(Command::Events);

@@ -107,6 +107,7 @@ fn answer_on_desk<T: Threads + Sync>(
         Command::Store => desk.answer_store(argument, out),
         Command::Settle => desk.answer_settle(argument, out),
         Command::Ready => desk.answer_ready(argument, out),
+        Command::Why => desk.answer_why(alloc, argument, out),
     };
     done.and(Ok(Reply::Text))
 }
