@@ -85,6 +85,9 @@ Commands on standard input, one per line. A line that begins with `--` is a comm
       ready
   reads T                  Prints what the block under a ticket read at its last evaluation: `reads #0=1`
       reads 1
+  why T                    Prints what the block under a ticket waits for: `why 1 new`, `why 1 waits #0=1`, `why 1 ready`, or
+                           `why 1 stale 3 #0=1->2` if the finish of ticket 3 changed a variable that it had read
+      why 1
   store                    Prints each variable with its value and how often it changed, then `cells 1`
       store
   settle                   Evaluates and finishes blocks until none can continue: `settled 2 evaluations 3`
