@@ -15,8 +15,8 @@ A value of the language is a value of Python: a number is an `int`, `True` and `
 type if a block could return either. docs/CONSOLE.md says what each command does, and docs/LANGUAGE.md what a block is. A line
 feed in a block is a blank.
 
-`Desk.atomically` runs a block and waits while it retries; `Desk.batch` gives many commands in one go; `stmdesk.aio` is the same
-for asyncio. `explore` needs no desk: it tries every order of the steps of a script's clients.
+`Desk.atomically` runs a block and waits while it retries; `Desk.batch` gives many commands in one go; `Desk.ready` says which tickets
+can be finished, `Desk.why` what one waits for, and `Desk.events` what has happened since; `stmdesk.aio` is the same for asyncio. `explore` needs no desk: it tries every order of the steps of a script's clients.
 
 A call raises `Refused` if the program refuses the command; `Stopped`, which is a `Refused`, if a `settle` stopped; `Ended`
 if the program ended; `BadAnswer` if the program printed what stmdesk never prints; `ValueError` or `TypeError` for an
