@@ -200,7 +200,7 @@ def build(every, at_once):
                 if idle < 1:
                     break
                 waiting.remove(crate)
-                jobs = min(4, -(-idle // (len(ready) - at)))  # a share, rounded up
+                jobs = max(1, min(4, idle - len(ready) + 1)) if at == 0 else 1  # the longest chain gets what no other can use
                 progress.begun[crate] = time.monotonic()
                 running[pool.submit(prove_program if crate.is_program else prove_library, crate, jobs)] = crate, jobs
             if time.monotonic() - shown >= (1 if progress.is_terminal else 30):
