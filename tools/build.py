@@ -1,7 +1,7 @@
 #!/usr/bin/env python3
 """Proves the crates that a program depends on, and builds it: build.py [--jobs N] PROGRAM.
 
-Crates that don't depend on each other are proved side by side, each by `rt lib`, and the program by `rt run`. Progress and the
+Crates that don't depend on each other are proved side by side, each by `rt lib`, and then the program by `rt run`. Progress and the
 time that is left are printed on standard error. What a check keeps goes into the out/ of its crate, so a later run continues from
 there, and a crate whose library is newer than its texts and those below isn't looked at again before the program.
 """
@@ -21,12 +21,13 @@ import time
 from concurrent.futures import FIRST_COMPLETED, ThreadPoolExecutor, wait
 
 ROOT = pathlib.Path(__file__).resolve().parent.parent
+TEXTS = "src", "specs", "proofs"
 SECONDS = 0.14  # of processor time that the proof of a line of src/ takes, about (2.5 GHz); and that a program takes for
 BELOW = 0.0045  # each line of the crates below, which are compiled with it
 GAINS = {1: 1.0, 2: 1.2, 3: 1.4}  # how much faster a chain of crates is proved on N processors; on more than 3:
 MOST_GAIN = 1.5
 MEMORY = 3 << 30  # bytes that one check may take
-RUNNING, STOPPED = set(), threading.Event()  # the commands that run now; whether this program is to end
+RUNNING, STOPPED = set(), threading.Event()  # the commands that run now; set once this program is to end
 
 
 class Crate:
@@ -34,33 +35,30 @@ class Crate:
 
     def __init__(self, name, line, below):
         self.name, self.line, self.below, self.folder = name, line, below, ROOT / "crates" / name
-        lines = lambda crate: sum(it.read_bytes().count(b"\n") for it in crate.folder.glob("src/**/*.rt"))
         self.is_program = (self.folder / "src" / "main.rt").exists()
-        self.seconds = SECONDS * lines(self) + BELOW * self.is_program * sum(map(lines, below))
+        self.lines = sum(it.read_bytes().count(b"\n") for it in self.folder.glob("src/**/*.rt"))
+        self.seconds = SECONDS * self.lines + BELOW * self.is_program * sum(it.lines for it in below)
 
     def is_fresh(self):
         """Whether a library is there that is newer than all texts that it depends on."""
         with contextlib.suppress(OSError):
             built = (self.folder / "out" / "rlib" / "stamp").stat().st_mtime
-            places = [it.folder / part for it in [self, *self.below] for part in ("src", "specs", "proofs")]
-            found = (it.stat().st_mtime for place in places for it in [place, *place.rglob("*")] if it.exists())
-            return built > max((ROOT / "crates.txt").stat().st_mtime, *found)
+            texts = [path for it in [self, *self.below] for part in TEXTS for path in (it.folder / part).rglob("*")]
+            return built > max(it.stat().st_mtime for it in [ROOT / "crates.txt", *texts])
         return False
 
 
 def crates():
     """The crates of crates.txt by name, each after those that it depends on."""
     lines = [it.partition("#")[0].strip() for it in (ROOT / "crates.txt").read_text().splitlines()]
-    lines = {it.partition(":")[0].split()[0]: it for it in lines if it}
-    found = {}
+    lines, found = {it.partition(":")[0]: it for it in lines if it}, {}
 
     def add(name):
-        direct = [it for it in lines[name].partition(":")[2].split() if it in lines]
-        for it in direct:
-            if it not in found:
-                add(it)
-        below = dict.fromkeys(low for it in direct for low in [*found[it].below, found[it]])
-        found.setdefault(name, Crate(name, lines[name], list(below)))
+        if name not in found:
+            direct = [add(it) for it in lines[name].partition(":")[2].split() if it in lines]
+            below = dict.fromkeys(low for it in direct for low in [*it.below, it])
+            found[name] = Crate(name, lines[name], list(below))
+        return found[name]
 
     for name in lines:
         add(name)
@@ -91,48 +89,45 @@ def room(crate):
     """The folder of the crate in a copy of it and of the crates below with what is built of these. The toolchain locks a crate and
     all below while it works on it; in such copies it can work on two crates that have one below in common."""
     with tempfile.TemporaryDirectory(prefix=f"{crate.name}-") as name:
+        pathlib.Path(name, "crates.txt").write_text("".join(f"{it.line}\n" for it in [*crate.below, crate]))
         for it in [*crate.below, crate]:
             to = pathlib.Path(name, "crates", it.name)
-            with locked(it, fcntl.LOCK_SH), open(f"{name}/crates.txt", "a", encoding="utf-8") as lines:
-                lines.write(f"{it.line}\n")
-                for part in filter(lambda part: (it.folder / part).is_dir(), ("src", "specs", "proofs")):
-                    shutil.copytree(it.folder / part, to / part)
-                if it is not crate and (it.folder / "out/rlib").is_dir():
-                    shutil.copytree(it.folder / "out/rlib", to / "out/rlib", copy_function=link_or_copy)
+            with locked(it, fcntl.LOCK_SH):
+                for part in [*TEXTS, *["out/rlib"] * (it is not crate)]:
+                    if (it.folder / part).is_dir():
+                        copy = shutil.copy2 if part in TEXTS else link_or_copy
+                        shutil.copytree(it.folder / part, to / part, copy_function=copy)
         yield to
 
 
 def run(words, folder, given=subprocess.DEVNULL):
-    """Runs a command. Returns its status, its output, and its last lines of standard error, or of its output where there are none."""
+    """Runs a command, and returns its status, its output, and the last lines of all that it printed."""
     if STOPPED.is_set():
-        return 130, b"", ""
+        return 130, b"", "stopped"
     ran = subprocess.Popen(words, cwd=folder, stdin=given, stdout=subprocess.PIPE, stderr=subprocess.PIPE)
     RUNNING.add(ran)
     output, said = ran.communicate()
     RUNNING.discard(ran)
-    return ran.returncode, output, "\n".join((said or output).decode(errors="replace").splitlines()[-40:])
+    return ran.returncode, output, "\n".join((output + said).decode(errors="replace").splitlines()[-60:])
 
 
-def prove_library(crate, jobs):
-    """Has the library be built in its out/. Returns a text if it fails."""
+def prove(crate, jobs):
+    """Has a library be built in its out/, or a program in its own, which is run on its own input. Returns a text if that fails."""
+    if crate.is_program:
+        with open(crate.folder / "stdin", "rb") as given:
+            status, output, said = run(["rt", "run", "--jobs", str(jobs)], crate.folder, given)
+        is_right = not status and output == (crate.folder / "stdout").read_bytes()
+        return None if is_right else f"status {status}, or another output than the file stdout has\n{said}"
     with room(crate) as folder, locked(crate, fcntl.LOCK_EX):
         there, here = crate.folder / "out", folder / "out"
         if there.exists():
             shutil.move(there, here)
         try:
-            status, output, said = run(["rt", "lib", "--jobs", str(jobs)], folder)
+            status, _, said = run(["rt", "lib", "--jobs", str(jobs)], folder)
         finally:
             if here.exists():
                 shutil.move(here, there)
-    return f"status {status}\n{output.decode(errors='replace')[-4000:]}{said}" if status else None
-
-
-def prove_program(crate, jobs):
-    """Has the program be built in its out/, and runs it on its own input. Returns a text if it fails or prints something else."""
-    with open(crate.folder / "stdin", "rb") as given:
-        status, output, said = run(["rt", "run", "--jobs", str(jobs)], crate.folder, given)
-    is_right = not status and output == (crate.folder / "stdout").read_bytes()
-    return None if is_right else f"status {status}, or another output than its file stdout has\n{said}"
+    return f"status {status}\n{said}" if status else None
 
 
 def lanes():
@@ -164,55 +159,52 @@ class Progress:
     """Prints on standard error how far the build is: on a terminal in one line that changes, else in a line every half minute."""
 
     def __init__(self, every, todo):
-        self.count, self.name, self.start = len(every), every[-1].name, time.monotonic()
+        self.count, self.name, self.start, self.shown = len(every), every[-1].name, time.monotonic(), 0
         self.left, self.begun = {it: it.seconds for it in todo}, {}
         self.expected, self.is_terminal = seconds_for(self.left), sys.stderr.isatty()
-
-    def seconds_left(self):
-        """What is left of the expected time, at the speed of this run so far."""
-        now, left = time.monotonic(), dict(self.left)
-        for it, begun in self.begun.items():
-            left[it] = max(left[it] - (now - begun), left[it] / 10)
-        expected, spent = seconds_for(left), now - self.start
-        gone = self.expected - expected
-        return expected * (min(max(spent / gone, 0.5), 4) if gone > 60 else 1)
 
     def say(self, text, end="\n"):
         print(f"\r\033[K{text}" if self.is_terminal else text, end=end, file=sys.stderr, flush=True)
 
     def show(self):
-        text = f"{self.name}: {self.count - len(self.left)} of {self.count} crates proved in {(time.monotonic() - self.start) / 60:.1f} "
-        text += f"minutes, about {shown_minutes(self.seconds_left())} left; now {', '.join(it.name for it in self.begun)}"
+        now, left = time.monotonic(), dict(self.left)
+        if now - self.shown < (1 if self.is_terminal else 30):
+            return
+        for it, begun in self.begun.items():
+            left[it] = max(left[it] - (now - begun), left[it] / 10)
+        expected, spent = seconds_for(left), now - self.start
+        gone = self.expected - expected  # what is left is scaled by the speed of this run so far
+        expected *= min(max(spent / gone, 0.5), 4) if gone > 60 else 1
+        text = f"{self.name}: {self.count - len(left)} of {self.count} crates proved in {spent / 60:.1f} minutes, about "
+        text += f"{shown_minutes(expected)} left; now {', '.join(it.name for it in self.begun)}"
         self.say(text[:119] if self.is_terminal else text, "" if self.is_terminal else "\n")
+        self.shown = now
 
 
 def build(every, at_once):
     """Proves these crates, each after those below it, the longest chains first. Returns whether all were."""
     todo = [it for it in every if it.is_program or not it.is_fresh()]
-    progress, shown, running, failed = Progress(every, todo), 0.0, {}, False
-    behind = lambda crate: max([behind(it) for it in todo if crate in it.below], default=0) + crate.seconds
-    waiting = sorted(todo, key=behind, reverse=True)
+    progress, running, failed = Progress(every, todo), {}, False
+    chain = lambda crate: crate.seconds + max([chain(it) for it in todo if crate in it.below], default=0)
+    waiting = sorted(todo, key=chain, reverse=True)
     with ThreadPoolExecutor(at_once) as pool:
         while running or waiting and not failed:
-            ready = [it for it in waiting if not any(low in progress.left for low in it.below)]
-            for at, crate in enumerate([] if failed else ready):
+            ready = [it for it in waiting if not any(low in progress.left for low in it.below) and not failed]
+            for at, crate in enumerate(ready):
                 idle = at_once - sum(jobs for _, jobs in running.values())
                 if idle < 1:
                     break
-                waiting.remove(crate)
                 jobs = max(1, min(4, idle - len(ready) + 1)) if at == 0 else 1  # the longest chain gets what no other can use
+                waiting.remove(crate)
                 progress.begun[crate] = time.monotonic()
-                running[pool.submit(prove_program if crate.is_program else prove_library, crate, jobs)] = crate, jobs
-            if time.monotonic() - shown >= (1 if progress.is_terminal else 30):
-                progress.show()
-                shown = time.monotonic()
+                running[pool.submit(prove, crate, jobs)] = crate, jobs
+            progress.show()
             for it in wait(running, timeout=1, return_when=FIRST_COMPLETED).done:
                 crate, _ = running.pop(it)
                 progress.begun.pop(crate)
-                why = it.result()
-                if why:
+                if it.result():
                     failed = True
-                    progress.say(f"{crate.name} is not proved: {why}")
+                    progress.say(f"{crate.name} is not proved: {it.result()}")
                 else:
                     progress.left.pop(crate)
     if progress.is_terminal:
