@@ -1,22 +1,28 @@
 """Which sweeps try all their faults outside of `--full`: the smallest that show each thing once.
 
 Of each kind of sweep (the program with a refused allocation, a reader that fails, ..) the cases are taken in the order of their size,
-and one is tried whole if it has something that no smaller one has: a command with the first two words of an answer, a construct of the
-language, a word of the command line; or in a script a call with the first word of its answer. All others are sampled."""
+and one is tried whole if it has something that no smaller one has: a command with the first word of its answer and the name of an error, a
+construct of the language, a word of the command line; or in a script a call with the same of its answer. All others are sampled."""
 
 import re
+from itertools import product
 
+MOST = 20  # lines of an answer that are looked at
 CONSTRUCTS = re.compile(rb"\b(?:do|let|if|orElse|catch|throw|retry|return|readTVar|writeTVar|newTVar)\b")
+CALLS = re.compile(rb"(?: / |^\S+ open \d+ \d+ )(\w+)")  # of a shared desk, many in a line
+ANSWER = re.compile(rb"\w*[a-z]\w*(?: [A-Z]\w+)?")  # its first word, with the name of an error
 
 
 def things(case, is_script):
     """What a case shows."""
-    found = {("word", word) for word in case.words}
+    found = {("word", word) for word in case.words if not re.search(r"\d", word)}
     for text, answer in case.steps or [(case.text, case.printed)]:
-        found |= {("construct", it) for it in CONSTRUCTS.findall(text)}
-        commands = {b" ".join(line.split()[: 1 + is_script]) for line in text.splitlines()}
-        answers = {b" ".join(re.findall(rb"[A-Za-z]+", line)[: 2 - is_script]) for line in answer.splitlines()}
-        found |= {("answer", command, it) for command in commands for it in answers or {b""}}
+        found |= {("construct", it) for it in CONSTRUCTS.findall(text) + CALLS.findall(text)}
+        lines, answers = text.splitlines(), answer.splitlines() or [b""]
+        for line, it in zip(lines, answers) if len(lines) == len(answers) else product(lines[:1], answers[:MOST]):
+            command = [word[:MOST] for word in line.split()[: 1 + is_script]]
+            if command and not line.startswith(b"--"):
+                found.add(("answer", *command, *ANSWER.findall(it)[:1]))
     return found
 
 
