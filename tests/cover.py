@@ -1,8 +1,9 @@
-"""Which sweeps try all their faults outside of `--full`: the smallest that show each thing once.
+"""Which sweeps try all their faults without `--full`: those that show something first.
 
-Of each kind of sweep (the program with a refused allocation, a reader that fails, ..) the cases are taken in the order of their size,
-and one is tried whole if it has something that no smaller one has: a command with the first word of its answer and the name of an error, a
-construct of the language, a word of the command line; or in a script a call with the same of its answer. All others are sampled."""
+Of each kind of sweep (the program with a refused allocation, a reader that fails, ..) the cases are taken in the order of their number
+of faults, and one is tried whole if it shows something that none before it shows: a command with the first word of its answer and the
+name of an error, a construct of the language, a word of the command line; or in a script a call with the same of its answer. All
+others are sampled."""
 
 import re
 from itertools import product
@@ -27,9 +28,10 @@ def things(case, is_script):
 
 
 def sample(sweeps):
-    """Has all sweeps be sampled but those that show something first."""
+    """Has all sweeps be sampled but those that show something first. What a large case shows counts for none, since it is never
+    tried whole."""
     seen = set()
-    for sweep in sorted(sweeps, key=lambda it: len(it.case.text) + len(it.case.printed)):
+    for sweep in sorted((it for it in sweeps if not it.case.is_large), key=lambda it: len(it.all)):
         kind = sweep.name.replace(sweep.case.name, "")
         shown = {(kind, *it) for it in things(sweep.case, kind.startswith("calls of"))}
         sweep.is_sampled = shown <= seen

@@ -8,7 +8,7 @@ from concurrent.futures import ThreadPoolExecutor
 
 import preload
 
-BATCH = 1000  # faults that one process tries
+BATCH = 500  # faults that one process tries
 AT_ONCE = os.cpu_count()
 FIRST, STRIDE = 8, 97
 
@@ -24,9 +24,18 @@ class Sweep:
         self.name, self.program, self.library, self.case, self.faults = name, program, library, case, faults
         self.numbers, self.judge, self.judge_first = numbers, judge, judge_first or (lambda first: None)
         self.unit, self.ends_unmet, self.is_sampled = unit, ends_unmet, False
+        self.first, self.all, self.error = None, [], None
 
     def run(self, numbers=()):
         return preload.ends(self.program, self.library, self.case, numbers, **self.faults)
+
+    def begin(self):
+        """Runs it without a fault, and finds which faults there are."""
+        try:
+            self.first = self.run()[0]
+            self.all = list(self.numbers(self.first))
+        except OSError as error:
+            self.error = str(error)
 
     def said_of(self, first, end):
         said = self.judge(first, end)
@@ -52,45 +61,36 @@ class Sweep:
             tried += 1
 
 
-def sample(numbers):
-    return [number for at, number in enumerate(numbers) if at < FIRST or at % STRIDE == 0 or at == len(numbers) - 1]
+    def chosen(self):
+        count = len(self.all)
+        return [it for at, it in enumerate(self.all) if not self.is_sampled or at < FIRST or at % STRIDE == 0 or at == count - 1]
 
-
-class Running:
-    """A sweep in a pool of threads."""
-
-    def __init__(self, pool, sweep):
-        self.pool, self.sweep = pool, sweep
-        self.begun = pool.submit(self.begin)
-
-    def begin(self):
-        first = self.sweep.run()[0]
-        there_are = list(self.sweep.numbers(first))
-        numbers = sample(there_are) if self.sweep.is_sampled else there_are
-        batches = [numbers[at : at + BATCH] for at in range(0, len(numbers), BATCH)]
-        return first, len(numbers), len(there_are), [self.pool.submit(self.sweep.judge_batch, it) for it in batches]
-
-    def result(self):
-        """How many faults were tried, of how many, and what is said of the sweep."""
-        first, asked, of, judging = self.begun.result()
+    def result(self, asked, judging):
+        """What was tried, and what is said of the sweep, once it has begun and parts of the faults that are asked for are judged."""
         given = [it.result() for it in judging]
-        tried = sum(count for count, _ in given)
-        said = self.sweep.judge_first(first) or next((said for _, said in given if said), None)
-        if not said and self.sweep.ends_unmet:
-            more, said = self.sweep.judge_unmet(first, of + 1)
-            tried, of, asked = tried + more, of + more, asked + more
+        tried, count = sum(count for count, _ in given), len(self.all)
+        said = self.judge_first(self.first) or next((said for _, said in given if said), None)
+        if not said and self.ends_unmet:
+            more, said = self.judge_unmet(self.first, count + 1)
+            tried, count, asked = tried + more, count + more, asked + more
         if not said and tried < asked:
             said = f"only {tried} of {asked} were tried"
-        return tried, of, said
+        return f"{tried} of {count} {self.unit}{'s' * (count != 1)}" if count else "", said
 
 
-def judged(sweeps):
-    """Names with what was tried and what is said of them, each as soon as it and those before it are known."""
+def judged(sweeps, choose):
+    """Names with what was tried and what is said of them, each as soon as it and those before it are known. `choose` is called with
+    the sweeps once it is known which faults there are."""
     with ThreadPoolExecutor(AT_ONCE) as pool:
-        for running in [Running(pool, sweep) for sweep in sweeps]:
+        list(pool.map(Sweep.begin, sweeps))
+        choose(sweeps)
+        running = []
+        for sweep in sweeps:
+            numbers = [] if sweep.error else sweep.chosen()
+            parts = [numbers[at : at + BATCH] for at in range(0, len(numbers), BATCH)]
+            running.append((sweep, len(numbers), [pool.submit(sweep.judge_batch, it) for it in parts]))
+        for sweep, asked, judging in running:
             try:
-                tried, of, said = running.result()
-                unit = running.sweep.unit + "s" * (of != 1)
-                yield running.sweep.name, f"{tried} of {of} {unit}" if of else "", said
+                yield sweep.name, *(sweep.result(asked, judging) if not sweep.error else ("", sweep.error))
             except OSError as error:
-                yield running.sweep.name, "", str(error)
+                yield sweep.name, "", str(error)
