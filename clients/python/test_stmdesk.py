@@ -2100,7 +2100,7 @@ class Explorations(OnProgram):
 
 class Package(OnProgram):
     def test_its_version_is_the_program_s(self):
-        source = REPOSITORY / "crates" / "stm_console" / "src" / "version.rt"
+        source = REPOSITORY / "crates" / "stm_words" / "src" / "version.rt"
         if not source.exists():
             self.skipTest("the program has no version here")
         found = re.search(r'VERSION: &str = "(.*)"', source.read_text())

@@ -5,8 +5,6 @@ use Rattle.std.proofs.lemmas.Bool.Decides.{nat_tests}
 use Rattle.stm_terms.specs.declared.values.Value.{Value}
 use Rattle.stm_terms.specs.declared.verdicts.Verdict.{Verdict}
 use Rattle.stm_store.specs.Tables.{Declared}
-use Rattle.stm_eval.specs.declared.message.Evaluated.{Evaluated}
-use Rattle.stm_eval.specs.EvaluatedFields.{message_ticket, message_verdict}
 use Rattle.stm_queue.specs.Queue.{Entry, tickets, has_ticket, queued, without_ticket}
 use Rattle.stm_queue.specs.SortedTickets.{RisesAbove, IsRising}
 use Rattle.stm_queue.proofs.Membership.{in_queue}

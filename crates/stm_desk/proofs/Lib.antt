@@ -1,5 +1,9 @@
 pub mod Calls
+pub mod Causes
 pub mod Evaluating
+pub mod EventsSince
+pub mod ReadValues
+pub mod ReasonsTold
 pub mod Ripe
 pub mod Runs
 pub mod Settles

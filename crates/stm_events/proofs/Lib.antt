@@ -3,6 +3,7 @@ pub mod Folds
 pub mod Fresh
 pub mod Headline
 pub mod Kept
+pub mod Ready
 pub mod Rising
 pub mod Rounds
 pub mod Serial

@@ -1,19 +1,11 @@
 -- The store stays well typed, and so do the blocks that wait.
-use Rattle.std.proofs.Common.{◌≡◌, ℕ, Bool, true, false, cond, List, [], ◌∷◌, ◌++◌, map, Option, Some, None, Result, Ok, Err, refl, sym, subst}
+use Rattle.std.proofs.Common.{◌≡◌, ℕ, Bool, true, false, cond, List, [], ◌∷◌, ◌++◌, map, Option, Some, None, refl, sym, subst}
 use Rattle.std.specs.Prelude.{nat_eq, IsSomeAnd}
 use Rattle.stm_terms.specs.declared.verdicts.Verdict.{Verdict}
-use Rattle.stm_terms.specs.Ast.{Act}
-use Rattle.stm_terms.specs.ParsedAst as raw
-use Rattle.stm_terms.specs.Typing.{ActionType, uses_of}
 use Rattle.stm_store.specs.declared.cell.Cell.{Cell}
 use Rattle.stm_store.specs.Cells.{plains, StoreIsTyped, applied}
-use Rattle.stm_store.specs.Tables.{Declared}
 use Rattle.stm_store.proofs.ApplyPreservesTyping.{applied_typed}
 use Rattle.stm_store.proofs.Opening.{plains-opened}
-use Rattle.stm_check.specs.CheckFunction.{checked, table_kinds}
-use Rattle.stm_check.specs.TypedBlock.{Block}
-use Rattle.stm_check.specs.declared.fault.TypeFault.{TypeFault}
-use Rattle.stm_check.proofs.TypedBlockInvariant.{kept_type}
 use Rattle.stm_check.proofs.TypingLaws.{every_verdict_fits}
 use Rattle.stm_check.proofs.Weakening.{verdict_fits}
 use Rattle.stm_events.specs.declared.event.Event.{Event}

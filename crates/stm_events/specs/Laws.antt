@@ -1,5 +1,5 @@
 -- What holds after every legal history, by either rule of what makes blocks stale.
-use Rattle.std.specs.Prelude.{◌≡◌, ℕ, ◌<◌, ◌≤◌, ◌+◌, false, length, List, [], ◌∷◌, ◌++◌, Some, Ok}
+use Rattle.std.specs.Prelude.{◌≡◌, ℕ, ◌<◌, ◌≤◌, ◌+◌, false, length, List, [], ◌∷◌, ◌++◌, Some}
 use Rattle.stm_terms.specs.declared.kinds.Ty.{Ty}
 use Rattle.stm_terms.specs.declared.values.Value.{Value}
 use Rattle.stm_terms.specs.declared.verdicts.Verdict.{Verdict}

@@ -3,6 +3,7 @@
 
 ghost use Rattle.stm_events.specs.declared.staleness.StalenessRule.{StalenessRule as AnyRule};
 ghost use Rattle.stm_events.specs.Headline.{Headline, HeadlineBy};
+ghost use Rattle.stm_events.specs.Ready.{ReadyFinishesNext};
 ghost use Rattle.stm_events.specs.Rounds.{SettlingIsRounds};
 ghost use Rattle.stm_events.specs.Laws.{TicketsRise, BlocksAreCovered, CurrentHolds, StoreIsSerial, WeakIsPresent};
 ghost use Rattle.stm_events.specs.Laws.{DeclaredAreCovered, BlocksStay};
@@ -46,6 +47,11 @@ pub fn weak_is_present()
 /// the lowest block that doesn't block is finished.
 pub fn settling_is_rounds()
     ensures { SettlingIsRounds }
+{}
+
+/// While no block is new or stale, the lowest block that could finish now is the one that settling finishes.
+pub fn ready_finishes_next()
+    ensures { ReadyFinishesNext }
 {}
 
 /// What the declared variables cover stays covered.

@@ -162,6 +162,14 @@ moves_install rule table history m watch' message c truth q =
     moves_to rule table history m _ (Installed t h.verdict) k c.room may
     (stands_install rule s m.store m.next m.entries m.pending m.watch watch' t a.one h k.stands a.found a.may.stale holds q)
 
+-- its ticket is queued or out
+pub install_queued : (rule : StalenessRule) (table : List Declared) (history : List Event) (m : Parts) (message : Evaluated) → CanInstallBy rule table history m message → has_ticket (message_ticket message) m.pending ≡ true
+install_queued rule table history m message c =
+    let s = state_by rule table history in
+    let t = message_ticket message in
+    let a : Accepted s false t (message_block message) (message_reads message) = accepted s false t (message_block message) (message_reads message) c.allowed c.same in
+    c.stands.stands.queue t ∙ ap due_of a.found ∙ ap not a.may.stale
+
 -- ---- the queue after a message that was overtaken
 pub has_left : (u t : ℕ) (e : DeliverError) (es : List Entry) → has_ticket u (pending_left e t es) ≡ has_ticket u es
 has_left u t (deliver.Overtaken i) es = has_marked u t false es

@@ -12,9 +12,7 @@ pub mod Calls
 pub mod Delivery
 pub mod Finishing
 pub mod Heads
-pub mod Marks
 pub mod Moves
 pub mod Reading
-pub mod Ripe
+pub mod Ready
 pub mod Taking
-pub mod TicketLists

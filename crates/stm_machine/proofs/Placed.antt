@@ -9,7 +9,7 @@ use Rattle.std.proofs.lemmas.List.{drop_all, take_all}
 use Rattle.stm_machine.specs.declared.waiting.Held.{Held}
 use Rattle.stm_machine.specs.declared.waiting.Waiting.{Waiting}
 use Rattle.stm_machine.specs.declared.places.Slot.{Slot}
-use Rattle.stm_machine.specs.Entries.{kept_at, kept, lose, with_held, AllBelow, first_above, kept_ends, ends_under}
+use Rattle.stm_machine.specs.Entries.{kept_at, kept, lose, with_held, AllBelow, first_above}
 use Rattle.stm_machine.specs.Places.{waiting_in, waiting_found, held_at, listed, entries_from, OtherTicketsStay, one_of, chunk_count, AreInPlace}
 use Rattle.stm_terms.specs.declared.verdicts.Verdict.{Verdict}
 
@@ -195,54 +195,10 @@ pub held_length : (t : ℕ) (held : Held) (es : List (ℕ × Waiting)) → lengt
 held_length t held [] = refl
 held_length t held (e ∷ es) = held_step (nat_eq t e.0) (e.0, kept held e.1) e es (with_held t held es) (held_length t held es)
 
--- ---- a verdict that ends
-any_more : (t n : ℕ) (o : Option Waiting) (es : List (ℕ × Waiting)) → ends_under t (listed n o es) ≡ ((nat_eq t n && kept_ends o) || ends_under t es)
-any_more t n None es = grind arith
-any_more t n (Some w) es = refl
-
-no_end : (a : Bool) → (a && false) ≡ true → false ≡ true
-no_end true h = h
-no_end false h = h
-
-either : (a b c : Bool) → (a ≡ true → c ≡ true) → (b ≡ true → c ≡ true) → (a || b) ≡ true → c ≡ true
-either true b c f g h = f refl
-either false b c f g h = g h
-
-none_above : (t n : ℕ) (ps : List ℕ) (s : List Slot) → t < n → ends_under t (entries_from n ps s) ≡ true → false ≡ true
-none_above t n [] s l h = h
-none_above t n (p ∷ ps) s l h =
-    let e : nat_eq t n ≡ false = grind (arith, nat_tests) in
-    none_above t (suc n) ps s (omega arith) (rw e at (sym (any_more t n (held_at n p s) (entries_from (suc n) ps s)) ∙ h))
-
-end_here : (b : Bool) (t n p : ℕ) (s : List Slot) (rest : Bool) → n ≡ t → (rest ≡ true → false ≡ true) → ((b && kept_ends (held_at n p s)) || rest) ≡ true → kept_ends (held_at t p s) ≡ true
-end_here true t n p s rest e none h = ap (λ (m : ℕ). kept_ends (held_at m p s)) (sym e) ∙ either (kept_ends (held_at n p s)) rest (kept_ends (held_at n p s)) (λ x. x) (λ x. absurd (false≢true (none x))) h
-end_here false t n p s rest e none h = absurd (false≢true (none h))
-
-ends_from : (t n k : ℕ) (ps : List ℕ) (s : List Slot) → t ≡ n + k → ends_under t (entries_from n ps s) ≡ true → kept_ends (held_at t (get_or ps k 0) s) ≡ true
-ends_from t n k [] s e h = absurd (false≢true h)
-ends_from t n zero (p ∷ ps) s e h =
-    let same : n ≡ t = omega arith in
-    end_here (nat_eq t n) t n p s (ends_under t (entries_from (suc n) ps s)) same (none_above t (suc n) ps s (omega arith)) (sym (any_more t n (held_at n p s) (entries_from (suc n) ps s)) ∙ h)
-ends_from t n (suc k) (p ∷ ps) s e h =
-    let f : nat_eq t n ≡ false = grind (arith, nat_tests) in
-    ends_from t (suc n) k ps s (omega arith) (rw f at (sym (any_more t n (held_at n p s) (entries_from (suc n) ps s)) ∙ h))
-
-pub ends_at_place : (t : ℕ) (ps : List ℕ) (s : List Slot) → ends_under t (entries_from 0 ps s) ≡ true → kept_ends (held_at t (get_or ps t 0) s) ≡ true
-ends_at_place t ps s h = ends_from t 0 t ps s (omega arith) h
-
 past : (ps : List ℕ) (t : ℕ) → length ps ≤ t → get_or ps t 0 ≡ 0
 past [] t h = refl
 past (p ∷ ps) zero h = absurd (omega arith)
 past (p ∷ ps) (suc t) h = past ps t (omega arith)
-
-within_by : (b : Bool) (t : ℕ) (ps : List ℕ) (s : List Slot) → nat_lt t (length ps) ≡ b → kept_ends (held_at t (get_or ps t 0) s) ≡ true → t < length ps
-within_by true t ps s e h = grind (arith, nat_tests)
-within_by false t ps s e h =
-    let l : length ps ≤ t = grind (arith, nat_tests) in
-    absurd (false≢true (sym (ap (λ (p : ℕ). kept_ends (held_at t p s)) (past ps t l)) ∙ h))
-
-pub ends_within : (t : ℕ) (ps : List ℕ) (s : List Slot) → kept_ends (held_at t (get_or ps t 0) s) ≡ true → t < length ps
-ends_within t ps s h = within_by (nat_lt t (length ps)) t ps s refl h
 
 some_within : (b : Bool) (t : ℕ) (ps : List ℕ) (s : List Slot) → nat_lt t (length ps) ≡ b → (kept_at t (entries_from 0 ps s) ≡ None → ⊥) → t < length ps
 some_within true t ps s e n = grind (arith, nat_tests)
@@ -366,14 +322,6 @@ chunk_count_some t w es h =
 none_of : (t : ℕ) (o : Option Waiting) (es : List (ℕ × Waiting)) → kept_at t es ≡ o → chunk_count (t / 1024) es ≡ 0 → is_some o ≡ false
 none_of t None es h e = refl
 none_of t (Some w) es h e = let l : 1 ≤ chunk_count (t / 1024) es = chunk_count_some t w es h in absurd (omega arith)
-
-ends_some : (o : Option Waiting) → is_some o ≡ false → kept_ends o ≡ true → false ≡ true
-ends_some None h e = e
-ends_some (Some w) h e = cc
-
--- where no block of the chunk waits, none ends
-pub chunk_ends : (t : ℕ) (ps : List ℕ) (s : List Slot) → chunk_count (t / 1024) (entries_from 0 ps s) ≡ 0 → kept_ends (held_at t (get_or ps t 0) s) ≡ true → false ≡ true
-chunk_ends t ps s e h = ends_some (held_at t (get_or ps t 0) s) (none_of t (held_at t (get_or ps t 0) s) (entries_from 0 ps s) (kept_entries t ps s) e) h
 
 chunk_count_length : (b : ℕ) (es : List (ℕ × Waiting)) → chunk_count b es ≤ length es
 chunk_count_length b [] = omega arith

@@ -76,7 +76,3 @@ held_ends (Some h) = not (is_blocks h.verdict)
 abbrev pub kept_ends : Option Waiting → Bool
 kept_ends None = false
 kept_ends (Some w) = held_ends w.held
-
--- some block kept under the ticket does so
-abbrev pub ends_under : ℕ → List (ℕ × Waiting) → Bool
-ends_under t es = list_any (λ e. nat_eq t e.0 && held_ends e.1.held) es

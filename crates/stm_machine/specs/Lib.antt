@@ -6,8 +6,8 @@ pub mod JobsHandedOut
 pub mod Keeping
 pub mod Machine
 pub mod MachineInvariant
-pub mod Marks
 pub mod Places
 pub mod Plans
 pub mod QueueAndIndex
+pub mod ReadySet
 pub mod SettleChoices

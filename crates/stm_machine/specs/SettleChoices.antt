@@ -18,22 +18,3 @@ next_due s = option_map (λ w. w.ticket) (lowest is_due s.waiters)
 -- the lowest ticket whose block doesn't block on the present store
 abbrev pub next_end : Slow → Option ℕ
 next_end s = option_map (λ w. w.ticket) (lowest (can_end s.store) s.waiters)
-
--- a block had a verdict at its last delivery that doesn't block
-abbrev pub ended_since : Block → Option Since → Bool
-ended_since block None = false
-ended_since block (Some s) = ends (verdict_on s.store_then block)
-
--- the same of a waiting block, if there is one
-abbrev pub ended_then : Option Waiter → Bool
-ended_then None = false
-ended_then (Some w) = ended_since w.block w.since
-
--- a block waits that is current, and can end
-abbrev pub is_ripe : Option Waiter → Bool
-is_ripe None = false
-is_ripe (Some w) = is_current w && ended_since w.block w.since
-
--- each ticket of a block that is current and can end is among these
-abbrev pub AreCandidates : Slow → List ℕ → Type 0
-AreCandidates s cs = (t : ℕ) → is_ripe (find_waiter t s.waiters) ≡ true → member t cs ≡ true

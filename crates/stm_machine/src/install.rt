@@ -1,6 +1,6 @@
 //! A message of an evaluator.
 
-ghost use Rattle.std.specs.Prelude.{◌≡◌, List, IfOk, OnOk, IfErr, OnErr, IsTrue, ◌↔◌, IsSomeAnd};
+ghost use Rattle.std.specs.Prelude.{◌≡◌, ◌<◌, List, IfOk, OnOk, IfErr, OnErr, IsTrue, ◌↔◌, IsSomeAnd};
 ghost use Rattle.stm_terms.specs.Value.{same_value};
 ghost use Rattle.stm_store.specs.Tables.{Declared};
 ghost use Rattle.stm_watch.specs.Pairs.{WithReads};
@@ -13,12 +13,17 @@ ghost use Rattle.stm_events.specs.SlowDesk.{under, find_waiter, state_by};
 ghost use Rattle.stm_machine.specs.Machine.{StandsForBy, CanInstallBy, MovesToBy};
 ghost use Rattle.stm_events.specs.Refusals.{differing, has_value, install_told, TellsDelivery};
 
-use stm_events::errors::DeliverError;
 use crate::machine::Machine;
+<<<<<<< HEAD
+=======
 use stm_events::shared_verdict::SharedVerdict;
+use crate::ticket_set::TicketSet;
+>>>>>>> h/ready
 use crate::waiting::{Held, Waiting};
 use std::alloc::Global;
 use stm_eval::Evaluated;
+use stm_events::errors::DeliverError;
+use stm_events::shared_verdict::SharedVerdict;
 use stm_store::Store;
 use stm_terms::NoMemory;
 use stm_terms::values::Value;
@@ -72,20 +77,25 @@ fn watch_reads(watch: &mut Watch, message: &Evaluated) -> Result<(), NoMemory>
     watch.add(message.ticket(), message.reads().as_slice())
 }
 
-/// What installing the message takes: two holds on its verdict, and that its ticket watches what its block read.
+/// What installing the message takes: two holds on its verdict, room for its ticket in the set of those that could finish, and
+/// that its ticket watches what its block read.
 fn take_memory(
     alloc: Global,
     watch: &mut Watch,
+    ready: &mut TicketSet,
     message: &Evaluated,
 ) -> Result<(SharedVerdict, SharedVerdict), NoMemory>
     ensures verdicts { IfOk result (λ p. (p.0 ≡ message_verdict message.now)
         × (p.1 ≡ message_verdict message.now)) }
     ensures watch { OnOk result
         (WithReads watch.old (message_ticket message.now) (message_reads message.now) watch.new) }
+    ensures ready { ready.new.tickets ≡ ready.old.tickets }
+    ensures room { OnOk result (0 < ready.new.room) }
     ensures err { OnErr result (watch.new ≡ watch.old) }
 {
     let verdict = SharedVerdict::of_copy(alloc, message.verdict())?;
     let other = verdict.share()?;
+    ready.make_room()?;
     match watch_reads(watch, message) {
         Ok(()) => Ok((verdict, other)),
         Err(refused) => Err(refused),
@@ -142,10 +152,11 @@ impl Machine {
         ensures back { IfErr result (λ e. e.0 ≡ message) }
         ensures err { OnErr result (self.new ≡ self.old) }
     {
-        match take_memory(self.alloc, &mut self.watch, &message) {
+        match take_memory(self.alloc, &mut self.watch, &mut self.ready, &message) {
             Ok((verdict, told)) => {
                 let ticket = message.ticket();
                 let (reads, _) = message.into_parts();
+                self.ready.add_if(!verdict.blocks(), ticket);
                 self.waiting.hold(ticket, Held { reads, verdict });
                 let _ = self.pending.remove(ticket);
                 Ok(told)

@@ -1,7 +1,6 @@
 //! The machine: what a history leads to, with kept reads and verdicts, a queue and an index.
 //!
-//! No call of `Machine` goes over all waiting blocks (`ending` looks near those that had a verdict which doesn't block). Its
-//! contracts range over every table and history that it stands for (`specs/Machine`). A desk is a machine with a list of its
+//! No call of `Machine` goes over all waiting blocks. Its contracts range over every table and history that it stands for (`specs/Machine`). A desk is a machine with a list of its
 //! events; a checker is a machine alone.
 #![tactic(auto)]
 
@@ -13,11 +12,10 @@ pub mod machine;
 mod places;
 pub mod queue_moves;
 pub mod shown;
-pub mod ticket_set;
+mod ticket_set;
 pub mod turns;
 pub mod wait;
 pub mod waiting;
 
 pub use finish::Plan;
 pub use machine::Machine;
-pub use ticket_set::TicketSet;

@@ -4,6 +4,7 @@ ghost use Rattle.std.specs.Prelude.{◌≡◌, List, [], IfOk};
 ghost use Rattle.stm_events.specs.declared.staleness.StalenessRule.{StalenessRule as AnyRule};
 ghost use Rattle.stm_machine.specs.Machine.{StandsForBy};
 
+use crate::ticket_set::TicketSet;
 use crate::waiting::WaitingBlocks;
 use std::alloc::Global;
 use std::marker::Model;
@@ -13,7 +14,7 @@ use stm_terms::NoMemory;
 use stm_watch::Watch;
 
 /// What a history leads to: the store, the next ticket, the waiting blocks with what their last deliveries brought, the
-/// tickets that are queued or out, and which tickets watch which variables. It keeps no events.
+/// tickets that are queued or out, which tickets watch which variables, and which blocks could finish now. It keeps no events.
 pub struct Machine {
     pub(crate) alloc: Global,
     pub(crate) store: Store,
@@ -21,6 +22,8 @@ pub struct Machine {
     pub(crate) waiting: WaitingBlocks,
     pub(crate) pending: Pending,
     pub(crate) watch: Watch,
+    // The blocks that are current and don't block.
+    pub(crate) ready: TicketSet,
 }
 
 // Written out, and not derived, so that the proof of each owner calls it once.
@@ -33,6 +36,7 @@ impl Drop for Machine {
             waiting: _,
             pending: _,
             watch: _,
+            ready: _,
         } = self;
     }
 }
@@ -42,6 +46,7 @@ impl Model for Machine {
     ghost use Rattle.stm_terms.specs.TreeEncoding.{act_code};
     ghost use Rattle.stm_machine.specs.IndexEncoding.{pairs_code};
     ghost use Rattle.stm_machine.specs.Machine.{Parts};
+    ghost use Rattle.stm_machine.specs.ReadySet.{AreReady};
 
     ghost Value = { Parts };
 
@@ -54,6 +59,8 @@ impl Model for Machine {
       pending = m.pending.entries;
       watch = m.watch;
     } };
+
+    ghost invariant = { λ m. AreReady m.ready.tickets m.waiting m.pending.entries };
 }
 
 impl Machine {
@@ -72,6 +79,7 @@ impl Machine {
             waiting: WaitingBlocks::empty(alloc),
             pending: Pending::empty(alloc),
             watch: Watch::empty(alloc),
+            ready: TicketSet::empty(alloc),
         })
     }
 }

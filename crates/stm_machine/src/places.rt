@@ -6,18 +6,21 @@
 ghost use Rattle.std.specs.Prelude.{◌≡◌, ℕ, List, ◌+◌, ◌/◌, ◌<◌, ◌≤◌, ◌^◌, ◌&&◌, ◌||◌, Some, None, true, false, nat_eq, length, max, slice_index_or, option_map, IsTrue, IfOk, OnOk, OnErr};
 ghost use Rattle.std.specs.Option.{option_copied};
 ghost use Rattle.std.specs.Vec.{vec_len};
-ghost use Rattle.stm_queue.specs.SortedTickets.{member};
-ghost use Rattle.stm_machine.specs.Entries.{kept, kept_ends, first_above};
+ghost use Rattle.stm_machine.specs.Entries.{kept, first_above};
 ghost use Rattle.stm_machine.specs.FreshReads.{AreFresh, AreFreshFor};
 ghost use Rattle.stm_machine.specs.Places.{waiting_in, with_owned, held_at, entries_from, OtherTicketsStay, one_of, chunk_count};
 ghost use Rattle.stm_machine.specs.declared.places.Slot.{Slot};
 
-use stm_events::shared_verdict::SharedVerdict;
+<<<<<<< HEAD
 use crate::ticket_set::TicketSet;
+=======
+use stm_events::shared_verdict::SharedVerdict;
+>>>>>>> h/ready
 use crate::waiting::{Held, Waiting, keep, keep_reads};
 use std::alloc::AllocError as NoMemory;
 use stm_check::SharedBlock;
 use stm_eval::Scratch;
+use stm_events::shared_verdict::SharedVerdict;
 use stm_log::Reads;
 
 /// A slot. `number` is the ticket of the block in it; in an unused slot it is a place that may be unused too.
@@ -347,89 +350,4 @@ pub(crate) fn next_held(
         }
     }
     None
-}
-
-/// For this many tickets in a row it is kept whether a verdict that doesn't block was ever brought to one of them.
-const MARKED: usize = 256;
-
-/// Makes the list of marks long enough for a ticket.
-pub(crate) fn reach_mark(marks: &mut Vec<bool>, ticket: u32) -> Result<(), NoMemory>
-    ensures reached { OnOk result (ticket / 256 < vec_len marks.new) }
-    ensures longer { vec_len marks.old ≤ vec_len marks.new }
-    ensures same { (b : ℕ) → slice_index_or marks.new.items b false ≡ slice_index_or marks.old.items b false }
-{
-    let len = ticket as usize / MARKED + 1;
-    if marks.len() < len {
-        marks.resize(len, false)?;
-    }
-    Ok(())
-}
-
-/// Marks the tickets around this one, if it is wanted.
-pub(crate) fn mark_if(marks: &mut Vec<bool>, wanted: bool, ticket: u32)
-    ensures set { wanted ≡ true → ticket / 256 < vec_len marks.old
-        → slice_index_or marks.new.items (ticket / 256) false ≡ true }
-    ensures keeps { (b : ℕ) → slice_index_or marks.old.items b false ≡ true
-        → slice_index_or marks.new.items b false ≡ true }
-    ensures len { vec_len marks.new ≡ vec_len marks.old }
-{
-    let at = ticket as usize / MARKED;
-    if wanted && at < marks.len() {
-        marks[at] = true;
-    }
-}
-
-/// Whether the tickets around this one are marked.
-fn is_marked(marks: &[bool], ticket: usize) -> bool
-    ensures { result ≡ slice_index_or marks.now (ticket / 256) false }
-{
-    match marks.get(ticket / MARKED) {
-        Some(marked) => *marked,
-        None => false,
-    }
-}
-
-/// Adds the tickets of the blocks whose last delivery brought a verdict that doesn't block. Tickets that aren't marked are skipped,
-/// and those of chunks in which no block waits.
-pub(crate) fn add_ending(
-    places: &[u32],
-    slots: &[Slot],
-    chunk_counts: &[usize],
-    marks: &[bool],
-    tickets: &mut TicketSet,
-) -> Result<(), NoMemory>
-    requires short { length places.now ≤ 2 ^ 32 }
-    requires by_chunk { (b : ℕ) → slice_index_or chunk_counts.now b 0
-        ≡ chunk_count b (entries_from 0 places.now slots.now) }
-    ensures { OnOk result ((t : ℕ) → t < length places.now
-        → slice_index_or marks.now (t / 256) false ≡ true
-        → kept_ends (held_at t (slice_index_or places.now t 0) slots.now) ≡ true
-        → member t tickets.new ≡ true) }
-{
-    let mut ticket: usize = 0;
-    while ticket < places.len() {
-        if is_marked(marks, ticket) && chunk_has_waiting(chunk_counts, ticket) {
-            let waiting = held_at(slots, places[ticket], ticket as u32);
-            add_if_ends(waiting, ticket as u32, tickets)?;
-            ticket += 1;
-        } else {
-            ticket = (ticket / MARKED + 1) * MARKED;
-        }
-    }
-    Ok(())
-}
-
-fn add_if_ends(
-    waiting: Option<&Waiting>,
-    ticket: u32,
-    tickets: &mut TicketSet,
-) -> Result<(), NoMemory>
-    ensures keeps { (u : ℕ) → member u tickets.old ≡ true → member u tickets.new ≡ true }
-    ensures added { OnOk result (kept_ends (option_copied waiting.entry) ≡ true
-        → member ticket tickets.new ≡ true) }
-{
-    match waiting {
-        Some(waiting) => tickets.add_if(waiting.ends(), ticket),
-        None => Ok(()),
-    }
 }

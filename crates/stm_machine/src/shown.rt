@@ -8,6 +8,7 @@ ghost use Rattle.stm_queue.specs.SortedTickets.{IsRising};
 ghost use Rattle.stm_events.specs.declared.event.Event.{Event};
 ghost use Rattle.stm_events.specs.declared.staleness.StalenessRule.{StalenessRule as AnyRule};
 ghost use Rattle.stm_events.specs.SlowDesk.{Waiter, is_current, find_waiter, standing, initial_state, state_by, serial, finished_from_by, max_waiting};
+ghost use Rattle.stm_events.specs.Ready.{next_ready};
 ghost use Rattle.stm_events.specs.SlowSettle.{lowest};
 ghost use Rattle.stm_machine.specs.Machine.{StandsForBy};
 ghost use Rattle.stm_machine.specs.QueueAndIndex.{QueueIsRight};
@@ -15,8 +16,8 @@ ghost use Rattle.stm_events.specs.BlockStatus.{shown, read_then, read_now};
 ghost use Rattle.stm_machine.specs.JobsHandedOut.{block_at};
 
 use crate::machine::Machine;
-use stm_events::status::Status;
 use stm_check::SharedBlock;
+use stm_events::status::Status;
 use stm_store::Store;
 use stm_terms::values::Value;
 
@@ -109,5 +110,14 @@ impl Machine {
             (lowest (λ w. nat_lt after w.ticket) (state_by R T H).waiters) }
     {
         self.waiting.first_above(after)
+    }
+
+    /// The lowest ticket above this one of a block that could finish now: it is current, and its verdict isn't `Blocks`. The others
+    /// cost nothing, however many wait.
+    pub fn next_ready(&self, after: u32) -> Option<u32>
+        ensures { (R : AnyRule) (T : List Declared) (H : List Event) → StandsForBy R T H self.now
+            → result ≡ next_ready after (state_by R T H) }
+    {
+        self.ready.next_above(after)
     }
 }

@@ -1,83 +1,92 @@
-//! A set of tickets. Settling keeps in one the blocks that may be able to finish.
+//! A set of tickets. The machine keeps in one the blocks that could finish now.
 
-ghost use Rattle.std.specs.Prelude.{◌≡◌, ℕ, ◌≤◌, ◌||◌, [], true, drop, nat_eq, slice_get, IfSome, OnOk, OnErr};
-ghost use Rattle.stm_queue.specs.SortedTickets.{member};
+ghost use Rattle.std.specs.Prelude.{◌≡◌, ℕ, ◌<◌, ◌&&◌, ◌||◌, [], false, not, nat_eq, OnOk};
+ghost use Rattle.std.specs.List.{list_any};
+ghost use Rattle.stm_queue.specs.SortedTickets.{member, next_after, IsRising};
 
 use std::alloc::{AllocError as NoMemory, Global};
 use std::collections::VecDeque;
 use std::marker::Model;
-use stm_queue::sorted::{has_ticket_in, put_in};
+use stm_queue::sorted::{has_ticket_in, next_in, put_in, take_out};
 
-/// Tickets, rising.
+/// Tickets, ascending. Beside them it keeps room for more: room is got by `make_room` and used by `add_if`, and no other call
+/// takes memory.
 #[derive(Drop)]
-pub struct TicketSet {
+pub(crate) struct TicketSet {
     tickets: VecDeque<u32>,
 }
 
 impl Model for TicketSet {
-    ghost use Rattle.std.specs.Prelude.{List, ℕ};
+    ghost use Rattle.std.specs.Prelude.{◌-◌};
+    ghost use Rattle.std.specs.VecDeque.{deque_len, deque_capacity};
     ghost use Rattle.stm_queue.specs.SortedTickets.{IsRising};
+    ghost use Rattle.stm_machine.specs.ReadySet.{TicketsAndRoom};
 
-    ghost Value = { List ℕ };
+    ghost Value = { TicketsAndRoom };
 
-    ghost view = { λ s. s.tickets.items };
+    ghost view = { λ s. record {
+      tickets = s.tickets.items;
+      room = deque_capacity s.tickets - deque_len s.tickets;
+    } };
 
     ghost invariant = { λ s. IsRising s.tickets.items };
 }
 
-fn lowest_in(tickets: &VecDeque<u32>) -> Option<u32>
-    ensures { result ≡ slice_get tickets.now.items 0 }
-{
-    match tickets.front() {
-        Some(ticket) => Some(*ticket),
-        None => None,
-    }
-}
-
 impl TicketSet {
     /// No ticket.
-    pub fn empty(alloc: Global) -> TicketSet
-        ensures { result ≡ [] }
+    pub(crate) fn empty(alloc: Global) -> TicketSet
+        ensures { result.tickets ≡ [] }
     {
         TicketSet {
             tickets: VecDeque::new(alloc),
         }
     }
 
-    /// The lowest ticket.
-    pub fn least(&self) -> Option<u32>
-        ensures first { result ≡ slice_get self.now 0 }
-        ensures least { IfSome result (λ t. (u : ℕ) → member u self.now ≡ true → t ≤ u) }
+    /// The lowest ticket above this one.
+    pub(crate) fn next_above(&self, after: u32) -> Option<u32>
+        ensures next { result ≡ next_after after self.now.tickets }
+        ensures rising { IsRising self.now.tickets }
     {
-        lowest_in(&self.tickets)
+        next_in(&self.tickets, after)
     }
 
-    /// The others.
-    pub fn drop_least(&mut self)
-        ensures { self.new ≡ drop 1 self.old }
+    /// Reserves room for one ticket more.
+    pub(crate) fn make_room(&mut self) -> Result<(), NoMemory>
+        ensures tickets { self.new.tickets ≡ self.old.tickets }
+        ensures room { OnOk result (0 < self.new.room) }
     {
-        let _ = self.tickets.pop_front();
-    }
-
-    /// One ticket more.
-    pub fn add(&mut self, ticket: u32) -> Result<(), NoMemory>
-        ensures ok { OnOk result ((u : ℕ)
-            → member u self.new ≡ (nat_eq u ticket || member u self.old)) }
-        ensures err { OnErr result (self.new ≡ self.old) }
-    {
-        if has_ticket_in(&self.tickets, ticket) {
-            return Ok(());
-        }
-        self.tickets.reserve(1)?;
-        put_in(&mut self.tickets, ticket);
-        Ok(())
+        self.tickets.reserve(1)
     }
 
     /// One ticket more, if it is wanted.
-    pub fn add_if(&mut self, wanted: bool, ticket: u32) -> Result<(), NoMemory>
-        ensures keeps { (u : ℕ) → member u self.old ≡ true → member u self.new ≡ true }
-        ensures added { OnOk result (wanted ≡ true → member ticket self.new ≡ true) }
+    pub(crate) fn add_if(&mut self, wanted: bool, ticket: u32)
+        requires absent { member ticket self.old.tickets ≡ false }
+        requires room { 0 < self.old.room }
+        ensures { (u : ℕ) → member u self.new.tickets
+            ≡ ((wanted && nat_eq u ticket) || member u self.old.tickets) }
     {
-        if wanted { self.add(ticket) } else { Ok(()) }
+        if wanted {
+            put_in(&mut self.tickets, ticket);
+        }
+    }
+
+    /// The ticket isn't in the set any more.
+    pub(crate) fn remove(&mut self, ticket: u32)
+        ensures { (u : ℕ) → member u self.new.tickets
+            ≡ (member u self.old.tickets && not (nat_eq u ticket)) }
+    {
+        if has_ticket_in(&self.tickets, ticket) {
+            let _ = take_out(&mut self.tickets, ticket);
+        }
+    }
+
+    /// These tickets aren't in the set any more.
+    pub(crate) fn remove_all(&mut self, tickets: &[u32])
+        ensures { (u : ℕ) → member u self.new.tickets
+            ≡ (member u self.old.tickets && not (list_any (nat_eq u) tickets.now)) }
+    {
+        for ticket in tickets {
+            self.remove(*ticket);
+        }
     }
 }

@@ -1,6 +1,6 @@
-//! What settling asks: who is to be evaluated next, what its block does, and which blocks end.
+//! What settling asks: who is to be evaluated next, and what its block does.
 
-ghost use Rattle.std.specs.Prelude.{◌≡◌, List, true, false, Some, IfOk, OnOk, OnErr, IfSome, IsSome, is_some, slice_get};
+ghost use Rattle.std.specs.Prelude.{◌≡◌, ◌<◌, List, true, false, Some, IfOk, OnOk, OnErr, IfSome, IsSome, is_some, slice_get};
 ghost use Rattle.stm_store.specs.Cells.{plains};
 ghost use Rattle.stm_store.specs.Tables.{Declared};
 ghost use Rattle.stm_queue.specs.Queue.{first_queued, queued, tickets, without_ticket};
@@ -9,10 +9,9 @@ ghost use Rattle.stm_watch.specs.Pairs.{WithReads};
 ghost use Rattle.stm_events.specs.declared.event.Event.{Event};
 ghost use Rattle.stm_events.specs.declared.event.What.{What as AnyWhat};
 ghost use Rattle.stm_events.specs.declared.staleness.StalenessRule.{StalenessRule as AnyRule};
-ghost use Rattle.stm_events.specs.SlowDesk.{Waiter, is_current, find_waiter, state_by};
-ghost use Rattle.stm_events.specs.SlowSettle.{can_end};
+ghost use Rattle.stm_events.specs.SlowDesk.{find_waiter, state_by};
 ghost use Rattle.stm_machine.specs.QueueAndIndex.{due_of};
-ghost use Rattle.stm_machine.specs.SettleChoices.{some_out, next_due, ended_then, AreCandidates};
+ghost use Rattle.stm_machine.specs.SettleChoices.{some_out, next_due};
 ghost use Rattle.stm_machine.specs.Machine.{StandsForBy, MovesToBy};
 ghost use Rattle.stm_machine.specs.Keeping.{IsVerdictUnder, CanKeepBy};
 ghost use Rattle.stm_machine.specs.JobsHandedOut.{IsPresent};
@@ -21,22 +20,24 @@ ghost use Rattle.stm_machine.specs.FreshReads.{AreFreshFor};
 
 use crate::machine::Machine;
 use crate::queue_moves::job_of;
-use stm_events::shared_verdict::SharedVerdict;
 use crate::ticket_set::TicketSet;
 use crate::waiting::WaitingBlocks;
 use std::alloc::Global;
 use stm_eval::{Evaluated, Scratch, evaluate, try_block_in};
+use stm_events::shared_verdict::SharedVerdict;
 use stm_log::Reads;
 use stm_store::Frozen;
 use stm_terms::NoMemory;
 use stm_terms::verdicts::Verdict;
 use stm_watch::Watch;
 
-/// What keeping a verdict takes: two holds on it, a list for what was read unless there is one, and that the ticket watches that.
+/// What keeping a verdict takes: two holds on it, a list for what was read unless there is one, room for the ticket in the set
+/// of those that could finish, and that the ticket watches what was read.
 fn memory_to_keep(
     alloc: Global,
     waiting: &WaitingBlocks,
     watch: &mut Watch,
+    ready: &mut TicketSet,
     ticket: u32,
     verdict: Verdict,
     scratch: &Scratch,
@@ -44,11 +45,14 @@ fn memory_to_keep(
     ensures verdicts { IfOk result (λ p. (p.0 ≡ verdict) × (p.1 ≡ verdict)) }
     ensures fresh { IfOk result (λ p. AreFreshFor p.2 (kept_at ticket waiting.now) scratch.now) }
     ensures watch { OnOk result (WithReads watch.old ticket scratch.now watch.new) }
+    ensures ready { ready.new.tickets ≡ ready.old.tickets }
+    ensures room { OnOk result (0 < ready.new.room) }
     ensures err { OnErr result (watch.new ≡ watch.old) }
 {
     let held = SharedVerdict::new(alloc, verdict)?;
     let told = held.share()?;
     let fresh = waiting.fresh_reads(ticket, scratch)?;
+    ready.make_room()?;
     match watch.add(ticket, scratch.as_slice()) {
         Ok(()) => Ok((held, told, fresh)),
         Err(refused) => Err(refused),
@@ -152,40 +156,19 @@ impl Machine {
             self.alloc,
             &self.waiting,
             &mut self.watch,
+            &mut self.ready,
             ticket,
             verdict,
             scratch,
         );
         match taken {
             Ok((held, told, fresh)) => {
+                self.ready.add_if(!held.blocks(), ticket);
                 self.waiting.hold_reads(ticket, fresh, scratch, held);
                 let _ = self.pending.remove(ticket);
                 Ok(told)
             }
             Err(refused) => Err(refused),
         }
-    }
-
-    /// Whether a block waits under the ticket whose last delivery brought a verdict that doesn't block.
-    pub fn ends(&self, ticket: u32) -> bool
-        ensures then { (R : AnyRule) (T : List Declared) (H : List Event)
-            → StandsForBy R T H self.now
-            → result ≡ ended_then (find_waiter ticket (state_by R T H).waiters) }
-        ensures present { (R : AnyRule) (T : List Declared) (H : List Event) (w : Waiter)
-            → StandsForBy R T H self.now → find_waiter ticket (state_by R T H).waiters ≡ Some w
-            → is_current w ≡ true → result ≡ can_end (state_by R T H).store w }
-    {
-        match self.waiting.get(ticket) {
-            None => false,
-            Some(waiting) => waiting.ends(),
-        }
-    }
-
-    /// The tickets of the blocks that are current and can end, and maybe others.
-    pub fn ending(&self) -> Result<TicketSet, NoMemory>
-        ensures { IfOk result (λ s. (R : AnyRule) (T : List Declared) (H : List Event)
-            → StandsForBy R T H self.now → AreCandidates (state_by R T H) s) }
-    {
-        self.waiting.ending(self.alloc)
     }
 }

@@ -1,21 +1,19 @@
 //! The blocks that wait, by their tickets.
 
-ghost use Rattle.std.specs.Prelude.{◌≡◌, ◌≢◌, ℕ, ◌++◌, ◌∷◌, [], true, None, length, IfOk, OnOk, OnErr};
-ghost use Rattle.stm_queue.specs.SortedTickets.{member};
+ghost use Rattle.std.specs.Prelude.{◌≡◌, ◌≢◌, ℕ, ◌++◌, ◌∷◌, [], None, length, IfOk, OnOk, OnErr};
 ghost use Rattle.std.specs.Option.{option_copied};
-ghost use Rattle.stm_machine.specs.Entries.{kept_at, kept, lose, with_held, AllBelow, held_reads, held_ends, ends_under, first_above};
+ghost use Rattle.stm_machine.specs.Entries.{kept_at, kept, lose, with_held, AllBelow, held_reads, first_above};
 ghost use Rattle.stm_machine.specs.FreshReads.{AreFresh, AreFreshFor};
 
 use crate::places::{
-    Slot, add_ending, decrement_chunk, fresh_at, held_at, hold_at, hold_reads_at, increment_chunk,
-    mark_if, next_held, place_of, put, reach, reach_chunk, reach_mark, take_at,
+    Slot, decrement_chunk, fresh_at, held_at, hold_at, hold_reads_at, increment_chunk, next_held,
+    place_of, put, reach, reach_chunk, take_at,
 };
-use stm_events::shared_verdict::SharedVerdict;
-use crate::ticket_set::TicketSet;
 use std::alloc::{AllocError as NoMemory, Global};
 use std::marker::Model;
 use stm_check::SharedBlock;
 use stm_eval::Scratch;
+use stm_events::shared_verdict::SharedVerdict;
 use stm_log::Reads;
 use stm_terms::values::Value;
 use stm_terms::verdicts::Verdict;
@@ -44,16 +42,6 @@ impl Waiting {
             None => &[],
         }
     }
-
-    /// Whether its last delivery brought a verdict that doesn't block.
-    pub fn ends(&self) -> bool
-        ensures { result ≡ held_ends self.now.held }
-    {
-        match &self.held {
-            None => false,
-            Some(held) => !held.verdict.blocks(),
-        }
-    }
 }
 
 /// The waiting blocks. Each is in a slot, and a table has the place of each ticket's slot. A slot that is left is used again.
@@ -67,20 +55,17 @@ pub(crate) struct WaitingBlocks {
     count: usize,
     // How many blocks wait in each chunk of 1,024 tickets.
     chunk_counts: Vec<usize>,
-    // For each 256 tickets, whether one of them ever had a verdict that doesn't block.
-    marks: Vec<bool>,
     // Lent for each verdict `Blocks` that is held.
     blocks: Verdict,
 }
 
 impl Model for WaitingBlocks {
-    ghost use Rattle.std.specs.Prelude.{◌≡◌, List, ℕ, length};
+    ghost use Rattle.std.specs.Prelude.{◌≡◌, List, ℕ};
     ghost use Rattle.std.specs.Coded.{codes};
     ghost use Rattle.stm_terms.specs.TreeEncoding.{act_code};
     ghost use Rattle.stm_terms.specs.declared.verdicts.Verdict.TheVariants.{Blocks};
     ghost use Rattle.stm_machine.specs.declared.waiting.Waiting.{Waiting as AnyWaiting};
     ghost use Rattle.stm_machine.specs.Places.{entries_from, AreInPlace};
-    ghost use Rattle.stm_machine.specs.Marks.{AreMarked};
 
     ghost Value = { List (ℕ × AnyWaiting) };
 
@@ -88,8 +73,7 @@ impl Model for WaitingBlocks {
 
     ghost view = { λ w. entries_from 0 w.places.items w.slots.items };
 
-    ghost invariant = { λ w. AreInPlace w.places.items w.slots.items w.count w.chunk_counts.items w.blocks
-        × AreMarked w.marks.items (length w.places.items) (entries_from 0 w.places.items w.slots.items) };
+    ghost invariant = { λ w. AreInPlace w.places.items w.slots.items w.count w.chunk_counts.items w.blocks };
 }
 
 impl WaitingBlocks {
@@ -103,7 +87,6 @@ impl WaitingBlocks {
             free: 0,
             count: 0,
             chunk_counts: Vec::new(alloc),
-            marks: Vec::new(alloc),
             blocks: Verdict::Blocks,
         }
     }
@@ -136,21 +119,6 @@ impl WaitingBlocks {
         next_held(&self.places, &self.slots, &self.chunk_counts, after)
     }
 
-    /// The tickets of the blocks whose last delivery brought a verdict that doesn't block.
-    pub(crate) fn ending(&self, alloc: Global) -> Result<TicketSet, NoMemory>
-        ensures { IfOk result (λ cs. (t : ℕ) → ends_under t self.now ≡ true → member t cs ≡ true) }
-    {
-        let mut tickets = TicketSet::empty(alloc);
-        add_ending(
-            &self.places,
-            &self.slots,
-            &self.chunk_counts,
-            &self.marks,
-            &mut tickets,
-        )?;
-        Ok(tickets)
-    }
-
     /// One block more, after the others.
     pub(crate) fn insert(&mut self, ticket: u32, block: SharedBlock) -> Result<(), NoMemory>
         requires { AllBelow ticket self.old }
@@ -158,7 +126,6 @@ impl WaitingBlocks {
             ≡ self.old ++ (ticket, record { block = block; held = None }) ∷ []) }
         ensures err { OnErr result (self.new ≡ self.old) }
     {
-        reach_mark(&mut self.marks, ticket)?;
         reach(&mut self.places, ticket)?;
         reach_chunk(&mut self.chunk_counts, ticket)?;
         let waiting = Waiting { block, held: None };
@@ -178,7 +145,6 @@ impl WaitingBlocks {
         ensures { self.new ≡ with_held ticket held self.old }
     {
         let place = place_of(&self.places, ticket);
-        mark_if(&mut self.marks, !held.verdict.blocks(), ticket);
         hold_at(&mut self.slots, place, ticket, held);
     }
 
@@ -207,7 +173,6 @@ impl WaitingBlocks {
             ≡ with_held ticket (record { reads = scratch.now; verdict = verdict }) self.old }
     {
         let place = place_of(&self.places, ticket);
-        mark_if(&mut self.marks, !verdict.blocks(), ticket);
         hold_reads_at(&mut self.slots, place, ticket, fresh, scratch, verdict);
     }
 

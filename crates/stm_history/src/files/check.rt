@@ -12,7 +12,6 @@ ghost use Rattle.stm_events.specs.SlowDesk.{max_cells, max_events, IsLegal};
 ghost use Rattle.stm_history.specs.Stages.{IsStage, CountsWithinLimits, LeadsToStage, Reached, refused_by};
 ghost use Rattle.stm_history.specs.Checking.{with_table as progress_with};
 
-use stm_events::event::Event;
 use crate::files::fault::{HistoryFault, Legal};
 use crate::files::replayer::Replayer;
 use crate::files::stepping::StepError;
@@ -23,6 +22,7 @@ use memchr::memchr;
 use std::alloc::Global;
 use std::io::{ErrorKind, Read};
 use std::mem;
+use stm_events::event::Event;
 use stm_store::{DeclareError, Seed, Table};
 
 /// The most bytes of a line.

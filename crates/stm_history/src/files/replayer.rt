@@ -3,9 +3,9 @@
 ghost use Rattle.std.specs.Prelude.{◌≡◌, List, [], IfOk};
 
 use crate::files::fault::Legal;
-use stm_machine::machine::Machine;
-use stm_events::staleness::StalenessRule;
 use std::alloc::Global;
+use stm_events::staleness::StalenessRule;
+use stm_machine::machine::Machine;
 use stm_store::{Frozen, Table};
 use stm_terms::NoMemory;
 

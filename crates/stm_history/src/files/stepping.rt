@@ -15,16 +15,16 @@ ghost use Rattle.stm_events.specs.Refusals.{submit_told, cancel_told, finish_tol
 ghost use Rattle.stm_events.specs.SlowDesk.{state_by};
 ghost use Rattle.stm_machine.specs.JobsHandedOut.{IsPresent};
 
+use crate::files::replayer::{MAX_EVENTS, Replayer};
+use stm_check::SharedBlock;
+use stm_eval::Evaluated;
 use stm_events::errors::{CancelError, DeliverError, FinishError, SubmitError};
 use stm_events::event::{Event, What};
-use crate::files::replayer::{MAX_EVENTS, Replayer};
-use stm_machine::finish::Plan;
-use stm_machine::machine::Machine;
 use stm_events::same::same_numbers;
 use stm_events::shared_verdict::SharedVerdict;
 use stm_events::staleness::StalenessRule;
-use stm_check::SharedBlock;
-use stm_eval::Evaluated;
+use stm_machine::finish::Plan;
+use stm_machine::machine::Machine;
 use stm_store::Frozen;
 use stm_terms::NoMemory;
 use stm_terms::verdicts::Verdict;

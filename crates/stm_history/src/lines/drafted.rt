@@ -7,14 +7,14 @@ ghost use Rattle.stm_history.specs.Fits.{FitsTable, FitsVerdict, FitsValue, FitW
 ghost use Rattle.stm_history.specs.Lines.{event_line};
 ghost use Rattle.stm_events.specs.SlowDesk.{max_clients};
 
-use stm_events::event::{Event, What};
 use crate::lines::draft::{Draft, DraftVerdict};
 use crate::lines::write::event_text;
-use stm_events::shared_verdict::SharedVerdict;
-use stm_events::tickets::Tickets;
 use serde_json::from_slice;
 use std::alloc::Global;
 use stm_check::{SharedBlock, TypeFault, check};
+use stm_events::event::{Event, What};
+use stm_events::shared_verdict::SharedVerdict;
+use stm_events::tickets::Tickets;
 use stm_parse::{ParseFault, parse_block};
 use stm_store::Table;
 use stm_terms::NoMemory;

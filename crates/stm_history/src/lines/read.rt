@@ -13,7 +13,6 @@ ghost use Rattle.stm_history.specs.Fits.{Is32Bit, FitsTable, WhatFitsTable, Fits
 ghost use Rattle.stm_history.specs.Lines.{IsFormat, event_line, header_line, variable_line};
 ghost use Rattle.stm_history.specs.Variables.{declared};
 
-use stm_events::event::{Event, What};
 use crate::lines::drafted::{block_of, drafted_event};
 use crate::lines::fields::{number_at, text_at, type_of, value_at};
 use crate::lines::formats::is_format;
@@ -21,10 +20,11 @@ use crate::lines::parts::numbers_at;
 use crate::lines::variable::Variable;
 use crate::lines::verdicts::verdict_at;
 use crate::lines::write::{event_text, header_text, variable_text};
-use stm_events::shared_verdict::SharedVerdict;
-use stm_events::tickets::Tickets;
 use serde_json::Value as Json;
 use std::alloc::Global;
+use stm_events::event::{Event, What};
+use stm_events::shared_verdict::SharedVerdict;
+use stm_events::tickets::Tickets;
 use stm_store::Table;
 use stm_terms::kinds::Ty;
 use stm_terms::{NoMemory, is_name};

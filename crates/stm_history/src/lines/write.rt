@@ -8,14 +8,14 @@ ghost use Rattle.stm_events.specs.declared.event.What.TheVariants.{Submitted, In
 ghost use Rattle.stm_history.specs.Lines.{what_data, event_data, event_line, header_data, header_line, variable_data, variable_line, verdict_data, number_data};
 ghost use Rattle.stm_history.specs.Sending.{SendsMember};
 
-use stm_events::event::{Event, What};
 use crate::lines::build::{type_text, value_json};
 use crate::lines::send::{send_number_at, send_numbers, send_text_at, send_verdict};
-use stm_events::shared_verdict::SharedVerdict;
 use serde::{Described, Serialize, Serializer};
 use serde_json::{Value as Json, json, to_string};
 use std::alloc::Global;
 use stm_check::SharedBlock;
+use stm_events::event::{Event, What};
+use stm_events::shared_verdict::SharedVerdict;
 use stm_terms::NoMemory;
 use stm_terms::kinds::Ty;
 use stm_terms::values::Value;

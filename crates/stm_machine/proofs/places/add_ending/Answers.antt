@@ -1,4 +1,4 @@
-use Rattle.std.proofs.Common.{◌≡◌, ℕ, ◌/◌, ◌⊎◌, inl, inr, true, false, ◌∙◌, sym}
+use Rattle.std.proofs.Common.{◌≡◌, ◌/◌, ◌⊎◌, inl, inr, true, false, ◌∙◌, sym}
 use Rattle.std.specs.Prelude.{slice_index_or}
 use Rattle.stm_queue.specs.SortedTickets.{member}
 use Rattle.stm_machine.proofs.Marks.{skip_on}

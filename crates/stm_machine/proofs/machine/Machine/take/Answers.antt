@@ -5,6 +5,7 @@ use Rattle.stm_machine.specs.Machine.{StandsForBy}
 use Rattle.stm_machine.specs.JobsHandedOut.{AreJobs}
 use Rattle.stm_machine.proofs.Delivery.{requeued}
 use Rattle.stm_machine.proofs.Taking.{queued_wait, has_sent, are_jobs, are_covered}
+use Rattle.stm_machine.proofs.Ready.{ready_same}
 use Rattle.stm_machine.proofs.machine.Machine.take.Goals as goal
 
 pub jobs_of-requires : goal.jobs_of-requires
@@ -31,3 +32,6 @@ pub returns-clause-kept : goal.returns-clause-kept
 returns-clause-kept c = λ R T H h.
     let k = subst (StandsForBy R T H) (sym c.self.view_is) h in
     rw c.send_out.ensures (requeued R T H _ _ (λ u. has_sent u c.len.result c.self.inside.pending.entries) k)
+
+pub invariant_of-self : goal.invariant_of-self
+invariant_of-self c = rw c.send_out.ensures (ready_same _ _ c.self.inside.pending.entries _ (λ u. has_sent u c.len.result c.self.inside.pending.entries) c.self.invariant)

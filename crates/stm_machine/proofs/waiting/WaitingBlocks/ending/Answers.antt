@@ -1,4 +1,3 @@
-use Rattle.std.proofs.Common.{arith}
 use Rattle.stm_machine.proofs.Placed.{ends_at_place, ends_within}
 use Rattle.stm_machine.proofs.waiting.WaitingBlocks.ending.Goals as goal
 
