@@ -308,7 +308,7 @@ above_by t k ws c none f = λ l. let e = none l in no (find_waiter t ws) e f whe
   no None e f = cc
   no (Some w) e f = cc
 
-waits_above : (n k t : ℕ) (ws : List Waiter) (c : Waiter) → AreRising n k ws → find_waiter t ws ≡ Some c → k < t
+pub waits_above : (n k t : ℕ) (ws : List Waiter) (c : Waiter) → AreRising n k ws → find_waiter t ws ≡ Some c → k < t
 waits_above n k t ws c r f = by (nat_lt k t) refl where
   by : (b : Bool) → nat_lt k t ≡ b → k < t
   by true e = grind (arith, nat_tests)

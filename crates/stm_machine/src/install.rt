@@ -14,11 +14,7 @@ ghost use Rattle.stm_machine.specs.Machine.{StandsForBy, CanInstallBy, MovesToBy
 ghost use Rattle.stm_events.specs.Refusals.{differing, has_value, install_told, TellsDelivery};
 
 use crate::machine::Machine;
-<<<<<<< HEAD
-=======
-use stm_events::shared_verdict::SharedVerdict;
 use crate::ticket_set::TicketSet;
->>>>>>> h/ready
 use crate::waiting::{Held, Waiting};
 use std::alloc::Global;
 use stm_eval::Evaluated;

@@ -11,11 +11,6 @@ ghost use Rattle.stm_machine.specs.FreshReads.{AreFresh, AreFreshFor};
 ghost use Rattle.stm_machine.specs.Places.{waiting_in, with_owned, held_at, entries_from, OtherTicketsStay, one_of, chunk_count};
 ghost use Rattle.stm_machine.specs.declared.places.Slot.{Slot};
 
-<<<<<<< HEAD
-use crate::ticket_set::TicketSet;
-=======
-use stm_events::shared_verdict::SharedVerdict;
->>>>>>> h/ready
 use crate::waiting::{Held, Waiting, keep, keep_reads};
 use std::alloc::AllocError as NoMemory;
 use stm_check::SharedBlock;

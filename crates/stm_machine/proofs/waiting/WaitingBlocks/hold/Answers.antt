@@ -1,11 +1,4 @@
-<<<<<<< HEAD
-use Rattle.std.proofs.Common.{◌≡◌, None, sym, subst, arith}
-use Rattle.stm_machine.specs.Entries.{kept_at}
-use Rattle.stm_machine.proofs.Placed.{held_at_place, kept_held, kept_within}
-use Rattle.stm_machine.proofs.Marks.{marked_held}
-=======
 use Rattle.stm_machine.proofs.Placed.{held_at_place, kept_held}
->>>>>>> h/ready
 use Rattle.stm_machine.proofs.waiting.WaitingBlocks.hold.Goals as goal
 
 pub invariant_of-self : goal.invariant_of-self
