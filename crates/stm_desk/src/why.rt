@@ -6,7 +6,6 @@ ghost use Rattle.stm_terms.specs.Typing.{Rising};
 ghost use Rattle.stm_terms.specs.Value.{same_value};
 ghost use Rattle.stm_store.specs.Cells.{renumbered};
 ghost use Rattle.stm_store.specs.FreshReferences.{HasNumber, AreWritable};
-ghost use Rattle.stm_log.specs.LowerBound.{lower_bound};
 ghost use Rattle.stm_events.specs.Headline.{installs_to as is_delivery_to};
 ghost use Rattle.stm_events.specs.SlowDesk.{find_waiter, is_blocks};
 ghost use Rattle.stm_desk.specs.Seen.{now};
@@ -229,28 +228,8 @@ fn find(writes: &[(u32, Value)], variable: u32) -> Option<Value>
     requires { Rising writes.now }
     ensures { result ≡ value_in variable writes.now }
 {
-    let at = place(writes, variable);
-    if at < writes.len() && writes[at].0 == variable {
-        Some(writes[at].1)
-    } else {
-        None
+    match writes.binary_search_by_key(&variable, |write| write.0) {
+        Ok(at) => Some(writes[at].1),
+        Err(_) => None,
     }
-}
-
-/// How many writes are of a lower variable, found by binary search.
-fn place(writes: &[(u32, Value)], variable: u32) -> usize
-    requires { Rising writes.now }
-    ensures { result ≡ lower_bound variable writes.now }
-{
-    let mut low = 0;
-    let mut high = writes.len();
-    while low < high {
-        let middle = low + (high - low) / 2;
-        if writes[middle].0 < variable {
-            low = middle + 1;
-        } else {
-            high = middle;
-        }
-    }
-    low
 }
