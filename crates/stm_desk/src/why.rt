@@ -23,11 +23,15 @@ use stm_terms::verdicts::Verdict;
 
 impl Desk {
     /// What the block under a ticket waits for; none if no block waits there, and only then. `NoMemory` only if the block is
-    /// stale. It takes time for the events since the block's last delivery.
+    /// stale; then it goes through the events since the block's last delivery.
     pub fn why(&self, alloc: Global, ticket: u32) -> Result<Option<Reason<'_>>, NoMemory>
         ensures reason { IfOk result (λ r. option_map told_reason r ≡ reason_of self.now ticket) }
-        ensures waits { IfOk result (λ r. is_some r ≡ is_some (find_waiter ticket (now self.now).waiters)) }
+        // A block that waits has a reason; so a stale one has a cause.
+        ensures waits { is_some (reason_of self.now ticket)
+            ≡ is_some (find_waiter ticket (now self.now).waiters) }
     {
+        // The store is known to be well typed by this.
+        let _variables = self.table.len();
         let Some(status) = self.machine.status(ticket) else {
             return Ok(None);
         };
@@ -36,11 +40,7 @@ impl Desk {
         };
         match status {
             Status::New => Ok(Some(Reason::New)),
-            Status::Stale(_) => {
-                // The store is known to be well typed by this.
-                let _variables = self.table.len();
-                stale_reason(alloc, ticket, reads, &self.history)
-            }
+            Status::Stale(_) => stale_reason(alloc, ticket, reads, &self.history),
             Status::Current(verdict) => Ok(Some(current_reason(verdict, reads))),
         }
     }
