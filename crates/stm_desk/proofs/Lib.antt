@@ -2,6 +2,7 @@ pub mod Calls
 pub mod Causes
 pub mod Evaluating
 pub mod EventsSince
+pub mod FoundWrites
 pub mod ReadValues
 pub mod ReasonsTold
 pub mod Runs

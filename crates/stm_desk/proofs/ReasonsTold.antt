@@ -1,6 +1,6 @@
 -- What a waiting block waits for, by how it stands.
-use Rattle.std.proofs.Common.{◌≡◌, ℕ, Bool, true, false, not, cond, List, [], ◌∷◌, Option, Result, Ok, Err, Some, None, refl, sym, ap, subst, ◌∙◌, eqb-true}
-use Rattle.std.specs.Prelude.{nat_eq, is_some, option_map, if◌then◌else◌, IfOk}
+use Rattle.std.proofs.Common.{◌≡◌, ℕ, Bool, true, false, not, cond, List, [], ◌∷◌, Option, Some, None, refl, sym, ap, subst, ◌∙◌, eqb-true}
+use Rattle.std.specs.Prelude.{nat_eq, is_some, option_map, if◌then◌else◌}
 use Rattle.stm_terms.specs.declared.values.Value.{Value}
 use Rattle.stm_terms.specs.declared.verdicts.Verdict.{Verdict}
 use Rattle.stm_terms.specs.ReadSet.{reads_of}
@@ -12,8 +12,7 @@ use Rattle.stm_events.specs.SlowSettle.{ends}
 use Rattle.stm_events.proofs.Since.{Tracks, tracked_state}
 use Rattle.stm_desk.specs.Seen.{Seen, now}
 use Rattle.stm_desk.specs.Reasons.{Cause, cause_since_delivery, WaitReason, NotEvaluated, IsStale, Waits, CanFinish, current_reason, reason_since, reason_of_waiter, reason_of}
-use Rattle.stm_desk.specs.declared.reason.Reason.{Reason}
-use Rattle.stm_desk.specs.ReasonsTold.{cause_told, events_since, told_reason}
+use Rattle.stm_desk.specs.ReasonsTold.{cause_told, events_since}
 use Rattle.stm_desk.proofs.Causes.{IsTypedHistory, is_caused}
 
 -- ---- no block, and a new one
@@ -27,11 +26,6 @@ no_waiter d t e = none_by (now d).store (find_waiter t (now d).waiters) e
 pub no_reason : (d : Seen) (t : ℕ) → find_waiter t (now d).waiters ≡ None → None ≡ reason_of d t
 unfolding reason_of
 no_reason d t e = rw e refl
-
--- a block that waits
-pub waits_by : (store : List Cell) (o : Option Waiter) (x : Standing) → Some x ≡ option_map (standing store) o → true ≡ is_some o
-waits_by store None x e = cc
-waits_by store (Some w) x e = refl
 
 new_since : (d : Seen) (w : Waiter) (o : Option Since) → w.since ≡ o → None ≡ read_since_then w.block o → Some NotEvaluated ≡ reason_since d w w.since
 new_since d w None e n = rw e refl
@@ -74,10 +68,9 @@ stale_if : (b : Bool) (v : Option Verdict) (x u : Option Verdict) → Stale v �
 stale_if true v x u e = refl
 stale_if false v x u e = cc
 
--- what is told of a stale block is its reason, and there is one
-pub record IsStaleReason (d : Seen) (t : ℕ) (reads : List (ℕ × Value)) : Type 0 where
-  pub same : option_map IsStale (cause_told reads (events_since t d.history)) ≡ reason_of d t
-  pub some : is_some (cause_told reads (events_since t d.history)) ≡ true
+-- what the events write tells the reason of a stale block
+abbrev pub IsStaleReason : Seen → ℕ → List (ℕ × Value) → Type 0
+IsStaleReason d t reads = option_map IsStale (cause_told reads (events_since t d.history)) ≡ reason_of d t
 
 stale_reason_if : (b : Bool) (d : Seen) (w : Waiter) (s : Since) → b ≡ true
     → cond b (option_map IsStale (cause_since_delivery w.ticket (reads_of (under s.store_then) w.block.tree) (initial_state d.table) d.history)) (Some (current_reason (now d).store w))
@@ -99,7 +92,7 @@ stale_since d t w (Some s) v reads k f e n r tracks =
     ∙ ap (λ (u : ℕ). option_map IsStale (cause_since_delivery u (reads_of (under s.store_then) w.block.tree) (initial_state d.table) d.history)) (found_ticket t (now d).waiters w f)
     ∙ ap (option_map IsStale) p.told
     in
-    subst (λ (rs : List (ℕ × Value)). IsStaleReason d t rs) same (record { same = sym whole; some = p.caused stale })
+    subst (λ (rs : List (ℕ × Value)). IsStaleReason d t rs) same (sym whole)
 
 stale_by : (d : Seen) (t : ℕ) (v : Option Verdict) (reads : List (ℕ × Value)) (o : Option Waiter) → IsTypedHistory d.table d.history → find_waiter t (now d).waiters ≡ o → Some (Stale v) ≡ option_map (standing (now d).store) o
     → Some reads ≡ read_then o → IsStaleReason d t reads
@@ -111,15 +104,6 @@ stale_by d t v reads (Some w) k f e r =
 pub stands_stale : (d : Seen) (t : ℕ) (v : Option Verdict) (reads : List (ℕ × Value)) → IsTypedHistory d.table d.history → Some (Stale v) ≡ option_map (standing (now d).store) (find_waiter t (now d).waiters)
     → Some reads ≡ read_then (find_waiter t (now d).waiters) → IsStaleReason d t reads
 stands_stale d t v reads k e r = stale_by d t v reads (find_waiter t (now d).waiters) k refl e r
-
-told_some : (o : Option Reason) (x : Option Cause) → option_map told_reason o ≡ option_map IsStale x → is_some x ≡ true → is_some o ≡ true
-told_some None None e s = s
-told_some None (Some c) e s = absurd (cc)
-told_some (Some r) x e s = refl
-
-pub told_waits : {E : Type 0} (r : Result (Option Reason) E) (x : Option Cause) (b : Bool) → is_some x ≡ true → true ≡ b → IfOk r (λ o. option_map told_reason o ≡ option_map IsStale x) → IfOk r (λ o. is_some o ≡ b)
-told_waits (Ok o) x b s t h = told_some o x h s ∙ t
-told_waits (Err e) x b s t h = tt
 
 -- ---- a current block
 current_if : (b : Bool) (v : Verdict) (x u : Option Verdict) → Current (Some v) ≡ cond b (Stale x) (Current u) → (b ≡ false) × (u ≡ Some v)
@@ -158,3 +142,30 @@ current_by d t v reads (Some w) f e r =
 pub stands_current : (d : Seen) (t : ℕ) (v : Verdict) (reads : List (ℕ × Value)) → Some (Current (Some v)) ≡ option_map (standing (now d).store) (find_waiter t (now d).waiters)
     → ((w : Waiter) → find_waiter t (now d).waiters ≡ Some w → is_current w ≡ true → Some reads ≡ Some (read_now (now d).store w)) → Some (if is_blocks v then Waits reads else CanFinish) ≡ reason_of d t
 stands_current d t v reads e r = current_by d t v reads (find_waiter t (now d).waiters) refl e r
+
+-- ---- a block that waits has a reason
+some_mapped : (o : Option Cause) → is_some o ≡ true → is_some (option_map IsStale o) ≡ true
+some_mapped None e = e
+some_mapped (Some c) e = refl
+
+reason_if : (b : Bool) (o : Option WaitReason) (r : WaitReason) → (b ≡ true → is_some o ≡ true) → is_some (cond b o (Some r)) ≡ true
+reason_if true o r h = h refl
+reason_if false o r h = refl
+
+has_reason_since : (d : Seen) (t : ℕ) (w : Waiter) (o : Option Since) → IsTypedHistory d.table d.history → find_waiter t (now d).waiters ≡ Some w → Tracks Changed d.table d.history t w.block o → is_some (reason_since d w o) ≡ true
+has_reason_since d t w None k f tracks = refl
+has_reason_since d t w (Some s) k f tracks =
+    let p = is_caused d.table d.history t w s k tracks in
+    let reads = reads_of (under s.store_then) w.block.tree in
+    reason_if (is_stale_since w.block s) (option_map IsStale (cause_since_delivery w.ticket reads (initial_state d.table) d.history)) (current_reason (now d).store w)
+    (λ stale.
+    ap (λ (u : ℕ). is_some (option_map IsStale (cause_since_delivery u reads (initial_state d.table) d.history))) (found_ticket t (now d).waiters w f)
+    ∙ ap (λ (c : Option Cause). is_some (option_map IsStale c)) p.told ∙ some_mapped (cause_told reads (events_since t d.history)) (p.caused stale))
+
+has_reason_by : (d : Seen) (t : ℕ) (o : Option Waiter) → IsTypedHistory d.table d.history → find_waiter t (now d).waiters ≡ o → is_some (reason_of_waiter d o) ≡ is_some o
+has_reason_by d t None k f = refl
+has_reason_by d t (Some w) k f = has_reason_since d t w w.since k f ((tracked_state Changed d.table d.history k.legal).each t w f)
+
+pub has_reason : (d : Seen) (t : ℕ) → IsTypedHistory d.table d.history → is_some (reason_of d t) ≡ is_some (find_waiter t (now d).waiters)
+unfolding reason_of
+has_reason d t k = has_reason_by d t (find_waiter t (now d).waiters) k refl

@@ -1,4 +1,4 @@
--- What is found in a history of why a block is stale, and how a reason is told.
+-- Why a block is stale by what the events after its last delivery write, and what a reason of the code says.
 use Rattle.std.specs.Global.{Vec}
 use Rattle.std.specs.Prelude.{ℕ, if◌then◌else◌, List, [], ◌∷◌, Option, None, option_map}
 use Rattle.stm_terms.specs.declared.values.Value.{Value}
@@ -25,7 +25,7 @@ left_by_writes n writes i = option_map (renumbered n) (find i writes)
 abbrev pub left_by_verdict : ℕ → Verdict → Variables
 left_by_verdict n v i = option_map (renumbered n) (written_by v i)
 
--- the variables of the reads that an event leaves with another value, by what it writes
+-- the variables of the reads that an event leaves with another value, by the values that it writes
 abbrev pub changes_told : List (ℕ × Value) → What → List Change
 changes_told reads (Submitted t block) = []
 changes_told reads (Installed t v) = []
@@ -42,20 +42,20 @@ abbrev pub events_since : ℕ → List Event → List Event
 events_since t [] = []
 events_since t (e ∷ es) = if is_installed t es then events_since t es else if installs_to t e.what then es else []
 
--- a finish with its writes, which rise, in a store that had n cells
+-- the writes of a verdict ascend, and may be read in a store that had n cells
 abbrev pub HasWritable : ℕ → Verdict → Type 0
 HasWritable n (Commits writes news result) = Rising writes × AreWritable n writes
 HasWritable n (Throws f) = Unit {0}
 HasWritable n Blocks = Unit {0}
 
--- the same of what happens
+-- the same of the verdict of a finish
 abbrev pub IsWritable : What → Type 0
 IsWritable (Submitted t block) = Unit {0}
 IsWritable (Installed t v) = Unit {0}
 IsWritable (Finished t v n stale) = HasWritable n v
 IsWritable (Cancelled t) = Unit {0}
 
--- of each event
+-- of each of these events
 abbrev pub EachIsWritable : List Event → Type 0
 EachIsWritable [] = Unit {0}
 EachIsWritable (e ∷ es) = IsWritable e.what × EachIsWritable es
@@ -64,7 +64,7 @@ EachIsWritable (e ∷ es) = IsWritable e.what × EachIsWritable es
 abbrev pub cause_of : ℕ × Vec Change → Cause
 cause_of c = record { finish = c.0; changes = c.1.items }
 
--- what a reason tells
+-- what a reason says
 abbrev pub told_reason : Reason → WaitReason
 told_reason told.New = NotEvaluated
 told_reason (told.Stale t cs) = IsStale (record { finish = t; changes = cs.items })

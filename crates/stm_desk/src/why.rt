@@ -6,7 +6,6 @@ ghost use Rattle.stm_terms.specs.Typing.{Rising};
 ghost use Rattle.stm_terms.specs.Value.{same_value};
 ghost use Rattle.stm_store.specs.Cells.{renumbered};
 ghost use Rattle.stm_store.specs.FreshReferences.{HasNumber, AreWritable};
-ghost use Rattle.stm_log.specs.LowerBound.{lower_bound};
 ghost use Rattle.stm_events.specs.Headline.{installs_to as is_delivery_to};
 ghost use Rattle.stm_events.specs.SlowDesk.{find_waiter, is_blocks};
 ghost use Rattle.stm_desk.specs.Seen.{now};
@@ -24,11 +23,15 @@ use stm_terms::verdicts::Verdict;
 
 impl Desk {
     /// What the block under a ticket waits for; none if no block waits there, and only then. `NoMemory` only if the block is
-    /// stale. It takes time for the events since the block's last delivery.
+    /// stale; then it goes through the events since the block's last delivery.
     pub fn why(&self, alloc: Global, ticket: u32) -> Result<Option<Reason<'_>>, NoMemory>
         ensures reason { IfOk result (λ r. option_map told_reason r ≡ reason_of self.now ticket) }
-        ensures waits { IfOk result (λ r. is_some r ≡ is_some (find_waiter ticket (now self.now).waiters)) }
+        // A block that waits has a reason; so a stale one has a cause.
+        ensures waits { is_some (reason_of self.now ticket)
+            ≡ is_some (find_waiter ticket (now self.now).waiters) }
     {
+        // The store is known to be well typed by this.
+        let _variables = self.table.len();
         let Some(status) = self.machine.status(ticket) else {
             return Ok(None);
         };
@@ -37,11 +40,7 @@ impl Desk {
         };
         match status {
             Status::New => Ok(Some(Reason::New)),
-            Status::Stale(_) => {
-                // The store is known to be well typed by this.
-                let _variables = self.table.len();
-                stale_reason(alloc, ticket, reads, &self.history)
-            }
+            Status::Stale(_) => stale_reason(alloc, ticket, reads, &self.history),
             Status::Current(verdict) => Ok(Some(current_reason(verdict, reads))),
         }
     }
@@ -229,28 +228,8 @@ fn find(writes: &[(u32, Value)], variable: u32) -> Option<Value>
     requires { Rising writes.now }
     ensures { result ≡ value_in variable writes.now }
 {
-    let at = place(writes, variable);
-    if at < writes.len() && writes[at].0 == variable {
-        Some(writes[at].1)
-    } else {
-        None
+    match writes.binary_search_by_key(&variable, |write| write.0) {
+        Ok(at) => Some(writes[at].1),
+        Err(_) => None,
     }
-}
-
-/// How many writes are of a lower variable, found by binary search.
-fn place(writes: &[(u32, Value)], variable: u32) -> usize
-    requires { Rising writes.now }
-    ensures { result ≡ lower_bound variable writes.now }
-{
-    let mut low = 0;
-    let mut high = writes.len();
-    while low < high {
-        let middle = low + (high - low) / 2;
-        if writes[middle].0 < variable {
-            low = middle + 1;
-        } else {
-            high = middle;
-        }
-    }
-    low
 }

@@ -1,19 +1,21 @@
-use Rattle.std.proofs.Common.{ℕ, ◌≡◌, ◌≢◌, ◌<◌, length, get_or, sym, arith}
-use Rattle.stm_terms.specs.declared.values.Value.{Value}
-use Rattle.stm_log.proofs.LowerBoundSearch.{found_at, found_none, standing}
+use Rattle.std.proofs.Common.{ℕ, Ok, Err, Result, rules, sym, subst}
+use Rattle.std.proofs.lemmas.List.Sorted.{answers_always}
+use Rattle.stm_desk.proofs.FoundWrites.{IsFound, is_found}
 use Rattle.stm_desk.proofs.why.find.Goals as goal
-use Rattle.stm_desk.proofs.why.find.Goals.{else-at-writes-via-then-at-writes+else-writes-at, else-at-writes-via-else-at-writes}
 
-pub returns-then-writes-at : goal.returns-then-writes-at
-returns-then-writes-at c =
-    sym (found_at c.args.variable c.place-at.result _ c.args.writes.now c.place-at.ensures c.if-at-writes.true (standing c.place-at.result _ c.args.writes.now c.if-at-writes.true) c.if-writes-at.true)
+-- the closure gives a write's variable
+pub returns-in-Ok : goal.returns-in-Ok
+returns-in-Ok c =
+    let facts = c.binary_search_by_key.ensures in
+    let by_key = facts.position (λ write. write.0) (answers_always _ _ _ (λ f a r g called. search rules)) in
+    let found : IsFound c.args.variable c.args.writes.now c.binary_search_by_key.result = is_found c.args.variable c.args.writes.now c.binary_search_by_key.result c.requires facts.bound by_key in
+    let here : IsFound c.args.variable c.args.writes.now (Ok c.in-Ok.at) = subst (λ (r : Result ℕ ℕ). IsFound c.args.variable c.args.writes.now r) c.in-Ok.is found in
+    sym (here.at.1 _)
 
-pub returns-else-at-writes : goal.returns-else-at-writes
-returns-else-at-writes c =
-    let other : c.place-at.result < length c.args.writes.now → (x : ℕ × Value) × (x ≡ get_or c.args.writes.now c.place-at.result x) × (x.0 ≢ c.args.variable) =
-    elim c.else-at-writes.branch [
-      | else-at-writes-via-then-at-writes+else-writes-at w ↦ λ lt. (_, standing c.place-at.result _ c.args.writes.now lt, w.if-writes-at.false)
-      | else-at-writes-via-else-at-writes w ↦ λ lt. absurd (omega arith)
-    ]
-    in
-    sym (found_none c.args.variable c.place-at.result c.args.writes.now c.place-at.ensures other c.requires)
+pub returns-in-Err : goal.returns-in-Err
+returns-in-Err c =
+    let facts = c.binary_search_by_key.ensures in
+    let by_key = facts.position (λ write. write.0) (answers_always _ _ _ (λ f a r g called. search rules)) in
+    let found : IsFound c.args.variable c.args.writes.now c.binary_search_by_key.result = is_found c.args.variable c.args.writes.now c.binary_search_by_key.result c.requires facts.bound by_key in
+    let here : IsFound c.args.variable c.args.writes.now (Err c.in-Err.field-0) = subst (λ (r : Result ℕ ℕ). IsFound c.args.variable c.args.writes.now r) c.in-Err.is found in
+    sym here.none
