@@ -1924,7 +1924,7 @@ class Floods(OnProgram):
 
     def test_of_other_lines(self):
         for line in ("y", "", "commits"):
-            for call in (lambda desk: desk.show(), lambda desk: desk.store(), lambda desk: desk.history()):
+            for call in (lambda desk: desk.show(), lambda desk: desk.store(), lambda desk: desk.history(), lambda desk: desk.events()):
                 self.assert_bad(call, f"yes '{line}'")
 
     def test_of_lines(self):
@@ -1932,6 +1932,7 @@ class Floods(OnProgram):
         with mock.patch.multiple(_commands, CELLS_LIMIT=1000, EVENTS_LIMIT=1000):
             self.assert_bad(lambda desk: desk.store(), "yes '#0 x : Int = 1 count 0'")
             self.assert_bad(lambda desk: desk.history(), "yes '{}'")
+            self.assert_bad(lambda desk: desk.events(), "yes '{}'")
 
 
 class Finding(OnProgram):
