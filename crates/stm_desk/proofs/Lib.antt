@@ -4,7 +4,6 @@ pub mod Evaluating
 pub mod EventsSince
 pub mod ReadValues
 pub mod ReasonsTold
-pub mod Ripe
 pub mod Runs
 pub mod Settles
 pub mod Turns

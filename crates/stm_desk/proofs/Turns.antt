@@ -2,6 +2,7 @@
 use Rattle.std.proofs.Common.{◌≡◌, ℕ, ◌+◌, ◌<◌, ◌≤◌, Bool, true, false, not, cond, List, [], ◌∷◌, length, Option, Some, None, Err, refl, sym, ap, subst, ◌∙◌, arith}
 use Rattle.std.specs.Prelude.{is_some, nat_le, option_map}
 use Rattle.std.proofs.lemmas.Bool.Decides.{nat_tests}
+use Rattle.stm_terms.specs.declared.values.Value.{Value}
 use Rattle.stm_terms.specs.declared.verdicts.Verdict.{Verdict}
 use Rattle.stm_store.specs.Cells.{made_by, changed_by}
 use Rattle.stm_events.specs.declared.event.What.TheVariants.{Installed, Finished}
@@ -13,6 +14,7 @@ use Rattle.stm_events.proofs.Folds.{state-push, legal_split}
 use Rattle.stm_events.proofs.Rising.{rising_state}
 use Rattle.stm_events.specs.declared.errors.FinishError.{FinishError}
 use Rattle.stm_events.specs.declared.errors.FinishError.TheVariants as finish
+use Rattle.stm_machine.specs.Keeping.{IsVerdictUnder}
 use Rattle.stm_machine.specs.SettleChoices.{next_due, next_end}
 use Rattle.stm_machine.specs.Machine.{event}
 use Rattle.stm_machine.specs.QueueAndIndex.{due_of}
@@ -91,6 +93,19 @@ full_at d t v k f e = record { left = ap is_some (due_next d t v f); full = full
 -- the store stays
 pub store_install : (d new : Seen) (client t : ℕ) (v : Verdict) → new ≡ with_event d (event client (Installed t v)) → (now new).store ≡ (now d).store
 store_install d new client t v e = ap (λ (x : Seen). (now x).store) e ∙ ap (λ (s : Slow). s.store) (state-push Changed (initial_state d.table) d.history (event client (Installed t v)))
+
+-- ---- the verdict of the lowest that is due
+one_waits : (o : Option Waiter) (v w : Waiter) → o ≡ Some v → o ≡ Some w → v ≡ w
+one_waits None v w e f = cc
+one_waits (Some x) v w e f = let a : x ≡ v = cc in let b : x ≡ w = cc in sym a ∙ b
+
+pub due_verdict : (d : Seen) (t : ℕ) (v : Verdict) (reads : List (ℕ × Value)) → IsLegal d.table d.history → next_due (now d) ≡ Some t → IsVerdictUnder (now d) t v reads → IsDueVerdict (now d) t v
+due_verdict d t v reads l n p =
+    let s = now d in
+    let f = found_at is_due s t n in
+    let a : find_waiter t s.waiters ≡ Some f.one = subst (λ (u : ℕ). find_waiter u s.waiters ≡ Some f.one) f.ticket (found_waits is_due d f.one l f.first) in
+    let q : p.one ≡ f.one = one_waits (find_waiter t s.waiters) p.one f.one p.found a in
+    record { one = p.one; first = f.first ∙ ap Some (sym q); same = sym (ap (λ (w : Waiter). w.ticket) q ∙ f.ticket); verdict = p.verdict }
 
 -- ---- a finish
 pub record Ends (d : Seen) (t : ℕ) : Type 0 where

@@ -11,7 +11,7 @@ use Rattle.stm_events.specs.Rounds as rounds
 use Rattle.stm_events.proofs.Rounds.{settling_is_rounds}
 use Rattle.stm_events.proofs.TypedStores.{waiting_are_well_typed, blocks_have_verdicts}
 use Rattle.stm_desk.specs.Seen.{Seen, now, AllHaveVerdicts, SettlesInRounds}
-use Rattle.stm_desk.proofs.Ripe.{waits_above}
+use Rattle.stm_machine.proofs.Ready.{waits_above}
 use Rattle.stm_desk.proofs.Turns.{rising_now}
 
 pub have_verdicts : (d : Seen) → IsLegal d.table d.history → SubmittedAreWellTyped d.history → StoreIsTyped (plains (now d).store) → AllHaveVerdicts (now d)

@@ -80,14 +80,21 @@ Commands on standard input, one per line. A line that begins with `--` is a comm
       cancel 2
   show                     Prints each waiting ticket as `1 new`, `1 current VERDICT` or `1 stale VERDICT`, then `waiting 1`
       show
+  ready                    Prints the tickets that can be finished now, those that are current and don't block: `ready 3 7 9`
+      ready
   reads T                  Prints what the block under a ticket read at its last evaluation: `reads #0=1`
       reads 1
+  why T                    Prints what the block under a ticket waits for: `why 1 new`, `why 1 waits #0=1`, `why 1 ready`, or
+                           `why 1 stale 3 #0=1->2` if the finish of ticket 3 changed a variable that it had read
+      why 1
   store                    Prints each variable with its value and how often it changed, then `cells 1`
       store
   settle                   Evaluates and finishes blocks until none can continue: `settled 2 evaluations 3`
       settle
   history                  Prints the history, one JSON object per line, as `stmdesk check` reads it
       history
+  events N                 Prints the history's events from the N-th on, counted from 1, then how many there are: `events 12`
+      events 1
 
 A verdict is `commits writes W news N result V` (#0=2 writes 2 to variable 0), `throws 4`, `throws overflow`, or `blocks` if
 the block retries. A ticket is new until its first delivery, then current, and stale after a finish changed a variable that
