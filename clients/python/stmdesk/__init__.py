@@ -37,7 +37,7 @@ from ._values import (
     Value, Verdict, Waits,
 )  # fmt: skip
 
-__version__ = "0.3.0"
+__version__ = "0.4.0"
 
 __all__ = [
     "Answer", "BadAnswer", "Batch", "Blocks", "Cancellation", "Cancelled", "Cell", "Change", "ClientAt", "ClientState", "Commits",
