@@ -1,7 +1,6 @@
 """Runs of cases with one fault each, side by side on all processors.
 
-Which faults are tried depends on no clock and no schedule. A sweep that is sampled tries the first FIRST of its faults, then each
-STRIDE-th, and the last; any other tries all. A sweep of which a number is left out otherwise has failed."""
+Which faults are tried depends on no clock and no schedule: all that a sweep has. A sweep of which one is left out has failed."""
 
 import os
 from concurrent.futures import ThreadPoolExecutor
@@ -10,7 +9,6 @@ import preload
 
 BATCH = 500  # faults that one process tries
 AT_ONCE = os.cpu_count()
-FIRST, STRIDE = 8, 97
 
 
 class Sweep:
@@ -23,19 +21,10 @@ class Sweep:
     def __init__(self, name, program, library, case, numbers, judge, judge_first=None, unit="", ends_unmet=False, **faults):
         self.name, self.program, self.library, self.case, self.faults = name, program, library, case, faults
         self.numbers, self.judge, self.judge_first = numbers, judge, judge_first or (lambda first: None)
-        self.unit, self.ends_unmet, self.is_sampled = unit, ends_unmet, False
-        self.first, self.all, self.error = None, [], None
+        self.unit, self.ends_unmet = unit, ends_unmet
 
     def run(self, numbers=()):
         return preload.ends(self.program, self.library, self.case, numbers, **self.faults)
-
-    def begin(self):
-        """Runs it without a fault, and finds which faults there are."""
-        try:
-            self.first = self.run()[0]
-            self.all = list(self.numbers(self.first))
-        except OSError as error:
-            self.error = str(error)
 
     def said_of(self, first, end):
         said = self.judge(first, end)
@@ -61,36 +50,39 @@ class Sweep:
             tried += 1
 
 
-    def chosen(self):
-        count = len(self.all)
-        return [it for at, it in enumerate(self.all) if not self.is_sampled or at < FIRST or at % STRIDE == 0 or at == count - 1]
+class Running:
+    """A sweep in a pool of threads."""
 
-    def result(self, asked, judging):
-        """What was tried, and what is said of the sweep, once it has begun and parts of the faults that are asked for are judged."""
+    def __init__(self, pool, sweep):
+        self.pool, self.sweep = pool, sweep
+        self.begun = pool.submit(self.begin)
+
+    def begin(self):
+        first = self.sweep.run()[0]
+        numbers = list(self.sweep.numbers(first))
+        batches = [numbers[at : at + BATCH] for at in range(0, len(numbers), BATCH)]
+        return first, len(numbers), [self.pool.submit(self.sweep.judge_batch, it) for it in batches]
+
+    def result(self):
+        """How many faults there are, and what is said of the sweep."""
+        first, count, judging = self.begun.result()
         given = [it.result() for it in judging]
-        tried, count = sum(count for count, _ in given), len(self.all)
-        said = self.judge_first(self.first) or next((said for _, said in given if said), None)
-        if not said and self.ends_unmet:
-            more, said = self.judge_unmet(self.first, count + 1)
-            tried, count, asked = tried + more, count + more, asked + more
-        if not said and tried < asked:
-            said = f"only {tried} of {asked} were tried"
-        return f"{tried} of {count} {self.unit}{'s' * (count != 1)}" if count else "", said
+        tried = sum(count for count, _ in given)
+        said = self.sweep.judge_first(first) or next((said for _, said in given if said), None)
+        if not said and self.sweep.ends_unmet:
+            more, said = self.sweep.judge_unmet(first, count + 1)
+            tried, count = tried + more, count + more
+        if not said and tried < count:
+            said = f"only {tried} of {count} were tried"
+        return count, said
 
 
-def judged(sweeps, choose):
-    """Names with what was tried and what is said of them, each as soon as it and those before it are known. `choose` is called with
-    the sweeps once it is known which faults there are."""
+def judged(sweeps):
+    """Names with what was tried and what is said of them, each as soon as it and those before it are known."""
     with ThreadPoolExecutor(AT_ONCE) as pool:
-        list(pool.map(Sweep.begin, sweeps))
-        choose(sweeps)
-        running = []
-        for sweep in sweeps:
-            numbers = [] if sweep.error else sweep.chosen()
-            parts = [numbers[at : at + BATCH] for at in range(0, len(numbers), BATCH)]
-            running.append((sweep, len(numbers), [pool.submit(sweep.judge_batch, it) for it in parts]))
-        for sweep, asked, judging in running:
+        for running in [Running(pool, sweep) for sweep in sweeps]:
             try:
-                yield sweep.name, *(sweep.result(asked, judging) if not sweep.error else ("", sweep.error))
+                count, said = running.result()
+                yield running.sweep.name, f"{count} {running.sweep.unit}{'s' * (count != 1)}" if count else "", said
             except OSError as error:
-                yield sweep.name, "", str(error)
+                yield running.sweep.name, "", str(error)
