@@ -1,23 +1,18 @@
--- The events after the last delivery to a ticket, and the first cause among events.
-use Rattle.std.proofs.Common.{◌≡◌, ℕ, zero, suc, ◌+◌, ◌<◌, Bool, true, false, ◌||◌, cond, List, [], ◌∷◌, ◌++◌, Option, Some, length, get_or, drop, refl, sym, ap, subst, ◌∙◌, arith}
+-- The events after the last delivery to a ticket, what they write, and where the cause is looked for.
+use Rattle.std.proofs.Common.{◌≡◌, ℕ, zero, suc, ◌+◌, ◌<◌, Bool, true, false, ◌||◌, cond, List, [], ◌∷◌, ◌++◌, Option, Some, length, get_or, drop, refl, sym, subst, arith}
 use Rattle.std.specs.Prelude.{nat_eq}
-use Rattle.std.proofs.lemmas.List.{drop_more}
 use Rattle.stm_terms.specs.declared.values.Value.{Value}
 use Rattle.stm_terms.specs.Changes.{find}
 use Rattle.stm_store.specs.FreshReferences.{HasNumber, AreWritable}
 use Rattle.stm_events.specs.declared.event.Event.{Event}
 use Rattle.stm_events.specs.Headline.{installs_to, is_installed}
 use Rattle.stm_events.specs.SlowDesk.{Slow, after, state_from}
-use Rattle.stm_desk.specs.declared.reason.Change.{Change}
-use Rattle.stm_desk.specs.Reasons.{ticket_of, Cause, cause_or, first_cause, cause_since_delivery}
-use Rattle.stm_desk.specs.ReasonsTold.{IsWritable, EachIsWritable, changes_told, cause_told, events_since}
+use Rattle.stm_desk.specs.Reasons.{first_cause, cause_since_delivery}
+use Rattle.stm_desk.specs.ReasonsTold.{EachIsWritable, events_since}
 
 or_false : (a b : Bool) → (a || b) ≡ false → (a ≡ false) × (b ≡ false)
 or_false true b e = absurd (cc)
 or_false false b e = (refl, e)
-
-neither : (a b : Bool) → a ≡ false → b ≡ false → (a || b) ≡ false
-neither a b g h = rw (g, h) refl
 
 or_true : (a b : Bool) → b ≡ true → (a || b) ≡ true
 or_true true b e = refl
@@ -50,11 +45,6 @@ pub none_since : (t : ℕ) (h : List Event) → is_installed t h ≡ false → [
 none_since t [] n = refl
 none_since t (x ∷ h) n = let p = or_false (installs_to t x.what) (is_installed t h) n in rw (p.1, p.0) refl
 
-pub none_before : (t : ℕ) (h : List Event) (i k : ℕ) (e : Event) → k + 1 ≡ i → k < length h → e ≡ get_or h k e → installs_to t e.what ≡ false → is_installed t (drop i h) ≡ false → is_installed t (drop k h) ≡ false
-none_before t h i k e same l at d n =
-    let more : drop k h ≡ e ∷ drop i h = drop_more h k e l ∙ ap (λ (x : Event). x ∷ drop (k + 1) h) (sym at) ∙ ap (λ (j : ℕ). e ∷ drop j h) same in
-    ap (is_installed t) more ∙ neither (installs_to t e.what) (is_installed t (drop i h)) d n
-
 -- ---- a delivery in the middle
 installed_mid : (t : ℕ) (before : List Event) (e : Event) (later : List Event) → installs_to t e.what ≡ true → is_installed t (before ++ e ∷ later) ≡ true
 installed_mid t [] e later d = here_true (installs_to t e.what) (is_installed t later) d
@@ -78,27 +68,6 @@ since_by false false es fs h g = tt
 pub since_writable : (t : ℕ) (h : List Event) → EachIsWritable h → EachIsWritable (events_since t h)
 since_writable t [] w = tt
 since_writable t (x ∷ h) w = since_by (is_installed t h) (installs_to t x.what) h (events_since t h) w.1 (since_writable t h w.1)
-
--- the event at an index, and those after it
-split_at : (es : List Event) (i : ℕ) (e : Event) → i < length es → e ≡ get_or es i e → drop i es ≡ e ∷ drop (i + 1) es
-split_at es i e l at = drop_more es i e l ∙ ap (λ (x : Event). x ∷ drop (i + 1) es) (sym at)
-
-pub writable_at : (es : List Event) (i : ℕ) (e : Event) → i < length es → e ≡ get_or es i e → EachIsWritable (drop i es) → IsWritable e.what × EachIsWritable (drop (i + 1) es)
-writable_at es i e l at w = subst EachIsWritable (split_at es i e l at) w
-
-pub cause_next : (reads : List (ℕ × Value)) (es : List Event) (i : ℕ) (e : Event) → i < length es → e ≡ get_or es i e → changes_told reads e.what ≡ [] → cause_told reads (drop i es) ≡ cause_told reads (drop (i + 1) es)
-cause_next reads es i e l at none = ap (cause_told reads) (split_at es i e l at) ∙ ap (λ (cs : List Change). cause_or (ticket_of e.what) cs (cause_told reads (drop (i + 1) es))) none
-
-some_cause : (t : ℕ) (cs : List Change) (later : Option Cause) → 0 < length cs → cause_or t cs later ≡ Some (record { finish = t; changes = cs })
-some_cause t [] later l = absurd (omega arith)
-some_cause t (c ∷ cs) later l = refl
-
-pub cause_here : (reads : List (ℕ × Value)) (es : List Event) (i : ℕ) (e : Event) (cs : List Change) → i < length es → e ≡ get_or es i e → cs ≡ changes_told reads e.what → 0 < length cs
-    → Some (record { finish = ticket_of e.what; changes = cs }) ≡ cause_told reads (drop i es)
-cause_here reads es i e cs l at same some =
-    sym (ap (cause_told reads) (split_at es i e l at)
-    ∙ ap (λ (xs : List Change). cause_or (ticket_of e.what) xs (cause_told reads (drop (i + 1) es))) (sym same)
-    ∙ some_cause (ticket_of e.what) cs (cause_told reads (drop (i + 1) es)) some)
 
 -- ---- a value that is written has a number
 number_step : (b : Bool) (n : ℕ) (w : ℕ × Value) (o : Option Value) (v : Value) → HasNumber n w.1 → (Some v ≡ o → HasNumber n v) → Some v ≡ cond b (Some w.1) o → HasNumber n v
