@@ -39,13 +39,13 @@ reason_text (Waits reads) = codes "waits " ++ list_text write_text reads
 reason_text CanFinish = codes "ready"
 
 -- what the block under a ticket waits for, or that no block waits there
-abbrev pub why_text : ℕ → Option WaitReason → List ℕ
-why_text t (Some reason) = codes "why " ++ decimal t ++ codes " " ++ reason_text reason ++ 10 ∷ []
-why_text t None = refused (codes "NoTicket")
+abbrev pub why_line : ℕ → Option WaitReason → List ℕ
+why_line t (Some reason) = codes "why " ++ decimal t ++ codes " " ++ reason_text reason ++ 10 ∷ []
+why_line t None = refused (codes "NoTicket")
 
 -- `why`: what a block waits for
 unfoldable pub why_answer : OpenDesk → List ℕ → List ℕ
-why_answer d argument = with_number (λ t. why_text t (reason_of d.desk t)) (number_argument argument)
+why_answer d argument = with_number (λ t. why_line t (reason_of d.desk t)) (number_argument argument)
 
 -- ---- events
 -- the lines of the events from the n-th on, counted from 1, as `history` prints them, and how many events there are

@@ -7,7 +7,7 @@ ghost use Rattle.stm_desk.specs.Seen.{now};
 ghost use Rattle.stm_terms.specs.Texts.{spaced};
 ghost use Rattle.stm_events.specs.SlowDesk.{IsLegal};
 ghost use Rattle.stm_commands.specs.Finishing.{tickets_text};
-ghost use Rattle.stm_commands.specs.Questions.{ready_tickets, ready_text, ready_answer, change_text, reason_text, why_text, why_answer, later_events_text};
+ghost use Rattle.stm_commands.specs.Questions.{ready_tickets, ready_text, ready_answer, change_text, reason_text, why_line, why_answer, later_events_text};
 ghost use Rattle.stm_commands.proofs.ReadyTickets.{ready_above};
 
 use crate::opened::OpenDesk;
@@ -113,7 +113,7 @@ fn write_reason(reason: &Reason<'_>, out: &mut String) -> Result<(), NoMemory>
 /// Appends the answer of `why`.
 fn write_why(ticket: u32, reason: &Option<Reason<'_>>, out: &mut String) -> Result<(), NoMemory>
     ensures { OnOk result (string_bytes out.new
-        ≡ string_bytes out.old ++ why_text ticket (option_map told_reason reason.now)) }
+        ≡ string_bytes out.old ++ why_line ticket (option_map told_reason reason.now)) }
 {
     match reason {
         None => refuse("NoTicket", out),

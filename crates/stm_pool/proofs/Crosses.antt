@@ -6,7 +6,7 @@ use Rattle.std.specs.declared.sync.ledger.Ledger.{Ghosts}
 use Rattle.std.proofs.sync.ledger.Share.TheSendSync.{the_send as share_send}
 use Rattle.std.proofs.sync.ledger.Book.TheSendSync.{the_send as book_send}
 use Rattle.std.proofs.Crossing.{crosses, Vec-send}
-use Rattle.std.proofs.MapsCrossing.{BTreeMap-send, crosses as maps_crosses}
+use Rattle.std.proofs.MapsCrossing.{crosses as maps_crosses}
 use Rattle.stm_terms.proofs.expr.Expr.TheLaws.TheKnot.{crosses as expr_crosses}
 use Rattle.stm_terms.proofs.action.Action.TheLaws.TheKnot.{crosses as action_crosses}
 use Rattle.stm_check.specs.contracts.typed.SharedBlock as shared_block
@@ -75,13 +75,13 @@ pub waiting_send : IsSend waiting.the_row
 waiting_send = search (sendable, block_send, held_send) depth 40 fits 100000
 
 pub blocks_send : IsSend blocks.the_row
-blocks_send = search (sendable, crosses, BTreeMap-send, waiting_send) depth 40 fits 100000
+blocks_send = search (sendable, crosses, waiting_send) depth 40 fits 100000
 
 pub table_send : IsSend table.the_row
 table_send = search (sendable, crosses) depth 40 fits 100000
 
 pub store_send : IsSend store.the_row
-store_send = search (sendable, crosses) depth 40 fits 100000
+store_send = search (sendable, crosses) depth 120 fits 400000
 
 pub pending_send : IsSend pending.the_row
 pending_send = search (sendable, crosses) depth 40 fits 100000

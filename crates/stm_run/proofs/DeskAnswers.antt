@@ -38,7 +38,7 @@ use Rattle.stm_commands.specs.Delivering.{max_jobs, taken, job_text, numbered, j
 use Rattle.stm_commands.specs.Finishing.{finish_of, tickets_text, result_line, finished_line, finish_event_line, finish_text, finish_answer, cancelled_line, cancel_text, cancel_answer, settled_line, settle_text, settle_answer}
 use Rattle.stm_commands.specs.OpenDesk.{HandedOut, OpenDesk, present}
 use Rattle.stm_commands.specs.Refusals.{refused}
-use Rattle.stm_commands.specs.Questions.{ready_tickets, ready_text, ready_answer, reason_text, why_text, why_answer, later_events_text, events_answer}
+use Rattle.stm_commands.specs.Questions.{ready_tickets, ready_text, ready_answer, reason_text, why_line, why_answer, later_events_text, events_answer}
 use Rattle.stm_commands.specs.Showing.{waiter_lines, show_text, show_answer, read_text, waiter_reads_text, reads_answer, cell_lines, store_text, store_answer, history_answer}
 use Rattle.stm_run.specs.Laws.{EndsALine}
 use Rattle.stm_run.proofs.EndedLines.{refused_ends, refusal_ends, submit_error_ends, deliver_error_ends, finish_error_ends, cancel_error_ends, history_ends, counted_end}
@@ -148,7 +148,7 @@ ready_ends : (s : Slow) → EndsALine (ready_text s)
 unfolding ready_text
 ready_ends s = (codes "ready " ++ tickets_text (ready_tickets s), refl)
 
-why_ends : (t : ℕ) (o : Option WaitReason) → EndsALine (why_text t o)
+why_ends : (t : ℕ) (o : Option WaitReason) → EndsALine (why_line t o)
 why_ends t (Some r) = (codes "why " ++ decimal t ++ codes " " ++ reason_text r, refl)
 why_ends t None = refused_ends (codes "NoTicket")
 
