@@ -15,14 +15,13 @@ ghost use Rattle.stm_machine.specs.QueueAndIndex.{with_tickets};
 ghost use Rattle.stm_machine.specs.Plans.{IsPlanBy};
 ghost use Rattle.stm_events.specs.Refusals.{overflows, finish_refused, finish_told};
 
-use stm_events::errors::FinishError;
 use crate::index::{forget, queue_all, stale_tickets, unwatch_all};
 use crate::machine::Machine;
-use stm_events::shared_verdict::blocks;
-use stm_events::shared_verdict::SharedVerdict;
+use std::alloc::Global;
+use stm_events::errors::FinishError;
+use stm_events::shared_verdict::{SharedVerdict, blocks};
 use stm_events::staleness::StalenessRule;
 use stm_events::tickets::Tickets;
-use std::alloc::Global;
 use stm_queue::Pending;
 use stm_store::{Applied, Store};
 use stm_terms::NoMemory;

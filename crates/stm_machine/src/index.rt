@@ -9,9 +9,9 @@ ghost use Rattle.stm_events.specs.SlowDesk.{written_in, waking};
 ghost use Rattle.stm_machine.specs.Entries.{kept_at, kept_reads, lose};
 ghost use Rattle.stm_machine.specs.QueueAndIndex.{with_tickets};
 
-use stm_events::staleness::StalenessRule;
 use crate::waiting::{Waiting, WaitingBlocks};
 use std::alloc::{AllocError as NoMemory, Global};
+use stm_events::staleness::StalenessRule;
 use stm_queue::Pending;
 use stm_store::Store;
 use stm_terms::values::Value;

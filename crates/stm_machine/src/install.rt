@@ -13,13 +13,13 @@ ghost use Rattle.stm_events.specs.SlowDesk.{under, find_waiter, state_by};
 ghost use Rattle.stm_machine.specs.Machine.{StandsForBy, CanInstallBy, MovesToBy};
 ghost use Rattle.stm_events.specs.Refusals.{differing, has_value, install_told, TellsDelivery};
 
-use stm_events::errors::DeliverError;
 use crate::machine::Machine;
-use stm_events::shared_verdict::SharedVerdict;
 use crate::ticket_set::TicketSet;
 use crate::waiting::{Held, Waiting};
 use std::alloc::Global;
 use stm_eval::Evaluated;
+use stm_events::errors::DeliverError;
+use stm_events::shared_verdict::SharedVerdict;
 use stm_store::Store;
 use stm_terms::NoMemory;
 use stm_terms::values::Value;

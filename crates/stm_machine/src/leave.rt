@@ -10,9 +10,9 @@ ghost use Rattle.stm_events.specs.SlowDesk.{state_by};
 ghost use Rattle.stm_machine.specs.Machine.{StandsForBy, CanLeaveBy, MovesToBy};
 ghost use Rattle.stm_events.specs.Refusals.{cancel_refused, cancel_told};
 
-use stm_events::errors::CancelError;
 use crate::index::forget;
 use crate::machine::Machine;
+use stm_events::errors::CancelError;
 
 impl Machine {
     /// Why the block can't be cancelled, an out-of-memory error aside. `full` says that the history has no room for an event.

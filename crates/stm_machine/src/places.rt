@@ -11,11 +11,11 @@ ghost use Rattle.stm_machine.specs.FreshReads.{AreFresh, AreFreshFor};
 ghost use Rattle.stm_machine.specs.Places.{waiting_in, with_owned, held_at, entries_from, OtherTicketsStay, one_of, chunk_count};
 ghost use Rattle.stm_machine.specs.declared.places.Slot.{Slot};
 
-use stm_events::shared_verdict::SharedVerdict;
 use crate::waiting::{Held, Waiting, keep, keep_reads};
 use std::alloc::AllocError as NoMemory;
 use stm_check::SharedBlock;
 use stm_eval::Scratch;
+use stm_events::shared_verdict::SharedVerdict;
 use stm_log::Reads;
 
 /// A slot. `number` is the ticket of the block in it; in an unused slot it is a place that may be unused too.

@@ -12,11 +12,11 @@ ghost use Rattle.stm_machine.specs.Machine.{StandsForBy};
 ghost use Rattle.stm_events.specs.Refusals.{pending_left};
 ghost use Rattle.stm_machine.specs.JobsHandedOut.{sent, AreJobs, AreCovered, AreKept, IsKeptJob};
 
-use stm_events::errors::DeliverError;
 use crate::machine::Machine;
 use crate::waiting::WaitingBlocks;
 use std::alloc::Global;
 use stm_eval::Job;
+use stm_events::errors::DeliverError;
 use stm_queue::Pending;
 use stm_store::Frozen;
 use stm_terms::NoMemory;

@@ -16,8 +16,8 @@ ghost use Rattle.stm_events.specs.BlockStatus.{shown, read_then, read_now};
 ghost use Rattle.stm_machine.specs.JobsHandedOut.{block_at};
 
 use crate::machine::Machine;
-use stm_events::status::Status;
 use stm_check::SharedBlock;
+use stm_events::status::Status;
 use stm_store::Store;
 use stm_terms::values::Value;
 

@@ -20,11 +20,11 @@ ghost use Rattle.stm_machine.specs.FreshReads.{AreFreshFor};
 
 use crate::machine::Machine;
 use crate::queue_moves::job_of;
-use stm_events::shared_verdict::SharedVerdict;
 use crate::ticket_set::TicketSet;
 use crate::waiting::WaitingBlocks;
 use std::alloc::Global;
 use stm_eval::{Evaluated, Scratch, evaluate, try_block_in};
+use stm_events::shared_verdict::SharedVerdict;
 use stm_log::Reads;
 use stm_store::Frozen;
 use stm_terms::NoMemory;

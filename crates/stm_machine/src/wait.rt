@@ -11,9 +11,9 @@ ghost use Rattle.stm_events.specs.SlowDesk.{state_by};
 ghost use Rattle.stm_machine.specs.Machine.{StandsForBy, CanWaitBy, MovesToBy};
 ghost use Rattle.stm_events.specs.Refusals.{missing, submit_refused, submit_told};
 
-use stm_events::errors::SubmitError;
 use crate::machine::Machine;
 use stm_check::SharedBlock;
+use stm_events::errors::SubmitError;
 use stm_store::Store;
 use stm_terms::NoMemory;
 use stm_terms::kinds::Ty;

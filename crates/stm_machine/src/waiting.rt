@@ -9,11 +9,11 @@ use crate::places::{
     Slot, decrement_chunk, fresh_at, held_at, hold_at, hold_reads_at, increment_chunk, next_held,
     place_of, put, reach, reach_chunk, take_at,
 };
-use stm_events::shared_verdict::SharedVerdict;
 use std::alloc::{AllocError as NoMemory, Global};
 use std::marker::Model;
 use stm_check::SharedBlock;
 use stm_eval::Scratch;
+use stm_events::shared_verdict::SharedVerdict;
 use stm_log::Reads;
 use stm_terms::values::Value;
 use stm_terms::verdicts::Verdict;
