@@ -88,11 +88,7 @@ impl Desk {
     }
 
     /// A round of deliveries: all blocks that are new or stale, rising. How many they were, also at a stop.
-    fn deliver_all(
-        &mut self,
-        client: u32,
-        scratch: &mut Scratch,
-    ) -> Result<u32, (u32, SettleWhy)>
+    fn deliver_all(&mut self, client: u32, scratch: &mut Scratch) -> Result<u32, (u32, SettleWhy)>
         requires client { client < max_clients }
         requires none_out { some_out self.old.pending ≡ false }
         ensures begun { IfOk result (λ n. HasBegun client self.old self.new 0 n) }

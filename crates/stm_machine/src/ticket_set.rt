@@ -85,6 +85,10 @@ impl TicketSet {
         ensures { (u : ℕ) → member u self.new.tickets
             ≡ (member u self.old.tickets && not (list_any (nat_eq u) tickets.now)) }
     {
+        // In a herd that becomes stale no block could finish.
+        if self.tickets.is_empty() {
+            return;
+        }
         for ticket in tickets {
             self.remove(*ticket);
         }
