@@ -12,7 +12,6 @@ ghost use Rattle.stm_commands.proofs.ReadyTickets.{ready_above};
 
 use crate::opened::OpenDesk;
 use crate::refusing::refuse;
-use stm_lines::arguments::number_of;
 use std::alloc::Global;
 use std::io::Write;
 use stm_desk::{Change, Desk, Reason};
@@ -20,6 +19,7 @@ use stm_events::Event;
 use stm_events::laws::tickets_rise;
 use stm_history::WriteFault;
 use stm_history::files::writing::{write_events, write_line};
+use stm_lines::arguments::number_of;
 use stm_terms::NoMemory;
 use stm_terms::text::{write_number, write_value, write_writes};
 

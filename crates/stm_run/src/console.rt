@@ -56,11 +56,7 @@ fn answer_history(desk: &OpenDesk, argument: &str, out: &mut String) -> Result<R
 
 /// Answers `events`.
 #[tactic(auto, unfolding(stm_commands::specs::Questions::events_answer))]
-fn answer_events(
-    desk: &OpenDesk,
-    argument: &str,
-    out: &mut String,
-) -> Result<Reply, NoMemory>
+fn answer_events(desk: &OpenDesk, argument: &str, out: &mut String) -> Result<Reply, NoMemory>
     ensures { IfOk result (λ r. IsReply r (string_bytes out.old) (string_bytes out.new)
         (IsOpen desk.now) (events_answer desk.now argument.now)) }
 {
