@@ -12,8 +12,8 @@
 #include <dlfcn.h>
 
 struct device {
-    unsigned long calls, fails;
-    int is_short, interrupts;
+    unsigned long calls;
+    int may_fail, has_failed, is_short, interrupts;
 };
 
 static ssize_t (*real_read)(int, void *, size_t);
@@ -22,12 +22,11 @@ static struct device input, output;
 static int errors_fail;
 
 __attribute__((constructor)) static void begin(void) {
-    unsigned long number;
     real_read = (ssize_t(*)(int, void *, size_t))dlsym(RTLD_NEXT, "read");
     real_write = (ssize_t(*)(int, const void *, size_t))dlsym(RTLD_NEXT, "write");
-    number = next_run();
-    input.fails = number_of("READ_FAILS") * number;
-    output.fails = number_of("WRITE_FAILS") * number;
+    begin_runs();
+    input.may_fail = (int)number_of("READ_FAILS");
+    output.may_fail = (int)number_of("WRITE_FAILS");
     input.is_short = (int)number_of("READ_SHORT");
     output.is_short = (int)number_of("WRITE_SHORT");
     input.interrupts = (int)number_of("READ_INTERRUPTS");
@@ -36,17 +35,19 @@ __attribute__((constructor)) static void begin(void) {
 }
 
 /* The error of the next call, or 0. */
-static int fault(struct device *device) {
+static int error_of(struct device *device) {
     device->calls += 1;
+    if (device->may_fail && !device->has_failed)
+        device->has_failed = is_to_fail(device->calls);
     if (device->interrupts && device->calls % 2 == 1)
         return EINTR;
-    return device->fails && device->calls >= device->fails ? EIO : 0;
+    return device->has_failed ? EIO : 0;
 }
 
 ssize_t read(int file, void *bytes, size_t count) {
     if (file != STDIN_FILENO)
         return real_read(file, bytes, count);
-    if ((errno = fault(&input)))
+    if ((errno = error_of(&input)))
         return -1;
     return real_read(file, bytes, input.is_short && count > 1 ? 1 : count);
 }
@@ -59,7 +60,7 @@ ssize_t write(int file, const void *bytes, size_t count) {
     if (file != STDOUT_FILENO)
         return real_write(file, bytes, count);
     *counted += 1;
-    if ((errno = fault(&output)))
+    if ((errno = error_of(&output)))
         return -1;
     return real_write(file, bytes, output.is_short && count > 1 ? 1 : count);
 }

@@ -28,7 +28,7 @@ def ends(program, library, left, right, result):
     """How many runs with one allocation refused end with the whole answer, and how many for want of memory."""
     asked = case(left, right, result)
     count = preload.ends(program, library, asked)[0].counted
-    runs = preload.ends(program, library, asked, range(1, count + 1))
+    runs = preload.ends(program, library, asked, range(1, count + 1))[1:]
     whole = sum((end.returncode, end.stdout) == (0, asked.printed) for end in runs)
     refused = sum((end.returncode, end.stderr) == (4, OUT_OF_MEMORY) for end in runs)
     return whole, refused, count

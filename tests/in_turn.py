@@ -83,7 +83,8 @@ def judge(program, case):
 
 def length(lines):
     """How many lines the answer has with which these lines begin, by the rule that docs/CONSOLE.md gives to clients."""
-    for front, last in (rb"#|cells ", b"cells "), (rb"\d|waiting ", b"waiting "):
+    ends = (rb"#|cells ", b"cells "), (rb"\d|waiting ", b"waiting "), (rb'\{(?!"format":)|events ', b"events ")
+    for front, last in ends:
         if re.match(front, lines[0]):
             return next(n for n, line in enumerate(lines, 1) if line.startswith(last))
     if lines[0].startswith(b"{"):

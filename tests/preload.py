@@ -24,11 +24,16 @@ def built(name, folder):
 
 
 class End:
-    """How a run ended: `counted` is what the library counted in it, `taken` how many bytes of its input it took."""
+    """How a run ended: `counted` is what the library counted in it, `taken` how many bytes of its input it took. Its output is
+    the first `shared` bytes of that of the run without a fault, and `rest`."""
 
-    def __init__(self, number, returncode, counted, taken, stdout, stderr):
+    def __init__(self, number, returncode, counted, taken, front, shared, rest, stderr):
         self.number, self.returncode, self.counted, self.taken = number, returncode, counted, taken
-        self.stdout, self.stderr = stdout, stderr
+        self.front, self.shared, self.rest, self.stderr = front, shared, rest, stderr
+
+    @property
+    def stdout(self):
+        return self.front if self.shared == len(self.front) and not self.rest else self.front[: self.shared] + self.rest
 
     def whole(self):
         return self.returncode, self.stdout, self.stderr
@@ -45,8 +50,9 @@ def file_of(content):
     return file
 
 
-def ends(program, library, case, numbers=(0,), **faults):
-    """The ends of runs of a case, one for each number of a fault (runs.h)."""
+def ends(program, library, case, numbers=(), **faults):
+    """The ends of runs of a case: of the one without a fault, and of one for each number of a fault, ascending (runs.h)."""
+    numbers = [0, *numbers]
     packed = struct.pack(f"={len(numbers)}I", *numbers)
     with file_of(packed) as asked, file_of(b"") as told, file_of(case.text) as text, file_of(b"") as out, file_of(b"") as errors:
         environment = {name: str(value) for name, value in faults.items()}
@@ -56,19 +62,19 @@ def ends(program, library, case, numbers=(0,), **faults):
         status = subprocess.run([program] + case.words, env=environment, **files).returncode
         told.seek(0)
         found = parsed(told.read())
-    if status or len(found) != len(numbers):
+    if status or sorted(it.number for it in found) != numbers:
         raise OSError(f"only {len(found)} of {len(numbers)} runs of {case.name} were made, status {status}")
     return found
 
 
 def parsed(text):
-    found, at = [], 0
+    found, at, front = [], 0, b""
     while at < len(text):
         number, status, counted, taken, shared, rest, errors = END.unpack_from(text, at)
         at += END.size
-        front = found[0].stdout if found else b""
-        output = front if shared == len(front) and not rest else front[:shared] + text[at : at + rest]
-        at += rest
-        found.append(End(number, status, counted, taken, output, text[at : at + errors]))
-        at += errors
+        own, said = text[at : at + rest], text[at + rest : at + rest + errors]
+        if not found:
+            front, shared, own = own, rest, b""
+        at += rest + errors
+        found.append(End(number, status, counted, taken, front, shared, own, said))
     return found

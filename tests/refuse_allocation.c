@@ -4,18 +4,17 @@
 #include "runs.h"
 #include <dlfcn.h>
 
-static unsigned long refused;
 static void *(*real_malloc)(size_t);
 static void *(*real_realloc)(void *, size_t);
 
 __attribute__((constructor)) static void begin(void) {
     real_malloc = (void *(*)(size_t))dlsym(RTLD_NEXT, "malloc");
     real_realloc = (void *(*)(void *, size_t))dlsym(RTLD_NEXT, "realloc");
-    refused = next_run();
+    begin_runs();
 }
 
 static int is_refused(void) {
-    return __atomic_add_fetch(counted, 1, __ATOMIC_SEQ_CST) == refused;
+    return is_to_fail(__atomic_add_fetch(counted, 1, __ATOMIC_SEQ_CST));
 }
 
 void *malloc(size_t size) {

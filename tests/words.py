@@ -9,12 +9,12 @@ import transcript
 ROOT = pathlib.Path(__file__).resolve().parent.parent
 HELP_TEXTS = ROOT / "docs" / "help"
 HELP_NAMES = ("stmdesk", "run", "storm", "explore", "check")
-VERSION_FILE = ROOT / "crates" / "stm_console" / "src" / "version.rt"
+VERSION_FILE = ROOT / "crates" / "stm_words" / "src" / "version.rt"
 
 ARGUMENTS = {  # of each command of the console
     **{"tvar": "NAME : TYPE = INIT", "try": "BLOCK", "looks": "BLOCK", "submit": "BLOCK", "take": "N", "deliver": "J"},
     **{"handback": "T", "eval": "", "finish": "T", "cancel": "T", "show": "", "reads": "T", "store": "", "settle": ""},
-    "history": "",
+    **{"history": "", "ready": "", "events": "N", "why": "T"},
 }
 COMMANDS = [rf"  {word} ?{argument}( .*)?" for word, argument in ARGUMENTS.items()]
 HELP = [r"Usage: stmdesk \[COMMAND\]", r"Commands:", *(rf"  {word} +.*" for word in ("run", "storm", "explore", "check", "help"))]

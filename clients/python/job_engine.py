@@ -5,14 +5,13 @@
 
 A job is a number; 0 means that there is none. There are two slots for one job each, and a worker takes from `urgent` first.
 A block says what a worker does and what it waits for; the engine knows nothing of slots. It evaluates what is new or stale,
-finishes what can commit, and gives each result to whoever asked for it. job_engine.out has what this prints.
+finishes what is ready, and gives each result to whoever asked for it. job_engine.out has what this prints.
 """
 
-import heapq
 import sys
 from collections.abc import Callable
 
-from stmdesk import Desk, FinishedThrows, Refused, Value
+from stmdesk import Delivery, Desk, FinishedThrows, Value
 
 
 def taken_from(slot: str) -> str:
@@ -38,61 +37,52 @@ REPORT = "do { n <- readTVar taken; if n < 3 then retry else return n }"
 class Engine:
     """Runs blocks. Each ticket has a name, and a function that gets its result.
 
-    A ticket is due if it is new or a finish made it stale. Only due tickets are looked at, so a finish costs as many calls as
-    it makes tickets stale, however many wait.
+    It works in rounds: it evaluates what is new or stale, asks which tickets are ready, and finishes these, except those that a
+    finish of the same round makes stale. It asks about no block that waits, so its work is that of what it evaluates and
+    finishes, however many wait.
     """
 
     def __init__(self, desk: Desk) -> None:
         self.desk = desk
         self.asked: dict[int, tuple[str, Callable[[Value], None]]] = {}
-        self.due: list[int] = []  # a heap
 
     def ask(self, who: str, block: str, then: Callable[[Value], None] = lambda result: None) -> None:
-        ticket = self.desk.submit(block)
-        self.asked[ticket] = who, then
-        heapq.heappush(self.due, ticket)
+        self.asked[self.desk.submit(block)] = who, then
 
     def worker(self, who: str) -> None:
         """A worker: after it has taken a job, it waits for the next one."""
         self.ask(who, WORKER, lambda job: self.worker(who))
 
     def run(self) -> None:
-        """Finishes what can go on, the lowest ticket first, until everything that waits blocks."""
+        """Finishes what can go on, in rounds, until everything that waits blocks."""
+        while ready := self.evaluated():
+            stale: set[int] = set()
+            for ticket in ready:
+                if ticket not in stale:
+                    stale.update(self.finish(ticket))
+
+    def evaluated(self) -> list[int]:
+        """Evaluates what is new or stale. Returns the tickets that can be finished."""
         self.desk.eval()
-        while self.due:
-            if self.finish(self.next_due()):
-                self.desk.eval()
+        return self.desk.ready()
 
-    def next_due(self) -> int:
-        ticket = heapq.heappop(self.due)
-        while self.due and self.due[0] == ticket:  # it became stale while it was due
-            heapq.heappop(self.due)
-        return ticket
-
-    def finish(self, ticket: int) -> bool:
-        """Finishes the ticket, unless it blocks."""
-        try:
-            done = self.desk.finish(ticket)
-        except Refused as refused:
-            if refused.name != "Blocks":
-                raise
-            return False
+    def finish(self, ticket: int) -> list[int]:
+        """Finishes a ticket. Returns those that this made stale."""
+        done = self.desk.finish(ticket)
         who, then = self.asked.pop(ticket)
         if isinstance(done, FinishedThrows):
             print(f"  {who} throws {done.fault}")
-            return True
-        for stale in done.stale:
-            heapq.heappush(self.due, stale)
+            return []
         result = "" if done.result is None else f" with {done.result}"
         names = ", ".join(self.asked[it][0] for it in done.stale)
         print(f"  {who} finishes{result}" + (f"; stale: {names}" if names else ""))
         then(done.result)
-        return True
+        return done.stale
 
     def print_waiting(self) -> None:
-        for it in self.desk.show():
-            read = " ".join(f"{variable}={value}" for variable, value in self.desk.reads(it.ticket).items())
-            print(f"  {self.asked[it.ticket][0]} waits, having read {read}")
+        for ticket, (who, _) in self.asked.items():
+            read = " ".join(f"{variable}={value}" for variable, value in self.desk.reads(ticket).items())
+            print(f"  {who} waits, having read {read}")
 
 
 def main(program: str | None) -> None:
@@ -115,10 +105,10 @@ def main(program: str | None) -> None:
         print("What is no job:")
         engine.ask("put 0", put("normal", 0))
         engine.run()
-        for status in desk.show():
-            desk.cancel(status.ticket)
-        events = [line for line in desk.history().splitlines() if '"event":' in line]
-        evaluations = sum('"event":"installed"' in line for line in events)
+        for ticket in engine.asked:
+            desk.cancel(ticket)
+        events = desk.events()
+        evaluations = sum(isinstance(it, Delivery) for it in events)
         print(f"{len(events)} events, {evaluations} of them evaluations.")
 
 

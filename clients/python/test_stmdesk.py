@@ -34,10 +34,12 @@ from unittest import mock
 
 sys.dont_write_bytecode = True
 
+import job_engine
 import stmdesk
 from stmdesk import (
-    BadAnswer, Blocks, Cell, ClientAt, Commits, Current, Desk, Ended, FinalCell, Finished, FinishedThrows, Job, New, NewRef, Ref,
-    Refused, ScriptRefused, Settled, Stale, Stopped, Throws, _commands, _hints, _program, aio, explore, find_program,
+    BadAnswer, Blocks, Cancellation, Cell, Change, ClientAt, Commits, Current, Delivery, Desk, Ended, FinalCell, Finish, Finished,
+    FinishedThrows, Job, New, NewRef, Ready, Ref, Refused, ScriptRefused, Settled, Stale, StaleBy, Stopped, Submission, Throws,
+    Waits, _commands, _hints, _program, aio, explore, find_program,
 )  # fmt: skip
 
 HERE = pathlib.Path(__file__).resolve().parent
@@ -204,6 +206,40 @@ class Answers(OnProgram):
         self.assert_is(desk.settle(), Settled(2, 4))
         self.assert_is(desk.show(), [Current(3, Blocks())])
 
+    def test_ready(self):
+        desk = self.start()
+        self.assert_is(desk.ready(), [])
+        for block in ("do { a <- readTVar x; if a == 1 then retry else return a }", "writeTVar x 5", "throw 4"):
+            desk.submit(block)
+        self.assert_is(desk.ready(), [])
+        desk.eval()
+        self.assert_is(desk.ready(), [2, 3])
+        desk.finish(2)
+        self.assert_is(desk.ready(), [3])
+        desk.eval()
+        self.assert_is(desk.ready(), [1, 3])
+
+    def test_why(self):
+        desk = self.start()
+        desk.tvar("slot : TVar Int = x")
+        desk.tvar("flag : Bool = True")
+        slot, flag = Ref(1, "slot"), Ref(2, "flag")
+        waits = "do { f <- readTVar flag; r <- readTVar slot; a <- readTVar r; if f then retry else return a }"
+        changes = "do { n <- newTVar 3; writeTVar slot n; writeTVar x (-7); return n }"
+        for block in (waits, changes, "writeTVar flag False", "retry"):
+            desk.submit(block)
+        self.assert_is(desk.why(1), New(1))
+        desk.eval()
+        self.assert_is(desk.why(1), Waits(1, {X: 1, slot: X, flag: True}))
+        self.assert_is([desk.why(2), desk.why(4)], [Ready(2), Waits(4, {})])
+        self.assert_is(desk.finish(2), Finished(2, Ref(3), [1]))
+        self.assert_is(desk.why(1), StaleBy(1, 2, {X: Change(1, -7), slot: Change(X, Ref(3))}))
+        desk.finish(3)
+        self.assert_is(desk.why(1), StaleBy(1, 2, {X: Change(1, -7), slot: Change(X, Ref(3))}))
+        desk.eval()
+        self.assert_is(desk.why(1), Ready(1))
+        self.assert_refused(lambda: desk.why(2), "NoTicket")
+
     def test_options_change_no_answer(self):
         for options in ({"workers": 1, "levels": 8, "max_events": 1 << 20}, {"workers": 64, "levels": 0}):
             desk = self.start(**options)
@@ -252,6 +288,54 @@ class Histories(OnProgram):
         with Desk(program) as desk:
             self.assertEqual(desk.history(), '{"format":3,"vars":0}\n')
             self.assertEqual(desk.history(), '{"format":3,"vars":0}\n')
+
+    def test_events(self):
+        desk = self.start()
+        for since in (0, 1, 2, 2**32 - 1):
+            events = desk.events(since)
+            self.assert_is((events, events.next, events.text), ([], 1, ""))
+        desk.submit("do { r <- newTVar x; writeTVar x 5; return r }")
+        desk.submit("readTVar x")
+        wanted = [
+            Submission(1, 0, 1, "do { r <- newTVar x; writeTVar x 5; return r }"),
+            Submission(2, 0, 2, "readTVar x"),
+        ]
+        self.assert_is((desk.events(), desk.events(0), desk.events(1)), (wanted, wanted, wanted))
+        desk.eval()
+        desk.finish(1)
+        desk.cancel(2)
+        desk.submit("throw (1 + 9223372036854775807)")
+        desk.submit("throw 4")
+        desk.settle()
+        new = desk.events(3)
+        made = Commits({X: 5}, [X], NewRef(0))
+        self.assert_is(
+            new,
+            [
+                Delivery(3, 0, 1, made), Delivery(4, 0, 2, Commits({}, [], 1)), Finish(5, 0, 1, made, 1, [2]), Cancellation(6, 0, 2),
+                Submission(7, 0, 3, "throw (1 + 9223372036854775807)"), Submission(8, 0, 4, "throw 4"),
+                Delivery(9, 0, 3, Throws("overflow")), Delivery(10, 0, 4, Throws(4)),
+                Finish(11, 0, 3, Throws("overflow"), 2, []), Finish(12, 0, 4, Throws(4), 2, []),
+            ],
+        )  # fmt: skip
+        self.assert_is(new.next, 13)
+        self.assert_is(desk.events(new.next), [])
+        self.assert_is(desk.events(12), new[-1:])
+        head, text = desk.history().split("\n", 2)[:2], desk.history().split("\n", 2)[2]
+        self.assert_is(len(head), 2)
+        self.assertEqual(desk.events().text, text)
+        self.assertTrue(text.endswith(new.text))
+        self.assert_is(desk.try_("return 3"), Commits({}, [], 3))  # nothing of an answer is left
+
+    def test_events_as_a_journal(self):
+        desk = self.start()
+        journal, since = "", 1
+        chance = random.Random(1)
+        for _ in range(60):
+            chance.choice([lambda: desk.submit(INCREMENT), desk.eval, desk.settle, lambda: None])()
+            new = desk.events(since)
+            journal, since = journal + new.text, new.next
+        self.assertEqual(desk.history().split("\n", 2)[2], journal)
 
     def test_is_checked(self):
         desk = self.start()
@@ -305,14 +389,14 @@ class Refusals(OnProgram):
 
     def test_numbers(self):
         desk = self.start()
-        for call in (desk.take, desk.deliver, desk.handback, desk.finish, desk.cancel, desk.reads):
+        for call in (desk.take, desk.deliver, desk.handback, desk.finish, desk.cancel, desk.reads, desk.why, desk.events):
             for number in (-1, 2**32, 10**10):
                 with self.subTest(call=call.__name__, number=number):
                     self.assert_refused(lambda: call(number), "Argument")
 
     def test_tickets(self):
         desk = self.start()
-        for call in (desk.finish, desk.cancel, desk.reads):
+        for call in (desk.finish, desk.cancel, desk.reads, desk.why):
             self.assert_refused(lambda: call(1), "NoTicket")
         desk.submit("retry")
         for call in (desk.finish, desk.reads):
@@ -401,7 +485,7 @@ class Lines(OnProgram):
         desk = self.start()
         with self.assertRaises(ValueError):
             desk.submit("return \udc80")
-        for call in (desk.take, desk.deliver, desk.handback, desk.finish, desk.cancel, desk.reads):
+        for call in (desk.take, desk.deliver, desk.handback, desk.finish, desk.cancel, desk.reads, desk.why, desk.events):
             for wrong in ("1\nsubmit retry", 1.0, None):
                 with self.assertRaises(TypeError):
                     call(wrong)
@@ -625,6 +709,23 @@ class Ends(OnProgram):
             "1 odd\nwaiting 1": lambda desk: desk.show(),
             "commits writes none news none result ()\nx": lambda desk: desk.history(),
             '{"format":3,"vars":0}\ncommits writes none news none result 1': lambda desk: desk.history(),
+            "ready": lambda desk: desk.why(1),
+            "ready x": lambda desk: desk.ready(),
+            "why 1": lambda desk: desk.why(1),
+            "why 1 odd": lambda desk: desk.why(1),
+            "why 1 stale": lambda desk: desk.why(1),
+            "why 1 stale 2 #0=1": lambda desk: desk.why(1),
+            "why 1 waits x=1": lambda desk: desk.why(1),
+            "events": lambda desk: desk.events(),
+            "nothing\nevents 0": lambda desk: desk.events(),
+            '{"client":0,"event":"cancelled","ticket":1}\nevents 0': lambda desk: desk.events(),
+            '{"client":0,"event":"cancelled"}\nevents 1': lambda desk: desk.events(),
+            '{"client":0,"event":"odd","ticket":1}\nevents 1': lambda desk: desk.events(),
+            '{"client":0,"event":"submitted","ticket":1}\nevents 1': lambda desk: desk.events(),
+            '{"client":0,"event":"installed","ticket":1,"verdict":[]}\nevents 1': lambda desk: desk.events(),
+            '{"client":0,"event":"installed","ticket":1,"verdict":{"commits":3}}\nevents 1': lambda desk: desk.events(),
+            "{\nevents 1": lambda desk: desk.events(),
+            '{"a":' * 100_000 + "\nevents 1": lambda desk: desk.events(),
         }
         for answer, call in calls.items():
             path = self.stand_in("read line", f"cat <<'END'\n{answer}\nEND", "sleep 1000")
@@ -1029,7 +1130,8 @@ class Batches(OnProgram):
                     batch.tvar("x : Int = 1"), batch.tvar("flag : Bool = False"), batch.try_(INCREMENT), batch.looks("readTVar x"),
                     batch.submit("writeTVar x 5"), batch.submit("do { f <- readTVar flag; retry }"), batch.take(2), batch.handback(2),
                     batch.deliver(Job(1, 1)), batch.eval(), batch.show(), batch.reads(2), batch.finish(1), batch.store(),
-                    batch.cancel(2), batch.settle(), batch.history(), batch.eval(),
+                    batch.cancel(2), batch.settle(), batch.history(), batch.eval(), batch.submit("retry"), batch.ready(), batch.why(3),
+                    batch.events(6), batch.events(),
                 ]  # fmt: skip
             self.assertEqual(list(batch), answers)
             self.assert_is(
@@ -1037,7 +1139,9 @@ class Batches(OnProgram):
                 [
                     X, FLAG, Commits({X: 2}, [], 1), {X: 1}, 1, 2, [Job(1, 1), Job(2, 2)], None, 1, 1,
                     [Current(1, Commits({X: 5}, [], None)), Current(2, Blocks())], {FLAG: False}, Finished(1, None, []),
-                    [cell(0, "x", "Int", 5, 1), cell(1, "flag", "Bool", False, 0)], None, Settled(0, 0), desk.history(), 0,
+                    [cell(0, "x", "Int", 5, 1), cell(1, "flag", "Bool", False, 0)], None, Settled(0, 0),
+                    "".join(desk.history().splitlines(keepends=True)[:-1]), 0, 3, [], New(3),
+                    [Cancellation(6, 0, 2), Submission(7, 0, 3, "retry")], desk.events(),
                 ],
             )  # fmt: skip
 
@@ -1650,10 +1754,15 @@ class Asynchronous(OnProgram):
             self.assert_is([await desk.value("x"), await desk.value(X)], [5, 5])
             self.assert_is(await desk.settle(), Settled(0, 0))
             self.assertEqual((await desk.history()).count("\n"), 9)
+            self.assert_is(await desk.ready(), [])
+            events = await desk.events(6)
+            self.assert_is((events, events.next), ([Cancellation(6, 0, 2)], 7))
             async with desk.batch() as batch:
                 answers = [batch.eval(), batch.submit("return 1 2"), batch.submit("retry")]
             self.assert_is([answers[0].result(), answers[2].result()], [0, 3])
             self.assert_refused(answers[1].result, "Unexpected", 9)
+            self.assert_is(await desk.why(3), New(3))
+            self.assert_is(await desk.events(7), [Submission(7, 0, 3, "retry")])
             with self.assertRaises(Refused):
                 await desk.finish(3)
             with self.assertRaises(ValueError):
@@ -1815,7 +1924,7 @@ class Floods(OnProgram):
 
     def test_of_other_lines(self):
         for line in ("y", "", "commits"):
-            for call in (lambda desk: desk.show(), lambda desk: desk.store(), lambda desk: desk.history()):
+            for call in (lambda desk: desk.show(), lambda desk: desk.store(), lambda desk: desk.history(), lambda desk: desk.events()):
                 self.assert_bad(call, f"yes '{line}'")
 
     def test_of_lines(self):
@@ -1823,6 +1932,7 @@ class Floods(OnProgram):
         with mock.patch.multiple(_commands, CELLS_LIMIT=1000, EVENTS_LIMIT=1000):
             self.assert_bad(lambda desk: desk.store(), "yes '#0 x : Int = 1 count 0'")
             self.assert_bad(lambda desk: desk.history(), "yes '{}'")
+            self.assert_bad(lambda desk: desk.events(), "yes '{}'")
 
 
 class Finding(OnProgram):
@@ -2100,7 +2210,7 @@ class Explorations(OnProgram):
 
 class Package(OnProgram):
     def test_its_version_is_the_program_s(self):
-        source = REPOSITORY / "crates" / "stm_console" / "src" / "version.rt"
+        source = REPOSITORY / "crates" / "stm_words" / "src" / "version.rt"
         if not source.exists():
             self.skipTest("the program has no version here")
         found = re.search(r'VERSION: &str = "(.*)"', source.read_text())
@@ -2148,6 +2258,28 @@ class Pages(OnProgram):
         command = [sys.executable, "-B", str(HERE / "job_engine.py"), program]
         done = subprocess.run(command, capture_output=True, text=True, timeout=SECONDS)
         self.assertEqual((done.stdout, done.stderr), ((HERE / "job_engine.out").read_text(), ""))
+
+    def test_the_job_engine_is_linear(self):
+        count, calls = 100, []
+
+        class Counted(Desk):
+            def _ask(self, command, text=""):
+                calls.append(command.word)
+                return super()._ask(command, text)
+
+        with Counted(program) as desk, contextlib.redirect_stdout(None):
+            for number in range(count + 1):
+                desk.tvar(f"done{number} : Bool = False")
+            engine = job_engine.Engine(desk)
+            for number in range(count):  # each waits for the one before it
+                engine.ask(f"job {number}", f"do {{ d <- readTVar done{number}; if d then writeTVar done{number + 1} True else retry }}")
+            engine.run()
+            self.assertEqual(len(engine.asked), count)
+            engine.ask("the first", "writeTVar done0 True")
+            calls.clear()
+            engine.run()
+            self.assertEqual(engine.asked, {})
+        self.assertEqual(len(calls), 3 * (count + 1) + 2)  # of each round; and one in which nothing is ready
 
     def test_the_readmes(self):
         for page in (HERE / "README.md", REPOSITORY / "README.md", *sorted((REPOSITORY / "docs").glob("*.md"))):

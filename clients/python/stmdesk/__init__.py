@@ -15,8 +15,8 @@ A value of the language is a value of Python: a number is an `int`, `True` and `
 type if a block could return either. docs/CONSOLE.md says what each command does, and docs/LANGUAGE.md what a block is. A line
 feed in a block is a blank.
 
-`Desk.atomically` runs a block and waits while it retries; `Desk.batch` gives many commands in one go; `stmdesk.aio` is the same
-for asyncio. `explore` needs no desk: it tries every order of the steps of a script's clients.
+`Desk.atomically` runs a block and waits while it retries; `Desk.batch` gives many commands in one go; `Desk.ready` says which tickets
+can be finished, `Desk.why` what one waits for, and `Desk.events` what has happened since; `stmdesk.aio` is the same for asyncio. `explore` needs no desk: it tries every order of the steps of a script's clients.
 
 A call raises `Refused` if the program refuses the command; `Stopped`, which is a `Refused`, if a `settle` stopped; `Ended`
 if the program ended; `BadAnswer` if the program printed what stmdesk never prints; `ValueError` or `TypeError` for an
@@ -32,17 +32,19 @@ from ._errors import BadAnswer, Cancelled, DeskError, Ended, Refused, ScriptRefu
 from ._explore import ClientAt, ClientState, Exploration, Outcome, explore
 from ._program import find_program
 from ._values import (
-    Blocks, Cell, Commits, Current, Fault, FinalCell, FinalStore, Finished, FinishedThrows, Job, New, NewRef, Ref, Settled,
-    Stale, Status, Store, Throws, Value, Verdict,
+    Blocks, Cancellation, Cell, Change, Commits, Current, Delivery, Event, Events, Fault, FinalCell, FinalStore, Finish,
+    Finished, FinishedThrows, Job, New, NewRef, Ready, Reason, Ref, Settled, Stale, StaleBy, Status, Store, Submission, Throws,
+    Value, Verdict, Waits,
 )  # fmt: skip
 
-__version__ = "0.3.0"
+__version__ = "0.4.0"
 
 __all__ = [
-    "Answer", "BadAnswer", "Batch", "Blocks", "Cancelled", "Cell", "ClientAt", "ClientState", "Commits", "Current", "Desk",
-    "DeskError", "Ended", "Exploration", "Fault", "FinalCell", "FinalStore", "Finished", "FinishedThrows", "Job", "New",
-    "NewRef", "Outcome", "Ref", "Refused", "ScriptRefused", "Settled", "Stale", "Status", "Stopped", "Store", "Thrown", "Throws",
-    "TimedOut", "Value", "Verdict", "explore", "find_program", "or_else",
+    "Answer", "BadAnswer", "Batch", "Blocks", "Cancellation", "Cancelled", "Cell", "Change", "ClientAt", "ClientState", "Commits",
+    "Current", "Delivery", "Desk", "DeskError", "Ended", "Event", "Events", "Exploration", "Fault", "FinalCell", "FinalStore",
+    "Finish", "Finished", "FinishedThrows", "Job", "New", "NewRef", "Outcome", "Ready", "Reason", "Ref", "Refused", "ScriptRefused",
+    "Settled", "Stale", "StaleBy", "Status", "Stopped", "Store", "Submission", "Thrown", "Throws", "TimedOut", "Value", "Verdict",
+    "Waits", "explore", "find_program", "or_else",
 ]  # fmt: skip
 
 for _name in __all__:

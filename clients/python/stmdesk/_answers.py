@@ -2,14 +2,17 @@
 
 from __future__ import annotations
 
+import json
 import re
 from collections.abc import Sequence
+from typing import Any
 
 from ._errors import Refused, Stopped
 from ._hints import hint
 from ._values import (
-    Blocks, Cell, Commits, Current, Fault, FinalCell, FinalStore, Finished, FinishedThrows, Job, New, NewRef, Ref, Settled,
-    Stale, Status, Store, Throws, Value, Verdict,
+    Blocks, Cancellation, Cell, Change, Commits, Current, Delivery, Event, Events, Fault, FinalCell, FinalStore, Finish,
+    Finished, FinishedThrows, Job, New, NewRef, Ready, Reason, Ref, Settled, Stale, StaleBy, Status, Store, Submission, Throws,
+    Value, Verdict, Waits,
 )  # fmt: skip
 
 _CONSTANTS: dict[str, bool | None] = {"True": True, "False": False, "()": None}
@@ -110,6 +113,32 @@ class Answers:
         """The lines of `show`"""
         return [self.status(line.split(" ")) for line in counted(lines)]
 
+    def tickets(self, words: Sequence[str]) -> list[int]:
+        """`ready 1 3`, or `ready none`"""
+        return [int(word) for word in words[1:] if word != "none"]
+
+    def changes(self, words: Sequence[str]) -> dict[Ref, Change]:
+        """`#0=1->5 #1=#0->#2`"""
+        found: dict[Ref, Change] = {}
+        for word in words:
+            variable, values = word.split("=")
+            read, left = values.split("->")
+            found[self.ref(variable)] = Change(self.value(read), self.value(left))
+        return found
+
+    def reason(self, words: Sequence[str]) -> Reason:
+        """`why 1 new`, `why 1 stale 3 #0=1->5`, `why 1 waits #0=1` or `why 1 ready`"""
+        ticket, state = int(words[1]), words[2]
+        if state == "stale":
+            return StaleBy(ticket, int(words[3]), self.changes(words[4:]))
+        if state == "waits":
+            return Waits(ticket, self.pairs(words[3:]))
+        if state == "new":
+            return New(ticket)
+        if state == "ready":
+            return Ready(ticket)
+        raise ValueError("no reason")
+
     def finished(self, words: Sequence[str]) -> Finished | FinishedThrows:
         """`finished 3 result () stale 1 2` or `finished 3 throws 4`"""
         ticket = int(words[1])
@@ -168,6 +197,52 @@ class Answers:
         if len(lines) < 2 or lines[-1] != "commits writes none news none result ()":
             raise ValueError("no history")
         return "\n".join([*lines[:-1], ""])
+
+    def events(self, lines: Sequence[str]) -> Events:
+        """The lines of `events`: those of the events, then `events 12`, how many there are in the history"""
+        count = int(lines[-1].split(" ")[1])
+        number = count + 2 - len(lines)  # of the first of them
+        if number < 1:
+            raise ValueError("another number of events")
+        events = [self.event(number + at, line) for at, line in enumerate(lines[:-1])]
+        return Events(events, count + 1, "\n".join([*lines[:-1], ""]))
+
+    def event(self, number: int, line: str) -> Event:
+        """The line of an event in a history (docs/HISTORY.md)"""
+        try:
+            found = json.loads(line)
+        except (json.JSONDecodeError, RecursionError):
+            found = None
+        if not isinstance(found, dict) or any(type(found.get(key)) is not int for key in ("client", "ticket")):
+            raise ValueError("no event")
+        kind, head = found["event"], (number, found["client"], found["ticket"])
+        if kind == "submitted":
+            return Submission(*head, found["block"])
+        if kind == "installed":
+            return Delivery(*head, self.recorded_verdict(found["verdict"]))
+        if kind == "finished":
+            return Finish(*head, self.recorded_verdict(found["verdict"]), found["first_new"], found["stale"])
+        if kind == "cancelled":
+            return Cancellation(*head)
+        raise ValueError("no event")
+
+    def recorded_verdict(self, found: Any) -> Verdict:
+        """A verdict of a history"""
+        if found == "blocks":
+            return _BLOCKS
+        if not isinstance(found, dict):
+            raise ValueError("no verdict")
+        if "throws" in found:
+            return Throws(found["throws"])
+        commits = found["commits"]
+        writes = {self.ref(f"#{variable}"): self.recorded(value) for variable, value in commits["writes"]}
+        return Commits(writes, [self.recorded(value) for _, value in commits["news"]], self.recorded(commits["result"]))
+
+    def recorded(self, value: Any) -> Value:
+        """A value of a history: a number, a Bool, null, or the object of a reference"""
+        if isinstance(value, dict):
+            return self.ref(f"#{value['old']}") if "old" in value else NewRef(value["new"])
+        return value
 
     def refusal(self, words: Sequence[str], command: str, text: str) -> Refused:
         """`refused NAME`, with a place or a `#id` after it: the refusal of the command with this argument."""

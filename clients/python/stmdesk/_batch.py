@@ -7,10 +7,10 @@ from types import TracebackType
 from typing import Any, TypeVar
 
 from ._commands import (
-    CANCEL, DELIVER, EVAL, FINISH, HANDBACK, HISTORY, LOOKS, READS, SETTLE, SHOW, STORE, SUBMIT, TAKE, TRY, TVAR, Answer,
-    Command, decimal, number_of,
+    CANCEL, DELIVER, EVAL, EVENTS, FINISH, HANDBACK, HISTORY, LOOKS, READS, READY, SETTLE, SHOW, STORE, SUBMIT, TAKE, TRY, TVAR,
+    WHY, Answer, Command, decimal, number_of,
 )  # fmt: skip
-from ._values import Finished, FinishedThrows, Job, Ref, Settled, Status, Store, Value, Verdict
+from ._values import Events, Finished, FinishedThrows, Job, Reason, Ref, Settled, Status, Store, Value, Verdict
 
 T = TypeVar("T")
 
@@ -91,9 +91,17 @@ class Commands:
         """`Desk.show`, when the batch is sent."""
         return self._add(SHOW)
 
+    def ready(self) -> Answer[list[int]]:
+        """`Desk.ready`, when the batch is sent."""
+        return self._add(READY)
+
     def reads(self, ticket: int) -> Answer[dict[Ref, Value]]:
         """`Desk.reads`, when the batch is sent."""
         return self._add(READS, decimal(ticket))
+
+    def why(self, ticket: int) -> Answer[Reason]:
+        """`Desk.why`, when the batch is sent."""
+        return self._add(WHY, decimal(ticket))
 
     def store(self) -> Answer[Store]:
         """`Desk.store`, when the batch is sent."""
@@ -106,6 +114,10 @@ class Commands:
     def history(self) -> Answer[str]:
         """`Desk.history`, when the batch is sent."""
         return self._add(HISTORY)
+
+    def events(self, since: int = 1) -> Answer[Events]:
+        """`Desk.events`, when the batch is sent."""
+        return self._add(EVENTS, decimal(since))
 
 
 class Batch(Commands):

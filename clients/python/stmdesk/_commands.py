@@ -13,7 +13,7 @@ from typing import Generic, TypeVar
 from ._answers import Answers
 from ._errors import Refused
 from ._program import Odd, Process
-from ._values import Finished, FinishedThrows, Job, Ref, Settled, Status, Store, Value, Verdict
+from ._values import Events, Finished, FinishedThrows, Job, Reason, Ref, Settled, Status, Store, Value, Verdict
 
 # How many tickets wait, variables are, and events happen at most.
 WAITING_LIMIT = 65_536
@@ -149,11 +149,14 @@ EVAL: Command[int] = Command("eval", Answers.second, "evaluated")
 FINISH: Command[Finished | FinishedThrows] = Command("finish", Answers.finished, "finished")
 CANCEL: Command[None] = Command("cancel", Answers.nothing, "cancelled")
 READS: Command[dict[Ref, Value]] = Command("reads", Answers.reads, "reads")
+READY: Command[list[int]] = Command("ready", Answers.tickets, "ready")
+WHY: Command[Reason] = Command("why", Answers.reason, "why")
 SETTLE: Command[Settled] = Command("settle", Answers.settled)
 SHOW: Command[list[Status]] = Command(
     "show", Answers.statuses, take=_lines_to("waiting ", tuple("123456789"), lambda: WAITING_LIMIT)
 )
 STORE: Command[Store] = Command("store", Answers.cells, take=_lines_to("cells ", ("#",), lambda: CELLS_LIMIT))
+EVENTS: Command[Events] = Command("events", Answers.events, take=_lines_to("events ", ("{",), lambda: EVENTS_LIMIT))
 # A history doesn't say which of its lines is the last. So a second command goes with it, which changes nothing and is always
 # answered alike, by a line that begins with no brace.
 HISTORY: Command[str] = Command("history", Answers.history, take=_history_lines, then="try return ()\n")

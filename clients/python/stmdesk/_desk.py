@@ -12,12 +12,12 @@ from typing import Any, TypeVar
 from ._answers import Answers
 from ._batch import Batch
 from ._commands import (
-    CANCEL, DELIVER, EVAL, FINISH, HANDBACK, HISTORY, LOOKS, READS, SETTLE, SHOW, STORE, SUBMIT, TAKE, TRY, TVAR, Answer,
-    Command, decimal, number_of,
+    CANCEL, DELIVER, EVAL, EVENTS, FINISH, HANDBACK, HISTORY, LOOKS, READS, READY, SETTLE, SHOW, STORE, SUBMIT, TAKE, TRY, TVAR,
+    WHY, Answer, Command, decimal, number_of,
 )  # fmt: skip
 from ._errors import BadAnswer, Cancelled, Ended, Refused, TimedOut
 from ._program import Closed, Odd, Process, check_built, find_program, is_ours
-from ._values import Commits, Finished, FinishedThrows, Job, Ref, Settled, Status, Store, Value, Verdict
+from ._values import Commits, Events, Finished, FinishedThrows, Job, Reason, Ref, Settled, Status, Store, Value, Verdict
 from ._waits import Wait, Waits
 
 PATIENCE = 5.0  # seconds that the program has to end after its input has ended
@@ -171,6 +171,15 @@ class Desk:
         """
         return self._ask(SHOW)
 
+    def ready(self) -> list[int]:
+        """The tickets that can be finished now, in ascending order: those that are current and don't block.
+
+        >>> tickets = [desk.submit(block) for block in ("retry", "readTVar x", "throw 4")]
+        >>> desk.eval(), desk.ready()
+        (3, [2, 3])
+        """
+        return self._ask(READY)
+
     def reads(self, ticket: int) -> dict[Ref, Value]:
         """What the last evaluation of a waiting ticket read, in ascending order of variables, with the values that it found.
 
@@ -179,6 +188,18 @@ class Desk:
         {Ref(0, 'x'): 1}
         """
         return self._ask(READS, decimal(ticket))
+
+    def why(self, ticket: int) -> Reason:
+        """What a waiting ticket waits for: an evaluation, since it is `New` or `StaleBy` a finish; a change of what it has read,
+        since it `Waits`; or nothing but its finish, since it is `Ready`.
+
+        >>> reader, writer = desk.submit("do { a <- readTVar x; if a < 5 then retry else return a }"), desk.submit("writeTVar x 3")
+        >>> desk.why(reader), desk.eval(), desk.why(reader)
+        (New(ticket=1), 2, Waits(ticket=1, reads={Ref(0, 'x'): 1}))
+        >>> desk.finish(writer).stale, desk.why(reader)
+        ([1], StaleBy(ticket=1, finish=2, changes={Ref(0, 'x'): Change(read=1, left=3)}))
+        """
+        return self._ask(WHY, decimal(ticket))
 
     def store(self) -> Store:
         """All variables, in ascending order: a list, and a mapping by name and by reference.
@@ -211,6 +232,19 @@ class Desk:
         {"block":"retry","client":0,"event":"submitted","ticket":1}
         """
         return self._ask(HISTORY)
+
+    def events(self, since: int = 1) -> Events:
+        """The events so far from the one of this number on, counted from 1: a list, with the number `next` from which to go on.
+
+        >>> ticket = desk.submit("retry")
+        >>> events = desk.events()
+        >>> events, events.next
+        ([Submission(number=1, client=0, ticket=1, block='retry')], 2)
+        >>> desk.cancel(ticket)
+        >>> desk.events(events.next)
+        [Cancellation(number=2, client=0, ticket=1)]
+        """
+        return self._ask(EVENTS, decimal(since))
 
     # What a command doesn't do by itself.
 
@@ -391,7 +425,7 @@ class Desk:
             raise BadAnswer(it.line(), str(odd)) from None
         except BaseException as error:
             process.kill()
-            if isinstance(error, (ValueError, LookupError)) and is_ours(error):
+            if isinstance(error, (ValueError, LookupError, TypeError)) and is_ours(error):
                 raise BadAnswer(it.line(), said if isinstance(said, str) else "\n".join(said)) from None
             raise
 

@@ -143,6 +143,63 @@ Status = New | Stale | Current
 
 
 @dataclass(frozen=True)
+class Ready:
+    """A waiting block that can be finished now: it is current, and its verdict isn't `Blocks`.
+
+    >>> ticket, evaluated = desk.submit("readTVar x"), desk.eval()
+    >>> desk.why(ticket)
+    Ready(ticket=1)
+    """
+
+    ticket: int
+
+
+@dataclass(frozen=True)
+class Waits:
+    """A waiting block that is current and blocks, until one of the variables changes that it has `reads`, with their values.
+
+    >>> ticket, evaluated = desk.submit("do { a <- readTVar x; if a < 5 then retry else return a }"), desk.eval()
+    >>> desk.why(ticket)
+    Waits(ticket=1, reads={Ref(0, 'x'): 1})
+    """
+
+    ticket: int
+    reads: dict[Ref, Value]
+
+
+@dataclass(frozen=True)
+class Change:
+    """The value of a variable that a block `read`, and the other one that it was `left` with.
+
+    >>> Change(1, 5)
+    Change(read=1, left=5)
+    """
+
+    read: Value
+    left: Value
+
+
+@dataclass(frozen=True)
+class StaleBy:
+    """A stale block, and what made it so. `finish` is the ticket of the first finish since the block's last evaluation that changed
+    something which the block had read; `changes` are the variables, in ascending order.
+
+    >>> reader, writer = desk.submit("readTVar x"), desk.submit("writeTVar x 5")
+    >>> desk.eval(), desk.finish(writer).stale
+    (2, [1])
+    >>> desk.why(reader)
+    StaleBy(ticket=1, finish=2, changes={Ref(0, 'x'): Change(read=1, left=5)})
+    """
+
+    ticket: int
+    finish: int
+    changes: dict[Ref, Change]
+
+
+Reason = New | StaleBy | Waits | Ready
+
+
+@dataclass(frozen=True)
 class Job:
     """A ticket that `take` handed out, with the job's number for `deliver`.
 
@@ -200,6 +257,91 @@ class Settled:
 
     finished: int
     evaluations: int
+
+
+@dataclass(frozen=True)
+class Submission:
+    """The event that a block began to wait: the `number`-th of the history, counted from 1.
+
+    >>> ticket = desk.submit("retry")
+    >>> desk.events()
+    [Submission(number=1, client=0, ticket=1, block='retry')]
+    """
+
+    number: int
+    client: int
+    ticket: int
+    block: str
+
+
+@dataclass(frozen=True)
+class Delivery:
+    """The event that a block was evaluated, and its verdict delivered.
+
+    >>> ticket, evaluated = desk.submit("retry"), desk.eval()
+    >>> desk.events(2)
+    [Delivery(number=2, client=0, ticket=1, verdict=Blocks())]
+    """
+
+    number: int
+    client: int
+    ticket: int
+    verdict: Verdict
+
+
+@dataclass(frozen=True)
+class Finish:
+    """The event that a block finished: its verdict, in which `NewRef(N)` became the variable `first_new + N`, and the tickets that
+    became stale by it, in ascending order.
+
+    >>> ticket, evaluated = desk.submit("writeTVar x 5"), desk.eval()
+    >>> finished = desk.finish(ticket)
+    >>> desk.events(3)
+    [Finish(number=3, client=0, ticket=1, verdict=Commits(writes={Ref(0, 'x'): 5}, news=[], result=None), first_new=1, stale=[])]
+    """
+
+    number: int
+    client: int
+    ticket: int
+    verdict: Verdict
+    first_new: int
+    stale: list[int]
+
+
+@dataclass(frozen=True)
+class Cancellation:
+    """The event that a block was cancelled.
+
+    >>> ticket = desk.submit("retry")
+    >>> desk.cancel(ticket)
+    >>> desk.events(2)
+    [Cancellation(number=2, client=0, ticket=1)]
+    """
+
+    number: int
+    client: int
+    ticket: int
+
+
+Event = Submission | Delivery | Finish | Cancellation
+
+
+class Events(list[Event]):
+    """Events of the history, in order. `next` is the number of the event that comes after all of them, so that `desk.events(next)`
+    goes on from here; `text` is their lines in the history, byte for byte.
+
+    >>> ticket = desk.submit("retry")
+    >>> events = desk.events()
+    >>> len(events), events.next
+    (1, 2)
+    >>> print(events.text, end="")
+    {"block":"retry","client":0,"event":"submitted","ticket":1}
+    """
+
+    def __init__(self, events: Iterable[Event], next: int, text: str) -> None:
+        super().__init__(events)
+        self.next = next
+        self.text = text
 
 
 @dataclass(frozen=True)

@@ -26,7 +26,7 @@ from typing import Any, TypeVar
 from . import _desk
 from ._batch import Commands
 from ._errors import Cancelled, TimedOut
-from ._values import Finished, FinishedThrows, Job, Ref, Settled, Status, Store, Value, Verdict
+from ._values import Events, Finished, FinishedThrows, Job, Reason, Ref, Settled, Status, Store, Value, Verdict
 from ._waits import Wait
 
 T = TypeVar("T")
@@ -154,6 +154,14 @@ class Desk:
         """
         return await self._call(self._desk.show)
 
+    async def ready(self) -> list[int]:
+        """The tickets that can be finished now, in ascending order.
+
+        >>> run(desk.ready())
+        []
+        """
+        return await self._call(self._desk.ready)
+
     async def reads(self, ticket: int) -> dict[Ref, Value]:
         """What the last evaluation of a waiting ticket read.
 
@@ -162,6 +170,15 @@ class Desk:
         {Ref(0, 'x'): 1}
         """
         return await self._call(partial(self._desk.reads, ticket))
+
+    async def why(self, ticket: int) -> Reason:
+        """What a waiting ticket waits for.
+
+        >>> ticket, evaluated = run(desk.submit("readTVar x")), run(desk.eval())
+        >>> run(desk.why(ticket))
+        Ready(ticket=1)
+        """
+        return await self._call(partial(self._desk.why, ticket))
 
     async def store(self) -> Store:
         """All variables, in ascending order, and by name.
@@ -187,6 +204,15 @@ class Desk:
         {"init":1,"name":"x","type":"Int"}
         """
         return await self._call(self._desk.history)
+
+    async def events(self, since: int = 1) -> Events:
+        """The events so far from the one of this number on, counted from 1, with the number `next` from which to go on.
+
+        >>> ticket = run(desk.submit("retry"))
+        >>> run(desk.events())
+        [Submission(number=1, client=0, ticket=1, block='retry')]
+        """
+        return await self._call(partial(self._desk.events, since))
 
     async def value(self, variable: str | Ref) -> Value:
         """The value of a variable of the present store.

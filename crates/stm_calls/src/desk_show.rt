@@ -5,7 +5,7 @@ use crate::words::{say, say_count, say_number, say_whether};
 use std::alloc::AllocError;
 use std::fmt::Write;
 use stm_desk::{Desk, Status};
-use stm_history::{Event, SharedVerdict, Tickets, What};
+use stm_events::{Event, SharedVerdict, Tickets, What};
 use stm_store::Store;
 use stm_terms::text::write_writes;
 use stm_terms::{Verdict, write_type, write_value, write_verdict};

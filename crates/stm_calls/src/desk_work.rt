@@ -2,8 +2,8 @@
 
 ghost use Rattle.std.specs.Prelude.{◌<◌, IfOk, OnOk};
 ghost use Rattle.stm_store.specs.Cells.{Covers};
-ghost use Rattle.stm_history.specs.SlowDesk.{max_clients};
-ghost use Rattle.stm_history.specs.JobsHandedOut.{AreCovered};
+ghost use Rattle.stm_events.specs.SlowDesk.{max_clients};
+ghost use Rattle.stm_machine.specs.JobsHandedOut.{AreCovered};
 
 use crate::words::say;
 use std::alloc::{AllocError, Global};

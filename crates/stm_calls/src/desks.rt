@@ -1,7 +1,7 @@
 //! Calls of the desk, and of a second one beside it.
 
 ghost use Rattle.std.specs.Prelude.{◌<◌};
-ghost use Rattle.stm_history.specs.SlowDesk.{max_clients};
+ghost use Rattle.stm_events.specs.SlowDesk.{max_clients};
 
 use crate::blocks::typed;
 use crate::desk_work::{self, Work};

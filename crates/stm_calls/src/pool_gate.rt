@@ -16,7 +16,7 @@ use std::thread::Threads;
 use std::time::{Clock, Duration};
 use stm_check::SharedBlock;
 use stm_desk::SubmitError;
-use stm_history::{Event, What};
+use stm_events::{Event, What};
 use stm_pool::{CloseError, Gate, Pass, Report, SharedDesk, WorkEnd, work};
 use stm_store::Table;
 

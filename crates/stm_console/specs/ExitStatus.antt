@@ -1,17 +1,10 @@
 -- The exit statuses of the program.
 use Rattle.std.specs.Prelude.{◌≡◌, ◌⊎◌, ℕ}
+use Rattle.stm_lines.specs.RunStatus.{status_of}
 use Rattle.stm_console.specs.declared.checking.Finding.{Finding}
 use Rattle.stm_console.specs.declared.checking.Finding.TheVariants.{Legal, BadHeader, BadLine, NotLegal}
-use Rattle.stm_console.specs.declared.storming.StormFault.{StormFault}
-use Rattle.stm_console.specs.declared.storming.StormFault.TheVariants.{Run, Script, Replay}
-use Rattle.stm_console.specs.declared.streams.RunFault.{RunFault}
-use Rattle.stm_console.specs.declared.streams.RunFault.TheVariants.{Read, Write, NoMemory}
-
--- a fault of the reader or the writer, and an out-of-memory error
-abbrev pub status_of : RunFault → ℕ
-status_of Read = 1
-status_of Write = 1
-status_of NoMemory = 4
+use Rattle.stm_storm.specs.declared.storming.StormFault.{StormFault}
+use Rattle.stm_storm.specs.declared.storming.StormFault.TheVariants.{Run, Script, Replay}
 
 -- a storm's: also where a line of the script is faulty, and where the history isn't legal, or not what the clients did
 abbrev pub storm_status : StormFault → ℕ

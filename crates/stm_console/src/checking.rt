@@ -6,11 +6,11 @@ ghost use Rattle.stm_terms.specs.Texts.{IsPrefixOf};
 ghost use Rattle.stm_console.specs.Checking.{IsFinding, BeginsFindingText, finding_text};
 ghost use Rattle.stm_console.specs.ExitStatus.{finding_status};
 
-use crate::output::write_line;
-use crate::streams::RunFault;
 use std::alloc::Global;
 use std::io::{Read, Write};
 use stm_history::{HistoryFault, check_history_with};
+use stm_lines::RunFault;
+use stm_lines::output::write_flushed;
 use stm_store::Seed;
 use stm_terms::NoMemory;
 use stm_terms::text::write_number;
@@ -129,6 +129,6 @@ pub fn check_with<R: Read, W: Write>(
 {
     let finding = judge(alloc, seed, reader)?;
     let line = finding_line(alloc, finding)?;
-    write_line(writer, line.as_bytes())?;
+    write_flushed(writer, line.as_bytes())?;
     Ok(finding)
 }

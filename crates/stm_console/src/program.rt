@@ -5,22 +5,16 @@ ghost use Rattle.std.specs.Io.KnownBytes.{Appends, Keeps};
 ghost use Rattle.clap.specs.Values.{kind_of};
 ghost use Rattle.stm_terms.specs.Texts.{IsPrefixOf};
 ghost use Rattle.stm_console.specs.Checking.{IsFinding, BeginsFindingText, finding_text};
-ghost use Rattle.stm_console.specs.Console.{console_text};
-ghost use Rattle.stm_console.specs.ExitStatus.{finding_status, status_of, storm_status, IsStatus};
-ghost use Rattle.stm_console.specs.CommandLine.{answers_of, asks_for_help, asks_for_version, has_mistake, is_mistake, judges_history, request_of, version_line, AreExploreOptions, IfExplore, IfRun, IfStorm};
-ghost use Rattle.stm_console.specs.ExploreEnd.{WritesRight};
-ghost use Rattle.stm_console.specs.ExploreStatus.{explore_status};
-ghost use Rattle.stm_console.specs.Options.{AreRunOptions};
-ghost use Rattle.stm_console.specs.StormText.{IsStormText};
+ghost use Rattle.stm_run.specs.Console.{console_text};
+ghost use Rattle.stm_console.specs.ExitStatus.{finding_status, storm_status, IsStatus};
+ghost use Rattle.stm_lines.specs.RunStatus.{status_of};
+ghost use Rattle.stm_words.specs.CommandLine.{answers_of, asks_for_help, asks_for_version, has_mistake, is_mistake, judges_history, request_of, version_line, AreExploreOptions, IfExplore, IfRun, IfStorm};
+ghost use Rattle.stm_exploration.specs.ExploreEnd.{WritesRight};
+ghost use Rattle.stm_exploration.specs.ExploreStatus.{explore_status};
+ghost use Rattle.stm_options.specs.Options.{AreRunOptions};
+ghost use Rattle.stm_storm.specs.StormText.{IsStormText};
 
 use crate::checking::{Finding, check_with};
-use crate::command_line::{Request, read_words};
-use crate::explore_options::ExploreOptions;
-use crate::exploring::{ExploreFault, explore_with};
-use crate::output::{flush, write_line};
-use crate::storming::{StormFault, storm};
-use crate::streams::{RunFault, run};
-use crate::version::version_line;
 use clap::Error;
 use clap::error::ErrorKind;
 use std::alloc::Global;
@@ -29,7 +23,16 @@ use std::io::{Read, Write};
 use std::random::RandomSource;
 use std::sync::Wait;
 use std::thread::Threads;
+use stm_exploration::ExploreFault;
+use stm_exploration::exploring::explore_with;
+use stm_lines::RunFault;
+use stm_lines::output::{flush, write_flushed};
+use stm_options::ExploreOptions;
+use stm_run::run;
 use stm_store::Seed;
+use stm_storm::{StormFault, storm};
+use stm_words::version::version_line;
+use stm_words::{Request, read_words};
 
 /// The exit status where a line of a script is faulty.
 const FAULTY_SCRIPT: u8 = 1;
@@ -39,20 +42,6 @@ const REFUSED: u8 = 2;
 
 /// The exit status where the history that a storm left isn't legal, and where an exploration doesn't find all right.
 const NOT_LEGAL: u8 = 3;
-
-impl RunFault {
-    /// The exit status of a run that ends so.
-    pub fn status(self) -> u8
-        ensures status { result ≡ status_of self }
-        ensures some { result ≢ 0 }
-    {
-        match self {
-            RunFault::Read => 1,
-            RunFault::Write => 1,
-            RunFault::NoMemory => 4,
-        }
-    }
-}
 
 /// Tells a fault on `errors`, and answers its status.
 fn tell_fault<E: Write>(fault: RunFault, errors: &mut E) -> u8
@@ -70,7 +59,7 @@ fn write_version<W: Write>(alloc: Global, writer: &mut W) -> Result<(), RunFault
         × Appends (W.contents writer.old) (W.contents writer.new) front) }
 {
     let line = version_line(alloc)?;
-    write_line(writer, line.as_bytes())
+    write_flushed(writer, line.as_bytes())
 }
 
 /// Prints the version, and returns the status.

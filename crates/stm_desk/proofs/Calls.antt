@@ -9,18 +9,18 @@ use Rattle.stm_store.specs.Tables.{Declared}
 use Rattle.stm_check.specs.TypedBlock.{Block}
 use Rattle.stm_eval.specs.declared.message.Evaluated.{Evaluated}
 use Rattle.stm_eval.specs.EvaluatedFields.{message_ticket, message_block, message_reads}
-use Rattle.stm_history.specs.declared.errors.DeliverError.TheVariants as deliver
-use Rattle.stm_history.specs.declared.errors.FinishError.TheVariants as finish
-use Rattle.stm_history.specs.declared.event.Event.{Event}
-use Rattle.stm_history.specs.declared.event.What.{What}
-use Rattle.stm_history.specs.SlowDesk.{Waiter, is_new, is_current, verdict_on, find_waiter, state, max_events, max_clients}
-use Rattle.stm_history.specs.Machine.{Parts, StandsFor, MovesTo, CanWait, CanInstall, CanFinish, CanLeave, event}
-use Rattle.stm_history.specs.Keeping.{IsVerdictUnder, CanKeep}
-use Rattle.stm_history.specs.Plans.{IsPlan}
-use Rattle.stm_history.specs.QueueAndIndex.{due_of}
-use Rattle.stm_history.specs.Refusals.{submit_first, submit_refused, cancel_first, cancel_refused, blocks_there, overflows, finish_first, finish_refused, overtaken_first, DeliverTold, TellsDelivery as Tells}
-use Rattle.stm_history.specs.Laws.{SubmitsWellTyped}
-use Rattle.stm_history.proofs.TypedStores.{submitted-append}
+use Rattle.stm_events.specs.declared.errors.DeliverError.TheVariants as deliver
+use Rattle.stm_events.specs.declared.errors.FinishError.TheVariants as finish
+use Rattle.stm_events.specs.declared.event.Event.{Event}
+use Rattle.stm_events.specs.declared.event.What.{What}
+use Rattle.stm_events.specs.SlowDesk.{Waiter, is_new, is_current, verdict_on, find_waiter, state, max_events, max_clients}
+use Rattle.stm_machine.specs.Machine.{Parts, StandsFor, MovesTo, CanWait, CanInstall, CanFinish, CanLeave, event}
+use Rattle.stm_machine.specs.Keeping.{IsVerdictUnder, CanKeep}
+use Rattle.stm_machine.specs.Plans.{IsPlan}
+use Rattle.stm_machine.specs.QueueAndIndex.{due_of}
+use Rattle.stm_events.specs.Refusals.{submit_first, submit_refused, cancel_first, cancel_refused, blocks_there, overflows, finish_first, finish_refused, overtaken_first, DeliverTold, TellsDelivery as Tells}
+use Rattle.stm_events.specs.Laws.{SubmitsWellTyped}
+use Rattle.stm_events.proofs.TypedStores.{submitted-append}
 use Rattle.stm_desk.specs.Kept.{DeskInvariant}
 
 -- ---- a call that nothing refuses has room in the history

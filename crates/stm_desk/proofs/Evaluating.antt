@@ -5,22 +5,20 @@ use Rattle.std.proofs.lemmas.Bool.Decides.{nat_tests}
 use Rattle.stm_terms.specs.declared.values.Value.{Value}
 use Rattle.stm_terms.specs.declared.verdicts.Verdict.{Verdict}
 use Rattle.stm_store.specs.Tables.{Declared}
-use Rattle.stm_eval.specs.declared.message.Evaluated.{Evaluated}
-use Rattle.stm_eval.specs.EvaluatedFields.{message_ticket, message_verdict}
 use Rattle.stm_queue.specs.Queue.{Entry, tickets, has_ticket, queued, without_ticket}
 use Rattle.stm_queue.specs.SortedTickets.{RisesAbove, IsRising}
 use Rattle.stm_queue.proofs.Membership.{in_queue}
-use Rattle.stm_history.specs.declared.errors.DeliverError.{DeliverError}
-use Rattle.stm_history.specs.declared.errors.DeliverError.TheVariants.{HistoryFull}
-use Rattle.stm_history.specs.declared.event.Event.{Event}
-use Rattle.stm_history.specs.declared.event.What.TheVariants.{Installed}
-use Rattle.stm_history.specs.declared.staleness.StalenessRule.{StalenessRule}
-use Rattle.stm_history.specs.declared.staleness.StalenessRule.TheVariants.{Changed}
-use Rattle.stm_history.specs.Keeping.{IsVerdictUnder}
-use Rattle.stm_history.specs.Machine.{Parts, StandsFor, StandsForBy, event}
-use Rattle.stm_history.specs.QueueAndIndex.{due_of}
-use Rattle.stm_history.specs.SlowDesk.{Waiter, state_by}
-use Rattle.stm_history.proofs.Taking.{take_more}
+use Rattle.stm_events.specs.declared.errors.DeliverError.{DeliverError}
+use Rattle.stm_events.specs.declared.errors.DeliverError.TheVariants.{HistoryFull}
+use Rattle.stm_events.specs.declared.event.Event.{Event}
+use Rattle.stm_events.specs.declared.event.What.TheVariants.{Installed}
+use Rattle.stm_events.specs.declared.staleness.StalenessRule.{StalenessRule}
+use Rattle.stm_events.specs.declared.staleness.StalenessRule.TheVariants.{Changed}
+use Rattle.stm_machine.specs.Keeping.{IsVerdictUnder}
+use Rattle.stm_machine.specs.Machine.{Parts, StandsFor, StandsForBy, event}
+use Rattle.stm_machine.specs.QueueAndIndex.{due_of}
+use Rattle.stm_events.specs.SlowDesk.{Waiter, state_by}
+use Rattle.stm_machine.proofs.Taking.{take_more}
 use Rattle.stm_desk.specs.Seen.{Seen, now, is_full, with_event}
 use Rattle.stm_desk.proofs.Turns.{store_install}
 use Rattle.stm_desk.specs.Evaluating.{EvaluatedSoFar, with_evaluated, evaluate_unless, evaluate_each, none_evaluated, evaluate_lowest}

@@ -1,6 +1,10 @@
 pub mod Calls
+pub mod Causes
 pub mod Evaluating
-pub mod Ripe
+pub mod EventsSince
+pub mod FoundWrites
+pub mod ReadValues
+pub mod ReasonsTold
 pub mod Runs
 pub mod Settles
 pub mod Turns

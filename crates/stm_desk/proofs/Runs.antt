@@ -3,17 +3,17 @@ use Rattle.std.proofs.Common.{◌≡◌, ℕ, zero, suc, ◌+◌, ◌-◌, ◌<�
 use Rattle.std.specs.Prelude.{nat_eq, is_some}
 use Rattle.std.proofs.lemmas.List.Elements.{filter-append}
 use Rattle.stm_store.specs.declared.cell.Cell.{Cell}
-use Rattle.stm_history.specs.declared.event.What.{What}
-use Rattle.stm_history.specs.declared.staleness.StalenessRule.TheVariants.{Changed}
+use Rattle.stm_events.specs.declared.event.What.{What}
+use Rattle.stm_events.specs.declared.staleness.StalenessRule.TheVariants.{Changed}
 use Rattle.stm_terms.specs.declared.verdicts.Verdict.{Verdict}
 use Rattle.stm_terms.specs.declared.verdicts.Verdict.TheVariants.{Commits, Throws, Blocks}
-use Rattle.stm_history.specs.SlowDesk.{Waiter, Slow, verdict_on, is_blocks, is_current, find_waiter, after, initial_state, state_from}
-use Rattle.stm_history.specs.SlowSettle.{lowest, is_due, ends, can_end, next_what, has_cells, settling, Stop, NoRoom, NoCells, settle_stop, is_finish, is_install, finishes, installs}
-use Rattle.stm_history.proofs.Folds.{state-push}
+use Rattle.stm_events.specs.SlowDesk.{Waiter, Slow, verdict_on, is_blocks, is_current, find_waiter, after, initial_state, state_from}
+use Rattle.stm_events.specs.SlowSettle.{lowest, is_due, ends, can_end, next_what, has_cells, settling, Stop, NoRoom, NoCells, settle_stop, is_finish, is_install, finishes, installs}
+use Rattle.stm_events.proofs.Folds.{state-push}
 use Rattle.stm_desk.specs.declared.errors.SettleWhy.{SettleWhy}
 use Rattle.stm_desk.specs.declared.errors.SettleWhy.TheVariants.{HistoryFull, CellsFull, NoMemory}
-use Rattle.stm_history.specs.SettleChoices.{some_out}
-use Rattle.stm_history.specs.Machine.{event}
+use Rattle.stm_machine.specs.SettleChoices.{some_out}
+use Rattle.stm_machine.specs.Machine.{event}
 use Rattle.stm_desk.specs.Seen.{Seen, now, with_event, AllHaveVerdicts}
 use Rattle.stm_desk.specs.Settling.{slow_settle, slow_stop, with_whats, called_back, HasSettled, HasBegun, StopTold, IsSettled, AllBlock}
 use Rattle.stm_desk.specs.Steps.{IsNextEvent, WhyTold}

@@ -2,10 +2,10 @@
 use Rattle.std.proofs.Common.{◌≡◌, ℕ, Bool, true, false, not, ◌||◌, cond, List, [], ◌∷◌, refl, ap, ◌∙◌}
 use Rattle.std.specs.Prelude.{nat_eq, nat_lt}
 use Rattle.stm_queue.specs.Queue.{Entry, with_ticket, without_ticket, recalled}
-use Rattle.stm_history.specs.declared.event.What.{What}
-use Rattle.stm_history.specs.declared.event.What.TheVariants.{Submitted, Installed, Finished, Cancelled}
-use Rattle.stm_history.specs.SettleChoices.{some_out}
-use Rattle.stm_history.specs.QueueAndIndex.{with_tickets}
+use Rattle.stm_events.specs.declared.event.What.{What}
+use Rattle.stm_events.specs.declared.event.What.TheVariants.{Submitted, Installed, Finished, Cancelled}
+use Rattle.stm_machine.specs.SettleChoices.{some_out}
+use Rattle.stm_machine.specs.QueueAndIndex.{with_tickets}
 use Rattle.stm_desk.specs.Seen.{pending_after}
 
 -- ---- no ticket is out

@@ -2,22 +2,24 @@
 use Rattle.std.proofs.Common.{◌≡◌, ℕ, ◌+◌, ◌<◌, ◌≤◌, Bool, true, false, not, cond, List, [], ◌∷◌, length, Option, Some, None, Err, refl, sym, ap, subst, ◌∙◌, arith}
 use Rattle.std.specs.Prelude.{is_some, nat_le, option_map}
 use Rattle.std.proofs.lemmas.Bool.Decides.{nat_tests}
+use Rattle.stm_terms.specs.declared.values.Value.{Value}
 use Rattle.stm_terms.specs.declared.verdicts.Verdict.{Verdict}
 use Rattle.stm_store.specs.Cells.{made_by, changed_by}
-use Rattle.stm_history.specs.declared.event.What.TheVariants.{Installed, Finished}
-use Rattle.stm_history.specs.declared.staleness.StalenessRule.TheVariants.{Changed}
-use Rattle.stm_history.specs.SlowDesk.{Since, Waiter, Slow, MayFinish, verdict_on, is_blocks, is_new_since, is_new, current_since, is_current, find_waiter, without_waiter, stale_after, initial_state, IsLegal, max_cells}
-use Rattle.stm_history.specs.SlowSettle.{lowest, is_due, ends, can_end, next_what}
-use Rattle.stm_history.specs.Laws.{AreRising}
-use Rattle.stm_history.proofs.Folds.{state-push, legal_split}
-use Rattle.stm_history.proofs.Rising.{rising_state}
-use Rattle.stm_history.specs.declared.errors.FinishError.{FinishError}
-use Rattle.stm_history.specs.declared.errors.FinishError.TheVariants as finish
-use Rattle.stm_history.specs.SettleChoices.{next_due, next_end}
-use Rattle.stm_history.specs.Machine.{event}
-use Rattle.stm_history.specs.QueueAndIndex.{due_of}
-use Rattle.stm_history.specs.Refusals.{overflows, finish_told}
-use Rattle.stm_history.proofs.Heads.{lowest_waits, lowest_holds}
+use Rattle.stm_events.specs.declared.event.What.TheVariants.{Installed, Finished}
+use Rattle.stm_events.specs.declared.staleness.StalenessRule.TheVariants.{Changed}
+use Rattle.stm_events.specs.SlowDesk.{Since, Waiter, Slow, MayFinish, verdict_on, is_blocks, is_new_since, is_new, current_since, is_current, find_waiter, without_waiter, stale_after, initial_state, IsLegal, max_cells}
+use Rattle.stm_events.specs.SlowSettle.{lowest, is_due, ends, can_end, next_what}
+use Rattle.stm_events.specs.Laws.{AreRising}
+use Rattle.stm_events.proofs.Folds.{state-push, legal_split}
+use Rattle.stm_events.proofs.Rising.{rising_state}
+use Rattle.stm_events.specs.declared.errors.FinishError.{FinishError}
+use Rattle.stm_events.specs.declared.errors.FinishError.TheVariants as finish
+use Rattle.stm_machine.specs.Keeping.{IsVerdictUnder}
+use Rattle.stm_machine.specs.SettleChoices.{next_due, next_end}
+use Rattle.stm_machine.specs.Machine.{event}
+use Rattle.stm_machine.specs.QueueAndIndex.{due_of}
+use Rattle.stm_events.specs.Refusals.{overflows, finish_told}
+use Rattle.stm_machine.proofs.Heads.{lowest_waits, lowest_holds}
 use Rattle.stm_desk.specs.Seen.{Seen, now, with_event, is_full}
 use Rattle.stm_desk.specs.Refusals.{finish_refusal}
 use Rattle.stm_desk.specs.Settling.{IsFull}
@@ -91,6 +93,19 @@ full_at d t v k f e = record { left = ap is_some (due_next d t v f); full = full
 -- the store stays
 pub store_install : (d new : Seen) (client t : ℕ) (v : Verdict) → new ≡ with_event d (event client (Installed t v)) → (now new).store ≡ (now d).store
 store_install d new client t v e = ap (λ (x : Seen). (now x).store) e ∙ ap (λ (s : Slow). s.store) (state-push Changed (initial_state d.table) d.history (event client (Installed t v)))
+
+-- ---- the verdict of the lowest that is due
+one_waits : (o : Option Waiter) (v w : Waiter) → o ≡ Some v → o ≡ Some w → v ≡ w
+one_waits None v w e f = cc
+one_waits (Some x) v w e f = let a : x ≡ v = cc in let b : x ≡ w = cc in sym a ∙ b
+
+pub due_verdict : (d : Seen) (t : ℕ) (v : Verdict) (reads : List (ℕ × Value)) → IsLegal d.table d.history → next_due (now d) ≡ Some t → IsVerdictUnder (now d) t v reads → IsDueVerdict (now d) t v
+due_verdict d t v reads l n p =
+    let s = now d in
+    let f = found_at is_due s t n in
+    let a : find_waiter t s.waiters ≡ Some f.one = subst (λ (u : ℕ). find_waiter u s.waiters ≡ Some f.one) f.ticket (found_waits is_due d f.one l f.first) in
+    let q : p.one ≡ f.one = one_waits (find_waiter t s.waiters) p.one f.one p.found a in
+    record { one = p.one; first = f.first ∙ ap Some (sym q); same = sym (ap (λ (w : Waiter). w.ticket) q ∙ f.ticket); verdict = p.verdict }
 
 -- ---- a finish
 pub record Ends (d : Seen) (t : ℕ) : Type 0 where

@@ -1,17 +1,17 @@
 -- Each waiting block has a verdict on the present store, so settling is rounds.
-use Rattle.std.proofs.Common.{◌≡◌, ℕ, ◌<◌, Bool, true, false, cond, List, [], ◌∷◌, Option, Some, None, refl, ap, sym, ◌∙◌, arith}
+use Rattle.std.proofs.Common.{◌≡◌, ℕ, ◌<◌, true, false, List, [], ◌∷◌, Some, refl, ap, arith}
 use Rattle.std.specs.Prelude.{nat_eq, is_some}
 use Rattle.std.proofs.lemmas.Bool.Decides.{nat_tests}
 use Rattle.stm_store.specs.declared.cell.Cell.{Cell}
 use Rattle.stm_store.specs.Cells.{plains, StoreIsTyped}
-use Rattle.stm_history.specs.declared.staleness.StalenessRule.TheVariants.{Changed}
-use Rattle.stm_history.specs.SlowDesk.{Waiter, verdict_on, find_waiter, IsLegal}
-use Rattle.stm_history.specs.Laws.{AreRising, SubmittedAreWellTyped}
-use Rattle.stm_history.specs.Rounds as rounds
-use Rattle.stm_history.proofs.Rounds.{settling_is_rounds}
-use Rattle.stm_history.proofs.TypedStores.{waiting_are_well_typed, blocks_have_verdicts}
+use Rattle.stm_events.specs.declared.staleness.StalenessRule.TheVariants.{Changed}
+use Rattle.stm_events.specs.SlowDesk.{Waiter, verdict_on, find_waiter, IsLegal}
+use Rattle.stm_events.specs.Laws.{AreRising, SubmittedAreWellTyped}
+use Rattle.stm_events.specs.Rounds as rounds
+use Rattle.stm_events.proofs.Rounds.{settling_is_rounds}
+use Rattle.stm_events.proofs.TypedStores.{waiting_are_well_typed, blocks_have_verdicts}
 use Rattle.stm_desk.specs.Seen.{Seen, now, AllHaveVerdicts, SettlesInRounds}
-use Rattle.stm_desk.proofs.Ripe.{waits_above}
+use Rattle.stm_machine.proofs.Ready.{waits_above}
 use Rattle.stm_desk.proofs.Turns.{rising_now}
 
 pub have_verdicts : (d : Seen) → IsLegal d.table d.history → SubmittedAreWellTyped d.history → StoreIsTyped (plains (now d).store) → AllHaveVerdicts (now d)

@@ -3,11 +3,11 @@ use Rattle.std.specs.Prelude.{◌≡◌, ℕ, ◌+◌, ◌≤◌, List, [], ◌�
 use Rattle.stm_terms.specs.declared.verdicts.Verdict.{Verdict}
 use Rattle.stm_store.specs.declared.cell.Cell.{Cell}
 use Rattle.stm_queue.specs.Queue.{queued}
-use Rattle.stm_history.specs.declared.errors.DeliverError.{DeliverError}
-use Rattle.stm_history.specs.declared.errors.DeliverError.TheVariants.{HistoryFull}
-use Rattle.stm_history.specs.declared.event.What.TheVariants.{Installed}
-use Rattle.stm_history.specs.Machine.{event}
-use Rattle.stm_history.specs.SlowDesk.{Waiter, Slow, verdict_on, find_waiter}
+use Rattle.stm_events.specs.declared.errors.DeliverError.{DeliverError}
+use Rattle.stm_events.specs.declared.errors.DeliverError.TheVariants.{HistoryFull}
+use Rattle.stm_events.specs.declared.event.What.TheVariants.{Installed}
+use Rattle.stm_machine.specs.Machine.{event}
+use Rattle.stm_events.specs.SlowDesk.{Waiter, Slow, verdict_on, find_waiter}
 use Rattle.stm_desk.specs.declared.evaluate.Evaluation.{Evaluation}
 use Rattle.stm_desk.specs.Seen.{Seen, now, is_full, with_event}
 

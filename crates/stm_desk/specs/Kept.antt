@@ -2,10 +2,10 @@
 -- that were submitted are well typed.
 use Rattle.std.specs.Prelude.{ℕ, ◌≤◌, List, length}
 use Rattle.stm_store.specs.Tables.{Declared}
-use Rattle.stm_history.specs.declared.event.Event.{Event}
-use Rattle.stm_history.specs.SlowDesk.{max_events}
-use Rattle.stm_history.specs.Laws.{SubmittedAreWellTyped}
-use Rattle.stm_history.specs.Machine.{Parts, StandsFor}
+use Rattle.stm_events.specs.declared.event.Event.{Event}
+use Rattle.stm_events.specs.SlowDesk.{max_events}
+use Rattle.stm_events.specs.Laws.{SubmittedAreWellTyped}
+use Rattle.stm_machine.specs.Machine.{Parts, StandsFor}
 
 -- the machine stands for the history, which has no more events than the desk takes, and well typed blocks alone
 pub record DeskInvariant (table : List Declared) (limit : ℕ) (history : List Event) (m : Parts) : Type 0 where

@@ -1,8 +1,11 @@
--- What a reader has to believe: what contracts see of a desk, what each call is refused for, and what settling does.
+-- What a reader has to believe: what contracts see of a desk, what each call is refused for, what settling does, and what a
+-- waiting block waits for.
 pub mod Evaluating
+pub mod Reasons
 pub mod Refusals
 pub mod Seen
 pub mod Settling
--- The words inside, for what a desk keeps and for one step of settling.
+-- The words inside, for what a desk keeps, for one step of settling, and for what is found of a reason.
 pub mod Kept
+pub mod ReasonsTold
 pub mod Steps

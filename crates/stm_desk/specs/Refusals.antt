@@ -3,11 +3,11 @@
 use Rattle.std.specs.Prelude.{ℕ, List, Option}
 use Rattle.stm_terms.specs.declared.values.Value.{Value}
 use Rattle.stm_check.specs.TypedBlock.{Block}
-use Rattle.stm_history.specs.declared.errors.SubmitError.{SubmitError}
-use Rattle.stm_history.specs.declared.errors.CancelError.{CancelError}
-use Rattle.stm_history.specs.declared.errors.DeliverError.{DeliverError}
-use Rattle.stm_history.specs.declared.errors.FinishError.{FinishError}
-use Rattle.stm_history.specs.Refusals.{submit_refused, cancel_refused, finish_refused, TellsDelivery as Tells, pending_left}
+use Rattle.stm_events.specs.declared.errors.SubmitError.{SubmitError}
+use Rattle.stm_events.specs.declared.errors.CancelError.{CancelError}
+use Rattle.stm_events.specs.declared.errors.DeliverError.{DeliverError}
+use Rattle.stm_events.specs.declared.errors.FinishError.{FinishError}
+use Rattle.stm_events.specs.Refusals.{submit_refused, cancel_refused, finish_refused, TellsDelivery as Tells, pending_left}
 use Rattle.stm_desk.specs.Seen.{Seen, now, is_full}
 
 -- why a block can't be submitted, if it can't

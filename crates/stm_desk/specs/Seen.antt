@@ -2,13 +2,13 @@
 use Rattle.std.specs.Prelude.{◌≡◌, ℕ, Bool, true, nat_le, List, [], ◌∷◌, ◌++◌, length, Some, is_some}
 use Rattle.stm_store.specs.Tables.{Declared}
 use Rattle.stm_queue.specs.Queue.{Entry, has_ticket, with_ticket, without_ticket}
-use Rattle.stm_history.specs.declared.event.Event.{Event}
-use Rattle.stm_history.specs.declared.event.What.{What}
-use Rattle.stm_history.specs.declared.event.What.TheVariants.{Submitted, Installed, Finished, Cancelled}
-use Rattle.stm_history.specs.SlowDesk.{Slow, Waiter, verdict_on, find_waiter, state}
-use Rattle.stm_history.specs.SlowSettle.{settling}
-use Rattle.stm_history.specs.Rounds.{a_round}
-use Rattle.stm_history.specs.QueueAndIndex.{due_of, with_tickets}
+use Rattle.stm_events.specs.declared.event.Event.{Event}
+use Rattle.stm_events.specs.declared.event.What.{What}
+use Rattle.stm_events.specs.declared.event.What.TheVariants.{Submitted, Installed, Finished, Cancelled}
+use Rattle.stm_events.specs.SlowDesk.{Slow, Waiter, verdict_on, find_waiter, state}
+use Rattle.stm_events.specs.SlowSettle.{settling}
+use Rattle.stm_events.specs.Rounds.{a_round}
+use Rattle.stm_machine.specs.QueueAndIndex.{due_of, with_tickets}
 
 -- the table that it was opened on, how many events it takes, its history, and the tickets that are queued or out
 pub record Seen : Type 0 where

@@ -2,10 +2,10 @@
 use Rattle.std.specs.Prelude.{◌≡◌, ℕ, ◌<◌, ◌-◌, true, false, List, [], ◌∷◌, ◌++◌, length, Option, Some, None, is_some}
 use Rattle.stm_terms.specs.declared.verdicts.Verdict.TheVariants.{Blocks}
 use Rattle.stm_queue.specs.Queue.{recalled}
-use Rattle.stm_history.specs.declared.event.What.{What}
-use Rattle.stm_history.specs.SlowDesk.{Waiter, Slow, is_current, verdict_on, find_waiter}
-use Rattle.stm_history.specs.SlowSettle.{lowest, is_due, can_end, next_what, has_cells, settling, Stop, NoRoom, NoCells, settle_stop, finishes, installs}
-use Rattle.stm_history.specs.Machine.{event}
+use Rattle.stm_events.specs.declared.event.What.{What}
+use Rattle.stm_events.specs.SlowDesk.{Waiter, Slow, is_current, verdict_on, find_waiter}
+use Rattle.stm_events.specs.SlowSettle.{lowest, is_due, can_end, next_what, has_cells, settling, Stop, NoRoom, NoCells, settle_stop, finishes, installs}
+use Rattle.stm_machine.specs.Machine.{event}
 use Rattle.stm_desk.specs.declared.errors.SettleWhy.{SettleWhy}
 use Rattle.stm_desk.specs.declared.errors.SettleWhy.TheVariants.{HistoryFull, CellsFull, NoMemory}
 use Rattle.stm_desk.specs.Seen.{Seen, now, with_event}

@@ -1,12 +1,12 @@
 -- One step of settling, and why it can't be made.
 use Rattle.std.specs.Prelude.{◌≡◌, ℕ, ◌<◌, true, [], ◌∷◌, length, Some}
 use Rattle.stm_terms.specs.declared.verdicts.Verdict.{Verdict}
-use Rattle.stm_history.specs.declared.event.What.{What}
-use Rattle.stm_history.specs.SlowDesk.{Waiter, Slow, verdict_on}
-use Rattle.stm_history.specs.SlowSettle.{lowest, is_due, next_what, has_cells, finishes, installs}
-use Rattle.stm_history.specs.Machine.{event}
-use Rattle.stm_history.specs.declared.errors.FinishError.{FinishError}
-use Rattle.stm_history.specs.declared.errors.FinishError.TheVariants as finish
+use Rattle.stm_events.specs.declared.event.What.{What}
+use Rattle.stm_events.specs.SlowDesk.{Waiter, Slow, verdict_on}
+use Rattle.stm_events.specs.SlowSettle.{lowest, is_due, next_what, has_cells, finishes, installs}
+use Rattle.stm_machine.specs.Machine.{event}
+use Rattle.stm_events.specs.declared.errors.FinishError.{FinishError}
+use Rattle.stm_events.specs.declared.errors.FinishError.TheVariants as finish
 use Rattle.stm_desk.specs.declared.errors.SettleWhy.{SettleWhy}
 use Rattle.stm_desk.specs.declared.errors.SettleWhy.TheVariants.{HistoryFull, CellsFull, NoMemory}
 use Rattle.stm_desk.specs.Seen.{Seen, now, with_event}

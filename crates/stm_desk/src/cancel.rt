@@ -1,15 +1,15 @@
 //! A block that is to wait no more.
 
 ghost use Rattle.std.specs.Prelude.{◌≡◌, ◌<◌, OnOk, OnErr};
-ghost use Rattle.stm_history.specs.SlowDesk.{IsLegal, max_clients};
-ghost use Rattle.stm_history.specs.declared.event.What.{What as AnyWhat};
-ghost use Rattle.stm_history.specs.Machine.{event};
-ghost use Rattle.stm_history.specs.Refusals.{cancel_told};
+ghost use Rattle.stm_events.specs.SlowDesk.{IsLegal, max_clients};
+ghost use Rattle.stm_events.specs.declared.event.What.{What as AnyWhat};
+ghost use Rattle.stm_machine.specs.Machine.{event};
+ghost use Rattle.stm_events.specs.Refusals.{cancel_told};
 ghost use Rattle.stm_desk.specs.Seen.{with_event};
 ghost use Rattle.stm_desk.specs.Refusals.{cancel_refusal};
 
 use crate::desk::Desk;
-use stm_history::{CancelError, Event, What};
+use stm_events::{CancelError, Event, What};
 
 impl Desk {
     /// Why the block can't be cancelled, an out-of-memory error aside.

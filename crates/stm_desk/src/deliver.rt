@@ -1,17 +1,17 @@
 //! A message of an evaluator.
 
 ghost use Rattle.std.specs.Prelude.{◌≡◌, ◌<◌, None, IfOk, OnOk, IfErr, OnErr, IsSomeAnd};
-ghost use Rattle.stm_history.specs.SlowDesk.{IsLegal, find_waiter, max_clients};
-ghost use Rattle.stm_history.specs.declared.event.What.{What as AnyWhat};
-ghost use Rattle.stm_history.specs.Machine.{event};
-ghost use Rattle.stm_history.specs.Refusals.{install_told, deliver_told};
+ghost use Rattle.stm_events.specs.SlowDesk.{IsLegal, find_waiter, max_clients};
+ghost use Rattle.stm_events.specs.declared.event.What.{What as AnyWhat};
+ghost use Rattle.stm_machine.specs.Machine.{event};
+ghost use Rattle.stm_events.specs.Refusals.{install_told, deliver_told};
 ghost use Rattle.stm_eval.specs.EvaluatedFields.{message_ticket, message_block, message_reads, message_verdict};
 ghost use Rattle.stm_desk.specs.Seen.{now, with_event};
 ghost use Rattle.stm_desk.specs.Refusals.{TellsDeskDelivery, left_by};
 
 use crate::desk::Desk;
 use stm_eval::Evaluated;
-use stm_history::{DeliverError, Event, What};
+use stm_events::{DeliverError, Event, What};
 use stm_terms::NoMemory;
 
 impl Desk {

@@ -1,12 +1,13 @@
 //! The desk, and how it opens.
 
 ghost use Rattle.std.specs.Prelude.{◌≡◌, ◌≤◌, [], IfOk};
-ghost use Rattle.stm_history.specs.SlowDesk.{max_events as most_events};
+ghost use Rattle.stm_events.specs.SlowDesk.{max_events as most_events};
 ghost use Rattle.stm_desk.specs.Seen.{is_full};
 
 use std::alloc::Global;
 use std::marker::Model;
-use stm_history::{Event, Machine};
+use stm_events::Event;
+use stm_machine::Machine;
 use stm_store::Table;
 use stm_terms::NoMemory;
 

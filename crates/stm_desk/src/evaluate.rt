@@ -4,16 +4,16 @@ ghost use Rattle.std.specs.Prelude.{◌≡◌, ◌<◌, ◌≤◌, true, false, 
 ghost use Rattle.stm_store.specs.Cells.{plains};
 ghost use Rattle.stm_queue.specs.Queue.{queued, tickets};
 ghost use Rattle.stm_queue.specs.SortedTickets.{IsRising};
-ghost use Rattle.stm_history.specs.SlowDesk.{IsLegal, find_waiter, max_clients};
-ghost use Rattle.stm_history.specs.declared.event.What.{What as AnyWhat};
-ghost use Rattle.stm_history.specs.Keeping.{IsVerdictUnder};
-ghost use Rattle.stm_history.specs.Machine.{event};
-ghost use Rattle.stm_history.specs.QueueAndIndex.{due_of};
+ghost use Rattle.stm_events.specs.SlowDesk.{IsLegal, find_waiter, max_clients};
+ghost use Rattle.stm_events.specs.declared.event.What.{What as AnyWhat};
+ghost use Rattle.stm_machine.specs.Keeping.{IsVerdictUnder};
+ghost use Rattle.stm_machine.specs.Machine.{event};
+ghost use Rattle.stm_machine.specs.QueueAndIndex.{due_of};
 ghost use Rattle.stm_desk.specs.Seen.{now, is_full, with_event};
 
 use crate::desk::Desk;
 use stm_eval::Scratch;
-use stm_history::{DeliverError, Event, What};
+use stm_events::{DeliverError, Event, What};
 use stm_store::Frozen;
 use stm_terms::NoMemory;
 use stm_terms::verdicts::Verdict;

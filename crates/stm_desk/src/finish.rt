@@ -2,16 +2,17 @@
 
 ghost use Rattle.std.specs.Prelude.{◌≡◌, ◌++◌, ◌∷◌, [], ◌<◌, IfOk, OnOk, OnErr, vec_len, vec_capacity};
 ghost use Rattle.stm_store.specs.Cells.{applied_answer as told_of};
-ghost use Rattle.stm_history.specs.SlowDesk.{IsLegal, max_clients};
-ghost use Rattle.stm_history.specs.declared.event.What.{What as AnyWhat};
-ghost use Rattle.stm_history.specs.Machine.{event};
-ghost use Rattle.stm_history.specs.Plans.{IsPlan};
-ghost use Rattle.stm_history.specs.Refusals.{finish_told};
+ghost use Rattle.stm_events.specs.SlowDesk.{IsLegal, max_clients};
+ghost use Rattle.stm_events.specs.declared.event.What.{What as AnyWhat};
+ghost use Rattle.stm_machine.specs.Machine.{event};
+ghost use Rattle.stm_machine.specs.Plans.{IsPlan};
+ghost use Rattle.stm_events.specs.Refusals.{finish_told};
 ghost use Rattle.stm_desk.specs.Seen.{now, with_event};
 ghost use Rattle.stm_desk.specs.Refusals.{finish_refusal};
 
 use crate::desk::Desk;
-use stm_history::{Event, FinishError, Plan, SharedVerdict, StalenessRule, Tickets, What};
+use stm_events::{Event, FinishError, SharedVerdict, StalenessRule, Tickets, What};
+use stm_machine::Plan;
 use stm_store::Applied;
 use stm_terms::NoMemory;
 

@@ -1,10 +1,11 @@
 //! The desk: the store, the blocks that wait under tickets, and the history.
 //!
-//! A desk is a machine of `stm_history` with the table that it was opened on, how many events it takes, and the list of its
+//! A desk is a machine of `stm_machine` with the table that it was opened on, how many events it takes, and the list of its
 //! events. Contracts see the table, the limit, the history and the tickets that are queued or out (`specs/Seen`); all else is
-//! what the slow desk makes of the history (`stm_history/specs/SlowDesk`). `specs/Refusals` says what each call is refused for,
-//! `specs/Evaluating` what evaluating the queued blocks does, and `specs/Settling` what settling does and why it stops. Each
-//! accepted call adds exactly its event. Only `evaluate_queued` and `settle` evaluate blocks.
+//! what the slow desk makes of the history (`stm_events/specs/SlowDesk`). `specs/Refusals` says what each call is refused for,
+//! `specs/Evaluating` what evaluating the queued blocks does, `specs/Settling` what settling does and why it stops, and
+//! `specs/Reasons` what a waiting block waits for. Each accepted call adds exactly its event. Only `evaluate_queued` and
+//! `settle` evaluate blocks.
 #![tactic(auto)]
 
 // The desk and its calls.
@@ -13,10 +14,12 @@ pub mod deliver;
 pub mod desk;
 pub mod evaluate;
 pub mod finish;
+pub mod reason;
 pub mod settle;
 pub mod show;
 pub mod submit;
 pub mod take;
+pub mod why;
 
 // Why settling stops.
 pub mod errors;
@@ -25,5 +28,6 @@ pub use desk::Desk;
 pub use errors::{SettleStop, SettleWhy};
 pub use evaluate::Evaluation;
 pub use finish::Finish;
+pub use reason::{Change, Reason};
 pub use settle::Settled;
-pub use stm_history::{CancelError, DeliverError, FinishError, Status, SubmitError};
+pub use stm_events::{CancelError, DeliverError, FinishError, Status, SubmitError};

@@ -1,10 +1,9 @@
 //! Settling: all that can run, in a fixed order.
 
-ghost use Rattle.std.specs.Prelude.{◌≡◌, ℕ, List, ◌<◌, ◌≤◌, true, false, None, Some, length, IfOk, OnOk, IfErr, OnErr};
+ghost use Rattle.std.specs.Prelude.{◌≡◌, ◌<◌, ◌≤◌, false, None, Some, length, IfOk, OnOk, IfErr, OnErr};
 ghost use Rattle.stm_store.specs.Cells.{plains};
-ghost use Rattle.stm_history.specs.SlowDesk.{IsLegal, is_blocks, is_current, Waiter, find_waiter, max_clients};
-ghost use Rattle.stm_history.specs.SlowSettle.{can_end};
-ghost use Rattle.stm_history.specs.SettleChoices.{some_out, next_due, next_end, ended_then, AreCandidates};
+ghost use Rattle.stm_events.specs.SlowDesk.{IsLegal, max_clients};
+ghost use Rattle.stm_machine.specs.SettleChoices.{some_out, next_due, next_end};
 ghost use Rattle.stm_desk.specs.Seen.{now};
 ghost use Rattle.stm_desk.specs.Settling.{called_back, HasBegun, HasSettled, IsSettled, AllBlock, StopTold};
 ghost use Rattle.stm_desk.specs.Steps.{IsNextEvent, WhyTold, StopsFinish, finish_why};
@@ -12,10 +11,8 @@ ghost use Rattle.stm_desk.specs.Steps.{IsNextEvent, WhyTold, StopsFinish, finish
 use crate::desk::Desk;
 use crate::errors::{SettleStop, SettleWhy};
 use stm_eval::Scratch;
-use stm_history::{FinishError, TicketSet};
+use stm_events::FinishError;
 use stm_store::Frozen;
-use stm_terms::NoMemory;
-use stm_terms::verdicts::Verdict;
 
 /// How much settling did.
 #[derive(Clone, Copy, Debug, PartialEq, Eq, Drop)]
@@ -24,16 +21,6 @@ pub struct Settled {
     pub finished: u32,
     /// How many deliveries were accepted.
     pub evaluations: u32,
-}
-
-/// Whether the verdict is that the block blocks.
-fn blocks(verdict: &Verdict) -> bool
-    ensures { result ≡ is_blocks verdict.now }
-{
-    match verdict {
-        Verdict::Blocks => true,
-        _ => false,
-    }
 }
 
 fn why_of_finish(refusal: FinishError) -> SettleWhy
@@ -59,14 +46,6 @@ impl Desk {
         self.machine.recall();
     }
 
-    /// The tickets of the blocks that can end by what is kept of their deliveries, and maybe others.
-    fn ended(&self) -> Result<TicketSet, NoMemory>
-        ensures candidates { IfOk result (λ cs. AreCandidates (now self.now) cs) }
-        ensures legal { IsLegal self.now.table self.now.history }
-    {
-        self.machine.ending()
-    }
-
     /// The lowest ticket of a block that is new or stale.
     fn next_due(&self) -> Option<u32>
         requires { some_out self.now.pending ≡ false }
@@ -77,37 +56,28 @@ impl Desk {
         self.machine.first_queued()
     }
 
-    /// The block of the lowest ticket that is new or stale is evaluated and delivered. Where it doesn't block, it becomes a
-    /// candidate.
+    /// The block of the lowest ticket that is new or stale is evaluated and delivered.
     fn deliver_next(
         &mut self,
         client: u32,
         scratch: &mut Scratch,
         frozen: &Frozen,
         ticket: u32,
-        candidates: &mut TicketSet,
     ) -> Result<(), SettleWhy>
         requires client { client < max_clients }
         requires next { next_due (now self.old) ≡ Some ticket }
         requires store { frozen.now ≡ plains (now self.old).store }
-        requires candidates { AreCandidates (now self.old) candidates.old }
         requires legal { IsLegal self.old.table self.old.history }
         ensures done { OnOk result (IsNextEvent client 0 1 self.old self.new) }
         ensures why { IfErr result (λ why. WhyTold why self.old) }
         ensures unchanged { OnErr result (self.new ≡ self.old) }
         ensures store { (now self.new).store ≡ (now self.old).store }
-        ensures candidates { AreCandidates (now self.new) candidates.new }
         ensures legal { IsLegal self.new.table self.new.history }
     {
         let verdict = match self.verdict_due(scratch, frozen, ticket) {
             Ok(verdict) => verdict,
             Err(_) => return Err(SettleWhy::NoMemory),
         };
-        let ends = !blocks(&verdict);
-        match candidates.add_if(ends, ticket) {
-            Ok(()) => {}
-            Err(_) => return Err(SettleWhy::NoMemory),
-        }
         if self.is_full() {
             return Err(SettleWhy::HistoryFull);
         }
@@ -118,21 +88,14 @@ impl Desk {
     }
 
     /// A round of deliveries: all blocks that are new or stale, rising. How many they were, also at a stop.
-    fn deliver_all(
-        &mut self,
-        client: u32,
-        scratch: &mut Scratch,
-        candidates: &mut TicketSet,
-    ) -> Result<u32, (u32, SettleWhy)>
+    fn deliver_all(&mut self, client: u32, scratch: &mut Scratch) -> Result<u32, (u32, SettleWhy)>
         requires client { client < max_clients }
         requires none_out { some_out self.old.pending ≡ false }
-        requires candidates { AreCandidates (now self.old) candidates.old }
         ensures begun { IfOk result (λ n. HasBegun client self.old self.new 0 n) }
         ensures none_due { OnOk result (next_due (now self.new) ≡ None) }
         ensures stopped { IfErr result (λ e. HasBegun client self.old self.new 0 e.0) }
         ensures why { IfErr result (λ e. WhyTold e.1 self.new) }
         ensures none_out { some_out self.new.pending ≡ false }
-        ensures candidates { AreCandidates (now self.new) candidates.new }
         ensures legal { IsLegal self.new.table self.new.history }
         ensures few { OnOk result (length self.new.history ≤ self.new.limit) }
     {
@@ -149,7 +112,7 @@ impl Desk {
                 Some(ticket) => ticket,
                 None => return Ok(delivered),
             };
-            match self.deliver_next(client, scratch, &frozen, ticket, candidates) {
+            match self.deliver_next(client, scratch, &frozen, ticket) {
                 Ok(()) => {}
                 Err(why) => return Err((delivered, why)),
             }
@@ -157,32 +120,13 @@ impl Desk {
         }
     }
 
-    /// Whether a block waits under the ticket whose last delivery brought a verdict that doesn't block.
-    fn ends(&self, ticket: u32) -> bool
-        ensures then { result ≡ ended_then (find_waiter ticket (now self.now).waiters) }
-        ensures present { (w : Waiter) → find_waiter ticket (now self.now).waiters ≡ Some w
-            → is_current w ≡ true → result ≡ can_end (now self.now).store w }
-        ensures legal { IsLegal self.now.table self.now.history }
-        ensures few { length self.now.history ≤ self.now.limit }
-    {
-        self.machine.ends(ticket)
-    }
-
-    /// The lowest ticket of a block that doesn't block, where none is new or stale. Candidates below it are dropped.
-    fn next_end(&self, candidates: &mut TicketSet) -> Option<u32>
+    /// The lowest ticket of a block that doesn't block, where none is new or stale.
+    fn next_end(&self) -> Option<u32>
         requires legal { IsLegal self.now.table self.now.history }
         requires none_due { next_due (now self.now) ≡ None }
-        requires candidates { AreCandidates (now self.now) candidates.old }
-        ensures first { result ≡ next_end (now self.now) }
-        ensures candidates { AreCandidates (now self.now) candidates.new }
+        ensures { result ≡ next_end (now self.now) }
     {
-        while let Some(ticket) = candidates.least() {
-            if self.ends(ticket) {
-                return Some(ticket);
-            }
-            candidates.drop_least();
-        }
-        None
+        self.next_ready(0)
     }
 
     /// The block of that ticket is finished.
@@ -195,8 +139,6 @@ impl Desk {
         ensures done { OnOk result (IsNextEvent client 1 0 self.old self.new) }
         ensures why { IfErr result (λ why. WhyTold why self.old) }
         ensures unchanged { OnErr result (self.new ≡ self.old) }
-        ensures candidates { (cs : List ℕ) → AreCandidates (now self.old) cs
-            → AreCandidates (now self.new) cs }
         ensures legal { IsLegal self.new.table self.new.history }
     {
         match self.finish(client, ticket) {
@@ -221,19 +163,9 @@ impl Desk {
         self.call_back();
         let mut finished = 0;
         let mut evaluations = 0;
-        let mut candidates = match self.ended() {
-            Ok(candidates) => candidates,
-            Err(_) => {
-                return Err(SettleStop {
-                    finished,
-                    evaluations,
-                    why: SettleWhy::NoMemory,
-                });
-            }
-        };
         let mut scratch = Scratch::new(*self.history.allocator());
         loop {
-            match self.deliver_all(client, &mut scratch, &mut candidates) {
+            match self.deliver_all(client, &mut scratch) {
                 Ok(delivered) => evaluations += delivered,
                 Err((delivered, why)) => {
                     return Err(SettleStop {
@@ -243,7 +175,7 @@ impl Desk {
                     });
                 }
             }
-            let ticket = match self.next_end(&mut candidates) {
+            let ticket = match self.next_end() {
                 Some(ticket) => ticket,
                 None => {
                     // Each waiting block is known to have a verdict by this.

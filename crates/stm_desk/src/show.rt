@@ -3,18 +3,19 @@
 ghost use Rattle.std.specs.Prelude.{◌≡◌, ◌≤◌, nat_lt, true, Some, length, option_map, slice_get};
 ghost use Rattle.std.specs.Option.{option_copied};
 ghost use Rattle.stm_store.specs.Tables.{opened};
-ghost use Rattle.stm_history.specs.SlowDesk.{Waiter, IsLegal, is_current, find_waiter, standing, initial_state, serial, finished_from};
-ghost use Rattle.stm_history.specs.SlowSettle.{lowest};
-ghost use Rattle.stm_history.specs.BlockStatus.{shown, read_then, read_now};
-ghost use Rattle.stm_history.specs.JobsHandedOut.{block_at};
-ghost use Rattle.stm_history.specs.Headline.{HeadlineHoldsBy};
+ghost use Rattle.stm_events.specs.SlowDesk.{Waiter, IsLegal, is_current, find_waiter, standing, initial_state, serial, finished_from};
+ghost use Rattle.stm_events.specs.Ready.{next_ready};
+ghost use Rattle.stm_events.specs.SlowSettle.{lowest};
+ghost use Rattle.stm_events.specs.BlockStatus.{shown, read_then, read_now};
+ghost use Rattle.stm_machine.specs.JobsHandedOut.{block_at};
+ghost use Rattle.stm_events.specs.Headline.{HeadlineHoldsBy};
 ghost use Rattle.stm_queue.specs.Queue.{queued, tickets};
 ghost use Rattle.stm_queue.specs.SortedTickets.{IsRising};
 ghost use Rattle.stm_desk.specs.Seen.{now, DeskQueueIsRight, AllHaveVerdicts, SettlesInRounds};
 
 use crate::desk::Desk;
 use stm_check::SharedBlock;
-use stm_history::{Event, StalenessRule, Status};
+use stm_events::{Event, StalenessRule, Status};
 use stm_store::{Store, Table};
 use stm_terms::values::Value;
 
@@ -101,5 +102,13 @@ impl Desk {
             (lowest (λ w. nat_lt after w.ticket) (now self.now).waiters) }
     {
         self.machine.next_waiting(after)
+    }
+
+    /// The lowest ticket above this one of a block that could finish now: it is current, and its verdict isn't `Blocks`. The others
+    /// cost nothing, however many wait.
+    pub fn next_ready(&self, after: u32) -> Option<u32>
+        ensures { result ≡ next_ready after (now self.now) }
+    {
+        self.machine.next_ready(after)
     }
 }

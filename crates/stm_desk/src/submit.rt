@@ -1,17 +1,17 @@
 //! A block that is to wait.
 
 ghost use Rattle.std.specs.Prelude.{◌≡◌, ◌<◌, IfOk, OnErr};
-ghost use Rattle.stm_history.specs.SlowDesk.{IsLegal, max_clients};
-ghost use Rattle.stm_history.specs.declared.event.What.{What as AnyWhat};
-ghost use Rattle.stm_history.specs.Laws.{IsWellTyped};
-ghost use Rattle.stm_history.specs.Machine.{event};
-ghost use Rattle.stm_history.specs.Refusals.{submit_told};
+ghost use Rattle.stm_events.specs.SlowDesk.{IsLegal, max_clients};
+ghost use Rattle.stm_events.specs.declared.event.What.{What as AnyWhat};
+ghost use Rattle.stm_events.specs.Laws.{IsWellTyped};
+ghost use Rattle.stm_machine.specs.Machine.{event};
+ghost use Rattle.stm_events.specs.Refusals.{submit_told};
 ghost use Rattle.stm_desk.specs.Seen.{now, with_event};
 ghost use Rattle.stm_desk.specs.Refusals.{submit_refusal};
 
 use crate::desk::Desk;
 use stm_check::SharedBlock;
-use stm_history::{Event, SubmitError, What};
+use stm_events::{Event, SubmitError, What};
 
 /// Every block is well typed. Its type keeps that, and this says it.
 fn say_typed(block: &SharedBlock)

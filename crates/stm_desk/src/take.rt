@@ -3,7 +3,7 @@
 ghost use Rattle.std.specs.Prelude.{◌≡◌, ◌≤◌, false, map, take, length, vec_len, IfOk, OnErr, is_some};
 ghost use Rattle.stm_store.specs.Cells.{plains};
 ghost use Rattle.stm_queue.specs.Queue.{queued, is_out, marked, first_queued};
-ghost use Rattle.stm_history.specs.JobsHandedOut.{sent, AreJobs, AreCovered};
+ghost use Rattle.stm_machine.specs.JobsHandedOut.{sent, AreJobs, AreCovered};
 ghost use Rattle.stm_desk.specs.Seen.{now};
 
 use crate::desk::Desk;

@@ -14,11 +14,11 @@ use Rattle.stm_store.specs.Tables.{is_type}
 use Rattle.stm_check.specs.TypedBlock.{Block}
 use Rattle.stm_eval.specs.declared.message.Evaluated.{Evaluated}
 use Rattle.stm_eval.specs.EvaluatedFields.{message_ticket, message_block, message_reads}
-use Rattle.stm_history.specs.declared.event.What.TheVariants.{Submitted, Installed, Finished, Cancelled}
-use Rattle.stm_history.specs.declared.staleness.StalenessRule.{StalenessRule}
-use Rattle.stm_history.specs.SlowDesk.{Since, Waiter, Slow, under, is_new_since, current_since, MayInstall, MayFinishBy, find_waiter, AllowsBy, max_waiting, max_cells}
-use Rattle.stm_history.specs.Refusals.{missing, submit_refused, cancel_first, cancel_refused, differing, DeliverTold, TellsDelivery, overflows, finish_first, finish_refused}
-use Rattle.stm_history.specs.JobsHandedOut.{IsPresent}
+use Rattle.stm_events.specs.declared.event.What.TheVariants.{Submitted, Installed, Finished, Cancelled}
+use Rattle.stm_events.specs.declared.staleness.StalenessRule.{StalenessRule}
+use Rattle.stm_events.specs.SlowDesk.{Since, Waiter, Slow, under, is_new_since, current_since, MayInstall, MayFinishBy, find_waiter, AllowsBy, max_waiting, max_cells}
+use Rattle.stm_events.specs.Refusals.{missing, submit_refused, cancel_first, cancel_refused, differing, DeliverTold, TellsDelivery, overflows, finish_first, finish_refused}
+use Rattle.stm_machine.specs.JobsHandedOut.{IsPresent}
 
 -- ---- a block that waits
 same_base_itself : (b : Base) → same_base b b ≡ true

@@ -12,9 +12,9 @@ use Rattle.stm_terms.specs.declared.values.Fault.TheVariants.{Thrown, Overflow}
 use Rattle.stm_terms.specs.declared.verdicts.Verdict.{Verdict}
 use Rattle.stm_terms.specs.declared.verdicts.Verdict.TheVariants.{Commits, Throws, Blocks}
 use Rattle.stm_store.specs.Tables.{Declared}
-use Rattle.stm_history.specs.declared.event.Event.{Event}
-use Rattle.stm_history.specs.declared.event.What.{What}
-use Rattle.stm_history.specs.declared.event.What.TheVariants.{Submitted, Installed, Finished, Cancelled}
+use Rattle.stm_events.specs.declared.event.Event.{Event}
+use Rattle.stm_events.specs.declared.event.What.{What}
+use Rattle.stm_events.specs.declared.event.What.TheVariants.{Submitted, Installed, Finished, Cancelled}
 use Rattle.stm_history.specs.Lines.{number_data, value_data, write_data, new_data, verdict_data, what_data, event_data, variable_data}
 
 int : (z : ℤ) → is_float (of_integer z) ≡ false

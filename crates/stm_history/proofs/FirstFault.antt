@@ -1,10 +1,10 @@
 -- Bytes have one first fault, and none if they are the text of a legal history.
 use Rattle.std.proofs.Common.{◌≡◌, ℕ, ◌<◌, List, [], ◌∷◌, ◌++◌, length, refl, sym, ap, ◌∙◌, subst, arith, length-append}
 use Rattle.stm_store.specs.Tables.{Declared}
-use Rattle.stm_history.specs.declared.event.Event.{Event}
+use Rattle.stm_events.specs.declared.event.Event.{Event}
 use Rattle.stm_history.specs.declared.files.fault.HistoryFault.{HistoryFault}
 use Rattle.stm_history.specs.declared.files.fault.HistoryFault.TheVariants.{ReadFault, BadHeader, BadLine, NotLegal, NoMemory}
-use Rattle.stm_history.specs.SlowDesk.{IsLegalBy}
+use Rattle.stm_events.specs.SlowDesk.{IsLegalBy}
 use Rattle.stm_history.specs.Fits.{FitsTable, FitsFormat}
 use Rattle.stm_history.specs.Lines.{IsFormat, rule_of, event_line}
 use Rattle.stm_history.specs.Judgement.{IsShort, BeginsWithHistory, NoEventNext, IsIllegalBy, TellsFault, next_line}

@@ -1,39 +1,8 @@
--- The laws.
-pub mod Covered
-pub mod Few
-pub mod Folds
-pub mod Fresh
-pub mod Headline
-pub mod Keeping
-pub mod Kept
-pub mod Rising
-pub mod Rounds
-pub mod Serial
-pub mod Since
-pub mod Stores
-pub mod TypedStores
--- What the machine keeps.
-pub mod Due
-pub mod Placed
-pub mod Points
-pub mod Rises
-pub mod Stales
--- Its moves, and its questions.
-pub mod Agreeing
 pub mod Allowed
-pub mod Calls
-pub mod Delivery
-pub mod Finishing
-pub mod Heads
-pub mod Marks
-pub mod Moves
-pub mod Reading
-pub mod Ripe
-pub mod Taking
--- Histories as text.
+pub mod CheckedBlocks
 pub mod Cuts
 pub mod Exact
-pub mod Sent
+pub mod Feeding
 pub mod FirstFault
 pub mod FitsPushed
 pub mod OneLines
@@ -42,12 +11,11 @@ pub mod Ranges
 pub mod ReadsBack
 pub mod Refusing
 pub mod RoundTrips
+pub mod Sent
 pub mod Shortness
 pub mod Standing
 pub mod Steps
-pub mod Feeding
 pub mod Telling
-pub mod TicketLists
 pub mod Types
 pub mod Unique
 pub mod Variables

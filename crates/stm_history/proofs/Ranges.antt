@@ -28,8 +28,8 @@ use Rattle.stm_parse.specs.Tokenizer.{tokens_of}
 use Rattle.stm_parse.proofs.TokenizedIsAscii.{cut_ascii}
 use Rattle.stm_store.specs.Tables.{Declared}
 use Rattle.stm_check.specs.TypedBlock.{Block}
-use Rattle.stm_history.specs.declared.event.What.{What}
-use Rattle.stm_history.specs.declared.event.What.TheVariants.{Submitted, Installed, Finished, Cancelled}
+use Rattle.stm_events.specs.declared.event.What.{What}
+use Rattle.stm_events.specs.declared.event.What.TheVariants.{Submitted, Installed, Finished, Cancelled}
 use Rattle.stm_terms.specs.Ast.{Act}
 use Rattle.stm_terms.specs.Typing.{ActionType}
 use Rattle.stm_check.specs.CheckFunction.{checked}

@@ -22,9 +22,9 @@ use Rattle.stm_terms.specs.declared.values.Fault.TheVariants.{Thrown, Overflow}
 use Rattle.stm_terms.specs.declared.verdicts.Verdict.{Verdict}
 use Rattle.stm_terms.specs.declared.verdicts.Verdict.TheVariants.{Commits, Throws, Blocks}
 use Rattle.stm_store.specs.Tables.{Declared}
-use Rattle.stm_history.specs.declared.event.Event.{Event}
-use Rattle.stm_history.specs.declared.event.What.{What}
-use Rattle.stm_history.specs.declared.event.What.TheVariants.{Submitted, Installed, Finished, Cancelled}
+use Rattle.stm_events.specs.declared.event.Event.{Event}
+use Rattle.stm_events.specs.declared.event.What.{What}
+use Rattle.stm_events.specs.declared.event.What.TheVariants.{Submitted, Installed, Finished, Cancelled}
 use Rattle.stm_history.specs.declared.lines.read.Header.{Header}
 use Rattle.stm_history.specs.Fits.{FitsTable, WhatFitsTable, FitsValue, FitsVerdict, FitWrites, FitNews, FitNumbers, FitsVariable, Is32Bit, IsOneLine}
 use Rattle.stm_history.specs.Lines.{IsFormat, number_data, value_data, write_data, new_data, verdict_data, what_data, event_data, header_data, variable_data, event_line, header_line, variable_line}

@@ -18,7 +18,7 @@ use Rattle.stm_store.specs.Tables.{Declared}
 use Rattle.stm_history.specs.Fits.{FitsValue, FitsVariable}
 use Rattle.stm_history.specs.Judgement.{IsShort}
 use Rattle.stm_history.specs.Lines.{IsFormat, header_line, variable_line, value_data}
-use Rattle.stm_history.specs.SlowDesk.{max_cells}
+use Rattle.stm_events.specs.SlowDesk.{max_cells}
 
 pub header_short : (format n : ℕ) → IsFormat format → n ≤ max_cells → IsShort (header_line format n)
 unfolding header_line escape_byte

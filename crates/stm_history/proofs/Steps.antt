@@ -9,19 +9,19 @@ use Rattle.stm_store.specs.Tables.{Declared}
 use Rattle.stm_check.specs.TypedBlock.{Block}
 use Rattle.stm_eval.specs.declared.message.Evaluated.{Evaluated}
 use Rattle.stm_eval.specs.EvaluatedFields.{message_ticket, message_block, message_reads, message_verdict}
-use Rattle.stm_history.specs.declared.errors.DeliverError.{DeliverError}
-use Rattle.stm_history.specs.declared.event.Event.{Event}
-use Rattle.stm_history.specs.declared.event.What.{What}
-use Rattle.stm_history.specs.declared.event.What.TheVariants.{Submitted, Installed, Finished, Cancelled}
+use Rattle.stm_events.specs.declared.errors.DeliverError.{DeliverError}
+use Rattle.stm_events.specs.declared.event.Event.{Event}
+use Rattle.stm_events.specs.declared.event.What.{What}
+use Rattle.stm_events.specs.declared.event.What.TheVariants.{Submitted, Installed, Finished, Cancelled}
 use Rattle.stm_history.specs.Following.{HasRoom}
-use Rattle.stm_history.specs.Machine.{Parts, MovesToBy, event}
-use Rattle.stm_history.specs.Plans.{IsPlanBy}
-use Rattle.stm_history.specs.Refusals.{submit_refused, cancel_refused, differing, DeliverTold, TellsDelivery, finish_refused}
-use Rattle.stm_history.specs.declared.staleness.StalenessRule.{StalenessRule}
-use Rattle.stm_history.specs.SlowDesk.{Waiter, Slow, under, verdict_on, find_waiter, without_waiter, stale_after, waking, MayInstall, MayFinishBy, AllowsBy, initial_state, state_by, IsLegalBy, max_events, max_clients, after_by}
-use Rattle.stm_history.specs.JobsHandedOut.{IsPresent, block_at}
+use Rattle.stm_machine.specs.Machine.{Parts, MovesToBy, event}
+use Rattle.stm_machine.specs.Plans.{IsPlanBy}
+use Rattle.stm_events.specs.Refusals.{submit_refused, cancel_refused, differing, DeliverTold, TellsDelivery, finish_refused}
+use Rattle.stm_events.specs.declared.staleness.StalenessRule.{StalenessRule}
+use Rattle.stm_events.specs.SlowDesk.{Waiter, Slow, under, verdict_on, find_waiter, without_waiter, stale_after, waking, MayInstall, MayFinishBy, AllowsBy, initial_state, state_by, IsLegalBy, max_events, max_clients, after_by}
+use Rattle.stm_machine.specs.JobsHandedOut.{IsPresent, block_at}
 use Rattle.stm_history.proofs.Allowed.{wait_allowed, leave_allowed, finish_allowed}
-use Rattle.stm_history.proofs.Folds.{legal_split, state-push}
+use Rattle.stm_events.proofs.Folds.{legal_split, state-push}
 
 module _ (rule : StalenessRule) (table : List Declared) (history : List Event) (client : ℕ) (what : What) (a : IsLegalBy rule table (history ++ event client what ∷ [])) where
   -- the slow desk allows it

@@ -1,8 +1,8 @@
 -- What is reported of the bytes where a line is refused.
 use Rattle.std.proofs.Common.{◌≡◌, ℕ, ◌+◌, ◌≤◌, ◌<◌, ◌^◌, List, [], ◌∷◌, ◌++◌, length, refl, sym, ap, ◌∙◌, subst, arith, append_assoc, append-nil, length-append, ◌⊎◌, inl, inr, Result, Ok, Err, IfOk}
 use Rattle.stm_store.specs.Tables.{Declared}
-use Rattle.stm_history.specs.declared.event.Event.{Event}
-use Rattle.stm_history.specs.SlowDesk.{max_cells}
+use Rattle.stm_events.specs.declared.event.Event.{Event}
+use Rattle.stm_events.specs.SlowDesk.{max_cells}
 use Rattle.stm_history.specs.Fits.{FitsTable, FitsFormat, FitsVariable}
 use Rattle.stm_history.specs.Lines.{IsFormat, rule_of, event_line, header_line, variable_line}
 use Rattle.stm_history.proofs.ReadsBack.{event_one_line, header_one_line, variable_one_line, event_same, header_same, variable_same}

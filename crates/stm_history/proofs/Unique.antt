@@ -1,9 +1,9 @@
 -- Two readings of the same bytes are one.
 use Rattle.std.proofs.Common.{◌≡◌, ℕ, ◌≤◌, List, [], ◌∷◌, ◌++◌, length, refl, sym, ap, ◌∙◌, subst, arith, append_assoc, length-append}
 use Rattle.stm_store.specs.Tables.{Declared}
-use Rattle.stm_history.specs.declared.event.Event.{Event}
-use Rattle.stm_history.specs.declared.staleness.StalenessRule.{StalenessRule}
-use Rattle.stm_history.specs.SlowDesk.{IsLegalBy, LegalFromBy, Slow, max_cells, max_events, initial_state, after_by}
+use Rattle.stm_events.specs.declared.event.Event.{Event}
+use Rattle.stm_events.specs.declared.staleness.StalenessRule.{StalenessRule}
+use Rattle.stm_events.specs.SlowDesk.{IsLegalBy, LegalFromBy, Slow, max_cells, max_events, initial_state, after_by}
 use Rattle.stm_history.specs.Fits.{FitsTable, FitsFormat}
 use Rattle.stm_history.specs.Lines.{IsFormat, rule_of, event_line, header_line, variable_line}
 use Rattle.stm_history.proofs.ReadsBack.{event_one_line, header_one_line, variable_one_line, header_same, variable_same, event_same}

@@ -10,7 +10,7 @@ use Rattle.stm_history.specs.FileLaws.{WhatIsWrittenIsTaken}
 use Rattle.stm_history.specs.Fits.{AreInRange}
 use Rattle.stm_history.specs.HistoryText.{history_text}
 use Rattle.stm_history.specs.Judgement.{AreVariables, AreVariablesFrom}
-use Rattle.stm_history.specs.SlowDesk.{max_cells}
+use Rattle.stm_events.specs.SlowDesk.{max_cells}
 
 -- what a variable that is not refused shows
 record IsTaken (table : List Declared) (kind : Ty) : Type 0 where

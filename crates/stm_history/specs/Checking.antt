@@ -1,14 +1,14 @@
 -- How a checker goes on, line after line.
 use Rattle.std.specs.Prelude.{◌≡◌, ◌≢◌, ℕ, ◌≤◌, ◌<◌, nat_lt, if◌then◌else◌, List, [], ◌∷◌, ◌++◌, length, ◌⊎◌}
 use Rattle.stm_store.specs.Tables.{Declared}
-use Rattle.stm_history.specs.declared.event.Event.{Event}
+use Rattle.stm_events.specs.declared.event.Event.{Event}
 use Rattle.stm_history.specs.declared.files.fault.HistoryFault.{HistoryFault}
 use Rattle.stm_history.specs.declared.files.fault.HistoryFault.TheVariants.{BadHeader, BadLine, NotLegal, NoMemory}
 use Rattle.stm_history.specs.Fits.{FitsTable, FitsFormat}
 use Rattle.stm_history.specs.HistoryText.{head_text, history_text}
 use Rattle.stm_history.specs.Judgement.{IsShort, MayDeclare, AreVariables, AreEvents, NoEventNext, IsIllegalBy, next_line}
 use Rattle.stm_history.specs.Lines.{IsFormat, rule_of, event_line, header_line, variable_line}
-use Rattle.stm_history.specs.SlowDesk.{IsLegalBy, max_cells}
+use Rattle.stm_events.specs.SlowDesk.{IsLegalBy, max_cells}
 
 -- no byte is a line feed
 abbrev pub NoFeed : List ℕ → Type 0

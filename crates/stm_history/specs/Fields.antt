@@ -14,11 +14,11 @@ use Rattle.stm_terms.specs.declared.verdicts.Verdict.{Verdict}
 use Rattle.stm_terms.specs.declared.verdicts.Verdict.TheVariants.{Commits, Throws, Blocks}
 use Rattle.stm_parse.specs.TypeFunction.{parsed_type}
 use Rattle.stm_store.specs.Tables.{Declared}
-use Rattle.stm_history.specs.declared.event.Event.{Event}
-use Rattle.stm_history.specs.declared.event.What.{What}
-use Rattle.stm_history.specs.declared.event.What.TheVariants.{Submitted, Installed, Finished, Cancelled}
+use Rattle.stm_events.specs.declared.event.Event.{Event}
+use Rattle.stm_events.specs.declared.event.What.{What}
+use Rattle.stm_events.specs.declared.event.What.TheVariants.{Submitted, Installed, Finished, Cancelled}
 use Rattle.stm_history.specs.declared.lines.read.Header.{Header}
-use Rattle.stm_history.specs.SlowDesk.{max_clients}
+use Rattle.stm_events.specs.SlowDesk.{max_clients}
 use Rattle.stm_check.specs.TypedBlock.{Block}
 use Rattle.stm_history.specs.WholeBlocks.{BlockFault, checked_block}
 

@@ -2,7 +2,7 @@
 -- fault can be told of them; otherwise they have one first fault. What is written is taken.
 use Rattle.std.specs.Prelude.{◌≡◌, ℕ, List, ⊤}
 use Rattle.stm_store.specs.Tables.{Declared, AreDeclared}
-use Rattle.stm_history.specs.declared.event.Event.{Event}
+use Rattle.stm_events.specs.declared.event.Event.{Event}
 use Rattle.stm_history.specs.declared.files.fault.HistoryFault.{HistoryFault}
 use Rattle.stm_history.specs.declared.files.fault.HistoryFault.TheVariants.{ReadFault, BadHeader, BadLine, NotLegal, NoMemory}
 use Rattle.stm_history.specs.declared.files.fault.Legal.{Legal}
@@ -10,7 +10,7 @@ use Rattle.stm_history.specs.Fits.{FitsTable, AreInRange, IsOneLine}
 use Rattle.stm_history.specs.HistoryText.{history_text}
 use Rattle.stm_history.specs.Judgement.{IsHistory, TellsFault, AreVariables, AreEvents, numbers_by}
 use Rattle.stm_history.specs.Lines.{IsFormat, rule_of, event_line}
-use Rattle.stm_history.specs.SlowDesk.{IsLegalBy}
+use Rattle.stm_events.specs.SlowDesk.{IsLegalBy}
 
 -- different events have different lines, without a line feed
 abbrev pub EachLineIsOneEvent : Type 0

@@ -2,14 +2,14 @@
 use Rattle.std.specs.Prelude.{◌≡◌, ℕ, ◌<◌, List, length, IfSome}
 use Rattle.stm_store.specs.Cells.{plains}
 use Rattle.stm_store.specs.Tables.{Declared}
-use Rattle.stm_history.specs.declared.event.Event.{Event}
-use Rattle.stm_history.specs.declared.event.What.{What}
+use Rattle.stm_events.specs.declared.event.Event.{Event}
+use Rattle.stm_events.specs.declared.event.What.{What}
 use Rattle.stm_history.specs.declared.files.replayer.Replayer.{Replayer}
-use Rattle.stm_history.specs.declared.staleness.StalenessRule.{StalenessRule}
+use Rattle.stm_events.specs.declared.staleness.StalenessRule.{StalenessRule}
 use Rattle.stm_history.specs.Judgement.{IsIllegalBy}
 use Rattle.stm_history.specs.Lines.{rule_of}
-use Rattle.stm_history.specs.Machine.{Parts, StandsForBy, event}
-use Rattle.stm_history.specs.SlowDesk.{max_events}
+use Rattle.stm_machine.specs.Machine.{Parts, StandsForBy, event}
+use Rattle.stm_events.specs.SlowDesk.{max_events}
 
 -- the machine stands for the history, which has room for an event more
 pub record HasRoom (rule : StalenessRule) (table : List Declared) (history : List Event) (m : Parts) : Type 0 where

@@ -1,16 +1,16 @@
 -- What a checker of any bytes, or of a list of events, has to tell.
 use Rattle.std.specs.Prelude.{◌≡◌, ◌≢◌, ℕ, ◌+◌, ◌≤◌, ◌<◌, List, [], ◌∷◌, ◌++◌, length, None, ⊤}
 use Rattle.stm_store.specs.Tables.{Declared, declare_refusal}
-use Rattle.stm_history.specs.declared.event.Event.{Event}
+use Rattle.stm_events.specs.declared.event.Event.{Event}
 use Rattle.stm_history.specs.declared.files.fault.HistoryFault.{HistoryFault}
 use Rattle.stm_history.specs.declared.files.fault.HistoryFault.TheVariants.{ReadFault, BadHeader, BadLine, NotLegal, NoMemory}
 use Rattle.stm_history.specs.declared.files.fault.Legal.{Legal}
 use Rattle.stm_history.specs.Fits.{FitsTable, FitsFormat, FitsVariable}
 use Rattle.stm_history.specs.HistoryText.{head_text, history_text}
 use Rattle.stm_history.specs.Lines.{IsFormat, rule_of, event_line}
-use Rattle.stm_history.specs.declared.staleness.StalenessRule.{StalenessRule}
-use Rattle.stm_history.specs.declared.staleness.StalenessRule.TheVariants.{Changed}
-use Rattle.stm_history.specs.SlowDesk.{state_by, IsLegal, IsLegalBy, max_cells}
+use Rattle.stm_events.specs.declared.staleness.StalenessRule.{StalenessRule}
+use Rattle.stm_events.specs.declared.staleness.StalenessRule.TheVariants.{Changed}
+use Rattle.stm_events.specs.SlowDesk.{state_by, IsLegal, IsLegalBy, max_cells}
 
 -- the most bytes of a line, its line feed not counted
 abbrev pub max_line : ℕ

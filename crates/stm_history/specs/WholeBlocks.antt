@@ -1,5 +1,5 @@
 -- The block of a text: parsed, and checked against the declared variables; or its first fault.
-use Rattle.std.specs.Prelude.{ℕ, List, [], Option, Some, None, Result, Ok, Err}
+use Rattle.std.specs.Prelude.{◌≡◌, ℕ, List, [], Option, Some, None, Result, Ok, Err}
 use Rattle.stm_terms.specs.declared.kinds.Ty.{Ty}
 use Rattle.stm_terms.specs.ParsedAst as raw
 use Rattle.stm_terms.specs.Ast.{Act}
@@ -10,6 +10,7 @@ use Rattle.stm_store.specs.Tables.{Declared}
 use Rattle.stm_check.specs.TypedBlock.{Block}
 use Rattle.stm_check.specs.CheckFunction.{checked, table_kinds}
 use Rattle.stm_check.specs.declared.fault.TypeFault.{TypeFault}
+use Rattle.stm_events.specs.Laws.{IsWellTyped}
 
 -- why a text is no block: a fault of the grammar, or one of types
 pub data BlockFault : Type 0 where
@@ -40,3 +41,8 @@ block_if_parsed table text (Err e) = Err (NotParsed e)
 -- the block of a text over a table, or the first fault of the text
 unfoldable pub checked_block : List Declared → List ℕ → Result Block BlockFault
 checked_block table text = block_if_parsed table text (parsed_block text)
+
+-- a block that a text parses and checks to is well typed
+abbrev pub CheckedAreWellTyped : Type 0
+CheckedAreWellTyped =
+    (table : List Declared) (text : List ℕ) (block : Block) → checked_block table text ≡ Ok block → IsWellTyped block

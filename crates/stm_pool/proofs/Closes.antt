@@ -7,8 +7,8 @@ use Rattle.std.specs.Prelude.{IfErr}
 use Rattle.std.specs.Vec.{with_items}
 use Rattle.std.specs.declared.vec.Vec.{Vec}
 use Rattle.stm_store.specs.Tables.{Declared}
-use Rattle.stm_history.specs.declared.event.Event.{Event}
-use Rattle.stm_history.specs.SlowDesk.{IsLegal}
+use Rattle.stm_events.specs.declared.event.Event.{Event}
+use Rattle.stm_events.specs.SlowDesk.{IsLegal}
 use Rattle.stm_pool.specs.declared.errors.CloseError.{CloseError}
 use Rattle.stm_pool.specs.declared.errors.CloseError.TheVariants.{PassMissing, Differs}
 use Rattle.stm_pool.specs.Own.{Known, events_in_passes}

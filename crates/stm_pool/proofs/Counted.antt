@@ -4,7 +4,7 @@ use Rattle.std.proofs.lemmas.List.{get_or_append_left, get_or_push}
 use Rattle.std.specs.Prelude.{Option, Some, None, Result, Ok, Err, IfOk, IfSome, IsSomeAnd}
 use Rattle.std.specs.declared.alloc.AllocError.{AllocError}
 use Rattle.stm_store.specs.Tables.{Declared}
-use Rattle.stm_history.specs.declared.event.Event.{Event}
+use Rattle.stm_events.specs.declared.event.Event.{Event}
 use Rattle.stm_pool.specs.declared.storm.Counts.{Counts}
 use Rattle.stm_pool.specs.declared.storm.Replay.{Replay}
 use Rattle.stm_pool.specs.declared.storm.Replay.TheVariants.{NotClosed, NotLegal, Legal}

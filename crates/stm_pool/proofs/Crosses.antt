@@ -6,7 +6,7 @@ use Rattle.std.specs.declared.sync.ledger.Ledger.{Ghosts}
 use Rattle.std.proofs.sync.ledger.Share.TheSendSync.{the_send as share_send}
 use Rattle.std.proofs.sync.ledger.Book.TheSendSync.{the_send as book_send}
 use Rattle.std.proofs.Crossing.{crosses, Vec-send}
-use Rattle.std.proofs.MapsCrossing.{BTreeMap-send, crosses as maps_crosses}
+use Rattle.std.proofs.MapsCrossing.{crosses as maps_crosses}
 use Rattle.stm_terms.proofs.expr.Expr.TheLaws.TheKnot.{crosses as expr_crosses}
 use Rattle.stm_terms.proofs.action.Action.TheLaws.TheKnot.{crosses as action_crosses}
 use Rattle.stm_check.specs.contracts.typed.SharedBlock as shared_block
@@ -15,13 +15,13 @@ use Rattle.stm_eval.specs.contracts.job.Job as job
 use Rattle.stm_eval.specs.contracts.message.Evaluated as message
 use Rattle.stm_pool.specs.contracts.slot.Slot as slot
 use Rattle.stm_terms.specs.contracts.verdicts.Verdict as verdict
-use Rattle.stm_history.specs.contracts.shared_verdict.SharedVerdict as shared_verdict
-use Rattle.stm_history.specs.contracts.tickets.Tickets as tickets
-use Rattle.stm_history.specs.contracts.event.Event as event
-use Rattle.stm_history.specs.contracts.waiting.Held as held
-use Rattle.stm_history.specs.contracts.waiting.Waiting as waiting
-use Rattle.stm_history.specs.contracts.waiting.WaitingBlocks as blocks
-use Rattle.stm_history.specs.contracts.machine.Machine as machine
+use Rattle.stm_events.specs.contracts.shared_verdict.SharedVerdict as shared_verdict
+use Rattle.stm_events.specs.contracts.tickets.Tickets as tickets
+use Rattle.stm_events.specs.contracts.event.Event as event
+use Rattle.stm_machine.specs.contracts.waiting.Held as held
+use Rattle.stm_machine.specs.contracts.waiting.Waiting as waiting
+use Rattle.stm_machine.specs.contracts.waiting.WaitingBlocks as blocks
+use Rattle.stm_machine.specs.contracts.machine.Machine as machine
 use Rattle.stm_store.specs.contracts.table.Table as table
 use Rattle.stm_store.specs.contracts.store.Store as store
 use Rattle.stm_queue.specs.contracts.pending.Pending as pending
@@ -75,13 +75,13 @@ pub waiting_send : IsSend waiting.the_row
 waiting_send = search (sendable, block_send, held_send) depth 40 fits 100000
 
 pub blocks_send : IsSend blocks.the_row
-blocks_send = search (sendable, crosses, BTreeMap-send, waiting_send) depth 40 fits 100000
+blocks_send = search (sendable, crosses, waiting_send) depth 40 fits 100000
 
 pub table_send : IsSend table.the_row
 table_send = search (sendable, crosses) depth 40 fits 100000
 
 pub store_send : IsSend store.the_row
-store_send = search (sendable, crosses) depth 40 fits 100000
+store_send = search (sendable, crosses) depth 120 fits 400000
 
 pub pending_send : IsSend pending.the_row
 pending_send = search (sendable, crosses) depth 40 fits 100000

@@ -4,7 +4,7 @@ use Rattle.std.proofs.lemmas.List.{length-map}
 use Rattle.std.specs.Prelude.{option_to_list}
 use Rattle.stm_eval.specs.declared.job.Job.{Job}
 use Rattle.stm_queue.specs.Queue.{Entry, queued, first_queued, sent_out}
-use Rattle.stm_history.specs.JobsHandedOut.{sent}
+use Rattle.stm_machine.specs.JobsHandedOut.{sent}
 
 -- the lowest queued ticket is the first of those that are queued
 first_is : (es : List Entry) → take 1 (queued es) ≡ option_to_list (first_queued es)

@@ -1,6 +1,6 @@
 -- A client's list one event longer.
 use Rattle.std.proofs.Common.{◌≡◌, ℕ, ◌+◌, List, [], ◌∷◌, ◌++◌, length, Bool, true, false, ◌&&◌, refl, ap, ◌∙◌, arith, eq-eqb, length-append}
-use Rattle.stm_history.specs.declared.event.Event.{Event}
+use Rattle.stm_events.specs.declared.event.Event.{Event}
 use Rattle.stm_pool.specs.Own.{Known, are_of, events_in_passes}
 
 and_true : (a b : Bool) → (a && b) ≡ true → (a ≡ true) × (b ≡ true)

@@ -1,9 +1,9 @@
 -- Work upon work.
 use Rattle.std.proofs.Common.{◌≡◌, ℕ, Bool, true, false, ◌&&◌, List, [], ◌∷◌, ◌++◌, refl, sym, ap, ◌∙◌, append_assoc, append-nil}
-use Rattle.stm_history.specs.declared.event.Event.{Event}
+use Rattle.stm_events.specs.declared.event.Event.{Event}
 use Rattle.stm_terms.specs.declared.verdicts.Verdict.{Verdict}
-use Rattle.stm_history.specs.declared.event.What.TheVariants.{Installed}
-use Rattle.stm_history.specs.Machine.{event}
+use Rattle.stm_events.specs.declared.event.What.TheVariants.{Installed}
+use Rattle.stm_machine.specs.Machine.{event}
 use Rattle.stm_pool.specs.Own.{Known, with_own}
 use Rattle.stm_pool.specs.Worked.{Worked, are_installed}
 

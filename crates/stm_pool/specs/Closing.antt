@@ -1,8 +1,8 @@
 -- When a shared desk may be closed, and what its refusal says.
 use Rattle.std.specs.Prelude.{◌≡◌, ◌≢◌, ◌⊎◌, ℕ, ◌<◌, true, ◌==◌, List, [], ◌∷◌, length, if◌then◌else◌, Option, Some, None, Result, Ok, Err, is_some, IsSomeAnd}
 use Rattle.stm_store.specs.Tables.{Declared}
-use Rattle.stm_history.specs.declared.event.Event.{Event}
-use Rattle.stm_history.specs.SlowDesk.{IsLegal}
+use Rattle.stm_events.specs.declared.event.Event.{Event}
+use Rattle.stm_events.specs.SlowDesk.{IsLegal}
 use Rattle.stm_pool.specs.declared.errors.CloseError.{CloseError}
 use Rattle.stm_pool.specs.declared.errors.CloseError.TheVariants.{PassMissing, Differs}
 use Rattle.stm_pool.specs.Own.{Known, own_of, events_in_passes}

@@ -1,6 +1,6 @@
 -- What a client knows of a history.
 use Rattle.std.specs.Prelude.{◌≡◌, ℕ, ◌+◌, Bool, true, ◌&&◌, ◌==◌, nat_lt, List, [], ◌∷◌, ◌++◌, length, if◌then◌else◌}
-use Rattle.stm_history.specs.declared.event.Event.{Event}
+use Rattle.stm_events.specs.declared.event.Event.{Event}
 
 -- what a pass is to its holder: the client, its own accepted events, and how many events it has seen
 pub record Known : Type 0 where

@@ -2,8 +2,8 @@
 use Rattle.std.specs.Prelude.{◌≡◌, ◌≤◌, List, length}
 use Rattle.stm_store.specs.Tables.{Declared}
 use Rattle.stm_store.specs.Cells.{plains}
-use Rattle.stm_history.specs.declared.event.Event.{Event}
-use Rattle.stm_history.specs.SlowDesk.{IsLegal, state}
+use Rattle.stm_events.specs.declared.event.Event.{Event}
+use Rattle.stm_events.specs.SlowDesk.{IsLegal, state}
 use Rattle.stm_pool.specs.declared.guarded.View.{View}
 use Rattle.stm_pool.specs.Own.{Known, own_of, having_seen}
 

@@ -1,10 +1,10 @@
 -- What a storm leaves: a legal history, which has what its counts tell.
 use Rattle.std.specs.Prelude.{◌≡◌, ℕ, ◌+◌, Bool, true, false, List, [], ◌∷◌, length, if◌then◌else◌, ⊤}
 use Rattle.stm_store.specs.Tables.{Declared}
-use Rattle.stm_history.specs.declared.event.Event.{Event}
-use Rattle.stm_history.specs.declared.event.What.{What}
-use Rattle.stm_history.specs.declared.event.What.TheVariants.{Submitted, Installed, Finished, Cancelled}
-use Rattle.stm_history.specs.SlowDesk.{IsLegal}
+use Rattle.stm_events.specs.declared.event.Event.{Event}
+use Rattle.stm_events.specs.declared.event.What.{What}
+use Rattle.stm_events.specs.declared.event.What.TheVariants.{Submitted, Installed, Finished, Cancelled}
+use Rattle.stm_events.specs.SlowDesk.{IsLegal}
 use Rattle.stm_pool.specs.declared.storm.Counts.{Counts}
 use Rattle.stm_pool.specs.declared.storm.Replay.{Replay}
 use Rattle.stm_pool.specs.declared.storm.Replay.TheVariants.{NotClosed, NotLegal, Legal}

@@ -1,7 +1,7 @@
 -- What a worker does to its pass.
 use Rattle.std.specs.Prelude.{◌≡◌, Bool, true, ◌&&◌, List, [], ◌∷◌, ◌++◌}
-use Rattle.stm_history.specs.declared.event.Event.{Event}
-use Rattle.stm_history.specs.SlowSettle.{is_install}
+use Rattle.stm_events.specs.declared.event.Event.{Event}
+use Rattle.stm_events.specs.SlowSettle.{is_install}
 use Rattle.stm_pool.specs.Own.{Known}
 
 -- whether all events are deliveries

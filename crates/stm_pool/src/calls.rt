@@ -5,9 +5,9 @@
 ghost use Rattle.std.specs.Prelude.{◌≡◌, ◌<◌, List, IfOk, OnOk, IfErr, OnErr, IfSome};
 ghost use Rattle.stm_store.specs.Tables.{Declared};
 ghost use Rattle.stm_eval.specs.EvaluatedFields.{message_ticket, message_verdict};
-ghost use Rattle.stm_history.specs.Machine.{event};
-ghost use Rattle.stm_history.specs.declared.event.Event.{Event as AnyEvent};
-ghost use Rattle.stm_history.specs.declared.event.What.{What as AnyWhat};
+ghost use Rattle.stm_machine.specs.Machine.{event};
+ghost use Rattle.stm_events.specs.declared.event.Event.{Event as AnyEvent};
+ghost use Rattle.stm_events.specs.declared.event.What.{What as AnyWhat};
 ghost use Rattle.stm_pool.specs.Own.{with_own};
 ghost use Rattle.stm_pool.specs.Found.{IsFound};
 ghost use Rattle.stm_pool.specs.Shown.{IsShown, IsPresentView};

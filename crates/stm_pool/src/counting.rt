@@ -10,7 +10,7 @@ use crate::pass::{Pass, find_pass};
 use crate::storm::Counts;
 use std::alloc::Global;
 use std::sync::ledger::Ledger;
-use stm_history::{Event, What};
+use stm_events::{Event, What};
 use stm_terms::NoMemory;
 
 /// The counts of a client: of its own events, and of what left none.

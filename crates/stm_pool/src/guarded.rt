@@ -3,10 +3,10 @@
 ghost use Rattle.std.specs.Prelude.{◌≡◌, ◌≢◌, ◌<◌, ◌⊎◌, ℕ, false, Some, None, length, option_map, is_some, IfOk, OnOk, IfErr, OnErr, IfSome};
 ghost use Rattle.stm_store.specs.Cells.{plains, Covers, applied_answer as told_of};
 ghost use Rattle.stm_eval.specs.EvaluatedFields.{message_ticket, message_block, message_reads, message_verdict};
-ghost use Rattle.stm_history.specs.declared.event.What.{What as AnyWhat};
-ghost use Rattle.stm_history.specs.JobsHandedOut.{block_at};
-ghost use Rattle.stm_history.specs.Machine.{event};
-ghost use Rattle.stm_history.specs.Refusals.{submit_told, cancel_told, finish_told, deliver_told};
+ghost use Rattle.stm_events.specs.declared.event.What.{What as AnyWhat};
+ghost use Rattle.stm_machine.specs.JobsHandedOut.{block_at};
+ghost use Rattle.stm_machine.specs.Machine.{event};
+ghost use Rattle.stm_events.specs.Refusals.{submit_told, cancel_told, finish_told, deliver_told};
 ghost use Rattle.stm_queue.specs.Queue.{is_out, marked, first_queued, sent_out};
 ghost use Rattle.stm_desk.specs.Seen.{now, with_event};
 ghost use Rattle.stm_desk.specs.Refusals.{submit_refusal, cancel_refusal, finish_refusal, TellsDeskDelivery, left_by};
@@ -20,7 +20,7 @@ use std::sync::ledger::{Book, Ledger, Share};
 use stm_check::SharedBlock;
 use stm_desk::{CancelError, DeliverError, Desk, Finish, FinishError, SubmitError};
 use stm_eval::{Evaluated, Job};
-use stm_history::{Event, SharedVerdict, What};
+use stm_events::{Event, SharedVerdict, What};
 use stm_store::Frozen;
 use stm_terms::NoMemory;
 

@@ -7,7 +7,7 @@ ghost use Rattle.stm_pool.specs.Closing.{pass_of, HasAll, LacksOne};
 
 use std::marker::Model;
 use std::sync::ledger::{Book, Ledger, Share};
-use stm_history::Event;
+use stm_events::Event;
 
 /// A client's number, its share of the count of all events, its own accepted events, and the
 /// greatest number of events that it has seen. Contracts see all but the share.
@@ -26,7 +26,7 @@ impl<L: Ledger> Model for Pass<L> {
     ghost use Rattle.std.specs.Prelude.{◌≡◌, ◌<◌, true, length};
     ghost use Rattle.std.specs.Coded.{codes};
     ghost use Rattle.stm_terms.specs.TreeEncoding.{act_code};
-    ghost use Rattle.stm_history.specs.SlowDesk.{max_clients};
+    ghost use Rattle.stm_events.specs.SlowDesk.{max_clients};
     ghost use Rattle.stm_pool.specs.Own.{Known, are_of};
 
     ghost Value = { Known };

@@ -3,7 +3,7 @@
 
 ghost use Rattle.std.specs.Prelude.{◌≡◌, ◌+◌, ◌<◌, ◌≤◌, length, vec_len, IfOk};
 ghost use Rattle.stm_eval.specs.Limits.{max_levels};
-ghost use Rattle.stm_history.specs.SlowDesk.{max_events as most_events};
+ghost use Rattle.stm_events.specs.SlowDesk.{max_events as most_events};
 ghost use Rattle.stm_pool.specs.Counted.{CountsPasses, IsReplayed};
 ghost use Rattle.stm_pool.specs.Limits.{max_sections, max_workers};
 ghost use Rattle.stm_pool.specs.Storms.{IsStormEnd};

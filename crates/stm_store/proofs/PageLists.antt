@@ -6,6 +6,7 @@ use Rattle.std.specs.declared.alloc.Global.{Global}
 use Rattle.std.specs.declared.sync.Arc.{Arc}
 use Rattle.std.specs.declared.vec.Vec.{Vec}
 use Rattle.std.specs.Arc.{arc_value}
+use Rattle.std.specs.List.{AllZip}
 use Rattle.std.specs.Vec.{with_items}
 use Rattle.stm_store.specs.Pages.{contents_by, contents, sizes, flatten, ArePages}
 
@@ -42,6 +43,13 @@ module _ {A : Type 0} where
   get_content items [] i a h e = absurd (omega arith)
   get_content items (b ∷ ptrs) zero a h e = ap (λ (p : Arc _ Global). items (arc_value p)) e
   get_content items (b ∷ ptrs) (suc i) a h e = get_content items ptrs i a (omega arith) e
+
+  -- clones of pointers lead to the same pages
+  pub same_contents : {P : Type 0} (items : P → List A) (ptrs qtrs : List (Arc P Global)) → AllZip (λ c d. arc_value d ≡ arc_value c) ptrs qtrs → contents_by items qtrs ≡ contents_by items ptrs
+  same_contents items [] [] e = refl
+  same_contents items [] (q ∷ qtrs) e = absurd e
+  same_contents items (p ∷ ptrs) [] e = absurd e
+  same_contents items (p ∷ ptrs) (q ∷ qtrs) e = rw (e.0, same_contents items ptrs qtrs e.1) refl
 
   -- pages of the same lengths are as many
   pub count-sizes : (ptrs qtrs : List (Arc (List A) Global)) → sizes qtrs ≡ sizes ptrs → length qtrs ≡ length ptrs

@@ -1,5 +1,5 @@
 -- Writes to a stretch of cells, and to what follows it.
-use Rattle.std.proofs.Common.{◌≡◌, ℕ, suc, ◌+◌, ◌-◌, ◌<◌, ◌≤◌, true, false, cond, nat_lt, List, [], ◌∷◌, ◌++◌, get_or, Option, Some, None, length, take, drop, set, refl, sym, ap, subst, ◌∙◌, arith, add-one}
+use Rattle.std.proofs.Common.{◌≡◌, ℕ, suc, ◌+◌, ◌-◌, ◌<◌, ◌≤◌, ◌==◌, true, false, cond, nat_lt, List, [], ◌∷◌, ◌++◌, get_or, Option, Some, None, length, take, drop, set, refl, sym, ap, subst, ◌∙◌, arith, add-one}
 use Rattle.std.specs.Prelude.{slice_get, Result, Ok, Err, OnOk, OnErr}
 use Rattle.std.specs.List.{prefix_len}
 use Rattle.std.proofs.lemmas.Bool.Decides.{nat_tests}
@@ -182,3 +182,12 @@ write_step n i k ws d cs e o r h less p q =
     let written : with_write n cs (w.0 - i) w.1 (slice_get cs (w.0 - i)) ≡ set cs (w.0 - i) r = ap (with_write n cs (w.0 - i) w.1) there ∙ ap (set cs (w.0 - i)) (sym q) in
     let rest : drop k ws ≡ w ∷ drop (suc k) ws = drop-cons ws k d h in
     rw (add-one, rest) (sym (ap (with_writes_from n i (drop (suc k) ws)) written))
+
+pub some_writes : (ws : List (ℕ × Value)) → false ≡ (length ws == 0) → 0 < length ws
+some_writes [] e = absurd (cc)
+some_writes (w ∷ ws) e = omega arith
+
+-- where there is a write there is a cell
+pub some_cells : (n j : ℕ) (ws : List (ℕ × Value)) → AreWithin n 0 j ws → 0 < length ws → 0 < j
+some_cells n j [] a h = absurd (omega arith)
+some_cells n j (w ∷ ws) a h = omega (arith, a.1)

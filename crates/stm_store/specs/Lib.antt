@@ -8,3 +8,4 @@ pub mod FitsDecision
 pub mod FreshReferences
 pub mod Pages
 pub mod RangeWrites
+pub mod Roots

@@ -7,8 +7,7 @@ ghost use Rattle.stm_store.specs.FreshReferences.{AreWritable};
 
 use crate::cell::Cell;
 use crate::cells::Cells;
-use crate::in_place::write;
-use crate::parts::Parts;
+use crate::tree::Tree;
 use std::alloc::{AllocError, Global};
 use std::marker::Model;
 use stm_terms::values::Value;
@@ -17,7 +16,7 @@ use stm_terms::values::Value;
 /// overwritten where the list grows.
 #[derive(Drop)]
 pub(crate) struct CellList {
-    parts: Parts,
+    tree: Tree,
     len: usize,
 }
 
@@ -27,9 +26,9 @@ impl Model for CellList {
 
     ghost Value = { List AnyCell };
 
-    ghost view = { λ l. take l.len l.parts };
+    ghost view = { λ l. take l.len l.tree };
 
-    ghost invariant = { λ l. l.len ≤ length l.parts };
+    ghost invariant = { λ l. l.len ≤ length l.tree };
 }
 
 impl CellList {
@@ -37,13 +36,13 @@ impl CellList {
         ensures { result ≡ [] }
     {
         CellList {
-            parts: Parts::empty(alloc),
+            tree: Tree::empty(alloc),
             len: 0,
         }
     }
 
     pub(crate) fn allocator(&self) -> Global {
-        self.parts.allocator()
+        self.tree.allocator()
     }
 
     pub(crate) fn len(&self) -> usize
@@ -56,7 +55,7 @@ impl CellList {
         requires { id < length self.now }
         ensures { slice_get self.now id ≡ Some result }
     {
-        self.parts.get(id)
+        self.tree.get(id)
     }
 
     /// A second list of the same cells, which shares them.
@@ -64,7 +63,7 @@ impl CellList {
         ensures { IfOk result (λ l. l ≡ self.now) }
     {
         Ok(CellList {
-            parts: self.parts.share()?,
+            tree: self.tree.share()?,
             len: self.len,
         })
     }
@@ -77,7 +76,7 @@ impl CellList {
         ensures ok { OnOk result (self.new ≡ with_writes len writes.now self.old) }
         ensures err { OnErr result (self.new ≡ self.old) }
     {
-        write(&mut self.parts, len, writes)
+        self.tree.write(len, writes)
     }
 
     /// Adds a cell at the end.
@@ -86,12 +85,12 @@ impl CellList {
         ensures ok { OnOk result (self.new ≡ self.old ++ cell ∷ []) }
         ensures err { OnErr result (self.new ≡ self.old) }
     {
-        if self.len < self.parts.len() {
-            self.parts.set(self.len, cell)?;
+        if self.len < self.tree.len() {
+            self.tree.set(self.len, cell)?;
             self.len += 1;
             Ok(())
         } else {
-            self.parts.push(cell)?;
+            self.tree.push(cell)?;
             self.len += 1;
             Ok(())
         }

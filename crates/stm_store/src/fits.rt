@@ -71,6 +71,7 @@ fn news_hold(cells: &CellList, news: &[(Ty, Value)]) -> bool
 }
 
 /// Whether the value has the type.
+#[inline]
 fn value_has(cells: &CellList, news: &[(Ty, Value)], value: Value, kind: Ty) -> bool
     ensures { result ≡ has_type (kinds_of (plains cells.now)) (making news.now) value kind }
 {

@@ -1,9 +1,10 @@
 //! Writing in place, all or none.
 //!
-//! A page that another list shares is copied before it is written, and the memory for that may be refused. So each page is
-//! made this list's own on the way down, where nothing is written, and its cells are written on the way back, where nothing
-//! can be refused: after a refusal no cell has been written. The writes rise by variable, so that each call hands on what
-//! stands after its page. The stack grows with the pages that are written, and not with the writes.
+//! What another list shares is copied before it is written: a page, and each list of pages or parts that leads to it. The
+//! memory for that may be refused. So each page is made this list's own on the way down, where nothing is written, and its
+//! cells are written on the way back, where nothing can be refused: after a refusal no cell has been written. The writes
+//! ascend by variable, so that each call hands on what comes after its page. The stack grows with the pages that are written,
+//! and not with the writes.
 
 ghost use Rattle.std.specs.Prelude.{◌≡◌, ◌+◌, ◌-◌, ◌^◌, ◌<◌, ◌≤◌, nat_lt, ◌∷◌, ◌++◌, length, OnOk, OnErr};
 ghost use Rattle.std.specs.Arc.{arc_value};
@@ -18,8 +19,57 @@ use std::alloc::AllocError;
 use std::sync::Arc;
 use stm_terms::values::Value;
 
-/// Makes these writes, or where memory is refused none. A part or a page that another list shares is copied first.
-pub(crate) fn write(cells: &mut Parts, len: u32, writes: &[(u32, Value)]) -> Result<(), AllocError>
+/// Makes these writes in a page, or if memory is refused none.
+pub(crate) fn write_one_page(
+    page: &mut Arc<Page>,
+    len: u32,
+    writes: &[(u32, Value)],
+) -> Result<(), AllocError>
+    requires { AreWithin len 0 (length (arc_value page.old)) writes.now }
+    ensures ok { OnOk result (arc_value page.new
+        ≡ with_writes_from len 0 writes.now (arc_value page.old)) }
+    ensures err { OnErr result (arc_value page.new ≡ arc_value page.old) }
+{
+    let page = Arc::make_mut(page)?;
+    page.write(0, len, writes);
+    Ok(())
+}
+
+/// Makes these writes in a part, or if memory is refused none. There is at least one.
+pub(crate) fn write_one_part(
+    part: &mut Arc<Part>,
+    len: u32,
+    writes: &[(u32, Value)],
+) -> Result<(), AllocError>
+    requires small { length (arc_value part.old) ≤ part_cells }
+    requires some { 0 < length writes.now }
+    requires writes { AreWithin len 0 (length (arc_value part.old)) writes.now }
+    ensures ok { OnOk result (arc_value part.new
+        ≡ with_writes_from len 0 writes.now (arc_value part.old)) }
+    ensures err { OnErr result (arc_value part.new ≡ arc_value part.old) }
+    ensures size { length (arc_value part.new) ≡ length (arc_value part.old) }
+{
+    // No part comes after it.
+    write_part(0, part, &mut [], len, writes)
+}
+
+/// Makes these writes in a list of parts, or if memory is refused none.
+pub(crate) fn write_parts(
+    parts: &mut Arc<Parts>,
+    len: u32,
+    writes: &[(u32, Value)],
+) -> Result<(), AllocError>
+    requires { AreWithin len 0 (length (arc_value parts.old)) writes.now }
+    ensures ok { OnOk result (arc_value parts.new
+        ≡ with_writes_from len 0 writes.now (arc_value parts.old)) }
+    ensures err { OnErr result (arc_value parts.new ≡ arc_value parts.old) }
+{
+    let parts = Arc::make_mut(parts)?;
+    write(parts, len, writes)
+}
+
+/// Makes these writes, or if memory is refused none, in a list of parts that is this list's own.
+fn write(cells: &mut Parts, len: u32, writes: &[(u32, Value)]) -> Result<(), AllocError>
     requires { AreWithin len 0 (length cells.old) writes.now }
     ensures ok { OnOk result (cells.new ≡ with_writes_from len 0 writes.now cells.old) }
     ensures err { OnErr result (cells.new ≡ cells.old) }

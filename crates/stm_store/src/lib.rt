@@ -23,6 +23,7 @@ mod renumber;
 pub mod seed;
 pub mod store;
 pub mod table;
+mod tree;
 mod types;
 
 pub use cell::Cell;

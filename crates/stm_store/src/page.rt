@@ -35,6 +35,7 @@ impl Page {
     }
 
     /// Makes these writes to the cells of a page whose first has this number.
+    #[inline(always)]
     pub(crate) fn write(&mut self, first: usize, len: u32, writes: &[(u32, Value)])
         requires { AreWithin len first (first + length self.old) writes.now }
         ensures { self.new ≡ with_writes_from len first writes.now self.old }

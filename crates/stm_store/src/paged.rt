@@ -14,7 +14,7 @@ use std::sync::Arc;
 /// A list of cells in pages, each of which is a list of at most `P::SIZE` cells.
 ///
 /// A copy shares the pages, so that it moves a pointer for each page and no cell. A change copies the one page that it falls
-/// into, where a copy has it too, and else nothing.
+/// into, if another list shares it, and otherwise nothing.
 #[derive(Drop)]
 pub(crate) struct Paged<P: AsPage> {
     pub(crate) pages: Vec<Arc<P>>,
@@ -43,28 +43,23 @@ impl<P: AsPage> Paged<P> {
         }
     }
 
-    pub(crate) fn allocator(&self) -> Global {
-        *self.pages.allocator()
+    /// A list of one full page.
+    pub(crate) fn of_page(alloc: Global, page: Arc<P>) -> Result<Paged<P>, AllocError>
+        requires { length (P.cells (arc_value page)) ≡ P.SIZE }
+        ensures { IfOk result (λ l. l ≡ P.cells (arc_value page)) }
+    {
+        let mut pages = Vec::new(alloc);
+        pages.push(page)?;
+        Ok(Paged {
+            pages,
+            len: P::SIZE,
+        })
     }
 
     pub(crate) fn len(&self) -> usize
         ensures { result ≡ length self.now }
     {
         self.len
-    }
-
-    /// A second list of the same cells, which shares the pages.
-    pub(crate) fn share(&self) -> Result<Paged<P>, AllocError>
-        ensures { IfOk result (λ l. l ≡ self.now) }
-    {
-        let mut pages = Vec::with_capacity(*self.pages.allocator(), self.pages.len())?;
-        for page in &self.pages {
-            pages.push(Arc::try_clone(page)?)?;
-        }
-        Ok(Paged {
-            pages,
-            len: self.len,
-        })
     }
 }
 
@@ -119,8 +114,12 @@ impl<P: AsPage> AsPage for Paged<P> {
 impl<P: AsPage> Clone for Paged<P> {
     ghost is_clone = { λ p q. q ≡ p };
 
+    /// A list of the same cells, which shares the pages.
     fn clone(&self) -> Result<Paged<P>, AllocError> {
-        self.share()
+        Ok(Paged {
+            pages: self.pages.clone()?,
+            len: self.len,
+        })
     }
 }
 
@@ -132,7 +131,7 @@ pub(crate) fn place<P: AsPage>(id: usize) -> (usize, usize)
     (id / P::SIZE, id % P::SIZE)
 }
 
-fn set_cell<P: Cells>(page: &mut Arc<P>, at: usize, cell: Cell) -> Result<(), AllocError>
+pub(crate) fn set_cell<P: Cells>(page: &mut Arc<P>, at: usize, cell: Cell) -> Result<(), AllocError>
     requires { at < length (P.cells (arc_value page.old)) }
     ensures ok { OnOk result (P.cells (arc_value page.new)
         ≡ slice_set (P.cells (arc_value page.old)) at cell) }
@@ -142,7 +141,7 @@ fn set_cell<P: Cells>(page: &mut Arc<P>, at: usize, cell: Cell) -> Result<(), Al
     page.set(at, cell)
 }
 
-fn push_cell<P: Cells>(page: &mut Arc<P>, cell: Cell) -> Result<(), AllocError>
+pub(crate) fn push_cell<P: Cells>(page: &mut Arc<P>, cell: Cell) -> Result<(), AllocError>
     requires { length (P.cells (arc_value page.old)) < 2 ^ 32 }
     ensures ok { OnOk result (P.cells (arc_value page.new)
         ≡ P.cells (arc_value page.old) ++ cell ∷ []) }

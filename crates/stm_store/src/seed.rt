@@ -9,7 +9,7 @@ use std::random::RandomSource;
 /// The hasher of names: two fast ones that begin in different states, joined by xor.
 ///
 /// One of them, in a secret state, is no cryptographic hash: the bytes 8 to 16 of a name are a factor of a product, and with
-/// some factors one pair of names in a few thousand collides whatever the state is. Two names collide here only if they do in two
+/// some factors about one pair of names in 1,600 collides whatever the state is. Two names collide here only if they do in two
 /// states that have nothing to do with each other, or by chance. This takes 8 to 20 instructions more for each look-up than one
 /// such hasher; SipHash takes some 500 more.
 #[derive(Clone, Copy)]

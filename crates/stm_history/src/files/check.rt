@@ -2,17 +2,16 @@
 
 ghost use Rattle.std.specs.Prelude.{◌≡◌, ◌++◌, ◌∷◌, [], ◌≤◌, ◌<◌, ℕ, List, OnOk, IfOk, IfErr, IfSome, length};
 ghost use Rattle.stm_store.specs.Tables.{Declared};
-ghost use Rattle.stm_history.specs.declared.event.Event.{Event as AnyEvent};
+ghost use Rattle.stm_events.specs.declared.event.Event.{Event as AnyEvent};
 ghost use Rattle.stm_history.specs.Checking.{CheckerState, at_header, at_variables, at_events, LeadsTo, MayRefuse, NoFeed, strange};
 ghost use Rattle.stm_history.specs.Fits.{FitsTable, FitsFormat};
 ghost use Rattle.stm_history.specs.Following.{Follows, FollowsIn};
 ghost use Rattle.stm_history.specs.Judgement.{IsHistory, TellsFault, next_line};
 ghost use Rattle.stm_history.specs.Lines.{event_line};
-ghost use Rattle.stm_history.specs.SlowDesk.{max_cells, max_events, IsLegal};
+ghost use Rattle.stm_events.specs.SlowDesk.{max_cells, max_events, IsLegal};
 ghost use Rattle.stm_history.specs.Stages.{IsStage, CountsWithinLimits, LeadsToStage, Reached, refused_by};
 ghost use Rattle.stm_history.specs.Checking.{with_table as progress_with};
 
-use crate::event::Event;
 use crate::files::fault::{HistoryFault, Legal};
 use crate::files::replayer::Replayer;
 use crate::files::stepping::StepError;
@@ -23,6 +22,7 @@ use memchr::memchr;
 use std::alloc::Global;
 use std::io::{ErrorKind, Read};
 use std::mem;
+use stm_events::event::Event;
 use stm_store::{DeclareError, Seed, Table};
 
 /// The most bytes of a line.

@@ -1,5 +1,6 @@
 //! What holds of histories as text: each function's contract is a law of the definitions, and its body is empty.
 
+ghost use Rattle.stm_history.specs.WholeBlocks.{CheckedAreWellTyped};
 ghost use Rattle.stm_history.specs.FileLaws.{EachLineIsOneEvent, EventsAreLines, NumbersAreFixed, TextsAreOfOneHistory, HistoriesAreTaken, FaultsAreFixed, WhatIsWrittenIsTaken};
 
 /// Different events have different lines, and none has a line feed.
@@ -32,4 +33,9 @@ pub fn faults_are_fixed()
 /// What `write_history` writes of a legal history, `check_history` takes, and so its text in each format that is read.
 pub fn what_is_written_is_taken()
     ensures { WhatIsWrittenIsTaken }
+{}
+
+/// A block that a text parses and checks to is well typed.
+pub fn checked_are_well_typed()
+    ensures { CheckedAreWellTyped }
 {}

@@ -3,9 +3,9 @@
 ghost use Rattle.std.specs.Prelude.{◌≡◌, List, [], IfOk};
 
 use crate::files::fault::Legal;
-use crate::machine::Machine;
-use crate::staleness::StalenessRule;
 use std::alloc::Global;
+use stm_events::staleness::StalenessRule;
+use stm_machine::machine::Machine;
 use stm_store::{Frozen, Table};
 use stm_terms::NoMemory;
 
@@ -24,7 +24,7 @@ pub(crate) struct Replayer {
 
 impl Replayer {
     ghost use Rattle.stm_store.specs.Tables.{Declared};
-    ghost use Rattle.stm_history.specs.declared.event.Event.{Event};
+    ghost use Rattle.stm_events.specs.declared.event.Event.{Event};
     ghost use Rattle.stm_history.specs.Following.{Follows};
     ghost use Rattle.stm_history.specs.Judgement.{numbers_by};
 

@@ -4,14 +4,14 @@ ghost use Rattle.std.specs.Prelude.{◌≡◌, [], List, IfOk, IfErr, OnOk};
 ghost use Rattle.stm_store.specs.Tables.{Declared};
 ghost use Rattle.stm_history.specs.Following.{Follows};
 ghost use Rattle.stm_history.specs.Judgement.{numbers, Refuses};
-ghost use Rattle.stm_history.specs.SlowDesk.{IsLegal};
+ghost use Rattle.stm_events.specs.SlowDesk.{IsLegal};
 
-use crate::event::Event;
 use crate::files::fault::{HistoryFault, Legal};
 use crate::files::replayer::Replayer;
 use crate::files::stepping::StepError;
-use crate::staleness::StalenessRule;
 use std::alloc::Global;
+use stm_events::event::Event;
+use stm_events::staleness::StalenessRule;
 use stm_store::Table;
 
 /// Takes the events of a list, one after another, before any of which was taken. `NotLegal` counts them from 1.

@@ -6,11 +6,11 @@ ghost use Rattle.std.specs.Io.KnownBytes.{WriteAppends};
 ghost use Rattle.stm_history.specs.Lines.{latest_format, header_line};
 ghost use Rattle.stm_history.specs.HistoryText.{variable_lines, event_lines, history_text, WritesText};
 
-use crate::event::Event;
 use crate::lines::formats::LATEST_FORMAT;
 use crate::lines::write::{event_text, header_text, variable_text};
 use std::alloc::Global;
 use std::io::{ErrorKind, Write};
+use stm_events::event::Event;
 use stm_store::Table;
 
 /// Why a history wasn't written whole. What was written is a part of it from its front.
@@ -54,7 +54,7 @@ fn write_text<W: Write>(writer: &mut W, text: &[u8]) -> Result<(), WriteFault>
 }
 
 /// Writes a line and its line feed.
-fn write_line<W: Write>(writer: &mut W, mut line: String) -> Result<(), WriteFault>
+pub fn write_line<W: Write>(writer: &mut W, mut line: String) -> Result<(), WriteFault>
     ensures { WritesText result (W.contents writer.old) (W.contents writer.new)
         (string_bytes line ++ 10 ∷ []) }
 {
@@ -114,7 +114,8 @@ fn write_variables<W: Write>(alloc: Global, writer: &mut W, table: &Table) -> Re
     Ok(())
 }
 
-fn write_events<W: Write>(
+/// Writes the lines of events.
+pub fn write_events<W: Write>(
     alloc: Global,
     writer: &mut W,
     history: &[Event],

@@ -4,8 +4,8 @@ ghost use Rattle.std.specs.Prelude.{◌≡◌, ◌↔◌, IsTrue};
 ghost use Rattle.stm_history.specs.Fits.{FitsFormat};
 ghost use Rattle.stm_history.specs.Lines.{IsFormat, rule_of};
 
-use crate::event::{Event, What};
-use crate::staleness::StalenessRule;
+use stm_events::event::{Event, What};
+use stm_events::staleness::StalenessRule;
 
 /// The first format, in which no block has a `catch`.
 pub(crate) const FIRST_FORMAT: u32 = 1;

@@ -4,18 +4,18 @@ ghost use Rattle.std.specs.Prelude.{◌≡◌, string_bytes, IfOk, OnOk, map, co
 ghost use Rattle.serde_json.specs.Data.{array};
 ghost use Rattle.serde_json.specs.Events.{SendsValue};
 ghost use Rattle.serde_json.specs.View.{view, items_of};
-ghost use Rattle.stm_history.specs.declared.event.What.TheVariants.{Submitted, Installed, Finished, Cancelled};
+ghost use Rattle.stm_events.specs.declared.event.What.TheVariants.{Submitted, Installed, Finished, Cancelled};
 ghost use Rattle.stm_history.specs.Lines.{what_data, event_data, event_line, header_data, header_line, variable_data, variable_line, verdict_data, number_data};
 ghost use Rattle.stm_history.specs.Sending.{SendsMember};
 
-use crate::event::{Event, What};
 use crate::lines::build::{type_text, value_json};
 use crate::lines::send::{send_number_at, send_numbers, send_text_at, send_verdict};
-use crate::shared_verdict::SharedVerdict;
 use serde::{Described, Serialize, Serializer};
 use serde_json::{Value as Json, json, to_string};
 use std::alloc::Global;
 use stm_check::SharedBlock;
+use stm_events::event::{Event, What};
+use stm_events::shared_verdict::SharedVerdict;
 use stm_terms::NoMemory;
 use stm_terms::kinds::Ty;
 use stm_terms::values::Value;

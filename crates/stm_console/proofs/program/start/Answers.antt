@@ -1,6 +1,7 @@
 use Rattle.std.proofs.Common.{inl, inr, rules}
-use Rattle.stm_console.specs.CommandLine.{version_line}
-use Rattle.stm_console.proofs.WordAnswers.{explore_options_in_range, found_unwritten, nothing_written, options_in_range, run_unwritten, told_mistake, told_nothing, told_version}
+use Rattle.stm_words.specs.CommandLine.{version_line}
+use Rattle.stm_words.proofs.WordAnswers.{explore_options_in_range, options_in_range, told_mistake, told_nothing, told_version}
+use Rattle.stm_console.proofs.ProgramAnswers.{found_unwritten, nothing_written, run_unwritten}
 use Rattle.stm_console.proofs.program.start.Goals as goal
 
 pub returns-in-Err-clause-mistake : goal.returns-in-Err-clause-mistake

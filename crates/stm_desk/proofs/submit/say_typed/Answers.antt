@@ -1,6 +1,6 @@
 use Rattle.std.proofs.Common.{subst}
 use Rattle.stm_terms.specs.Typing.{result_type}
-use Rattle.stm_history.specs.Laws.{IsWellTyped}
+use Rattle.stm_events.specs.Laws.{IsWellTyped}
 use Rattle.stm_desk.proofs.submit.say_typed.Goals as goal
 
 pub returns : goal.returns

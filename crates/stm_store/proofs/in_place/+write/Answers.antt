@@ -1,4 +1,4 @@
-use Rattle.std.proofs.Common.{lit<, ◌≡◌, ◌==◌, false, ℕ, ◌+◌, ◌-◌, ◌*◌, ◌<◌, ◌⊎◌, inl, inr, List, [], ◌∷◌, ◌++◌, length, take, drop, get_or, refl, sym, ap, ◌∙◌, pos, arith, length-append, append_assoc}
+use Rattle.std.proofs.Common.{lit<, ◌≡◌, ℕ, ◌+◌, ◌-◌, ◌*◌, ◌⊎◌, inl, inr, List, ◌∷◌, ◌++◌, length, take, drop, get_or, refl, sym, ap, ◌∙◌, pos, arith, length-append, append_assoc}
 use Rattle.std.specs.Arc.{arc_value}
 use Rattle.std.specs.Result.{is_ok}
 use Rattle.stm_terms.specs.declared.values.Value.{Value}
@@ -9,16 +9,12 @@ use Rattle.stm_store.specs.RangeWrites.{with_writes_from}
 use Rattle.stm_store.proofs.PageLists.{on_ok, on_err_of, length-flatten, vec-sizes, vec-pages}
 use Rattle.stm_store.proofs.FirstPage.{first_page}
 use Rattle.stm_store.proofs.PageListSplit.{cut, parted-set, grouped}
-use Rattle.stm_store.proofs.RangeWriteLemmas.{before, from_first_write, first_write, starts_below, before_few, some_before, first_within, others_within, length-writes_from, writes_both, written_behind}
+use Rattle.stm_store.proofs.RangeWriteLemmas.{some_writes, before, from_first_write, first_write, starts_below, before_few, some_before, first_within, others_within, length-writes_from, writes_both, written_behind}
 use Rattle.stm_store.proofs.in_place.+write.Goals as goal
 
 either : {P : Type 0} → P ⊎ P → P
 either (inl p) = p
 either (inr p) = p
-
-some_writes : (ws : List (ℕ × Value)) → false ≡ (length ws == 0) → 0 < length ws
-some_writes [] e = absurd (cc)
-some_writes (w ∷ ws) e = omega arith
 
 abbrev d : ℕ × Value
 d = (0, Int (pos 0))

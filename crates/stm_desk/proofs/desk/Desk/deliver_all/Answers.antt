@@ -11,6 +11,5 @@ pub loop-ticket-preserved : goal.loop-ticket-preserved
 loop-ticket-preserved c = record {
   begun = begun_install c.args.client c.loop-ticket.delivered c.args.self.now c.loop-ticket.self c.deliver_next.new.self c.loop-ticket.invariant.begun c.in-Ok-deliver_next.ensures.done;
   none_out = out_one c.args.client 0 1 c.loop-ticket.self c.deliver_next.new.self c.in-Ok-deliver_next.ensures.done c.loop-ticket.invariant.none_out;
-  candidates = c.deliver_next.ensures.candidates;
   store = c.loop-ticket.invariant.store ∙ ap plains (sym c.deliver_next.ensures.store);
 }

@@ -1,6 +1,5 @@
-use Rattle.std.proofs.Common.{◌∙◌, refl, sym}
-use Rattle.stm_desk.proofs.Turns.{due_at, next_install, full_at, store_install}
-use Rattle.stm_desk.proofs.Ripe.{due_verdict, installed_candidates}
+use Rattle.std.proofs.Common.{◌∙◌, sym}
+use Rattle.stm_desk.proofs.Turns.{due_at, due_verdict, next_install, full_at, store_install}
 use Rattle.stm_desk.proofs.desk.Desk.deliver_next.Goals as goal
 
 pub verdict_due-requires-clause-due : goal.verdict_due-requires-clause-due
@@ -22,9 +21,3 @@ returns-in-Ok-keep_verdict-clause-done c =
 
 pub returns-in-Ok-keep_verdict-clause-store : goal.returns-in-Ok-keep_verdict-clause-store
 returns-in-Ok-keep_verdict-clause-store c = store_install c.args.self.now c.keep_verdict.new.self c.args.client _ _ c.in-Ok-keep_verdict.ensures.done
-
-pub returns-in-Ok-keep_verdict-clause-candidates : goal.returns-in-Ok-keep_verdict-clause-candidates
-returns-in-Ok-keep_verdict-clause-candidates c =
-    installed_candidates c.args.self.now c.keep_verdict.new.self c.args.client c.args.ticket c.in-Ok.verdict c.verdict_due.new.scratch c.args.candidates.now c.add_if.new.self c.in-Ok.ensures.told
-    c.in-Ok-keep_verdict.ensures.done c.requires.candidates c.add_if.ensures.keeps
-    (λ b. c.in-Ok-add_if.ensures.added (rw (c.blocks-ends.ensures, b) refl))

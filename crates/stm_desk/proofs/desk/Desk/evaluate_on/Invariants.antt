@@ -1,6 +1,6 @@
 use Rattle.std.proofs.Common.{◌≡◌, None, drop}
 use Rattle.stm_queue.specs.Queue.{queued}
-use Rattle.stm_history.specs.SlowDesk.{IsLegal}
+use Rattle.stm_events.specs.SlowDesk.{IsLegal}
 use Rattle.stm_desk.specs.Evaluating.{evaluate_lowest}
 use Rattle.stm_desk.specs.Seen.{now}
 use Rattle.stm_desk.proofs.desk.Desk.evaluate_on.Given as goal

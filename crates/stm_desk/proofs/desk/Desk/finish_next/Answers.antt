@@ -1,5 +1,4 @@
 use Rattle.stm_desk.proofs.Turns.{stops_finish, why_finish, next_finish}
-use Rattle.stm_desk.proofs.Ripe.{finished_candidates}
 use Rattle.stm_desk.proofs.desk.Desk.finish_next.Goals as goal
 use Rattle.stm_desk.proofs.desk.Desk.finish_next.Goals.{in-Ok, in-Err}
 
@@ -18,11 +17,4 @@ returns-clause-why c =
     elim c.match-finish.branch [
       | in-Ok w ↦ rw w.result-is tt
       | in-Err w ↦ rw (w.result-is, w.why_of_finish.ensures) (why_finish c.args.self.now c.args.ticket w.in-Err.refusal c.requires.legal c.requires.few c.requires.none_due c.requires.next w.in-Err.ensures.told)
-    ]
-
-pub returns-clause-candidates : goal.returns-clause-candidates
-returns-clause-candidates c = λ cs a.
-    elim c.match-finish.branch [
-      | in-Ok w ↦ finished_candidates c.args.self.now c.finish.new.self c.args.client c.args.ticket _ _ _ cs c.requires.legal w.in-Ok.ensures.done a
-      | in-Err w ↦ rw w.in-Err.ensures.err a
     ]

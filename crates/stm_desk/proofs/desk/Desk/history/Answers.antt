@@ -1,9 +1,9 @@
-use Rattle.std.proofs.Common.{◌≡◌, List, subst}
+use Rattle.std.proofs.Common.{List, subst}
 use Rattle.stm_store.specs.declared.cell.Cell.{Cell}
 use Rattle.stm_store.specs.Cells.{plains, StoreIsTyped}
-use Rattle.stm_history.specs.declared.staleness.StalenessRule.TheVariants.{Changed}
-use Rattle.stm_history.specs.Headline.{HeadlineHoldsBy}
-use Rattle.stm_history.proofs.Headline.{headline}
+use Rattle.stm_events.specs.declared.staleness.StalenessRule.TheVariants.{Changed}
+use Rattle.stm_events.specs.Headline.{HeadlineHoldsBy}
+use Rattle.stm_events.proofs.Headline.{headline}
 use Rattle.stm_desk.specs.Seen.{Seen, now, AllHaveVerdicts, SettlesInRounds}
 use Rattle.stm_desk.proofs.Verdicts.{have_verdicts, settles_in_rounds}
 use Rattle.stm_desk.proofs.desk.Desk.history.Goals as goal

@@ -1,11 +1,11 @@
 use Rattle.std.proofs.Common.{◌≡◌, List, [], ◌∷◌, ◌++◌, None, rules, sym, subst}
 use Rattle.std.specs.Prelude.{IsSomeAnd}
 use Rattle.stm_eval.specs.EvaluatedFields.{message_ticket, message_block, message_reads, message_verdict}
-use Rattle.stm_history.specs.declared.event.Event.{Event}
-use Rattle.stm_history.specs.declared.event.What.TheVariants.{Installed}
-use Rattle.stm_history.specs.declared.staleness.StalenessRule.TheVariants.{Changed}
-use Rattle.stm_history.specs.SlowDesk.{find_waiter}
-use Rattle.stm_history.specs.Machine.{event}
+use Rattle.stm_events.specs.declared.event.Event.{Event}
+use Rattle.stm_events.specs.declared.event.What.TheVariants.{Installed}
+use Rattle.stm_events.specs.declared.staleness.StalenessRule.TheVariants.{Changed}
+use Rattle.stm_events.specs.SlowDesk.{find_waiter}
+use Rattle.stm_machine.specs.Machine.{event}
 use Rattle.stm_desk.specs.Kept.{DeskInvariant}
 use Rattle.stm_desk.specs.Seen.{Seen, now}
 use Rattle.stm_desk.specs.Refusals.{TellsDeskDelivery}

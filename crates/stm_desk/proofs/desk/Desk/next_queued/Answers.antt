@@ -1,11 +1,11 @@
 use Rattle.std.proofs.Common.{◌≡◌, ℕ, Option, Some, None, true, List, subst}
 use Rattle.std.specs.Prelude.{IfSome}
-use Rattle.stm_history.specs.declared.event.Event.{Event}
-use Rattle.stm_history.specs.declared.staleness.StalenessRule.{StalenessRule}
-use Rattle.stm_history.specs.declared.staleness.StalenessRule.TheVariants.{Changed}
-use Rattle.stm_history.specs.Machine.{Parts, StandsFor, StandsForBy}
-use Rattle.stm_history.specs.QueueAndIndex.{due_of}
-use Rattle.stm_history.specs.SlowDesk.{find_waiter, state, state_by}
+use Rattle.stm_events.specs.declared.event.Event.{Event}
+use Rattle.stm_events.specs.declared.staleness.StalenessRule.{StalenessRule}
+use Rattle.stm_events.specs.declared.staleness.StalenessRule.TheVariants.{Changed}
+use Rattle.stm_machine.specs.Machine.{Parts, StandsFor, StandsForBy}
+use Rattle.stm_machine.specs.QueueAndIndex.{due_of}
+use Rattle.stm_events.specs.SlowDesk.{find_waiter, state, state_by}
 use Rattle.stm_store.specs.Tables.{Declared}
 use Rattle.stm_desk.specs.Seen.{Seen, now}
 use Rattle.stm_desk.proofs.desk.Desk.next_queued.Goals as goal

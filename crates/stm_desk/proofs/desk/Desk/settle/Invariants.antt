@@ -1,6 +1,5 @@
 use Rattle.std.proofs.Common.{◌≡◌, ◌-◌, false, length}
-use Rattle.stm_desk.specs.Seen.{now}
-use Rattle.stm_history.specs.SettleChoices.{some_out, AreCandidates}
+use Rattle.stm_machine.specs.SettleChoices.{some_out}
 use Rattle.stm_desk.specs.Settling.{called_back, HasBegun}
 use Rattle.stm_desk.proofs.desk.Desk.settle.Given as goal
 
@@ -8,7 +7,6 @@ abbrev pub invariant-loop-delivered : goal.invariant-loop-delivered
 invariant-loop-delivered l = record {
   begun : HasBegun l.client (called_back l.fn.self) l.self l.finished l.evaluations;
   none_out : some_out l.self.pending ≡ false;
-  candidates : AreCandidates (now l.self) l.candidates;
 }
 
 abbrev pub decreases-loop-delivered : goal.decreases-loop-delivered

@@ -1,5 +1,5 @@
 use Rattle.std.proofs.Common.{◌≡◌, None, sym, subst}
-use Rattle.stm_history.specs.declared.staleness.StalenessRule.TheVariants.{Changed}
+use Rattle.stm_events.specs.declared.staleness.StalenessRule.TheVariants.{Changed}
 use Rattle.stm_desk.specs.Seen.{Seen}
 use Rattle.stm_desk.specs.Refusals.{submit_refusal}
 use Rattle.stm_desk.proofs.Calls.{can_wait, kept_move, submit_full}

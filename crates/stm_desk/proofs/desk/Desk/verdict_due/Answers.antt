@@ -1,9 +1,9 @@
 use Rattle.std.proofs.Common.{◌≡◌, true, sym, subst}
 use Rattle.std.specs.Prelude.{IfOk}
-use Rattle.stm_history.specs.declared.staleness.StalenessRule.TheVariants.{Changed}
-use Rattle.stm_history.specs.Keeping.{IsVerdictUnder}
-use Rattle.stm_history.specs.QueueAndIndex.{due_of}
-use Rattle.stm_history.specs.SlowDesk.{find_waiter}
+use Rattle.stm_events.specs.declared.staleness.StalenessRule.TheVariants.{Changed}
+use Rattle.stm_machine.specs.Keeping.{IsVerdictUnder}
+use Rattle.stm_machine.specs.QueueAndIndex.{due_of}
+use Rattle.stm_events.specs.SlowDesk.{find_waiter}
 use Rattle.stm_desk.specs.Seen.{Seen, now}
 use Rattle.stm_desk.proofs.Evaluating.{if_told, due_is_there}
 use Rattle.stm_desk.proofs.desk.Desk.verdict_due.Goals as goal

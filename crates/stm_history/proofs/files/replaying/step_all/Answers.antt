@@ -1,9 +1,9 @@
 use Rattle.std.proofs.Common.{◌+◌, ◌∙◌, List, take, rules, sym, ap, subst}
-use Rattle.stm_history.specs.declared.event.Event.{Event}
-use Rattle.stm_history.specs.declared.staleness.StalenessRule.{StalenessRule}
+use Rattle.stm_events.specs.declared.event.Event.{Event}
+use Rattle.stm_events.specs.declared.staleness.StalenessRule.{StalenessRule}
 use Rattle.stm_history.specs.Following.{Follows}
 use Rattle.stm_history.specs.Judgement.{IsIllegalBy}
-use Rattle.stm_history.specs.SlowDesk.{IsLegalBy}
+use Rattle.stm_events.specs.SlowDesk.{IsLegalBy}
 use Rattle.stm_history.proofs.Parts.{next_at}
 use Rattle.stm_history.proofs.Refusing.{refused_at}
 use Rattle.stm_history.proofs.files.replaying.step_all.Goals as goal

@@ -1,11 +1,11 @@
 use Rattle.std.proofs.Common.{◌≡◌, List, ℕ, OnOk, sym, ◌∙◌, subst}
 use Rattle.stm_store.specs.Tables.{Declared}
 use Rattle.stm_eval.specs.EvaluatedFields.{message_ticket}
-use Rattle.stm_history.specs.declared.event.Event.{Event}
-use Rattle.stm_history.specs.declared.event.What.TheVariants.{Installed}
-use Rattle.stm_history.specs.declared.staleness.StalenessRule.{StalenessRule}
+use Rattle.stm_events.specs.declared.event.Event.{Event}
+use Rattle.stm_events.specs.declared.event.What.TheVariants.{Installed}
+use Rattle.stm_events.specs.declared.staleness.StalenessRule.{StalenessRule}
 use Rattle.stm_history.specs.Following.{HasRoom}
-use Rattle.stm_history.specs.Machine.{MovesToBy}
+use Rattle.stm_machine.specs.Machine.{MovesToBy}
 use Rattle.stm_history.proofs.Steps.{no_block, map_none}
 use Rattle.stm_history.proofs.files.stepping.installed.Goals as goal
 

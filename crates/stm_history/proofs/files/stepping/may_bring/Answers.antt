@@ -1,6 +1,6 @@
 use Rattle.std.proofs.Common.{arith}
 use Rattle.std.proofs.lemmas.Grind.{common_steps}
-use Rattle.stm_history.specs.Refusals.{deliver_error}
+use Rattle.stm_events.specs.Refusals.{deliver_error}
 use Rattle.stm_history.proofs.Steps.{no_install, install_same}
 use Rattle.stm_history.proofs.files.stepping.may_bring.Goals as goal
 

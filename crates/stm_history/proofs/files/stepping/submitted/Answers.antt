@@ -1,7 +1,7 @@
 use Rattle.std.proofs.Common.{◌≡◌, None, false, ap, ◌∙◌, arith}
-use Rattle.stm_history.specs.Machine.{CanWaitBy}
-use Rattle.stm_history.specs.Refusals.{submit_refused}
-use Rattle.stm_history.specs.SlowDesk.{state_by}
+use Rattle.stm_machine.specs.Machine.{CanWaitBy}
+use Rattle.stm_events.specs.Refusals.{submit_refused}
+use Rattle.stm_events.specs.SlowDesk.{state_by}
 use Rattle.stm_history.proofs.Steps.{no_submit, submit_same}
 use Rattle.stm_history.proofs.files.stepping.submitted.Goals as goal
 

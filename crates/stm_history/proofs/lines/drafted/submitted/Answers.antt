@@ -1,5 +1,5 @@
 use Rattle.std.proofs.Common.{sym, ◌∙◌}
-use Rattle.stm_history.specs.declared.event.What.TheVariants.{Submitted}
+use Rattle.stm_events.specs.declared.event.What.TheVariants.{Submitted}
 use Rattle.stm_history.proofs.FitsPushed.{fits_by}
 use Rattle.stm_history.proofs.Ranges.{own_text}
 use Rattle.stm_history.proofs.lines.drafted.submitted.Goals as goal

@@ -1,6 +1,6 @@
 use Rattle.std.proofs.Common.{arith, refl}
-use Rattle.stm_history.specs.declared.event.What.TheVariants.{Finished}
-use Rattle.stm_history.specs.Machine.{event}
+use Rattle.stm_events.specs.declared.event.What.TheVariants.{Finished}
+use Rattle.stm_machine.specs.Machine.{event}
 use Rattle.stm_pool.proofs.Owns.{more_of}
 use Rattle.stm_pool.proofs.guarded.Guarded.finish.Goals as goal
 

@@ -1,0 +1,7 @@
+-- What a reader has to believe: the block and the variable of a text, and why they are refused.
+pub mod CompiledBlock
+pub mod DeclaredVariable
+pub mod NameText
+pub mod ToldRefusal
+-- The words inside, for what a declaration does to the table.
+pub mod Declares

@@ -1,0 +1,16 @@
+//! Blocks and variables from their texts, as the commands of a run and the lines of scripts take them.
+//!
+//! `block` compiles the text of a block over a table, `declaring` declares the variable of a text, and `refusal` says why either
+//! is refused. `naming` prints the name of a variable.
+//!
+//! What a reader has to believe is in these modules of specs/: `CompiledBlock` has the block of a text, `DeclaredVariable` the
+//! variable that a text declares, each with the first reason why it is refused; `ToldRefusal` which of these are told, and
+//! `NameText` how a name is printed.
+#![tactic(auto)]
+
+pub mod block;
+pub mod declaring;
+pub mod naming;
+pub mod refusal;
+
+pub use refusal::Refusal;

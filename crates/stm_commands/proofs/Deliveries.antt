@@ -1,0 +1,158 @@
+-- What a delivery of a job's message does: the block under a ticket stays the same, so it is the job's.
+use Rattle.std.proofs.Common.{◌≡◌, ℕ, zero, suc, Bool, true, false, cond, List, [], ◌∷◌, Option, Some, None, Result, Ok, Err, IfOk, IfErr, OnOk, refl, sym, ap, ◌∙◌, subst, append-nil}
+use Rattle.std.specs.Prelude.{option_map, slice_get, length, map}
+use Rattle.stm_terms.specs.declared.kinds.Ty.{Ty}
+use Rattle.stm_terms.specs.declared.values.Value.{Value}
+use Rattle.stm_terms.specs.declared.verdicts.Verdict.{Verdict}
+use Rattle.stm_terms.specs.Changes.{cell_value}
+use Rattle.stm_terms.specs.ReadSet.{reads_of}
+use Rattle.stm_terms.specs.Verdict.{verdict}
+use Rattle.stm_check.specs.TypedBlock.{Block}
+use Rattle.stm_eval.specs.declared.job.Job.{Job}
+use Rattle.stm_eval.specs.declared.message.Evaluated.{Evaluated}
+use Rattle.stm_eval.specs.EvaluatedFields.{message_ticket, message_block, message_reads, message_verdict}
+use Rattle.stm_events.specs.declared.staleness.StalenessRule.TheVariants.{Changed}
+use Rattle.stm_events.specs.declared.errors.DeliverError.{DeliverError}
+use Rattle.stm_events.specs.declared.errors.DeliverError.TheVariants.{Gone, Already}
+use Rattle.stm_events.specs.declared.event.Event.{Event}
+use Rattle.stm_events.specs.declared.event.What.TheVariants.{Installed}
+use Rattle.stm_queue.specs.Queue.{Entry}
+use Rattle.stm_store.specs.Cells.{plains}
+use Rattle.stm_store.specs.declared.cell.Cell.{Cell}
+use Rattle.stm_machine.specs.JobsHandedOut.{AreJobs, AreCovered, sent}
+use Rattle.stm_events.specs.Laws.{BlocksStay}
+use Rattle.stm_machine.specs.Machine.{event}
+use Rattle.stm_events.specs.Refusals.{DeliverTold, differing, overtaken_first}
+use Rattle.stm_events.specs.SlowDesk.{Waiter, IsLegal, under, is_current, state, find_waiter}
+use Rattle.stm_desk.specs.Refusals.{TellsDeskDelivery, left_by}
+use Rattle.stm_desk.specs.Seen.{Seen, now, is_full, with_event}
+use Rattle.stm_commands.specs.declared.jobs.Progress.{Progress}
+use Rattle.stm_commands.specs.Delivering.{Delivered, delivered_all, all_queued, jobs_of, evaluated, job_at, delivery_first, delivery_refusal, after_delivery, after_refusal, installed}
+use Rattle.stm_commands.specs.Kept.{refusal_unevaluated, handed_out, JobStands, JobsStand, HasGrown, after_message}
+use Rattle.stm_commands.specs.OpenDesk.{HandedOut}
+use Rattle.stm_commands.proofs.Growing.{now_next, grown_next, given_are, given_stand, queued_stand}
+
+-- the block that waits is the job's
+same_block : (o : Option Waiter) (b : Block) → option_map (λ w. w.block) o ≡ Some b → (v : Waiter) × (o ≡ Some v) × (v.block ≡ b)
+same_block (Some v) b e = let p : v.block ≡ b = cc in (v, refl, p)
+same_block None b e = absurd cc
+
+stays : BlocksStay → (d : Seen) (cells : List (Ty × Value)) (j : Job) → IsLegal d.table d.history → JobStands d (handed_out cells j) → (w : Waiter) → find_waiter j.ticket (now d).waiters ≡ Some w → w.block ≡ j.block
+stays law d cells j legal s w e =
+    let v = same_block (find_waiter j.ticket (state d.table s.before).waiters) j.block s.waited in
+    law Changed d.table s.before s.more j.ticket v.0 w (subst (λ (h : List Event). IsLegal d.table h) s.history legal) v.1
+    (subst (λ (h : List Event). find_waiter j.ticket (state d.table h).waiters ≡ Some w) s.history e) ∙ v.2
+
+first_told : (d : Seen) (j : Job) (o : Option Waiter) (told : Option DeliverError) (reads : List (ℕ × Value)) → ((w : Waiter) → o ≡ Some w → w.block ≡ j.block)
+    → DeliverTold told (now d).store (is_full d) o j.block reads → told ≡ delivery_first (now d).store o reads d
+first_told d j (Some w) told reads same t = t.1 (ap (λ b. b.tree) (same w refl))
+first_told d j None told reads same t = t
+
+-- the first refusal of the message is the job's
+pub told_of_job : BlocksStay → (d : Seen) (cells : List (Ty × Value)) (j : Job) (m : Evaluated) (r : Option DeliverError) → IsLegal d.table d.history → JobStands d (handed_out cells j)
+    → message_ticket m ≡ j.ticket → message_block m ≡ j.block → message_reads m ≡ reads_of (cell_value cells) j.block.tree
+    → TellsDeskDelivery r d (message_ticket m) (message_block m) (message_reads m) → r ≡ delivery_refusal d (handed_out cells j)
+told_of_job law d cells j m r legal s t b rs told =
+    first_told d j (find_waiter j.ticket (now d).waiters) r (reads_of (cell_value cells) j.block.tree) (stays law d cells j legal s)
+    (subst (λ (x : List (ℕ × Value)). DeliverTold r (now d).store (is_full d) (find_waiter j.ticket (now d).waiters) j.block x) rs
+    (subst (λ (x : Block). DeliverTold r (now d).store (is_full d) (find_waiter j.ticket (now d).waiters) x (message_reads m)) b
+    (subst (λ (x : ℕ). DeliverTold r (now d).store (is_full d) (find_waiter x (now d).waiters) (message_block m) (message_reads m)) t told)))
+
+-- and so is what it leaves
+pub refused_of_job : (d : Seen) (cells : List (Ty × Value)) (j : Job) (m : Evaluated) (r : Option DeliverError) → message_ticket m ≡ j.ticket → verdict (cell_value cells) j.block.tree ≡ Some (message_verdict m)
+    → after_message d m r ≡ after_refusal d (handed_out cells j) r
+refused_of_job d cells j m None t v = ap (λ (x : ℕ). with_event d (event 0 (Installed x (message_verdict m)))) t ∙ sym (ap (installed d j.ticket) v)
+refused_of_job d cells j m (Some e) t v = ap (λ (x : ℕ). left_by e x d) t
+
+pub done_of_job : (d e : Seen) (cells : List (Ty × Value)) (j : Job) (m : Evaluated) (r : Option DeliverError) → message_ticket m ≡ j.ticket → verdict (cell_value cells) j.block.tree ≡ Some (message_verdict m)
+    → r ≡ delivery_refusal d (handed_out cells j) → e ≡ after_message d m r → e ≡ after_delivery d (handed_out cells j)
+done_of_job d e cells j m r t v p q = q ∙ refused_of_job d cells j m r t v ∙ ap (after_refusal d (handed_out cells j)) p
+
+-- how a delivery leaves the desk, by its answer
+pub delivered_grown : (d e : Seen) (t : ℕ) (v : Verdict) (r : Result (Unit {0}) (Evaluated × DeliverError)) → OnOk r (e ≡ with_event d (event 0 (Installed t v))) → IfErr r (λ x. e ≡ left_by x.1 t d) → IsLegal e.table e.history
+    → HasGrown d e
+delivered_grown d e t v (Ok x) p q legal = grown_next d e 0 (Installed t v) p legal
+delivered_grown d e t v (Err x) p q legal = record { table = ap (λ s. s.table) q; limit = ap (λ s. s.limit) q; more = []; history = ap (λ s. s.history) q ∙ sym (append-nil d.history); legal = legal }
+
+pub delivered_store : (d e : Seen) (t : ℕ) (v : Verdict) (r : Result (Unit {0}) (Evaluated × DeliverError)) → OnOk r (e ≡ with_event d (event 0 (Installed t v))) → IfErr r (λ x. e ≡ left_by x.1 t d) → (now e).store ≡ (now d).store
+delivered_store d e t v (Ok x) p q = ap (λ s. (now s).store) p ∙ ap (λ s. s.store) (now_next d 0 (Installed t v))
+delivered_store d e t v (Err x) p q = ap (λ s. (now s).store) q
+
+pub told_if_ok : {E : Type 0} → BlocksStay → (d : Seen) (cells : List (Ty × Value)) (j : Job) (m : Evaluated) (r : Result (Option DeliverError) E) → IsLegal d.table d.history → JobStands d (handed_out cells j)
+    → message_ticket m ≡ j.ticket → message_block m ≡ j.block → message_reads m ≡ reads_of (cell_value cells) j.block.tree
+    → IfOk r (λ r. TellsDeskDelivery r d (message_ticket m) (message_block m) (message_reads m)) → IfOk r (λ r. r ≡ delivery_refusal d (handed_out cells j))
+told_if_ok law d cells j m (Ok r) legal s t b rs told = told_of_job law d cells j m r legal s t b rs told
+told_if_ok law d cells j m (Err e) legal s t b rs told = tt
+
+pub done_if_ok : {E : Type 0} → (d e : Seen) (cells : List (Ty × Value)) (j : Job) (m : Evaluated) (r : Result (Option DeliverError) E) → message_ticket m ≡ j.ticket → verdict (cell_value cells) j.block.tree ≡ Some (message_verdict m)
+    → IfOk r (λ r. r ≡ delivery_refusal d (handed_out cells j)) → IfOk r (λ r. e ≡ after_message d m r) → OnOk r (e ≡ after_delivery d (handed_out cells j))
+done_if_ok d e cells j m (Ok r) t v p q = done_of_job d e cells j m r t v p q
+done_if_ok d e cells j m (Err x) t v p q = tt
+
+-- the job of a number stands
+stands_get : (d : Seen) (js : List HandedOut) (n : ℕ) (j : HandedOut) → JobsStand d js → Some j ≡ slice_get js n → JobStands d j
+stands_get d [] n j s e = absurd cc
+stands_get d (k ∷ js) zero j s e = let p : j ≡ k = cc in subst (JobStands d) (sym p) s.0
+stands_get d (k ∷ js) (suc n) j s e = stands_get d js n j s.1 e
+
+pub stands_at : (d : Seen) (js : List HandedOut) (n : ℕ) (j : HandedOut) → JobsStand d js → Some j ≡ job_at n js → JobStands d j
+stands_at d js zero j s e = absurd cc
+stands_at d js (suc n) j s e = stands_get d js n j s e
+
+-- ---- all that is queued
+ticket_count : (js : List Job) → length js ≡ length (map (λ (j : Job). j.ticket) js)
+ticket_count [] = refl
+ticket_count (j ∷ js) = ap suc (ticket_count js)
+
+begun : Seen → List Entry → Delivered
+begun d p = record { desk = record d { pending = p }; count = 0; stop = None }
+
+taken_all : (d e : Seen) (cells : List (Ty × Value)) (js : List Job) → e ≡ record d { pending = sent (length js) d.pending } → map (λ (j : Job). j.ticket) js ≡ all_queued d → cells ≡ plains (now d).store → AreJobs (now d) js
+    → delivered_all (record { desk = e; count = 0; stop = None }) (map (handed_out cells) js) ≡ evaluated d
+unfolding begun
+taken_all d e cells js q t s a =
+    ap (λ (x : Seen). delivered_all (record { desk = x; count = 0; stop = None }) (map (handed_out cells) js)) q
+    ∙ ap (λ (n : ℕ). delivered_all (begun d (sent n d.pending)) (map (handed_out cells) js)) (ticket_count js ∙ ap (λ (ts : List ℕ). length ts) t)
+    ∙ ap (delivered_all (begun d (sent (length (all_queued d)) d.pending))) (given_are d cells js s a ∙ ap (jobs_of (now d)) t)
+
+progress_is : {E : Type 0} → (e : Seen) (x y : Delivered) (r : Result Progress E) → x ≡ y → IfOk r (λ p. record { desk = e; count = p.count; stop = p.stop } ≡ x) → IfOk r (λ p. record { desk = e; count = p.count; stop = p.stop } ≡ y)
+progress_is e x y (Ok p) q h = h ∙ q
+progress_is e x y (Err z) q h = tt
+
+pub evaluated_all : {E : Type 0} → (d e f : Seen) (cells : List (Ty × Value)) (js : List Job) (r : Result Progress E) → e ≡ record d { pending = sent (length js) d.pending } → map (λ (j : Job). j.ticket) js ≡ all_queued d
+    → cells ≡ plains (now d).store → AreJobs (now d) js
+    → IfOk r (λ p. record { desk = f; count = p.count; stop = p.stop } ≡ delivered_all (record { desk = e; count = 0; stop = None }) (map (handed_out cells) js))
+    → IfOk r (λ p. record { desk = f; count = p.count; stop = p.stop } ≡ evaluated d)
+evaluated_all d e f cells js r q t s a h = progress_is f _ _ r (taken_all d e cells js q t s a) h
+
+pub given_queued : (d e : Seen) (cells : List (Ty × Value)) (js : List Job) → e ≡ record d { pending = sent (length js) d.pending } → AreJobs (now d) js → AreCovered cells js → JobsStand e (map (handed_out cells) js)
+given_queued d e cells js q a c =
+    subst (λ (f : Seen). JobsStand f (map (handed_out cells) js)) (sym q) (queued_stand d (sent (length js) d.pending) (map (handed_out cells) js) (given_stand d cells js a c))
+
+-- ---- a delivery that is refused whatever is delivered
+unevaluated_by : (store : List Cell) (o : Option Waiter) (reads : List (ℕ × Value)) (d : Seen) (e : DeliverError) → Some e ≡ refusal_unevaluated o → delivery_first store o reads d ≡ Some e
+unevaluated_by store None reads d e p = sym p
+unevaluated_by store (Some w) reads d e p = by (is_current w) p
+  where
+    by : (b : Bool) → Some e ≡ cond b (Some Already) None → cond b (Some Already) (overtaken_first (differing (under store) reads) (is_full d)) ≡ Some e
+    by true q = sym q
+    by false q = absurd cc
+
+pub refused_unevaluated : (d : Seen) (j : HandedOut) (e : DeliverError) → Some e ≡ refusal_unevaluated (find_waiter j.ticket (now d).waiters) → delivery_refusal d j ≡ Some e
+refused_unevaluated d j e p = unevaluated_by (now d).store (find_waiter j.ticket (now d).waiters) (reads_of (cell_value j.store) j.block.tree) d e p
+
+-- it leaves the desk as it was
+left_unevaluated : (d : Seen) (o : Option Waiter) (t : ℕ) (e : DeliverError) → Some e ≡ refusal_unevaluated o → left_by e t d ≡ d
+left_unevaluated d o t e p = by o e p
+  where
+    by : (o : Option Waiter) (e : DeliverError) → Some e ≡ refusal_unevaluated o → left_by e t d ≡ d
+    by None e p = let q : e ≡ Gone = cc in ap (λ (x : DeliverError). left_by x t d) q
+    by (Some w) e p = two (is_current w) p
+      where
+        two : (b : Bool) → Some e ≡ cond b (Some Already) None → left_by e t d ≡ d
+        two true q = let r : e ≡ Already = cc in ap (λ (x : DeliverError). left_by x t d) r
+        two false q = absurd cc
+
+pub same_unevaluated : (d : Seen) (j : HandedOut) (e : DeliverError) → Some e ≡ refusal_unevaluated (find_waiter j.ticket (now d).waiters) → d ≡ after_delivery d j
+same_unevaluated d j e p =
+    sym (left_unevaluated d (find_waiter j.ticket (now d).waiters) j.ticket e p) ∙ ap (after_refusal d j) (sym (refused_unevaluated d j e p))

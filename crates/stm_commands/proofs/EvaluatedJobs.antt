@@ -1,0 +1,145 @@
+-- What delivering the answers of jobs does, one after another.
+use Rattle.std.proofs.Common.{◌≡◌, ℕ, suc, ◌+◌, ◌<◌, ◌≤◌, true, false, List, [], ◌∷◌, ◌++◌, Option, Some, None, Result, map, length, get_or, refl, sym, ap, ◌∙◌, append_assoc, append-nil, arith}
+use Rattle.std.proofs.lemmas.List.{map-append, length-append}
+use Rattle.std.specs.Option.{is_some}
+use Rattle.std.specs.declared.alloc.AllocError.{AllocError}
+use Rattle.stm_terms.specs.declared.kinds.Ty.{Ty}
+use Rattle.stm_terms.specs.declared.values.Value.{Value}
+use Rattle.stm_eval.specs.declared.job.Job.{Job}
+use Rattle.stm_eval.specs.declared.message.Evaluated.{Evaluated}
+use Rattle.stm_eval.specs.EvaluatedFields.{message_ticket, message_block, message_reads}
+use Rattle.stm_events.specs.declared.errors.DeliverError.{DeliverError}
+use Rattle.stm_machine.specs.JobsHandedOut.{AreCovered}
+use Rattle.stm_events.specs.Laws.{BlocksStay}
+use Rattle.stm_events.specs.SlowDesk.{IsLegal}
+use Rattle.stm_pool.specs.Answers.{IsMessageOf, AnswersJob}
+use Rattle.stm_desk.specs.Refusals.{TellsDeskDelivery, left_by}
+use Rattle.stm_desk.specs.Seen.{Seen}
+use Rattle.stm_commands.specs.Delivering.{Delivered, delivered_by, delivered_next, delivered_all, handed_back, delivery_refusal}
+use Rattle.stm_commands.specs.Kept.{handed_out, JobStands, JobsStand, HasGrown, after_message, AnswerJobs}
+use Rattle.stm_commands.specs.OpenDesk.{HandedOut}
+use Rattle.stm_commands.proofs.Deliveries.{told_of_job, refused_of_job}
+use Rattle.stm_commands.proofs.Growing.{stand_grown}
+
+abbrev pub Answer : Type 0
+Answer = Result Evaluated (Job × AllocError)
+
+-- ---- one message
+told : BlocksStay → (d : Seen) (cells : List (Ty × Value)) (j : Job) (m : Evaluated) (r : Option DeliverError) → IsLegal d.table d.history → JobStands d (handed_out cells j) → IsMessageOf j cells m
+    → TellsDeskDelivery r d (message_ticket m) (message_block m) (message_reads m) → r ≡ delivery_refusal d (handed_out cells j)
+told law d cells j m r legal s i t = told_of_job law d cells j m r legal s i.ticket i.block i.reads_are t
+
+-- a message that is taken
+pub next_taken : BlocksStay → (d e : Seen) (cells : List (Ty × Value)) (j : Job) (m : Evaluated) (n : ℕ) (stop r : Option DeliverError) → is_some stop ≡ false → is_some r ≡ false
+    → IsLegal d.table d.history → JobStands d (handed_out cells j) → IsMessageOf j cells m → TellsDeskDelivery r d (message_ticket m) (message_block m) (message_reads m)
+    → e ≡ after_message d m r
+    → record { desk = e; count = n + 1; stop = None } ≡ delivered_next (record { desk = d; count = n; stop = stop }) (handed_out cells j) stop
+next_taken law d e cells j m n (Some x) r f g legal s i t p = absurd cc
+next_taken law d e cells j m n None (Some x) f g legal s i t p = absurd cc
+next_taken law d e cells j m n None None f g legal s i t p =
+    ap (λ (x : Seen). record { desk = x; count = n + 1; stop = None }) (p ∙ refused_of_job d cells j m None i.ticket i.verdict_is)
+    ∙ ap (delivered_by (record { desk = d; count = n; stop = None }) (handed_out cells j)) (told law d cells j m None legal s i t)
+
+-- a message that is refused
+pub next_refused : BlocksStay → (d mid e : Seen) (cells : List (Ty × Value)) (j : Job) (m : Evaluated) (n t : ℕ) (stop r : Option DeliverError) → is_some stop ≡ false → is_some r ≡ true
+    → IsLegal d.table d.history → JobStands d (handed_out cells j) → IsMessageOf j cells m → TellsDeskDelivery r d (message_ticket m) (message_block m) (message_reads m)
+    → mid ≡ after_message d m r → t ≡ message_ticket m → e ≡ handed_back mid t
+    → record { desk = e; count = n; stop = r } ≡ delivered_next (record { desk = d; count = n; stop = stop }) (handed_out cells j) stop
+next_refused law d mid e cells j m n t (Some x) r f g legal s i w p q o = absurd cc
+next_refused law d mid e cells j m n t None None f g legal s i w p q o = absurd cc
+next_refused law d mid e cells j m n t None (Some x) f g legal s i w p q o =
+    ap (λ (y : Seen). record { desk = y; count = n; stop = Some x })
+    (o ∙ ap (λ (y : Seen). handed_back y t) p ∙ ap (λ (u : ℕ). handed_back (left_by x (message_ticket m) d) u) (q ∙ i.ticket) ∙ ap (λ (u : ℕ). handed_back (left_by x u d) j.ticket) i.ticket)
+    ∙ ap (delivered_by (record { desk = d; count = n; stop = None }) (handed_out cells j)) (told law d cells j m (Some x) legal s i w)
+
+-- ---- answers
+-- the answers that are left of some jobs, which are delivered to a desk yet
+pub record IsLeft (cells : List (Ty × Value)) (so_far whole : Delivered) (answers : List Answer) : Type 0 where
+  pub jobs : List Job
+  pub answered : AnswerJobs jobs cells answers
+  pub stand : JobsStand so_far.desk (map (handed_out cells) jobs)
+  pub done : delivered_all so_far (map (handed_out cells) jobs) ≡ whole
+
+next_of : (cells : List (Ty × Value)) (d e whole : Delivered) (a : Answer) (rest : List Answer) (jobs : List Job) → HasGrown d.desk e.desk
+    → ((j : Job) → AnswersJob j cells a → JobStands d.desk (handed_out cells j) → e ≡ delivered_next d (handed_out cells j) d.stop)
+    → AnswerJobs jobs cells (a ∷ rest) → JobsStand d.desk (map (handed_out cells) jobs) → delivered_all d (map (handed_out cells) jobs) ≡ whole → IsLeft cells e whole rest
+next_of cells d e whole a rest [] g next h s p = absurd h
+next_of cells d e whole a rest (j ∷ js) g next h s p = record {
+  jobs = js;
+  answered = h.1;
+  stand = stand_grown d.desk e.desk (map (handed_out cells) js) g s.1;
+  done = ap (λ (x : Delivered). delivered_all x (map (handed_out cells) js)) (next j h.0 s.0) ∙ p;
+}
+
+pub left_next : (cells : List (Ty × Value)) (d e whole : Delivered) (a : Answer) (rest : List Answer) → HasGrown d.desk e.desk
+    → ((j : Job) → AnswersJob j cells a → JobStands d.desk (handed_out cells j) → e ≡ delivered_next d (handed_out cells j) d.stop) → IsLeft cells d whole (a ∷ rest) → IsLeft cells e whole rest
+left_next cells d e whole a rest g next l = next_of cells d e whole a rest l.jobs g next l.answered l.stand l.done
+
+ended_of : (cells : List (Ty × Value)) (d whole : Delivered) (jobs : List Job) → AnswerJobs jobs cells [] → delivered_all d (map (handed_out cells) jobs) ≡ whole → d ≡ whole
+ended_of cells d whole [] h p = p
+ended_of cells d whole (j ∷ js) h p = absurd h
+
+pub left_none : (cells : List (Ty × Value)) (d whole : Delivered) (answers : List Answer) → length answers ≡ 0 → IsLeft cells d whole answers → d ≡ whole
+left_none cells d whole [] n l = ended_of cells d whole l.jobs l.answered l.done
+left_none cells d whole (a ∷ rest) n l = absurd (omega arith)
+
+-- as many answers as jobs, each of the job at its place
+pub each_answers : (cells : List (Ty × Value)) (jobs : List Job) (answers : List Answer) → length answers ≡ length jobs
+    → ((k : ℕ) (d : Job) (e : Answer) → k < length jobs → AnswersJob (get_or jobs k d) cells (get_or answers k e)) → AnswerJobs jobs cells answers
+each_answers cells [] [] n f = tt
+each_answers cells [] (a ∷ rest) n f = absurd (omega arith)
+each_answers cells (j ∷ js) [] n f = absurd (omega arith)
+each_answers cells (j ∷ js) (a ∷ rest) n f = (f 0 j a (omega arith), each_answers cells js rest (omega arith) (λ k d e h. f (suc k) d e (omega arith)))
+
+-- ---- batches
+-- the jobs that are left, which are evaluated and delivered to a desk yet
+pub record AreLeft (cells : List (Ty × Value)) (so_far whole : Delivered) (jobs : List Job) : Type 0 where
+  pub covered : AreCovered cells jobs
+  pub stand : JobsStand so_far.desk (map (handed_out cells) jobs)
+  pub done : delivered_all so_far (map (handed_out cells) jobs) ≡ whole
+
+delivered_append : (d : Delivered) (js ks : List HandedOut) → delivered_all d (js ++ ks) ≡ delivered_all (delivered_all d js) ks
+delivered_append d [] ks = refl
+delivered_append d (j ∷ js) ks = delivered_append (delivered_next d j d.stop) js ks
+
+covered_both : (cells : List (Ty × Value)) (js ks : List Job) → AreCovered cells (js ++ ks) → AreCovered cells js × AreCovered cells ks
+covered_both cells [] ks c = (tt, c)
+covered_both cells (j ∷ js) ks c = let b = covered_both cells js ks c.1 in ((c.0, b.0), b.1)
+
+stand_both : (d : Seen) (cells : List (Ty × Value)) (js ks : List Job) → JobsStand d (map (handed_out cells) (js ++ ks)) → JobsStand d (map (handed_out cells) js) × JobsStand d (map (handed_out cells) ks)
+stand_both d cells [] ks s = (tt, s)
+stand_both d cells (j ∷ js) ks s = let b = stand_both d cells js ks s.1 in ((s.0, b.0), b.1)
+
+-- the first of them, as a batch
+pub batch_covered : (cells : List (Ty × Value)) (d whole : Delivered) (batch rest : List Job) → AreLeft cells d whole (batch ++ rest) → AreCovered cells batch
+batch_covered cells d whole batch rest l = (covered_both cells batch rest l.covered).0
+
+pub batch_stands : (cells : List (Ty × Value)) (d whole : Delivered) (batch rest : List Job) → AreLeft cells d whole (batch ++ rest) → JobsStand d.desk (map (handed_out cells) batch)
+batch_stands cells d whole batch rest l = (stand_both d.desk cells batch rest l.stand).0
+
+-- those behind a batch that was delivered
+pub batch_done : (cells : List (Ty × Value)) (d e whole : Delivered) (batch rest : List Job) → HasGrown d.desk e.desk → e ≡ delivered_all d (map (handed_out cells) batch) → AreLeft cells d whole (batch ++ rest)
+    → AreLeft cells e whole rest
+batch_done cells d e whole batch rest g p l = record {
+  covered = (covered_both cells batch rest l.covered).1;
+  stand = stand_grown d.desk e.desk (map (handed_out cells) rest) g (stand_both d.desk cells batch rest l.stand).1;
+  done = ap (λ (x : Delivered). delivered_all x (map (handed_out cells) rest)) p
+      ∙ sym (delivered_append d (map (handed_out cells) batch) (map (handed_out cells) rest))
+      ∙ ap (delivered_all d) (sym (map-append (handed_out cells) batch rest)) ∙ l.done;
+}
+
+-- a batch and the jobs behind it, before and after the next one joined it
+pub batch_longer : (batch rest longer shorter : List Job) (j : Job) → rest ≡ j ∷ shorter → longer ≡ batch ++ j ∷ [] → batch ++ rest ≡ longer ++ shorter
+batch_longer batch rest longer shorter j e p =
+    ap (λ (js : List Job). batch ++ js) e ∙ sym (append_assoc batch (j ∷ []) shorter) ∙ ap (λ (js : List Job). js ++ shorter) (sym p)
+
+-- where nothing is left behind a batch
+pub last_batch : (batch rest : List Job) → length rest ≡ 0 → batch ++ rest ≡ batch
+last_batch batch [] n = append-nil batch
+last_batch batch (j ∷ js) n = absurd (omega arith)
+
+pub batch_fits : (count most limit : ℕ) (batch rest : List Job) → count + length (batch ++ rest) ≤ most → most ≤ limit → count + length batch ≤ limit
+batch_fits count most limit batch rest f h = let n = length-append batch rest in omega (arith, f, h, n)
+
+pub rest_fits : (count next most : ℕ) (batch rest : List Job) → count + length (batch ++ rest) ≤ most → next ≤ count + length batch → next + length rest ≤ most
+rest_fits count next most batch rest f h = let n = length-append batch rest in omega (arith, f, h, n)

@@ -1,0 +1,12 @@
+pub mod CellLines
+pub mod Deliveries
+pub mod EvaluatedHere
+pub mod EvaluatedJobs
+pub mod GoneTickets
+pub mod Growing
+pub mod KeptQueue
+pub mod KeptStores
+pub mod OutTickets
+pub mod PreparedBlocks
+pub mod ReadyTickets
+pub mod WaiterLines

@@ -1,6 +1,0 @@
-use Rattle.std.proofs.Common.{◌≡◌, ◌+◌, drop}
-use Rattle.stm_console.specs.LineClass.{blanks_len}
-use Rattle.stm_console.proofs.judging.blanks_len.Given as goal
-
-abbrev pub invariant-loop-at : goal.invariant-loop-at
-invariant-loop-at l = blanks_len l.text ≡ l.at + blanks_len (drop l.at l.text)

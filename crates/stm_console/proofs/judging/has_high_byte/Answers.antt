@@ -1,5 +1,0 @@
-use Rattle.stm_console.proofs.AsciiArguments.{high_byte_told}
-use Rattle.stm_console.proofs.judging.has_high_byte.Goals as goal
-
-pub returns : goal.returns
-returns c = high_byte_told c.args.line.now c.is_ascii.result c.is_ascii.ensures.cases

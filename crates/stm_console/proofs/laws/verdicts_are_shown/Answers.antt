@@ -1,7 +1,0 @@
-use Rattle.stm_console.proofs.ShownVerdicts.{shown}
-use Rattle.stm_console.proofs.laws.verdicts_are_shown.Goals as goal
-
-pub returns : goal.returns
-returns c =
-    shown c.tickets_rise.ensures c.weak_is_present.ensures c.answers_are_right.ensures.blocks c.answers_are_right.ensures.declarations
-    c.check_never_says_no_memory.ensures c.verdict_is_stable.ensures c.blocks_stay.ensures c.waiting_are_well_typed.ensures.checked

@@ -1,5 +1,0 @@
-use Rattle.stm_console.proofs.WordAnswers.{check_unanswered, check_requested}
-use Rattle.stm_console.proofs.laws.words_of_a_check_are_accepted.Goals as goal
-
-pub returns : goal.returns
-returns c = λ name. (check_unanswered name, check_requested name)

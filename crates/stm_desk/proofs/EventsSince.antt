@@ -1,0 +1,79 @@
+-- The events after the last delivery to a ticket, what they write, and where the cause is looked for.
+use Rattle.std.proofs.Common.{◌≡◌, ℕ, zero, suc, ◌+◌, ◌<◌, Bool, true, false, ◌||◌, cond, List, [], ◌∷◌, ◌++◌, Option, Some, length, get_or, drop, refl, sym, subst, arith}
+use Rattle.std.specs.Prelude.{nat_eq}
+use Rattle.stm_terms.specs.declared.values.Value.{Value}
+use Rattle.stm_terms.specs.Changes.{find}
+use Rattle.stm_store.specs.FreshReferences.{HasNumber, AreWritable}
+use Rattle.stm_events.specs.declared.event.Event.{Event}
+use Rattle.stm_events.specs.Headline.{installs_to, is_installed}
+use Rattle.stm_events.specs.SlowDesk.{Slow, after, state_from}
+use Rattle.stm_desk.specs.Reasons.{first_cause, cause_since_delivery}
+use Rattle.stm_desk.specs.ReasonsTold.{EachIsWritable, events_since}
+
+or_false : (a b : Bool) → (a || b) ≡ false → (a ≡ false) × (b ≡ false)
+or_false true b e = absurd (cc)
+or_false false b e = (refl, e)
+
+or_true : (a b : Bool) → b ≡ true → (a || b) ≡ true
+or_true true b e = refl
+or_true false b e = e
+
+here_true : (a b : Bool) → a ≡ true → (a || b) ≡ true
+here_true a b e = rw e refl
+
+-- ---- a scan from the end
+installed_at : (t : ℕ) (h : List Event) (k : ℕ) (e : Event) → k < length h → e ≡ get_or h k e → installs_to t e.what ≡ true → is_installed t h ≡ true
+installed_at t [] k e l at d = absurd (omega arith)
+installed_at t (x ∷ h) zero e l at d = here_true (installs_to t x.what) (is_installed t h) (subst (λ (y : Event). installs_to t y.what ≡ true) at d)
+installed_at t (x ∷ h) (suc k) e l at d = or_true (installs_to t x.what) (is_installed t h) (installed_at t h k e (omega arith) at d)
+
+since_suc : (t : ℕ) (h : List Event) (k : ℕ) (e : Event) → k < length h → e ≡ get_or h k e → installs_to t e.what ≡ true → is_installed t (drop (suc k) h) ≡ false → drop (suc k) h ≡ events_since t h
+since_suc t [] k e l at d n = absurd (omega arith)
+since_suc t (x ∷ h) zero e l at d n =
+    let g : installs_to t x.what ≡ true = subst (λ (y : Event). installs_to t y.what ≡ true) at d in
+    rw (n, g) refl
+since_suc t (x ∷ h) (suc k) e l at d n =
+    let g : is_installed t h ≡ true = installed_at t h k e (omega arith) at d in
+    rw g (since_suc t h k e (omega arith) at d n)
+
+pub since_at : (t : ℕ) (h : List Event) (i k : ℕ) (e : Event) → k + 1 ≡ i → k < length h → e ≡ get_or h k e → installs_to t e.what ≡ true → is_installed t (drop i h) ≡ false → drop i h ≡ events_since t h
+since_at t h i k e same l at d n =
+    let q : suc k ≡ i = omega arith in
+    subst (λ (j : ℕ). drop j h ≡ events_since t h) q (since_suc t h k e l at d (subst (λ (j : ℕ). is_installed t (drop j h) ≡ false) (sym q) n))
+
+pub none_since : (t : ℕ) (h : List Event) → is_installed t h ≡ false → [] ≡ events_since t h
+none_since t [] n = refl
+none_since t (x ∷ h) n = let p = or_false (installs_to t x.what) (is_installed t h) n in rw (p.1, p.0) refl
+
+-- ---- a delivery in the middle
+installed_mid : (t : ℕ) (before : List Event) (e : Event) (later : List Event) → installs_to t e.what ≡ true → is_installed t (before ++ e ∷ later) ≡ true
+installed_mid t [] e later d = here_true (installs_to t e.what) (is_installed t later) d
+installed_mid t (x ∷ before) e later d = or_true (installs_to t x.what) (is_installed t (before ++ e ∷ later)) (installed_mid t before e later d)
+
+pub since_delivery : (t : ℕ) (before : List Event) (e : Event) (later : List Event) → installs_to t e.what ≡ true → is_installed t later ≡ false → events_since t (before ++ e ∷ later) ≡ later
+since_delivery t [] e later d n = rw (n, d) refl
+since_delivery t (x ∷ before) e later d n = rw (installed_mid t before e later d) (since_delivery t before e later d n)
+
+pub cause_after : (t : ℕ) (reads : List (ℕ × Value)) (s : Slow) (before : List Event) (e : Event) (later : List Event) → installs_to t e.what ≡ true → is_installed t later ≡ false
+    → cause_since_delivery t reads s (before ++ e ∷ later) ≡ first_cause reads (after (state_from s before) e.what) later
+cause_after t reads s [] e later d n = rw (n, d) refl
+cause_after t reads s (x ∷ before) e later d n = rw (installed_mid t before e later d) (cause_after t reads (after s x.what) before e later d n)
+
+-- ---- events that can be read
+since_by : (a b : Bool) (es fs : List Event) → EachIsWritable es → EachIsWritable fs → EachIsWritable (cond a fs (cond b es []))
+since_by true b es fs h g = g
+since_by false true es fs h g = h
+since_by false false es fs h g = tt
+
+pub since_writable : (t : ℕ) (h : List Event) → EachIsWritable h → EachIsWritable (events_since t h)
+since_writable t [] w = tt
+since_writable t (x ∷ h) w = since_by (is_installed t h) (installs_to t x.what) h (events_since t h) w.1 (since_writable t h w.1)
+
+-- ---- a value that is written has a number
+number_step : (b : Bool) (n : ℕ) (w : ℕ × Value) (o : Option Value) (v : Value) → HasNumber n w.1 → (Some v ≡ o → HasNumber n v) → Some v ≡ cond b (Some w.1) o → HasNumber n v
+number_step true n w o v h more e = let q : w.1 ≡ v = cc in subst (HasNumber n) q h
+number_step false n w o v h more e = more e
+
+pub written_number : (n i : ℕ) (ws : List (ℕ × Value)) (v : Value) → AreWritable n ws → Some v ≡ find i ws → HasNumber n v
+written_number n i [] v a e = absurd (cc)
+written_number n i (w ∷ ws) v a e = number_step (nat_eq w.0 i) n w (find i ws) v a.1 (written_number n i ws v a.2) e

@@ -1,0 +1,72 @@
+-- Why a block is stale by what the events after its last delivery write, and what a reason of the code says.
+use Rattle.std.specs.Global.{Vec}
+use Rattle.std.specs.Prelude.{ℕ, if◌then◌else◌, List, [], ◌∷◌, Option, None, option_map}
+use Rattle.stm_terms.specs.declared.values.Value.{Value}
+use Rattle.stm_terms.specs.declared.verdicts.Verdict.{Verdict}
+use Rattle.stm_terms.specs.declared.verdicts.Verdict.TheVariants.{Commits, Throws, Blocks}
+use Rattle.stm_terms.specs.Changes.{Variables, find}
+use Rattle.stm_terms.specs.Typing.{Rising}
+use Rattle.stm_store.specs.Cells.{renumbered, written_by}
+use Rattle.stm_store.specs.FreshReferences.{AreWritable}
+use Rattle.stm_events.specs.declared.event.Event.{Event}
+use Rattle.stm_events.specs.declared.event.What.{What}
+use Rattle.stm_events.specs.declared.event.What.TheVariants.{Submitted, Installed, Finished, Cancelled}
+use Rattle.stm_events.specs.Headline.{installs_to, is_installed}
+use Rattle.stm_desk.specs.declared.reason.Change.{Change}
+use Rattle.stm_desk.specs.declared.reason.Reason.{Reason}
+use Rattle.stm_desk.specs.declared.reason.Reason.TheVariants as told
+use Rattle.stm_desk.specs.Reasons.{changes_from, ticket_of, Cause, cause_or, WaitReason, NotEvaluated, IsStale, Waits, CanFinish}
+
+-- the values that these writes leave, in a store that had n cells
+abbrev pub left_by_writes : ℕ → List (ℕ × Value) → Variables
+left_by_writes n writes i = option_map (renumbered n) (find i writes)
+
+-- the values that a verdict leaves where it writes, in a store that had n cells
+abbrev pub left_by_verdict : ℕ → Verdict → Variables
+left_by_verdict n v i = option_map (renumbered n) (written_by v i)
+
+-- the variables of the reads that an event leaves with another value, by the values that it writes
+abbrev pub changes_told : List (ℕ × Value) → What → List Change
+changes_told reads (Submitted t block) = []
+changes_told reads (Installed t v) = []
+changes_told reads (Finished t v n stale) = changes_from reads (left_by_verdict n v)
+changes_told reads (Cancelled t) = []
+
+-- the first of these events that changed variables of the reads, by what they write
+abbrev pub cause_told : List (ℕ × Value) → List Event → Option Cause
+cause_told reads [] = None
+cause_told reads (e ∷ es) = cause_or (ticket_of e.what) (changes_told reads e.what) (cause_told reads es)
+
+-- the events after the last delivery to a ticket; none if there was no delivery
+abbrev pub events_since : ℕ → List Event → List Event
+events_since t [] = []
+events_since t (e ∷ es) = if is_installed t es then events_since t es else if installs_to t e.what then es else []
+
+-- the writes of a verdict ascend, and may be read in a store that had n cells
+abbrev pub HasWritable : ℕ → Verdict → Type 0
+HasWritable n (Commits writes news result) = Rising writes × AreWritable n writes
+HasWritable n (Throws f) = Unit {0}
+HasWritable n Blocks = Unit {0}
+
+-- the same of the verdict of a finish
+abbrev pub IsWritable : What → Type 0
+IsWritable (Submitted t block) = Unit {0}
+IsWritable (Installed t v) = Unit {0}
+IsWritable (Finished t v n stale) = HasWritable n v
+IsWritable (Cancelled t) = Unit {0}
+
+-- of each of these events
+abbrev pub EachIsWritable : List Event → Type 0
+EachIsWritable [] = Unit {0}
+EachIsWritable (e ∷ es) = IsWritable e.what × EachIsWritable es
+
+-- a ticket with changes, as the cause that it is
+abbrev pub cause_of : ℕ × Vec Change → Cause
+cause_of c = record { finish = c.0; changes = c.1.items }
+
+-- what a reason says
+abbrev pub told_reason : Reason → WaitReason
+told_reason told.New = NotEvaluated
+told_reason (told.Stale t cs) = IsStale (record { finish = t; changes = cs.items })
+told_reason (told.Waits rs) = Waits rs.now
+told_reason told.Ready = CanFinish

@@ -1,0 +1,235 @@
+//! Why a block waits.
+
+ghost use Rattle.std.specs.Prelude.{◌≡◌, ◌∷◌, [], MatchOption, IfOk, if◌then◌else◌, is_some, option_map};
+ghost use Rattle.stm_terms.specs.Changes.{find as value_in};
+ghost use Rattle.stm_terms.specs.Typing.{Rising};
+ghost use Rattle.stm_terms.specs.Value.{same_value};
+ghost use Rattle.stm_store.specs.Cells.{renumbered};
+ghost use Rattle.stm_store.specs.FreshReferences.{HasNumber, AreWritable};
+ghost use Rattle.stm_events.specs.Headline.{installs_to as is_delivery_to};
+ghost use Rattle.stm_events.specs.SlowDesk.{find_waiter, is_blocks};
+ghost use Rattle.stm_desk.specs.Seen.{now};
+ghost use Rattle.stm_desk.specs.Reasons.{change_to, changes_from, ticket_of as ticket_in, IsStale, Waits as WaitsFor, CanFinish, reason_of};
+ghost use Rattle.stm_desk.specs.ReasonsTold.{left_by_writes, left_by_verdict, HasWritable, IsWritable, EachIsWritable, events_since as events_after, changes_told as changes_of, cause_told, cause_of, told_reason};
+
+use crate::desk::Desk;
+use crate::reason::{Change, Reason};
+use std::alloc::Global;
+use stm_events::shared_verdict::blocks;
+use stm_events::{Event, SharedVerdict, Status, What};
+use stm_terms::NoMemory;
+use stm_terms::values::{Ref, Value};
+use stm_terms::verdicts::Verdict;
+
+impl Desk {
+    /// What the block under a ticket waits for; none if no block waits there, and only then. `NoMemory` only if the block is
+    /// stale; then it goes through the events since the block's last delivery.
+    pub fn why(&self, alloc: Global, ticket: u32) -> Result<Option<Reason<'_>>, NoMemory>
+        ensures reason { IfOk result (λ r. option_map told_reason r ≡ reason_of self.now ticket) }
+        // A block that waits has a reason; so a stale one has a cause.
+        ensures waits { is_some (reason_of self.now ticket)
+            ≡ is_some (find_waiter ticket (now self.now).waiters) }
+    {
+        // The store is known to be well typed by this.
+        let _variables = self.table.len();
+        let Some(status) = self.machine.status(ticket) else {
+            return Ok(None);
+        };
+        let Some(reads) = self.machine.reads(ticket) else {
+            return Ok(Some(Reason::New));
+        };
+        match status {
+            Status::New => Ok(Some(Reason::New)),
+            Status::Stale(_) => stale_reason(alloc, ticket, reads, &self.history),
+            Status::Current(verdict) => Ok(Some(current_reason(verdict, reads))),
+        }
+    }
+}
+
+/// What a current block waits for.
+fn current_reason<'a>(verdict: &Verdict, reads: &'a [(u32, Value)]) -> Reason<'a>
+    ensures { told_reason result ≡ if is_blocks verdict.now then WaitsFor reads.now else CanFinish }
+{
+    if blocks(verdict) {
+        Reason::Waits(reads)
+    } else {
+        Reason::Ready
+    }
+}
+
+/// What a stale block waits for.
+fn stale_reason<'a>(
+    alloc: Global,
+    ticket: u32,
+    reads: &[(u32, Value)],
+    history: &[Event],
+) -> Result<Option<Reason<'a>>, NoMemory>
+    requires { EachIsWritable (events_after ticket history.now) }
+    ensures { IfOk result (λ r. option_map told_reason r
+        ≡ option_map IsStale (cause_told reads.now (events_after ticket history.now))) }
+{
+    match first_cause(alloc, reads, events_since(history, ticket))? {
+        Some((finish, changes)) => Ok(Some(Reason::Stale { finish, changes })),
+        None => Ok(None),
+    }
+}
+
+/// The events after the last delivery to a ticket, found from the end.
+fn events_since(history: &[Event], ticket: u32) -> &[Event]
+    ensures { result.now ≡ events_after ticket history.now }
+{
+    let mut i = history.len();
+    while i > 0 {
+        if installs_to(&history[i - 1].what, ticket) {
+            return &history[i..];
+        }
+        i -= 1;
+    }
+    &[]
+}
+
+/// Whether it is a delivery to the ticket.
+fn installs_to(what: &What, ticket: u32) -> bool
+    ensures { result ≡ is_delivery_to ticket what.now }
+{
+    match what {
+        What::Installed { ticket: to, .. } => ticket == *to,
+        _ => false,
+    }
+}
+
+/// The ticket of the first finish that changed variables of the reads, with these.
+fn first_cause(
+    alloc: Global,
+    reads: &[(u32, Value)],
+    events: &[Event],
+) -> Result<Option<(u32, Vec<Change>)>, NoMemory>
+    requires { EachIsWritable events.now }
+    ensures { IfOk result (λ c. option_map cause_of c ≡ cause_told reads.now events.now) }
+{
+    for event in events {
+        let changes = changes_told(alloc, reads, &event.what)?;
+        if !changes.is_empty() {
+            return Ok(Some((ticket_of(&event.what), changes)));
+        }
+    }
+    Ok(None)
+}
+
+/// The ticket of an event.
+fn ticket_of(what: &What) -> u32
+    ensures { result ≡ ticket_in what.now }
+{
+    match what {
+        What::Submitted { ticket, .. } => *ticket,
+        What::Installed { ticket, .. } => *ticket,
+        What::Finished { ticket, .. } => *ticket,
+        What::Cancelled { ticket } => *ticket,
+    }
+}
+
+/// The variables of the reads that an event leaves with another value.
+fn changes_told(alloc: Global, reads: &[(u32, Value)], what: &What) -> Result<Vec<Change>, NoMemory>
+    requires { IsWritable what.now }
+    ensures { IfOk result (λ cs. cs.items ≡ changes_of reads.now what.now) }
+{
+    match what {
+        What::Finished {
+            verdict,
+            first_new,
+            ..
+        } => changes_by(alloc, reads, verdict, *first_new),
+        _ => Ok(Vec::new(alloc)),
+    }
+}
+
+/// The variables of the reads that a verdict leaves with another value, in a store that had this many cells.
+fn changes_by(
+    alloc: Global,
+    reads: &[(u32, Value)],
+    verdict: &SharedVerdict,
+    first_new: u32,
+) -> Result<Vec<Change>, NoMemory>
+    requires { HasWritable first_new verdict.now }
+    ensures { IfOk result (λ cs. cs.items ≡ changes_from reads.now (left_by_verdict first_new verdict.now)) }
+{
+    let blocks = Verdict::Blocks;
+    match verdict.get(&blocks) {
+        Verdict::Commits { writes, .. } => changes_in(alloc, reads, writes.as_slice(), first_new),
+        _ => Ok(Vec::new(alloc)),
+    }
+}
+
+/// The same by the writes of a commit.
+fn changes_in(
+    alloc: Global,
+    reads: &[(u32, Value)],
+    writes: &[(u32, Value)],
+    first_new: u32,
+) -> Result<Vec<Change>, NoMemory>
+    requires rising { Rising writes.now }
+    requires writable { AreWritable first_new writes.now }
+    ensures { IfOk result (λ cs. cs.items
+        ≡ changes_from reads.now (left_by_writes first_new writes.now)) }
+{
+    let mut changes = Vec::new(alloc);
+    for (variable, read) in reads {
+        if let Some(change) = change_of(*variable, *read, writes, first_new) {
+            changes.push(change)?;
+        }
+    }
+    Ok(changes)
+}
+
+/// The change of one variable, if there is one.
+fn change_of(variable: u32, read: Value, writes: &[(u32, Value)], first_new: u32) -> Option<Change>
+    requires rising { Rising writes.now }
+    requires writable { AreWritable first_new writes.now }
+    ensures { MatchOption result
+        (change_to variable read (left_by_writes first_new writes.now variable) ≡ [])
+        (λ c. change_to variable read (left_by_writes first_new writes.now variable) ≡ c ∷ []) }
+{
+    match find(writes, variable) {
+        None => None,
+        Some(written) => {
+            let left = renumber(first_new, written);
+            if is_same(read, left) {
+                None
+            } else {
+                Some(Change {
+                    variable,
+                    read,
+                    left,
+                })
+            }
+        }
+    }
+}
+
+fn is_same(one: Value, other: Value) -> bool
+    ensures { result ≡ same_value one other }
+{
+    one == other
+}
+
+/// A value with its new reference as a variable of a store that had this many cells.
+fn renumber(len: u32, value: Value) -> Value
+    requires { HasNumber len value }
+    ensures { result ≡ renumbered len value }
+{
+    match value {
+        Value::Var(Ref::New(k)) => Value::Var(Ref::Old(len + k)),
+        value => value,
+    }
+}
+
+/// The value that these writes give a variable.
+fn find(writes: &[(u32, Value)], variable: u32) -> Option<Value>
+    requires { Rising writes.now }
+    ensures { result ≡ value_in variable writes.now }
+{
+    match writes.binary_search_by_key(&variable, |write| write.0) {
+        Ok(at) => Some(writes[at].1),
+        Err(_) => None,
+    }
+}

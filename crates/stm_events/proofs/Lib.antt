@@ -1,0 +1,12 @@
+pub mod Covered
+pub mod Folds
+pub mod Fresh
+pub mod Headline
+pub mod Kept
+pub mod Ready
+pub mod Rising
+pub mod Rounds
+pub mod Serial
+pub mod Since
+pub mod Stores
+pub mod TypedStores

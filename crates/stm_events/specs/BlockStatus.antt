@@ -1,0 +1,30 @@
+-- What is shown of a waiting block.
+use Rattle.std.specs.Prelude.{ℕ, List, Option, Some, None}
+use Rattle.stm_terms.specs.declared.values.Value.{Value}
+use Rattle.stm_terms.specs.ReadSet.{reads_of}
+use Rattle.stm_store.specs.declared.cell.Cell.{Cell}
+use Rattle.stm_check.specs.TypedBlock.{Block}
+use Rattle.stm_events.specs.SlowDesk.{Since, Waiter, under, Standing}
+use Rattle.stm_events.specs.SlowDesk as slow
+use Rattle.stm_events.specs.declared.status.Status.{Status}
+use Rattle.stm_events.specs.declared.status.Status.TheVariants.{New, Stale, Current}
+
+-- how a block stands, as the machine's status tells it
+abbrev pub shown : Status → Standing
+shown New = slow.New
+shown (Stale v) = slow.Stale (Some v.now)
+shown (Current v) = slow.Current (Some v.now)
+
+-- what a block read at its last delivery
+abbrev pub read_since_then : Block → Option Since → Option (List (ℕ × Value))
+read_since_then block None = None
+read_since_then block (Some s) = Some (reads_of (under s.store_then) block.tree)
+
+-- the same of a waiting block, if there is one
+abbrev pub read_then : Option Waiter → Option (List (ℕ × Value))
+read_then None = None
+read_then (Some w) = read_since_then w.block w.since
+
+-- what it reads on the present store
+abbrev pub read_now : List Cell → Waiter → List (ℕ × Value)
+read_now store w = reads_of (under store) w.block.tree

@@ -1,0 +1,293 @@
+-- The slow desk: which events it allows, and how each acts. It runs each block from scratch on a plain store, and keeps no
+-- reads, no verdicts and no index. A rule says which variables of a block that finishes make their readers stale: those
+-- whose values it changed, and under the rule of earlier histories all that it wrote. What ends in `by` takes the rule; the
+-- same name without that is for the present rule, `Changed`.
+use Rattle.std.specs.Prelude.{◌≡◌, ℕ, ◌+◌, ◌<◌, ◌≤◌, Bool, true, false, not, ◌&&◌, nat_eq, if◌then◌else◌, List, [], ◌∷◌, ◌++◌, map, filter, length, Option, Some, None, IsSomeAnd}
+use Rattle.std.specs.List.{list_any}
+use Rattle.stm_terms.specs.declared.verdicts.Verdict.{Verdict}
+use Rattle.stm_terms.specs.declared.verdicts.Verdict.TheVariants.{Commits, Throws, Blocks}
+use Rattle.stm_terms.specs.Changes.{Variables, cell_value}
+use Rattle.stm_terms.specs.ReadSet.{looks_of}
+use Rattle.stm_terms.specs.Verdict.{verdict}
+use Rattle.stm_store.specs.declared.cell.Cell.{Cell}
+use Rattle.stm_store.specs.Cells.{most_cells, plains, Covers, applied, changed_by, made_by}
+use Rattle.stm_store.specs.Tables.{Declared, opened}
+use Rattle.stm_check.specs.TypedBlock.{Block}
+use Rattle.stm_events.specs.declared.event.Event.{Event}
+use Rattle.stm_events.specs.declared.event.What.{What}
+use Rattle.stm_events.specs.declared.event.What.TheVariants.{Submitted, Installed, Finished, Cancelled}
+use Rattle.stm_events.specs.declared.staleness.StalenessRule.{StalenessRule}
+use Rattle.stm_events.specs.declared.staleness.StalenessRule.TheVariants.{Written, Changed}
+
+-- the variables of a store, as blocks see them
+abbrev pub under : List Cell → Variables
+under store = cell_value (plains store)
+
+-- the verdict of a block, run from scratch on a store
+abbrev pub verdict_on : List Cell → Block → Option Verdict
+verdict_on store block = verdict (under store) block.tree
+
+-- the variables that a block reads on a store
+abbrev pub looked_on : List Cell → Block → List ℕ
+looked_on store block = looks_of (under store) block.tree
+
+-- the variables that a verdict writes
+abbrev pub written_in : Verdict → List ℕ
+written_in (Commits writes news result) = map (λ w. w.0) writes
+written_in (Throws f) = []
+written_in Blocks = []
+
+-- the variables of a verdict that make their readers stale when it takes effect on a store
+abbrev pub waking : StalenessRule → List Cell → Verdict → List ℕ
+waking Written store v = written_in v
+waking Changed store v = changed_by store v
+
+-- by this verdict the block blocks
+abbrev pub is_blocks : Verdict → Bool
+is_blocks (Commits writes news result) = false
+is_blocks (Throws f) = false
+is_blocks Blocks = true
+
+-- the store at the last accepted delivery, and the variables by which blocks that finished after it make their readers stale
+pub record Since : Type 0 where
+  pub store_then : List Cell
+  pub woken : List ℕ
+
+-- a block that waits under a ticket, with its last accepted delivery, if there was one
+pub record Waiter : Type 0 where
+  pub ticket : ℕ
+  pub block : Block
+  pub since : Option Since
+
+-- the slow desk: its store, the next ticket, and the waiting blocks, the first submitted first
+pub record Slow : Type 0 where
+  pub store : List Cell
+  pub next : ℕ
+  pub waiters : List Waiter
+
+-- some variable is in both lists
+abbrev pub intersects : List ℕ → List ℕ → Bool
+intersects woken looked = list_any (λ i. list_any (nat_eq i) woken) looked
+
+-- the block read one of these variables at its delivery
+abbrev pub is_stale_since : Block → Since → Bool
+is_stale_since block s = intersects s.woken (looked_on s.store_then block)
+
+-- there was no delivery
+abbrev pub is_new_since : Option Since → Bool
+is_new_since None = true
+is_new_since (Some s) = false
+
+-- there was a delivery, and nothing since then made the block stale
+abbrev pub current_since : Block → Option Since → Bool
+current_since block None = false
+current_since block (Some s) = not (is_stale_since block s)
+
+-- no delivery was accepted yet
+abbrev pub is_new : Waiter → Bool
+is_new w = is_new_since w.since
+
+-- its last delivery still counts; otherwise it is new or stale
+abbrev pub is_current : Waiter → Bool
+is_current w = current_since w.block w.since
+
+-- the variables join those since the delivery
+abbrev pub woken_more : List ℕ → Option Since → Option Since
+woken_more woken None = None
+woken_more woken (Some s) = Some (record s { woken = s.woken ++ woken })
+
+-- a waiting block after another one has finished that makes the readers of these variables stale
+abbrev pub after_writes : List ℕ → Waiter → Waiter
+after_writes woken w = record w { since = woken_more woken w.since }
+
+-- the block is current, and these variables make it stale
+abbrev pub becomes_stale : List ℕ → Waiter → Bool
+becomes_stale woken w = is_current w && not (is_current (after_writes woken w))
+
+-- the block that waits under a ticket
+abbrev pub find_waiter : ℕ → List Waiter → Option Waiter
+find_waiter t [] = None
+find_waiter t (w ∷ ws) = if nat_eq t w.ticket then Some w else find_waiter t ws
+
+-- the waiting blocks without the one under a ticket
+abbrev pub without_waiter : ℕ → List Waiter → List Waiter
+without_waiter t [] = []
+without_waiter t (w ∷ ws) = if nat_eq t w.ticket then ws else w ∷ without_waiter t ws
+
+-- a waiting block with a delivery that was accepted on this store
+abbrev pub with_delivery : List Cell → Waiter → Waiter
+with_delivery store w = record w { since = Some (record { store_then = store; woken = [] }) }
+
+-- the waiting blocks with a delivery to the one under a ticket
+abbrev pub delivered : ℕ → List Cell → List Waiter → List Waiter
+delivered t store [] = []
+delivered t store (w ∷ ws) = if nat_eq t w.ticket then with_delivery store w ∷ ws else w ∷ delivered t store ws
+
+-- the tickets of those that are current and that these variables make stale
+abbrev pub stale_after : List ℕ → List Waiter → List ℕ
+stale_after woken ws = map (λ w. w.ticket) (filter (becomes_stale woken) ws)
+
+-- how many blocks may wait
+abbrev pub max_waiting : ℕ
+max_waiting = 65536
+
+-- how many variables a store may have
+abbrev pub max_cells : ℕ
+max_cells = most_cells
+
+-- how many events a history may have
+abbrev pub max_events : ℕ
+max_events = 1048576
+
+-- how many clients there may be
+abbrev pub max_clients : ℕ
+max_clients = 128
+
+-- how an event acts
+abbrev pub after_by : StalenessRule → Slow → What → Slow
+after_by rule s (Submitted t block) =
+    record s { next = s.next + 1; waiters = s.waiters ++ record { ticket = t; block = block; since = None } ∷ [] }
+after_by rule s (Installed t v) = record s { waiters = delivered t s.store s.waiters }
+after_by rule s (Finished t v n stale) =
+    record s { store = applied s.store v; waiters = map (after_writes (waking rule s.store v)) (without_waiter t s.waiters) }
+after_by rule s (Cancelled t) = record s { waiters = without_waiter t s.waiters }
+
+-- the same under the present rule
+abbrev pub after : Slow → What → Slow
+after = after_by Changed
+
+-- a block may be installed: it isn't current, and the verdict is the one that it has on the present store
+pub record MayInstall (s : Slow) (w : Waiter) (v : Verdict) : Type 0 where
+  pub not_current : is_current w ≡ false
+  pub verdict_is : verdict_on s.store w.block ≡ Some v
+
+-- a block may finish with these fields
+pub record MayFinishBy
+    (rule : StalenessRule) (s : Slow) (t : ℕ) (w : Waiter) (v : Verdict) (n : ℕ) (stale : List ℕ) : Type 0 where
+  pub current : is_current w ≡ true
+  pub verdict_is : verdict_on s.store w.block ≡ Some v
+  pub ends : is_blocks v ≡ false
+  pub first_new : n ≡ length s.store
+  pub room : length s.store + length (made_by v) ≤ max_cells
+  pub listed : stale ≡ stale_after (waking rule s.store v) (without_waiter t s.waiters)
+
+-- the same under the present rule
+abbrev pub MayFinish : Slow → ℕ → Waiter → Verdict → ℕ → List ℕ → Type 0
+MayFinish = MayFinishBy Changed
+
+-- the slow desk allows what happens
+abbrev pub AllowsBy : StalenessRule → Slow → What → Type 0
+AllowsBy rule s (Submitted t block) = (t ≡ s.next) × Covers (plains s.store) block.uses × (length s.waiters < max_waiting)
+AllowsBy rule s (Installed t v) = IsSomeAnd (find_waiter t s.waiters) (λ w. MayInstall s w v)
+AllowsBy rule s (Finished t v n stale) = IsSomeAnd (find_waiter t s.waiters) (λ w. MayFinishBy rule s t w v n stale)
+AllowsBy rule s (Cancelled t) = IsSomeAnd (find_waiter t s.waiters) (λ w. Unit {0})
+
+-- the same under the present rule
+abbrev pub Allows : Slow → What → Type 0
+Allows = AllowsBy Changed
+
+-- it allows the event, of a client
+pub record AllowsEventBy (rule : StalenessRule) (s : Slow) (e : Event) : Type 0 where
+  pub client : e.client < max_clients
+  pub what : AllowsBy rule s e.what
+
+-- the same under the present rule
+abbrev pub AllowsEvent : Slow → Event → Type 0
+AllowsEvent = AllowsEventBy Changed
+
+-- the declared variables, and nothing waits
+abbrev pub initial_state : List Declared → Slow
+initial_state table = record { store = opened table; next = 1; waiters = [] }
+
+-- the state after these events, which begin on a state
+abbrev pub state_from_by : StalenessRule → Slow → List Event → Slow
+state_from_by rule s [] = s
+state_from_by rule s (e ∷ es) = state_from_by rule (after_by rule s e.what) es
+
+-- the same under the present rule
+abbrev pub state_from : Slow → List Event → Slow
+state_from = state_from_by Changed
+
+-- what a history makes of a table
+abbrev pub state_by : StalenessRule → List Declared → List Event → Slow
+state_by rule table history = state_from_by rule (initial_state table) history
+
+-- the same under the present rule
+abbrev pub state : List Declared → List Event → Slow
+state = state_by Changed
+
+-- each of these events, which begin on a state, is allowed where it stands
+abbrev pub LegalFromBy : StalenessRule → Slow → List Event → Type 0
+LegalFromBy rule s [] = Unit {0}
+LegalFromBy rule s (e ∷ es) = AllowsEventBy rule s e × LegalFromBy rule (after_by rule s e.what) es
+
+-- the same under the present rule
+abbrev pub LegalFrom : Slow → List Event → Type 0
+LegalFrom = LegalFromBy Changed
+
+-- each event in turn is allowed, and there are no more than there may be
+pub record IsLegalBy (rule : StalenessRule) (table : List Declared) (history : List Event) : Type 0 where
+  pub each : LegalFromBy rule (initial_state table) history
+  pub few : length history ≤ max_events
+
+-- the same under the present rule
+abbrev pub IsLegal : List Declared → List Event → Type 0
+IsLegal = IsLegalBy Changed
+
+-- how a waiting block stands: new, or stale or current with a verdict, that of its delivery where it is stale and that on
+-- the present store where it is current
+pub data Standing : Type 0 where
+  New : Standing
+  Stale : Option Verdict → Standing
+  Current : Option Verdict → Standing
+
+-- how a block stands, by its last delivery
+abbrev pub standing_since : List Cell → Block → Option Since → Standing
+standing_since store block None = New
+standing_since store block (Some s) =
+    if is_stale_since block s then Stale (verdict_on s.store_then block) else Current (verdict_on store block)
+
+-- how a waiting block stands on the present store
+abbrev pub standing : List Cell → Waiter → Standing
+standing store w = standing_since store w.block w.since
+
+-- the same, with the verdict of the delivery for a current block too
+abbrev pub weak_since : Block → Option Since → Standing
+weak_since block None = New
+weak_since block (Some s) =
+    if is_stale_since block s then Stale (verdict_on s.store_then block) else Current (verdict_on s.store_then block)
+
+-- the same of a waiting block
+abbrev pub weak_standing : Waiter → Standing
+weak_standing w = weak_since w.block w.since
+
+-- the store after a verdict, if there is one
+abbrev pub applied_or : List Cell → Option Verdict → List Cell
+applied_or store (Some v) = applied store v
+applied_or store None = store
+
+-- the store after each block in turn has run alone and its verdict was applied
+abbrev pub serial : List Cell → List Block → List Cell
+serial store [] = store
+serial store (b ∷ bs) = serial (applied_or store (verdict_on store b)) bs
+
+-- the block of a waiter, if there is one
+abbrev pub blocks_of_waiter : Option Waiter → List Block
+blocks_of_waiter (Some w) = w.block ∷ []
+blocks_of_waiter None = []
+
+-- the block that finishes by this, if one does
+abbrev pub finishing : Slow → What → List Block
+finishing s (Submitted t block) = []
+finishing s (Installed t v) = []
+finishing s (Finished t v n stale) = blocks_of_waiter (find_waiter t s.waiters)
+finishing s (Cancelled t) = []
+
+-- the blocks that finish in these events, in order
+abbrev pub finished_from_by : StalenessRule → Slow → List Event → List Block
+finished_from_by rule s [] = []
+finished_from_by rule s (e ∷ es) = finishing s e.what ++ finished_from_by rule (after_by rule s e.what) es
+
+-- the same under the present rule
+abbrev pub finished_from : Slow → List Event → List Block
+finished_from = finished_from_by Changed

@@ -1,0 +1,80 @@
+//! What holds after every legal history, as laws of the definitions: each function's contract is one, and its body is
+//! empty.
+
+ghost use Rattle.stm_events.specs.declared.staleness.StalenessRule.{StalenessRule as AnyRule};
+ghost use Rattle.stm_events.specs.Headline.{Headline, HeadlineBy};
+ghost use Rattle.stm_events.specs.Ready.{ReadyFinishesNext};
+ghost use Rattle.stm_events.specs.Rounds.{SettlingIsRounds};
+ghost use Rattle.stm_events.specs.Laws.{TicketsRise, BlocksAreCovered, CurrentHolds, StoreIsSerial, WeakIsPresent};
+ghost use Rattle.stm_events.specs.Laws.{DeclaredAreCovered, BlocksStay};
+ghost use Rattle.stm_events.specs.Laws.{WaitingAreWellTyped, StoresAreTyped, BlocksHaveVerdicts};
+
+/// Waiting tickets rise, and are below the next one.
+pub fn tickets_rise()
+    ensures { TicketsRise }
+{}
+
+/// The variables that a waiting block names are there.
+pub fn blocks_are_covered()
+    ensures { BlocksAreCovered }
+{}
+
+/// What a current block did at its delivery, it does on the present store.
+pub fn current_holds()
+    ensures { CurrentHolds }
+{}
+
+/// The store is that of running the finished blocks alone, one after another.
+pub fn store_is_serial()
+    ensures { StoreIsSerial }
+{}
+
+/// After every legal history, each waiting block to which something was delivered is marked stale exactly where a block that
+/// finished since its last delivery changed a variable that its evaluation read; where it isn't marked so, the verdict of that
+/// delivery is the one that running it from scratch on the present store gives; and the store is that of running the
+/// finished blocks alone, one after another. By the rule of earlier histories the same holds with "wrote" for "changed".
+pub fn headline()
+    ensures present { Headline }
+    ensures by_rule { (R : AnyRule) → HeadlineBy R }
+{}
+
+/// A current block's verdict on the present store is that of its last delivery.
+pub fn weak_is_present()
+    ensures { WeakIsPresent }
+{}
+
+/// Settling begins with a round, so it is rounds: all that is new or stale is installed in the order of the tickets, and then
+/// the lowest block that doesn't block is finished.
+pub fn settling_is_rounds()
+    ensures { SettlingIsRounds }
+{}
+
+/// While no block is new or stale, the lowest block that could finish now is the one that settling finishes.
+pub fn ready_finishes_next()
+    ensures { ReadyFinishesNext }
+{}
+
+/// What the declared variables cover stays covered.
+pub fn declared_are_covered()
+    ensures { DeclaredAreCovered }
+{}
+
+/// A block stays the same as long as it waits under its ticket, and no later one waits under it.
+pub fn blocks_stay()
+    ensures { BlocksStay }
+{}
+
+/// If each block that is submitted is well typed, so is each that waits.
+pub fn waiting_are_well_typed()
+    ensures { WaitingAreWellTyped }
+{}
+
+/// Where each block that is submitted is well typed, the store stays well typed.
+pub fn stores_are_typed()
+    ensures { StoresAreTyped }
+{}
+
+/// A well typed block that waits has a verdict on a well typed present store, and the verdict fits it.
+pub fn blocks_have_verdicts()
+    ensures { BlocksHaveVerdicts }
+{}

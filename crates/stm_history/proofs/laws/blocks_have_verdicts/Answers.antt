@@ -1,5 +1,0 @@
-use Rattle.stm_history.proofs.TypedStores.{blocks_have_verdicts}
-use Rattle.stm_history.proofs.laws.blocks_have_verdicts.Goals as goal
-
-pub returns : goal.returns
-returns c = blocks_have_verdicts

@@ -1,5 +1,0 @@
-use Rattle.stm_history.proofs.Rounds.{settling_is_rounds}
-use Rattle.stm_history.proofs.laws.settling_is_rounds.Goals as goal
-
-pub returns : goal.returns
-returns c = settling_is_rounds

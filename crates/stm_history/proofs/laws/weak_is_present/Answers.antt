@@ -1,5 +1,0 @@
-use Rattle.stm_history.proofs.Headline.{weak_is_present}
-use Rattle.stm_history.proofs.laws.weak_is_present.Goals as goal
-
-pub returns : goal.returns
-returns c = weak_is_present

@@ -1,9 +1,0 @@
-use Rattle.std.proofs.Common.{sym, subst}
-use Rattle.stm_history.specs.Machine.{StandsForBy}
-use Rattle.stm_history.proofs.Delivery.{has_left, requeued}
-use Rattle.stm_history.proofs.machine.Machine.after_refusal.Goals as goal
-
-pub returns-clause-kept : goal.returns-clause-kept
-returns-clause-kept c = λ R T H h.
-    let k = subst (StandsForBy R T H) (sym c.self.view_is) h in
-    rw c.queue_overtaken.ensures (requeued R T H _ _ (λ u. has_left u c.args.ticket c.args.refusal c.self.inside.pending.entries) k)

@@ -1,9 +1,0 @@
-use Rattle.std.proofs.Common.{sym, subst}
-use Rattle.stm_history.specs.Machine.{StandsForBy}
-use Rattle.stm_history.proofs.Ripe.{if_begin}
-use Rattle.stm_history.proofs.machine.Machine.ending.Goals as goal
-
-pub returns : goal.returns
-returns c = if_begin c.args.self.now c.self.inside.waiting c.ending.result (λ R T H h.
-    let k = subst (StandsForBy R T H) (sym c.self.view_is) h in
-    k.stands.entries_are) c.ending.ensures

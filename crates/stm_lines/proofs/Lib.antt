@@ -1,0 +1,5 @@
+pub mod AsciiArguments
+pub mod LineFeeds
+pub mod LongLines
+pub mod ReadLines
+pub mod Writing

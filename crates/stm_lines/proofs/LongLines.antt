@@ -1,0 +1,28 @@
+-- A line that is too long is judged so, whatever its bytes.
+use Rattle.std.proofs.Common.{◌≡◌, ℕ, ◌+◌, ◌-◌, ◌≤◌, ◌<◌, true, false, List, [], ◌∷◌, ◌++◌, length, take, refl, arith, cond, length-append}
+use Rattle.std.proofs.lemmas.Bool.{lt-ltb}
+use Rattle.std.proofs.lemmas.List.{length-take-le}
+use Rattle.std.specs.Io.BufRead.{ends_with_byte}
+use Rattle.stm_lines.specs.LineClass.{TooLong, longest_line, line_class}
+use Rattle.stm_lines.specs.Lines.{drop_return}
+
+-- a line that is too long is judged so, whatever its bytes
+pub judged-too_long : (line : List ℕ) → longest_line < length line → line_class line ≡ TooLong
+unfolding line_class
+judged-too_long line h = rw (lt-ltb longest_line (length line) h) refl
+
+length-drop_return : (line : List ℕ) → length line ≤ length (drop_return line) + 1
+length-drop_return line = elim (ends_with_byte 13 line) as (λ t. length line ≤ length (cond t (take (length line - 1) line) line) + 1) [
+  | true ↦ (let h : length line - 1 ≤ length line = omega arith in omega (arith, length-take-le (length line - 1) line h))
+  | false ↦ omega arith
+]
+
+-- so many bytes that no carriage return can make them a line
+abbrev pub Long : List ℕ → Type 0
+Long line = longest_line + 2 ≤ length line
+
+pub drop_return-long : (line : List ℕ) → Long line → longest_line < length (drop_return line)
+drop_return-long line h = omega (arith, length-drop_return line)
+
+pub more-long : (a : List ℕ) (x : ℕ) → Long a → Long (a ++ x ∷ [])
+more-long a x h = omega (arith, length-append a (x ∷ []))

@@ -1,0 +1,18 @@
+use Rattle.std.proofs.Common.{◌+◌, take, rules}
+use Rattle.std.proofs.KnownBytes.{Appends-kept}
+use Rattle.stm_lines.proofs.Writing.{Appends-more, IsPrefixOf-take}
+use Rattle.stm_lines.proofs.output.write_text.Goals as goal
+
+pub returns-in-Ok-eq0-clause-part : goal.returns-in-Ok-eq0-clause-part
+returns-in-Ok-eq0-clause-part g c =
+    (take (c.loop-at.at + c.in-Ok-eq0.field-0) c.args.text.now, IsPrefixOf-take _ _, Appends-more _ _ _ c.loop-at.at c.in-Ok-eq0.field-0 c.args.text.now c.loop-at.invariant.written c.in-Ok-eq0.ensures.bytes)
+
+pub loop-at-preserved : goal.loop-at-preserved
+loop-at-preserved g c = record {
+  within = search rules;
+  written = Appends-more _ _ _ c.loop-at.at c.in-Ok.n c.args.text.now c.loop-at.invariant.written c.in-Ok.ensures.bytes;
+}
+
+pub returns-in-Err-clause-part : goal.returns-in-Err-clause-part
+returns-in-Err-clause-part g c =
+    (take c.loop-at.at c.args.text.now, IsPrefixOf-take _ _, Appends-kept _ _ _ _ c.loop-at.invariant.written (c.in-Err.ensures.bytes))

@@ -1,0 +1,8 @@
+-- What a reader has to believe: how an input is cut into lines, how a line is judged, and which arguments are numbers.
+pub mod LineClass
+pub mod Lines
+pub mod NumberArgument
+pub mod RunStatus
+-- The words inside, for a line that is read in parts.
+pub mod Judged
+pub mod LineReading

@@ -1,0 +1,100 @@
+//! The judgement of a line before a command sees it.
+
+ghost use Rattle.std.specs.Prelude.{◌≡◌, ◌≤◌, drop, length};
+ghost use Rattle.stm_lines.specs.LineClass.{is_line_blank as blank, blanks_len as blank_count, command_len as word_count, skip_blanks as skipped, class_of_words as words_judged, has_high_byte as high_byte, line_class};
+ghost use Rattle.stm_lines.specs.Judged.{line_class_of};
+
+/// The most bytes that a line may have.
+const LONGEST_LINE: usize = 65_536;
+
+/// How a line is judged (docs/CONSOLE.md, "Lines").
+pub enum Judgement<'a> {
+    TooLong,
+    Silent,
+    NotAscii,
+    /// The command word and its argument.
+    Words(&'a [u8], &'a [u8]),
+}
+
+pub fn is_blank(byte: u8) -> bool
+    ensures { result ≡ blank byte }
+{
+    byte == 32 || byte == 9 || byte == 10 || byte == 13
+}
+
+/// How many blanks a text begins with.
+fn blanks_len(text: &[u8]) -> usize
+    ensures count { result ≡ blank_count text.now }
+    ensures within { result ≤ length text.now }
+{
+    for (at, byte) in text.iter().enumerate() {
+        if !is_blank(*byte) {
+            return at;
+        }
+    }
+    text.len()
+}
+
+/// How many bytes stand before the first blank.
+fn word_len(text: &[u8]) -> usize
+    ensures count { result ≡ word_count text.now }
+    ensures within { result ≤ length text.now }
+{
+    for (at, byte) in text.iter().enumerate() {
+        if is_blank(*byte) {
+            return at;
+        }
+    }
+    text.len()
+}
+
+/// The rest of a text after the given number of bytes.
+pub fn after(text: &[u8], count: usize) -> &[u8]
+    requires { count ≤ length text.now }
+    ensures { result.now ≡ drop count text.now }
+{
+    &text[count..]
+}
+
+#[tactic(auto, unfolding(crate::specs::LineClass::skip_blanks))]
+fn skip_blanks(text: &[u8]) -> &[u8]
+    ensures { result.now ≡ skipped text.now }
+{
+    after(text, blanks_len(text))
+}
+
+fn has_high_byte(line: &[u8]) -> bool
+    ensures { result ≡ high_byte line.now }
+{
+    !line.is_ascii()
+}
+
+/// The command word of a text and its argument.
+#[tactic(auto, unfolding(crate::specs::LineClass::class_of_words))]
+fn words_of(text: &[u8]) -> Judgement<'_>
+    ensures { line_class_of result ≡ words_judged text.now }
+{
+    let len = word_len(text);
+    Judgement::Words(&text[..len], skip_blanks(after(text, len)))
+}
+
+/// The first judgement that holds.
+#[tactic(auto, unfolding(crate::specs::LineClass::line_class, crate::specs::LineClass::starts_comment))]
+pub fn judge(line: &[u8]) -> Judgement<'_>
+    ensures { line_class_of result ≡ line_class line.now }
+{
+    if line.len() > LONGEST_LINE {
+        return Judgement::TooLong;
+    }
+    if line.starts_with(b"--") {
+        return Judgement::Silent;
+    }
+    let text = skip_blanks(line);
+    if text.is_empty() {
+        return Judgement::Silent;
+    }
+    if has_high_byte(line) {
+        return Judgement::NotAscii;
+    }
+    words_of(text)
+}

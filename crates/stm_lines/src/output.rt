@@ -1,0 +1,75 @@
+//! Bytes for a writer.
+
+ghost use Rattle.std.specs.Prelude.{◌≡◌, ◌≢◌, ℕ, List, OnOk, OnErr, IfErr};
+ghost use Rattle.std.specs.Io.{WritesAtMost};
+ghost use Rattle.std.specs.Io.KnownBytes.{Appends, Keeps, WriteAppends};
+ghost use Rattle.stm_terms.specs.Texts.{IsPrefixOf};
+
+use crate::run_fault::RunFault;
+use std::io::{ErrorKind, Write};
+
+/// Writes some of a text, and returns how many bytes the writer took. A write that is interrupted is tried again, 4,294,967,295
+/// times at most, so that a writer that is always interrupted is a fault.
+fn write_some<W: Write>(writer: &mut W, text: &[u8]) -> Result<usize, RunFault>
+    ensures bound { WritesAtMost result text.now }
+    ensures bytes { WriteAppends (W.contents writer.old) (W.contents writer.new) result text.now }
+    ensures fault { IfErr result (λ e. e ≢ RunFault.Read) }
+{
+    'tries: for _ in 0..u32::MAX {
+        match writer.write(text) {
+            Ok(count) => return Ok(count),
+            Err(fault) if fault.kind() == ErrorKind::Interrupted => {}
+            Err(_) => return Err(RunFault::Write),
+        }
+    }
+    Err(RunFault::Write)
+}
+
+/// Writes all of a text, or a part from its front.
+pub fn write_text<W: Write>(writer: &mut W, text: &[u8]) -> Result<(), RunFault>
+    ensures done { OnOk result (Appends (W.contents writer.old) (W.contents writer.new) text.now) }
+    ensures part { OnErr result ((front : List ℕ) × IsPrefixOf front text.now
+        × Appends (W.contents writer.old) (W.contents writer.new) front) }
+    ensures fault { IfErr result (λ e. e ≢ RunFault.Read) }
+{
+    let mut at = 0;
+    while at < text.len() {
+        match write_some(writer, &text[at..]) {
+            Ok(0) => return Err(RunFault::Write),
+            Ok(n) => at += n,
+            Err(fault) => return Err(fault),
+        }
+    }
+    Ok(())
+}
+
+/// Hands on what a buffered writer holds. A flush that is interrupted is tried again, as a write is.
+pub fn flush<W: Write>(writer: &mut W) -> Result<(), RunFault>
+    ensures kept { Keeps (W.contents writer.old) (W.contents writer.new) }
+    ensures fault { IfErr result (λ e. e ≢ RunFault.Read) }
+{
+    'tries: for _ in 0..u32::MAX {
+        match writer.flush() {
+            Ok(()) => return Ok(()),
+            Err(fault) if fault.kind() == ErrorKind::Interrupted => {}
+            Err(_) => return Err(RunFault::Write),
+        }
+    }
+    Err(RunFault::Write)
+}
+
+/// Writes a text and flushes.
+pub fn write_flushed<W: Write>(writer: &mut W, text: &[u8]) -> Result<(), RunFault>
+    ensures done { OnOk result (Appends (W.contents writer.old) (W.contents writer.new) text.now) }
+    ensures part { OnErr result ((front : List ℕ) × IsPrefixOf front text.now
+        × Appends (W.contents writer.old) (W.contents writer.new) front) }
+    ensures fault { IfErr result (λ e. e ≡ RunFault.Write) }
+{
+    match write_text(writer, text) {
+        Ok(()) => match flush(writer) {
+            Ok(()) => Ok(()),
+            Err(_) => Err(RunFault::Write),
+        },
+        Err(_) => Err(RunFault::Write),
+    }
+}

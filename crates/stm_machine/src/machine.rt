@@ -1,0 +1,85 @@
+//! The machine, and how it opens.
+
+ghost use Rattle.std.specs.Prelude.{◌≡◌, List, [], IfOk};
+ghost use Rattle.stm_events.specs.declared.staleness.StalenessRule.{StalenessRule as AnyRule};
+ghost use Rattle.stm_machine.specs.Machine.{StandsForBy};
+
+use crate::ticket_set::TicketSet;
+use crate::waiting::WaitingBlocks;
+use std::alloc::Global;
+use std::marker::Model;
+use stm_queue::Pending;
+use stm_store::{Store, Table};
+use stm_terms::NoMemory;
+use stm_watch::Watch;
+
+/// What a history leads to: the store, the next ticket, the waiting blocks with what their last deliveries brought, the
+/// tickets that are queued or out, which tickets watch which variables, and which blocks could finish now. It keeps no events.
+pub struct Machine {
+    pub(crate) alloc: Global,
+    pub(crate) store: Store,
+    pub(crate) next: u32,
+    pub(crate) waiting: WaitingBlocks,
+    pub(crate) pending: Pending,
+    pub(crate) watch: Watch,
+    // The blocks that are current and don't block.
+    pub(crate) ready: TicketSet,
+}
+
+// Written out, and not derived, so that the proof of each owner calls it once.
+impl Drop for Machine {
+    fn drop(self) {
+        let Machine {
+            alloc: _,
+            store: _,
+            next: _,
+            waiting: _,
+            pending: _,
+            watch: _,
+            ready: _,
+        } = self;
+    }
+}
+
+impl Model for Machine {
+    ghost use Rattle.std.specs.Coded.{codes};
+    ghost use Rattle.stm_terms.specs.TreeEncoding.{act_code};
+    ghost use Rattle.stm_machine.specs.IndexEncoding.{pairs_code};
+    ghost use Rattle.stm_machine.specs.Machine.{Parts};
+    ghost use Rattle.stm_machine.specs.ReadySet.{AreReady};
+
+    ghost Value = { Parts };
+
+    ghost coded = { Prim.hlevel (codes, act_code, pairs_code) };
+
+    ghost view = { λ m. record {
+      store = m.store;
+      next = m.next;
+      entries = m.waiting;
+      pending = m.pending.entries;
+      watch = m.watch;
+    } };
+
+    ghost invariant = { λ m. AreReady m.ready.tickets m.waiting m.pending.entries };
+}
+
+impl Machine {
+    /// How many blocks may wait.
+    pub const MAX_WAITING: usize = 65_536;
+
+    /// A machine with the variables of a table, on which no block waits.
+    pub fn open(alloc: Global, table: &Table) -> Result<Machine, NoMemory>
+        ensures stands { IfOk result (λ m. (R : AnyRule) → StandsForBy R table.now [] m) }
+        ensures pending { IfOk result (λ m. m.pending ≡ []) }
+    {
+        Ok(Machine {
+            alloc,
+            store: Store::open(alloc, table)?,
+            next: 1,
+            waiting: WaitingBlocks::empty(alloc),
+            pending: Pending::empty(alloc),
+            watch: Watch::empty(alloc),
+            ready: TicketSet::empty(alloc),
+        })
+    }
+}

@@ -1,0 +1,17 @@
+-- The options of a run.
+use Rattle.std.specs.Prelude.{◌≤◌, ◌<◌}
+use Rattle.stm_eval.specs.Limits.{max_levels}
+use Rattle.stm_events.specs.SlowDesk.{max_events}
+use Rattle.stm_pool.specs.Limits.{max_workers}
+use Rattle.stm_options.specs.declared.options.Options.{Options}
+
+-- each is in its range
+pub record AreRunOptions (o : Options) : Type 0 where
+  pub some_worker : 0 < o.workers
+  pub few_workers : o.workers ≤ max_workers
+  pub few_levels : o.levels ≤ max_levels
+  pub few_events : o.max_events ≤ max_events
+
+-- the options where nothing is said
+abbrev pub default_options : Options
+default_options = record { workers = 2; levels = 0; max_events = max_events }

@@ -1,0 +1,38 @@
+//! The options of a run and of a storm.
+
+ghost use Rattle.std.specs.Prelude.{◌≡◌};
+ghost use Rattle.stm_options.specs.Options.{default_options};
+
+use stm_desk::Desk;
+
+/// How a run works: how many threads evaluate blocks (1 to 64), how deep the branches of `orElse` are evaluated on threads
+/// of their own (0 to 8), and how many events the desk takes (at most 1,048,576). None but the last has a say in what a run
+/// writes.
+#[derive(Clone, Copy, PartialEq, Eq, Debug)]
+pub struct Options {
+    pub workers: u32,
+    pub levels: u32,
+    pub max_events: u32,
+}
+
+impl Options {
+    /// The most threads.
+    pub const MAX_WORKERS: u32 = stm_pool::MAX_WORKERS;
+
+    /// The deepest branches.
+    pub const MAX_LEVELS: u32 = stm_eval::MAX_LEVELS;
+
+    /// The most events.
+    pub const MAX_EVENTS: u32 = Desk::MAX_EVENTS;
+
+    /// Where nothing is said: two threads, no branches on threads of their own, as many events as there may be.
+    pub fn standard() -> Options
+        ensures { result ≡ default_options }
+    {
+        Options {
+            workers: 2,
+            levels: 0,
+            max_events: Options::MAX_EVENTS,
+        }
+    }
+}

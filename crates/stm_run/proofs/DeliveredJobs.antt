@@ -1,0 +1,165 @@
+-- What `take`, `deliver`, `handback` and `eval` do keeps the desk standing: what a job's block does on the job's store it
+-- does on the present one where nothing that it read differs, and it is the block that waits.
+use Rattle.std.proofs.Common.{◌≡◌, ℕ, zero, suc, ◌+◌, Bool, true, false, cond, List, [], ◌∷◌, ◌++◌, Option, Some, None, refl, ap, sym, subst, ◌∙◌, append-nil}
+use Rattle.std.specs.Prelude.{IsSomeAnd, option_map, nat_lt, length}
+use Rattle.stm_terms.specs.declared.values.Value.{Value}
+use Rattle.stm_terms.specs.declared.verdicts.Verdict.{Verdict}
+use Rattle.stm_terms.specs.Changes.{cell_value}
+use Rattle.stm_terms.specs.ReadSet.{reads_of}
+use Rattle.stm_terms.specs.Verdict.{verdict}
+use Rattle.stm_check.specs.TypedBlock.{Block}
+use Rattle.stm_eval.specs.Laws.{VerdictIsStable}
+use Rattle.stm_store.specs.declared.cell.Cell.{Cell}
+use Rattle.stm_store.specs.Tables.{Declared}
+use Rattle.stm_events.specs.declared.staleness.StalenessRule.TheVariants.{Changed}
+use Rattle.stm_events.specs.declared.event.Event.{Event}
+use Rattle.stm_events.specs.declared.event.What.TheVariants.{Installed}
+use Rattle.stm_events.specs.declared.errors.DeliverError.{DeliverError}
+use Rattle.stm_events.specs.declared.errors.DeliverError.TheVariants as deliver
+use Rattle.stm_queue.specs.Queue.{marked}
+use Rattle.stm_machine.specs.JobsHandedOut.{block_at, sent}
+use Rattle.stm_events.specs.Laws.{BlocksStay}
+use Rattle.stm_events.specs.Refusals.{differing, overtaken_first, pending_left}
+use Rattle.stm_events.specs.SlowDesk.{Waiter, under, is_current, find_waiter, state, MayInstall, IsLegal}
+use Rattle.stm_desk.specs.Refusals.{left_by}
+use Rattle.stm_desk.specs.Seen.{Seen, now, is_full}
+use Rattle.stm_commands.specs.Delivering.{max_jobs, job_of, jobs_of, taken, with_jobs, after_take, delivery_first, delivery_refusal, installed, after_refusal, job_at, after_deliver, Delivered, delivered_by, delivered_next, delivered_all, all_queued, evaluated}
+use Rattle.stm_commands.specs.OpenDesk.{HandedOut, OpenDesk}
+use Rattle.stm_run.proofs.AgreeingReads.{agrees_there}
+use Rattle.stm_commands.proofs.KeptQueue.{tickets_left, tickets_marked, tickets_sent}
+use Rattle.stm_run.proofs.StandingDesk.{WasTaken, AllTaken, Stands, stands_event, stands_marked, stands_with, taken_append, taken_at}
+
+-- ---- refusals
+record MayCome (current : Bool) (o : Option ℕ) (full : Bool) : Type 0 where
+  pub due : current ≡ false
+  pub same : o ≡ None
+  pub room : full ≡ false
+
+may_come : (current : Bool) (o : Option ℕ) (full : Bool) → cond current (Some deliver.Already) (overtaken_first o full) ≡ None → MayCome current o full
+may_come true o full e = absurd cc
+may_come false (Some i) full e = absurd cc
+may_come false None true e = absurd cc
+may_come false None false e = record { due = refl; same = refl; room = refl }
+
+told_first : (current : Bool) (o : Option ℕ) (full : Bool) → cond current (Some deliver.Already) (overtaken_first o full) ≡ Some deliver.NoMemory → ⊥
+told_first true o full e = cc
+told_first false (Some i) full e = cc
+told_first false None true e = cc
+told_first false None false e = cc
+
+-- what a delivery is refused for is printed
+deliver_told : (store : List Cell) (o : Option Waiter) (reads : List (ℕ × Value)) (d : Seen) → delivery_first store o reads d ≡ Some deliver.NoMemory → ⊥
+deliver_told store None reads d e = cc
+deliver_told store (Some w) reads d e = told_first (is_current w) (differing (under store) reads) (is_full d) e
+
+pub refusal_told : (d : Seen) (j : HandedOut) → delivery_refusal d j ≡ Some deliver.NoMemory → ⊥
+refusal_told d j e = deliver_told (now d).store (find_waiter j.ticket (now d).waiters) (reads_of (cell_value j.store) j.block.tree) d e
+
+-- ---- jobs
+job_taken : (table : List Declared) (history : List Event) (t : ℕ) (o : Option Waiter) → find_waiter t (state table history).waiters ≡ o
+    → AllTaken table history (job_of (state table history) t (option_map (λ w. w.block) o))
+job_taken table history t None e = tt
+job_taken table history t (Some w) e = (record { before = history; more = []; whole = sym (append-nil history); one = w; found = e; block = refl }, tt)
+
+jobs_taken : (table : List Declared) (history : List Event) (ts : List ℕ) → AllTaken table history (jobs_of (state table history) ts)
+jobs_taken table history [] = tt
+jobs_taken table history (t ∷ ts) =
+    taken_append table history (job_of (state table history) t (block_at (state table history) t)) (jobs_of (state table history) ts)
+    (job_taken table history t (find_waiter t (state table history).waiters) refl) (jobs_taken table history ts)
+
+either_stands : (b : Bool) (d e : OpenDesk) → Stands d.desk d.jobs → Stands e.desk e.jobs → Stands (cond b d e).desk (cond b d e).jobs
+either_stands true d e h k = h
+either_stands false d e h k = k
+
+pub take_stands : (d : OpenDesk) (n : ℕ) → Stands d.desk d.jobs → Stands (after_take d n).desk (after_take d n).jobs
+take_stands d n k =
+    let tickets = taken d.desk n in
+    let js = jobs_of (now d.desk) tickets in
+    let pending = sent (length tickets) d.desk.pending in
+    either_stands (nat_lt max_jobs (n + length d.jobs)) d (with_jobs d tickets) k
+    (stands_with (record d.desk { pending = pending }) d.jobs (d.jobs ++ js) (taken_append d.desk.table d.desk.history d.jobs js k.taken (jobs_taken d.desk.table d.desk.history tickets))
+    (stands_marked d.desk pending d.jobs (tickets_sent (length tickets) d.desk.pending) k))
+
+module _ (stay : BlocksStay) (stable : VerdictIsStable) where
+  -- ---- a delivery
+  same_block : (d : Seen) (jobs : List HandedOut) (j : HandedOut) (w : Waiter) → WasTaken d.table d.history j → find_waiter j.ticket (now d).waiters ≡ Some w → Stands d jobs → w.block ≡ j.block
+  same_block d jobs j w t f k =
+      stay Changed d.table t.before t.more j.ticket t.one w (subst (IsLegal d.table) t.whole k.legal) t.found
+      (subst (λ (h : List Event). find_waiter j.ticket (state d.table h).waiters ≡ Some w) t.whole f) ∙ t.block
+
+  installs_by : (d : Seen) (jobs : List HandedOut) (j : HandedOut) (w : Waiter) (v : Option Verdict) → WasTaken d.table d.history j → find_waiter j.ticket (now d).waiters ≡ Some w
+      → verdict (cell_value j.store) j.block.tree ≡ v
+      → MayCome (is_current w) (differing (under (now d).store) (reads_of (cell_value j.store) j.block.tree)) (is_full d) → Stands d jobs → Stands (installed d j.ticket v) jobs
+  installs_by d jobs j w None t f e m k = k
+  installs_by d jobs j w (Some v) t f e m k =
+      let s = now d in
+      let reads = reads_of (cell_value j.store) j.block.tree in
+      let there : verdict (under s.store) j.block.tree ≡ Some v =
+      (stable j.block.tree reads v (cell_value j.store) (under s.store) (record { verdict_is = e; reads_are = refl }) (agrees_there (under s.store) reads m.same)).verdict_is in
+      let may : MayInstall s w v = record {
+        not_current = m.due;
+        verdict_is = ap (λ (b : Block). verdict (under s.store) b.tree) (same_block d jobs j w t f k) ∙ there;
+      } in
+      stands_event d jobs (Installed j.ticket v) m.room (subst (λ (o : Option Waiter). IsSomeAnd o (λ x. MayInstall s x v)) (sym f) may) tt k
+
+  installs_of : (d : Seen) (jobs : List HandedOut) (j : HandedOut) (o : Option Waiter) → WasTaken d.table d.history j → find_waiter j.ticket (now d).waiters ≡ o
+      → delivery_first (now d).store o (reads_of (cell_value j.store) j.block.tree) d ≡ None → Stands d jobs → Stands (installed d j.ticket (verdict (cell_value j.store) j.block.tree)) jobs
+  installs_of d jobs j None t f e k = absurd cc
+  installs_of d jobs j (Some w) t f e k =
+      let differs = differing (under (now d).store) (reads_of (cell_value j.store) j.block.tree) in
+      installs_by d jobs j w (verdict (cell_value j.store) j.block.tree) t f refl (may_come (is_current w) differs (is_full d) e) k
+
+  after_stands : (d : Seen) (jobs : List HandedOut) (j : HandedOut) (o : Option DeliverError) → WasTaken d.table d.history j → delivery_refusal d j ≡ o → Stands d jobs → Stands (after_refusal d j o) jobs
+  after_stands d jobs j (Some x) t e k = stands_marked d (pending_left x j.ticket d.pending) jobs (tickets_left x j.ticket d.pending) k
+  after_stands d jobs j None t e k = installs_of d jobs j (find_waiter j.ticket (now d).waiters) t refl e k
+
+  pub delivered_stands : (d : Seen) (jobs : List HandedOut) (n : ℕ) → Stands d jobs → Stands (after_deliver d (job_at n jobs)) jobs
+  delivered_stands d jobs n k = of n (job_at n jobs) refl
+    where
+      of : (n : ℕ) (o : Option HandedOut) → job_at n jobs ≡ o → Stands (after_deliver d o) jobs
+      of n None e = k
+      of zero (Some j) e = absurd cc
+      of (suc n) (Some j) e = after_stands d jobs j (delivery_refusal d j) (taken_at d.table d.history jobs n j k.taken e) refl k
+
+  -- ---- eval
+  by_stands : (d : Delivered) (j : HandedOut) (rest : List HandedOut) (o : Option DeliverError) → delivery_refusal d.desk j ≡ o → WasTaken d.desk.table d.desk.history j → Stands d.desk rest
+      → Stands (delivered_by d j o).desk rest
+  by_stands d j rest None e t k = after_stands d.desk rest j None t e k
+  by_stands d j rest (Some x) e t k =
+      let left = left_by x j.ticket d.desk in
+      stands_marked left (marked j.ticket false left.pending) rest (tickets_marked j.ticket false left.pending) (after_stands d.desk rest j (Some x) t e k)
+
+  next_stands : (d : Delivered) (j : HandedOut) (rest : List HandedOut) (o : Option DeliverError) → Stands d.desk (j ∷ rest) → Stands (delivered_next d j o).desk rest
+  next_stands d j rest None k = by_stands d j rest (delivery_refusal d.desk j) refl k.taken.0 (stands_with d.desk (j ∷ rest) rest k.taken.1 k)
+  next_stands d j rest (Some x) k =
+      stands_marked d.desk (marked j.ticket false d.desk.pending) rest (tickets_marked j.ticket false d.desk.pending) (stands_with d.desk (j ∷ rest) rest k.taken.1 k)
+
+  all_stand : (js kept : List HandedOut) (d : Delivered) → Stands d.desk (js ++ kept) → Stands (delivered_all d js).desk kept
+  all_stand [] kept d k = k
+  all_stand (j ∷ js) kept d k = all_stand js kept (delivered_next d j d.stop) (next_stands d j (js ++ kept) d.stop k)
+
+  pub evaluated_stands : (d : Seen) (jobs : List HandedOut) → Stands d jobs → Stands (evaluated d).desk jobs
+  evaluated_stands d jobs k =
+      let js = jobs_of (now d) (all_queued d) in
+      let pending = sent (length (all_queued d)) d.pending in
+      all_stand js jobs _ (stands_with (record d { pending = pending }) jobs (js ++ jobs) (taken_append d.table d.history js jobs (jobs_taken d.table d.history (all_queued d)) k.taken)
+      (stands_marked d pending jobs (tickets_sent (length (all_queued d)) d.pending) k))
+
+-- ---- what stops an eval is printed
+abbrev IsTold : Option DeliverError → Type 0
+IsTold o = o ≡ Some deliver.NoMemory → ⊥
+
+by_told : (d : Delivered) (j : HandedOut) (o : Option DeliverError) → IsTold o → IsTold (delivered_by d j o).stop
+by_told d j None h = h
+by_told d j (Some e) h = h
+
+next_told : (d : Delivered) (j : HandedOut) → (o : Option DeliverError) → d.stop ≡ o → IsTold o → IsTold (delivered_next d j o).stop
+next_told d j None s h = by_told d j (delivery_refusal d.desk j) (refusal_told d.desk j)
+next_told d j (Some e) s h = subst IsTold (sym s) h
+
+all_told : (js : List HandedOut) (d : Delivered) → IsTold d.stop → IsTold (delivered_all d js).stop
+all_told [] d h = h
+all_told (j ∷ js) d h = all_told js (delivered_next d j d.stop) (next_told d j d.stop refl h)
+
+pub evaluated_told : (d : Seen) → (evaluated d).stop ≡ Some deliver.NoMemory → ⊥
+evaluated_told d = all_told (jobs_of (now d) (all_queued d)) _ (λ e. cc)

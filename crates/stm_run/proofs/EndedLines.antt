@@ -1,0 +1,134 @@
+-- Texts that end with a line feed: each refusal that is printed, and the text of a history.
+use Rattle.std.proofs.Common.{◌≡◌, ◌≢◌, ℕ, Some, List, [], ◌∷◌, ◌++◌, length, refl, sym, subst, append_assoc}
+use Rattle.std.specs.Prelude.{codes, decimal}
+use Rattle.stm_parse.specs.declared.fault.ParseFault.{ParseFault}
+use Rattle.stm_parse.specs.declared.fault.ParseFault.TheVariants as parse
+use Rattle.stm_check.specs.declared.fault.TypeFault.{TypeFault}
+use Rattle.stm_check.specs.declared.fault.TypeFault.TheVariants as typed
+use Rattle.stm_store.specs.declared.table.DeclareError.TheVariants as declare
+use Rattle.stm_store.specs.Tables.{Declared}
+use Rattle.stm_events.specs.declared.event.Event.{Event}
+use Rattle.stm_events.specs.declared.errors.SubmitError.{SubmitError}
+use Rattle.stm_events.specs.declared.errors.SubmitError.TheVariants as submit
+use Rattle.stm_events.specs.declared.errors.DeliverError.{DeliverError}
+use Rattle.stm_events.specs.declared.errors.DeliverError.TheVariants as deliver
+use Rattle.stm_events.specs.declared.errors.FinishError.{FinishError}
+use Rattle.stm_events.specs.declared.errors.FinishError.TheVariants as finish
+use Rattle.stm_events.specs.declared.errors.CancelError.{CancelError}
+use Rattle.stm_events.specs.declared.errors.CancelError.TheVariants as cancel
+use Rattle.stm_history.specs.HistoryText.{variable_lines, event_lines, head_text, history_text}
+use Rattle.stm_history.specs.Lines.{event_line, header_line, variable_line}
+use Rattle.stm_blocks.specs.declared.refusal.Refusal.{Refusal}
+use Rattle.stm_blocks.specs.declared.refusal.Refusal.TheVariants.{Parsing, Typing, Unknown, Declaring}
+use Rattle.stm_commands.specs.Refusals.{refused, refused_at, refused_variable, refusal_text, submit_error_text, deliver_error_text, finish_error_text, cancel_error_text}
+use Rattle.stm_blocks.specs.ToldRefusal.{told_refusal}
+use Rattle.stm_run.specs.Laws.{EndsALine}
+
+-- ---- refusals
+pub refused_ends : (name : List ℕ) → EndsALine (refused name)
+unfolding refused
+refused_ends name = (codes "refused " ++ name, refl)
+
+refused_at_ends : (name : List ℕ) (place : ℕ) → EndsALine (refused_at name place)
+unfolding refused_at
+refused_at_ends name place = (codes "refused " ++ name ++ 32 ∷ decimal place, refl)
+
+refused_variable_ends : (name : List ℕ) (number : ℕ) → EndsALine (refused_variable name number)
+unfolding refused_variable
+refused_variable_ends name number = (codes "refused " ++ name ++ codes " #" ++ decimal number, refl)
+
+pub refusal_ends : (e : Refusal) → told_refusal e ≡ Some e → EndsALine (refusal_text e)
+refusal_ends (Parsing (parse.BadByte n)) t = refused_at_ends (codes "BadByte") n
+refusal_ends (Parsing (parse.BadNumber n)) t = refused_at_ends (codes "BadNumber") n
+refusal_ends (Parsing (parse.NameTooLong n)) t = refused_at_ends (codes "NameTooLong") n
+refusal_ends (Parsing (parse.Unexpected n)) t = refused_at_ends (codes "Unexpected") n
+refusal_ends (Parsing parse.EndOfText) t = refused_ends (codes "EndOfText")
+refusal_ends (Parsing parse.TooDeep) t = refused_ends (codes "TooDeep")
+refusal_ends (Parsing parse.TooLarge) t = refused_ends (codes "TooLarge")
+refusal_ends (Parsing parse.NoMemory) t = absurd cc
+refusal_ends (Typing (typed.Unknown n)) t = refused_at_ends (codes "Unknown") n
+refusal_ends (Typing (typed.Mismatch n)) t = refused_at_ends (codes "Mismatch") n
+refusal_ends (Typing (typed.NotAVariable n)) t = refused_at_ends (codes "NotAVariable") n
+refusal_ends (Typing (typed.Untyped n)) t = refused_at_ends (codes "Untyped") n
+refusal_ends (Typing (typed.TypeTooDeep n)) t = refused_at_ends (codes "TypeTooDeep") n
+refusal_ends (Typing typed.NoMemory) t = absurd cc
+refusal_ends (Unknown n) t = refused_at_ends (codes "Unknown") n
+refusal_ends (Declaring declare.Twice) t = refused_ends (codes "Twice")
+refusal_ends (Declaring declare.TypeOfValue) t = refused_ends (codes "TypeOfValue")
+refusal_ends (Declaring declare.TableFull) t = refused_ends (codes "TableFull")
+refusal_ends (Declaring declare.NoMemory) t = absurd cc
+
+pub parsing_told : (f : ParseFault) → f ≢ parse.NoMemory → told_refusal (Parsing f) ≡ Some (Parsing f)
+parsing_told (parse.BadByte n) h = refl
+parsing_told (parse.BadNumber n) h = refl
+parsing_told (parse.NameTooLong n) h = refl
+parsing_told (parse.Unexpected n) h = refl
+parsing_told parse.EndOfText h = refl
+parsing_told parse.TooDeep h = refl
+parsing_told parse.TooLarge h = refl
+parsing_told parse.NoMemory h = absurd (h refl)
+
+pub typing_told : (f : TypeFault) → f ≢ typed.NoMemory → told_refusal (Typing f) ≡ Some (Typing f)
+typing_told (typed.Unknown n) h = refl
+typing_told (typed.Mismatch n) h = refl
+typing_told (typed.NotAVariable n) h = refl
+typing_told (typed.Untyped n) h = refl
+typing_told (typed.TypeTooDeep n) h = refl
+typing_told typed.NoMemory h = absurd (h refl)
+
+pub submit_error_ends : (e : SubmitError) → e ≢ submit.NoMemory → EndsALine (submit_error_text e)
+submit_error_ends (submit.Foreign i) h = refused_variable_ends (codes "Foreign") i
+submit_error_ends submit.WaitingFull h = refused_ends (codes "WaitingFull")
+submit_error_ends submit.HistoryFull h = refused_ends (codes "HistoryFull")
+submit_error_ends submit.NoMemory h = absurd (h refl)
+
+pub deliver_error_ends : (e : DeliverError) → e ≢ deliver.NoMemory → EndsALine (deliver_error_text e)
+deliver_error_ends deliver.Gone h = refused_ends (codes "Gone")
+deliver_error_ends deliver.OtherBlock h = refused_ends (codes "OtherBlock")
+deliver_error_ends deliver.Already h = refused_ends (codes "Already")
+deliver_error_ends (deliver.Overtaken i) h = refused_variable_ends (codes "Overtaken") i
+deliver_error_ends deliver.HistoryFull h = refused_ends (codes "HistoryFull")
+deliver_error_ends deliver.NoMemory h = absurd (h refl)
+
+pub finish_error_ends : (e : FinishError) → e ≢ finish.NoMemory → EndsALine (finish_error_text e)
+finish_error_ends finish.NoTicket h = refused_ends (codes "NoTicket")
+finish_error_ends finish.NotEvaluated h = refused_ends (codes "NotEvaluated")
+finish_error_ends finish.Stale h = refused_ends (codes "Stale")
+finish_error_ends finish.Blocks h = refused_ends (codes "Blocks")
+finish_error_ends finish.HistoryFull h = refused_ends (codes "HistoryFull")
+finish_error_ends finish.CellsFull h = refused_ends (codes "CellsFull")
+finish_error_ends finish.NoMemory h = absurd (h refl)
+
+pub cancel_error_ends : (e : CancelError) → e ≢ cancel.NoMemory → EndsALine (cancel_error_text e)
+cancel_error_ends cancel.NoTicket h = refused_ends (codes "NoTicket")
+cancel_error_ends cancel.HistoryFull h = refused_ends (codes "HistoryFull")
+cancel_error_ends cancel.NoMemory h = absurd (h refl)
+
+-- ---- the history
+-- a text ends with a line feed whatever stands before it
+behind : (text more : List ℕ) → EndsALine more → EndsALine (text ++ more)
+behind text more e = (text ++ e.0, subst (λ (m : List ℕ). text ++ m ≡ text ++ e.0 ++ 10 ∷ []) (sym e.1) (sym (append_assoc text e.0 (10 ∷ []))))
+
+variables_end : (table : List Declared) → EndsALine (10 ∷ variable_lines table)
+variables_end [] = ([], refl)
+variables_end (d ∷ ds) = behind (10 ∷ variable_line d) (10 ∷ variable_lines ds) (variables_end ds)
+
+-- lines of events behind a line feed
+events_end : (history : List Event) → EndsALine (10 ∷ event_lines history)
+events_end [] = ([], refl)
+events_end (x ∷ xs) = behind (10 ∷ event_line x) (10 ∷ event_lines xs) (events_end xs)
+
+-- and behind a text that ends with one
+followed : (text : List ℕ) (history : List Event) → EndsALine text → EndsALine (text ++ event_lines history)
+followed text history e =
+    let all : e.0 ++ 10 ∷ [] ++ event_lines history ≡ e.0 ++ (10 ∷ event_lines history) = append_assoc e.0 (10 ∷ []) (event_lines history) in
+    subst (λ (t : List ℕ). EndsALine (t ++ event_lines history)) (sym e.1)
+    (subst EndsALine (sym all) (behind e.0 (10 ∷ event_lines history) (events_end history)))
+
+pub history_ends : (format : ℕ) (table : List Declared) (history : List Event) → EndsALine (history_text format table history)
+history_ends format table history =
+    followed (head_text format (length table) table) history (behind (header_line format (length table)) (10 ∷ variable_lines table) (variables_end table))
+
+-- and so does a line behind the lines of events
+pub counted_end : (history : List Event) (line : List ℕ) → EndsALine (event_lines history ++ line ++ 10 ∷ [])
+counted_end history line = behind (event_lines history) (line ++ 10 ∷ []) (line, refl)

@@ -1,0 +1,17 @@
+pub mod AgreeingReads
+pub mod AnsweredLongLines
+pub mod Chunks
+pub mod DeliveredJobs
+pub mod DeskAnswers
+pub mod DeskMoves
+pub mod DueQueue
+pub mod EachAnswer
+pub mod EndedLines
+pub mod InputInParts
+pub mod LegalSettling
+pub mod ReachedConsole
+pub mod Running
+pub mod ShownVerdicts
+pub mod StandingDesk
+pub mod TextsJudged
+pub mod TypedTable

@@ -1,0 +1,102 @@
+-- What texts declare and which blocks they are: a value of its type, a well typed block over the table, or a refusal that is
+-- told.
+use Rattle.std.proofs.Common.{◌≡◌, ◌≢◌, ℕ, Bool, true, false, cond, List, [], length, Option, Some, None, Result, Ok, Err, refl, ap, ◌∙◌, subst}
+use Rattle.std.specs.Prelude.{is_some, not, nat_lt}
+use Rattle.stm_terms.specs.declared.values.Value.{Value}
+use Rattle.stm_terms.specs.ParsedAst as raw
+use Rattle.stm_terms.specs.Ast.{Act}
+use Rattle.stm_terms.specs.Typing.{ActionType, uses_of}
+use Rattle.stm_parse.specs.declared.fault.ParseFault.{ParseFault}
+use Rattle.stm_parse.specs.declared.fault.ParseFault.TheVariants as parse
+use Rattle.stm_parse.specs.Declarations.{ParsedInit, literal, named, ParsedDeclaration}
+use Rattle.stm_parse.specs.Grammar.{IsBlock, DeclarationTree as Tree, IsDeclaration}
+use Rattle.stm_parse.specs.ParseFunction.{IsAnswer, parsed_block, declared_tree, declaration_result, parsed_declaration, BlockAnswersAreRight, DeclarationAnswersAreRight}
+use Rattle.stm_check.specs.declared.fault.TypeFault.{TypeFault}
+use Rattle.stm_check.specs.declared.fault.TypeFault.TheVariants as typed
+use Rattle.stm_check.specs.CheckFunction.{table_kinds, checked}
+use Rattle.stm_check.specs.Laws.{CheckNeverSaysNoMemory}
+use Rattle.stm_check.specs.TypedBlock.{Block}
+use Rattle.stm_store.specs.declared.table.DeclareError.{DeclareError}
+use Rattle.stm_store.specs.declared.table.DeclareError.TheVariants as declare
+use Rattle.stm_store.specs.Cells.{Covers, plains}
+use Rattle.stm_store.specs.Tables.{Declared, declared_cells, number_of, may_hold, declare_refusal, opened}
+use Rattle.stm_events.specs.Laws.{IsWellTyped, CheckedAreWellTyped}
+use Rattle.stm_history.specs.WholeBlocks.{BlockFault, NotParsed, NotTyped, block_if_typed, block_if_parsed, checked_block}
+use Rattle.stm_blocks.specs.declared.refusal.Refusal.{Refusal}
+use Rattle.stm_blocks.specs.declared.refusal.Refusal.TheVariants.{Unknown}
+use Rattle.stm_blocks.specs.CompiledBlock.{block_or_refusal, compiled_block}
+use Rattle.stm_blocks.specs.DeclaredVariable.{reference_to, initial, unless_refused, with_initial_value, on_declaration, variable_of}
+use Rattle.stm_blocks.specs.ToldRefusal.{told_refusal}
+use Rattle.stm_run.proofs.EndedLines.{parsing_told, typing_told}
+use Rattle.stm_blocks.proofs.UsesAreCovered.{opened_covers}
+
+-- ---- declarations
+-- where a variable is declared, its value is of its type; where it is refused, the refusal is told
+abbrev pub MayHoldOrTold : List Declared → Result Declared Refusal → Type 0
+MayHoldOrTold table (Ok d) = may_hold (declared_cells table) d.kind d.value ≡ true
+MayHoldOrTold table (Err e) = told_refusal e ≡ Some e
+
+abbrev judged_by : Bool → Bool → Bool → Option DeclareError
+judged_by twice holds room = cond twice (Some declare.Twice) (cond (not holds) (Some declare.TypeOfValue) (cond room None (Some declare.TableFull)))
+
+declares_value : (table : List Declared) (name : List ℕ) (d : Declared) → MayHoldOrTold table (unless_refused d (declare_refusal table name d.kind d.value))
+declares_value table name d = by (is_some (number_of name table)) (may_hold (declared_cells table) d.kind d.value) refl (nat_lt (length table) 1000000)
+  where
+    by : (twice holds : Bool) → may_hold (declared_cells table) d.kind d.value ≡ holds → (room : Bool) → MayHoldOrTold table (unless_refused d (judged_by twice holds room))
+    by true holds e room = refl
+    by false false e room = refl
+    by false true e true = e
+    by false true e false = refl
+
+declares_initial : (table : List Declared) (d : ParsedDeclaration) (r : Result Value Refusal) → initial table d.init ≡ r → MayHoldOrTold table (with_initial_value table d.name d.kind r)
+declares_initial table d (Ok v) e = declares_value table d.name (record { name = d.name; kind = d.kind; value = v })
+declares_initial table d (Err x) e = of d.init e
+  where
+    referred : (place : ℕ) (o : Option ℕ) → reference_to place o ≡ Err x → told_refusal x ≡ Some x
+    referred place (Some i) q = absurd cc
+    referred place None q = let p : Unknown place ≡ x = cc in subst (λ x. told_refusal x ≡ Some x) p refl
+
+    of : (i : ParsedInit) → initial table i ≡ Err x → told_refusal x ≡ Some x
+    of (literal v) q = absurd cc
+    of (named name place) q = referred place (number_of name table) q
+
+-- ---- blocks
+-- a block of a text is well typed, and its variables are declared; where there is none, the refusal is told
+abbrev pub BlockOrTold : List Declared → Result Block Refusal → Type 0
+BlockOrTold table (Ok b) = IsWellTyped b × Covers (plains (opened table)) b.uses
+BlockOrTold table (Err e) = told_refusal e ≡ Some e
+
+abbrev Judged : List Declared → Result Block BlockFault → Type 0
+Judged table (Ok b) = Covers (plains (opened table)) b.uses
+Judged table (Err (NotParsed e)) = e ≢ parse.NoMemory
+Judged table (Err (NotTyped e)) = e ≢ typed.NoMemory
+
+module _ (blocks : BlockAnswersAreRight) (declarations : DeclarationAnswersAreRight) (faults : CheckNeverSaysNoMemory) (well_typed : CheckedAreWellTyped) where
+  declares_tree : (table : List Declared) (text : List ℕ) (r : Result Tree ParseFault) → IsAnswer IsDeclaration text r → MayHoldOrTold table (on_declaration table (declaration_result text r))
+  declares_tree table text (Ok t) h = declares_initial table _ _ refl
+  declares_tree table text (Err f) h = parsing_told f h.0
+
+  pub declares : (table : List Declared) (text : List ℕ) → MayHoldOrTold table (variable_of table text)
+  unfolding variable_of parsed_declaration
+  declares table text = declares_tree table text (declared_tree text) (declarations text)
+
+  typed_judged : (table : List Declared) (text : List ℕ) (tree : raw.RawAct) (r : Result (Act × ActionType) TypeFault) → checked table text [] tree ≡ r → Judged table (block_if_typed table text r)
+  typed_judged table text tree (Ok x) e = opened_covers table x.0 (uses_of (table_kinds table) x.0) refl
+  typed_judged table text tree (Err f) e = λ q. faults table text tree [] (e ∙ ap Err q)
+
+  parsed_judged : (table : List Declared) (text : List ℕ) (r : Result raw.RawAct ParseFault) → IsAnswer IsBlock text r → Judged table (block_if_parsed table text r)
+  parsed_judged table text (Ok tree) h = typed_judged table text tree (checked table text [] tree) refl
+  parsed_judged table text (Err f) h = h.0
+
+  text_judged : (table : List Declared) (text : List ℕ) → Judged table (checked_block table text)
+  unfolding checked_block
+  text_judged table text = parsed_judged table text (parsed_block text) (blocks text)
+
+  judged_told : (table : List Declared) (text : List ℕ) (r : Result Block BlockFault) → checked_block table text ≡ r → Judged table r → BlockOrTold table (block_or_refusal r)
+  judged_told table text (Ok b) e h = (well_typed table text b e, h)
+  judged_told table text (Err (NotParsed f)) e h = parsing_told f h
+  judged_told table text (Err (NotTyped f)) e h = typing_told f h
+
+  pub compiled : (table : List Declared) (text : List ℕ) → BlockOrTold table (compiled_block table text)
+  unfolding compiled_block
+  compiled table text = judged_told table text (checked_block table text) refl (text_judged table text)

@@ -1,0 +1,24 @@
+-- What the code's answers are to the definitions.
+use Rattle.std.specs.Prelude.{◌≡◌, ℕ, List, [], ◌++◌}
+use Rattle.stm_run.specs.declared.console.Console.{Console}
+use Rattle.stm_run.specs.declared.console.Console.TheVariants.{Declaring, Open}
+use Rattle.stm_run.specs.declared.reply.Reply.{Reply}
+use Rattle.stm_run.specs.declared.reply.Reply.TheVariants as reply
+use Rattle.stm_commands.specs.Questions.{later_events_text}
+use Rattle.stm_commands.specs.Showing.{events_text}
+
+-- the text of the history, once the desk is open
+abbrev pub history_of : Console → List ℕ
+history_of (Open d) = events_text d
+history_of (Declaring table limit) = []
+
+-- the events from the n-th on and how many there are, once the desk is open
+abbrev pub later_events_of : Console → ℕ → List ℕ
+later_events_of (Open d) n = later_events_text d n
+later_events_of (Declaring table limit) n = []
+
+-- the answer was appended to the text; or it is the history, or a part of it, which is to be written
+abbrev pub IsReply : Reply → List ℕ → List ℕ → Console → List ℕ → Type 0
+IsReply reply.Text old new c answer = new ≡ old ++ answer
+IsReply reply.History old new c answer = (new ≡ old) × (answer ≡ history_of c)
+IsReply (reply.Events n) old new c answer = (new ≡ old) × (answer ≡ later_events_of c n)

@@ -1,0 +1,242 @@
+//! What the console knows, and its answer to a line.
+
+ghost use Rattle.std.specs.Prelude.{◌≡◌, ◌++◌, Some, string_bytes, OnOk, OnErr, IfOk};
+ghost use Rattle.stm_history.specs.HistoryText.{WritesText};
+ghost use Rattle.stm_run.specs.Abstraction.{IsReply, history_of, later_events_of};
+ghost use Rattle.stm_run.specs.Console.{initial_console, command_named, desk_answer, desk_after, answer_to_command, state_after_command, answer_to, state_after};
+ghost use Rattle.stm_run.specs.ConsoleState.{present_desk};
+ghost use Rattle.stm_commands.specs.Questions.{events_answer};
+ghost use Rattle.stm_commands.specs.Showing.{history_answer};
+ghost use Rattle.stm_run.specs.Declaring.{tvar_answer, tvar_line, tvar_state};
+ghost use Rattle.stm_run.specs.declared.console.Console.TheVariants.{Open as IsOpen};
+
+use crate::command::{Command, command_of};
+use crate::limit::EventLimit;
+use crate::reply::Reply;
+use std::alloc::Global;
+use std::io::Write;
+use std::str;
+use std::thread::Threads;
+use stm_blocks::declaring::declare;
+use stm_commands::refusing::{refuse, write_refusal};
+use stm_commands::{OpenDesk, Threading};
+use stm_history::WriteFault;
+use stm_lines::arguments::number_of;
+use stm_lines::judging::{Judgement, judge};
+use stm_store::{Seed, Table};
+use stm_terms::NoMemory;
+
+/// The declared variables, and how many events the desk will take; or the desk once it is open.
+#[derive(Drop)]
+pub enum Console {
+    Declaring { table: Table, limit: EventLimit },
+    Open(OpenDesk),
+}
+
+/// Appends the answer to a declaration.
+#[tactic(auto, unfolding(crate::specs::Declaring::tvar_line))]
+fn write_declared(number: u32, name: &str, out: &mut String) -> Result<(), NoMemory>
+    ensures { OnOk result
+        (string_bytes out.new ≡ string_bytes out.old ++ tvar_line number name.now) }
+{
+    write!(out, "tvar #{number} {name}\n")
+}
+
+/// Answers `history`.
+#[tactic(auto, unfolding(stm_commands::specs::Showing::history_answer))]
+fn answer_history(desk: &OpenDesk, argument: &str, out: &mut String) -> Result<Reply, NoMemory>
+    ensures { IfOk result (λ r. IsReply r (string_bytes out.old) (string_bytes out.new)
+        (IsOpen desk.now) (history_answer desk.now argument.now)) }
+{
+    if argument.is_empty() {
+        return Ok(Reply::History);
+    }
+    refuse("Argument", out).and(Ok(Reply::Text))
+}
+
+/// Answers `events`.
+#[tactic(auto, unfolding(stm_commands::specs::Questions::events_answer))]
+fn answer_events(desk: &OpenDesk, argument: &str, out: &mut String) -> Result<Reply, NoMemory>
+    ensures { IfOk result (λ r. IsReply r (string_bytes out.old) (string_bytes out.new)
+        (IsOpen desk.now) (events_answer desk.now argument.now)) }
+{
+    match number_of(argument.as_bytes()) {
+        Some(n) => Ok(Reply::Events(n)),
+        None => refuse("Argument", out).and(Ok(Reply::Text)),
+    }
+}
+
+/// Answers a command on the open desk.
+fn answer_on_desk<T: Threads + Sync>(
+    desk: &mut OpenDesk,
+    rt: &T,
+    alloc: Global,
+    threading: Threading,
+    command: Command,
+    argument: &str,
+    out: &mut String,
+) -> Result<Reply, NoMemory>
+    ensures text { IfOk result (λ r. IsReply r (string_bytes out.old) (string_bytes out.new)
+        (IsOpen desk.new) (desk_answer desk.old command argument.now)) }
+    ensures state { OnOk result (desk.new ≡ desk_after desk.old command argument.now) }
+{
+    let done = match command {
+        Command::History => return answer_history(desk, argument, out),
+        Command::Events => return answer_events(desk, argument, out),
+        Command::Tvar => refuse("Late", out),
+        Command::Try => desk.answer_try(alloc, argument, out),
+        Command::Looks => desk.answer_looks(alloc, argument, out),
+        Command::Submit => desk.answer_submit(alloc, argument, out),
+        Command::Take => desk.answer_take(alloc, argument, out),
+        Command::Deliver => desk.answer_deliver(alloc, argument, out),
+        Command::Handback => desk.answer_handback(argument, out),
+        Command::Eval => desk.answer_eval(rt, alloc, threading, argument, out),
+        Command::Finish => desk.answer_finish(argument, out),
+        Command::Cancel => desk.answer_cancel(argument, out),
+        Command::Show => desk.answer_show(argument, out),
+        Command::Reads => desk.answer_reads(argument, out),
+        Command::Store => desk.answer_store(argument, out),
+        Command::Settle => desk.answer_settle(argument, out),
+        Command::Ready => desk.answer_ready(argument, out),
+        Command::Why => desk.answer_why(alloc, argument, out),
+    };
+    done.and(Ok(Reply::Text))
+}
+
+impl Console {
+    ghost use Rattle.std.specs.Borrow.{sem};
+    ghost use Rattle.stm_run.specs.LentDesk.{LendsDesk};
+
+    /// A console of no variables, whose names will be looked up under the seed, and whose desk will take so many events.
+    #[tactic(auto, unfolding(crate::specs::Console::initial_console))]
+    pub fn new(alloc: Global, seed: Seed, limit: EventLimit) -> Console
+        ensures { result ≡ initial_console limit }
+    {
+        Console::Declaring {
+            table: Table::with_seed(alloc, seed),
+            limit,
+        }
+    }
+
+    /// Opens the desk, unless it is open.
+    fn open(&mut self, alloc: Global) -> Result<(), NoMemory>
+        ensures opened { OnOk result (self.new ≡ IsOpen (present_desk self.old)) }
+        ensures same { OnErr result (self.new ≡ self.old) }
+    {
+        let desk = match self {
+            Console::Open(_) => return Ok(()),
+            Console::Declaring { table, limit } => OpenDesk::open(alloc, table, limit.events())?,
+        };
+        *self = Console::Open(desk);
+        Ok(())
+    }
+
+    /// The desk, which is opened unless it is open.
+    fn opened(&mut self, alloc: Global) -> Result<&mut OpenDesk, NoMemory>
+        ensures* writes_back { sem 𝓛 (LendsDesk self.entry result) }
+        ensures value { IfOk result (λ d. d.now ≡ present_desk self.old) }
+    {
+        self.open(alloc)?;
+        match self {
+            Console::Open(desk) => Ok(desk),
+            Console::Declaring { .. } => unreachable!(),
+        }
+    }
+
+    /// Answers `tvar`.
+    fn answer_tvar(
+        &mut self,
+        alloc: Global,
+        argument: &str,
+        out: &mut String,
+    ) -> Result<(), NoMemory>
+        ensures text { OnOk result
+            (string_bytes out.new ≡ string_bytes out.old ++ tvar_answer self.old argument.now) }
+        ensures state { OnOk result (self.new ≡ tvar_state self.old argument.now) }
+    {
+        let Console::Declaring { table, .. } = self else {
+            return refuse("Late", out);
+        };
+        match declare(alloc, table, argument) {
+            Ok(number) => write_declared(number, table.name(number), out),
+            Err(refusal) => write_refusal(refusal, out),
+        }
+    }
+
+    /// Answers a command.
+    fn answer_command<T: Threads + Sync>(
+        &mut self,
+        rt: &T,
+        alloc: Global,
+        threading: Threading,
+        word: &[u8],
+        argument: &str,
+        out: &mut String,
+    ) -> Result<Reply, NoMemory>
+        ensures text { IfOk result (λ r. IsReply r (string_bytes out.old) (string_bytes out.new)
+            self.new (answer_to_command self.old (command_named word.now) argument.now)) }
+        ensures state { OnOk result
+            (self.new ≡ state_after_command self.old (command_named word.now) argument.now) }
+    {
+        match command_of(word) {
+            None => refuse("Command", out).and(Ok(Reply::Text)),
+            Some(Command::Tvar) => self.answer_tvar(alloc, argument, out).and(Ok(Reply::Text)),
+            Some(command) => {
+                let desk = self.opened(alloc)?;
+                answer_on_desk(desk, rt, alloc, threading, command, argument, out)
+            }
+        }
+    }
+
+    /// Appends the answer to a line, or says that it is the history.
+    #[tactic(auto, unfolding(crate::specs::Console::answer_to, crate::specs::Console::state_after))]
+    pub fn answer<T: Threads + Sync>(
+        &mut self,
+        rt: &T,
+        alloc: Global,
+        threading: Threading,
+        line: &[u8],
+        out: &mut String,
+    ) -> Result<Reply, NoMemory>
+        ensures text { IfOk result (λ r. IsReply r (string_bytes out.old) (string_bytes out.new)
+            self.new (answer_to self.old line.now)) }
+        ensures state { OnOk result (self.new ≡ state_after self.old line.now) }
+    {
+        match judge(line) {
+            Judgement::TooLong => refuse("LineTooLong", out).and(Ok(Reply::Text)),
+            Judgement::Silent => Ok(Reply::Text),
+            Judgement::NotAscii => refuse("NotAscii", out).and(Ok(Reply::Text)),
+            Judgement::Words(word, argument) => match str::from_utf8(argument) {
+                Ok(argument) => self.answer_command(rt, alloc, threading, word, argument, out),
+                Err(_) => unreachable!(),
+            },
+        }
+    }
+
+    /// Writes the events from the n-th on and how many there are, if the desk is open.
+    pub fn write_later_events<W: Write>(
+        &self,
+        alloc: Global,
+        writer: &mut W,
+        n: u32,
+    ) -> Result<(), WriteFault>
+        ensures { WritesText result (W.contents writer.old) (W.contents writer.new)
+            (later_events_of self.now n) }
+    {
+        match self {
+            Console::Open(desk) => desk.write_later_events(alloc, writer, n),
+            Console::Declaring { .. } => Ok(()),
+        }
+    }
+
+    /// Writes the history, where the desk is open.
+    pub fn write_history<W: Write>(&self, alloc: Global, writer: &mut W) -> Result<(), WriteFault>
+        ensures { WritesText result (W.contents writer.old) (W.contents writer.new)
+            (history_of self.now) }
+    {
+        match self {
+            Console::Open(desk) => desk.write_history(alloc, writer),
+            Console::Declaring { .. } => Ok(()),
+        }
+    }
+}

@@ -1,0 +1,55 @@
+//! What holds of the console's text. Each function is a law: its contract says it, and its body
+//! does nothing but call the laws that it rests on.
+
+ghost use Rattle.stm_commands.specs.DueTickets.{OutTicketsAreASet};
+ghost use Rattle.stm_run.specs.Laws.{EachLineIsAnswered, QueueIsOfDueTickets, VerdictsAreShown};
+
+/// A line that is neither blank nor a comment is answered by a text that ends with a line feed, whatever lines came before
+/// it. So `try` always has a verdict to tell, `finish` an effect, and an out-of-memory error is the text of no refusal.
+pub fn each_line_is_answered()
+    ensures { EachLineIsAnswered }
+{
+    stm_parse::laws::answers_are_right();
+    stm_check::laws::check_never_says_no_memory();
+    stm_check::laws::verdict_fits();
+    stm_eval::laws::verdict_is_stable();
+    stm_events::laws::tickets_rise();
+    stm_events::laws::declared_are_covered();
+    stm_events::laws::blocks_stay();
+    stm_history::files::laws::checked_are_well_typed();
+    stm_events::laws::waiting_are_well_typed();
+    stm_events::laws::stores_are_typed();
+    stm_events::laws::blocks_have_verdicts();
+}
+
+/// Each waiting block that isn't new stands with a verdict, whatever lines came before: so none that `show` has to tell is
+/// missing.
+pub fn verdicts_are_shown()
+    ensures { VerdictsAreShown }
+{
+    stm_parse::laws::answers_are_right();
+    stm_check::laws::check_never_says_no_memory();
+    stm_eval::laws::verdict_is_stable();
+    stm_events::laws::tickets_rise();
+    stm_events::laws::blocks_stay();
+    stm_history::files::laws::checked_are_well_typed();
+    stm_events::laws::waiting_are_well_typed();
+    stm_events::laws::weak_is_present();
+}
+
+/// The queue of the desk is no more than a set of tickets that are out: whatever lines came before, it has the tickets of the new
+/// and stale blocks in ascending order, each once, and each is out or queued as the set says. And each change of the queue
+/// changes the set as a set: `take` puts its tickets into it, a delivery, `cancel` and `handback` take theirs out of it, `settle`
+/// empties it, and no other change touches it.
+pub fn queue_is_a_set_of_tickets()
+    ensures queue { QueueIsOfDueTickets }
+    ensures out { OutTicketsAreASet }
+{
+    stm_parse::laws::answers_are_right();
+    stm_check::laws::check_never_says_no_memory();
+    stm_eval::laws::verdict_is_stable();
+    stm_events::laws::tickets_rise();
+    stm_events::laws::blocks_stay();
+    stm_history::files::laws::checked_are_well_typed();
+    stm_events::laws::waiting_are_well_typed();
+}

@@ -1,0 +1,20 @@
+//! Runs: commands by line from a reader, answers to a writer.
+//!
+//! `run` (`streams`) writes exactly the text that `specs/Console` gives for what it reads. `session` is a run under way, and
+//! `console` what the console knows: the declared variables, or an open desk of `stm_commands`; `command` has the words of the
+//! commands, `limit` how many events a desk takes, and `reply` where an answer is. `laws` says what holds of the text.
+//!
+//! What a reader has to believe is in these modules of specs/: `Console` has what is written for the lines of an input, over
+//! `ConsoleState`, what is known between two of them; `Declaring` has what `tvar` answers and changes (the other commands are in
+//! `stm_commands`); `Laws` what holds of all texts.
+#![tactic(auto)]
+
+pub mod command;
+pub mod console;
+pub mod laws;
+pub mod limit;
+pub mod reply;
+pub mod session;
+pub mod streams;
+
+pub use streams::{run, run_counted};

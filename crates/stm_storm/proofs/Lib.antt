@@ -1,0 +1,3 @@
+pub mod ClientLines
+pub mod FewSections
+pub mod ReadScript

@@ -1,0 +1,64 @@
+-- The code's script under way, and what its calls answer, by the definitions of scripts.
+use Rattle.std.specs.Prelude.{◌≡◌, ◌≤◌, ℕ, ◌+◌, nat_lt, List, [], ◌∷◌, Option, Some, None, Result, Ok, Err, length, map, if◌then◌else◌, ⊤}
+use Rattle.stm_store.specs.Tables.{Declared}
+use Rattle.stm_pool.specs.declared.section.Section.{Section}
+use Rattle.stm_pool.specs.declared.section.Task.{Task}
+use Rattle.stm_pool.specs.Limits.{max_sections}
+use Rattle.stm_storm.specs.declared.script_line.LineFault.{LineFault}
+use Rattle.stm_storm.specs.declared.script_line.LineFault.TheVariants.{Faulty, NoMemory}
+use Rattle.stm_storm.specs.declared.script_so_far.ScriptSoFar.{ScriptSoFar}
+use Rattle.stm_storm.specs.declared.script_reader.Script.{Script}
+use Rattle.stm_lines.specs.LineClass.{LineClass}
+use Rattle.stm_lines.specs.LineReading.{classes_from}
+use Rattle.stm_storm.specs.StormScript.{Begun, PartialScript, StormScript, most_lines, numbered_result, after_class, script_result, sections_so_far, storm_script}
+
+-- the fault of a line that is told; an out-of-memory error tells none
+abbrev pub told_line_fault : LineFault → Option LineFault
+told_line_fault Faulty = Some Faulty
+told_line_fault NoMemory = None
+
+-- what the definitions of scripts give, as an answer: where they give none, the line is faulty
+abbrev pub some_or_faulty : {Y : Type 0} → Option Y → Result Y LineFault
+some_or_faulty (Some y) = Ok y
+some_or_faulty None = Err Faulty
+
+-- what a client is to do
+abbrev pub tasks_of : Section → List Task
+tasks_of s = s.tasks.items
+
+-- a script under way, as the definitions have it
+abbrev pub reading_of : ScriptSoFar → PartialScript
+reading_of s = record { table = s.table; ended = map tasks_of s.ended.items; begun = s.begun }
+
+-- the same where a section has begun
+abbrev pub reading_in : List Declared → List (List Task) → Begun → PartialScript
+reading_in table ended b = record { table = table; ended = ended; begun = Some b }
+
+-- a script as the definitions have it
+abbrev pub script_of : Script → StormScript
+script_of s = record { table = s.table; sections = map tasks_of s.sections.items }
+
+-- no more sections have begun than a script may have
+abbrev pub HasFewSections : PartialScript → Type 0
+HasFewSections r = length (sections_so_far r.ended r.begun) ≤ max_sections
+
+-- ---- lines by their judgement alone
+-- what a line that is judged so leads to, with its number
+abbrev pub after_class_at : PartialScript → ℕ → LineClass → Result PartialScript ℕ
+after_class_at r n class = if nat_lt most_lines n then Err n else numbered_result n (after_class r class)
+
+-- lines that are judged so, from this number on
+abbrev pub after_classes : Result PartialScript ℕ → ℕ → List LineClass → Result PartialScript ℕ
+after_classes (Err e) n classes = Err e
+after_classes (Ok r) n [] = Ok r
+after_classes (Ok r) n (class ∷ rest) = after_classes (after_class_at r n class) (n + 1) rest
+
+-- the script that they lead to
+unfoldable pub rest_script : Result PartialScript ℕ → ℕ → List LineClass → Result StormScript ℕ
+rest_script r n classes = script_result (after_classes r n classes) (n + length classes)
+
+-- where it is known what the input was and what is left: the lines from this number on lead to its script
+abbrev pub IsReadTo : Option (List ℕ) → Option (List ℕ) → PartialScript → ℕ → Type 0
+IsReadTo None new r n = ⊤
+IsReadTo (Some all) None r n = ⊥
+IsReadTo (Some all) (Some rest) r n = storm_script all ≡ rest_script (Ok r) n (classes_from [] rest)

@@ -1,0 +1,58 @@
+-- What a storm writes.
+use Rattle.std.specs.Prelude.{◌≡◌, ℕ, ◌+◌, List, [], ◌∷◌, ◌++◌, Option, Some, None, Ok, codes, decimal, length}
+use Rattle.stm_events.specs.declared.event.Event.{Event}
+use Rattle.stm_pool.specs.declared.storm.Counts.{Counts}
+use Rattle.stm_pool.specs.Storms.{IsStormHistory}
+use Rattle.stm_storm.specs.StormScript.{StormScript, storm_script}
+
+-- the line of a client
+unfoldable pub client_line : ℕ → Counts → List ℕ
+client_line client c =
+    codes "client " ++ decimal client
+    ++ codes " submitted " ++ decimal c.submitted
+    ++ codes " finished " ++ decimal c.finished
+    ++ codes " cancelled " ++ decimal c.cancelled
+    ++ codes " refused " ++ decimal c.refused
+    ++ codes " missed " ++ decimal c.missed ++ 10 ∷ []
+
+-- those of the clients from this one on
+abbrev pub client_lines : ℕ → List Counts → List ℕ
+client_lines client [] = []
+client_lines client (c ∷ cs) = client_line client c ++ client_lines (client + 1) cs
+
+-- the line that tells how many events there were
+unfoldable pub events_line : ℕ → List ℕ
+events_line events = codes "events " ++ decimal events ++ 10 ∷ []
+
+-- where the history was replayed, and found legal
+abbrev pub storm_text : List Counts → ℕ → List ℕ
+storm_text counts events = client_lines 0 counts ++ events_line events ++ codes "replay ok" ++ 10 ∷ []
+
+-- where it was replayed and isn't legal, or wasn't replayed, since the desk couldn't be closed
+abbrev pub failed_lines : Option ℕ → List ℕ
+failed_lines (Some events) = events_line events ++ codes "replay failed" ++ 10 ∷ []
+failed_lines None = codes "replay failed" ++ 10 ∷ []
+
+-- what is written where the history isn't found legal
+abbrev pub failed_text : List Counts → Option ℕ → List ℕ
+failed_text counts events = client_lines 0 counts ++ failed_lines events
+
+-- a text that a storm of a script may write: what it counts is told by a history that is legal over the script's variables.
+-- Which history that is, and so what is refused or missed, depends on which thread came first
+pub record IsStormText (input text : List ℕ) : Type 0 where
+  pub script : StormScript
+  pub right : storm_script input ≡ Ok script
+  pub counts : List Counts
+  pub each : length counts ≡ length script.sections
+  pub history : List Event
+  pub counted : IsStormHistory script.table counts (length history) history
+  pub written : text ≡ storm_text counts (length history)
+
+-- a text that a storm of a script may write where its history isn't found legal
+pub record IsFailedStormText (input text : List ℕ) : Type 0 where
+  pub script : StormScript
+  pub right : storm_script input ≡ Ok script
+  pub counts : List Counts
+  pub each : length counts ≡ length script.sections
+  pub events : Option ℕ
+  pub written : text ≡ failed_text counts events

@@ -1,0 +1,19 @@
+//! Storms: a script of many clients, run by threads.
+//!
+//! `storm` (`storming`) reads a script whole, runs it, and writes how it ended. `storm_word` has the words of the lines,
+//! `script_line` says what a line is, `begun_section` and `script_so_far` take it, and `script_reader` reads a script; `storm_text`
+//! has the lines that are written.
+//!
+//! What a reader has to believe is in these modules of specs/: `StormScript` has what a script says, or its first faulty line, and
+//! `StormText` what a storm of it may write.
+#![tactic(auto)]
+
+mod begun_section;
+pub mod script_line;
+pub mod script_reader;
+pub mod script_so_far;
+mod storm_text;
+pub mod storm_word;
+pub mod storming;
+
+pub use storming::{StormFault, storm};

@@ -1,0 +1,3 @@
+pub mod SaidNumbers
+pub mod StormWords
+pub mod WordAnswers

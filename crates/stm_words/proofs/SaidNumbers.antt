@@ -1,0 +1,207 @@
+-- Numbers that words say for the options of a run.
+use Rattle.std.proofs.Common.{◌≡◌, ◌<◌, ◌≤◌, ◌^◌, ◌==◌, ◌∙◌, ℕ, Bool, true, false, List, [], ◌∷◌, ◌++◌, codes, refl, sym, ap, subst, arith, decimal}
+use Rattle.std.proofs.lemmas.Bool.{ne_eqb, le-leb, leb-true}
+use Rattle.std.proofs.lemmas.Fmt.{decimal_is_IsNumeral}
+use Rattle.std.specs.Char.{digit_value}
+use Rattle.std.specs.Int.{w64}
+use lib.Signed.{le_z_yes}
+use lib.Dec.{T}
+use Rattle.std.specs.Prelude.{Some, nat_le, ℤ, pos, FitsSigned, ◌≤ℤ◌}
+use Rattle.std.specs.Str.Parse.{IsNumeral, digits_value, signed_digits_value, without_leading_plus, without_leading_sign}
+use Rattle.clap.specs.ValueTests.{accepts, is_unsigned_in}
+use Rattle.clap.specs.Lexer.{without_minus}
+use Rattle.clap.specs.declared.builder.value_parser.ValueParser.TheVariants.{Signed, Unsigned}
+use Rattle.clap.specs.declared.error.kind.ErrorKind.TheVariants.{ValueValidation}
+use Rattle.clap.proofs.OnLiterals.{clap_on_literals}
+use Rattle.clap.proofs.ValueTestLemmas.{accepts-Accepts, Accepts-accepts}
+use Rattle.stm_words.specs.CommandLine.{answers_of, are_mistakes, number_of_text, request_of}
+use Rattle.stm_words.specs.WordLaws.{NumbersAreTaken, OthersAreRefused, NoOptionTwice, OptionsNeedRun}
+use Rattle.stm_options.specs.Options.{default_options}
+use Rattle.stm_words.specs.declared.command_line.Request.TheVariants.{Run}
+
+-- ---- a number in digits
+
+passed : (b : Bool) → T b → b ≡ true
+passed true t = refl
+passed false t = absurd t
+
+-- no sign stands first
+unsigned : (d : ℕ) (ds : List ℕ) → IsNumeral 10 (d ∷ ds) → ((d == 43) ≡ false) × ((d == 45) ≡ false)
+unsigned d ds h = (
+  ne_eqb d 43 (λ e. let bad : digit_value 43 < 10 = subst (λ c. digit_value c < 10) e h.1.0 in omega arith),
+  ne_eqb d 45 (λ e. let bad : digit_value 45 < 10 = subst (λ c. digit_value c < 10) e h.1.0 in omega arith),
+)
+
+record IsPlain (text : List ℕ) : Type 0 where
+  minus : without_minus text ≡ text
+  plus : without_leading_plus text ≡ text
+  sign : without_leading_sign text ≡ text
+  value : signed_digits_value 10 text ≡ pos (digits_value 10 text)
+
+plain : (text : List ℕ) → IsNumeral 10 text → IsPlain text
+plain [] h = absurd (omega arith)
+plain (d ∷ ds) h =
+    let first = unsigned d ds h in
+    record {
+      minus = rw first.1 refl;
+      plus = rw first.0 refl;
+      sign = rw (first.1, first.0) refl;
+      value = rw (first.1, first.0) refl;
+    }
+
+value_of : (n : ℕ) → n < 2 ^ 64 → signed_digits_value 10 (decimal n) ≡ pos n
+value_of n h = (plain (decimal n) (decimal_is_IsNumeral n h).0).value ∙ ap (λ (k : ℕ). pos k) (decimal_is_IsNumeral n h).1
+
+accepted : (low high n : ℕ) → n < 2 ^ 63 → low ≤ n → n ≤ high → accepts false (Signed (pos low) (pos high)) (decimal n) ≡ true
+accepted low high n h least most =
+    let k = decimal_is_IsNumeral n (omega arith) in
+    let z = value_of n (omega arith) in
+    Accepts-accepts false (Signed (pos low) (pos high)) (decimal n) (
+      subst (IsNumeral 10) (sym (plain (decimal n) k.0).sign) k.0,
+      subst (FitsSigned w64) (sym z) (record { sfits = h }),
+      subst (λ (i : ℤ). pos low ≤ℤ i) (sym z) (le_z_yes (subst T (sym (le-leb low n least)) tt)),
+      subst (λ (i : ℤ). i ≤ℤ pos high) (sym z) (le_z_yes (subst T (sym (le-leb n high most)) tt)),
+    )
+
+said : (n : ℕ) → n < 2 ^ 32 → number_of_text (without_minus (decimal n)) ≡ Some n
+said n h =
+    let k = decimal_is_IsNumeral n (omega arith) in
+    let p = plain (decimal n) k.0 in
+    let value : digits_value 10 (without_leading_plus (decimal n)) ≡ n = ap (digits_value 10) p.plus ∙ k.1 in
+    let test : is_unsigned_in 0 4294967295 (decimal n) ≡ true = Accepts-accepts false (Unsigned 0 4294967295) (decimal n)
+    (subst (IsNumeral 10) (sym p.plus) k.0, omega arith, omega arith, omega arith) in
+    ap number_of_text p.minus ∙ rw (test, value) refl
+
+refused : (low high n : ℕ) → n < 2 ^ 64 → (low ≤ n → n ≤ high → ⊥) → accepts false (Signed (pos low) (pos high)) (decimal n) ≡ false
+refused low high n h outside = go (accepts false (Signed (pos low) (pos high)) (decimal n)) refl
+  where
+    go : (b : Bool) → b ≡ accepts false (Signed (pos low) (pos high)) (decimal n) → accepts false (Signed (pos low) (pos high)) (decimal n) ≡ false
+    go false is = sym is
+    go true is =
+        let in_range = accepts-Accepts false (Signed (pos low) (pos high)) (decimal n) (sym is) in
+        let least = subst (λ (i : ℤ). pos low ≤ℤ i) (value_of n h) in_range.2 in
+        let most = subst (λ (i : ℤ). i ≤ℤ pos high) (value_of n h) in_range.3 in
+        absurd (outside (leb-true low n (passed _ least.le)) (leb-true n high (passed _ most.le)))
+
+-- ---- what clap makes of them
+
+-- `--workers=TEXT`
+workers_taken : (name text : List ℕ) → accepts false (Signed (pos 1) (pos 64)) text ≡ true → answers_of (name ∷ codes "run" ∷ (codes "--workers=" ++ text) ∷ []) ≡ []
+unfolding answers_of clap_on_literals
+workers_taken name text h = rw h refl
+
+workers_refused : (name text : List ℕ) → accepts false (Signed (pos 1) (pos 64)) text ≡ false
+    → answers_of (name ∷ codes "run" ∷ (codes "--workers=" ++ text) ∷ []) ≡ ValueValidation ∷ []
+unfolding answers_of clap_on_literals
+workers_refused name text h = rw h refl
+
+workers_said : (name text : List ℕ) (n : ℕ) → number_of_text (without_minus text) ≡ Some n → nat_le 1 n ≡ true → nat_le n 64 ≡ true
+    → request_of (name ∷ codes "run" ∷ (codes "--workers=" ++ text) ∷ []) ≡ Run (record default_options { workers = n })
+unfolding request_of clap_on_literals
+workers_said name text n h least most = rw (h, least, most) refl
+
+-- twice
+workers_twice : (name first second : List ℕ) → are_mistakes (answers_of (name ∷ codes "run" ∷ (codes "--workers=" ++ first) ∷ (codes "--workers=" ++ second) ∷ [])) ≡ true
+unfolding answers_of clap_on_literals
+workers_twice name first second = go (accepts false (Signed (pos 1) (pos 64)) first) refl
+  where
+    go : (b : Bool) → accepts false (Signed (pos 1) (pos 64)) first ≡ b
+        → are_mistakes (answers_of (name ∷ codes "run" ∷ (codes "--workers=" ++ first) ∷ (codes "--workers=" ++ second) ∷ [])) ≡ true
+    go true is = rw is refl
+    go false is = rw is refl
+
+-- without `run`
+workers_alone : (name : List ℕ) (rest : List (List ℕ)) → are_mistakes (answers_of (name ∷ codes "--workers" ∷ rest)) ≡ true
+unfolding answers_of clap_on_literals
+workers_alone name rest = refl
+
+-- `--levels=TEXT`
+levels_taken : (name text : List ℕ) → accepts false (Signed (pos 0) (pos 8)) text ≡ true → answers_of (name ∷ codes "run" ∷ (codes "--levels=" ++ text) ∷ []) ≡ []
+unfolding answers_of clap_on_literals
+levels_taken name text h = rw h refl
+
+levels_refused : (name text : List ℕ) → accepts false (Signed (pos 0) (pos 8)) text ≡ false
+    → answers_of (name ∷ codes "run" ∷ (codes "--levels=" ++ text) ∷ []) ≡ ValueValidation ∷ []
+unfolding answers_of clap_on_literals
+levels_refused name text h = rw h refl
+
+levels_said : (name text : List ℕ) (n : ℕ) → number_of_text (without_minus text) ≡ Some n → nat_le 0 n ≡ true → nat_le n 8 ≡ true
+    → request_of (name ∷ codes "run" ∷ (codes "--levels=" ++ text) ∷ []) ≡ Run (record default_options { levels = n })
+unfolding request_of clap_on_literals
+levels_said name text n h least most = rw (h, least, most) refl
+
+-- twice
+levels_twice : (name first second : List ℕ) → are_mistakes (answers_of (name ∷ codes "run" ∷ (codes "--levels=" ++ first) ∷ (codes "--levels=" ++ second) ∷ [])) ≡ true
+unfolding answers_of clap_on_literals
+levels_twice name first second = go (accepts false (Signed (pos 0) (pos 8)) first) refl
+  where
+    go : (b : Bool) → accepts false (Signed (pos 0) (pos 8)) first ≡ b
+        → are_mistakes (answers_of (name ∷ codes "run" ∷ (codes "--levels=" ++ first) ∷ (codes "--levels=" ++ second) ∷ [])) ≡ true
+    go true is = rw is refl
+    go false is = rw is refl
+
+-- without `run`
+levels_alone : (name : List ℕ) (rest : List (List ℕ)) → are_mistakes (answers_of (name ∷ codes "--levels" ∷ rest)) ≡ true
+unfolding answers_of clap_on_literals
+levels_alone name rest = refl
+
+-- `--max-events=TEXT`
+max_events_taken : (name text : List ℕ) → accepts false (Signed (pos 0) (pos 1048576)) text ≡ true → answers_of (name ∷ codes "run" ∷ (codes "--max-events=" ++ text) ∷ []) ≡ []
+unfolding answers_of clap_on_literals
+max_events_taken name text h = rw h refl
+
+max_events_refused : (name text : List ℕ) → accepts false (Signed (pos 0) (pos 1048576)) text ≡ false
+    → answers_of (name ∷ codes "run" ∷ (codes "--max-events=" ++ text) ∷ []) ≡ ValueValidation ∷ []
+unfolding answers_of clap_on_literals
+max_events_refused name text h = rw h refl
+
+max_events_said : (name text : List ℕ) (n : ℕ) → number_of_text (without_minus text) ≡ Some n → nat_le 0 n ≡ true → nat_le n 1048576 ≡ true
+    → request_of (name ∷ codes "run" ∷ (codes "--max-events=" ++ text) ∷ []) ≡ Run (record default_options { max_events = n })
+unfolding request_of clap_on_literals
+max_events_said name text n h least most = rw (h, least, most) refl
+
+-- twice
+max_events_twice : (name first second : List ℕ) → are_mistakes (answers_of (name ∷ codes "run" ∷ (codes "--max-events=" ++ first) ∷ (codes "--max-events=" ++ second) ∷ [])) ≡ true
+unfolding answers_of clap_on_literals
+max_events_twice name first second = go (accepts false (Signed (pos 0) (pos 1048576)) first) refl
+  where
+    go : (b : Bool) → accepts false (Signed (pos 0) (pos 1048576)) first ≡ b
+        → are_mistakes (answers_of (name ∷ codes "run" ∷ (codes "--max-events=" ++ first) ∷ (codes "--max-events=" ++ second) ∷ [])) ≡ true
+    go true is = rw is refl
+    go false is = rw is refl
+
+-- without `run`
+max_events_alone : (name : List ℕ) (rest : List (List ℕ)) → are_mistakes (answers_of (name ∷ codes "--max-events" ∷ rest)) ≡ true
+unfolding answers_of clap_on_literals
+max_events_alone name rest = refl
+
+-- ---- numbers
+
+pub numbers_are_taken : NumbersAreTaken
+numbers_are_taken name n = (
+  (λ least most. (
+    workers_taken name (decimal n) (accepted 1 64 n (omega arith) least most),
+    workers_said name (decimal n) n (said n (omega arith)) (le-leb 1 n least) (le-leb n 64 most),
+  )),
+  (λ most. (
+    levels_taken name (decimal n) (accepted 0 8 n (omega arith) (omega arith) most),
+    levels_said name (decimal n) n (said n (omega arith)) (le-leb 0 n (omega arith)) (le-leb n 8 most),
+  )),
+  (λ most. (
+    max_events_taken name (decimal n) (accepted 0 1048576 n (omega arith) (omega arith) most),
+    max_events_said name (decimal n) n (said n (omega arith)) (le-leb 0 n (omega arith)) (le-leb n 1048576 most),
+  )),
+)
+
+pub others_are_refused : OthersAreRefused
+others_are_refused name n h = (
+  (λ outside. rw (workers_refused name (decimal n) (refused 1 64 n h outside)) refl),
+  (λ above. rw (levels_refused name (decimal n) (refused 0 8 n h (λ least most. omega arith))) refl),
+  (λ above. rw (max_events_refused name (decimal n) (refused 0 1048576 n h (λ least most. omega arith))) refl),
+)
+
+pub no_option_twice : NoOptionTwice
+no_option_twice name first second = (workers_twice name first second, levels_twice name first second, max_events_twice name first second)
+
+pub options_need_run : OptionsNeedRun
+options_need_run name rest = (workers_alone name rest, levels_alone name rest, max_events_alone name rest)

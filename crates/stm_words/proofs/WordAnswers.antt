@@ -1,0 +1,252 @@
+-- What clap answers to words.
+use Rattle.std.proofs.Common.{bytes_eq, ◌≡◌, ◌≤◌, ℕ, Bool, true, false, List, [], ◌∷◌, ◌++◌, ◌&&◌, inl, inr, codes, refl, ap, sym, ◌∙◌, subst, cond, arith, Option, Some, None}
+use Rattle.std.specs.Prelude.{Ok, Err, ◌≢◌, ◌⊎◌, nat_le, option_and_then, unwrap_or}
+use Rattle.std.specs.Str.Parse.{ParsesUnsigned, digits_value, without_leading_plus}
+use Rattle.clap.specs.Matches.{ReadsOne, first_value, one_text}
+use Rattle.clap.specs.ValueTests.{is_unsigned_in}
+use Rattle.clap.specs.Walk.{Row, one_of, rows_of}
+use Rattle.clap.specs.declared.builder.value_parser.ValueParser.TheVariants.{Unsigned}
+use Rattle.clap.specs.declared.parser.matches.Found.{Found}
+use Rattle.clap.proofs.ValueTestLemmas.{accepts-Accepts, Accepts-accepts}
+use Rattle.clap.proofs.WalkLemmas.{first_value-rows, one_text-rows}
+use Rattle.std.proofs.lemmas.Bool.{false≢true, leb-true}
+use Rattle.std.specs.List.{list_all}
+use Rattle.std.proofs.lemmas.Slice.Eq.{bytes_eq-Decides}
+use Rattle.clap.specs.Words.{App, Kinds, FailsBy, HasKind, HasMatchesOf, IsAmong, fault_of, is_simple, is_simple_and_free, subcommand_of, subcommand_rows_of}
+use Rattle.clap.specs.declared.parser.matches.ArgMatches.{ArgMatches}
+use Rattle.clap.specs.Values.{kind_of}
+use Rattle.clap.specs.declared.error.Error.{Error}
+use Rattle.clap.specs.declared.error.kind.ErrorKind.{ErrorKind}
+use Rattle.clap.specs.declared.error.kind.ErrorKind.TheVariants.{DisplayVersion, OutOfMemory}
+use Rattle.clap.proofs.OnLiterals.{clap_on_literals}
+use Rattle.std.specs.Prelude.{Result}
+use Rattle.stm_words.specs.CommandLine.{answers_of, are_mistakes, asks_for_run, asks_for_version, command_line, is_mistake, is_version, number_of_text, number_within, explore_options_said, flag_said, options_said, request_of, request_said, AreExploreOptions, IfExplore, IfRun, IfStorm}
+use Rattle.stm_words.specs.WordLaws.{VersionsAreAskedFor}
+use Rattle.stm_options.specs.Options.{AreRunOptions, default_options}
+use Rattle.stm_words.specs.declared.command_line.Request.{Request}
+use Rattle.stm_words.specs.declared.command_line.Request.TheVariants.{Run, Storm, Explore, Check}
+
+-- clap's answers to any words are exact
+exact : is_simple_and_free command_line ≡ true
+unfolding clap_on_literals
+exact = refl
+
+simple : is_simple command_line ≡ true
+unfolding clap_on_literals
+simple = refl
+
+pub answered : {T : Type 0} (a : App) (words : List (List ℕ)) (r : Result T Error) → a ≡ command_line
+    → (is_simple_and_free a ≡ true → FailsBy (fault_of a words) r) → FailsBy (answers_of words) r
+unfolding answers_of
+answered a words r same h = subst (λ (b : App). FailsBy (fault_of b words) r) same (h (ap is_simple_and_free same ∙ exact))
+
+-- what they ask for is what the matches say
+pub requested : (a : App) (words : List (List ℕ)) (m : ArgMatches) (r : Request) → a ≡ command_line → HasMatchesOf a words m
+    → r ≡ request_said (subcommand_rows_of m) → r ≡ request_of words
+unfolding request_of
+requested a words m r same h is = is ∙ ap request_said ((h (ap is_simple same ∙ simple)).1 ∙ ap (λ (b : App). subcommand_of b words) same)
+
+-- a run without options has the default ones
+run_named : (name word : List ℕ) → word ≡ codes "run" → request_of (name ∷ word ∷ []) ≡ Run default_options
+unfolding request_of clap_on_literals
+run_named name word e = rw e refl
+
+pub run_requested : (words : List (List ℕ)) → asks_for_run words ≡ true → request_of words ≡ Run default_options
+unfolding request_of clap_on_literals
+run_requested [] e = refl
+run_requested (name ∷ []) e = refl
+run_requested (name ∷ word ∷ []) e = run_named name word ((bytes_eq-Decides word (codes "run")).0 e)
+run_requested (name ∷ word ∷ next ∷ rest) e = absurd (false≢true e)
+
+run_dashed : (name word : List ℕ) → word ≡ codes "run" → request_of (name ∷ word ∷ codes "--" ∷ []) ≡ Run default_options
+unfolding request_of clap_on_literals
+run_dashed name word e = rw e refl
+
+pub dashes_requested : (words : List (List ℕ)) → asks_for_run words ≡ true → request_of (words ++ codes "--" ∷ []) ≡ Run default_options
+unfolding request_of clap_on_literals
+dashes_requested [] e = refl
+dashes_requested (name ∷ []) e = refl
+dashes_requested (name ∷ word ∷ []) e = run_dashed name word ((bytes_eq-Decides word (codes "run")).0 e)
+dashes_requested (name ∷ word ∷ next ∷ rest) e = absurd (false≢true e)
+
+named : (name word : List ℕ) → word ≡ codes "run" → answers_of (name ∷ word ∷ []) ≡ []
+unfolding answers_of clap_on_literals
+named name word e = rw e refl
+
+-- the words of a run have none
+pub run_unanswered : (words : List (List ℕ)) → asks_for_run words ≡ true → answers_of words ≡ []
+unfolding answers_of clap_on_literals
+run_unanswered [] e = refl
+run_unanswered (name ∷ []) e = refl
+run_unanswered (name ∷ word ∷ []) e = named name word ((bytes_eq-Decides word (codes "run")).0 e)
+run_unanswered (name ∷ word ∷ next ∷ rest) e = absurd (false≢true e)
+
+-- nor with a last word `--`
+dashed : (name word : List ℕ) → word ≡ codes "run" → answers_of (name ∷ word ∷ codes "--" ∷ []) ≡ []
+unfolding answers_of clap_on_literals
+dashed name word e = rw e refl
+
+pub dashes_unanswered : (words : List (List ℕ)) → asks_for_run words ≡ true → answers_of (words ++ codes "--" ∷ []) ≡ []
+unfolding answers_of clap_on_literals
+dashes_unanswered [] e = refl
+dashes_unanswered (name ∷ []) e = refl
+dashes_unanswered (name ∷ word ∷ []) e = dashed name word ((bytes_eq-Decides word (codes "run")).0 e)
+dashes_unanswered (name ∷ word ∷ next ∷ rest) e = absurd (false≢true e)
+
+both : (a b : Bool) → (a && b) ≡ true → (a ≡ true) × (b ≡ true)
+both true b e = (refl, e)
+both false b e = absurd (false≢true e)
+
+-- what is reported of mistakes is one
+among : (k : ErrorKind) (kinds : Kinds) → IsAmong k kinds → list_all is_mistake kinds ≡ true → is_mistake k ≡ true
+among k [] h e = absurd h
+among k (x ∷ xs) (inl same) e = rw same (both _ _ e).0
+among k (x ∷ xs) (inr later) e = among k xs later (both _ _ e).1
+
+pub told_mistake : (kinds : Kinds) (e : Error) → HasKind kinds e → are_mistakes kinds ≡ true → is_mistake (kind_of e) ≡ true
+told_mistake kinds e (inl same) h = rw same refl
+told_mistake [] e (inr h) wrong = absurd h
+told_mistake (k ∷ ks) e (inr h) wrong = among (kind_of e) (k ∷ ks) h wrong
+
+-- ---- the number of an option
+
+-- what a text that is read as a number of 32 bits gives
+read_number : (E : Type 0) (text : List ℕ) (x : ℕ) → ParsesUnsigned {E = E} 32 10 text (Ok x) → Some x ≡ number_of_text text
+read_number E text x h =
+    let below : digits_value 10 (without_leading_plus text) ≤ 4294967295 = omega arith in
+    let test : is_unsigned_in 0 4294967295 text ≡ true = Accepts-accepts false (Unsigned 0 4294967295) text (h.0.0, omega arith, omega arith, below) in
+    rw (test, h.1) refl
+
+unread_number : (E : Type 0) (text : List ℕ) (e : E) → ParsesUnsigned {E = E} 32 10 text (Err e) → None ≡ number_of_text text
+unread_number E text e h = go (is_unsigned_in 0 4294967295 text) refl
+  where
+    go : (b : Bool) → b ≡ is_unsigned_in 0 4294967295 text → None ≡ cond b (Some (digits_value 10 (without_leading_plus text))) None
+    go false is = refl
+    go true is = absurd (let in_range = accepts-Accepts false (Unsigned 0 4294967295) text (sym is) in h (in_range.0, omega arith))
+
+-- what the getter reads of an option is the number of its text
+pub number_read : {E : Type 0} (gives : List ℕ → Result ℕ E → Type 0) (f : Found) (name : List ℕ) (r : Option ℕ)
+    → ((text : List ℕ) (n : Result ℕ E) → gives text n → ParsesUnsigned 32 10 text n)
+    → (one_text f name ≡ None → r ≡ None) → ((text : List ℕ) → one_text f name ≡ Some text → ReadsOne gives text r)
+    → r ≡ option_and_then number_of_text (one_of name (rows_of f))
+number_read {E = E} gives f name r parses none some = go (one_of name (rows_of f)) r (one_text-rows f name) none some
+  where
+    go : (o : Option (List ℕ)) (r : Option ℕ) → one_text f name ≡ o → (one_text f name ≡ None → r ≡ None)
+        → ((text : List ℕ) → one_text f name ≡ Some text → ReadsOne gives text r) → r ≡ option_and_then number_of_text o
+    go None r is none some = none is
+    go (Some text) (Some x) is none some = read_number E text x (parses text (Ok x) (some text is))
+    go (Some text) None is none some = let failed = some text is in unread_number E text failed.0 (parses text (Err failed.0) failed.1)
+
+-- what the getter reads of an option that is said or not
+pub flag_read : (f : Found) (name : List ℕ) (o : Option (List ℕ)) (text : List ℕ) → o ≡ first_value f name → text ≡ unwrap_or o []
+    → bytes_eq text (codes "true") ≡ flag_said name (rows_of f)
+flag_read f name o text e is = ap (λ t. bytes_eq t (codes "true")) is ∙ ap (λ t. bytes_eq (unwrap_or t []) (codes "true")) (e ∙ first_value-rows f name)
+
+-- ---- the options of a run
+
+within : (low high otherwise : ℕ) (o : Option ℕ) → low ≤ otherwise → otherwise ≤ high
+    → (low ≤ number_within low high otherwise o) × (number_within low high otherwise o ≤ high)
+within low high otherwise None least most = (least, most)
+within low high otherwise (Some n) least most = go (nat_le low n) (nat_le n high) refl refl
+  where
+    go : (a b : Bool) → a ≡ nat_le low n → b ≡ nat_le n high → (low ≤ cond (a && b) n otherwise) × (cond (a && b) n otherwise ≤ high)
+    go false b above below = (least, most)
+    go true false above below = (least, most)
+    go true true above below = (leb-true low n (sym above), leb-true n high (sym below))
+
+abbrev number : List ℕ → List Row → Option ℕ
+number name rows = option_and_then number_of_text (one_of name rows)
+
+said_in_range : (rows : List Row) → AreRunOptions (options_said rows)
+said_in_range rows = record {
+  some_worker = (within 1 64 2 (number (codes "workers") rows) (omega arith) (omega arith)).0;
+  few_workers = (within 1 64 2 (number (codes "workers") rows) (omega arith) (omega arith)).1;
+  few_levels = (within 0 8 0 (number (codes "levels") rows) (omega arith) (omega arith)).1;
+  few_events = (within 0 1048576 1048576 (number (codes "max-events") rows) (omega arith) (omega arith)).1;
+}
+
+default_in_range : AreRunOptions default_options
+default_in_range = record {
+  some_worker = omega arith;
+  few_workers = omega arith;
+  few_levels = omega arith;
+  few_events = omega arith;
+}
+
+explored_in_range : (rows : List Row) → AreExploreOptions (explore_options_said rows)
+explored_in_range rows = record {
+  some_state = (within 1 4294967295 1000000 (number (codes "max-states") rows) (omega arith) (omega arith)).0;
+  few_states = (within 1 4294967295 1000000 (number (codes "max-states") rows) (omega arith) (omega arith)).1;
+}
+
+abbrev HasOptionsInRange : Request → Type 0
+HasOptionsInRange r = IfRun r AreRunOptions × IfStorm r AreRunOptions × IfExplore r AreExploreOptions
+
+subcommand_in_range : (name : List ℕ) (rows : List Row) → HasOptionsInRange (request_said (Some (name, rows)))
+subcommand_in_range name rows = go (bytes_eq name (codes "check")) (bytes_eq name (codes "storm")) (bytes_eq name (codes "explore"))
+  where
+    go : (b c d : Bool) → HasOptionsInRange (cond b Check (cond c (Storm (options_said rows)) (cond d (Explore (explore_options_said rows)) (Run (options_said rows)))))
+    go true c d = (tt, tt, tt)
+    go false true d = (tt, said_in_range rows, tt)
+    go false false true = (tt, tt, explored_in_range rows)
+    go false false false = (said_in_range rows, tt, tt)
+
+in_range : (p : Option (List ℕ × List Row)) → HasOptionsInRange (request_said p)
+in_range None = (default_in_range, tt, tt)
+in_range (Some p) = subcommand_in_range p.0 p.1
+
+-- whatever the words are
+pub options_in_range : (words : List (List ℕ)) → IfRun (request_of words) AreRunOptions × IfStorm (request_of words) AreRunOptions
+unfolding request_of
+options_in_range words = let all = in_range (subcommand_of command_line words) in (all.0, all.1)
+
+pub explore_options_in_range : (words : List (List ℕ)) → IfExplore (request_of words) AreExploreOptions
+unfolding request_of
+explore_options_in_range words = (in_range (subcommand_of command_line words)).2
+
+-- ---- `check`
+
+pub check_unanswered : (name : List ℕ) → answers_of (name ∷ codes "check" ∷ []) ≡ []
+unfolding answers_of clap_on_literals
+check_unanswered name = refl
+
+pub check_requested : (name : List ℕ) → request_of (name ∷ codes "check" ∷ []) ≡ Check
+unfolding request_of clap_on_literals
+check_requested name = refl
+
+-- ---- the version
+
+version_long : (name : List ℕ) (rest : List (List ℕ)) → asks_for_version (name ∷ codes "--version" ∷ rest) ≡ true
+unfolding answers_of clap_on_literals
+version_long name rest = refl
+
+version_short : (name : List ℕ) (rest : List (List ℕ)) → asks_for_version (name ∷ codes "-V" ∷ rest) ≡ true
+unfolding answers_of clap_on_literals
+version_short name rest = refl
+
+pub version_asked : VersionsAreAskedFor
+version_asked name rest = (version_long name rest, version_short name rest)
+
+version_alone : (kinds : Kinds) → is_version kinds ≡ true → kinds ≡ DisplayVersion ∷ []
+version_alone [] v = absurd cc
+version_alone (DisplayVersion ∷ []) v = refl
+version_alone (kind ∷ kinds) v = absurd cc
+
+told_among : (e : Error) → HasKind (DisplayVersion ∷ []) e → (kind_of e ≡ OutOfMemory) ⊎ (kind_of e ≡ DisplayVersion)
+told_among e (inl same) = inl same
+told_among e (inr (inl same)) = inr same
+told_among e (inr (inr h)) = absurd h
+
+-- what is reported of a request for the version is the version, or an out-of-memory error
+pub told_version : (kinds : Kinds) (e : Error) → HasKind kinds e → is_version kinds ≡ true → (kind_of e ≡ OutOfMemory) ⊎ (kind_of e ≡ DisplayVersion)
+told_version kinds e h v = told_among e (subst (λ (ks : Kinds). HasKind ks e) (version_alone kinds v) h)
+
+-- ---- words that nothing is done for
+
+among_none : (e : Error) → HasKind [] e → kind_of e ≡ OutOfMemory
+among_none e (inl same) = same
+among_none e (inr h) = absurd h
+
+-- where there is nothing to tell, what is reported is an out-of-memory error
+pub told_nothing : (kinds : Kinds) (e : Error) → HasKind kinds e → kinds ≡ [] → kind_of e ≡ OutOfMemory
+told_nothing kinds e h none = among_none e (subst (λ (ks : Kinds). HasKind ks e) none h)

@@ -1,0 +1,5 @@
+use Rattle.stm_words.proofs.WordAnswers.{check_unanswered, check_requested}
+use Rattle.stm_words.proofs.laws.words_of_a_check_are_accepted.Goals as goal
+
+pub returns : goal.returns
+returns c = λ name. (check_unanswered name, check_requested name)

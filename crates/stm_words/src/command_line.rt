@@ -1,0 +1,453 @@
+//! The words of the command line.
+
+ghost use Rattle.std.specs.Prelude.{◌≡◌, false, codes, IsTrue, IsOk, IfOk, map, option_and_then};
+ghost use Rattle.clap.specs.Simple.{subcommand_rows_of};
+ghost use Rattle.clap.specs.Walk.{one_of, rows_of, rule_of};
+ghost use Rattle.clap.specs.Words.{app_of, found_of, new_app, with_subcommand, FailsBy};
+ghost use Rattle.clap.specs.declared.builder.command.Command.TheViews.{out-Command as fields_of};
+ghost use Rattle.stm_words.specs.CommandLine.{answers_of, asks_for_run, command_line, explore_command, explore_options_said, flag_option, flag_said, number_of_text, number_option, number_said, number_within, options_said, request_of, request_said, run_command, storm_command, with_options, with_version, AreExploreOptions, IfExplore, IfRun, IfStorm};
+ghost use Rattle.stm_options.specs.Options.{AreRunOptions};
+
+use crate::version::VERSION;
+use clap::{Arg, ArgAction, ArgMatches, Command, Error, value_parser};
+use std::alloc::{AllocError, Global};
+use std::convert::AsStr;
+use stm_options::{ExploreOptions, Options};
+
+/// What words ask for: a run, a storm or an exploration with these options, or a check of a history.
+#[derive(Clone, Copy, PartialEq, Eq, Debug)]
+pub enum Request {
+    Run(Options),
+    Storm(Options),
+    Explore(ExploreOptions),
+    Check,
+}
+
+const ABOUT: &str =
+    "A scheduler for memory transactions: blocks of code wait under tickets, become stale when a variable that they read \
+changes, and take effect whole or not at all";
+
+const RUN: &str =
+    "Reads commands from standard input, one per line, and prints the answer to each on standard output (the default when no \
+command is given)";
+
+const STORM: &str =
+    "Reads a script from standard input, runs each of its clients in its own thread on one shared desk, and prints the result";
+
+const EXPLORE: &str =
+    "Reads a script from standard input, searches every order of its clients' steps, and prints the first fault, if there is any";
+
+const CHECK: &str = "Reads a history from standard input and reports whether it is legal";
+
+const NEXT: &str = "\
+Without a command stmdesk reads commands from standard input, as `stmdesk run` does:
+  $ printf 'tvar x : Int = 1\\ntry readTVar x\\nstore\\n' | stmdesk
+  tvar #0 x
+  commits writes none news none result 1
+  #0 x : Int = 1 count 0
+  cells 1
+
+`stmdesk run --help` describes the commands, each with an example, and the options; `stmdesk storm --help` describes the lines
+of a script, `stmdesk explore --help` those of an exploration and what it prints, and `stmdesk check --help` what a check
+prints. Exit statuses: 0 success, 1 the input or the output failed, or a line of a script is wrong, 2 the arguments were
+refused, 3 a history isn't legal, or an exploration found a fault or didn't end, 4 out of memory, or a thread didn't start.
+
+docs/CONSOLE.md describes the console, docs/LANGUAGE.md blocks, docs/HISTORY.md histories, docs/STORM.md storms, and
+docs/EXPLORE.md explorations.";
+
+const COMMANDS: &str = "\
+Commands on standard input, one per line. A line that begins with `--` is a comment.
+  tvar NAME : TYPE = INIT  Declares a variable, before any other command: `tvar #0 x`
+      tvar x : Int = 1
+  try BLOCK                Runs a block on the present store without changing it, and prints its verdict
+      try do { a <- readTVar x; writeTVar x (a + 1); return a }
+  looks BLOCK              Runs a block in the same way, and prints what it reads: `reads #0=1`
+      looks readTVar x
+  submit BLOCK             Puts a block on the desk, where it waits: `ticket 1`
+      submit do { a <- readTVar x; if a < 1 then retry else writeTVar x (a + 1) }
+  take N                   Hands out the N lowest queued tickets as jobs on the present store: `jobs 1=1 2=3`
+      take 2
+  deliver J                Evaluates job J on the store of its `take`, and delivers its verdict: `delivered 1`
+      deliver 1
+  handback T               Puts a ticket that is out back into the queue: `queued 1`
+      handback 1
+  eval                     Evaluates and delivers all queued tickets: `evaluated 3`
+      eval
+  finish T                 Applies the verdict of a current block, and prints its result and the tickets that become stale:
+                           `finished 1 result () stale 2 3`
+      finish 1
+  cancel T                 Removes a block from the desk: `cancelled 2`
+      cancel 2
+  show                     Prints each waiting ticket as `1 new`, `1 current VERDICT` or `1 stale VERDICT`, then `waiting 1`
+      show
+  ready                    Prints the tickets that can be finished now, those that are current and don't block: `ready 3 7 9`
+      ready
+  reads T                  Prints what the block under a ticket read at its last evaluation: `reads #0=1`
+      reads 1
+  why T                    Prints what the block under a ticket waits for: `why 1 new`, `why 1 waits #0=1`, `why 1 ready`, or
+                           `why 1 stale 3 #0=1->2` if the finish of ticket 3 changed a variable that it had read
+      why 1
+  store                    Prints each variable with its value and how often it changed, then `cells 1`
+      store
+  settle                   Evaluates and finishes blocks until none can continue: `settled 2 evaluations 3`
+      settle
+  history                  Prints the history, one JSON object per line, as `stmdesk check` reads it
+      history
+  events N                 Prints the history's events from the N-th on, counted from 1, then how many there are: `events 12`
+      events 1
+
+A verdict is `commits writes W news N result V` (#0=2 writes 2 to variable 0), `throws 4`, `throws overflow`, or `blocks` if
+the block retries. A ticket is new until its first delivery, then current, and stale after a finish changed a variable that
+its block read. New and stale tickets are queued for `take` and `eval`, or out as jobs.
+A refused line prints `refused NAME`, followed by the place of the error if it has one.
+
+Answers don't depend on `--workers` or `--levels`. The number of an option may begin with `+` or with zeros.
+
+docs/CONSOLE.md describes the commands in full, and docs/LANGUAGE.md describes blocks.";
+
+const SCRIPT: &str = "\
+A script on standard input: variables, then one section per client. Blank lines and lines that begin with `--` are ignored.
+  tvar NAME : TYPE = INIT  Declares a variable, before the first section
+  client                   Begins the section of the next client, which runs in its own thread
+  submit BLOCK             Puts a block on the desk
+  finish K                 Finishes the block of the section's K-th `submit`, as soon as it is evaluated
+  cancel K                 Cancels that block
+  expect NAME VALUE        Checks whether the variable holds the value
+
+Prints one line per client, with how many blocks it submitted, finished and cancelled, how often it was refused, and how often
+it missed an expected value; then the number of events, and `replay ok` if the history of all clients is legal.
+
+Example:
+  $ printf 'tvar x : Int = 1\\nclient\\nsubmit readTVar x\\nfinish 1\\nclient\\nexpect x 1\\n' | stmdesk storm
+  client 0 submitted 1 finished 1 cancelled 0 refused 0 missed 0
+  client 1 submitted 0 finished 0 cancelled 0 refused 0 missed 0
+  events 3
+  replay ok
+
+For a script in a file, run `stmdesk storm < FILE`. If a line is wrong, standard error has `stmdesk: script line N`, nothing is
+printed, and the status is 1. With `replay failed` the status is 3. If clients use the same variables, what is printed may
+depend on which thread comes first. The number of an option may begin with `+` or with zeros.
+
+docs/STORM.md describes scripts in full.";
+
+const EXPLORATION: &str = "\
+A script on standard input, as for `stmdesk storm`, with invariants before the first section:
+  tvar NAME : TYPE = INIT  Declares a variable
+  always BLOCK             In every state the block has to commit with the result True; what it writes counts for nothing
+  never BLOCK              In every state the block has to retry
+  client                   Begins the section of the next client
+  submit BLOCK             Names the next block of the client; this is no step
+  finish K                 A step: finishes the block of the section's K-th `submit`, and waits while the block retries
+  cancel K                 Withdraws that block; this is no step, and a `finish K` after it is none
+  expect NAME VALUE        A step: the variable has to hold the value
+
+Each client does its steps in their order, and every interleaving of the clients is searched. Prints how many states and steps
+there are, how many states have ended, with the stores of the first ten, and then `right`, `incomplete` if there are more states
+than may be kept, or the first fault by the fewest steps: `broken line L` (an invariant), `missed line L` (an `expect`), or
+`deadlock`. A fault is followed by the order of the clients' steps that leads there, and by the line at which each client is.
+
+Example:
+  $ printf 'tvar x : Int = 0\\nalways do { a <- readTVar x; return (a < 2) }\\nclient\\nsubmit writeTVar x 1\\nfinish 1\\n' | stmdesk explore
+  states 2 steps 1
+  ended 1
+  #0 x : Int = 1
+  cells 1
+  right
+
+Statuses: 0 right, 1 a line is wrong (standard error has `stmdesk: script line N`), 3 a fault or incomplete. With `--history`
+the history of the order is printed instead, as `stmdesk check` and tools/timeline read it; without a fault nothing is.
+
+docs/EXPLORE.md describes explorations in full.";
+
+const FINDINGS: &str = "\
+Prints one line:
+  legal N events   A desk can have accepted the N events; status 0
+  bad header       The first line or the line of a variable is wrong; status 3
+  bad line N       Line N is not the line of an event; status 3
+  not legal N      The event in line N can't follow the events before it; status 3
+
+Example:
+  $ printf 'tvar x : Int = 1\\nsubmit readTVar x\\neval\\nfinish 1\\nhistory\\n' | stmdesk | sed '1,4d' | stmdesk check
+  legal 3 events
+
+docs/HISTORY.md describes the lines.";
+
+const WORKERS: &str = "How many threads evaluate blocks, from 1 to 64";
+
+const LEVELS: &str = "How many nested `orElse` may run both branches at the same time, from 0 to 8";
+
+const MAX_EVENTS: &str = "How many events the history may have, from 0 to 1048576";
+
+const MAX_STATES: &str = "How many states may be kept, from 1 to 4294967295";
+
+const HISTORY: &str = "Prints the history of the fault instead";
+
+/// Whether the words are those of a run with nothing else, so that clap need not be asked.
+fn is_plain_run<S: AsStr>(words: &[S]) -> bool
+    ensures { result ≡ asks_for_run (map S.text words.now) }
+{
+    match words {
+        [] | [_] => true,
+        [_, word] => word.as_str() == "run",
+        _ => false,
+    }
+}
+
+/// An option that takes a number from `low` to `high`.
+fn number_option<'a>(
+    alloc: Global,
+    name: &'a str,
+    low: u32,
+    high: u32,
+    otherwise: &'a str,
+    help: &'a str,
+) -> Arg<'a>
+    ensures rule { rule_of result ≡ number_option name.entry.now low high otherwise.entry.now }
+    ensures local { result.global ≡ false }
+{
+    let numbers = value_parser!(u32).range(i64::from(low)..=i64::from(high));
+    Arg::new(alloc, name)
+        .long(name)
+        .value_name("N")
+        .value_parser(numbers)
+        .default_value(otherwise)
+        .help(help)
+}
+
+/// A command with the options of a run.
+fn with_options<'a>(
+    alloc: Global,
+    name: &'a str,
+    about: &'a str,
+    after_help: &'a str,
+) -> Result<Command<'a>, AllocError>
+    ensures app { IfOk result (λ c. app_of c ≡ with_options (new_app name.entry.now)) }
+    ensures local { IfOk result (λ c. (fields_of c).has_globals ≡ false) }
+{
+    let workers = number_option(alloc, "workers", 1, Options::MAX_WORKERS, "2", WORKERS);
+    let levels = number_option(alloc, "levels", 0, Options::MAX_LEVELS, "0", LEVELS);
+    let max_events = number_option(
+        alloc,
+        "max-events",
+        0,
+        Options::MAX_EVENTS,
+        "1048576",
+        MAX_EVENTS,
+    );
+    Command::new(alloc, name)
+        .about(about)
+        .after_help(after_help)
+        .arg(workers)?
+        .arg(levels)?
+        .arg(max_events)
+}
+
+/// `run` with its options.
+fn run_words<'a>(alloc: Global) -> Result<Command<'a>, AllocError>
+    ensures app { IfOk result (λ c. app_of c ≡ run_command) }
+    ensures local { IfOk result (λ c. (fields_of c).has_globals ≡ false) }
+{
+    with_options(alloc, "run", RUN, COMMANDS)
+}
+
+/// `storm` with its options.
+fn storm_words<'a>(alloc: Global) -> Result<Command<'a>, AllocError>
+    ensures app { IfOk result (λ c. app_of c ≡ storm_command) }
+    ensures local { IfOk result (λ c. (fields_of c).has_globals ≡ false) }
+{
+    with_options(alloc, "storm", STORM, SCRIPT)
+}
+
+/// An option that is said or not.
+fn flag_option<'a>(alloc: Global, name: &'a str, help: &'a str) -> Arg<'a>
+    ensures rule { rule_of result ≡ flag_option name.entry.now }
+    ensures local { result.global ≡ false }
+{
+    Arg::new(alloc, name)
+        .long(name)
+        .action(ArgAction::SetTrue)
+        .help(help)
+}
+
+/// `explore` with its options.
+fn explore_words<'a>(alloc: Global) -> Result<Command<'a>, AllocError>
+    ensures app { IfOk result (λ c. app_of c ≡ explore_command) }
+    ensures local { IfOk result (λ c. (fields_of c).has_globals ≡ false) }
+{
+    let max_states = number_option(
+        alloc,
+        "max-states",
+        1,
+        ExploreOptions::MAX_STATES,
+        "1000000",
+        MAX_STATES,
+    );
+    let history = flag_option(alloc, "history", HISTORY);
+    Command::new(alloc, "explore")
+        .about(EXPLORE)
+        .after_help(EXPLORATION)
+        .arg(max_states)?
+        .arg(history)
+}
+
+/// The program with its version and the commands that take the options of a run: `run`, which is the default, and `storm`.
+fn command_of_runs<'a>(alloc: Global) -> Result<Command<'a>, AllocError>
+    ensures { IfOk result (λ c. app_of c
+        ≡ with_subcommand
+        (with_subcommand (with_version (new_app (codes "stmdesk"))) run_command.top)
+        storm_command.top) }
+{
+    let run = run_words(alloc)?;
+    let storm = storm_words(alloc)?;
+    Command::new(alloc, "stmdesk")
+        .version(VERSION)
+        .about(ABOUT)
+        .after_help(NEXT)
+        .subcommand(run)?
+        .subcommand(storm)
+}
+
+/// The same with `explore`.
+fn command_of_scripts<'a>(alloc: Global) -> Result<Command<'a>, AllocError>
+    ensures { IfOk result (λ c. app_of c
+        ≡ with_subcommand (with_subcommand
+        (with_subcommand (with_version (new_app (codes "stmdesk"))) run_command.top)
+        storm_command.top) explore_command.top) }
+{
+    let explore = explore_words(alloc)?;
+    command_of_runs(alloc)?.subcommand(explore)
+}
+
+/// What the program takes: `run`, `storm`, `explore`, `check`, and what clap adds for help and the version.
+fn command<'a>(alloc: Global) -> Result<Command<'a>, AllocError>
+    ensures { IfOk result (λ c. app_of c ≡ command_line) }
+{
+    let check = Command::new(alloc, "check")
+        .about(CHECK)
+        .after_help(FINDINGS);
+    command_of_scripts(alloc)?.subcommand(check)
+}
+
+/// The number that was said for an option.
+fn number_given(matches: &ArgMatches, name: &str) -> Option<u32>
+    ensures { result
+        ≡ option_and_then number_of_text (one_of name.now (rows_of (found_of matches.now))) }
+{
+    matches.get_one::<u32>(name)
+}
+
+/// A number, where it is one from `low` to `high`.
+fn number_within(low: u32, high: u32, otherwise: u32, number: Option<u32>) -> u32
+    ensures { result ≡ number_within low high otherwise number }
+{
+    match number {
+        Some(number) => {
+            if low <= number && number <= high {
+                number
+            } else {
+                otherwise
+            }
+        }
+        None => otherwise,
+    }
+}
+
+/// The number that was said for an option. Clap has a default and takes none but those from `low` to `high`; that it is one
+/// of them is tested here once more.
+fn number_of(matches: &ArgMatches, name: &str, low: u32, high: u32, otherwise: u32) -> u32
+    ensures { result ≡ number_said name.now low high otherwise (rows_of (found_of matches.now)) }
+{
+    number_within(low, high, otherwise, number_given(matches, name))
+}
+
+/// The options of `run` and `storm`.
+fn options_of(matches: &ArgMatches) -> Options
+    ensures said { result ≡ options_said (rows_of (found_of matches.now)) }
+    ensures range { AreRunOptions result }
+{
+    let otherwise = Options::standard();
+    Options {
+        workers: number_of(
+            matches,
+            "workers",
+            1,
+            Options::MAX_WORKERS,
+            otherwise.workers,
+        ),
+        levels: number_of(matches, "levels", 0, Options::MAX_LEVELS, otherwise.levels),
+        max_events: number_of(
+            matches,
+            "max-events",
+            0,
+            Options::MAX_EVENTS,
+            otherwise.max_events,
+        ),
+    }
+}
+
+/// Whether an option was said that takes no number.
+fn flag_of(matches: &ArgMatches, name: &str) -> bool
+    ensures { result ≡ flag_said name.now (rows_of (found_of matches.now)) }
+{
+    match matches.get_str(name) {
+        Some(text) => text == "true",
+        None => false,
+    }
+}
+
+/// The options of `explore`.
+fn explore_options_of(matches: &ArgMatches) -> ExploreOptions
+    ensures said { result ≡ explore_options_said (rows_of (found_of matches.now)) }
+    ensures range { AreExploreOptions result }
+{
+    ExploreOptions {
+        max_states: number_of(
+            matches,
+            "max-states",
+            1,
+            ExploreOptions::MAX_STATES,
+            ExploreOptions::STATES,
+        ),
+        history: flag_of(matches, "history"),
+    }
+}
+
+/// What is asked for by words that clap takes.
+fn request_of<'a>(matches: &ArgMatches<'a>) -> Request
+    ensures said { result ≡ request_said (subcommand_rows_of matches.now) }
+    ensures range { IfRun result AreRunOptions }
+    ensures storm_range { IfStorm result AreRunOptions }
+    ensures explore_range { IfExplore result AreExploreOptions }
+{
+    match matches.subcommand() {
+        Some((name, inner)) => {
+            if name == "check" {
+                return Request::Check;
+            }
+            if name == "storm" {
+                return Request::Storm(options_of(inner));
+            }
+            if name == "explore" {
+                return Request::Explore(explore_options_of(inner));
+            }
+            Request::Run(options_of(inner))
+        }
+        None => Request::Run(Options::standard()),
+    }
+}
+
+/// Reads the words, the program's name first: what they ask for, else the help, the version or the fault to be reported.
+pub fn read_words<'a, S: AsStr>(alloc: Global, words: &'a [S]) -> Result<Request, Error>
+    ensures run { IsTrue (asks_for_run (map S.text words.now)) → IsOk result }
+    ensures answers { FailsBy (answers_of (map S.text words.now)) result }
+    ensures request { IfOk result (λ r. r ≡ request_of (map S.text words.now)) }
+    ensures range { IfOk result (λ r. IfRun r AreRunOptions) }
+    ensures storm_range { IfOk result (λ r. IfStorm r AreRunOptions) }
+    ensures explore_range { IfOk result (λ r. IfExplore r AreExploreOptions) }
+{
+    if is_plain_run(words) {
+        return Ok(Request::Run(Options::standard()));
+    }
+    let matches = command(alloc)?.try_get_matches_from(words)?;
+    Ok(request_of(&matches))
+}

@@ -1,0 +1,42 @@
+//! What holds of the program's words. Each function is a law: its contract says it.
+
+ghost use Rattle.stm_words.specs.WordLaws.{RunsAreAccepted, LastDashesChangeNothing, RunsHaveDefaults, OptionsAreInRange, StormsAreAccepted, StormsAreAsRuns, ChecksAreAccepted, VersionsAreAskedFor, NumbersAreTaken, OthersAreRefused, NoOptionTwice, OptionsNeedRun};
+
+/// The program's name alone, and `run` after it, ask for a run with the default options, also with a last word `--`. No
+/// words give a run or a storm options that are out of their ranges.
+pub fn words_of_a_run_are_accepted()
+    ensures accepted { RunsAreAccepted }
+    ensures dashes { LastDashesChangeNothing }
+    ensures defaults { RunsHaveDefaults }
+    ensures range { OptionsAreInRange }
+{}
+
+/// `storm` after the program's name asks for a storm with the default options, and any words after it are taken as after `run`:
+/// so a storm's options are those of a run, in the same ranges, each at most once.
+pub fn words_of_a_storm_are_those_of_a_run()
+    ensures accepted { StormsAreAccepted }
+    ensures same { StormsAreAsRuns }
+{}
+
+/// `check` after the program's name asks for a check.
+pub fn words_of_a_check_are_accepted()
+    ensures { ChecksAreAccepted }
+{}
+
+/// `--version` and `-V` ask for the version.
+pub fn versions_are_asked_for()
+    ensures { VersionsAreAskedFor }
+{}
+
+/// `run` with `--workers=N`, `--levels=N` or `--max-events=N` runs with this number where it is in the option's range, and
+/// is refused where it isn't.
+pub fn numbers_in_range_are_taken()
+    ensures taken { NumbersAreTaken }
+    ensures others { OthersAreRefused }
+{}
+
+/// An option twice is refused, and so is one without `run`.
+pub fn options_stand_once_after_run()
+    ensures once { NoOptionTwice }
+    ensures after { OptionsNeedRun }
+{}
