@@ -6,6 +6,7 @@ pub mod GoneTickets
 pub mod Growing
 pub mod KeptQueue
 pub mod KeptStores
+pub mod LaterEvents
 pub mod OutTickets
 pub mod PreparedBlocks
 pub mod ReadyTickets

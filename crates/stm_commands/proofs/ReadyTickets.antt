@@ -8,15 +8,11 @@ use Rattle.stm_events.specs.Ready.{is_ready, next_ready}
 use Rattle.stm_events.specs.SlowDesk.{Waiter, Slow}
 use Rattle.stm_events.specs.SlowSettle.{lowest}
 use Rattle.stm_commands.specs.Finishing.{tickets_text}
-use Rattle.stm_commands.specs.Questions.{ready_tickets}
+use Rattle.stm_commands.specs.Questions.{ready_tickets, ready_above}
 
 -- those of a test whose tickets are above this number
 abbrev those : (Waiter → Bool) → ℕ → List Waiter → List Waiter
 those p n ws = filter (λ (w : Waiter). nat_lt n w.ticket && p w) ws
-
--- the tickets above this number of the blocks that could finish now
-abbrev pub ready_above : ℕ → Slow → List ℕ
-ready_above n s = map (λ (w : Waiter). w.ticket) (those (is_ready s.store) n s.waiters)
 
 is_above : (n m : ℕ) → n < m → nat_lt n m ≡ true
 is_above n m h = grind (arith, nat_tests)

@@ -1,6 +1,7 @@
 -- `ready`, `why` and `events`: which blocks could finish now, what one waits for, and what happened since.
-use Rattle.std.specs.Prelude.{ℕ, ◌-◌, List, [], ◌∷◌, ◌++◌, Option, Some, None, map, filter, drop, codes, decimal, length}
+use Rattle.std.specs.Prelude.{ℕ, ◌-◌, ◌&&◌, nat_lt, List, [], ◌∷◌, ◌++◌, Option, Some, None, map, filter, drop, codes, decimal, length}
 use Rattle.stm_terms.specs.Texts.{spaced, list_text, value_text, write_text}
+use Rattle.stm_events.specs.declared.event.Event.{Event}
 use Rattle.stm_events.specs.Ready.{is_ready}
 use Rattle.stm_events.specs.SlowDesk.{Slow}
 use Rattle.stm_history.specs.HistoryText.{event_lines}
@@ -17,6 +18,10 @@ use Rattle.stm_commands.specs.Refusals.{refused}
 -- the tickets of the blocks that could finish now, ascending
 abbrev pub ready_tickets : Slow → List ℕ
 ready_tickets s = map (λ w. w.ticket) (filter (λ w. is_ready s.store w) s.waiters)
+
+-- those of them that are above this one
+abbrev pub ready_above : ℕ → Slow → List ℕ
+ready_above n s = map (λ w. w.ticket) (filter (λ w. nat_lt n w.ticket && is_ready s.store w) s.waiters)
 
 -- these tickets, or that there is none
 unfoldable pub ready_text : Slow → List ℕ
@@ -49,9 +54,12 @@ why_answer d argument = with_number (λ t. why_line t (reason_of d.desk t)) (num
 
 -- ---- events
 -- the lines of the events from the n-th on, counted from 1, as `history` prints them, and how many events there are
+abbrev pub later_lines : List Event → ℕ → List ℕ
+later_lines history n = event_lines (drop (n - 1) history) ++ (codes "events " ++ decimal (length history) ++ 10 ∷ [])
+
+-- the same of a desk's events
 abbrev pub later_events_text : OpenDesk → ℕ → List ℕ
-later_events_text d n =
-    event_lines (drop (n - 1) d.desk.history) ++ codes "events " ++ decimal (length d.desk.history) ++ 10 ∷ []
+later_events_text d n = later_lines d.desk.history n
 
 -- `events`: what happened since an event
 unfoldable pub events_answer : OpenDesk → List ℕ → List ℕ

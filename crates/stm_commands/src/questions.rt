@@ -7,8 +7,7 @@ ghost use Rattle.stm_desk.specs.Seen.{now};
 ghost use Rattle.stm_terms.specs.Texts.{spaced};
 ghost use Rattle.stm_events.specs.SlowDesk.{IsLegal};
 ghost use Rattle.stm_commands.specs.Finishing.{tickets_text};
-ghost use Rattle.stm_commands.specs.Questions.{ready_tickets, ready_text, ready_answer, change_text, reason_text, why_line, why_answer, later_events_text};
-ghost use Rattle.stm_commands.proofs.ReadyTickets.{ready_above};
+ghost use Rattle.stm_commands.specs.Questions.{ready_above, ready_tickets, ready_text, ready_answer, change_text, reason_text, why_line, why_answer, later_lines, later_events_text};
 
 use crate::opened::OpenDesk;
 use crate::refusing::refuse;
@@ -47,7 +46,10 @@ fn write_ready_tickets(desk: &Desk, out: &mut String) -> Result<(), NoMemory>
 {
     tickets_rise();
     match desk.next_ready(0) {
-        None => out.push_str("none"),
+        None => {
+            out.push_str("none")?;
+            Ok(())
+        }
         Some(first) => {
             write_number(first, out)?;
             write_ready_above(desk, first, out)
@@ -125,6 +127,16 @@ fn write_why(ticket: u32, reason: &Option<Reason<'_>>, out: &mut String) -> Resu
     }
 }
 
+/// How many events come before the n-th, counted from 1; none before the first, and for 0.
+fn events_before(n: u32) -> usize
+    ensures { result ≡ n - 1 }
+{
+    if n == 0 {
+        return 0;
+    }
+    n as usize - 1
+}
+
 /// Writes the lines of the events after the first n.
 fn write_events_after<W: Write>(
     alloc: Global,
@@ -150,6 +162,22 @@ fn write_count<W: Write>(alloc: Global, writer: &mut W, count: usize) -> Result<
     match write!(line, "events {count}") {
         Ok(()) => write_line(writer, line),
         Err(_) => Err(WriteFault::NoMemory),
+    }
+}
+
+/// Writes the lines of the events from the n-th on, counted from 1, and how many events there are.
+fn write_events_from<W: Write>(
+    alloc: Global,
+    writer: &mut W,
+    history: &[Event],
+    n: u32,
+) -> Result<(), WriteFault>
+    ensures { WritesText result (W.contents writer.old) (W.contents writer.new)
+        (later_lines history.now n) }
+{
+    match write_events_after(alloc, writer, history, events_before(n)) {
+        Ok(()) => write_count(alloc, writer, history.len()),
+        Err(fault) => Err(fault),
     }
 }
 
@@ -196,11 +224,6 @@ impl OpenDesk {
         ensures { WritesText result (W.contents writer.old) (W.contents writer.new)
             (later_events_text self.now n) }
     {
-        let history = self.desk.history();
-        let before = if n == 0 { 0 } else { n as usize - 1 };
-        match write_events_after(alloc, writer, history, before) {
-            Ok(()) => write_count(alloc, writer, history.len()),
-            Err(fault) => Err(fault),
-        }
+        write_events_from(alloc, writer, self.desk.history(), n)
     }
 }

@@ -130,5 +130,5 @@ history_ends format table history =
     followed (head_text format (length table) table) history (behind (header_line format (length table)) (10 ∷ variable_lines table) (variables_end table))
 
 -- and so does a line behind the lines of events
-pub counted_end : (history : List Event) (line : List ℕ) → EndsALine (event_lines history ++ line ++ 10 ∷ [])
+pub counted_end : (history : List Event) (line : List ℕ) → EndsALine (event_lines history ++ (line ++ 10 ∷ []))
 counted_end history line = behind (event_lines history) (line ++ 10 ∷ []) (line, refl)

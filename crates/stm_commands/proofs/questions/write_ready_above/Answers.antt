@@ -16,7 +16,7 @@ pub loop-next-preserved : goal.loop-next-preserved
 loop-next-preserved c =
     let d = c.args.desk.now in
     one_more (now d) c.loop-next.last c.in-Some.next _ _ _ _ (c.tickets_rise.ensures Changed d.table d.history c.requires).rising c.in-Some.ensures
-    c.in_ok-push_str.ensures c.in_ok-write_number.ensures c.loop-next.invariant
+    c.in_ok-push_str.ensures.bytes c.in_ok-write_number.ensures c.loop-next.invariant
 
 pub returns : goal.returns
 returns c =

@@ -2,7 +2,7 @@ use Rattle.std.proofs.Common.{◌≡◌, ◌++◌, length, string_bytes}
 use Rattle.std.specs.Prelude.{decimal}
 use Rattle.stm_terms.specs.Texts.{spaced}
 use Rattle.stm_desk.specs.Seen.{now}
-use Rattle.stm_commands.proofs.ReadyTickets.{ready_above}
+use Rattle.stm_commands.specs.Questions.{ready_above}
 use Rattle.stm_commands.proofs.questions.write_ready_above.Given as goal
 
 abbrev pub invariant-loop-next : goal.invariant-loop-next
