@@ -19,7 +19,7 @@ lock_sync : IsSync (mutex.the_row desk.the_row)
 lock_sync = search (sendable, crosses, desk_send) depth 40 fits 100000
 
 frozen_sync : IsSync frozen.the_row
-frozen_sync = search (sendable, crosses) depth 40 fits 100000
+frozen_sync = search (sendable, crosses) depth 120 fits 400000
 
 module _ (κ : NamedLft) (R : RattleType) where
   pub lateness_send : IsSync R → IsSend (lateness.the_row κ R)
