@@ -24,7 +24,7 @@ REFUSED_ALONE = ["NotOut", "NotEvaluated", "Stale", "Blocks", "NoTicket", "NoJob
 HELP_OF_RUN = [r"Usage: stmdesk run .*", r" +--workers .*", r" +--levels .*", r" +--max-events .*", *COMMANDS]
 HELP_OF_STORM = [r"Usage: stmdesk storm .*", r" +--workers .*", r" +--levels .*", r" +--max-events .*"]
 HELP_OF_STORM += [rf"  {word}( .*)?" for word in ("tvar NAME", "client", "submit BLOCK", "finish K", "cancel K", "expect NAME VALUE")]
-HELP_OF_EXPLORE = [r"Usage: stmdesk explore .*", r" +--max-states .*", r" +--history .*", r"  always BLOCK .*", r"  never BLOCK .*"]
+HELP_OF_EXPLORE = [r"Usage: stmdesk explore .*", r" +--max-states .*", r" +--history .*", r" +--all .*", r"  always BLOCK .*", r"  never BLOCK .*"]
 HELP_OF_EXPLORE += [rf"  {word}( .*)?" for word in ("tvar NAME", "client", "submit BLOCK", "finish K", "cancel K", "expect NAME VALUE")]
 HELP_OF_CHECK = [r"Usage: stmdesk check.*", r".*histor.*"]
 FORMS_OF_HELP = [["--help"], ["-h"], ["help"]]
@@ -59,8 +59,9 @@ REFUSED = [
     *(["explore", "--max-states", number] for number in ("0", *NO_NUMBERS)),
     *(["explore", *rest] for rest in (["--max-states"], ["--max-states=0"], ["--max-states", "2", "--max-states", "2"])),
     *(["explore", *rest] for rest in (["--history=true"], ["--history", "--history"], ["--history", "1"], ["--", "--history"])),
-    *([option] for option in ("--max-states", "--history")),
-    *([word, "--history"] for word in ("run", "storm", "check")),
+    *(["explore", *rest] for rest in (["--all=true"], ["--all", "--all"], ["--all", "1"], ["--", "--all"], ["--al"], ["--reduce"])),
+    *([option] for option in ("--max-states", "--history", "--all")),
+    *([word, option] for word in ("run", "storm", "check") for option in ("--history", "--all")),
 ]
 ACCEPTED = [  # behind a command that takes the options
     *([option, str(number)] for option, ends in OPTIONS.items() for number in ends),
@@ -81,6 +82,8 @@ EXPLORE_ACCEPTED = [  # behind `explore`
     ["--"],
     *(["--max-states", number] for number in ("1", "+1", "0001", "1000000", "4294967295")),
     ["--max-states=1"],
+    ["--all"],
+    ["--all", "--max-states", "1"],
 ]
 SCRIPT = b"tvar x : Int = 1\nclient\nexpect x 1\n"  # of a storm without events, so that it takes any number of them
 COUNTS = b"client 0 submitted 0 finished 0 cancelled 0 refused 0 missed 0\nevents 0\nreplay ok\n"
@@ -175,7 +178,7 @@ def judged(program, cases):
         yield f"words {words}", judge_run(program, words, SCRIPT, COUNTS)
     for words in [["explore", *options] for options in EXPLORE_ACCEPTED]:
         yield f"words {words}", judge_run(program, words, NO_STEP, EXPLORED)
-    for words in [["explore", "--history"], ["explore", "--max-states", "1", "--history"]]:
+    for words in [["explore", "--history"], ["explore", "--max-states", "1", "--history"], ["explore", "--all", "--history"]]:
         yield f"words {words}", judge_run(program, words, NO_STEP, b"", NO_FAULT)
     for words in REFUSED:
         yield f"words {words}", judge_refused(program, words)

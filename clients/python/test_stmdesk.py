@@ -2083,6 +2083,18 @@ class Explorations(OnProgram):
         self.assertIs(found.history(), None)
         self.assert_found(self.explore(script, max_states=2), 2, 1, 1, "right")
 
+    def test_all_states(self):
+        variables = "".join(f"tvar {name} : Int = 0\n" for name in ("x", "y"))
+        clients = "".join(f"client\nsubmit writeTVar {name} 1\nfinish 1\n" for name in ("x", "y"))
+        fewer, found = self.explore(variables + clients), self.explore(variables + clients, all=True)
+        self.assert_found(found, 4, 4, 1, "right")
+        self.assertTrue(fewer)
+        self.assertLess(fewer.states, found.states)
+        self.assert_is((fewer.ended, fewer.stores), (found.ended, found.stores))
+        lost = self.explore(LOST, all=True)
+        self.assert_is(lost.order, self.explore(LOST).order)
+        self.assertEqual(lost.history(), self.explore(LOST).history())
+
     def test_values(self):
         declared = ("x : Int = (-7)", "r : TVar Int = x", "deep : TVar (TVar Int) = r", "flag : Bool = True", "u : () = ()")
         lines = [*(f"tvar {it}" for it in declared), "client", "submit do { n <- newTVar 5; writeTVar r n }", "finish 1"]
@@ -2135,7 +2147,7 @@ class Explorations(OnProgram):
             with self.assertRaisesRegex(Ended, f"status 2: error: invalid value '{most}'"):
                 self.explore("client", max_states=most)
         with self.assertRaises(FileNotFoundError):
-            explore("client", program="/no/such/program")
+            explore("client", program="/no/such/program", all=True)
 
     def test_full_pipes(self):
         lines = [f"tvar v{n} : Int = 0" for n in range(20_000)]

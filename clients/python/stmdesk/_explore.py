@@ -48,8 +48,9 @@ class ClientAt:
 class Exploration:
     """What `explore` found. It is true if `outcome` is "right", and as text it is what the program prints.
 
-    `states`, `steps` and `ended` are the numbers of the states that were met, of the steps between them, and of those states in
-    which every client is at its end; `stores` are the stores of the first ten of these. `outcome` is
+    `states`, `steps` and `ended` are the numbers of the states that were met, of the steps that go from them, and of those states
+    in which every client is at its end; `stores` are the stores of the first ten of these. Unless all states were asked for, some
+    that can't matter may not have been met, but none in which every client is at its end. `outcome` is
 
     - "right": no order of the steps leads to a fault;
     - "incomplete": more than `max_states` states can be reached, and no fault was found;
@@ -58,7 +59,8 @@ class Exploration:
     - "missed": in such a state the expectation of line `line` isn't met.
 
     After a fault `order` are the clients in the order of their steps that leads there, and `clients` where each client is that
-    isn't at its end. Else `order` is None, and `clients` is empty. No shorter order leads to a fault.
+    isn't at its end. Else `order` is None, and `clients` is empty. No shorter order leads to a fault, unless more than `max_states`
+    states can be reached.
 
     >>> found = explore('''
     ...     tvar x : Int = 0
@@ -120,11 +122,12 @@ def explore(
     *,
     program: str | os.PathLike[str] | None = None,
     max_states: int | None = None,
+    all: bool = False,
 ) -> Exploration:
     """Tries every order in which the clients of a script can do their steps, by `program explore`.
 
-    docs/EXPLORE.md says what a script is. At most `max_states` states are kept, 1,000,000 if nothing else is given. Without
-    `program` it runs what `find_program` returns. Raises `ScriptRefused` if a line of the script is invalid, and `Ended` if the
+    docs/EXPLORE.md says what a script is. At most `max_states` states are kept, 1,000,000 if nothing else is given. With
+    `all` each state that can be reached is met and counted; else those that can't matter may be left out. Without `program` it runs what `find_program` returns. Raises `ScriptRefused` if a line of the script is invalid, and `Ended` if the
     program ends otherwise, for example since it is out of memory.
 
     >>> found = explore('''
@@ -144,6 +147,7 @@ FinalCell(variable=Ref(1, 'b'), name='b', type='Int', value=30)]], outcome='righ
         raise TypeError(f"a script is a text, not {type(script).__name__}")
     path = find_program() if program is None else os.fspath(program)
     options = [] if max_states is None else ["--max-states", decimal(max_states)]
+    options += ["--all"] if all else []
     check_built(path)
     command = [path, "explore", *options]
     status, printed, said = run_once(command, script)

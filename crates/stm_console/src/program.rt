@@ -239,7 +239,7 @@ pub fn start<'a, T: Threads + Wait + RandomSource + Sync, S: AsStr, R: Read, W: 
     ensures explored { answers_of (map S.text words.now) ≡ [] →
         IfExplore (request_of (map S.text words.now)) (λ o.
         result ≡ 0 → IfSome (R.remaining reader.old) (λ input.
-        WritesRight o.history o.max_states input (W.contents writer.old) (W.contents writer.new))) }
+        WritesRight o.history o input (W.contents writer.old) (W.contents writer.new))) }
     // A check writes what it finds of the bytes, which the status says too.
     ensures found { answers_of (map S.text words.now) ≡ [] →
         request_of (map S.text words.now) ≡ Request.Check →

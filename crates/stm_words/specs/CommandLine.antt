@@ -59,9 +59,10 @@ flag_option name = record (new_rule name) { long = Some name; action = Some SetT
 
 -- `explore` with its options
 abbrev pub explore_command : App
-explore_command = with_rule (with_rule (new_app (codes "explore"))
+explore_command = with_rule (with_rule (with_rule (new_app (codes "explore"))
     (number_option (codes "max-states") 1 4294967295 (codes "1000000")))
-    (flag_option (codes "history"))
+    (flag_option (codes "history")))
+    (flag_option (codes "all"))
 
 -- `check`, which takes no option
 abbrev pub check_command : App
@@ -153,6 +154,7 @@ abbrev pub explore_options_said : List Row → ExploreOptions
 explore_options_said rows = record {
   max_states = number_said (codes "max-states") 1 4294967295 1000000 rows;
   history = flag_said (codes "history") rows;
+  all = flag_said (codes "all") rows;
 }
 
 -- a subcommand, by its name and what is said for its options; without one a run

@@ -141,10 +141,11 @@ A script on standard input, as for `stmdesk storm`, with invariants before the f
   cancel K                 Withdraws that block; this is no step, and a `finish K` after it is none
   expect NAME VALUE        A step: the variable has to hold the value
 
-Each client does its steps in their order, and every interleaving of the clients is searched. Prints how many states and steps
-there are, how many states have ended, with the stores of the first ten, and then `right`, `incomplete` if there are more states
-than may be kept, or the first fault by the fewest steps: `broken line L` (an invariant), `missed line L` (an `expect`), or
-`deadlock`. A fault is followed by the order of the clients' steps that leads there, and by the line at which each client is.
+Each client does its steps in their order, and every interleaving of the clients is searched; but where a client's steps can't
+matter to the others until later, it may be left for later, unless `--all` is given. Prints how many states were met and how many
+steps lead on from them, how many states have ended, with the stores of the first ten, and then `right`, `incomplete` if there are
+more states than may be kept, or the first fault by the fewest steps: `broken line L` (an invariant), `missed line L` (an `expect`),
+or `deadlock`. A fault is followed by the order of the clients' steps that leads there, and by the line at which each client is.
 
 Example:
   $ printf 'tvar x : Int = 0\\nalways do { a <- readTVar x; return (a < 2) }\\nclient\\nsubmit writeTVar x 1\\nfinish 1\\n' | stmdesk explore
@@ -181,6 +182,8 @@ const MAX_EVENTS: &str = "How many events the history may have, from 0 to 104857
 const MAX_STATES: &str = "How many states may be kept, from 1 to 4294967295";
 
 const HISTORY: &str = "Prints the history of the fault instead";
+
+const ALL: &str = "Explores every state, and leaves no client for later";
 
 /// Whether the words are those of a run with nothing else, so that clap need not be asked.
 fn is_plain_run<S: AsStr>(words: &[S]) -> bool
@@ -283,11 +286,13 @@ fn explore_words<'a>(alloc: Global) -> Result<Command<'a>, AllocError>
         MAX_STATES,
     );
     let history = flag_option(alloc, "history", HISTORY);
+    let all = flag_option(alloc, "all", ALL);
     Command::new(alloc, "explore")
         .about(EXPLORE)
         .after_help(EXPLORATION)
         .arg(max_states)?
-        .arg(history)
+        .arg(history)?
+        .arg(all)
 }
 
 /// The program with its version and the commands that take the options of a run: `run`, which is the default, and `storm`.
@@ -409,6 +414,7 @@ fn explore_options_of(matches: &ArgMatches) -> ExploreOptions
             ExploreOptions::STATES,
         ),
         history: flag_of(matches, "history"),
+        all: flag_of(matches, "all"),
     }
 }
 
