@@ -59,7 +59,7 @@ fn submit(alloc: Global, desk: &mut Desk, text: &str) -> Result<u32> {
     Ok(desk.submit(ME, block)?)
 }
 
-/// Prints what is told of a ticket, with a verdict.
+/// Prints what happened to a ticket, with its verdict.
 fn tell(rt: &HostRuntime, ticket: u32, what: &str, verdict: &Verdict) -> Result<()> {
     let mut text = String::new(rt.alloc());
     write_verdict(verdict, &mut text)?;

@@ -4,7 +4,7 @@
 //! is refused. `naming` prints the name of a variable.
 //!
 //! What a reader has to believe is in these modules of specs/: `CompiledBlock` has the block of a text, `DeclaredVariable` the
-//! variable that a text declares, each with the first reason why it is refused; `ToldRefusal` which of these are told, and
+//! variable that a text declares, each with the first reason why it is refused; `ToldRefusal` which of these are printed, and
 //! `NameText` how a name is printed.
 #![tactic(auto)]
 

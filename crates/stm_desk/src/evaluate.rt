@@ -47,7 +47,7 @@ impl Desk {
     ) -> Result<Verdict, NoMemory>
         requires due { due_of (find_waiter ticket (now self.now).waiters) ≡ true }
         requires store { frozen.now ≡ plains (now self.now).store }
-        ensures told { IfOk result (λ v. IsVerdictUnder (now self.now) ticket v scratch.new) }
+        ensures verdict { IfOk result (λ v. IsVerdictUnder (now self.now) ticket v scratch.new) }
         ensures legal { IsLegal self.now.table self.now.history }
         ensures few { length self.now.history ≤ self.now.limit }
     {
@@ -65,7 +65,7 @@ impl Desk {
         requires client { client < max_clients }
         requires room { is_full self.old ≡ false }
         requires due { due_of (find_waiter ticket (now self.old).waiters) ≡ true }
-        requires told { IsVerdictUnder (now self.old) ticket verdict scratch.now }
+        requires verdict { IsVerdictUnder (now self.old) ticket verdict scratch.now }
         ensures done { OnOk result (self.new
             ≡ with_event self.old (event client (AnyWhat.Installed ticket verdict))) }
         ensures err { OnErr result (self.new ≡ self.old) }

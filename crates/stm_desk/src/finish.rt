@@ -93,9 +93,9 @@ impl Desk {
         ensures err { OnErr result (self.new ≡ self.old) }
         ensures legal { IsLegal self.new.table self.new.history }
     {
-        let told = finished_event(&mut self.history, client, ticket, plan)?;
+        let event = finished_event(&mut self.history, client, ticket, plan)?;
         let applied = self.machine.finish(ticket, plan)?;
-        self.history.push_reserved(told);
+        self.history.push_reserved(event);
         Ok(applied)
     }
 

@@ -8,7 +8,7 @@ verdict_due-requires-clause-due c = due_at c.args.self.now c.args.ticket c.requi
 pub returns-then-is_full-clause-why : goal.returns-then-is_full-clause-why
 returns-then-is_full-clause-why c =
     full_at c.args.self.now c.args.ticket c.in-Ok.verdict c.in-Ok.ensures.few
-    (due_verdict c.args.self.now c.args.ticket c.in-Ok.verdict c.verdict_due.new.scratch c.requires.legal c.requires.next c.in-Ok.ensures.told) (sym c.is_full.ensures ∙ c.if-is_full.true)
+    (due_verdict c.args.self.now c.args.ticket c.in-Ok.verdict c.verdict_due.new.scratch c.requires.legal c.requires.next c.in-Ok.ensures.verdict) (sym c.is_full.ensures ∙ c.if-is_full.true)
 
 pub keep_verdict-requires-clause-due : goal.keep_verdict-requires-clause-due
 keep_verdict-requires-clause-due c = due_at c.args.self.now c.args.ticket c.requires.legal c.requires.next
@@ -16,7 +16,7 @@ keep_verdict-requires-clause-due c = due_at c.args.self.now c.args.ticket c.requ
 pub returns-in-Ok-keep_verdict-clause-done : goal.returns-in-Ok-keep_verdict-clause-done
 returns-in-Ok-keep_verdict-clause-done c =
     next_install c.args.self.now c.keep_verdict.new.self c.args.client c.args.ticket c.in-Ok.verdict
-    (due_verdict c.args.self.now c.args.ticket c.in-Ok.verdict c.verdict_due.new.scratch c.requires.legal c.requires.next c.in-Ok.ensures.told) (sym c.is_full.ensures ∙ c.if-is_full.false)
+    (due_verdict c.args.self.now c.args.ticket c.in-Ok.verdict c.verdict_due.new.scratch c.requires.legal c.requires.next c.in-Ok.ensures.verdict) (sym c.is_full.ensures ∙ c.if-is_full.false)
     c.in-Ok-keep_verdict.ensures.done
 
 pub returns-in-Ok-keep_verdict-clause-store : goal.returns-in-Ok-keep_verdict-clause-store

@@ -16,7 +16,7 @@ invariant_of-self-2 c =
     let k = c.self.invariant in
     let e = subst (λ (d : Seen). is_full d ≡ false) (sym c.self.view_is) c.requires.room in
     let u = subst (λ (d : Seen). due_of (find_waiter c.args.ticket (now d).waiters) ≡ true) (sym c.self.view_is) c.requires.due in
-    let p = subst (λ (d : Seen). IsVerdictUnder (now d) c.args.ticket c.args.verdict c.args.scratch.now) (sym c.self.view_is) c.requires.told in
+    let p = subst (λ (d : Seen). IsVerdictUnder (now d) c.args.ticket c.args.verdict c.args.scratch.now) (sym c.self.view_is) c.requires.verdict in
     let is : c.push_reserved.new.self.items ≡ c.self.inside.history.items ++ event c.args.client (Installed c.args.ticket c.args.verdict) ∷ [] = search rules in
     subst (λ (es : List Event). DeskInvariant c.self.inside.table c.self.inside.limit es c.keep.new.self) (sym is)
     (kept_move _ _ _ _ k c.args.client (Installed c.args.ticket c.args.verdict) c.keep.new.self c.requires.client e tt

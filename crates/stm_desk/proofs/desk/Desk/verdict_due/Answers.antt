@@ -14,8 +14,8 @@ verdict_in-requires-clause-waits c =
     let n = subst (λ (d : Seen). due_of (find_waiter c.args.ticket (now d).waiters) ≡ true) (sym c.self.view_is) c.requires.due in
     (Changed, c.self.inside.table, c.self.inside.history.items, c.self.invariant.stands, due_is_there (find_waiter c.args.ticket (now d).waiters) n)
 
-pub returns-clause-told : goal.returns-clause-told
-returns-clause-told c =
+pub returns-clause-verdict : goal.returns-clause-verdict
+returns-clause-verdict c =
     let d : Seen = record { table = c.self.inside.table; limit = c.self.inside.limit; history = c.self.inside.history.items; pending = c.self.inside.machine.pending } in
     subst (λ (d : Seen). IfOk c.verdict_in.result (λ v. IsVerdictUnder (now d) c.args.ticket v c.verdict_in.new.scratch)) c.self.view_is
     (if_told d c.self.inside.machine c.args.ticket c.verdict_in.new.scratch c.verdict_in.result c.self.invariant.stands c.verdict_in.ensures)
