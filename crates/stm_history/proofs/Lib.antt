@@ -5,6 +5,7 @@ pub mod Exact
 pub mod Feeding
 pub mod FirstFault
 pub mod FitsPushed
+pub mod Loads
 pub mod OneLines
 pub mod Parts
 pub mod Ranges
