@@ -1,4 +1,5 @@
 pub mod Allowed
+pub mod Braces
 pub mod CheckedBlocks
 pub mod Cuts
 pub mod Exact
