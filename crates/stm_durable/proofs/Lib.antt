@@ -1,0 +1,4 @@
+pub mod Texts
+pub mod Fronts
+pub mod Crashes
+pub mod Resumed
