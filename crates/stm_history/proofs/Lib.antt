@@ -16,6 +16,7 @@ pub mod RoundTrips
 pub mod Sent
 pub mod Shortness
 pub mod Standing
+pub mod Started
 pub mod Steps
 pub mod Telling
 pub mod Types

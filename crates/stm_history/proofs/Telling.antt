@@ -218,18 +218,19 @@ counts_taken s whole line taken r =
     let e = ap length held.taken_is ∙ length-append held.whole line in
     omega (arith, r.counts, e)
 
-pub fed_byte : (s s' t : Stage) (whole whole' : ℕ) (line line' left taken : List ℕ) (b : ℕ) → b ≡ 10 → s' ≡ s → line' ≡ line → left ≡ [] → whole' ≡ whole + (length line' + 1)
+pub fed_byte : (s s' t : Stage) (whole whole' : ℕ) (line line' left taken : List ℕ) (b : ℕ) → b ≡ 10 → s' ≡ s → line' ≡ line → left ≡ [] → whole' ≡ whole + (length line + 1)
     → ((p : CheckerState) → IsStage s' p → LeadsToStage p line' t) → Reached s whole line taken → Reached t whole' left (taken ++ b ∷ [])
+unfolding HasTaken-feed
 fed_byte s s' t whole whole' line line' left taken b b10 es el e n h r =
     let stage : IsStage s' r.progress = subst (λ (x : Stage). IsStage x r.progress) (sym es) r.stage in
     let k = h r.progress stage in
     let led : LeadsTo r.progress line k.0 = subst (λ (l : List ℕ). LeadsTo r.progress l k.0) el k.1 in
     let held = r.held in
     let longer : length (held.whole ++ (line ++ 10 ∷ [])) ≡ length held.whole + (length line + 1) = length-append held.whole (line ++ 10 ∷ []) ∙ ap (λ (k : ℕ). length held.whole + k) (length-append line (10 ∷ [])) in
-    let same : length line' ≡ length line = ap length el in
-    rw (b10, e) (record { progress = k.0; stage = k.2; held = HasTaken-feed r.progress k.0 line taken r.held led; counts = omega (arith, n, r.counts, longer, same) })
+    rw (b10, e) (record { progress = k.0; stage = k.2; held = HasTaken-feed r.progress k.0 line taken r.held led; counts = omega (arith, n, r.counts, longer) })
 
 pub part_more : (s : Stage) (whole : ℕ) (line taken part : List ℕ) → Reached s whole line taken → NoFeed part → length line + length part ≤ max_line → Reached s whole (line ++ part) (taken ++ part)
+unfolding HasTaken-part
 part_more s whole line taken part r k l = record { progress = r.progress; stage = r.stage; held = HasTaken-part r.progress line taken part r.held k l; counts = r.counts }
 
 pub ends_early : (s : Stage) (whole : ℕ) (line taken : List ℕ) (e : HistoryFault) → ((p : CheckerState) → IsStage s p → e ≡ strange p) → Reached s whole line taken → (0 < length line ⊎ (e ≡ BadHeader)) → TellsFault e taken

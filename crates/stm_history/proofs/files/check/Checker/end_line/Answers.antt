@@ -1,4 +1,4 @@
-use Rattle.std.proofs.Common.{refl}
+use Rattle.std.proofs.Common.{refl, arith}
 use Rattle.stm_history.proofs.Telling.{refused_byte, refused_stops, fed_byte}
 use Rattle.stm_history.proofs.files.check.Checker.end_line.Goals as goal
 
@@ -12,4 +12,4 @@ returns-in-Err-clause-stops c = λ taken more h.
 
 pub returns-in-Ok-clause-done : goal.returns-in-Ok-clause-done
 returns-in-Ok-clause-done c = λ taken h.
-    fed_byte _ _ _ _ _ _ _ _ taken _ refl c.replace-stage.ensures.value c.deref.ensures.value c.clear.ensures.items refl c.in-Ok.ensures.leads h
+    fed_byte _ _ _ _ _ _ _ _ taken _ refl c.replace-stage.ensures.value c.deref.ensures.value c.clear.ensures.items (omega (arith, c.len.ensures)) c.in-Ok.ensures.leads h

@@ -1,5 +1,4 @@
-use Rattle.std.proofs.Common.{[], ◌∷◌, ◌+◌, ◌++◌, ◌∙◌, ◌<◌, ◌≡◌, ◌^◌, length, take, drop, refl, arith, length-append}
-use Rattle.std.proofs.lemmas.List.{length-take}
+use Rattle.std.proofs.Common.{[], ◌∷◌, ◌+◌, ◌++◌, ◌∙◌, ◌<◌, ◌≡◌, ◌^◌, length, take, drop, refl, ap, arith, length-append}
 use Rattle.std.proofs.lemmas.Result.{err_from_is_err_and}
 use Rattle.stm_history.specs.Checking.{StopsAt}
 use Rattle.stm_history.specs.Judgement.{TellsFault}
@@ -67,4 +66,4 @@ pub returns-clause-fault : goal.returns-clause-fault
 returns-clause-fault c = fed_faults TellsFault _ _ _ _ _ _ _ _ _ c.loop-at.invariant.fed c.take_part-2.ensures.fault
 
 pub returns-clause-stops : goal.returns-clause-stops
-returns-clause-stops c = fed_faults (λ e bytes. StopsAt e _ bytes) _ _ _ _ _ _ _ _ _ c.loop-at.invariant.fed c.take_part-2.ensures.stops
+returns-clause-stops c = fed_faults (λ e bytes. StopsAt e c.take_part-2.new.self.whole bytes) _ _ _ _ _ _ _ _ _ c.loop-at.invariant.fed c.take_part-2.ensures.stops
