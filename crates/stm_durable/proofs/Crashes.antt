@@ -1,10 +1,11 @@
 -- What a batch of events leaves.
-use Rattle.std.proofs.Common.{◌≡◌, ◌≢◌, ◌⊎◌, inl, inr, ⊎_elim, ℕ, ◌≤◌, List, [], ◌∷◌, ◌++◌, length, take, Bool, true, false, refl, sym, ◌∙◌, ap, subst, arith}
+use Rattle.std.proofs.Common.{◌≡◌, ◌≢◌, ◌⊎◌, inl, inr, ⊎_elim, ℕ, ◌≤◌, Result, Ok, Err, OnOk, List, [], ◌∷◌, ◌++◌, length, take, Bool, true, false, refl, sym, ◌∙◌, ap, subst, arith}
 use Rattle.std.proofs.lemmas.List.{append-nil}
 use Rattle.stm_store.specs.Tables.{Declared}
 use Rattle.stm_events.specs.declared.event.Event.{Event}
 use Rattle.stm_history.specs.HistoryText.{history_text, event_lines}
 use Rattle.stm_history.specs.Lines.{latest_format}
+use Rattle.stm_journal.specs.declared.error.JournalError.{JournalError}
 use Rattle.stm_journal.specs.declared.sync_mode.SyncMode.{SyncMode}
 use Rattle.stm_journal.specs.declared.sync_mode.SyncMode.TheVariants.{Full, Append, Never}
 use Rattle.stm_journal.specs.Device.{Only, LeavesOnly}
@@ -32,6 +33,13 @@ syncs_after Full begun some = some
 syncs_after Append true some = some
 syncs_after Append false some = λ e. cc
 syncs_after Never begun some = some
+
+-- a batch was added with its own way to sync
+pub rests_after : {D : Type 0} (r : Result Unit JournalError) (seen : D → List ℕ) (may_leave : D → List ℕ → Type 0) (device : D) (s t : SyncMode) (begun : Bool) (len : ℕ) → t ≡ batch_sync s begun
+    → OnOk r (IsAtRest seen may_leave device t len) → OnOk r (IsAtRest seen may_leave device s len)
+rests_after (Ok x) seen may_leave device s t begun len is rests =
+    rests_as seen may_leave device t s len (λ some. subst (λ (m : SyncMode). m ≢ Never) (sym is) (syncs_after s begun some)) rests
+rests_after (Err e) seen may_leave device s t begun len is rests = tt
 
 -- ---- what a batch leaves
 
