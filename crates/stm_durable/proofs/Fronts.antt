@@ -75,6 +75,6 @@ first_of table (e ∷ es) n fit is =
     ]
   where
     after_line : (line more : List ℕ) (n m : ℕ) → n ≡ length line + 1 + m → take n (line ++ 10 ∷ more) ≡ line ++ 10 ∷ take m more
-    after_line [] more n m e = ap (λ (k : ℕ). take k (10 ∷ more)) e
+    after_line [] more n m e = let same : n ≡ suc m = omega (arith, e) in ap (λ (k : ℕ). take k (10 ∷ more)) same
     after_line (x ∷ line) more zero m e = absurd (omega (arith, e))
     after_line (x ∷ line) more (suc n) m e = ap (λ (l : List ℕ). x ∷ l) (after_line line more n m (omega (arith, e)))
