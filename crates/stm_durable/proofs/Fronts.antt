@@ -1,5 +1,5 @@
 -- A front of the lines of events that is whole lines is the lines of the first events.
-use Rattle.std.proofs.Common.{◌≡◌, ℕ, zero, suc, ◌+◌, ◌-◌, ◌≤◌, ◌<◌, List, [], ◌∷◌, ◌++◌, length, take, refl, sym, ◌∙◌, ap, subst, arith, ◌⊎◌, inl, inr, length-append}
+use Rattle.std.proofs.Common.{◌≡◌, ℕ, zero, suc, ◌+◌, ◌≤◌, List, [], ◌∷◌, ◌++◌, length, take, refl, sym, ◌∙◌, ap, subst, arith, ◌⊎◌, inl, inr, length-append}
 use Rattle.std.proofs.lemmas.List.{take-append-le}
 use Rattle.stm_store.specs.Tables.{Declared}
 use Rattle.stm_events.specs.declared.event.Event.{Event}
@@ -9,7 +9,6 @@ use Rattle.stm_history.specs.Lines.{event_line}
 use Rattle.stm_history.proofs.Braces.{event_brace}
 use Rattle.stm_history.proofs.ReadsBack.{event_one_line}
 use Rattle.stm_journal.specs.Text.{whole_count, IsWhole}
-use Rattle.stm_journal.proofs.Reading.{take_past}
 use Rattle.stm_journal.proofs.Wholes.{whole_open, whole_shut, whole_on}
 use Rattle.stm_durable.specs.Durable.{AreFit}
 use Rattle.stm_durable.proofs.Texts.{count_line}

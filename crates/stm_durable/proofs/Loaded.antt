@@ -1,10 +1,9 @@
 -- A file that was repaired has what was loaded of it.
-use Rattle.std.proofs.Common.{◌≡◌, ℕ, List, Bool, true, false, Option, Some, None, is_some, refl, ◌∙◌}
+use Rattle.std.proofs.Common.{◌≡◌, ℕ, List, Bool, Option, Some, None, is_some, refl, ◌∙◌}
 use Rattle.std.proofs.lemmas.List.{append-nil}
 use Rattle.stm_history.specs.declared.files.loading.Loaded.{Loaded}
 use Rattle.stm_journal.specs.declared.sync_mode.SyncMode.{SyncMode}
 use Rattle.stm_journal.specs.Journal.{IsAtRest}
-use Rattle.stm_journal.specs.Text.{recovered}
 use Rattle.stm_durable.specs.Durable.{HasLoaded, LoadsFront}
 
 pub has_loaded : {D : Type 0} (seen : D → List ℕ) (may_leave : D → List ℕ → Type 0) (new : D) (front : List ℕ) (sync : SyncMode) (len : ℕ) (begun : Bool) (loaded : Option Loaded)

@@ -3,7 +3,7 @@ use Rattle.stm_journal.specs.declared.sync_mode.SyncMode.{SyncMode}
 use Rattle.stm_journal.specs.Text.{IsWhole}
 use Rattle.stm_durable.specs.Durable.{KeepsHistory}
 use Rattle.stm_durable.proofs.Texts.{IsWhole-batch, batch_short}
-use Rattle.stm_durable.proofs.Crashes.{recorded, leaves, left, stays, stays_left}
+use Rattle.stm_durable.proofs.Crashes.{recorded, leaves, left}
 use Rattle.stm_durable.proofs.recording.HistoryFile.record.Goals as goal
 
 pub add_batch-requires-clause-lines : goal.add_batch-requires-clause-lines
