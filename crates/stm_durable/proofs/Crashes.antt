@@ -1,5 +1,5 @@
 -- What a batch of events leaves.
-use Rattle.std.proofs.Common.{◌≡◌, ◌≢◌, ◌⊎◌, inl, inr, ⊎_elim, ℕ, ◌≤◌, Result, Ok, Err, OnOk, List, [], ◌∷◌, ◌++◌, length, take, Bool, true, false, refl, sym, ◌∙◌, ap, subst, arith}
+use Rattle.std.proofs.Common.{◌≡◌, ◌≢◌, inl, inr, ⊎_elim, ℕ, ◌≤◌, Result, Ok, Err, OnOk, List, [], ◌++◌, length, take, Bool, true, false, sym, ◌∙◌, ap, subst, arith}
 use Rattle.std.proofs.lemmas.List.{append-nil}
 use Rattle.stm_store.specs.Tables.{Declared}
 use Rattle.stm_events.specs.declared.event.Event.{Event}
@@ -8,13 +8,13 @@ use Rattle.stm_history.specs.Lines.{latest_format}
 use Rattle.stm_journal.specs.declared.error.JournalError.{JournalError}
 use Rattle.stm_journal.specs.declared.sync_mode.SyncMode.{SyncMode}
 use Rattle.stm_journal.specs.declared.sync_mode.SyncMode.TheVariants.{Full, Append, Never}
-use Rattle.stm_journal.specs.Device.{Only, LeavesOnly}
+use Rattle.stm_journal.specs.Device.{LeavesOnly}
 use Rattle.stm_journal.specs.Journal.{IsAtRest, MayLeave, HasFront, KeepsText, most_batch}
 use Rattle.stm_journal.specs.Journal as journal
-use Rattle.stm_journal.specs.Text.{recovered, dropped_count, IsWhole}
+use Rattle.stm_journal.specs.Text.{dropped_count, IsWhole}
 use Rattle.stm_journal.proofs.Moments.{started, weaker}
 use Rattle.stm_journal.proofs.Wholes.{recovered_whole}
-use Rattle.stm_durable.specs.Durable.{file_text, batch_text, batch_sync, AreFit, KeepsHistory, HasAllOrNone, LeavesBatch, LeavesHistory}
+use Rattle.stm_durable.specs.Durable.{file_text, batch_text, batch_sync, AreFit, KeepsHistory, HasAllOrNone, LeavesHistory}
 use Rattle.stm_durable.proofs.Fronts.{first_of}
 use Rattle.stm_durable.proofs.Texts.{file_text-batch, longer_text}
 

@@ -1,5 +1,5 @@
 -- A front of the lines of events that is whole lines is the lines of the first events.
-use Rattle.std.proofs.Common.{◌≡◌, ℕ, zero, suc, ◌+◌, ◌-◌, ◌≤◌, ◌<◌, List, [], ◌∷◌, ◌++◌, length, take, refl, sym, ◌∙◌, ap, subst, arith, ◌⊎◌, inl, inr, length-append}
+use Rattle.std.proofs.Common.{◌≡◌, ℕ, zero, suc, ◌+◌, ◌≤◌, List, [], ◌∷◌, ◌++◌, length, take, refl, sym, ◌∙◌, ap, subst, arith, ◌⊎◌, inl, inr, length-append}
 use Rattle.std.proofs.lemmas.List.{take-append-le}
 use Rattle.stm_store.specs.Tables.{Declared}
 use Rattle.stm_events.specs.declared.event.Event.{Event}
@@ -9,7 +9,6 @@ use Rattle.stm_history.specs.Lines.{event_line}
 use Rattle.stm_history.proofs.Braces.{event_brace}
 use Rattle.stm_history.proofs.ReadsBack.{event_one_line}
 use Rattle.stm_journal.specs.Text.{whole_count, IsWhole}
-use Rattle.stm_journal.proofs.Reading.{take_past}
 use Rattle.stm_journal.proofs.Wholes.{whole_open, whole_shut, whole_on}
 use Rattle.stm_durable.specs.Durable.{AreFit}
 use Rattle.stm_durable.proofs.Texts.{count_line}
@@ -75,6 +74,6 @@ first_of table (e ∷ es) n fit is =
     ]
   where
     after_line : (line more : List ℕ) (n m : ℕ) → n ≡ length line + 1 + m → take n (line ++ 10 ∷ more) ≡ line ++ 10 ∷ take m more
-    after_line [] more n m e = ap (λ (k : ℕ). take k (10 ∷ more)) e
+    after_line [] more n m e = let same : n ≡ suc m = omega (arith, e) in ap (λ (k : ℕ). take k (10 ∷ more)) same
     after_line (x ∷ line) more zero m e = absurd (omega (arith, e))
     after_line (x ∷ line) more (suc n) m e = ap (λ (l : List ℕ). x ∷ l) (after_line line more n m (omega (arith, e)))

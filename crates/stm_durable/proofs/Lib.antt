@@ -1,5 +1,5 @@
 pub mod Texts
 pub mod Fronts
 pub mod Crashes
-pub mod Foreign
+pub mod Loaded
 pub mod Resumed

@@ -89,14 +89,13 @@ mod tests {
         Ok(())
     }
 
-    /// What a new file has after the lines of a table and then the events of a history were recorded in it.
+    /// What a new file has after the events of a history were recorded in it.
     fn recorded(alloc: Global, sync: SyncMode) -> Result<Vec<u8>, Fail> {
         let whole = opened(alloc, WHOLE)?;
         let device = Memory::new(alloc, Vec::new(alloc));
         let mut new = open_history(alloc, Seed::fixed(), device, sync).map_err(|e| e.1)?;
         match (&whole.loaded, &new.loaded) {
             (Some(loaded), None) => {
-                new.file.record(alloc, &loaded.table, &[])?;
                 new.file.record(alloc, &loaded.table, &loaded.events)?;
                 Ok(new.file.journal.device.bytes().to_vec(alloc)?)
             }
