@@ -1,11 +1,15 @@
 pub mod Allowed
+pub mod Calls
 pub mod CheckedBlocks
 pub mod Cuts
+pub mod Due
 pub mod Exact
+pub mod Explained
 pub mod Feeding
 pub mod FirstFault
 pub mod FitsPushed
 pub mod OneLines
+pub mod OneProgress
 pub mod Parts
 pub mod Ranges
 pub mod ReadsBack
@@ -15,6 +19,7 @@ pub mod Sent
 pub mod Shortness
 pub mod Standing
 pub mod Steps
+pub mod Stopped
 pub mod Telling
 pub mod Types
 pub mod Unique
