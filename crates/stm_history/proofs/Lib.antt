@@ -8,6 +8,7 @@ pub mod Explained
 pub mod Feeding
 pub mod FirstFault
 pub mod FitsPushed
+pub mod Loose
 pub mod OneLines
 pub mod OneProgress
 pub mod Parts

@@ -15,7 +15,7 @@ use Rattle.stm_history.specs.Explanation.{Explains, IsAfterLine, TellsWhy, line_
 use Rattle.stm_history.specs.Following.{Follows, FollowsIn}
 use Rattle.stm_history.specs.Judgement.{IsHistory, IsShort, TellsFault, max_line, numbers_by}
 use Rattle.stm_history.specs.Stages.{IsStage, LeadsToStage}
-use Rattle.stm_history.specs.Stopping.{HasLeft, IsFaultyAt, IsLeft, IsStop, IsThrough, IsToldAfter, StopsAt}
+use Rattle.stm_history.specs.Stopping.{HasLeft, IsAfter, IsFaultyAt, IsLeft, IsStop, IsThrough, IsToldAfter, StopsAt}
 use Rattle.stm_history.proofs.Cuts.{cut_unique, no_feed_at_end}
 use Rattle.stm_history.proofs.OneProgress.{one_progress}
 use Rattle.stm_history.proofs.Standing.{LinesUpTo-line}
@@ -73,6 +73,13 @@ long_at bytes line more f s h n long r =
     let told : TellsFault (strange p) (l.whole ++ (line ++ 10 ∷ more)) = TellsFault-strange p l.whole (line ++ 10 ∷ more) l.lines (NoNext-long p line (10 ∷ more) n long) (inl some) in
     inr (faulty_line bytes line more f p l n (inl same) (subst (TellsFault f) (sym l.cut) (subst (λ (g : HistoryFault). TellsFault g (l.whole ++ (line ++ 10 ∷ more))) (sym same) told)))
 
+-- what is left is cut
+pub left_cut : (bytes rest cut : List ℕ) (s : Stage) → rest ≡ cut → HasLeft bytes s rest → HasLeft bytes s cut
+left_cut bytes rest cut s e h = subst (HasLeft bytes s) e h
+
+pub stop_cut : (bytes rest cut : List ℕ) (f : HistoryFault) → rest ≡ cut → IsStop bytes f (length cut) → IsStop bytes f (length rest)
+stop_cut bytes rest cut f e h = subst (λ (x : List ℕ). IsStop bytes f (length x)) (sym e) h
+
 -- ---- the end
 pub ends_at : (bytes : List ℕ) (s : Stage) (left : ℕ) (f : HistoryFault) → IsThrough bytes s left → ((p : CheckerState) → IsStage s p → f ≡ strange p) → (0 < left ⊎ (f ≡ BadHeader)) → IsStop bytes f left
 ends_at bytes s left f h r some =
@@ -109,6 +116,24 @@ through_history bytes s left n format names r h i e k =
     history_by bytes h.rest n format names r (h.at).progress (subst (λ (x : Stage). IsStage x (h.at).progress) i (h.at).stage) (h.at).left (nothing h.rest (sym h.counted ∙ e)) k
 
 -- ---- the line is told of
+pub after_all : (front : List ℕ) (s : Stage) (left : ℕ) → IsThrough front s left → left ≡ 0 → IsAfter front s
+after_all front s left h e =
+    let l = (h.at).left in
+    let none : h.rest ≡ [] = nothing h.rest (sym h.counted ∙ e) in
+    let whole : front ≡ l.whole = l.cut ∙ ap (λ (x : List ℕ). l.whole ++ x) none ∙ append-nil l.whole in
+    record { progress = (h.at).progress; stage = (h.at).stage; lines = subst (LinesUpTo (h.at).progress) (sym whole) l.lines }
+
+pub told_after : (front line : List ℕ) (s : Stage) (number : ℕ) (x : Explanation) → IsAfter front s → ((p : CheckerState) → IsStage s p → number ≡ line_after p) → ((p : CheckerState) → IsStage s p → Explains p line x) → IsToldAfter front line number x
+told_after front line s number x h n e = record { progress = h.progress; lines = h.lines; counted = n h.progress h.stage; why = e h.progress h.stage }
+
+pub left_within : (bytes : List ℕ) (f : HistoryFault) (left : ℕ) → StopsAt bytes f left → left ≤ length bytes
+left_within bytes f left s =
+    let l = s.at in
+    let n : length bytes ≡ length (l.whole ++ s.rest) = ap length l.cut in
+    let m = length-append l.whole s.rest in
+    let k = s.counted in
+    omega (arith, n, m, k)
+
 pub same_line : (xs a ys b : List ℕ) → NoFeed xs → NoFeed ys → IsAfterLine a → IsAfterLine b → xs ++ a ≡ ys ++ b → xs ≡ ys
 same_line xs a ys b h k (inl e) (inl f) s = sym (append-nil xs) ∙ ap (λ (x : List ℕ). xs ++ x) (sym e) ∙ s ∙ ap (λ (x : List ℕ). ys ++ x) f ∙ append-nil ys
 same_line xs a ys b h k (inl e) (inr f) s = absurd (no_feed_at_end xs ys f.0 h (sym (append-nil xs) ∙ ap (λ (x : List ℕ). xs ++ x) (sym e) ∙ s ∙ ap (λ (x : List ℕ). ys ++ x) f.1))

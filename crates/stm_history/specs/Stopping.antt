@@ -62,6 +62,12 @@ abbrev pub IsJudged : List ℕ → Result Legal Stop → Type 0
 IsJudged bytes (Ok n) = IsHistory bytes n
 IsJudged bytes (Err stop) = IsStop bytes stop.fault stop.left
 
+-- these are whole lines that lead to the stage
+pub record IsAfter (front : List ℕ) (s : Stage) : Type 0 where
+  pub progress : CheckerState
+  pub stage : IsStage s progress
+  pub lines : LinesUpTo progress front
+
 -- these are whole lines, after which this is told of a line of this number
 pub record IsToldAfter (front line : List ℕ) (number : ℕ) (x : Explanation) : Type 0 where
   pub progress : CheckerState

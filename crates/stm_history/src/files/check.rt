@@ -210,7 +210,12 @@ fn run_on(
 }
 
 /// Takes a whole line.
-pub(crate) fn take_line(alloc: Global, seed: Seed, stage: Stage, line: &[u8]) -> Result<Stage, HistoryFault>
+pub(crate) fn take_line(
+    alloc: Global,
+    seed: Seed,
+    stage: Stage,
+    line: &[u8],
+) -> Result<Stage, HistoryFault>
     requires { (p : CheckerState) × IsStage stage p × CountsWithinLimits p }
     ensures leads { IfOk result (λ s. (p : CheckerState) → IsStage stage p
         → LeadsToStage p line.now s) }

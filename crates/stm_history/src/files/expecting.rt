@@ -121,11 +121,7 @@ fn submission(
 }
 
 /// What is due in place of a cancellation of the ticket.
-fn cancellation(
-    machine: &mut Machine,
-    full: bool,
-    ticket: u32,
-) -> Result<Expectation, NoMemory>
+fn cancellation(machine: &mut Machine, full: bool, ticket: u32) -> Result<Expectation, NoMemory>
     requires { (R : AnyRule) × (T : List Declared) × (H : List AnyEvent)
         × IsAt R T H full machine.old }
     ensures { IfOk result (λ x. (R : AnyRule) (T : List Declared) (H : List AnyEvent)

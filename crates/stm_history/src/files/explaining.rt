@@ -4,6 +4,8 @@ ghost use Rattle.std.specs.Prelude.{◌≡◌, ◌↔◌, ◌≤◌, ◌∷◌, 
 ghost use Rattle.stm_store.specs.Tables.{Declared};
 ghost use Rattle.stm_events.specs.declared.event.Event.{Event as AnyEvent};
 ghost use Rattle.stm_events.specs.SlowDesk.{max_clients};
+ghost use Rattle.stm_terms.specs.declared.verdicts.Verdict.TheVariants.{Throws};
+ghost use Rattle.stm_machine.specs.Machine.{event};
 ghost use Rattle.stm_history.specs.Checking.{CheckerState, at_header, at_variables, at_events, LeadsTo};
 ghost use Rattle.stm_history.specs.Expecting.{HasCheckedBlock, IsLineOf, IsShortOr};
 ghost use Rattle.stm_history.specs.Explanation.{Explains, ExplainsEvent, ExplainsHead};
@@ -17,7 +19,7 @@ use crate::files::check::{MAX_CELLS, MAX_LINE, Stage};
 use crate::files::expecting::Expectation;
 use crate::files::explanation::Explanation;
 use crate::files::replayer::Replayer;
-use crate::lines::drafted::{numbers_in_range, value_in_range, writes_in_range};
+use crate::lines::drafted::{number_in_range, numbers_in_range, value_in_range, writes_in_range};
 use crate::lines::formats::fits_format;
 use crate::lines::loose::{loose_event, loose_header, loose_variable};
 use crate::lines::variable::Variable;
@@ -28,7 +30,7 @@ use stm_events::shared_verdict::SharedVerdict;
 use stm_store::{DeclareError, Table};
 use stm_terms::NoMemory;
 use stm_terms::kinds::Ty;
-use stm_terms::values::Value;
+use stm_terms::values::{Fault, Value};
 use stm_terms::verdicts::Verdict;
 
 /// The most `TVar` of a type in a line.
@@ -47,6 +49,16 @@ fn fit_news(news: &[(Ty, Value)]) -> bool
     }
 }
 
+// Any number that is thrown is in range, by its type.
+fn fault_in_range(fault: Fault)
+    ensures { FitsVerdict (Throws fault) }
+{
+    match fault {
+        Fault::Thrown(_) => {}
+        Fault::Overflow => {}
+    }
+}
+
 /// Whether the verdict can stand in a line.
 fn fits_verdict(verdict: &Verdict) -> bool
     ensures { IsTrue result ↔ FitsVerdict verdict.now }
@@ -61,7 +73,10 @@ fn fits_verdict(verdict: &Verdict) -> bool
             value_in_range(*result);
             fit_news(news.as_slice())
         }
-        Verdict::Throws(_) => true,
+        Verdict::Throws(fault) => {
+            fault_in_range(*fault);
+            true
+        }
         Verdict::Blocks => true,
     }
 }
@@ -79,13 +94,29 @@ fn fits_line(what: &What) -> bool
         → (IsTrue result ↔ WhatFitsTable T what.now) }
 {
     match what {
-        What::Submitted { .. } => true,
-        What::Installed { verdict, .. } => fits_shared(verdict),
-        What::Finished { verdict, stale, .. } => {
+        What::Submitted { ticket, .. } => {
+            number_in_range(*ticket);
+            true
+        }
+        What::Installed { ticket, verdict } => {
+            number_in_range(*ticket);
+            fits_shared(verdict)
+        }
+        What::Finished {
+            ticket,
+            verdict,
+            first_new,
+            stale,
+        } => {
+            number_in_range(*ticket);
+            number_in_range(*first_new);
             numbers_in_range(stale.as_slice());
             fits_shared(verdict)
         }
-        What::Cancelled { .. } => true,
+        What::Cancelled { ticket } => {
+            number_in_range(*ticket);
+            true
+        }
     }
 }
 
@@ -105,11 +136,23 @@ fn due_line(alloc: Global, format: u32, event: &Event) -> Result<Explanation, No
     ensures { IfOk result (λ x. (T : List Declared) → event.now.client < max_clients
         → HasCheckedBlock T event.now.what → IsLineOf format T event.now x) }
 {
-    if !fits_format(format, event) || !fits_line(&event.what) {
+    if !fits_format(format, event) {
+        return Ok(Explanation::Unreadable);
+    }
+    if !fits_line(&event.what) {
         return Ok(Explanation::Unreadable);
     }
     let text = event_text(alloc, event)?;
     Ok(short_line(text))
+}
+
+/// The line of what is due from a client, if it can stand in the format.
+fn line_due(alloc: Global, format: u32, client: u32, what: What) -> Result<Explanation, NoMemory>
+    ensures { IfOk result (λ x. (T : List Declared) → client < max_clients
+        → HasCheckedBlock T what → IsLineOf format T (event client what) x) }
+{
+    let event = Event { client, what };
+    due_line(alloc, format, &event)
 }
 
 /// What is told of a line that was read as the event.
@@ -119,22 +162,16 @@ fn explain_event(
     replayer: &mut Replayer,
     event: &Event,
 ) -> Result<Explanation, NoMemory>
-    requires follows { (T : List Declared) × (H : List AnyEvent) × FollowsIn format T H replayer.old
+    requires { (T : List Declared) × (H : List AnyEvent) × FollowsIn format T H replayer.old
         × FitsTable T event.now }
     ensures { IfOk result (λ x. (T : List Declared) (H : List AnyEvent)
         → FollowsIn format T H replayer.old → FitsTable T event.now
         → ExplainsEvent format T H event.now x) }
 {
-    match replayer.expect(event)? {
-        Expectation::Refuses(refusal) => Ok(Explanation::Refused(refusal)),
-        Expectation::Due(what) => due_line(
-            alloc,
-            format,
-            &Event {
-                client: event.client,
-                what,
-            },
-        ),
+    match replayer.expect(event) {
+        Ok(Expectation::Refuses(refusal)) => Ok(Explanation::Refused(refusal)),
+        Ok(Expectation::Due(what)) => line_due(alloc, format, event.client, what),
+        Err(refused) => Err(refused),
     }
 }
 
@@ -170,6 +207,14 @@ fn explain_header(alloc: Global, line: &[u8]) -> Result<Explanation, NoMemory>
     Ok(short_line(text))
 }
 
+/// The line of a variable, if it is no longer than one may be.
+fn variable_written(alloc: Global, variable: &Variable) -> Result<Explanation, NoMemory>
+    ensures { IfOk result (λ x. IsShortOr (variable_line (declared variable.now)) x) }
+{
+    let text = variable_text(alloc, &variable.name, variable.kind, variable.value)?;
+    Ok(short_line(text))
+}
+
 /// The line of a variable that may be declared.
 fn variable_due(
     alloc: Global,
@@ -181,20 +226,14 @@ fn variable_due(
         → ExplainsHead (at_variables format n table.old) x) }
 {
     match table.declare(&variable.name, variable.kind, variable.value) {
-        Ok(_) => {}
-        Err(DeclareError::NoMemory) => return Err(NoMemory),
-        Err(_) => return Ok(Explanation::Unreadable),
+        Ok(_) => variable_written(alloc, variable),
+        Err(DeclareError::NoMemory) => Err(NoMemory),
+        Err(_) => Ok(Explanation::Unreadable),
     }
-    let text = variable_text(alloc, &variable.name, variable.kind, variable.value)?;
-    Ok(short_line(text))
 }
 
 /// What is told of a line among the variables.
-fn explain_variable(
-    alloc: Global,
-    table: &mut Table,
-    line: &[u8],
-) -> Result<Explanation, NoMemory>
+fn explain_variable(alloc: Global, table: &mut Table, line: &[u8]) -> Result<Explanation, NoMemory>
     ensures { IfOk result (λ x. (format n : ℕ)
         → ExplainsHead (at_variables format n table.old) x) }
 {

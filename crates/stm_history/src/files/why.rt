@@ -5,7 +5,7 @@ ghost use Rattle.stm_history.specs.Checking.{CheckerState, NoFeed};
 ghost use Rattle.stm_history.specs.Explanation.{IsAfterLine, TellsWhy, line_after};
 ghost use Rattle.stm_history.specs.Judgement.{IsHistory, TellsFault};
 ghost use Rattle.stm_history.specs.Stages.{IsStage, CountsWithinLimits};
-ghost use Rattle.stm_history.specs.Stopping.{HasLeft, IsJudged, IsStop, IsThrough, IsToldAfter, StopsAt, TookLines};
+ghost use Rattle.stm_history.specs.Stopping.{HasLeft, IsAfter, IsJudged, IsStop, IsThrough, IsToldAfter, StopsAt, TookLines};
 
 use crate::files::check::{MAX_LINE, Stage, line_number, strange_fault, take_line};
 use crate::files::explaining::explain;
@@ -25,12 +25,7 @@ pub(crate) struct Stop {
 }
 
 /// Takes a whole line. After an error nothing is promised of the stage.
-fn take_next(
-    alloc: Global,
-    seed: Seed,
-    stage: &mut Stage,
-    line: &[u8],
-) -> Result<(), HistoryFault>
+fn take_next(alloc: Global, seed: Seed, stage: &mut Stage, line: &[u8]) -> Result<(), HistoryFault>
     requires one_line { NoFeed line.now }
     requires left { (bytes : List ℕ) × (more : List ℕ)
         × HasLeft bytes stage.old (line.now ++ 10 ∷ more) }
@@ -137,7 +132,18 @@ fn first_line(bytes: &[u8]) -> &[u8]
     }
 }
 
-/// The number of the line after the front, and what is told of it. The front was accepted before, so only out of memory refuses a line of it.
+/// The stage after the front, whose lines were accepted before: only out of memory refuses one of them.
+fn stage_after(alloc: Global, seed: Seed, front: &[u8]) -> Result<Stage, NoMemory>
+    ensures { IfOk result (λ s. IsAfter front.now s) }
+{
+    let mut stage = Stage::Before;
+    match take_lines(alloc, seed, &mut stage, front) {
+        Ok(left) => { if left == 0 { Ok(stage) } else { Err(NoMemory) } }
+        Err(_) => Err(NoMemory),
+    }
+}
+
+/// The number of the line after the front, and what is told of it.
 fn explain_after(
     alloc: Global,
     seed: Seed,
@@ -146,11 +152,7 @@ fn explain_after(
 ) -> Result<(u32, Explanation), NoMemory>
     ensures { IfOk result (λ told. IsToldAfter front.now line.now told.0 told.1) }
 {
-    let mut stage = Stage::Before;
-    match take_lines(alloc, seed, &mut stage, front) {
-        Ok(0) => {}
-        _ => return Err(NoMemory),
-    }
+    let mut stage = stage_after(alloc, seed, front)?;
     let number = next_number(&stage);
     let explanation = explain(alloc, &mut stage, line)?;
     Ok((number, explanation))
@@ -162,11 +164,12 @@ fn reason_of(alloc: Global, seed: Seed, bytes: &[u8], stop: Stop) -> Result<Reas
     ensures fault { IfOk result (λ r. TellsFault r.fault bytes.now) }
     ensures why { IfOk result (λ r. TellsWhy bytes.now r.fault r.line r.explanation) }
 {
-    let (front, rest) = bytes.split_at(bytes.len() - stop.left);
-    let (line, explanation) = explain_after(alloc, seed, front, first_line(rest))?;
+    let at = bytes.len() - stop.left;
+    let line = first_line(&bytes[at..]);
+    let (number, explanation) = explain_after(alloc, seed, &bytes[..at], line)?;
     Ok(Reason {
         fault: stop.fault,
-        line,
+        line: number,
         explanation,
     })
 }

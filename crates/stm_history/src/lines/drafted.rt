@@ -56,7 +56,7 @@ pub(crate) fn value_in_range(value: Value)
 }
 
 // So is any number.
-fn number_in_range(number: u32)
+pub(crate) fn number_in_range(number: u32)
     ensures { Is32Bit number }
 {}
 
