@@ -63,7 +63,7 @@ fn write_counted(before: &str, number: u32, after: &str, out: &mut String) -> Re
 }
 
 /// Appends what is printed of a finding.
-fn write_finding(finding: Finding, out: &mut String) -> Result<(), NoMemory>
+pub(crate) fn write_finding(finding: Finding, out: &mut String) -> Result<(), NoMemory>
     ensures { OnOk result (string_bytes out.new ≡ string_bytes out.old ++ finding_text finding) }
 {
     match finding {

@@ -1,13 +1,18 @@
 pub mod Allowed
 pub mod Braces
+pub mod Calls
 pub mod CheckedBlocks
 pub mod Cuts
+pub mod Due
 pub mod Exact
+pub mod Explained
 pub mod Feeding
 pub mod FirstFault
 pub mod FitsPushed
 pub mod Loads
+pub mod Loose
 pub mod OneLines
+pub mod OneProgress
 pub mod Parts
 pub mod Ranges
 pub mod ReadsBack
@@ -18,6 +23,7 @@ pub mod Shortness
 pub mod Standing
 pub mod Started
 pub mod Steps
+pub mod Stopped
 pub mod Telling
 pub mod Types
 pub mod Unique

@@ -22,7 +22,7 @@ use Rattle.stm_history.proofs.Cuts.{IsCut, cut_unique, no_cut, no_feed_at_end, n
 use Rattle.stm_history.proofs.Shortness.{header_short, variable_short}
 use Rattle.stm_history.proofs.Standing.{LinesUpTo-line}
 
-header_no_feed : (format n : ℕ) → IsFormat format → n ≤ max_cells → NoFeed (header_line format n)
+pub header_no_feed : (format n : ℕ) → IsFormat format → n ≤ max_cells → NoFeed (header_line format n)
 header_no_feed format n k h = no_feed (header_line format n) (header_one_line format n k (omega (arith, h)))
 
 variable_no_feed : (d : Declared) → FitsVariable d → NoFeed (variable_line d)
@@ -39,7 +39,7 @@ pub record Following (prior : List Declared) (a : List ℕ) : Type 0 where
   pub more : List ℕ
   pub rest : a ≡ variable_line variable ++ 10 ∷ more
 
-following : (prior xs ys : List Declared) (a b : List ℕ) → AreVariablesFrom prior xs → AreVariablesFrom prior ys → length xs < length ys → variable_lines xs ++ a ≡ variable_lines ys ++ b → Following (prior ++ xs) a
+pub following : (prior xs ys : List Declared) (a b : List ℕ) → AreVariablesFrom prior xs → AreVariablesFrom prior ys → length xs < length ys → variable_lines xs ++ a ≡ variable_lines ys ++ b → Following (prior ++ xs) a
 following prior [] [] a b h k l e = absurd (omega arith)
 following prior [] (y ∷ ys) a b h k l e = record {
   variable = y;

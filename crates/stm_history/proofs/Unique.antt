@@ -19,7 +19,7 @@ pub record IsOneTable (xs ys : List Declared) (a b : List ℕ) : Type 0 where
   pub tables : xs ≡ ys
   pub rest : a ≡ b
 
-tables : (prior xs ys : List Declared) (a b : List ℕ) → AreVariablesFrom prior xs → AreVariablesFrom prior ys → length xs ≡ length ys → variable_lines xs ++ a ≡ variable_lines ys ++ b → IsOneTable xs ys a b
+pub tables : (prior xs ys : List Declared) (a b : List ℕ) → AreVariablesFrom prior xs → AreVariablesFrom prior ys → length xs ≡ length ys → variable_lines xs ++ a ≡ variable_lines ys ++ b → IsOneTable xs ys a b
 tables prior [] [] a b h k l e = record { tables = refl; rest = e }
 tables prior [] (y ∷ ys) a b h k l e = absurd (omega (arith, l))
 tables prior (x ∷ xs) [] a b h k l e = absurd (omega (arith, l))

@@ -24,7 +24,7 @@ use Rattle.stm_words.specs.CommandLine.{answers_of, are_mistakes, asks_for_run, 
 use Rattle.stm_words.specs.WordLaws.{VersionsAreAskedFor}
 use Rattle.stm_options.specs.Options.{AreRunOptions, default_options}
 use Rattle.stm_words.specs.declared.command_line.Request.{Request}
-use Rattle.stm_words.specs.declared.command_line.Request.TheVariants.{Run, Storm, Explore, Check}
+use Rattle.stm_words.specs.declared.command_line.Request.TheVariants.{Run, Storm, Explore, Check, CheckWhy}
 
 -- clap's answers to any words are exact
 exact : is_simple_and_free command_line ≡ true
@@ -183,13 +183,14 @@ abbrev HasOptionsInRange : Request → Type 0
 HasOptionsInRange r = IfRun r AreRunOptions × IfStorm r AreRunOptions × IfExplore r AreExploreOptions
 
 subcommand_in_range : (name : List ℕ) (rows : List Row) → HasOptionsInRange (request_said (Some (name, rows)))
-subcommand_in_range name rows = go (bytes_eq name (codes "check")) (bytes_eq name (codes "storm")) (bytes_eq name (codes "explore"))
+subcommand_in_range name rows = go (flag_said (codes "why") rows) (bytes_eq name (codes "check")) (bytes_eq name (codes "storm")) (bytes_eq name (codes "explore"))
   where
-    go : (b c d : Bool) → HasOptionsInRange (cond b Check (cond c (Storm (options_said rows)) (cond d (Explore (explore_options_said rows)) (Run (options_said rows)))))
-    go true c d = (tt, tt, tt)
-    go false true d = (tt, said_in_range rows, tt)
-    go false false true = (tt, tt, explored_in_range rows)
-    go false false false = (said_in_range rows, tt, tt)
+    go : (a b c d : Bool) → HasOptionsInRange (cond b (cond a CheckWhy Check) (cond c (Storm (options_said rows)) (cond d (Explore (explore_options_said rows)) (Run (options_said rows)))))
+    go true true c d = (tt, tt, tt)
+    go false true c d = (tt, tt, tt)
+    go a false true d = (tt, said_in_range rows, tt)
+    go a false false true = (tt, tt, explored_in_range rows)
+    go a false false false = (said_in_range rows, tt, tt)
 
 in_range : (p : Option (List ℕ × List Row)) → HasOptionsInRange (request_said p)
 in_range None = (default_in_range, tt, tt)
@@ -213,6 +214,14 @@ check_unanswered name = refl
 pub check_requested : (name : List ℕ) → request_of (name ∷ codes "check" ∷ []) ≡ Check
 unfolding request_of clap_on_literals
 check_requested name = refl
+
+pub why_unanswered : (name : List ℕ) → answers_of (name ∷ codes "check" ∷ codes "--why" ∷ []) ≡ []
+unfolding answers_of clap_on_literals
+why_unanswered name = refl
+
+pub why_requested : (name : List ℕ) → request_of (name ∷ codes "check" ∷ codes "--why" ∷ []) ≡ CheckWhy
+unfolding request_of clap_on_literals
+why_requested name = refl
 
 -- ---- the version
 

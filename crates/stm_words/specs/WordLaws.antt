@@ -3,7 +3,7 @@ use Rattle.std.specs.Prelude.{◌≡◌, ◌≤◌, ◌<◌, ◌^◌, ℕ, List,
 use Rattle.stm_eval.specs.Limits.{max_levels}
 use Rattle.stm_events.specs.SlowDesk as slow
 use Rattle.stm_pool.specs.Limits.{max_workers}
-use Rattle.stm_words.specs.declared.command_line.Request.TheVariants.{Run, Storm, Check}
+use Rattle.stm_words.specs.declared.command_line.Request.TheVariants.{Run, Storm, Check, CheckWhy}
 use Rattle.stm_options.specs.declared.options.Options.{Options}
 use Rattle.stm_words.specs.CommandLine.{answers_of, asks_for_run, asks_for_version, has_mistake, request_of, IfRun, IfStorm}
 use Rattle.stm_options.specs.Options.{AreRunOptions, default_options}
@@ -42,6 +42,12 @@ StormsAreAsRuns = (name : List ℕ) (rest : List (List ℕ))
 abbrev pub ChecksAreAccepted : Type 0
 ChecksAreAccepted =
     (name : List ℕ) → (answers_of (name ∷ codes "check" ∷ []) ≡ []) × (request_of (name ∷ codes "check" ∷ []) ≡ Check)
+
+-- with `--why` it asks for what would be accepted instead, too
+abbrev pub ChecksWithReasonsAreAccepted : Type 0
+ChecksWithReasonsAreAccepted = (name : List ℕ)
+    → (answers_of (name ∷ codes "check" ∷ codes "--why" ∷ []) ≡ [])
+    × (request_of (name ∷ codes "check" ∷ codes "--why" ∷ []) ≡ CheckWhy)
 
 -- `--version` and `-V` after the program's name ask for the version, whatever follows
 abbrev pub VersionsAreAskedFor : Type 0

@@ -26,10 +26,10 @@ use stm_events::event::Event;
 use stm_store::{DeclareError, Seed, Table};
 
 /// The most bytes of a line.
-const MAX_LINE: usize = 1_048_576;
+pub(crate) const MAX_LINE: usize = 1_048_576;
 
 /// The most variables of a table.
-const MAX_CELLS: u32 = Table::LIMIT as u32;
+pub(crate) const MAX_CELLS: u32 = Table::LIMIT as u32;
 
 /// How far the lines have come: before the first; in a format, among the variables, of which so many were promised; in a
 /// format, among the events. Each stage has whether the events are kept.
@@ -140,7 +140,7 @@ fn take_variable(
 }
 
 /// The number of the line that comes next.
-fn line_number(table: &Table, replayer: &Replayer) -> u32
+pub(crate) fn line_number(table: &Table, replayer: &Replayer) -> u32
     requires { (H : List AnyEvent) × Follows table.now H replayer.now }
     ensures { (H : List AnyEvent) → Follows table.now H replayer.now
         → result ≡ next_line table.now H }
@@ -227,7 +227,12 @@ fn run_on(
 }
 
 /// Takes a whole line.
-fn take_line(alloc: Global, seed: Seed, stage: Stage, line: &[u8]) -> Result<Stage, HistoryFault>
+pub(crate) fn take_line(
+    alloc: Global,
+    seed: Seed,
+    stage: Stage,
+    line: &[u8],
+) -> Result<Stage, HistoryFault>
     requires { (p : CheckerState) × IsStage stage p × CountsWithinLimits p }
     ensures leads { IfOk result (λ s. (p : CheckerState) → IsStage stage p
         → LeadsToStage p line.now s) }
@@ -252,7 +257,7 @@ fn take_line(alloc: Global, seed: Seed, stage: Stage, line: &[u8]) -> Result<Sta
 }
 
 /// The fault at a line that can't be one of this place.
-fn strange_fault(stage: &Stage) -> HistoryFault
+pub(crate) fn strange_fault(stage: &Stage) -> HistoryFault
     requires { (p : CheckerState) × IsStage stage.now p × CountsWithinLimits p }
     ensures { (p : CheckerState) → IsStage stage.now p → result ≡ strange p }
 {

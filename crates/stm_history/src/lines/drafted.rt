@@ -44,7 +44,7 @@ pub(crate) fn block_of(
 }
 
 // Any value is in range, by its type.
-fn value_in_range(value: Value)
+pub(crate) fn value_in_range(value: Value)
     ensures { FitsValue value }
 {
     match value {
@@ -56,12 +56,12 @@ fn value_in_range(value: Value)
 }
 
 // So is any number.
-fn number_in_range(number: u32)
+pub(crate) fn number_in_range(number: u32)
     ensures { Is32Bit number }
 {}
 
 // So is each variable and each value of a list of writes.
-fn writes_in_range(writes: &[(u32, Value)])
+pub(crate) fn writes_in_range(writes: &[(u32, Value)])
     ensures { FitWrites writes.now }
 {
     if let Some((first, rest)) = writes.split_first() {
@@ -72,7 +72,7 @@ fn writes_in_range(writes: &[(u32, Value)])
 }
 
 // So is each number of a list.
-fn numbers_in_range(numbers: &[u32])
+pub(crate) fn numbers_in_range(numbers: &[u32])
     ensures { FitNumbers numbers.now }
 {
     if let Some((first, rest)) = numbers.split_first() {

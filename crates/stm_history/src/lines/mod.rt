@@ -2,9 +2,10 @@
 
 mod build;
 mod draft;
-mod drafted;
+pub(crate) mod drafted;
 mod fields;
 pub(crate) mod formats;
+pub(crate) mod loose;
 mod parts;
 pub mod read;
 mod send;

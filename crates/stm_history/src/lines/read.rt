@@ -48,7 +48,7 @@ impl From<NoMemory> for LineError {
 }
 
 /// The JSON value that the line is the text of.
-fn json_of(alloc: Global, line: &[u8]) -> Result<Json, LineError>
+pub(crate) fn json_of(alloc: Global, line: &[u8]) -> Result<Json, LineError>
     ensures ok { IfOk result (λ v. read_text line.now ≡ Some (view v)) }
     ensures bad { IsErrOf result LineError.Bad → IsUtf8 line.now → read_text line.now ≡ None }
 {
@@ -147,7 +147,7 @@ fn what_of(
 }
 
 /// The event that the value stands for, if it does.
-fn event_of(alloc: Global, table: &Table, json: &Json) -> Result<Option<Event>, NoMemory>
+pub(crate) fn event_of(alloc: Global, table: &Table, json: &Json) -> Result<Option<Event>, NoMemory>
     ensures value { IfOk result (λ o. o ≡ event_meant table.now (view json.now)) }
     ensures fits { IfOk result (λ o. IfSome o (λ e. FitsTable table.now e)) }
 {
@@ -218,7 +218,7 @@ pub struct Header {
 }
 
 /// What the value says as a first line, whether or not the format is read.
-fn header_of(json: &Json) -> Option<Header>
+pub(crate) fn header_of(json: &Json) -> Option<Header>
     ensures value { result ≡ header_meant (view json.now) }
     ensures fits { IfSome result (λ h. Is32Bit h.vars) }
 {
@@ -250,7 +250,7 @@ pub fn read_header(alloc: Global, line: &[u8]) -> Result<Header, LineError>
 }
 
 /// The declared variable that the value stands for, if it does.
-fn variable_of(alloc: Global, json: &Json) -> Result<Option<Variable>, NoMemory>
+pub(crate) fn variable_of(alloc: Global, json: &Json) -> Result<Option<Variable>, NoMemory>
     ensures value { IfOk result (λ o. option_map declared o ≡ variable_meant (view json.now)) }
     ensures fits { IfOk result (λ o.
         IfSome o (λ v. (v.kind.refs ≤ most_refs) × FitsValue v.value)) }
