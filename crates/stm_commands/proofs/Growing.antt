@@ -27,10 +27,10 @@ use Rattle.stm_desk.specs.declared.finish.Finish.{Finish}
 use Rattle.stm_desk.specs.declared.settle.Settled.{Settled}
 use Rattle.stm_desk.specs.Settling.{with_whats, called_back, slow_settle, slow_stop, HasSettled, StopTold}
 use Rattle.stm_commands.specs.declared.jobs.KeptJob.{KeptJob}
-use Rattle.stm_commands.specs.Delivering.{job_of, jobs_of}
-use Rattle.stm_commands.specs.Finishing.{finish_of, finish_event, settled_line, why_text, settle_text}
-use Rattle.stm_commands.specs.Kept.{handed_out, job_kept, HaveStores, JobStands, JobsStand, IsPresentCopy, OpenInvariant, HasGrown}
+use Rattle.stm_commands.specs.Endings.{finish_of, finish_event, settled_line, why_text, settle_text}
+use Rattle.stm_commands.specs.Jobs.{job_of, jobs_of}
 use Rattle.stm_commands.specs.OpenDesk.{HandedOut}
+use Rattle.stm_commands.specs.OpenInvariant.{handed_out, job_kept, HaveStores, JobStands, JobsStand, IsPresentCopy, OpenInvariant, HasGrown}
 use Rattle.stm_commands.proofs.KeptStores.{stores_grown}
 
 state_from-append : (s : Slow) (es fs : List Event) → state_from s (es ++ fs) ≡ state_from (state_from s es) fs
