@@ -25,7 +25,7 @@ use Rattle.stm_events.proofs.Rising.{waiter_delivered}
 use Rattle.stm_desk.specs.Evaluating.{EvaluatedSoFar, verdict_of_waiter, verdict_under, with_installed, with_evaluated, evaluate_unless, evaluate_each, none_evaluated, evaluate_lowest}
 use Rattle.stm_desk.specs.Seen.{Seen, now, is_full, with_event, DeskQueueIsRight, AllHaveVerdicts}
 use Rattle.stm_commands.specs.Evaluation.{Delivered, delivered_by, delivered_all, evaluated}
-use Rattle.stm_commands.specs.Jobs.{delivery_first, delivery_refusal, installed, jobs_of, job_of, taken, handed_back}
+use Rattle.stm_commands.specs.Jobs.{delivery_first, delivery_refusal, installed, jobs_of, job_of, taken}
 use Rattle.stm_commands.specs.OpenDesk.{HandedOut}
 use Rattle.stm_commands.specs.OpenInvariant.{HasGrown}
 use Rattle.stm_commands.proofs.Growing.{now_next}
@@ -64,14 +64,10 @@ queued_entry true true x h = absurd cc
 queued_entry true false x h = refl
 queued_entry false o x h = refl
 
-marked_queued : (t : ℕ) (es : List Entry) → is_out t es ≡ false → marked t false es ≡ es
+pub marked_queued : (t : ℕ) (es : List Entry) → is_out t es ≡ false → marked t false es ≡ es
 marked_queued t [] h = refl
 marked_queued t (e ∷ es) h =
     both (mark t false e) e (marked t false es) es (queued_entry (nat_eq t e.0) e.1 e.0 (left_false (nat_eq t e.0 && e.1) (is_out t es) h)) (marked_queued t es (right_false (nat_eq t e.0 && e.1) (is_out t es) h))
-
--- so handing back a ticket that isn't out changes nothing
-pub not_out : (d : Seen) (t : ℕ) → is_out t d.pending ≡ false → handed_back d t ≡ d
-not_out d t h = ap (λ (p : List Entry). record d { pending = p }) (marked_queued t d.pending h)
 
 other_step : (p q : Bool) (t u : ℕ) (out : Bool) (e : Entry) (es : List Entry) → nat_eq u e.0 ≡ p → nat_eq t e.0 ≡ q → without_ticket t (marked u out es) ≡ marked u out (without_ticket t es)
     → without_ticket t (marked u out (e ∷ es)) ≡ marked u out (without_ticket t (e ∷ es))

@@ -7,6 +7,7 @@ pub mod Growing
 pub mod KeptQueue
 pub mod KeptStores
 pub mod LaterEvents
+pub mod NotOut
 pub mod OutTickets
 pub mod PreparedBlocks
 pub mod ReadyTickets

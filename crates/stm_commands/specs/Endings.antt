@@ -1,17 +1,17 @@
 -- `finish`, `cancel` and `settle`: blocks take effect, or wait no more.
-use Rattle.std.specs.Prelude.{ℕ, List, [], ◌∷◌, ◌++◌, Option, Some, None, codes, decimal}
+use Rattle.std.specs.Prelude.{ℕ, List, [], ◌∷◌, ◌++◌, Option, Some, None, codes, decimal, length}
 use Rattle.stm_terms.specs.declared.values.Value.{Value}
 use Rattle.stm_terms.specs.declared.verdicts.Verdict.{Verdict}
 use Rattle.stm_terms.specs.declared.verdicts.Verdict.TheVariants.{Commits, Throws, Blocks}
 use Rattle.stm_terms.specs.Texts.{list_text, value_text, verdict_text}
-use Rattle.stm_store.specs.Cells.{renumbered}
+use Rattle.stm_store.specs.Cells.{changed_by, renumbered}
 use Rattle.stm_events.specs.declared.errors.CancelError.{CancelError}
 use Rattle.stm_events.specs.declared.errors.FinishError.{FinishError}
 use Rattle.stm_events.specs.declared.event.What.{What}
-use Rattle.stm_events.specs.declared.event.What.TheVariants.{Submitted, Installed, Finished, Cancelled}
+use Rattle.stm_events.specs.declared.event.What.TheVariants.{Finished, Cancelled}
 use Rattle.stm_machine.specs.Machine.{event}
-use Rattle.stm_events.specs.SlowDesk.{Waiter, Slow, verdict_on, find_waiter}
-use Rattle.stm_events.specs.SlowSettle.{ending, finishes, installs, Stop, NoRoom, NoCells}
+use Rattle.stm_events.specs.SlowDesk.{Waiter, verdict_on, find_waiter, without_waiter, stale_after}
+use Rattle.stm_events.specs.SlowSettle.{finishes, installs, Stop, NoRoom, NoCells}
 use Rattle.stm_desk.specs.declared.errors.SettleWhy.{SettleWhy}
 use Rattle.stm_desk.specs.declared.errors.SettleWhy.TheVariants.{HistoryFull, CellsFull, NoMemory}
 use Rattle.stm_desk.specs.Refusals.{finish_refusal, cancel_refusal}
@@ -23,15 +23,6 @@ use Rattle.stm_commands.specs.OpenDesk.{OpenDesk, on_desk}
 use Rattle.stm_commands.specs.Refusals.{finish_error_text, cancel_error_text}
 
 -- ---- finish
--- the event with which the block of a waiter finishes, if there is one
-abbrev pub finish_of : Slow → ℕ → Option Waiter → Option What
-finish_of s t (Some w) = ending s t (verdict_on s.store w.block)
-finish_of s t None = None
-
--- the event of the finish of the block under a ticket
-abbrev pub finish_event : Slow → ℕ → Option What
-finish_event s t = finish_of s t (find_waiter t s.waiters)
-
 -- tickets, as a text
 abbrev pub tickets_text : List ℕ → List ℕ
 tickets_text tickets = list_text decimal tickets
@@ -43,27 +34,28 @@ result_line t result stale =
     ++ codes " result " ++ value_text result
     ++ codes " stale " ++ tickets_text stale ++ 10 ∷ []
 
--- a verdict that took effect where the store had so many variables, and the tickets that it made stale
+-- the line of a verdict that took effect when the store had this many variables, and of the tickets that it made stale
 abbrev pub finished_line : ℕ → ℕ → Verdict → List ℕ → List ℕ
 finished_line t first_new (Commits writes news result) stale = result_line t (renumbered first_new result) stale
 finished_line t first_new (Throws fault) stale = codes "finished " ++ decimal t ++ 32 ∷ verdict_text (Throws fault) ++ 10 ∷ []
 finished_line t first_new Blocks stale = []
 
--- the line that tells an event with which a block finishes
-abbrev pub finish_line : What → List ℕ
-finish_line (Finished t v first_new stale) = finished_line t first_new v stale
-finish_line (Submitted t block) = []
-finish_line (Installed t v) = []
-finish_line (Cancelled t) = []
+-- `finish` of a block with this verdict
+abbrev pub finish_verdict_step : Seen → ℕ → Option Verdict → Seen × List ℕ
+finish_verdict_step d t (Some v) =
+    let first_new = length (now d).store in
+    let stale = stale_after (changed_by (now d).store v) (without_waiter t (now d).waiters) in
+    (with_event d (event 0 (Finished t v first_new stale)), finished_line t first_new v stale)
+finish_verdict_step d t None = (d, [])
 
--- a finish, by its event
-abbrev pub finish_event_step : Seen → Option What → Seen × List ℕ
-finish_event_step d (Some what) = (with_event d (event 0 what), finish_line what)
-finish_event_step d None = (d, [])
+-- `finish` of a waiting block
+abbrev pub finish_waiter_step : Seen → ℕ → Option Waiter → Seen × List ℕ
+finish_waiter_step d t (Some w) = finish_verdict_step d t (verdict_on (now d).store w.block)
+finish_waiter_step d t None = (d, [])
 
 -- `finish` of a ticket, which is done or refused for this reason
 abbrev pub finish_ticket_step : Seen → ℕ → Option FinishError → Seen × List ℕ
-finish_ticket_step d t None = finish_event_step d (finish_event (now d) t)
+finish_ticket_step d t None = finish_waiter_step d t (find_waiter t (now d).waiters)
 finish_ticket_step d t (Some e) = (d, finish_error_text e)
 
 -- `finish`: a block takes effect and waits no more

@@ -21,7 +21,7 @@ use Rattle.stm_events.specs.Laws.{DeclaredAreCovered, WaitingAreWellTyped, Store
 use Rattle.stm_history.specs.Lines.{latest_format}
 use Rattle.stm_events.specs.Refusals.{missing, blocks_there, overflows, finish_first}
 use Rattle.stm_events.specs.SlowDesk.{Since, Waiter, Slow, under, verdict_on, is_blocks, is_new, is_current, find_waiter, without_waiter, stale_after, max_waiting}
-use Rattle.stm_events.specs.SlowSettle.{Stop, NoRoom, NoCells, ending, finishes, installs}
+use Rattle.stm_events.specs.SlowSettle.{Stop, NoRoom, NoCells, finishes, installs}
 use Rattle.stm_desk.specs.Refusals.{submit_refusal, finish_refusal, cancel_refusal}
 use Rattle.stm_desk.specs.Reasons.{WaitReason, reason_of}
 use Rattle.stm_desk.specs.Seen.{Seen, now, is_full}
@@ -34,7 +34,7 @@ use Rattle.stm_blocks.specs.CompiledBlock.{compiled_block}
 use Rattle.stm_commands.specs.Arguments.{argument_refused}
 use Rattle.stm_commands.specs.Blocks.{verdict_line, tried_text, try_answer, reads_line, looked_text, looks_answer, ticket_line, submit_block_step, submit_text_step, submit_step}
 use Rattle.stm_commands.specs.Contents.{waiter_lines, show_text, show_answer, read_text, waiter_reads_text, reads_answer, cell_lines, store_text, store_answer, history_answer, events_text}
-use Rattle.stm_commands.specs.Endings.{finish_of, tickets_text, result_line, finished_line, cancelled_line, settled_line, settle_text, finish_event_step, finish_ticket_step, finish_step, cancel_ticket_step, cancel_step, settle_desk_step, settle_step}
+use Rattle.stm_commands.specs.Endings.{tickets_text, result_line, finished_line, cancelled_line, settled_line, settle_text, finish_ticket_step, finish_step, cancel_ticket_step, cancel_step, settle_desk_step, settle_step, finish_verdict_step, finish_waiter_step}
 use Rattle.stm_commands.specs.Evaluation.{evaluated_line, evaluated, evaluation_text, eval_step}
 use Rattle.stm_commands.specs.Jobs.{max_jobs, taken, job_text, numbered, jobs_line, delivery_refusal, delivered_line, job_at, queued_line, with_jobs, take_jobs_step, take_step, delivery_step, deliver_job_step, deliver_step, handed_back, handback_ticket_step, handback_step}
 use Rattle.stm_commands.specs.OpenDesk.{HandedOut, OpenDesk, present, on_desk}
@@ -164,11 +164,11 @@ module _ (judged : (table : List Declared) (text : List ℕ) → BlockOrTold tab
   tried_ends d k (Err x) h = refusal_ends x h
 
   -- and so has a block that waits
-  ending_ends : (d : Seen) (t : ℕ) (w : Waiter) (v : Verdict) (o : Option Verdict) → o ≡ Some v → blocks_there o ≡ false → EndsALine (finish_event_step d (ending (now d) t o)).1
+  ending_ends : (d : Seen) (t : ℕ) (w : Waiter) (v : Verdict) (o : Option Verdict) → o ≡ Some v → blocks_there o ≡ false → EndsALine (finish_verdict_step d t o).1
   ending_ends d t w v None e h = absurd cc
   ending_ends d t w v (Some x) e h = let s = now d in effect_ends t (length s.store) x (stale_after (changed_by s.store x) (without_waiter t s.waiters)) h
 
-  finishing_ends : (d : Seen) (jobs : List HandedOut) (t : ℕ) (o : Option Waiter) → find_waiter t (now d).waiters ≡ o → finish_first (now d).store (is_full d) o ≡ None → Stands d jobs → EndsALine (finish_event_step d (finish_of (now d) t o)).1
+  finishing_ends : (d : Seen) (jobs : List HandedOut) (t : ℕ) (o : Option Waiter) → find_waiter t (now d).waiters ≡ o → finish_first (now d).store (is_full d) o ≡ None → Stands d jobs → EndsALine (finish_waiter_step d t o).1
   finishing_ends d jobs t None f e k = absurd cc
   finishing_ends d jobs t (Some w) f e k =
       let o = verdict_on (now d).store w.block in

@@ -19,11 +19,10 @@ use Rattle.stm_events.specs.declared.errors.CancelError.TheVariants as cancel
 use Rattle.stm_events.specs.Laws.{IsWellTyped}
 use Rattle.stm_events.specs.Refusals.{missing, submit_first, blocks_there, overflows, finish_first, cancel_first}
 use Rattle.stm_events.specs.SlowDesk.{Waiter, verdict_on, is_new, is_current, find_waiter, without_waiter, stale_after, max_cells, max_waiting, MayFinish}
-use Rattle.stm_events.specs.SlowSettle.{ending}
 use Rattle.stm_desk.specs.Refusals.{submit_refusal, finish_refusal, cancel_refusal}
 use Rattle.stm_desk.specs.Seen.{Seen, now, is_full}
 use Rattle.stm_commands.specs.Blocks.{submit_block_step}
-use Rattle.stm_commands.specs.Endings.{finish_of, finish_event_step, finish_ticket_step, cancel_ticket_step}
+use Rattle.stm_commands.specs.Endings.{finish_ticket_step, cancel_ticket_step, finish_verdict_step, finish_waiter_step}
 use Rattle.stm_commands.specs.OpenDesk.{HandedOut}
 use Rattle.stm_run.proofs.StandingDesk.{Stands, stands_event}
 use Rattle.stm_run.proofs.TypedTable.{same_kind}
@@ -121,7 +120,7 @@ room_for store v e = of (nat_le (length store + length (made_by v)) max_cells) r
     of false h q = absurd cc
 
 finishes_by : (d : Seen) (jobs : List HandedOut) (t : ℕ) (w : Waiter) (v : Option Verdict) → find_waiter t (now d).waiters ≡ Some w → verdict_on (now d).store w.block ≡ v
-    → MayEnd (is_new w) (is_current w) (blocks_there v) (is_full d) (overflows (now d).store v) → Stands d jobs → Stands (finish_event_step d (ending (now d) t v)).0 jobs
+    → MayEnd (is_new w) (is_current w) (blocks_there v) (is_full d) (overflows (now d).store v) → Stands d jobs → Stands (finish_verdict_step d t v).0 jobs
 finishes_by d jobs t w None f e m k = k
 finishes_by d jobs t w (Some v) f e m k =
     let s = now d in
@@ -137,7 +136,7 @@ finishes_by d jobs t w (Some v) f e m k =
     stands_event d jobs (Finished t v (length s.store) stale) m.room
     (subst (λ (o : Option Waiter). IsSomeAnd o (λ x. MayFinish s t x v (length s.store) stale)) (sym f) may) tt k
 
-finishes_of : (d : Seen) (jobs : List HandedOut) (t : ℕ) (o : Option Waiter) → find_waiter t (now d).waiters ≡ o → finish_first (now d).store (is_full d) o ≡ None → Stands d jobs → Stands (finish_event_step d (finish_of (now d) t o)).0 jobs
+finishes_of : (d : Seen) (jobs : List HandedOut) (t : ℕ) (o : Option Waiter) → find_waiter t (now d).waiters ≡ o → finish_first (now d).store (is_full d) o ≡ None → Stands d jobs → Stands (finish_waiter_step d t o).0 jobs
 finishes_of d jobs t None f e k = absurd cc
 finishes_of d jobs t (Some w) f e k =
     let v = verdict_on (now d).store w.block in

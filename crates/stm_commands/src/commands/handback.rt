@@ -18,7 +18,6 @@ fn write_queued(ticket: u32, out: &mut String) -> Result<(), NoMemory>
 
 impl OpenDesk {
     /// Hands a ticket back.
-    #[tactic(auto, using(crate::proofs::EvaluatedHere::not_out))]
     fn hand_back(&mut self, ticket: u32, out: &mut String) -> Result<(), NoMemory>
         ensures { OnOk result (Steps self.new (string_bytes out.old) (string_bytes out.new)
             (on_desk self.old (handback_ticket_step self.old.desk ticket))) }

@@ -1,4 +1,6 @@
+use Rattle.std.proofs.Common.{sym, ◌∙◌}
 use Rattle.stm_commands.proofs.Growing.{kept_pending}
+use Rattle.stm_commands.proofs.NotOut.{not_out_step}
 use Rattle.stm_commands.proofs.open_desk.OpenDesk.hand_back.Goals as goal
 
 pub invariant_of-self : goal.invariant_of-self
@@ -6,3 +8,6 @@ invariant_of-self c = kept_pending _ _ _ _ _ c.hand_back.ensures.queued c.self.i
 
 pub invariant_of-self-2 : goal.invariant_of-self-2
 invariant_of-self-2 c = kept_pending _ _ _ _ _ c.hand_back.ensures.queued c.self.invariant
+
+pub returns : goal.returns
+returns c = not_out_step _ _ _ _ _ c.refuse.result (sym c.hand_back.ensures.was ∙ c.if-hand_back.false) c.hand_back.ensures.queued c.refuse.ensures
