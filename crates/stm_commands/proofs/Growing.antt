@@ -217,22 +217,3 @@ settled_grown d e (Err s) p q legal = stopped_grown d e s.why s.finished s.evalu
 pub kept_settled : {table : List Declared} → (d e : Seen) (copy : Option (List (Ty × Value))) (ks : List KeptJob) (r : Result Settled SettleStop) → IfOk r (λ s. HasSettled 0 (called_back d) e s.finished s.evaluations None)
     → IfErr r (λ s. StopTold s.why 0 (called_back d) e s.finished s.evaluations) → IsLegal e.table e.history → OpenInvariant d copy ks table → OpenInvariant e None ks table
 kept_settled d e copy ks r p q legal k = kept_without d e copy ks (settled_grown d e r p q legal) k
-
--- settling that stopped, by what was told of it
-stopped_told : (d e : Seen) (w : SettleWhy) (f n : ℕ) → StopTold w 0 d e f n → w ≢ NoMemory → (e ≡ with_whats d 0 (slow_settle d)) × (why_text w ++ settled_line f n ≡ settle_text (slow_settle d) (slow_stop d))
-stopped_told d e HistoryFull f n s h = (
-  s.0.grown,
-  ap (λ k. why_text HistoryFull ++ settled_line k n) s.0.finished ∙ ap (λ k. why_text HistoryFull ++ settled_line (finishes (slow_settle d)) k) s.0.evaluated ∙ ap (settle_text (slow_settle d)) (sym s.0.stopped),
-)
-stopped_told d e CellsFull f n s h = (
-  s.0.grown,
-  ap (λ k. why_text CellsFull ++ settled_line k n) s.0.finished ∙ ap (λ k. why_text CellsFull ++ settled_line (finishes (slow_settle d)) k) s.0.evaluated ∙ ap (settle_text (slow_settle d)) (sym s.0.stopped),
-)
-stopped_told d e NoMemory f n s h = absurd (h refl)
-
-pub stopped_step : {A E : Type 0} → (d : OpenDesk) (e : Seen) (w : SettleWhy) (f n : ℕ) (old new : List ℕ) (r : Result A E) → StopTold w 0 (called_back d.desk) e f n → OnOk r (new ≡ old ++ why_text w ++ settled_line f n) → OnOk r (w ≢ NoMemory)
-    → OnOk r (Steps (record d { desk = e }) old new (on_desk d (settle_desk_step (called_back d.desk))))
-stopped_step d e w f n old new (Ok x) s p h =
-    let t = stopped_told (called_back d.desk) e w f n s h in
-    (ap (λ (s : Seen). record d { desk = s }) t.0, p ∙ append_assoc old (why_text w) (settled_line f n) ∙ ap (λ (line : List ℕ). old ++ line) t.1)
-stopped_step d e w f n old new (Err x) s p h = tt

@@ -1,5 +1,6 @@
 pub mod CellLines
 pub mod Deliveries
+pub mod DeskSteps
 pub mod EvaluatedHere
 pub mod EvaluatedJobs
 pub mod GoneTickets
@@ -7,7 +8,6 @@ pub mod Growing
 pub mod KeptQueue
 pub mod KeptStores
 pub mod LaterEvents
-pub mod NotOut
 pub mod OutTickets
 pub mod PreparedBlocks
 pub mod ReadyTickets

@@ -1,8 +1,13 @@
-use Rattle.stm_commands.proofs.Growing.{kept_settled, stopped_step}
+use Rattle.stm_commands.proofs.DeskSteps.{settle_ok, settle_err}
+use Rattle.stm_commands.proofs.Growing.{kept_settled}
+use Rattle.stm_commands.proofs.open_desk.OpenDesk.settle.Goals.{in-Ok, in-Err}
 use Rattle.stm_commands.proofs.open_desk.OpenDesk.settle.Goals as goal
 
 pub invariant_of-self : goal.invariant_of-self
 invariant_of-self c = kept_settled _ _ _ _ c.settle.result c.settle.ensures.done c.settle.ensures.stopped c.settle.ensures.legal c.self.invariant
 
-pub returns-in-Err : goal.returns-in-Err
-returns-in-Err c = stopped_step _ _ _ _ _ _ _ c.write_stop.result c.in-Err.ensures.stopped c.write_stop.ensures.text c.write_stop.ensures.told
+pub returns : goal.returns
+returns c = rw (← c.self.view_is) (elim c.match-settle.branch [
+  | in-Ok w ↦ rw (w.result-is, w.out-is) (settle_ok _ _ _ _ _ _ _ w.write_settled.result w.in-Ok.ensures.done w.write_settled.ensures)
+  | in-Err w ↦ rw (w.result-is, w.out-is) (settle_err _ _ _ _ _ _ _ _ w.write_stop.result w.in-Err.ensures.stopped w.write_stop.ensures.text w.write_stop.ensures.told)
+])
