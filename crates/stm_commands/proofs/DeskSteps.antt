@@ -17,8 +17,11 @@ use Rattle.stm_desk.specs.Seen.{Seen, now, with_event}
 use Rattle.stm_desk.specs.Settling.{with_whats, called_back, slow_settle, slow_stop, HasSettled, StopTold}
 use Rattle.stm_commands.specs.Blocks.{ticket_line, submit_block_step}
 use Rattle.stm_commands.specs.Endings.{settled_line, why_text, settle_text, settle_desk_step}
+use Rattle.stm_commands.specs.declared.evaluation.Progress.{Progress}
+use Rattle.stm_commands.specs.Evaluation.{Delivered, evaluated, evaluation_text, eval_desk_step}
 use Rattle.stm_commands.specs.Jobs.{max_jobs, jobs_of, taken, jobs_line, with_jobs, take_jobs_step, delivery_refusal, delivery_step, deliver_job_step, queued_line, handed_back, handback_ticket_step}
 use Rattle.stm_commands.specs.OpenDesk.{HandedOut, OpenDesk, on_desk, Steps}
+use Rattle.stm_commands.specs.OpenInvariant.{delivered_so_far}
 use Rattle.stm_commands.specs.Refusals.{refused, submit_error_text}
 use Rattle.stm_commands.proofs.EvaluatedHere.{marked_queued}
 
@@ -67,13 +70,24 @@ handback_refused d e js t old new (Ok x) h q p =
     (ap (opened_as js) (q ∙ not_out d t h), p)
 handback_refused d e js t old new (Err x) h q p = tt
 
+-- ---- eval
+eval_here : {A E : Type 0} → (d e : Seen) (js : List HandedOut) (p : Progress) (old new : List ℕ) (r : Result A E) → delivered_so_far e p ≡ evaluated d → OnOk r (new ≡ old ++ evaluation_text p.count p.stop)
+    → OnOk r (Steps (opened_as js e) old new (on_desk (opened_as js d) (eval_desk_step d)))
+eval_here d e js p old new (Ok x) q h = (ap (λ (v : Delivered). opened_as js v.desk) q, h ∙ ap (λ (v : Delivered). old ++ evaluation_text v.count v.stop) q)
+eval_here d e js p old new (Err x) q h = tt
+
+pub eval_made : {A E : Type 0} → (d e : Seen) (js : List HandedOut) (s : OpenDesk) (p : Progress) (old new : List ℕ) (r : Result A E) → opened_as js d ≡ s → delivered_so_far e p ≡ evaluated d → OnOk r (new ≡ old ++ evaluation_text p.count p.stop)
+    → OnOk r (Steps (opened_as js e) old new (on_desk s (eval_desk_step s.desk)))
+eval_made d e js s p old new r w q h = subst (λ (t : OpenDesk). OnOk r (Steps (opened_as js e) old new (on_desk t (eval_desk_step t.desk)))) w (eval_here d e js p old new r q h)
+
 -- ---- settle
 pub settle_ok : {A E : Type 0} → (d e : Seen) (js : List HandedOut) (f n : ℕ) (old new : List ℕ) (r : Result A E) → HasSettled 0 (called_back d) e f n None → OnOk r (new ≡ old ++ settled_line f n)
     → OnOk r (Steps (opened_as js e) old new (on_desk (opened_as js d) (settle_desk_step (called_back d))))
 settle_ok d e js f n old new (Ok x) s p =
-    let c = called_back d in
-    (ap (opened_as js) s.grown,
-    p ∙ ap (λ (t : List ℕ). old ++ t) (ap (λ (k : ℕ). settled_line k n) s.finished ∙ ap (λ (k : ℕ). settled_line (finishes (slow_settle c)) k) s.evaluated ∙ ap (settle_text (slow_settle c)) (sym s.stopped)))
+    let c = called_back d in (
+      ap (opened_as js) s.grown,
+      p ∙ ap (λ (t : List ℕ). old ++ t) (ap (λ (k : ℕ). settled_line k n) s.finished ∙ ap (λ (k : ℕ). settled_line (finishes (slow_settle c)) k) s.evaluated ∙ ap (settle_text (slow_settle c)) (sym s.stopped)),
+    )
 settle_ok d e js f n old new (Err x) s p = tt
 
 -- settling that stopped, by what was told of it

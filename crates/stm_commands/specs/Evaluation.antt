@@ -57,8 +57,10 @@ abbrev pub evaluation_text : ℕ → Option DeliverError → List ℕ
 evaluation_text n None = evaluated_line n
 evaluation_text n (Some e) = deliver_error_text e
 
+-- `eval` of a desk
+abbrev pub eval_desk_step : Seen → Seen × List ℕ
+eval_desk_step d = let e = evaluated d in (e.desk, evaluation_text e.count e.stop)
+
 -- `eval`: evaluates and delivers all that is queued
 unfoldable pub eval_step : OpenDesk → List ℕ → OpenDesk × List ℕ
-eval_step d argument =
-    let e = evaluated d.desk in
-    with_nothing (on_desk d (e.desk, evaluation_text e.count e.stop)) (d, argument_refused) argument
+eval_step d argument = with_nothing (on_desk d (eval_desk_step d.desk)) (d, argument_refused) argument

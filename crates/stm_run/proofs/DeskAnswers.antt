@@ -35,7 +35,7 @@ use Rattle.stm_commands.specs.Arguments.{argument_refused}
 use Rattle.stm_commands.specs.Blocks.{verdict_line, tried_text, try_answer, reads_line, looked_text, looks_answer, ticket_line, submit_block_step, submit_text_step, submit_step}
 use Rattle.stm_commands.specs.Contents.{waiter_lines, show_text, show_answer, read_text, waiter_reads_text, reads_answer, cell_lines, store_text, store_answer, history_answer, events_text}
 use Rattle.stm_commands.specs.Endings.{tickets_text, result_line, finished_line, cancelled_line, settled_line, settle_text, finish_ticket_step, finish_step, cancel_ticket_step, cancel_step, settle_desk_step, settle_step, finish_verdict_step, finish_waiter_step}
-use Rattle.stm_commands.specs.Evaluation.{evaluated_line, evaluated, evaluation_text, eval_step}
+use Rattle.stm_commands.specs.Evaluation.{evaluated_line, evaluated, evaluation_text, eval_step, eval_desk_step}
 use Rattle.stm_commands.specs.Jobs.{max_jobs, taken, job_text, numbered, jobs_line, delivery_refusal, delivered_line, job_at, queued_line, with_jobs, take_jobs_step, take_step, delivery_step, deliver_job_step, deliver_step, handed_back, handback_ticket_step, handback_step}
 use Rattle.stm_commands.specs.OpenDesk.{HandedOut, OpenDesk, present, on_desk}
 use Rattle.stm_commands.specs.Questions.{ready_tickets, ready_text, ready_answer, reason_text, why_line, why_answer, later_events_text, events_answer}
@@ -191,7 +191,7 @@ module _ (judged : (table : List Declared) (text : List ℕ) → BlockOrTold tab
   desk_ends d k Deliver argument = number_has Ends (λ n. on_desk d (deliver_job_step d.desk (job_at n d.jobs))) (d, argument_refused) (number_argument argument) (λ n. deliver_ends d.desk (job_at n d.jobs)) bad_ends
   desk_ends d k Handback argument = number_has Ends (λ t. on_desk d (handback_ticket_step d.desk t)) (d, argument_refused) (number_argument argument) (handback_ends d.desk) bad_ends
   desk_ends d k Eval argument =
-      nothing_has Ends (on_desk d ((evaluated d.desk).desk, evaluation_text (evaluated d.desk).count (evaluated d.desk).stop)) (d, argument_refused) argument
+      nothing_has Ends (on_desk d (eval_desk_step d.desk)) (d, argument_refused) argument
       (eval_ends d.desk (evaluated d.desk).count (evaluated d.desk).stop refl) bad_ends
   desk_ends d k Finish argument =
       number_has Ends (λ t. on_desk d (finish_ticket_step d.desk t (finish_refusal d.desk t))) (d, argument_refused) (number_argument argument)

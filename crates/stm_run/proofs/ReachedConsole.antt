@@ -26,7 +26,7 @@ use Rattle.stm_lines.specs.LineClass.{LineClass, TooLong, Silent, NotAscii, Word
 use Rattle.stm_commands.specs.Arguments.{argument_refused}
 use Rattle.stm_commands.specs.Blocks.{submit_text_step, submit_step}
 use Rattle.stm_commands.specs.Endings.{finish_ticket_step, finish_step, cancel_ticket_step, cancel_step, settle_desk_step, settle_step}
-use Rattle.stm_commands.specs.Evaluation.{evaluated, evaluation_text, eval_step}
+use Rattle.stm_commands.specs.Evaluation.{eval_step, eval_desk_step}
 use Rattle.stm_commands.specs.Jobs.{take_jobs_step, take_step, job_at, deliver_job_step, deliver_step, queued_line, handed_back, handback_ticket_step, handback_step}
 use Rattle.stm_commands.specs.OpenDesk.{HandedOut, OpenDesk, on_desk}
 use Rattle.stm_commands.specs.Refusals.{refused}
@@ -93,7 +93,7 @@ module _ (blocks : BlockAnswersAreRight) (declarations : DeclarationAnswersAreRi
   desk_stands d k Handback argument =
       number_has StandsAfter (λ t. on_desk d (handback_ticket_step d.desk t)) (d, argument_refused) (number_argument argument) (λ t. handback_stands d.desk d.jobs t k) k
   desk_stands d k Eval argument =
-      nothing_has StandsAfter (on_desk d ((evaluated d.desk).desk, evaluation_text (evaluated d.desk).count (evaluated d.desk).stop)) (d, argument_refused) argument (evaluated_stands stay stable d.desk d.jobs k) k
+      nothing_has StandsAfter (on_desk d (eval_desk_step d.desk)) (d, argument_refused) argument (evaluated_stands stay stable d.desk d.jobs k) k
   desk_stands d k Finish argument =
       number_has StandsAfter (λ t. on_desk d (finish_ticket_step d.desk t (finish_refusal d.desk t))) (d, argument_refused) (number_argument argument) (λ t. finished_stands d.desk d.jobs t (finish_refusal d.desk t) refl k) k
   desk_stands d k Cancel argument =

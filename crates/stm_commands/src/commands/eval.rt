@@ -1,8 +1,8 @@
 //! `eval`: all that is queued is evaluated and delivered.
 
 ghost use Rattle.std.specs.Prelude.{◌≡◌, ◌+◌, ◌++◌, string_bytes, OnOk};
-ghost use Rattle.stm_commands.specs.Evaluation.{evaluated_line, evaluation_text, eval_step};
-ghost use Rattle.stm_commands.specs.OpenDesk.{Steps};
+ghost use Rattle.stm_commands.specs.Evaluation.{evaluated_line, evaluation_text, eval_desk_step, eval_step};
+ghost use Rattle.stm_commands.specs.OpenDesk.{on_desk, Steps};
 
 use crate::evaluation::evaluate_queued;
 use crate::open_desk::OpenDesk;
@@ -36,7 +36,22 @@ fn write_evaluation(
 }
 
 impl OpenDesk {
-    /// Answers `eval`: evaluates and delivers all that is queued.
+    /// Evaluates and delivers all that is queued.
+    fn eval<T: Threads + Sync>(
+        &mut self,
+        rt: &T,
+        alloc: Global,
+        threading: Threading,
+        out: &mut String,
+    ) -> Result<(), NoMemory>
+        ensures { OnOk result (Steps self.new (string_bytes out.old) (string_bytes out.new)
+            (on_desk self.old (eval_desk_step self.old.desk))) }
+    {
+        let progress = evaluate_queued(&mut self.desk, rt, alloc, threading)?;
+        write_evaluation(progress.count, progress.stop, out)
+    }
+
+    /// Answers `eval`.
     #[tactic(auto, unfolding(crate::specs::Evaluation::eval_step))]
     pub fn answer_eval<T: Threads + Sync>(
         &mut self,
@@ -52,7 +67,6 @@ impl OpenDesk {
         if !argument.is_empty() {
             return refuse_argument(out);
         }
-        let progress = evaluate_queued(&mut self.desk, rt, alloc, threading)?;
-        write_evaluation(progress.count, progress.stop, out)
+        self.eval(rt, alloc, threading, out)
     }
 }
