@@ -7,7 +7,7 @@ use Rattle.stm_terms.specs.Changes.{cell_value}
 use Rattle.stm_store.specs.declared.cell.Cell.{Cell}
 use Rattle.stm_store.specs.Cells.{plains, kinds_of}
 use Rattle.stm_store.specs.Tables.{Declared}
-use Rattle.stm_commands.specs.Showing.{cell_line, cell_lines}
+use Rattle.stm_commands.specs.Contents.{cell_line, cell_lines}
 
 -- a cell is its type, its value and its count
 pub cell_at : (cells : List Cell) (i : ℕ) (kind : Ty) (value : Value) (count : ℕ) → kinds_of (plains cells) i ≡ Some kind → cell_value (plains cells) i ≡ Some value

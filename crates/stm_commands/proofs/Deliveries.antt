@@ -26,10 +26,11 @@ use Rattle.stm_events.specs.Refusals.{DeliverTold, differing, overtaken_first}
 use Rattle.stm_events.specs.SlowDesk.{Waiter, IsLegal, under, is_current, state, find_waiter}
 use Rattle.stm_desk.specs.Refusals.{TellsDeskDelivery, left_by}
 use Rattle.stm_desk.specs.Seen.{Seen, now, is_full, with_event}
-use Rattle.stm_commands.specs.declared.jobs.Progress.{Progress}
-use Rattle.stm_commands.specs.Delivering.{Delivered, delivered_all, all_queued, jobs_of, evaluated, job_at, delivery_first, delivery_refusal, after_delivery, after_refusal, installed}
-use Rattle.stm_commands.specs.Kept.{refusal_unevaluated, handed_out, JobStands, JobsStand, HasGrown, after_message}
+use Rattle.stm_commands.specs.declared.evaluation.Progress.{Progress}
+use Rattle.stm_commands.specs.Evaluation.{Delivered, delivered_all, all_queued, evaluated}
+use Rattle.stm_commands.specs.Jobs.{jobs_of, job_at, delivery_first, delivery_refusal, installed, delivery_step, deliver_job_step}
 use Rattle.stm_commands.specs.OpenDesk.{HandedOut}
+use Rattle.stm_commands.specs.OpenInvariant.{refusal_unevaluated, handed_out, JobStands, JobsStand, HasGrown, after_message}
 use Rattle.stm_commands.proofs.Growing.{now_next, grown_next, given_are, given_stand, queued_stand}
 
 -- the block that waits is the job's
@@ -60,13 +61,13 @@ told_of_job law d cells j m r legal s t b rs told =
 
 -- and so is what it leaves
 pub refused_of_job : (d : Seen) (cells : List (Ty × Value)) (j : Job) (m : Evaluated) (r : Option DeliverError) → message_ticket m ≡ j.ticket → verdict (cell_value cells) j.block.tree ≡ Some (message_verdict m)
-    → after_message d m r ≡ after_refusal d (handed_out cells j) r
+    → after_message d m r ≡ (delivery_step d (handed_out cells j) r).0
 refused_of_job d cells j m None t v = ap (λ (x : ℕ). with_event d (event 0 (Installed x (message_verdict m)))) t ∙ sym (ap (installed d j.ticket) v)
 refused_of_job d cells j m (Some e) t v = ap (λ (x : ℕ). left_by e x d) t
 
 pub done_of_job : (d e : Seen) (cells : List (Ty × Value)) (j : Job) (m : Evaluated) (r : Option DeliverError) → message_ticket m ≡ j.ticket → verdict (cell_value cells) j.block.tree ≡ Some (message_verdict m)
-    → r ≡ delivery_refusal d (handed_out cells j) → e ≡ after_message d m r → e ≡ after_delivery d (handed_out cells j)
-done_of_job d e cells j m r t v p q = q ∙ refused_of_job d cells j m r t v ∙ ap (after_refusal d (handed_out cells j)) p
+    → r ≡ delivery_refusal d (handed_out cells j) → e ≡ after_message d m r → e ≡ (deliver_job_step d (Some (handed_out cells j))).0
+done_of_job d e cells j m r t v p q = q ∙ refused_of_job d cells j m r t v ∙ ap (λ (o : Option DeliverError). (delivery_step d (handed_out cells j) o).0) p
 
 -- how a delivery leaves the desk, by its answer
 pub delivered_grown : (d e : Seen) (t : ℕ) (v : Verdict) (r : Result (Unit {0}) (Evaluated × DeliverError)) → OnOk r (e ≡ with_event d (event 0 (Installed t v))) → IfErr r (λ x. e ≡ left_by x.1 t d) → IsLegal e.table e.history
@@ -85,7 +86,7 @@ told_if_ok law d cells j m (Ok r) legal s t b rs told = told_of_job law d cells 
 told_if_ok law d cells j m (Err e) legal s t b rs told = tt
 
 pub done_if_ok : {E : Type 0} → (d e : Seen) (cells : List (Ty × Value)) (j : Job) (m : Evaluated) (r : Result (Option DeliverError) E) → message_ticket m ≡ j.ticket → verdict (cell_value cells) j.block.tree ≡ Some (message_verdict m)
-    → IfOk r (λ r. r ≡ delivery_refusal d (handed_out cells j)) → IfOk r (λ r. e ≡ after_message d m r) → OnOk r (e ≡ after_delivery d (handed_out cells j))
+    → IfOk r (λ r. r ≡ delivery_refusal d (handed_out cells j)) → IfOk r (λ r. e ≡ after_message d m r) → OnOk r (e ≡ (deliver_job_step d (Some (handed_out cells j))).0)
 done_if_ok d e cells j m (Ok r) t v p q = done_of_job d e cells j m r t v p q
 done_if_ok d e cells j m (Err x) t v p q = tt
 
@@ -153,6 +154,6 @@ left_unevaluated d o t e p = by o e p
         two true q = let r : e ≡ Already = cc in ap (λ (x : DeliverError). left_by x t d) r
         two false q = absurd cc
 
-pub same_unevaluated : (d : Seen) (j : HandedOut) (e : DeliverError) → Some e ≡ refusal_unevaluated (find_waiter j.ticket (now d).waiters) → d ≡ after_delivery d j
+pub same_unevaluated : (d : Seen) (j : HandedOut) (e : DeliverError) → Some e ≡ refusal_unevaluated (find_waiter j.ticket (now d).waiters) → d ≡ (deliver_job_step d (Some j)).0
 same_unevaluated d j e p =
-    sym (left_unevaluated d (find_waiter j.ticket (now d).waiters) j.ticket e p) ∙ ap (after_refusal d j) (sym (refused_unevaluated d j e p))
+    sym (left_unevaluated d (find_waiter j.ticket (now d).waiters) j.ticket e p) ∙ ap (λ (o : Option DeliverError). (delivery_step d j o).0) (sym (refused_unevaluated d j e p))

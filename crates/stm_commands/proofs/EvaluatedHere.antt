@@ -2,13 +2,11 @@
 use Rattle.std.proofs.Common.{◌≡◌, ℕ, zero, suc, ◌+◌, ◌<◌, ◌≤◌, Bool, true, false, not, ◌&&◌, ◌||◌, cond, List, [], ◌∷◌, ◌++◌, map, filter, take, length, Option, Some, None, refl, sym, ap, subst, ◌∙◌, append_assoc, append-nil, arith}
 use Rattle.std.specs.Prelude.{nat_eq, option_map, is_some}
 use Rattle.std.proofs.lemmas.Bool.Decides.{nat_tests}
-use Rattle.stm_terms.specs.declared.values.Value.{Value}
 use Rattle.stm_terms.specs.declared.verdicts.Verdict.{Verdict}
 use Rattle.stm_terms.specs.Changes.{cell_value}
 use Rattle.stm_terms.specs.ReadSet.{reads_of}
 use Rattle.stm_store.specs.declared.cell.Cell.{Cell}
 use Rattle.stm_store.specs.Cells.{plains}
-use Rattle.stm_store.specs.Tables.{Declared}
 use Rattle.stm_queue.specs.Queue.{Entry, tickets, has_ticket, is_out, without_ticket, marked, first_queued, sent_out, queued}
 use Rattle.stm_queue.specs.SortedTickets.{RisesAbove, IsRising, member}
 use Rattle.stm_queue.proofs.Merging.{itself}
@@ -26,9 +24,10 @@ use Rattle.stm_machine.proofs.Agreeing.{reads_differ_nowhere}
 use Rattle.stm_events.proofs.Rising.{waiter_delivered}
 use Rattle.stm_desk.specs.Evaluating.{EvaluatedSoFar, verdict_of_waiter, verdict_under, with_installed, with_evaluated, evaluate_unless, evaluate_each, none_evaluated, evaluate_lowest}
 use Rattle.stm_desk.specs.Seen.{Seen, now, is_full, with_event, DeskQueueIsRight, AllHaveVerdicts}
-use Rattle.stm_commands.specs.Delivering.{Delivered, delivered_by, delivered_all, delivery_first, delivery_refusal, installed, jobs_of, job_of, taken, evaluated}
-use Rattle.stm_commands.specs.Kept.{HasGrown}
+use Rattle.stm_commands.specs.Evaluation.{Delivered, delivered_by, delivered_all, evaluated}
+use Rattle.stm_commands.specs.Jobs.{delivery_first, delivery_refusal, installed, jobs_of, job_of, taken}
 use Rattle.stm_commands.specs.OpenDesk.{HandedOut}
+use Rattle.stm_commands.specs.OpenInvariant.{HasGrown}
 use Rattle.stm_commands.proofs.Growing.{now_next}
 use Rattle.stm_commands.proofs.KeptQueue.{tickets_marked, weaker}
 use Rattle.stm_commands.proofs.OutTickets.{out_without, left_false, right_false, none_queued, first_sent}
@@ -65,7 +64,7 @@ queued_entry true true x h = absurd cc
 queued_entry true false x h = refl
 queued_entry false o x h = refl
 
-marked_queued : (t : ℕ) (es : List Entry) → is_out t es ≡ false → marked t false es ≡ es
+pub marked_queued : (t : ℕ) (es : List Entry) → is_out t es ≡ false → marked t false es ≡ es
 marked_queued t [] h = refl
 marked_queued t (e ∷ es) h =
     both (mark t false e) e (marked t false es) es (queued_entry (nat_eq t e.0) e.1 e.0 (left_false (nat_eq t e.0 && e.1) (is_out t es) h)) (marked_queued t es (right_false (nat_eq t e.0 && e.1) (is_out t es) h))

@@ -15,9 +15,10 @@ use Rattle.stm_events.specs.SlowDesk.{IsLegal}
 use Rattle.stm_pool.specs.Answers.{IsMessageOf, AnswersJob}
 use Rattle.stm_desk.specs.Refusals.{TellsDeskDelivery, left_by}
 use Rattle.stm_desk.specs.Seen.{Seen}
-use Rattle.stm_commands.specs.Delivering.{Delivered, delivered_by, delivered_next, delivered_all, handed_back, delivery_refusal}
-use Rattle.stm_commands.specs.Kept.{handed_out, JobStands, JobsStand, HasGrown, after_message, AnswerJobs}
+use Rattle.stm_commands.specs.Evaluation.{Delivered, delivered_by, delivered_next, delivered_all}
+use Rattle.stm_commands.specs.Jobs.{handed_back, delivery_refusal}
 use Rattle.stm_commands.specs.OpenDesk.{HandedOut}
+use Rattle.stm_commands.specs.OpenInvariant.{handed_out, JobStands, JobsStand, HasGrown, after_message, AnswerJobs}
 use Rattle.stm_commands.proofs.Deliveries.{told_of_job, refused_of_job}
 use Rattle.stm_commands.proofs.Growing.{stand_grown}
 

@@ -3,9 +3,8 @@ use Rattle.std.proofs.Common.{◌≡◌, ◌≢◌, ℕ, Bool, Result, Ok, Err, 
 use Rattle.std.specs.Prelude.{map}
 use Rattle.stm_terms.specs.declared.kinds.Ty.{Ty}
 use Rattle.stm_terms.specs.declared.values.Value.{Value}
-use Rattle.stm_store.specs.Cells.{plains, changed_by}
+use Rattle.stm_store.specs.Cells.{plains}
 use Rattle.stm_store.specs.Tables.{Declared}
-use Rattle.stm_terms.specs.declared.verdicts.Verdict.{Verdict}
 use Rattle.stm_check.specs.TypedBlock.{Block}
 use Rattle.stm_eval.specs.declared.job.Job.{Job}
 use Rattle.stm_events.specs.declared.errors.CancelError.{CancelError}
@@ -16,9 +15,8 @@ use Rattle.stm_events.specs.declared.event.What.{What}
 use Rattle.stm_events.specs.declared.event.What.TheVariants.{Submitted, Finished, Cancelled}
 use Rattle.stm_machine.specs.JobsHandedOut.{block_at, AreJobs, AreCovered}
 use Rattle.stm_machine.specs.Machine.{event}
-use Rattle.stm_machine.specs.Plans.{IsPlan}
-use Rattle.stm_events.specs.SlowDesk.{Slow, IsLegal, state, state_from, after, initial_state, stale_after, without_waiter}
-use Rattle.stm_events.specs.SlowSettle.{ending, finishes}
+use Rattle.stm_events.specs.SlowDesk.{Slow, IsLegal, state, state_from, after, initial_state}
+use Rattle.stm_events.specs.SlowSettle.{finishes}
 use Rattle.stm_desk.specs.Seen.{Seen, now, with_event}
 use Rattle.stm_desk.specs.declared.errors.SettleStop.{SettleStop}
 use Rattle.stm_desk.specs.declared.errors.SettleWhy.{SettleWhy}
@@ -27,10 +25,10 @@ use Rattle.stm_desk.specs.declared.finish.Finish.{Finish}
 use Rattle.stm_desk.specs.declared.settle.Settled.{Settled}
 use Rattle.stm_desk.specs.Settling.{with_whats, called_back, slow_settle, slow_stop, HasSettled, StopTold}
 use Rattle.stm_commands.specs.declared.jobs.KeptJob.{KeptJob}
-use Rattle.stm_commands.specs.Delivering.{job_of, jobs_of}
-use Rattle.stm_commands.specs.Finishing.{finish_of, finish_event, settled_line, why_text, settle_text}
-use Rattle.stm_commands.specs.Kept.{handed_out, job_kept, HaveStores, JobStands, JobsStand, IsPresentCopy, OpenInvariant, HasGrown}
-use Rattle.stm_commands.specs.OpenDesk.{HandedOut}
+use Rattle.stm_commands.specs.Endings.{settled_line, why_text, settle_text, settle_desk_step}
+use Rattle.stm_commands.specs.Jobs.{job_of, jobs_of}
+use Rattle.stm_commands.specs.OpenDesk.{HandedOut, Steps, OpenDesk, on_desk}
+use Rattle.stm_commands.specs.OpenInvariant.{handed_out, job_kept, HaveStores, JobStands, JobsStand, IsPresentCopy, OpenInvariant, HasGrown}
 use Rattle.stm_commands.proofs.KeptStores.{stores_grown}
 
 state_from-append : (s : Slow) (es fs : List Event) → state_from s (es ++ fs) ≡ state_from (state_from s es) fs
@@ -219,26 +217,3 @@ settled_grown d e (Err s) p q legal = stopped_grown d e s.why s.finished s.evalu
 pub kept_settled : {table : List Declared} → (d e : Seen) (copy : Option (List (Ty × Value))) (ks : List KeptJob) (r : Result Settled SettleStop) → IfOk r (λ s. HasSettled 0 (called_back d) e s.finished s.evaluations None)
     → IfErr r (λ s. StopTold s.why 0 (called_back d) e s.finished s.evaluations) → IsLegal e.table e.history → OpenInvariant d copy ks table → OpenInvariant e None ks table
 kept_settled d e copy ks r p q legal k = kept_without d e copy ks (settled_grown d e r p q legal) k
-
--- what settling printed, by what it did
-pub settled_told : (d e : Seen) (f n : ℕ) → HasSettled 0 d e f n None → settled_line f n ≡ settle_text (slow_settle d) (slow_stop d)
-settled_told d e f n s =
-    ap (λ k. settled_line k n) s.finished ∙ ap (λ k. settled_line (finishes (slow_settle d)) k) s.evaluated ∙ ap (settle_text (slow_settle d)) (sym s.stopped)
-
-pub stopped_told : (d e : Seen) (w : SettleWhy) (f n : ℕ) → StopTold w 0 d e f n → w ≢ NoMemory → why_text w ++ settled_line f n ≡ settle_text (slow_settle d) (slow_stop d)
-stopped_told d e HistoryFull f n s h =
-    ap (λ k. why_text HistoryFull ++ settled_line k n) s.0.finished ∙ ap (λ k. why_text HistoryFull ++ settled_line (finishes (slow_settle d)) k) s.0.evaluated ∙ ap (settle_text (slow_settle d)) (sym s.0.stopped)
-stopped_told d e CellsFull f n s h =
-    ap (λ k. why_text CellsFull ++ settled_line k n) s.0.finished ∙ ap (λ k. why_text CellsFull ++ settled_line (finishes (slow_settle d)) k) s.0.evaluated ∙ ap (settle_text (slow_settle d)) (sym s.0.stopped)
-stopped_told d e NoMemory f n s h = absurd (h refl)
-
-pub stopped_state : (d e : Seen) (w : SettleWhy) (f n : ℕ) → StopTold w 0 d e f n → w ≢ NoMemory → e ≡ with_whats d 0 (slow_settle d)
-stopped_state d e HistoryFull f n s h = s.0.grown
-stopped_state d e CellsFull f n s h = s.0.grown
-stopped_state d e NoMemory f n s h = absurd (h refl)
-
--- the event of a finish by its plan
-pub planned_event : (s : Slow) (t : ℕ) (v : Verdict) (n : ℕ) (stale : List ℕ) → IsPlan s t v n stale → finish_event s t ≡ Some (Finished t v n stale)
-planned_event s t v n stale p =
-    ap (finish_of s t) p.found ∙ ap (ending s t) p.may.verdict_is
-    ∙ ap (λ (k : ℕ). Some (Finished t v k (stale_after (changed_by s.store v) (without_waiter t s.waiters)))) (sym p.may.first_new) ∙ ap (λ (ts : List ℕ). Some (Finished t v n ts)) (sym p.may.listed)

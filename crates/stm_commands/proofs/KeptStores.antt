@@ -11,9 +11,9 @@ use Rattle.stm_machine.specs.JobsHandedOut.{block_at}
 use Rattle.stm_events.specs.SlowDesk.{Waiter, IsLegal, find_waiter, state}
 use Rattle.stm_desk.specs.Seen.{Seen, now}
 use Rattle.stm_commands.specs.declared.jobs.KeptJob.{KeptJob}
-use Rattle.stm_commands.specs.Delivering.{job_at}
-use Rattle.stm_commands.specs.Kept.{refusal_unevaluated, JobStands, JobsStand, job_kept, IsStored, AreStored, HasStore, HaveStores, HasGrown}
+use Rattle.stm_commands.specs.Jobs.{job_at}
 use Rattle.stm_commands.specs.OpenDesk.{HandedOut}
+use Rattle.stm_commands.specs.OpenInvariant.{refusal_unevaluated, JobStands, JobsStand, job_kept, IsStored, AreStored, HasStore, HaveStores, HasGrown}
 use Rattle.stm_commands.proofs.GoneTickets.{gone_stays}
 
 -- ---- a store that is dropped

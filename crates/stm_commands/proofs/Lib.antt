@@ -1,5 +1,6 @@
 pub mod CellLines
 pub mod Deliveries
+pub mod DeskSteps
 pub mod EvaluatedHere
 pub mod EvaluatedJobs
 pub mod GoneTickets

@@ -2,7 +2,7 @@
 use Rattle.std.proofs.Common.{◌≡◌, ℕ, zero, suc, ◌<◌, ◌≤◌, Bool, true, false, not, ◌&&◌, ◌||◌, cond, List, [], ◌∷◌, map, filter, take, Option, Some, None, refl, sym, ap, subst, ◌∙◌, arith}
 use Rattle.std.specs.Prelude.{nat_eq, nat_lt}
 use Rattle.std.proofs.lemmas.Bool.Decides.{nat_tests}
-use Rattle.stm_queue.specs.Queue.{Entry, tickets, has_ticket, is_out, with_entry, with_ticket, without_ticket, marked, first_queued, sent_out, recalled, queued}
+use Rattle.stm_queue.specs.Queue.{Entry, tickets, has_ticket, is_out, with_ticket, without_ticket, marked, first_queued, sent_out, recalled, queued}
 use Rattle.stm_queue.specs.SortedTickets.{RisesAbove, IsRising, member}
 use Rattle.stm_queue.proofs.Merging.{itself}
 use Rattle.stm_queue.proofs.SortedInsertion.{absent_above}

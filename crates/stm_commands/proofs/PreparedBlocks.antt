@@ -15,8 +15,8 @@ use Rattle.stm_store.specs.Tables.{Declared, opened}
 use Rattle.stm_history.specs.WholeBlocks.{given_type, block_if_typed, block_if_parsed, checked_block}
 use Rattle.stm_blocks.specs.declared.refusal.Refusal.{Refusal}
 use Rattle.stm_blocks.specs.CompiledBlock.{block_or_refusal, compiled_block}
-use Rattle.stm_commands.specs.Prepared.{IsBlockOf, IsPrepared, ArePrepared}
 use Rattle.stm_blocks.specs.ToldRefusal.{told_refusal}
+use Rattle.stm_commands.specs.BlockCache.{IsBlockOf, IsPrepared, ArePrepared}
 
 -- a block has its text
 typed_text : (table : List Declared) (text : List ℕ) (b : Block) (o : Result (Act × ActionType) TypeFault) → block_or_refusal (block_if_typed table text o) ≡ Ok b → b.text ≡ text

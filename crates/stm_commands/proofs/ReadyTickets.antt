@@ -7,7 +7,7 @@ use Rattle.stm_events.specs.Laws.{AreRising}
 use Rattle.stm_events.specs.Ready.{is_ready, next_ready}
 use Rattle.stm_events.specs.SlowDesk.{Waiter, Slow}
 use Rattle.stm_events.specs.SlowSettle.{lowest}
-use Rattle.stm_commands.specs.Finishing.{tickets_text}
+use Rattle.stm_commands.specs.Endings.{tickets_text}
 use Rattle.stm_commands.specs.Questions.{ready_tickets, ready_above}
 
 -- those of a test whose tickets are above this number

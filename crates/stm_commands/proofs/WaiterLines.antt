@@ -6,7 +6,7 @@ use Rattle.stm_store.specs.declared.cell.Cell.{Cell}
 use Rattle.stm_events.specs.Laws.{AreRising}
 use Rattle.stm_events.specs.SlowDesk.{Waiter, find_waiter}
 use Rattle.stm_events.specs.SlowSettle.{lowest}
-use Rattle.stm_commands.specs.Showing.{waiter_line, waiter_lines}
+use Rattle.stm_commands.specs.Contents.{waiter_line, waiter_lines}
 
 -- those whose tickets are above this number
 abbrev pub above : ℕ → List Waiter → List Waiter

@@ -14,7 +14,7 @@ use Rattle.stm_desk.specs.Seen.{Seen, now, with_event}
 use Rattle.stm_desk.specs.Refusals.{submit_refusal}
 use Rattle.stm_blocks.specs.declared.refusal.Refusal.{Refusal}
 use Rattle.stm_blocks.specs.CompiledBlock.{compiled_block}
-use Rattle.stm_commands.specs.OpenDesk.{OpenDesk, present}
+use Rattle.stm_commands.specs.OpenDesk.{OpenDesk, on_desk, present}
 use Rattle.stm_commands.specs.Refusals.{refusal_text, submit_error_text}
 
 -- a block that is well typed has a verdict
@@ -48,30 +48,16 @@ looks_answer d argument = looked_text (present d) (compiled_block d.desk.table a
 unfoldable pub ticket_line : ℕ → List ℕ
 ticket_line ticket = codes "ticket " ++ decimal ticket ++ 10 ∷ []
 
--- the ticket of a block that was submitted, or why it is refused
-abbrev pub submitted_text : Seen → Option SubmitError → List ℕ
-submitted_text d None = ticket_line (now d).next
-submitted_text d (Some e) = submit_error_text e
+-- `submit` of a block: it waits from now on, under the next ticket, or it is refused
+abbrev pub submit_block_step : Seen → Block → Option SubmitError → Seen × List ℕ
+submit_block_step d block None = (with_event d (event 0 (Submitted (now d).next block)), ticket_line (now d).next)
+submit_block_step d block (Some e) = (d, submit_error_text e)
 
--- the desk after a block was submitted, or refused
-abbrev pub submitted : Seen → Block → Option SubmitError → Seen
-submitted d block None = with_event d (event 0 (Submitted (now d).next block))
-submitted d block (Some e) = d
+-- `submit` of what a text was compiled to
+abbrev pub submit_text_step : Seen → Result Block Refusal → Seen × List ℕ
+submit_text_step d (Ok block) = submit_block_step d block (submit_refusal d block)
+submit_text_step d (Err e) = (d, refusal_text e)
 
--- what `submit` tells of a text: the ticket of its block, or why text or block are refused
-abbrev pub submit_text : Seen → Result Block Refusal → List ℕ
-submit_text d (Ok block) = submitted_text d (submit_refusal d block)
-submit_text d (Err e) = refusal_text e
-
--- the desk after `submit` of a text; as it was, where text or block are refused
-abbrev pub after_submit : Seen → Result Block Refusal → Seen
-after_submit d (Ok block) = submitted d block (submit_refusal d block)
-after_submit d (Err e) = d
-
--- `submit`: a block waits from now on, under the next ticket
-unfoldable pub submit_answer : OpenDesk → List ℕ → List ℕ
-submit_answer d argument = submit_text d.desk (compiled_block d.desk.table argument)
-
--- the open desk after `submit`
-unfoldable pub submit_state : OpenDesk → List ℕ → OpenDesk
-submit_state d argument = record d { desk = after_submit d.desk (compiled_block d.desk.table argument) }
+-- `submit`
+unfoldable pub submit_step : OpenDesk → List ℕ → OpenDesk × List ℕ
+submit_step d argument = on_desk d (submit_text_step d.desk (compiled_block d.desk.table argument))

@@ -1,5 +1,5 @@
 -- The queue of the desk as a set: the tickets of the blocks that wait for an evaluation, and which of them are out.
-use Rattle.std.specs.Prelude.{◌≡◌, ℕ, Bool, false, not, ◌&&◌, ◌||◌, nat_eq, List, map, take}
+use Rattle.std.specs.Prelude.{◌≡◌, ℕ, false, not, ◌&&◌, ◌||◌, nat_eq, List, map, take}
 use Rattle.std.specs.List.{filter}
 use Rattle.stm_queue.specs.Queue.{Entry, tickets, with_ticket, without_ticket, is_out, marked, recalled, queued}
 use Rattle.stm_queue.specs.SortedTickets.{IsRising, member}

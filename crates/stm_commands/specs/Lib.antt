@@ -1,13 +1,14 @@
--- What a reader has to believe: what each command answers and changes.
+-- What a reader has to believe: what each command does, and what it prints.
 pub mod Arguments
 pub mod Blocks
-pub mod Delivering
+pub mod Contents
 pub mod DueTickets
-pub mod Finishing
+pub mod Endings
+pub mod Evaluation
+pub mod Jobs
 pub mod OpenDesk
 pub mod Questions
 pub mod Refusals
-pub mod Showing
 -- The words inside, for what the type of an open desk keeps.
-pub mod Kept
-pub mod Prepared
+pub mod BlockCache
+pub mod OpenInvariant

@@ -1,5 +1,5 @@
--- An open desk, as the console has it.
-use Rattle.std.specs.Prelude.{ℕ, List, []}
+-- An open desk, as the console has it, and its steps: a new desk, and what is printed.
+use Rattle.std.specs.Prelude.{◌≡◌, ℕ, List, [], ◌++◌}
 use Rattle.stm_terms.specs.declared.kinds.Ty.{Ty}
 use Rattle.stm_terms.specs.declared.values.Value.{Value}
 use Rattle.stm_check.specs.TypedBlock.{Block}
@@ -25,3 +25,11 @@ opened_desk table limit = record { desk = record { table = table; limit = limit;
 -- the present store
 abbrev pub present : OpenDesk → List Cell
 present d = (now d.desk).store
+
+-- a step of the desk alone, as one of the open desk: its jobs stay
+abbrev pub on_desk : OpenDesk → Seen × List ℕ → OpenDesk × List ℕ
+on_desk d s = (record d { desk = s.0 }, s.1)
+
+-- this is the state after a step, and the new text is the old one with what the step prints after it
+abbrev pub Steps : {S : Type 0} → S → List ℕ → List ℕ → S × List ℕ → Type 0
+Steps state old new s = (state ≡ s.0) × (new ≡ old ++ s.1)

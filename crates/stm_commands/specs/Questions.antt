@@ -9,8 +9,8 @@ use Rattle.stm_desk.specs.declared.reason.Change.{Change}
 use Rattle.stm_desk.specs.Reasons.{WaitReason, NotEvaluated, IsStale, Waits, CanFinish, reason_of}
 use Rattle.stm_desk.specs.Seen.{now}
 use Rattle.stm_lines.specs.NumberArgument.{number_argument}
-use Rattle.stm_commands.specs.Arguments.{with_number, with_nothing}
-use Rattle.stm_commands.specs.Finishing.{tickets_text}
+use Rattle.stm_commands.specs.Arguments.{with_number, with_nothing, argument_refused}
+use Rattle.stm_commands.specs.Endings.{tickets_text}
 use Rattle.stm_commands.specs.OpenDesk.{OpenDesk}
 use Rattle.stm_commands.specs.Refusals.{refused}
 
@@ -29,7 +29,7 @@ ready_text s = codes "ready " ++ tickets_text (ready_tickets s) ++ 10 ∷ []
 
 -- `ready`: the tickets of the blocks that could finish now
 unfoldable pub ready_answer : OpenDesk → List ℕ → List ℕ
-ready_answer d argument = with_nothing (ready_text (now d.desk)) argument
+ready_answer d argument = with_nothing (ready_text (now d.desk)) argument_refused argument
 
 -- ---- why
 -- a variable with the value that a block read and the one that it was left with, as `#0=1->2`
@@ -50,7 +50,7 @@ why_line t None = refused (codes "NoTicket")
 
 -- `why`: what a block waits for
 unfoldable pub why_answer : OpenDesk → List ℕ → List ℕ
-why_answer d argument = with_number (λ t. why_line t (reason_of d.desk t)) (number_argument argument)
+why_answer d argument = with_number (λ t. why_line t (reason_of d.desk t)) argument_refused (number_argument argument)
 
 -- ---- events
 -- the lines of the events from the n-th on, counted from 1, as `history` prints them, and how many events there are
@@ -63,4 +63,4 @@ later_events_text d n = later_lines d.desk.history n
 
 -- `events`: what happened since an event
 unfoldable pub events_answer : OpenDesk → List ℕ → List ℕ
-events_answer d argument = with_number (later_events_text d) (number_argument argument)
+events_answer d argument = with_number (later_events_text d) argument_refused (number_argument argument)

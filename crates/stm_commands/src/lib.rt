@@ -1,26 +1,25 @@
-//! The open desk of a run, and what each of its commands answers and changes.
+//! The open desk of a run, and its commands: what each does, and what it prints.
 //!
-//! `opened` has the desk with the jobs that it handed out. `trying` has `try`, `looks` and `submit`, of blocks that `prepared`
-//! keeps; `delivering` has `take`, `deliver`, `handback` and `eval`, by the jobs of `jobs`, whose stores `stores` drops;
-//! `finishing` has `finish`, `cancel` and `settle`; `showing` has `show`, `reads` and `store`; `questions` has `ready`, `why` and `events`.
-//! `refusing` prints what is refused, and `threading` says how many threads evaluate.
+//! `open_desk` has the desk with the jobs that it handed out, `commands` each command in a file of its own. `block_cache`
+//! keeps blocks by their texts. `jobs` has jobs with the stores of their `take`, which `stores` drops; `delivery` delivers
+//! what their blocks do, and `evaluation` evaluates all that is queued. `refusals` prints what is refused, and `threading`
+//! says how many threads evaluate.
 //!
-//! What a reader has to believe is in these modules of specs/: `OpenDesk` has the desk with the jobs handed out; `Blocks`,
-//! `Delivering`, `Finishing`, `Showing` and `Questions` what each command answers and changes, `Arguments` which arguments are taken, and
-//! `Refusals` what is printed of the others; `DueTickets` which tickets are to be evaluated.
+//! What a reader has to believe is in these modules of specs/: `OpenDesk` has the desk with the jobs handed out, and what a
+//! step is; `Blocks`, `Jobs`, `Evaluation` and `Endings` the steps of the commands, `Contents` and `Questions` the texts of
+//! those that change nothing; `Arguments` which arguments are taken, and `Refusals` what is printed of the others;
+//! `DueTickets` which tickets are to be evaluated.
 #![tactic(auto)]
 
-mod delivering;
-mod finishing;
+mod block_cache;
+pub mod commands;
+mod delivery;
+pub mod evaluation;
 pub mod jobs;
-pub mod opened;
-mod prepared;
-pub mod questions;
-pub mod refusing;
-mod showing;
+pub mod open_desk;
+pub mod refusals;
 mod stores;
 pub mod threading;
-mod trying;
 
-pub use opened::OpenDesk;
+pub use open_desk::OpenDesk;
 pub use threading::Threading;

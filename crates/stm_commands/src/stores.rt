@@ -3,7 +3,7 @@
 ghost use Rattle.std.specs.Prelude.{◌≡◌, ◌≤◌, ◌++◌, map, length, is_some, OnOk, OnErr};
 ghost use Rattle.stm_events.specs.SlowDesk.{find_waiter};
 ghost use Rattle.stm_desk.specs.Seen.{now};
-ghost use Rattle.stm_commands.specs.Kept.{job_kept, AreStored, HaveStores};
+ghost use Rattle.stm_commands.specs.OpenInvariant.{job_kept, AreStored, HaveStores};
 
 use crate::jobs::KeptJob;
 use std::alloc::Global;

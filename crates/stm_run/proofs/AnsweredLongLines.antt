@@ -5,11 +5,11 @@ use Rattle.stm_lines.proofs.LongLines.{Long, judged-too_long, drop_return-long, 
 use Rattle.stm_lines.specs.LineClass.{longest_line}
 use Rattle.stm_lines.specs.Lines.{drop_return, lines_from, whole_lines_from, last_lines}
 use Rattle.stm_run.specs.declared.console.Console.{Console}
-use Rattle.stm_run.specs.Console.{answer_to, state_after, answers_to, answer_to_class, state_after_class}
+use Rattle.stm_run.specs.Console.{answers_to, class_step, step}
 
 answers_to-too_long : (s : Console) (a b : List ℕ) (rest : List (List ℕ)) → longest_line < length a → longest_line < length b → answers_to s (a ∷ rest) ≡ answers_to s (b ∷ rest)
-unfolding answer_to state_after
-answers_to-too_long s a b rest h k = ap (λ j. answer_to_class s j ++ answers_to (state_after_class s j) rest) (judged-too_long a h ∙ sym (judged-too_long b k))
+unfolding step
+answers_to-too_long s a b rest h k = ap (λ j. (class_step s j).1 ++ answers_to (class_step s j).0 rest) (judged-too_long a h ∙ sym (judged-too_long b k))
 
 last_lines-long : (s : Console) (a b : List ℕ) → Long a → Long b → answers_to s (last_lines a) ≡ answers_to s (last_lines b)
 last_lines-long s [] b h k = absurd (omega arith)

@@ -1,7 +1,7 @@
 -- What `take`, `deliver`, `handback` and `eval` do keeps the desk standing: what a job's block does on the job's store it
 -- does on the present one where nothing that it read differs, and it is the block that waits.
 use Rattle.std.proofs.Common.{◌≡◌, ℕ, zero, suc, ◌+◌, Bool, true, false, cond, List, [], ◌∷◌, ◌++◌, Option, Some, None, refl, ap, sym, subst, ◌∙◌, append-nil}
-use Rattle.std.specs.Prelude.{IsSomeAnd, option_map, nat_lt, length}
+use Rattle.std.specs.Prelude.{IsSomeAnd, codes, option_map, nat_lt, length}
 use Rattle.stm_terms.specs.declared.values.Value.{Value}
 use Rattle.stm_terms.specs.declared.verdicts.Verdict.{Verdict}
 use Rattle.stm_terms.specs.Changes.{cell_value}
@@ -23,8 +23,11 @@ use Rattle.stm_events.specs.Refusals.{differing, overtaken_first, pending_left}
 use Rattle.stm_events.specs.SlowDesk.{Waiter, under, is_current, find_waiter, state, MayInstall, IsLegal}
 use Rattle.stm_desk.specs.Refusals.{left_by}
 use Rattle.stm_desk.specs.Seen.{Seen, now, is_full}
-use Rattle.stm_commands.specs.Delivering.{max_jobs, job_of, jobs_of, taken, with_jobs, after_take, delivery_first, delivery_refusal, installed, after_refusal, job_at, after_deliver, Delivered, delivered_by, delivered_next, delivered_all, all_queued, evaluated}
+use Rattle.stm_commands.specs.Evaluation.{Delivered, delivered_by, delivered_next, delivered_all, all_queued, evaluated}
+use Rattle.stm_commands.specs.Jobs.{max_jobs, job_of, jobs_of, taken, with_jobs, delivery_first, delivery_refusal, installed, job_at, jobs_line, take_jobs_step, delivery_step, deliver_job_step}
 use Rattle.stm_commands.specs.OpenDesk.{HandedOut, OpenDesk}
+use Rattle.stm_commands.specs.Refusals.{refused}
+use Rattle.stm_run.proofs.ArgumentCases.{either_has}
 use Rattle.stm_run.proofs.AgreeingReads.{agrees_there}
 use Rattle.stm_commands.proofs.KeptQueue.{tickets_left, tickets_marked, tickets_sent}
 use Rattle.stm_run.proofs.StandingDesk.{WasTaken, AllTaken, Stands, stands_event, stands_marked, stands_with, taken_append, taken_at}
@@ -67,16 +70,12 @@ jobs_taken table history (t ∷ ts) =
     taken_append table history (job_of (state table history) t (block_at (state table history) t)) (jobs_of (state table history) ts)
     (job_taken table history t (find_waiter t (state table history).waiters) refl) (jobs_taken table history ts)
 
-either_stands : (b : Bool) (d e : OpenDesk) → Stands d.desk d.jobs → Stands e.desk e.jobs → Stands (cond b d e).desk (cond b d e).jobs
-either_stands true d e h k = h
-either_stands false d e h k = k
-
-pub take_stands : (d : OpenDesk) (n : ℕ) → Stands d.desk d.jobs → Stands (after_take d n).desk (after_take d n).jobs
+pub take_stands : (d : OpenDesk) (n : ℕ) → Stands d.desk d.jobs → Stands (take_jobs_step d n).0.desk (take_jobs_step d n).0.jobs
 take_stands d n k =
     let tickets = taken d.desk n in
     let js = jobs_of (now d.desk) tickets in
     let pending = sent (length tickets) d.desk.pending in
-    either_stands (nat_lt max_jobs (n + length d.jobs)) d (with_jobs d tickets) k
+    either_has (λ (p : OpenDesk × List ℕ). Stands p.0.desk p.0.jobs) (nat_lt max_jobs (n + length d.jobs)) (d, refused (codes "JobsFull")) (with_jobs d tickets, jobs_line (length d.jobs + 1) tickets) k
     (stands_with (record d.desk { pending = pending }) d.jobs (d.jobs ++ js) (taken_append d.desk.table d.desk.history d.jobs js k.taken (jobs_taken d.desk.table d.desk.history tickets))
     (stands_marked d.desk pending d.jobs (tickets_sent (length tickets) d.desk.pending) k))
 
@@ -109,14 +108,14 @@ module _ (stay : BlocksStay) (stable : VerdictIsStable) where
       let differs = differing (under (now d).store) (reads_of (cell_value j.store) j.block.tree) in
       installs_by d jobs j w (verdict (cell_value j.store) j.block.tree) t f refl (may_come (is_current w) differs (is_full d) e) k
 
-  after_stands : (d : Seen) (jobs : List HandedOut) (j : HandedOut) (o : Option DeliverError) → WasTaken d.table d.history j → delivery_refusal d j ≡ o → Stands d jobs → Stands (after_refusal d j o) jobs
+  after_stands : (d : Seen) (jobs : List HandedOut) (j : HandedOut) (o : Option DeliverError) → WasTaken d.table d.history j → delivery_refusal d j ≡ o → Stands d jobs → Stands (delivery_step d j o).0 jobs
   after_stands d jobs j (Some x) t e k = stands_marked d (pending_left x j.ticket d.pending) jobs (tickets_left x j.ticket d.pending) k
   after_stands d jobs j None t e k = installs_of d jobs j (find_waiter j.ticket (now d).waiters) t refl e k
 
-  pub delivered_stands : (d : Seen) (jobs : List HandedOut) (n : ℕ) → Stands d jobs → Stands (after_deliver d (job_at n jobs)) jobs
+  pub delivered_stands : (d : Seen) (jobs : List HandedOut) (n : ℕ) → Stands d jobs → Stands (deliver_job_step d (job_at n jobs)).0 jobs
   delivered_stands d jobs n k = of n (job_at n jobs) refl
     where
-      of : (n : ℕ) (o : Option HandedOut) → job_at n jobs ≡ o → Stands (after_deliver d o) jobs
+      of : (n : ℕ) (o : Option HandedOut) → job_at n jobs ≡ o → Stands (deliver_job_step d o).0 jobs
       of n None e = k
       of zero (Some j) e = absurd cc
       of (suc n) (Some j) e = after_stands d jobs j (delivery_refusal d j) (taken_at d.table d.history jobs n j k.taken e) refl k

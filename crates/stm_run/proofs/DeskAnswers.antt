@@ -1,7 +1,7 @@
 -- On a desk that stands, each command answers with a text that ends with a line feed: `try` has a verdict to tell, `finish`
 -- has an effect, and no refusal is an out-of-memory error.
-use Rattle.std.proofs.Common.{◌≡◌, ℕ, ◌+◌, Bool, true, false, cond, List, ◌∷◌, ◌++◌, length, Option, Some, None, Result, Ok, Err, refl, ap, ◌∙◌}
-use Rattle.std.specs.Prelude.{codes, decimal, nat_lt, nat_le, ◌==◌, ◌-◌, drop}
+use Rattle.std.proofs.Common.{◌≡◌, ℕ, ◌+◌, false, List, ◌∷◌, ◌++◌, length, Option, Some, None, Result, Ok, Err, refl, ap, ◌∙◌}
+use Rattle.std.specs.Prelude.{codes, decimal, nat_lt, nat_le, ◌-◌, drop}
 use Rattle.stm_terms.specs.declared.verdicts.Verdict.{Verdict}
 use Rattle.stm_terms.specs.declared.verdicts.Verdict.TheVariants.{Commits, Throws, Blocks}
 use Rattle.stm_terms.specs.ReadSet.{reads_of}
@@ -21,7 +21,7 @@ use Rattle.stm_events.specs.Laws.{DeclaredAreCovered, WaitingAreWellTyped, Store
 use Rattle.stm_history.specs.Lines.{latest_format}
 use Rattle.stm_events.specs.Refusals.{missing, blocks_there, overflows, finish_first}
 use Rattle.stm_events.specs.SlowDesk.{Since, Waiter, Slow, under, verdict_on, is_blocks, is_new, is_current, find_waiter, without_waiter, stale_after, max_waiting}
-use Rattle.stm_events.specs.SlowSettle.{Stop, NoRoom, NoCells, ending, finishes, installs}
+use Rattle.stm_events.specs.SlowSettle.{Stop, NoRoom, NoCells, finishes, installs}
 use Rattle.stm_desk.specs.Refusals.{submit_refusal, finish_refusal, cancel_refusal}
 use Rattle.stm_desk.specs.Reasons.{WaitReason, reason_of}
 use Rattle.stm_desk.specs.Seen.{Seen, now, is_full}
@@ -30,17 +30,19 @@ use Rattle.stm_run.specs.declared.command.Command.{Command}
 use Rattle.stm_run.specs.declared.command.Command.TheVariants.{Tvar, Try, Looks, Submit, Take, Deliver, Handback, Eval, Finish, Cancel, Show, Reads, Store, Settle, History, Ready, Why, Events}
 use Rattle.stm_blocks.specs.declared.refusal.Refusal.{Refusal}
 use Rattle.stm_lines.specs.NumberArgument.{number_argument}
-use Rattle.stm_commands.specs.Arguments.{with_number, with_nothing}
 use Rattle.stm_blocks.specs.CompiledBlock.{compiled_block}
-use Rattle.stm_commands.specs.Blocks.{verdict_line, tried_text, try_answer, reads_line, looked_text, looks_answer, ticket_line, submitted_text, submit_text, submit_answer}
-use Rattle.stm_run.specs.Console.{desk_answer}
-use Rattle.stm_commands.specs.Delivering.{max_jobs, taken, job_text, numbered, jobs_line, take_text, take_answer, delivery_refusal, delivered_line, delivery_text, job_at, deliver_text, deliver_answer, queued_line, handback_text, handback_answer, evaluated_line, evaluated_text, evaluated, eval_answer}
-use Rattle.stm_commands.specs.Finishing.{finish_of, tickets_text, result_line, finished_line, finish_event_line, finish_text, finish_answer, cancelled_line, cancel_text, cancel_answer, settled_line, settle_text, settle_answer}
-use Rattle.stm_commands.specs.OpenDesk.{HandedOut, OpenDesk, present}
-use Rattle.stm_commands.specs.Refusals.{refused}
+use Rattle.stm_commands.specs.Arguments.{argument_refused}
+use Rattle.stm_commands.specs.Blocks.{verdict_line, tried_text, try_answer, reads_line, looked_text, looks_answer, ticket_line, submit_block_step, submit_text_step, submit_step}
+use Rattle.stm_commands.specs.Contents.{waiter_lines, show_text, show_answer, read_text, waiter_reads_text, reads_answer, cell_lines, store_text, store_answer, history_answer, events_text}
+use Rattle.stm_commands.specs.Endings.{tickets_text, result_line, finished_line, cancelled_line, settled_line, settle_text, finish_ticket_step, finish_step, cancel_ticket_step, cancel_step, settle_desk_step, settle_step, finish_verdict_step, finish_waiter_step}
+use Rattle.stm_commands.specs.Evaluation.{evaluated_line, evaluated, evaluation_text, eval_step, eval_desk_step}
+use Rattle.stm_commands.specs.Jobs.{max_jobs, taken, job_text, numbered, jobs_line, delivery_refusal, delivered_line, job_at, queued_line, with_jobs, take_jobs_step, take_step, delivery_step, deliver_job_step, deliver_step, handed_back, handback_ticket_step, handback_step}
+use Rattle.stm_commands.specs.OpenDesk.{HandedOut, OpenDesk, present, on_desk}
 use Rattle.stm_commands.specs.Questions.{ready_tickets, ready_text, ready_answer, reason_text, why_line, why_answer, later_events_text, events_answer}
-use Rattle.stm_commands.specs.Showing.{waiter_lines, show_text, show_answer, read_text, waiter_reads_text, reads_answer, cell_lines, store_text, store_answer, history_answer}
+use Rattle.stm_commands.specs.Refusals.{refused}
+use Rattle.stm_run.specs.Console.{desk_step}
 use Rattle.stm_run.specs.Laws.{EndsALine}
+use Rattle.stm_run.proofs.ArgumentCases.{either_has, number_has, nothing_has}
 use Rattle.stm_run.proofs.EndedLines.{refused_ends, refusal_ends, submit_error_ends, deliver_error_ends, finish_error_ends, cancel_error_ends, history_ends, counted_end}
 use Rattle.stm_run.proofs.TextsJudged.{BlockOrTold}
 use Rattle.stm_run.proofs.StandingDesk.{Stands}
@@ -48,17 +50,11 @@ use Rattle.stm_run.proofs.DeskMoves.{submit_told, cancel_told, finish_told, may_
 use Rattle.stm_run.proofs.DeliveredJobs.{refusal_told, evaluated_told}
 use Rattle.stm_queue.specs.Queue.{is_out}
 
--- ---- arguments
-either_ends : (b : Bool) (one other : List ℕ) → EndsALine one → EndsALine other → EndsALine (cond b one other)
-either_ends true one other h k = h
-either_ends false one other h k = k
+bad_ends : EndsALine argument_refused
+bad_ends = refused_ends (codes "Argument")
 
-number_ends : (answer : ℕ → List ℕ) (o : Option ℕ) → ((n : ℕ) → EndsALine (answer n)) → EndsALine (with_number answer o)
-number_ends answer (Some n) h = h n
-number_ends answer None h = refused_ends (codes "Argument")
-
-nothing_ends : (answer argument : List ℕ) → EndsALine answer → EndsALine (with_nothing answer argument)
-nothing_ends answer argument h = either_ends (length argument == 0) answer (refused (codes "Argument")) h (refused_ends (codes "Argument"))
+abbrev Ends : OpenDesk × List ℕ → Type 0
+Ends p = EndsALine p.1
 
 -- ---- blocks
 verdict_ends : (v : Verdict) (o : Option Verdict) → o ≡ Some v → EndsALine (verdict_line o)
@@ -71,37 +67,38 @@ unfolding reads_line
 looked_ends table cells (Ok b) h = (codes "reads " ++ list_text write_text (reads_of (under cells) b.tree), refl)
 looked_ends table cells (Err x) h = refusal_ends x h
 
-submitted_ends : (d : Seen) (block : Block) (o : Option SubmitError) → submit_refusal d block ≡ o → EndsALine (submitted_text d o)
+submitted_ends : (d : Seen) (block : Block) (o : Option SubmitError) → submit_refusal d block ≡ o → EndsALine (submit_block_step d block o).1
 unfolding ticket_line
 submitted_ends d block None e = (codes "ticket " ++ decimal (now d).next, refl)
 submitted_ends d block (Some x) e =
     submit_error_ends x (λ m. submit_told (missing (plains (now d).store) block.uses) (nat_le max_waiting (length (now d).waiters)) (is_full d) (e ∙ ap Some m))
 
-submit_ends : (d : Seen) (r : Result Block Refusal) → BlockOrTold d.table r → EndsALine (submit_text d r)
+submit_ends : (d : Seen) (r : Result Block Refusal) → BlockOrTold d.table r → EndsALine (submit_text_step d r).1
 submit_ends d (Ok b) h = submitted_ends d b (submit_refusal d b) refl
 submit_ends d (Err x) h = refusal_ends x h
 
 -- ---- jobs
-take_ends : (d : OpenDesk) (n : ℕ) → EndsALine (take_text d n)
+take_ends : (d : OpenDesk) (n : ℕ) → Ends (take_jobs_step d n)
 unfolding jobs_line
 take_ends d n =
-    either_ends (nat_lt max_jobs (n + length d.jobs)) (refused (codes "JobsFull")) (jobs_line (length d.jobs + 1) (taken d.desk n)) (refused_ends (codes "JobsFull"))
+    either_has Ends (nat_lt max_jobs (n + length d.jobs)) (d, refused (codes "JobsFull")) (with_jobs d (taken d.desk n), jobs_line (length d.jobs + 1) (taken d.desk n)) (refused_ends (codes "JobsFull"))
     (codes "jobs " ++ list_text job_text (numbered (length d.jobs + 1) (taken d.desk n)), refl)
 
-delivery_ends : (d : Seen) (j : HandedOut) (o : Option DeliverError) → delivery_refusal d j ≡ o → EndsALine (delivery_text j.ticket o)
+delivery_ends : (d : Seen) (j : HandedOut) (o : Option DeliverError) → delivery_refusal d j ≡ o → EndsALine (delivery_step d j o).1
 unfolding delivered_line
 delivery_ends d j None e = (codes "delivered " ++ decimal j.ticket, refl)
 delivery_ends d j (Some x) e = deliver_error_ends x (λ m. refusal_told d j (e ∙ ap Some m))
 
-deliver_ends : (d : Seen) (o : Option HandedOut) → EndsALine (deliver_text d o)
+deliver_ends : (d : Seen) (o : Option HandedOut) → EndsALine (deliver_job_step d o).1
 deliver_ends d None = refused_ends (codes "NoJob")
 deliver_ends d (Some j) = delivery_ends d j (delivery_refusal d j) refl
 
-handback_ends : (d : Seen) (t : ℕ) → EndsALine (handback_text d t)
+handback_ends : (d : Seen) (t : ℕ) → EndsALine (handback_ticket_step d t).1
 unfolding queued_line
-handback_ends d t = either_ends (is_out t d.pending) (queued_line t) (refused (codes "NotOut")) (codes "queued " ++ decimal t, refl) (refused_ends (codes "NotOut"))
+handback_ends d t =
+    either_has (λ (p : Seen × List ℕ). EndsALine p.1) (is_out t d.pending) (handed_back d t, queued_line t) (d, refused (codes "NotOut")) (codes "queued " ++ decimal t, refl) (refused_ends (codes "NotOut"))
 
-eval_ends : (d : Seen) (n : ℕ) (o : Option DeliverError) → (evaluated d).stop ≡ o → EndsALine (evaluated_text n o)
+eval_ends : (d : Seen) (n : ℕ) (o : Option DeliverError) → (evaluated d).stop ≡ o → EndsALine (evaluation_text n o)
 unfolding evaluated_line
 eval_ends d n None e = (codes "evaluated " ++ decimal n, refl)
 eval_ends d n (Some x) e = deliver_error_ends x (λ m. evaluated_told d (e ∙ ap Some m))
@@ -114,7 +111,7 @@ effect_ends t n (Commits writes news result) stale h =
 effect_ends t n (Throws fault) stale h = (codes "finished " ++ decimal t ++ 32 ∷ verdict_text (Throws fault), refl)
 effect_ends t n Blocks stale h = absurd cc
 
-cancel_ends : (d : Seen) (t : ℕ) (o : Option CancelError) → cancel_refusal d t ≡ o → EndsALine (cancel_text t o)
+cancel_ends : (d : Seen) (t : ℕ) (o : Option CancelError) → cancel_refusal d t ≡ o → EndsALine (cancel_ticket_step d t o).1
 unfolding cancelled_line
 cancel_ends d t None e = (codes "cancelled " ++ decimal t, refl)
 cancel_ends d t (Some x) e = cancel_error_ends x (λ m. cancel_told (find_waiter t (now d).waiters) (is_full d) (e ∙ ap Some m))
@@ -167,40 +164,48 @@ module _ (judged : (table : List Declared) (text : List ℕ) → BlockOrTold tab
   tried_ends d k (Err x) h = refusal_ends x h
 
   -- and so has a block that waits
-  ending_ends : (s : Slow) (t : ℕ) (w : Waiter) (v : Verdict) (o : Option Verdict) → o ≡ Some v → blocks_there o ≡ false → EndsALine (finish_event_line (ending s t o))
-  ending_ends s t w v None e h = absurd cc
-  ending_ends s t w v (Some x) e h = effect_ends t (length s.store) x (stale_after (changed_by s.store x) (without_waiter t s.waiters)) h
+  ending_ends : (d : Seen) (t : ℕ) (w : Waiter) (v : Verdict) (o : Option Verdict) → o ≡ Some v → blocks_there o ≡ false → EndsALine (finish_verdict_step d t o).1
+  ending_ends d t w v None e h = absurd cc
+  ending_ends d t w v (Some x) e h = let s = now d in effect_ends t (length s.store) x (stale_after (changed_by s.store x) (without_waiter t s.waiters)) h
 
-  finishing_ends : (d : Seen) (jobs : List HandedOut) (t : ℕ) (o : Option Waiter) → find_waiter t (now d).waiters ≡ o → finish_first (now d).store (is_full d) o ≡ None → Stands d jobs → EndsALine (finish_event_line (finish_of (now d) t o))
+  finishing_ends : (d : Seen) (jobs : List HandedOut) (t : ℕ) (o : Option Waiter) → find_waiter t (now d).waiters ≡ o → finish_first (now d).store (is_full d) o ≡ None → Stands d jobs → EndsALine (finish_waiter_step d t o).1
   finishing_ends d jobs t None f e k = absurd cc
   finishing_ends d jobs t (Some w) f e k =
       let o = verdict_on (now d).store w.block in
       let typed = wait Changed d.table d.history t w k.typed f in
       let v = verdicts Changed d.table d.history t w typed.0 k.legal (store_typed d jobs k) f typed.1 in
       let may = may_end (is_new w) (is_current w) (blocks_there o) (is_full d) (overflows (now d).store o) e in
-      ending_ends (now d) t w v.0 o v.1 may.ends
+      ending_ends d t w v.0 o v.1 may.ends
 
-  finish_ends : (d : Seen) (jobs : List HandedOut) (t : ℕ) (o : Option FinishError) → finish_refusal d t ≡ o → Stands d jobs → EndsALine (finish_text d t o)
+  finish_ends : (d : Seen) (jobs : List HandedOut) (t : ℕ) (o : Option FinishError) → finish_refusal d t ≡ o → Stands d jobs → EndsALine (finish_ticket_step d t o).1
   finish_ends d jobs t None e k = finishing_ends d jobs t (find_waiter t (now d).waiters) refl e k
   finish_ends d jobs t (Some x) e k = finish_error_ends x (λ m. finish_told (now d).store (is_full d) (find_waiter t (now d).waiters) (e ∙ ap Some m))
 
-  pub desk_ends : (d : OpenDesk) → Stands d.desk d.jobs → (c : Command) (argument : List ℕ) → EndsALine (desk_answer d c argument)
-  unfolding try_answer looks_answer submit_answer take_answer deliver_answer handback_answer eval_answer finish_answer cancel_answer show_answer reads_answer store_answer settle_answer history_answer ready_answer why_answer events_answer
+  pub desk_ends : (d : OpenDesk) → Stands d.desk d.jobs → (c : Command) (argument : List ℕ) → Ends (desk_step d c argument)
+  unfolding try_answer looks_answer submit_step take_step deliver_step handback_step eval_step finish_step cancel_step show_answer reads_answer store_answer settle_step history_answer ready_answer why_answer events_answer
   desk_ends d k Tvar argument = refused_ends (codes "Late")
   desk_ends d k Try argument = tried_ends d k (compiled_block d.desk.table argument) (judged d.desk.table argument)
   desk_ends d k Looks argument = looked_ends d.desk.table (present d) (compiled_block d.desk.table argument) (judged d.desk.table argument)
   desk_ends d k Submit argument = submit_ends d.desk (compiled_block d.desk.table argument) (judged d.desk.table argument)
-  desk_ends d k Take argument = number_ends (take_text d) (number_argument argument) (take_ends d)
-  desk_ends d k Deliver argument = number_ends _ (number_argument argument) (λ n. deliver_ends d.desk (job_at n d.jobs))
-  desk_ends d k Handback argument = number_ends (handback_text d.desk) (number_argument argument) (handback_ends d.desk)
-  desk_ends d k Eval argument = nothing_ends _ argument (eval_ends d.desk (evaluated d.desk).count (evaluated d.desk).stop refl)
-  desk_ends d k Finish argument = number_ends _ (number_argument argument) (λ t. finish_ends d.desk d.jobs t (finish_refusal d.desk t) refl k)
-  desk_ends d k Cancel argument = number_ends _ (number_argument argument) (λ t. cancel_ends d.desk t (cancel_refusal d.desk t) refl)
-  desk_ends d k Show argument = nothing_ends (show_text (now d.desk)) argument (show_ends (now d.desk))
-  desk_ends d k Reads argument = number_ends _ (number_argument argument) (λ t. waiter_ends (find_waiter t (now d.desk).waiters))
-  desk_ends d k Store argument = nothing_ends (store_text d.desk.table (present d)) argument (cells_end d.desk.table (present d))
-  desk_ends d k Settle argument = nothing_ends _ argument (settle_ends (slow_settle (called_back d.desk)) (slow_stop (called_back d.desk)))
-  desk_ends d k History argument = nothing_ends _ argument (history_ends latest_format d.desk.table d.desk.history)
-  desk_ends d k Ready argument = nothing_ends (ready_text (now d.desk)) argument (ready_ends (now d.desk))
-  desk_ends d k Why argument = number_ends _ (number_argument argument) (λ t. why_ends t (reason_of d.desk t))
-  desk_ends d k Events argument = number_ends _ (number_argument argument) (later_events_end d)
+  desk_ends d k Take argument = number_has Ends (take_jobs_step d) (d, argument_refused) (number_argument argument) (take_ends d) bad_ends
+  desk_ends d k Deliver argument = number_has Ends (λ n. on_desk d (deliver_job_step d.desk (job_at n d.jobs))) (d, argument_refused) (number_argument argument) (λ n. deliver_ends d.desk (job_at n d.jobs)) bad_ends
+  desk_ends d k Handback argument = number_has Ends (λ t. on_desk d (handback_ticket_step d.desk t)) (d, argument_refused) (number_argument argument) (handback_ends d.desk) bad_ends
+  desk_ends d k Eval argument =
+      nothing_has Ends (on_desk d (eval_desk_step d.desk)) (d, argument_refused) argument
+      (eval_ends d.desk (evaluated d.desk).count (evaluated d.desk).stop refl) bad_ends
+  desk_ends d k Finish argument =
+      number_has Ends (λ t. on_desk d (finish_ticket_step d.desk t (finish_refusal d.desk t))) (d, argument_refused) (number_argument argument)
+      (λ t. finish_ends d.desk d.jobs t (finish_refusal d.desk t) refl k) bad_ends
+  desk_ends d k Cancel argument =
+      number_has Ends (λ t. on_desk d (cancel_ticket_step d.desk t (cancel_refusal d.desk t))) (d, argument_refused) (number_argument argument) (λ t. cancel_ends d.desk t (cancel_refusal d.desk t) refl) bad_ends
+  desk_ends d k Show argument = nothing_has EndsALine (show_text (now d.desk)) argument_refused argument (show_ends (now d.desk)) bad_ends
+  desk_ends d k Reads argument =
+      number_has EndsALine (λ t. waiter_reads_text (find_waiter t (now d.desk).waiters)) argument_refused (number_argument argument) (λ t. waiter_ends (find_waiter t (now d.desk).waiters)) bad_ends
+  desk_ends d k Store argument = nothing_has EndsALine (store_text d.desk.table (present d)) argument_refused argument (cells_end d.desk.table (present d)) bad_ends
+  desk_ends d k Settle argument =
+      let e = called_back d.desk in
+      nothing_has Ends (on_desk d (settle_desk_step e)) (d, argument_refused) argument (settle_ends (slow_settle e) (slow_stop e)) bad_ends
+  desk_ends d k History argument = nothing_has EndsALine (events_text d) argument_refused argument (history_ends latest_format d.desk.table d.desk.history) bad_ends
+  desk_ends d k Ready argument = nothing_has EndsALine (ready_text (now d.desk)) argument_refused argument (ready_ends (now d.desk)) bad_ends
+  desk_ends d k Why argument = number_has EndsALine (λ t. why_line t (reason_of d.desk t)) argument_refused (number_argument argument) (λ t. why_ends t (reason_of d.desk t)) bad_ends
+  desk_ends d k Events argument = number_has EndsALine (later_events_text d) argument_refused (number_argument argument) (later_events_end d) bad_ends

@@ -19,11 +19,10 @@ use Rattle.stm_events.specs.declared.errors.CancelError.TheVariants as cancel
 use Rattle.stm_events.specs.Laws.{IsWellTyped}
 use Rattle.stm_events.specs.Refusals.{missing, submit_first, blocks_there, overflows, finish_first, cancel_first}
 use Rattle.stm_events.specs.SlowDesk.{Waiter, verdict_on, is_new, is_current, find_waiter, without_waiter, stale_after, max_cells, max_waiting, MayFinish}
-use Rattle.stm_events.specs.SlowSettle.{ending}
 use Rattle.stm_desk.specs.Refusals.{submit_refusal, finish_refusal, cancel_refusal}
 use Rattle.stm_desk.specs.Seen.{Seen, now, is_full}
-use Rattle.stm_commands.specs.Blocks.{submitted}
-use Rattle.stm_commands.specs.Finishing.{finish_of, with_what, after_finish, after_cancel}
+use Rattle.stm_commands.specs.Blocks.{submit_block_step}
+use Rattle.stm_commands.specs.Endings.{finish_ticket_step, cancel_ticket_step, finish_verdict_step, finish_waiter_step}
 use Rattle.stm_commands.specs.OpenDesk.{HandedOut}
 use Rattle.stm_run.proofs.StandingDesk.{Stands, stands_event}
 use Rattle.stm_run.proofs.TypedTable.{same_kind}
@@ -52,7 +51,7 @@ none_missing cells (u ∷ us) e = covered_first cells u us (is_type (kinds_of ce
 few_wait : (n : ℕ) → nat_le max_waiting n ≡ false → n < max_waiting
 few_wait n e = grind (arith, nat_tests)
 
-pub submitted_stands : (d : Seen) (jobs : List HandedOut) (block : Block) → IsWellTyped block → (o : Option SubmitError) → submit_refusal d block ≡ o → Stands d jobs → Stands (submitted d block o) jobs
+pub submitted_stands : (d : Seen) (jobs : List HandedOut) (block : Block) → IsWellTyped block → (o : Option SubmitError) → submit_refusal d block ≡ o → Stands d jobs → Stands (submit_block_step d block o).0 jobs
 submitted_stands d jobs block w (Some x) e k = k
 submitted_stands d jobs block w None e k =
     let s = now d in
@@ -67,11 +66,11 @@ submit_told None false true e = cc
 submit_told None false false e = cc
 
 -- ---- cancel
-pub cancelled_stands : (d : Seen) (jobs : List HandedOut) (t : ℕ) (o : Option CancelError) → cancel_refusal d t ≡ o → Stands d jobs → Stands (after_cancel d t o) jobs
+pub cancelled_stands : (d : Seen) (jobs : List HandedOut) (t : ℕ) (o : Option CancelError) → cancel_refusal d t ≡ o → Stands d jobs → Stands (cancel_ticket_step d t o).0 jobs
 cancelled_stands d jobs t (Some x) e k = k
 cancelled_stands d jobs t None e k = by (find_waiter t (now d).waiters) refl (is_full d) refl e
   where
-    by : (o : Option Waiter) → find_waiter t (now d).waiters ≡ o → (full : Bool) → is_full d ≡ full → cancel_first o full ≡ None → Stands (after_cancel d t None) jobs
+    by : (o : Option Waiter) → find_waiter t (now d).waiters ≡ o → (full : Bool) → is_full d ≡ full → cancel_first o full ≡ None → Stands (cancel_ticket_step d t None).0 jobs
     by None f full r q = absurd cc
     by (Some w) f true r q = absurd cc
     by (Some w) f false r q = stands_event d jobs (Cancelled t) r (subst (λ (o : Option Waiter). IsSomeAnd o (λ w. Unit {0})) (sym f) tt) tt k
@@ -121,7 +120,7 @@ room_for store v e = of (nat_le (length store + length (made_by v)) max_cells) r
     of false h q = absurd cc
 
 finishes_by : (d : Seen) (jobs : List HandedOut) (t : ℕ) (w : Waiter) (v : Option Verdict) → find_waiter t (now d).waiters ≡ Some w → verdict_on (now d).store w.block ≡ v
-    → MayEnd (is_new w) (is_current w) (blocks_there v) (is_full d) (overflows (now d).store v) → Stands d jobs → Stands (with_what d (ending (now d) t v)) jobs
+    → MayEnd (is_new w) (is_current w) (blocks_there v) (is_full d) (overflows (now d).store v) → Stands d jobs → Stands (finish_verdict_step d t v).0 jobs
 finishes_by d jobs t w None f e m k = k
 finishes_by d jobs t w (Some v) f e m k =
     let s = now d in
@@ -137,12 +136,12 @@ finishes_by d jobs t w (Some v) f e m k =
     stands_event d jobs (Finished t v (length s.store) stale) m.room
     (subst (λ (o : Option Waiter). IsSomeAnd o (λ x. MayFinish s t x v (length s.store) stale)) (sym f) may) tt k
 
-finishes_of : (d : Seen) (jobs : List HandedOut) (t : ℕ) (o : Option Waiter) → find_waiter t (now d).waiters ≡ o → finish_first (now d).store (is_full d) o ≡ None → Stands d jobs → Stands (with_what d (finish_of (now d) t o)) jobs
+finishes_of : (d : Seen) (jobs : List HandedOut) (t : ℕ) (o : Option Waiter) → find_waiter t (now d).waiters ≡ o → finish_first (now d).store (is_full d) o ≡ None → Stands d jobs → Stands (finish_waiter_step d t o).0 jobs
 finishes_of d jobs t None f e k = absurd cc
 finishes_of d jobs t (Some w) f e k =
     let v = verdict_on (now d).store w.block in
     finishes_by d jobs t w v f refl (may_end (is_new w) (is_current w) (blocks_there v) (is_full d) (overflows (now d).store v) e) k
 
-pub finished_stands : (d : Seen) (jobs : List HandedOut) (t : ℕ) (o : Option FinishError) → finish_refusal d t ≡ o → Stands d jobs → Stands (after_finish d t o) jobs
+pub finished_stands : (d : Seen) (jobs : List HandedOut) (t : ℕ) (o : Option FinishError) → finish_refusal d t ≡ o → Stands d jobs → Stands (finish_ticket_step d t o).0 jobs
 finished_stands d jobs t (Some x) e k = k
 finished_stands d jobs t None e k = finishes_of d jobs t (find_waiter t (now d).waiters) refl e k

@@ -14,21 +14,21 @@ use Rattle.stm_run.specs.declared.console.Console.{Console}
 use Rattle.stm_run.specs.declared.console.Console.TheVariants.{Declaring, Open}
 use Rattle.stm_blocks.specs.declared.refusal.Refusal.{Refusal}
 use Rattle.stm_blocks.specs.CompiledBlock.{compiled_block}
-use Rattle.stm_run.specs.Console.{command_named, command_answer, answer_to_command, answer_to_class, answer_to, initial_console}
-use Rattle.stm_run.specs.ConsoleState.{present_desk}
 use Rattle.stm_blocks.specs.DeclaredVariable.{variable_of}
-use Rattle.stm_run.specs.Declaring.{tvar_line, declared_text, tvar_answer}
 use Rattle.stm_lines.specs.LineClass.{LineClass, TooLong, Silent, NotAscii, Words, line_class}
+use Rattle.stm_run.specs.Console.{command_named, initial_console, command_step, word_step, class_step, step}
+use Rattle.stm_run.specs.ConsoleState.{present_desk}
+use Rattle.stm_run.specs.Declaring.{tvar_line, declare_step, tvar_step}
 use Rattle.stm_run.specs.Laws.{EndsALine, state_after_lines, EachLineIsAnswered}
 use Rattle.stm_run.proofs.DeskAnswers.{desk_ends}
 use Rattle.stm_run.proofs.EndedLines.{refused_ends, refusal_ends}
 use Rattle.stm_run.proofs.TextsJudged.{MayHoldOrTold, declares, BlockOrTold, compiled}
 use Rattle.stm_run.proofs.ReachedConsole.{IsReached, present_stands, reached}
 
-declared_ends : (table : List Declared) (number : ℕ) (r : Result Declared Refusal) → MayHoldOrTold table r → EndsALine (declared_text number r)
+declare_ends : (table : List Declared) (limit : ℕ) (r : Result Declared Refusal) → MayHoldOrTold table r → EndsALine (declare_step table limit r).1
 unfolding tvar_line
-declared_ends table number (Ok d) h = (codes "tvar #" ++ decimal number ++ 32 ∷ d.name, refl)
-declared_ends table number (Err e) h = refusal_ends e h
+declare_ends table limit (Ok d) h = (codes "tvar #" ++ decimal (length table) ++ 32 ∷ d.name, refl)
+declare_ends table limit (Err e) h = refusal_ends e h
 
 module _ (blocks : BlockAnswersAreRight) (declarations : DeclarationAnswersAreRight) (faults : CheckNeverSaysNoMemory) (fits : VerdictFits) (stable : VerdictIsStable) (rise : TicketsRise) (cover : DeclaredAreCovered) (stay : BlocksStay) (checked : CheckedAreWellTyped) (wait : WaitingAreWellTyped) (stay_typed : StoresAreTyped) (verdicts : BlocksHaveVerdicts) where
   judged : (table : List Declared) (text : List ℕ) → BlockOrTold table (compiled_block table text)
@@ -37,25 +37,25 @@ module _ (blocks : BlockAnswersAreRight) (declarations : DeclarationAnswersAreRi
   declared : (table : List Declared) (text : List ℕ) → MayHoldOrTold table (variable_of table text)
   declared = declares blocks declarations faults checked
 
-  tvar_ends : (s : Console) (argument : List ℕ) → EndsALine (tvar_answer s argument)
-  tvar_ends (Declaring table limit) argument = declared_ends table (length table) (variable_of table argument) (declared table argument)
+  tvar_ends : (s : Console) (argument : List ℕ) → EndsALine (tvar_step s argument).1
+  tvar_ends (Declaring table limit) argument = declare_ends table limit (variable_of table argument) (declared table argument)
   tvar_ends (Open d) argument = refused_ends (codes "Late")
 
-  command_ends : (s : Console) → IsReached s → (c : Command) (argument : List ℕ) → EndsALine (command_answer s c argument)
+  command_ends : (s : Console) → IsReached s → (c : Command) (argument : List ℕ) → EndsALine (command_step s c argument).1
   command_ends s h Tvar argument = tvar_ends s argument
   command_ends s h c argument = desk_ends judged fits cover wait stay_typed verdicts (present_desk s) (present_stands s h) c argument
 
-  named_ends : (s : Console) → IsReached s → (o : Option Command) (argument : List ℕ) → EndsALine (answer_to_command s o argument)
-  named_ends s h (Some c) argument = command_ends s h c argument
-  named_ends s h None argument = refused_ends (codes "Command")
+  word_ends : (s : Console) → IsReached s → (o : Option Command) (argument : List ℕ) → EndsALine (word_step s o argument).1
+  word_ends s h (Some c) argument = command_ends s h c argument
+  word_ends s h None argument = refused_ends (codes "Command")
 
-  class_ends : (s : Console) → IsReached s → (j : LineClass) → j ≢ Silent → EndsALine (answer_to_class s j)
+  class_ends : (s : Console) → IsReached s → (j : LineClass) → j ≢ Silent → EndsALine (class_step s j).1
   class_ends s h TooLong n = refused_ends (codes "LineTooLong")
   class_ends s h Silent n = absurd (n refl)
   class_ends s h NotAscii n = refused_ends (codes "NotAscii")
-  class_ends s h (Words word argument) n = named_ends s h (command_named word) argument
+  class_ends s h (Words word argument) n = word_ends s h (command_named word) argument
 
   pub each_line : EachLineIsAnswered
-  unfolding answer_to
+  unfolding step
   each_line max_events low before line n =
       class_ends (state_after_lines (initial_console max_events) before) (reached blocks declarations faults stable rise stay checked max_events low before) (line_class line) n

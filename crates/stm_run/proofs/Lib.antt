@@ -1,6 +1,8 @@
 pub mod AgreeingReads
 pub mod AnsweredLongLines
+pub mod ArgumentCases
 pub mod Chunks
+pub mod CommandWords
 pub mod DeliveredJobs
 pub mod DeskAnswers
 pub mod DeskMoves

@@ -1,11 +1,11 @@
--- What the code's answers are to the definitions.
+-- What the code's replies are to the definitions.
 use Rattle.std.specs.Prelude.{◌≡◌, ℕ, List, [], ◌++◌}
 use Rattle.stm_run.specs.declared.console.Console.{Console}
 use Rattle.stm_run.specs.declared.console.Console.TheVariants.{Declaring, Open}
 use Rattle.stm_run.specs.declared.reply.Reply.{Reply}
 use Rattle.stm_run.specs.declared.reply.Reply.TheVariants as reply
 use Rattle.stm_commands.specs.Questions.{later_events_text}
-use Rattle.stm_commands.specs.Showing.{events_text}
+use Rattle.stm_commands.specs.Contents.{events_text}
 
 -- the text of the history, once the desk is open
 abbrev pub history_of : Console → List ℕ
@@ -22,3 +22,7 @@ abbrev pub IsReply : Reply → List ℕ → List ℕ → Console → List ℕ �
 IsReply reply.Text old new c answer = new ≡ old ++ answer
 IsReply reply.History old new c answer = (new ≡ old) × (answer ≡ history_of c)
 IsReply (reply.Events n) old new c answer = (new ≡ old) × (answer ≡ later_events_of c n)
+
+-- this is the console after a step, and the reply is what the step writes
+abbrev pub IsStep : Reply → List ℕ → List ℕ → Console → Console × List ℕ → Type 0
+IsStep r old new c s = (c ≡ s.0) × IsReply r old new c s.1

@@ -3,7 +3,7 @@ use Rattle.std.specs.Prelude.{Result}
 use Rattle.std.specs.Borrow.{LendsIfOk, MutBor, Fml}
 use Rattle.std.specs.declared.alloc.AllocError.{AllocError}
 use Rattle.stm_run.specs.contracts.console.Console as console
-use Rattle.stm_commands.specs.contracts.opened.OpenDesk as opened
+use Rattle.stm_commands.specs.contracts.open_desk.OpenDesk as opened
 use Rattle.stm_run.specs.declared.console.Console.{Console}
 use Rattle.stm_run.specs.declared.console.Console.TheVariants.{Open}
 use Rattle.stm_commands.specs.OpenDesk.{OpenDesk}

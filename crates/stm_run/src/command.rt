@@ -1,7 +1,7 @@
 //! The words of the commands.
 
-ghost use Rattle.std.specs.Prelude.{◌≡◌};
-ghost use Rattle.stm_run.specs.Console.{question_named, asking_named, moving_named, command_named};
+ghost use Rattle.std.specs.Prelude.{◌≡◌, take, drop};
+ghost use Rattle.stm_run.specs.Console.{command_words, command_in, command_named};
 
 /// A command of the console (docs/CONSOLE.md, "Commands").
 #[derive(Clone, Copy, PartialEq, Eq, Debug)]
@@ -26,10 +26,9 @@ pub enum Command {
     Events,
 }
 
-// The command of a word, of those that leave an open desk as it is.
-#[tactic(auto, unfolding(crate::specs::Console::asking_named))]
-fn asking_of(word: &[u8]) -> Option<Command>
-    ensures { result ≡ asking_named word.now }
+// The command of a word, of the first six.
+fn of_first_six(word: &[u8]) -> Option<Command>
+    ensures { result ≡ command_in (take 6 command_words) word.now }
 {
     if word == b"tvar".as_slice() {
         return Some(Command::Tvar);
@@ -49,17 +48,16 @@ fn asking_of(word: &[u8]) -> Option<Command>
     if word == b"store".as_slice() {
         return Some(Command::Store);
     }
+    None
+}
+
+// The command of a word, of the next six.
+fn of_next_six(word: &[u8]) -> Option<Command>
+    ensures { result ≡ command_in (take 6 (drop 6 command_words)) word.now }
+{
     if word == b"history".as_slice() {
         return Some(Command::History);
     }
-    question_of(word)
-}
-
-// The command of a word, of those that ask about the desk's turns.
-#[tactic(auto, unfolding(crate::specs::Console::question_named))]
-fn question_of(word: &[u8]) -> Option<Command>
-    ensures { result ≡ question_named word.now }
-{
     if word == b"ready".as_slice() {
         return Some(Command::Ready);
     }
@@ -69,20 +67,19 @@ fn question_of(word: &[u8]) -> Option<Command>
     if word == b"events".as_slice() {
         return Some(Command::Events);
     }
-    None
-}
-
-// The command of a word, of those that may change it.
-#[tactic(auto, unfolding(crate::specs::Console::moving_named))]
-fn moving_of(word: &[u8]) -> Option<Command>
-    ensures { result ≡ moving_named word.now }
-{
     if word == b"submit".as_slice() {
         return Some(Command::Submit);
     }
     if word == b"take".as_slice() {
         return Some(Command::Take);
     }
+    None
+}
+
+// The command of a word, of the last six.
+fn of_last_six(word: &[u8]) -> Option<Command>
+    ensures { result ≡ command_in (drop 12 command_words) word.now }
+{
     if word == b"deliver".as_slice() {
         return Some(Command::Deliver);
     }
@@ -105,12 +102,14 @@ fn moving_of(word: &[u8]) -> Option<Command>
 }
 
 /// The command of a word, if it is one.
-#[tactic(auto, unfolding(crate::specs::Console::command_named))]
 pub fn command_of(word: &[u8]) -> Option<Command>
     ensures { result ≡ command_named word.now }
 {
-    if let Some(command) = asking_of(word) {
+    if let Some(command) = of_first_six(word) {
         return Some(command);
     }
-    moving_of(word)
+    if let Some(command) = of_next_six(word) {
+        return Some(command);
+    }
+    of_last_six(word)
 }

@@ -2,12 +2,13 @@
 
 ghost use Rattle.std.specs.Prelude.{◌≡◌, ◌++◌, Some, string_bytes, OnOk, OnErr, IfOk};
 ghost use Rattle.stm_history.specs.HistoryText.{WritesText};
-ghost use Rattle.stm_run.specs.Abstraction.{IsReply, history_of, later_events_of};
-ghost use Rattle.stm_run.specs.Console.{initial_console, command_named, desk_answer, desk_after, answer_to_command, state_after_command, answer_to, state_after};
-ghost use Rattle.stm_run.specs.ConsoleState.{present_desk};
+ghost use Rattle.stm_commands.specs.Contents.{history_answer};
+ghost use Rattle.stm_commands.specs.OpenDesk.{Steps};
 ghost use Rattle.stm_commands.specs.Questions.{events_answer};
-ghost use Rattle.stm_commands.specs.Showing.{history_answer};
-ghost use Rattle.stm_run.specs.Declaring.{tvar_answer, tvar_line, tvar_state};
+ghost use Rattle.stm_run.specs.Abstraction.{IsReply, IsStep, history_of, later_events_of};
+ghost use Rattle.stm_run.specs.Console.{initial_console, command_named, desk_step, on_console, word_step, step};
+ghost use Rattle.stm_run.specs.ConsoleState.{present_desk};
+ghost use Rattle.stm_run.specs.Declaring.{tvar_line, tvar_step};
 ghost use Rattle.stm_run.specs.declared.console.Console.TheVariants.{Open as IsOpen};
 
 use crate::command::{Command, command_of};
@@ -18,7 +19,7 @@ use std::io::Write;
 use std::str;
 use std::thread::Threads;
 use stm_blocks::declaring::declare;
-use stm_commands::refusing::{refuse, write_refusal};
+use stm_commands::refusals::{refuse, refuse_argument, write_refusal};
 use stm_commands::{OpenDesk, Threading};
 use stm_history::WriteFault;
 use stm_lines::arguments::number_of;
@@ -43,7 +44,7 @@ fn write_declared(number: u32, name: &str, out: &mut String) -> Result<(), NoMem
 }
 
 /// Answers `history`.
-#[tactic(auto, unfolding(stm_commands::specs::Showing::history_answer))]
+#[tactic(auto, unfolding(stm_commands::specs::Contents::history_answer))]
 fn answer_history(desk: &OpenDesk, argument: &str, out: &mut String) -> Result<Reply, NoMemory>
     ensures { IfOk result (λ r. IsReply r (string_bytes out.old) (string_bytes out.new)
         (IsOpen desk.now) (history_answer desk.now argument.now)) }
@@ -51,7 +52,7 @@ fn answer_history(desk: &OpenDesk, argument: &str, out: &mut String) -> Result<R
     if argument.is_empty() {
         return Ok(Reply::History);
     }
-    refuse("Argument", out).and(Ok(Reply::Text))
+    refuse_argument(out).and(Ok(Reply::Text))
 }
 
 /// Answers `events`.
@@ -62,7 +63,7 @@ fn answer_events(desk: &OpenDesk, argument: &str, out: &mut String) -> Result<Re
 {
     match number_of(argument.as_bytes()) {
         Some(n) => Ok(Reply::Events(n)),
-        None => refuse("Argument", out).and(Ok(Reply::Text)),
+        None => refuse_argument(out).and(Ok(Reply::Text)),
     }
 }
 
@@ -76,9 +77,8 @@ fn answer_on_desk<T: Threads + Sync>(
     argument: &str,
     out: &mut String,
 ) -> Result<Reply, NoMemory>
-    ensures text { IfOk result (λ r. IsReply r (string_bytes out.old) (string_bytes out.new)
-        (IsOpen desk.new) (desk_answer desk.old command argument.now)) }
-    ensures state { OnOk result (desk.new ≡ desk_after desk.old command argument.now) }
+    ensures { IfOk result (λ r. IsStep r (string_bytes out.old) (string_bytes out.new)
+        (IsOpen desk.new) (on_console (desk_step desk.old command argument.now))) }
 {
     let done = match command {
         Command::History => return answer_history(desk, argument, out),
@@ -150,9 +150,8 @@ impl Console {
         argument: &str,
         out: &mut String,
     ) -> Result<(), NoMemory>
-        ensures text { OnOk result
-            (string_bytes out.new ≡ string_bytes out.old ++ tvar_answer self.old argument.now) }
-        ensures state { OnOk result (self.new ≡ tvar_state self.old argument.now) }
+        ensures { OnOk result (Steps self.new (string_bytes out.old) (string_bytes out.new)
+            (tvar_step self.old argument.now)) }
     {
         let Console::Declaring { table, .. } = self else {
             return refuse("Late", out);
@@ -173,10 +172,8 @@ impl Console {
         argument: &str,
         out: &mut String,
     ) -> Result<Reply, NoMemory>
-        ensures text { IfOk result (λ r. IsReply r (string_bytes out.old) (string_bytes out.new)
-            self.new (answer_to_command self.old (command_named word.now) argument.now)) }
-        ensures state { OnOk result
-            (self.new ≡ state_after_command self.old (command_named word.now) argument.now) }
+        ensures { IfOk result (λ r. IsStep r (string_bytes out.old) (string_bytes out.new)
+            self.new (word_step self.old (command_named word.now) argument.now)) }
     {
         match command_of(word) {
             None => refuse("Command", out).and(Ok(Reply::Text)),
@@ -189,7 +186,7 @@ impl Console {
     }
 
     /// Appends the answer to a line, or says that it is the history.
-    #[tactic(auto, unfolding(crate::specs::Console::answer_to, crate::specs::Console::state_after))]
+    #[tactic(auto, unfolding(crate::specs::Console::step))]
     pub fn answer<T: Threads + Sync>(
         &mut self,
         rt: &T,
@@ -198,9 +195,8 @@ impl Console {
         line: &[u8],
         out: &mut String,
     ) -> Result<Reply, NoMemory>
-        ensures text { IfOk result (λ r. IsReply r (string_bytes out.old) (string_bytes out.new)
-            self.new (answer_to self.old line.now)) }
-        ensures state { OnOk result (self.new ≡ state_after self.old line.now) }
+        ensures { IfOk result (λ r. IsStep r (string_bytes out.old) (string_bytes out.new)
+            self.new (step self.old line.now)) }
     {
         match judge(line) {
             Judgement::TooLong => refuse("LineTooLong", out).and(Ok(Reply::Text)),

@@ -4,9 +4,9 @@
 //! `console` what the console knows: the declared variables, or an open desk of `stm_commands`; `command` has the words of the
 //! commands, `limit` how many events a desk takes, and `reply` where an answer is. `laws` says what holds of the text.
 //!
-//! What a reader has to believe is in these modules of specs/: `Console` has what is written for the lines of an input, over
-//! `ConsoleState`, what is known between two of them; `Declaring` has what `tvar` answers and changes (the other commands are in
-//! `stm_commands`); `Laws` what holds of all texts.
+//! What a reader has to believe is in these modules of specs/: `Console` has the step of a line and what is written for an
+//! input, over `ConsoleState`, what is known between two lines; `Declaring` has the step of `tvar` (those of the other
+//! commands are in `stm_commands`); `Laws` what holds of all texts.
 #![tactic(auto)]
 
 pub mod command;

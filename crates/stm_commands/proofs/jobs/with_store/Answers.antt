@@ -1,5 +1,5 @@
 use Rattle.std.proofs.Common.{rules, ◌≡◌, ◌∷◌, ◌++◌, [], subst, sym}
-use Rattle.stm_commands.specs.Kept.{handed_out, AreStored}
+use Rattle.stm_commands.specs.OpenInvariant.{handed_out, AreStored}
 use Rattle.stm_commands.proofs.KeptStores.{kept_next, are_stored_push}
 use Rattle.stm_commands.proofs.jobs.with_store.Goals as goal
 

@@ -1,5 +1,5 @@
 use Rattle.std.proofs.Common.{◌≡◌, ◌++◌, map}
-use Rattle.stm_commands.specs.Kept.{handed_out, job_kept, AreStored}
+use Rattle.stm_commands.specs.OpenInvariant.{handed_out, job_kept, AreStored}
 use Rattle.stm_commands.proofs.jobs.with_store.Given as goal
 
 abbrev pub invariant-loop-job : goal.invariant-loop-job

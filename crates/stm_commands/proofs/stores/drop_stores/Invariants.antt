@@ -1,6 +1,6 @@
 use Rattle.std.proofs.Common.{◌≡◌, ◌≤◌, map}
 use Rattle.stm_desk.specs.Seen.{now}
-use Rattle.stm_commands.specs.Kept.{job_kept, HaveStores}
+use Rattle.stm_commands.specs.OpenInvariant.{job_kept, HaveStores}
 use Rattle.stm_commands.proofs.stores.drop_stores.Given as goal
 
 abbrev pub invariant-loop-i : goal.invariant-loop-i

@@ -1,7 +1,7 @@
 use Rattle.std.proofs.Common.{arith, ◌≡◌, ◌++◌, sym, subst, length, drop, take}
 use Rattle.std.proofs.lemmas.Grind.{common_steps}
 use Rattle.stm_desk.specs.Seen.{now}
-use Rattle.stm_commands.specs.Kept.{HaveStores}
+use Rattle.stm_commands.specs.OpenInvariant.{HaveStores}
 use Rattle.stm_commands.proofs.KeptStores.{all_stored, stored_append}
 use Rattle.stm_commands.proofs.stores.Stores.append.Goals as goal
 

@@ -1,0 +1,110 @@
+-- What the calls of a command did is its step.
+use Rattle.std.proofs.Common.{◌≡◌, ◌≢◌, ℕ, ◌+◌, Bool, false, cond, List, ◌++◌, length, Option, Some, None, Result, Ok, Err, OnOk, refl, sym, ap, ap₂, subst, ◌∙◌, append_assoc}
+use Rattle.std.specs.Prelude.{codes, nat_lt}
+use Rattle.stm_check.specs.TypedBlock.{Block}
+use Rattle.stm_queue.specs.Queue.{Entry, is_out}
+use Rattle.stm_machine.specs.JobsHandedOut.{sent}
+use Rattle.stm_machine.specs.Machine.{event}
+use Rattle.stm_events.specs.declared.errors.DeliverError.{DeliverError}
+use Rattle.stm_events.specs.declared.errors.SubmitError.{SubmitError}
+use Rattle.stm_events.specs.declared.event.What.TheVariants.{Submitted}
+use Rattle.stm_events.specs.Refusals.{submit_told}
+use Rattle.stm_events.specs.SlowSettle.{finishes}
+use Rattle.stm_desk.specs.declared.errors.SettleWhy.{SettleWhy}
+use Rattle.stm_desk.specs.declared.errors.SettleWhy.TheVariants.{HistoryFull, CellsFull, NoMemory}
+use Rattle.stm_desk.specs.Refusals.{submit_refusal}
+use Rattle.stm_desk.specs.Seen.{Seen, now, with_event}
+use Rattle.stm_desk.specs.Settling.{with_whats, called_back, slow_settle, slow_stop, HasSettled, StopTold}
+use Rattle.stm_commands.specs.Blocks.{ticket_line, submit_block_step}
+use Rattle.stm_commands.specs.Endings.{settled_line, why_text, settle_text, settle_desk_step}
+use Rattle.stm_commands.specs.declared.evaluation.Progress.{Progress}
+use Rattle.stm_commands.specs.Evaluation.{Delivered, evaluated, evaluation_text, eval_desk_step}
+use Rattle.stm_commands.specs.Jobs.{max_jobs, jobs_of, taken, jobs_line, with_jobs, take_jobs_step, delivery_refusal, delivery_step, deliver_job_step, queued_line, handed_back, handback_ticket_step}
+use Rattle.stm_commands.specs.OpenDesk.{HandedOut, OpenDesk, on_desk, Steps}
+use Rattle.stm_commands.specs.OpenInvariant.{delivered_so_far}
+use Rattle.stm_commands.specs.Refusals.{refused, submit_error_text}
+use Rattle.stm_commands.proofs.EvaluatedHere.{marked_queued}
+
+abbrev opened_as : List HandedOut → Seen → OpenDesk
+opened_as js d = record { desk = d; jobs = js }
+
+-- ---- submit
+pub submit_ok : {A E : Type 0} → (d e : Seen) (js : List HandedOut) (b : Block) (t : ℕ) (old new : List ℕ) (r : Result A E) → e ≡ with_event d (event 0 (Submitted t b)) → t ≡ (now d).next → None ≡ submit_refusal d b
+    → OnOk r (new ≡ old ++ ticket_line t) → OnOk r (Steps (opened_as js e) old new (on_desk (opened_as js d) (submit_block_step d b (submit_refusal d b))))
+submit_ok d e js b t old new (Ok x) p q n h =
+    subst (λ (o : Option SubmitError). Steps (opened_as js e) old new (on_desk (opened_as js d) (submit_block_step d b o))) n
+    (ap (opened_as js) (p ∙ ap (λ (u : ℕ). with_event d (event 0 (Submitted u b))) q), h ∙ ap (λ (u : ℕ). old ++ ticket_line u) q)
+submit_ok d e js b t old new (Err x) p q n h = tt
+
+pub submit_err : {A E : Type 0} → (d e : Seen) (js : List HandedOut) (b : Block) (x : SubmitError) (old new : List ℕ) (r : Result A E) → e ≡ d → submit_told {A = ℕ} (Err x) ≡ submit_refusal d b → OnOk r (submit_told {A = ℕ} (Err x) ≡ Some x)
+    → OnOk r (new ≡ old ++ submit_error_text x) → OnOk r (Steps (opened_as js e) old new (on_desk (opened_as js d) (submit_block_step d b (submit_refusal d b))))
+submit_err d e js b x old new (Ok y) p n t h =
+    subst (λ (o : Option SubmitError). Steps (opened_as js e) old new (on_desk (opened_as js d) (submit_block_step d b o))) (sym t ∙ n) (ap (opened_as js) p, h)
+submit_err d e js b x old new (Err y) p n t h = tt
+
+-- ---- take
+pub take_made : {A E : Type 0} → (d e : Seen) (js made more : List HandedOut) (n first : ℕ) (old new : List ℕ) (r : Result A E) → nat_lt max_jobs (n + length js) ≡ false → first ≡ length js + 1 → new ≡ old ++ jobs_line first (taken d n)
+    → made ≡ jobs_of (now d) (taken d n) → e ≡ record d { pending = sent (length (taken d n)) d.pending } → OnOk r (more ≡ js ++ made) → OnOk r (Steps (opened_as more e) old new (take_jobs_step (opened_as js d) n))
+take_made d e js made more n first old new (Ok x) few f p m q h =
+    subst (λ (b : Bool). Steps (opened_as more e) old new (cond b (opened_as js d, refused (codes "JobsFull")) (with_jobs (opened_as js d) (taken d n), jobs_line (length js + 1) (taken d n)))) (sym few)
+    (ap₂ opened_as (h ∙ ap (λ (ks : List HandedOut). js ++ ks) m) q, p ∙ ap (λ (k : ℕ). old ++ jobs_line k (taken d n)) f)
+take_made d e js made more n first old new (Err x) few f p m q h = tt
+
+-- ---- deliver
+pub delivered_job : {A E : Type 0} → (d e : Seen) (j k : HandedOut) (o : Option DeliverError) (old line new : List ℕ) (r : Result A E) → j ≡ k → o ≡ delivery_refusal d j → e ≡ (deliver_job_step d (Some j)).0 → (delivery_step d k o).1 ≡ line
+    → OnOk r (new ≡ old ++ line) → OnOk r (Steps e old new (deliver_job_step d (Some k)))
+delivered_job d e j k o old line new (Ok x) s p q l h =
+    let refusal : o ≡ delivery_refusal d k = p ∙ ap (delivery_refusal d) s in
+    (q ∙ ap (λ (i : HandedOut). (deliver_job_step d (Some i)).0) s, h ∙ ap (λ (t : List ℕ). old ++ t) (sym l ∙ ap (λ (u : Option DeliverError). (delivery_step d k u).1) refusal))
+delivered_job d e j k o old line new (Err x) s p q l h = tt
+
+-- ---- handback
+not_out : (d : Seen) (t : ℕ) → is_out t d.pending ≡ false → handed_back d t ≡ d
+not_out d t h = ap (λ (p : List Entry). record d { pending = p }) (marked_queued t d.pending h)
+
+-- a ticket that isn't out is handed back to no effect
+pub handback_refused : {A E : Type 0} → (d e : Seen) (js : List HandedOut) (t : ℕ) (old new : List ℕ) (r : Result A E) → is_out t d.pending ≡ false → e ≡ handed_back d t → OnOk r (new ≡ old ++ refused (codes "NotOut"))
+    → OnOk r (Steps (opened_as js e) old new (on_desk (opened_as js d) (handback_ticket_step d t)))
+handback_refused d e js t old new (Ok x) h q p =
+    subst (λ (b : Bool). Steps (opened_as js e) old new (on_desk (opened_as js d) (cond b (handed_back d t, queued_line t) (d, refused (codes "NotOut"))))) (sym h)
+    (ap (opened_as js) (q ∙ not_out d t h), p)
+handback_refused d e js t old new (Err x) h q p = tt
+
+-- ---- eval
+eval_here : {A E : Type 0} → (d e : Seen) (js : List HandedOut) (p : Progress) (old new : List ℕ) (r : Result A E) → delivered_so_far e p ≡ evaluated d → OnOk r (new ≡ old ++ evaluation_text p.count p.stop)
+    → OnOk r (Steps (opened_as js e) old new (on_desk (opened_as js d) (eval_desk_step d)))
+eval_here d e js p old new (Ok x) q h = (ap (λ (v : Delivered). opened_as js v.desk) q, h ∙ ap (λ (v : Delivered). old ++ evaluation_text v.count v.stop) q)
+eval_here d e js p old new (Err x) q h = tt
+
+pub eval_made : {A E : Type 0} → (d e : Seen) (js : List HandedOut) (s : OpenDesk) (p : Progress) (old new : List ℕ) (r : Result A E) → opened_as js d ≡ s → delivered_so_far e p ≡ evaluated d → OnOk r (new ≡ old ++ evaluation_text p.count p.stop)
+    → OnOk r (Steps (opened_as js e) old new (on_desk s (eval_desk_step s.desk)))
+eval_made d e js s p old new r w q h = subst (λ (t : OpenDesk). OnOk r (Steps (opened_as js e) old new (on_desk t (eval_desk_step t.desk)))) w (eval_here d e js p old new r q h)
+
+-- ---- settle
+pub settle_ok : {A E : Type 0} → (d e : Seen) (js : List HandedOut) (f n : ℕ) (old new : List ℕ) (r : Result A E) → HasSettled 0 (called_back d) e f n None → OnOk r (new ≡ old ++ settled_line f n)
+    → OnOk r (Steps (opened_as js e) old new (on_desk (opened_as js d) (settle_desk_step (called_back d))))
+settle_ok d e js f n old new (Ok x) s p =
+    let c = called_back d in (
+      ap (opened_as js) s.grown,
+      p ∙ ap (λ (t : List ℕ). old ++ t) (ap (λ (k : ℕ). settled_line k n) s.finished ∙ ap (λ (k : ℕ). settled_line (finishes (slow_settle c)) k) s.evaluated ∙ ap (settle_text (slow_settle c)) (sym s.stopped)),
+    )
+settle_ok d e js f n old new (Err x) s p = tt
+
+-- settling that stopped, by what was told of it
+stopped_told : (d e : Seen) (w : SettleWhy) (f n : ℕ) → StopTold w 0 d e f n → w ≢ NoMemory → (e ≡ with_whats d 0 (slow_settle d)) × (why_text w ++ settled_line f n ≡ settle_text (slow_settle d) (slow_stop d))
+stopped_told d e HistoryFull f n s h = (
+  s.0.grown,
+  ap (λ k. why_text HistoryFull ++ settled_line k n) s.0.finished ∙ ap (λ k. why_text HistoryFull ++ settled_line (finishes (slow_settle d)) k) s.0.evaluated ∙ ap (settle_text (slow_settle d)) (sym s.0.stopped),
+)
+stopped_told d e CellsFull f n s h = (
+  s.0.grown,
+  ap (λ k. why_text CellsFull ++ settled_line k n) s.0.finished ∙ ap (λ k. why_text CellsFull ++ settled_line (finishes (slow_settle d)) k) s.0.evaluated ∙ ap (settle_text (slow_settle d)) (sym s.0.stopped),
+)
+stopped_told d e NoMemory f n s h = absurd (h refl)
+
+pub settle_err : {A E : Type 0} → (d e : Seen) (js : List HandedOut) (w : SettleWhy) (f n : ℕ) (old new : List ℕ) (r : Result A E) → StopTold w 0 (called_back d) e f n → OnOk r (new ≡ old ++ why_text w ++ settled_line f n)
+    → OnOk r (w ≢ NoMemory) → OnOk r (Steps (opened_as js e) old new (on_desk (opened_as js d) (settle_desk_step (called_back d))))
+settle_err d e js w f n old new (Ok x) s p h =
+    let t = stopped_told (called_back d) e w f n s h in
+    (ap (opened_as js) t.0, p ∙ append_assoc old (why_text w) (settled_line f n) ∙ ap (λ (line : List ℕ). old ++ line) t.1)
+settle_err d e js w f n old new (Err x) s p h = tt

@@ -1,9 +1,0 @@
-use Rattle.stm_commands.proofs.Deliveries.{evaluated_all, given_queued}
-use Rattle.stm_commands.proofs.jobs.evaluate_by_threads.Goals as goal
-
-pub evaluate_jobs-requires-clause-stand : goal.evaluate_jobs-requires-clause-stand
-evaluate_jobs-requires-clause-stand g c = λ κs lives. given_queued c.args.desk.now _ _ _ c.in-Ok.ensures.out c.in-Ok.ensures.blocks c.in-Ok.ensures.covered
-
-pub returns-in-Ok-clause-done : goal.returns-in-Ok-clause-done
-returns-in-Ok-clause-done g c =
-    evaluated_all c.args.desk.now _ _ _ _ c.evaluate_jobs.result c.in-Ok.ensures.out c.in-Ok.ensures.tickets c.in-Ok.ensures.store c.in-Ok.ensures.blocks c.evaluate_jobs.ensures.done

@@ -1,5 +1,0 @@
-use Rattle.stm_commands.proofs.Growing.{kept_cancelled}
-use Rattle.stm_commands.proofs.opened.OpenDesk.cancel.Goals as goal
-
-pub invariant_of-self : goal.invariant_of-self
-invariant_of-self c = kept_cancelled _ _ _ _ _ c.cancel.result c.cancel.ensures.done c.cancel.ensures.err c.cancel.ensures.legal c.self.invariant

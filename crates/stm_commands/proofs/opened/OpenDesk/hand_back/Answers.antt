@@ -1,8 +1,0 @@
-use Rattle.stm_commands.proofs.Growing.{kept_pending}
-use Rattle.stm_commands.proofs.opened.OpenDesk.hand_back.Goals as goal
-
-pub invariant_of-self : goal.invariant_of-self
-invariant_of-self c = kept_pending _ _ _ _ _ c.hand_back.ensures.queued c.self.invariant
-
-pub invariant_of-self-2 : goal.invariant_of-self-2
-invariant_of-self-2 c = kept_pending _ _ _ _ _ c.hand_back.ensures.queued c.self.invariant

@@ -1,9 +1,0 @@
-use Rattle.std.proofs.Common.{rules, ◌≡◌, [], ◌∷◌, ◌++◌, None, sym, subst}
-use Rattle.stm_commands.specs.Prepared.{ArePrepared}
-use Rattle.stm_commands.proofs.PreparedBlocks.{prepared_push}
-use Rattle.stm_commands.proofs.prepared.no_blocks.Goals as goal
-
-pub loop-place-preserved : goal.loop-place-preserved
-loop-place-preserved c =
-    let p : c.push.new.self.items ≡ c.loop-place.made.items ++ None ∷ [] = search rules in
-    λ table. subst (ArePrepared table) (sym p) (prepared_push table c.loop-place.made.items (c.loop-place.invariant table))

@@ -1,7 +1,0 @@
-use Rattle.std.proofs.Common.{List}
-use Rattle.stm_store.specs.Tables.{Declared}
-use Rattle.stm_commands.specs.Prepared.{ArePrepared}
-use Rattle.stm_commands.proofs.prepared.no_blocks.Given as goal
-
-abbrev pub invariant-loop-place : goal.invariant-loop-place
-invariant-loop-place l = (table : List Declared) → ArePrepared table l.made.items

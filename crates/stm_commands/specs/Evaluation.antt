@@ -1,0 +1,66 @@
+-- `eval`: all queued blocks are evaluated, and what they do is delivered.
+use Rattle.std.specs.Prelude.{ℕ, ◌+◌, List, [], ◌∷◌, ◌++◌, Option, Some, None, codes, decimal, length}
+use Rattle.stm_terms.specs.Changes.{cell_value}
+use Rattle.stm_terms.specs.Verdict.{verdict}
+use Rattle.stm_events.specs.declared.errors.DeliverError.{DeliverError}
+use Rattle.stm_machine.specs.JobsHandedOut.{sent}
+use Rattle.stm_events.specs.SlowDesk.{max_waiting}
+use Rattle.stm_desk.specs.Refusals.{left_by}
+use Rattle.stm_desk.specs.Seen.{Seen, now}
+use Rattle.stm_commands.specs.Arguments.{with_nothing, argument_refused}
+use Rattle.stm_commands.specs.Jobs.{installed, handed_back, jobs_of, taken, delivery_refusal}
+use Rattle.stm_commands.specs.OpenDesk.{HandedOut, OpenDesk, on_desk}
+use Rattle.stm_commands.specs.Refusals.{deliver_error_text}
+
+-- how far delivering came: the desk, how many were taken, and the first refusal
+pub record Delivered : Type 0 where
+  pub desk : Seen
+  pub count : ℕ
+  pub stop : Option DeliverError
+
+-- what a job's block does is taken, or refused; then the job's ticket is queued again
+abbrev pub delivered_by : Delivered → HandedOut → Option DeliverError → Delivered
+delivered_by d j None = record {
+  desk = installed d.desk j.ticket (verdict (cell_value j.store) j.block.tree);
+  count = d.count + 1;
+  stop = None;
+}
+delivered_by d j (Some e) = record { desk = handed_back (left_by e j.ticket d.desk) j.ticket; count = d.count; stop = Some e }
+
+-- after a refusal the tickets that come after it are queued again too
+abbrev pub delivered_next : Delivered → HandedOut → Option DeliverError → Delivered
+delivered_next d j None = delivered_by d j (delivery_refusal d.desk j)
+delivered_next d j (Some e) = record d { desk = handed_back d.desk j.ticket }
+
+-- how far the delivery of jobs comes, one after another
+abbrev pub delivered_all : Delivered → List HandedOut → Delivered
+delivered_all d [] = d
+delivered_all d (j ∷ js) = delivered_all (delivered_next d j d.stop) js
+
+-- the line that tells how many blocks were evaluated
+unfoldable pub evaluated_line : ℕ → List ℕ
+evaluated_line n = codes "evaluated " ++ decimal n ++ 10 ∷ []
+
+-- all queued tickets, since no more may wait
+abbrev pub all_queued : Seen → List ℕ
+all_queued d = taken d max_waiting
+
+-- the queued tickets are taken, and what their blocks do on the present store is delivered, in ascending order
+abbrev pub evaluated : Seen → Delivered
+evaluated d =
+    delivered_all
+    (record { desk = record d { pending = sent (length (all_queued d)) d.pending }; count = 0; stop = None })
+    (jobs_of (now d) (all_queued d))
+
+-- an evaluation of all that was queued, by how it ended: how many blocks were evaluated, or the first refusal
+abbrev pub evaluation_text : ℕ → Option DeliverError → List ℕ
+evaluation_text n None = evaluated_line n
+evaluation_text n (Some e) = deliver_error_text e
+
+-- `eval` of a desk
+abbrev pub eval_desk_step : Seen → Seen × List ℕ
+eval_desk_step d = let e = evaluated d in (e.desk, evaluation_text e.count e.stop)
+
+-- `eval`: evaluates and delivers all that is queued
+unfoldable pub eval_step : OpenDesk → List ℕ → OpenDesk × List ℕ
+eval_step d argument = with_nothing (on_desk d (eval_desk_step d.desk)) (d, argument_refused) argument

@@ -1,0 +1,43 @@
+//! `cancel`: a block waits no more.
+
+ghost use Rattle.std.specs.Prelude.{◌≡◌, ◌++◌, string_bytes, OnOk};
+ghost use Rattle.stm_desk.specs.Refusals.{cancel_refusal};
+ghost use Rattle.stm_commands.specs.Endings.{cancelled_line, cancel_ticket_step, cancel_step};
+ghost use Rattle.stm_commands.specs.OpenDesk.{on_desk, Steps};
+
+use crate::open_desk::OpenDesk;
+use crate::refusals::{refuse_argument, refuse_cancel};
+use stm_lines::arguments::number_of;
+use stm_terms::NoMemory;
+
+#[tactic(auto, unfolding(crate::specs::Endings::cancelled_line))]
+fn write_cancelled(ticket: u32, out: &mut String) -> Result<(), NoMemory>
+    ensures { OnOk result (string_bytes out.new ≡ string_bytes out.old ++ cancelled_line ticket) }
+{
+    write!(out, "cancelled {ticket}\n")
+}
+
+impl OpenDesk {
+    /// Cancels the block under a ticket.
+    fn cancel(&mut self, ticket: u32, out: &mut String) -> Result<(), NoMemory>
+        ensures { OnOk result (Steps self.new (string_bytes out.old) (string_bytes out.new)
+            (on_desk self.old (cancel_ticket_step self.old.desk ticket (cancel_refusal self.old.desk ticket)))) }
+    {
+        match self.desk.cancel(0, ticket) {
+            Ok(()) => write_cancelled(ticket, out),
+            Err(refusal) => refuse_cancel(refusal, out),
+        }
+    }
+
+    /// Answers `cancel`.
+    #[tactic(auto, unfolding(crate::specs::Endings::cancel_step))]
+    pub fn answer_cancel(&mut self, argument: &str, out: &mut String) -> Result<(), NoMemory>
+        ensures { OnOk result (Steps self.new (string_bytes out.old) (string_bytes out.new)
+            (cancel_step self.old argument.now)) }
+    {
+        match number_of(argument.as_bytes()) {
+            Some(ticket) => self.cancel(ticket, out),
+            None => refuse_argument(out),
+        }
+    }
+}

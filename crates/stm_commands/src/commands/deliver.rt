@@ -1,0 +1,85 @@
+//! `deliver`: what a job's block does is delivered.
+
+ghost use Rattle.std.specs.Prelude.{◌≡◌, ◌+◌, ◌++◌, Some, string_bytes, OnOk};
+ghost use Rattle.stm_events.specs.SlowDesk.{IsLegal};
+ghost use Rattle.stm_desk.specs.Seen.{now};
+ghost use Rattle.stm_commands.specs.Jobs.{job_at, delivered_line, deliver_job_step, deliver_step};
+ghost use Rattle.stm_commands.specs.OpenDesk.{on_desk, Steps};
+ghost use Rattle.stm_commands.specs.OpenInvariant.{job_kept, HasStore, JobStands, HasGrown};
+
+use crate::delivery::{deliver_job, refused_unevaluated};
+use crate::jobs::{KeptJob, job_of_number};
+use crate::open_desk::OpenDesk;
+use crate::refusals::{refuse, refuse_argument, refuse_delivery};
+use std::alloc::Global;
+use stm_desk::Desk;
+use stm_lines::arguments::number_of;
+use stm_terms::NoMemory;
+
+#[tactic(auto, unfolding(crate::specs::Jobs::delivered_line))]
+fn write_delivered(ticket: u32, out: &mut String) -> Result<(), NoMemory>
+    ensures { OnOk result (string_bytes out.new ≡ string_bytes out.old ++ delivered_line ticket) }
+{
+    write!(out, "delivered {ticket}\n")
+}
+
+/// Delivers what the block of a job does on the store of its `take`. The block isn't evaluated if no delivery to its ticket
+/// would be accepted.
+fn deliver_kept(
+    desk: &mut Desk,
+    alloc: Global,
+    kept: &KeptJob,
+    out: &mut String,
+) -> Result<(), NoMemory>
+    requires legal { IsLegal desk.old.table desk.old.history }
+    requires stands { JobStands desk.old (job_kept kept.now) }
+    requires stored { HasStore (now desk.old).waiters kept.now }
+    ensures step { OnOk result (Steps desk.new (string_bytes out.old) (string_bytes out.new)
+        (deliver_job_step desk.old (Some (job_kept kept.now)))) }
+    ensures grown { HasGrown desk.old desk.new }
+    ensures store { (now desk.new).store ≡ (now desk.old).store }
+{
+    if let Some(refusal) = refused_unevaluated(desk, kept.ticket) {
+        return refuse_delivery(refusal, out);
+    }
+    match &kept.store {
+        Some(store) => {
+            let job = kept.job()?;
+            match deliver_job(desk, alloc, store, job)? {
+                None => write_delivered(kept.ticket, out),
+                Some(refusal) => refuse_delivery(refusal, out),
+            }
+        }
+        None => unreachable!(),
+    }
+}
+
+impl OpenDesk {
+    /// Delivers what the block of a job does on the store of its `take`.
+    fn deliver(&mut self, alloc: Global, number: u32, out: &mut String) -> Result<(), NoMemory>
+        ensures { OnOk result (Steps self.new (string_bytes out.old) (string_bytes out.new)
+            (on_desk self.old (deliver_job_step self.old.desk (job_at number self.old.jobs)))) }
+    {
+        match job_of_number(&self.jobs, number) {
+            Some(kept) => deliver_kept(&mut self.desk, alloc, kept, out),
+            None => refuse("NoJob", out),
+        }
+    }
+
+    /// Answers `deliver`.
+    #[tactic(auto, unfolding(crate::specs::Jobs::deliver_step))]
+    pub fn answer_deliver(
+        &mut self,
+        alloc: Global,
+        argument: &str,
+        out: &mut String,
+    ) -> Result<(), NoMemory>
+        ensures { OnOk result (Steps self.new (string_bytes out.old) (string_bytes out.new)
+            (deliver_step self.old argument.now)) }
+    {
+        match number_of(argument.as_bytes()) {
+            Some(number) => self.deliver(alloc, number, out),
+            None => refuse_argument(out),
+        }
+    }
+}

@@ -1,0 +1,72 @@
+//! `eval`: all that is queued is evaluated and delivered.
+
+ghost use Rattle.std.specs.Prelude.{◌≡◌, ◌+◌, ◌++◌, string_bytes, OnOk};
+ghost use Rattle.stm_commands.specs.Evaluation.{evaluated_line, evaluation_text, eval_desk_step, eval_step};
+ghost use Rattle.stm_commands.specs.OpenDesk.{on_desk, Steps};
+
+use crate::evaluation::evaluate_queued;
+use crate::open_desk::OpenDesk;
+use crate::refusals::{refuse_argument, refuse_delivery};
+use crate::threading::Threading;
+use std::alloc::Global;
+use std::thread::Threads;
+use stm_desk::DeliverError;
+use stm_terms::NoMemory;
+
+#[tactic(auto, unfolding(crate::specs::Evaluation::evaluated_line))]
+fn write_evaluated(count: u32, out: &mut String) -> Result<(), NoMemory>
+    ensures { OnOk result (string_bytes out.new ≡ string_bytes out.old ++ evaluated_line count) }
+{
+    write!(out, "evaluated {count}\n")
+}
+
+/// Appends how evaluating all that was queued ended.
+fn write_evaluation(
+    count: u32,
+    stop: Option<DeliverError>,
+    out: &mut String,
+) -> Result<(), NoMemory>
+    ensures { OnOk result
+        (string_bytes out.new ≡ string_bytes out.old ++ evaluation_text count stop) }
+{
+    match stop {
+        None => write_evaluated(count, out),
+        Some(refusal) => refuse_delivery(refusal, out),
+    }
+}
+
+impl OpenDesk {
+    /// Evaluates and delivers all that is queued.
+    fn eval<T: Threads + Sync>(
+        &mut self,
+        rt: &T,
+        alloc: Global,
+        threading: Threading,
+        out: &mut String,
+    ) -> Result<(), NoMemory>
+        ensures { OnOk result (Steps self.new (string_bytes out.old) (string_bytes out.new)
+            (on_desk self.old (eval_desk_step self.old.desk))) }
+    {
+        let progress = evaluate_queued(&mut self.desk, rt, alloc, threading)?;
+        write_evaluation(progress.count, progress.stop, out)
+    }
+
+    /// Answers `eval`.
+    #[tactic(auto, unfolding(crate::specs::Evaluation::eval_step))]
+    pub fn answer_eval<T: Threads + Sync>(
+        &mut self,
+        rt: &T,
+        alloc: Global,
+        threading: Threading,
+        argument: &str,
+        out: &mut String,
+    ) -> Result<(), NoMemory>
+        ensures { OnOk result (Steps self.new (string_bytes out.old) (string_bytes out.new)
+            (eval_step self.old argument.now)) }
+    {
+        if !argument.is_empty() {
+            return refuse_argument(out);
+        }
+        self.eval(rt, alloc, threading, out)
+    }
+}

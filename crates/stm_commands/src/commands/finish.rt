@@ -1,0 +1,126 @@
+//! `finish`: a block takes effect.
+
+ghost use Rattle.std.specs.Prelude.{◌≡◌, ◌++◌, List, string_bytes, OnOk, decimal};
+ghost use Rattle.stm_store.specs.declared.cell.Cell.{Cell};
+ghost use Rattle.stm_store.specs.Cells.{applied_answer};
+ghost use Rattle.stm_terms.specs.Texts.{spaced};
+ghost use Rattle.stm_desk.specs.Refusals.{finish_refusal};
+ghost use Rattle.stm_commands.specs.Endings.{tickets_text, result_line, finished_line, finish_ticket_step, finish_step};
+ghost use Rattle.stm_commands.specs.OpenDesk.{on_desk, Steps};
+
+use crate::open_desk::OpenDesk;
+use crate::refusals::{refuse_argument, refuse_finish};
+use stm_desk::Finish;
+use stm_lines::arguments::number_of;
+use stm_store::Applied;
+use stm_terms::NoMemory;
+use stm_terms::text::{write_number, write_value, write_verdict};
+use stm_terms::values::Value;
+use stm_terms::verdicts::Verdict;
+
+/// Appends tickets, each after a space.
+fn write_spaced_tickets(tickets: &[u32], out: &mut String) -> Result<(), NoMemory>
+    ensures { OnOk result
+        (string_bytes out.new ≡ string_bytes out.old ++ spaced decimal tickets.now) }
+{
+    for ticket in tickets {
+        out.push_str(" ")?;
+        write_number(*ticket, out)?;
+    }
+    Ok(())
+}
+
+/// Appends tickets.
+fn write_tickets(tickets: &[u32], out: &mut String) -> Result<(), NoMemory>
+    ensures { OnOk result
+        (string_bytes out.new ≡ string_bytes out.old ++ tickets_text tickets.now) }
+{
+    match tickets {
+        [] => out.push_str("none"),
+        [first, rest @ ..] => {
+            write_number(*first, out)?;
+            write_spaced_tickets(rest, out)
+        }
+    }
+}
+
+/// Appends the answer to the finish of a block that returns.
+#[tactic(auto, unfolding(crate::specs::Endings::result_line))]
+fn write_result(ticket: u32, value: Value, stale: &[u32], out: &mut String) -> Result<(), NoMemory>
+    ensures { OnOk result
+        (string_bytes out.new ≡ string_bytes out.old ++ result_line ticket value stale.now) }
+{
+    write!(out, "finished {ticket} result ")?;
+    write_value(value, out)?;
+    out.push_str(" stale ")?;
+    write_tickets(stale, out)?;
+    out.push_str("\n")
+}
+
+/// Appends the answer to the finish of a block with this verdict.
+fn write_finished(
+    ticket: u32,
+    verdict: &Verdict,
+    applied: &Applied,
+    stale: &[u32],
+    out: &mut String,
+) -> Result<(), NoMemory>
+    requires { (cells : List Cell) × (applied.now ≡ applied_answer cells verdict.now) }
+    ensures { OnOk result (string_bytes out.new ≡ string_bytes out.old
+        ++ finished_line ticket applied.now.first_new verdict.now stale.now) }
+{
+    match (verdict, applied.result) {
+        (Verdict::Commits { .. }, Some(value)) => write_result(ticket, value, stale, out),
+        (Verdict::Commits { .. }, None) => unreachable!(),
+        (Verdict::Throws(_), _) => {
+            write!(out, "finished {ticket} ")?;
+            write_verdict(verdict, out)?;
+            out.push_str("\n")
+        }
+        (Verdict::Blocks, _) => Ok(()),
+    }
+}
+
+/// Appends the answer to a finish.
+fn write_finish(ticket: u32, finish: &Finish, out: &mut String) -> Result<(), NoMemory>
+    requires { (cells : List Cell)
+        × (finish.now.applied ≡ applied_answer cells finish.now.verdict) }
+    ensures { OnOk result (string_bytes out.new ≡ string_bytes out.old
+        ++ finished_line ticket finish.now.applied.first_new finish.now.verdict finish.now.stale) }
+{
+    let blocks = Verdict::Blocks;
+    let verdict = finish.verdict.get(&blocks);
+    write_finished(
+        ticket,
+        verdict,
+        &finish.applied,
+        finish.stale.as_slice(),
+        out,
+    )
+}
+
+impl OpenDesk {
+    /// Finishes the block under a ticket.
+    fn finish(&mut self, ticket: u32, out: &mut String) -> Result<(), NoMemory>
+        ensures { OnOk result (Steps self.new (string_bytes out.old) (string_bytes out.new)
+            (on_desk self.old (finish_ticket_step self.old.desk ticket (finish_refusal self.old.desk ticket)))) }
+    {
+        self.copy = None;
+        match self.desk.finish(0, ticket) {
+            Ok(finish) => write_finish(ticket, &finish, out),
+            Err(refusal) => refuse_finish(refusal, out),
+        }
+    }
+
+    /// Answers `finish`.
+    #[tactic(auto, unfolding(crate::specs::Endings::finish_step))]
+    pub fn answer_finish(&mut self, argument: &str, out: &mut String) -> Result<(), NoMemory>
+        ensures { OnOk result (Steps self.new (string_bytes out.old) (string_bytes out.new)
+            (finish_step self.old argument.now)) }
+    {
+        match number_of(argument.as_bytes()) {
+            Some(ticket) => self.finish(ticket, out),
+            None => refuse_argument(out),
+        }
+    }
+}

@@ -1,0 +1,17 @@
+//! The commands, each in a file of its own: `OpenDesk::answer_..` prints the answer, and makes the step.
+
+mod cancel;
+mod deliver;
+mod eval;
+mod events;
+mod finish;
+mod handback;
+mod reads;
+mod ready;
+mod settle;
+mod show;
+mod store;
+mod submit;
+mod take;
+mod trial;
+mod why;

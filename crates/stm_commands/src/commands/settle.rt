@@ -1,0 +1,74 @@
+//! `settle`: all that can run does.
+
+ghost use Rattle.std.specs.Prelude.{◌≡◌, ◌≢◌, ◌++◌, ◌∷◌, [], codes, string_bytes, OnOk, decimal};
+ghost use Rattle.stm_desk.specs.Settling.{called_back};
+ghost use Rattle.stm_commands.specs.Endings.{settled_line, why_text, settle_desk_step, settle_step};
+ghost use Rattle.stm_commands.specs.OpenDesk.{on_desk, Steps};
+
+use crate::open_desk::OpenDesk;
+use crate::refusals::refuse_argument;
+use std::alloc::AllocError;
+use stm_desk::{SettleStop, SettleWhy};
+use stm_terms::NoMemory;
+use stm_terms::text::write_number;
+
+/// Appends how many blocks were run.
+fn write_evaluations(evaluations: u32, out: &mut String) -> Result<(), NoMemory>
+    ensures { OnOk result (string_bytes out.new
+        ≡ string_bytes out.old ++ codes " evaluations " ++ decimal evaluations ++ 10 ∷ []) }
+{
+    out.push_str(" evaluations ")?;
+    write_number(evaluations, out)?;
+    out.push_str("\n")
+}
+
+/// Appends how much settling did.
+#[tactic(auto, unfolding(crate::specs::Endings::settled_line))]
+fn write_settled(finished: u32, evaluations: u32, out: &mut String) -> Result<(), NoMemory>
+    ensures { OnOk result
+        (string_bytes out.new ≡ string_bytes out.old ++ settled_line finished evaluations) }
+{
+    out.push_str("settled ")?;
+    write_number(finished, out)?;
+    write_evaluations(evaluations, out)
+}
+
+/// Appends why settling stopped, and how much it did.
+fn write_stop(stop: SettleStop, out: &mut String) -> Result<(), NoMemory>
+    ensures text { OnOk result (string_bytes out.new ≡ string_bytes out.old ++ why_text stop.why
+        ++ settled_line stop.finished stop.evaluations) }
+    ensures told { OnOk result (stop.why ≢ SettleWhy.NoMemory) }
+{
+    match stop.why {
+        SettleWhy::HistoryFull => out.push_str("stopped HistoryFull ")?,
+        SettleWhy::CellsFull => out.push_str("stopped CellsFull ")?,
+        SettleWhy::NoMemory => return Err(AllocError),
+    }
+    write_settled(stop.finished, stop.evaluations, out)
+}
+
+impl OpenDesk {
+    /// Settles the desk.
+    fn settle(&mut self, out: &mut String) -> Result<(), NoMemory>
+        ensures { OnOk result (Steps self.new (string_bytes out.old) (string_bytes out.new)
+            (on_desk self.old (settle_desk_step (called_back self.old.desk)))) }
+    {
+        self.copy = None;
+        match self.desk.settle(0) {
+            Ok(settled) => write_settled(settled.finished, settled.evaluations, out),
+            Err(stop) => write_stop(stop, out),
+        }
+    }
+
+    /// Answers `settle`.
+    #[tactic(auto, unfolding(crate::specs::Endings::settle_step))]
+    pub fn answer_settle(&mut self, argument: &str, out: &mut String) -> Result<(), NoMemory>
+        ensures { OnOk result (Steps self.new (string_bytes out.old) (string_bytes out.new)
+            (settle_step self.old argument.now)) }
+    {
+        if !argument.is_empty() {
+            return refuse_argument(out);
+        }
+        self.settle(out)
+    }
+}

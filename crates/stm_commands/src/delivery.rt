@@ -1,0 +1,81 @@
+//! Deliveries of what the blocks of jobs do.
+
+ghost use Rattle.std.specs.Prelude.{◌≡◌, Some, IfOk, OnOk};
+ghost use Rattle.stm_eval.specs.EvaluatedFields.{message_ticket, message_block, message_reads};
+ghost use Rattle.stm_events.specs.Refusals.{deliver_error};
+ghost use Rattle.stm_events.specs.SlowDesk.{IsLegal, find_waiter};
+ghost use Rattle.stm_desk.specs.Refusals.{TellsDeskDelivery};
+ghost use Rattle.stm_desk.specs.Seen.{now};
+ghost use Rattle.stm_commands.specs.Jobs.{delivery_refusal, deliver_job_step};
+ghost use Rattle.stm_commands.specs.OpenInvariant.{refusal_unevaluated, handed_out, JobStands, HasGrown, after_message};
+
+use std::alloc::{AllocError, Global};
+use stm_desk::{DeliverError, Desk, Status};
+use stm_eval::{Evaluated, Job, evaluate};
+use stm_events::laws::blocks_stay;
+use stm_store::Frozen;
+use stm_terms::NoMemory;
+
+/// Why a delivery to a ticket is refused whatever is delivered: no block waits under it, or the block is current.
+pub fn refused_unevaluated(desk: &Desk, ticket: u32) -> Option<DeliverError>
+    ensures { result ≡ refusal_unevaluated (find_waiter ticket (now desk.now).waiters) }
+{
+    match desk.status(ticket) {
+        None => Some(DeliverError::Gone),
+        Some(Status::Current(_)) => Some(DeliverError::Already),
+        Some(Status::New | Status::Stale(_)) => None,
+    }
+}
+
+/// A refusal, unless memory ran out.
+fn reported(refusal: DeliverError) -> Result<Option<DeliverError>, NoMemory>
+    ensures { IfOk result (λ r. (r ≡ Some refusal) × (r ≡ deliver_error refusal)) }
+{
+    match refusal {
+        DeliverError::Gone => Ok(Some(DeliverError::Gone)),
+        DeliverError::OtherBlock => Ok(Some(DeliverError::OtherBlock)),
+        DeliverError::Already => Ok(Some(DeliverError::Already)),
+        DeliverError::Overtaken(number) => Ok(Some(DeliverError::Overtaken(number))),
+        DeliverError::HistoryFull => Ok(Some(DeliverError::HistoryFull)),
+        DeliverError::NoMemory => Err(AllocError),
+    }
+}
+
+/// Delivers a message. The answer is why it is refused, if it is.
+pub fn deliver_message(
+    desk: &mut Desk,
+    message: Evaluated,
+) -> Result<Option<DeliverError>, NoMemory>
+    ensures told { IfOk result (λ r. TellsDeskDelivery r desk.old
+        (message_ticket message) (message_block message) (message_reads message)) }
+    ensures done { IfOk result (λ r. desk.new ≡ after_message desk.old message r) }
+    ensures grown { HasGrown desk.old desk.new }
+    ensures store { (now desk.new).store ≡ (now desk.old).store }
+{
+    match desk.deliver(0, message) {
+        Ok(()) => Ok(None),
+        Err((_, refusal)) => reported(refusal),
+    }
+}
+
+/// Delivers what a job's block does on a store. The answer is why it is refused, if it is.
+pub fn deliver_job(
+    desk: &mut Desk,
+    alloc: Global,
+    store: &Frozen,
+    job: Job,
+) -> Result<Option<DeliverError>, NoMemory>
+    requires legal { IsLegal desk.old.table desk.old.history }
+    requires stands { JobStands desk.old (handed_out store.now job) }
+    ensures told { IfOk result (λ r. r ≡ delivery_refusal desk.old (handed_out store.now job)) }
+    ensures done { OnOk result
+        (desk.new ≡ (deliver_job_step desk.old (Some (handed_out store.now job))).0) }
+    ensures grown { HasGrown desk.old desk.new }
+    ensures store { (now desk.new).store ≡ (now desk.old).store }
+{
+    blocks_stay();
+    match evaluate(alloc, job, store) {
+        Ok(message) => deliver_message(desk, message),
+        Err((_, refused)) => Err(refused),
+    }
+}

@@ -1,0 +1,108 @@
+//! The desk of a console that has opened.
+
+ghost use Rattle.std.specs.Prelude.{◌≡◌, ◌≤◌, IfOk};
+ghost use Rattle.stm_terms.specs.UnlessNoMemory.{AnswersAs};
+ghost use Rattle.stm_store.specs.Cells.{Covers, plains};
+ghost use Rattle.stm_store.specs.Tables.{opened};
+ghost use Rattle.stm_events.specs.SlowDesk.{IsLegal, max_events};
+ghost use Rattle.stm_blocks.specs.CompiledBlock.{compiled_block};
+ghost use Rattle.stm_blocks.specs.ToldRefusal.{told_refusal};
+ghost use Rattle.stm_commands.specs.OpenDesk.{opened_desk, present};
+
+use crate::block_cache::BlockCache;
+use crate::jobs::KeptJob;
+use crate::stores::Stores;
+use std::alloc::Global;
+use std::marker::Model;
+use stm_blocks::Refusal;
+use stm_check::SharedBlock;
+use stm_desk::Desk;
+use stm_store::{Frozen, Table};
+use stm_terms::NoMemory;
+
+/// The desk, the jobs that were handed out, and a copy of the present store on which `try` and `looks` run blocks: it is
+/// made when it is asked for, and kept until the store may change; and blocks that were asked for, by their texts. Contracts
+/// see the desk and the jobs, each with the store at its `take`, whether or not that store is still kept.
+pub struct OpenDesk {
+    pub(crate) desk: Desk,
+    pub(crate) copy: Option<Frozen>,
+    pub(crate) jobs: Vec<KeptJob>,
+    pub(crate) stores: Stores,
+    pub(crate) cache: BlockCache,
+}
+
+// Written out, and not derived, so that the proof of each owner calls it once.
+impl Drop for OpenDesk {
+    fn drop(self) {
+        let OpenDesk {
+            desk: _,
+            copy: _,
+            jobs: _,
+            stores: _,
+            cache: _,
+        } = self;
+    }
+}
+
+impl Model for OpenDesk {
+    ghost use Rattle.std.specs.Coded.{codes};
+    ghost use Rattle.stm_terms.specs.TreeEncoding.{act_code};
+    ghost use Rattle.std.specs.Prelude.{map};
+    ghost use Rattle.stm_commands.specs.OpenDesk.{OpenDesk as State};
+    ghost use Rattle.stm_commands.specs.OpenInvariant.{job_kept, OpenInvariant};
+
+    ghost Value = { State };
+
+    ghost coded = { Prim.hlevel (codes, act_code) };
+
+    ghost view = { λ d. record { desk = d.desk; jobs = map job_kept d.jobs.items } };
+
+    ghost invariant = { λ d. OpenInvariant d.desk d.copy d.jobs.items d.cache };
+}
+
+impl OpenDesk {
+    /// Opens a desk on the declared variables, with room for so many events.
+    pub fn open(alloc: Global, table: &Table, limit: u32) -> Result<OpenDesk, NoMemory>
+        requires { limit ≤ max_events }
+        ensures { IfOk result (λ d. d ≡ opened_desk table.now limit) }
+    {
+        Ok(OpenDesk {
+            desk: Desk::open(alloc, table, limit)?,
+            copy: None,
+            jobs: Vec::new(alloc),
+            stores: Stores::new(alloc),
+            cache: BlockCache::new(alloc, table)?,
+        })
+    }
+
+    /// The copy of the present store, as blocks are run on it: the one that is kept, or a new one.
+    pub fn take_copy(&mut self) -> Result<Frozen, NoMemory>
+        ensures same { self.new ≡ self.old }
+        ensures store { IfOk result (λ f. f ≡ plains (present self.old)) }
+        ensures legal { IsLegal self.old.desk.table self.old.desk.history }
+    {
+        match self.copy.take() {
+            Some(copy) => Ok(copy),
+            None => self.desk.store().freeze(),
+        }
+    }
+
+    /// Keeps the copy of the present store.
+    pub fn keep_copy(&mut self, copy: Frozen)
+        requires { copy ≡ plains (present self.old) }
+        ensures { self.new ≡ self.old }
+    {
+        self.copy = Some(copy);
+    }
+
+    /// The block of a text.
+    pub fn block(&mut self, alloc: Global, text: &str) -> Result<SharedBlock, Refusal>
+        ensures same { self.new ≡ self.old }
+        ensures block { AnswersAs told_refusal (λ b. b) result
+            (compiled_block self.old.desk.table text.now) }
+        ensures covered { IfOk result (λ b.
+            Covers (plains (opened self.old.desk.table)) b.uses) }
+    {
+        self.cache.block(alloc, self.desk.table(), text)
+    }
+}

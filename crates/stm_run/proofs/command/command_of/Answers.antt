@@ -1,0 +1,21 @@
+use Rattle.std.proofs.Common.{sym, ◌∙◌, take, drop}
+use Rattle.stm_run.specs.Console.{command_words, command_named}
+use Rattle.stm_run.proofs.CommandWords.{command_in-first, command_in-rest}
+use Rattle.stm_run.proofs.command.command_of.Goals as goal
+
+pub returns-in-Some : goal.returns-in-Some
+unfolding command_named
+returns-in-Some c = sym (command_in-first (take 6 command_words) (drop 6 command_words) c.args.word.now c.in-Some.command (sym c.in-Some.ensures))
+
+pub returns-in-Some-of_next_six : goal.returns-in-Some-of_next_six
+unfolding command_named
+returns-in-Some-of_next_six c =
+    sym (command_in-rest (take 6 command_words) (drop 6 command_words) c.args.word.now (sym c.in_default.ensures)
+    ∙ command_in-first (take 6 (drop 6 command_words)) (drop 12 command_words) c.args.word.now c.in-Some-of_next_six.command (sym c.in-Some-of_next_six.ensures))
+
+pub returns : goal.returns
+unfolding command_named
+returns c =
+    c.of_last_six.ensures
+    ∙ sym (command_in-rest (take 6 command_words) (drop 6 command_words) c.args.word.now (sym c.in_default.ensures)
+    ∙ command_in-rest (take 6 (drop 6 command_words)) (drop 12 command_words) c.args.word.now (sym c.in_default-of_next_six.ensures))
