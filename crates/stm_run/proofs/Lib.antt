@@ -1,6 +1,4 @@
 pub mod AgreeingReads
-pub mod AnsweredLongLines
-pub mod Chunks
 pub mod DeliveredJobs
 pub mod DeskAnswers
 pub mod DeskMoves
