@@ -1,6 +1,6 @@
 //! Histories, written.
 
-ghost use Rattle.std.specs.Prelude.{◌≡◌, ◌<◌, ◌++◌, ◌∷◌, [], ◌≤◌, ℕ, List, OnOk, OnErr, IfSome, slice_get, length, string_bytes};
+ghost use Rattle.std.specs.Prelude.{◌<◌, ◌++◌, ◌∷◌, [], IfSome, slice_get, length, string_bytes};
 ghost use Rattle.stm_history.specs.Lines.{latest_format, header_line};
 ghost use Rattle.stm_history.specs.HistoryText.{variable_lines, event_lines, history_text, WritesText};
 
