@@ -1,6 +1,6 @@
 //! Lines from a reader and texts to a writer, as runs and scripts share them.
 //!
-//! `line_reader` pulls lines from a reader, by the bytes of a `chunk`; it calls the reader by `calls`, which counts each call
+//! `line_reader` pulls lines from a reader, by the bytes of a `chunk`; the reader is called by `calls`, which counts each call
 //! (`steps`) and bounds how many there are. `command_lines` are the lines of runs and scripts: without a carriage return, and of
 //! one that is too long the first bytes. `judging` judges a line before its word is looked at, and `arguments` reads a number.
 //! `output` writes a text to its end, or a part from its front. `run_fault` says why reading and writing fail.

@@ -9,7 +9,6 @@ ghost use Rattle.stm_lines.specs.TakenLines.{bytes_to_come, HasBegun, HasLineFee
 use crate::calls::Calls;
 use crate::chunk::Chunk;
 use crate::run_fault::RunFault;
-use crate::steps::Steps;
 use std::alloc::Global;
 use std::io::{ErrorKind, Read};
 use std::sync::ledger::Ledger;
@@ -172,25 +171,18 @@ fn fill<R: Read, L: Ledger>(chunk: &mut Chunk, calls: &mut Calls<R, L>) -> Resul
     Err(RunFault::Read)
 }
 
-/// Reads lines. The reader is called 4,294,967,295 times at most; an interrupted read is tried again.
+/// Bytes that were read and not yet taken, and the line that was read last.
 #[derive(Drop)]
-pub struct LineReader<'a, R, L: Ledger> {
-    calls: Calls<'a, R, L>,
+pub struct LineReader {
     chunk: Chunk,
     line: Vec<u8>,
 }
 
-impl<'a, R: Read, L: Ledger> LineReader<'a, R, L> {
-    pub fn new(alloc: Global, reader: &'a mut R, steps: &'a mut Steps<L>) -> LineReader<'a, R, L>
-        ensures same_reader { result.calls.reader.ghost_name ≡ reader.entry.ghost_name }
-        ensures same_steps { result.calls.steps.ghost_name ≡ steps.entry.ghost_name }
-        ensures reader { result.calls.reader.now ≡ reader.old }
-        ensures steps { result.calls.steps.now ≡ steps.old }
-        ensures all { result.calls.left ≡ u32.MAX }
-        ensures chunk { result.chunk ≡ [] }
+impl LineReader {
+    pub fn new(alloc: Global) -> LineReader
+        ensures { result.chunk ≡ [] }
     {
         LineReader {
-            calls: Calls::new(reader, steps),
             chunk: Chunk::new(),
             line: Vec::new(alloc),
         }
@@ -212,26 +204,30 @@ impl<'a, R: Read, L: Ledger> LineReader<'a, R, L> {
 
     /// Reads the next line, of at most so many bytes. If it has more, one more is taken, as soon as that many were read;
     /// `skip_line` takes the rest.
-    pub fn next_line(&mut self, limit: usize) -> Result<Line, RunFault>
-        ensures same_reader { self.new.calls.reader.ghost_name ≡ self.old.calls.reader.ghost_name }
-        ensures same_steps { self.new.calls.steps.ghost_name ≡ self.old.calls.steps.ghost_name }
-        ensures counted { self.new.calls.steps.now + self.new.calls.left
-            ≡ self.old.calls.steps.now + self.old.calls.left }
+    pub fn next_line<R: Read, L: Ledger>(
+        &mut self,
+        calls: &mut Calls<R, L>,
+        limit: usize,
+    ) -> Result<Line, RunFault>
+        ensures same_reader { calls.new.reader.ghost_name ≡ calls.old.reader.ghost_name }
+        ensures same_steps { calls.new.steps.ghost_name ≡ calls.old.steps.ghost_name }
+        ensures counted { calls.new.steps.now + calls.new.left
+            ≡ calls.old.steps.now + calls.old.left }
         // No call is made if the line is whole in the bytes that were read.
-        ensures buffered { HasLineFeed self.old.chunk → self.new.calls.left ≡ self.old.calls.left }
-        ensures fewer { OnOk result (bytes_to_come self.new.calls.left self.new.chunk
-            ≤ bytes_to_come self.old.calls.left self.old.chunk) }
+        ensures buffered { HasLineFeed self.old.chunk → calls.new.left ≡ calls.old.left }
+        ensures fewer { OnOk result (bytes_to_come calls.new.left self.new.chunk
+            ≤ bytes_to_come calls.old.left self.old.chunk) }
         ensures shorter { result ≡ Ok Line.Whole →
-            bytes_to_come self.new.calls.left self.new.chunk
-            < bytes_to_come self.old.calls.left self.old.chunk }
+            bytes_to_come calls.new.left self.new.chunk
+            < bytes_to_come calls.old.left self.old.chunk }
         ensures line { IfOk result (λ line. IsRead line limit
-            (prepend_known self.old.chunk (R.remaining self.old.calls.reader.now))
-            (prepend_known self.new.chunk (R.remaining self.new.calls.reader.now))
+            (prepend_known self.old.chunk (R.remaining calls.old.reader.now))
+            (prepend_known self.new.chunk (R.remaining calls.new.reader.now))
             self.new.line.items) }
         // After a fault the line has the bytes that were taken of it.
         ensures begun { OnErr result (HasBegun
-            (prepend_known self.old.chunk (R.remaining self.old.calls.reader.now))
-            (prepend_known self.new.chunk (R.remaining self.new.calls.reader.now))
+            (prepend_known self.old.chunk (R.remaining calls.old.reader.now))
+            (prepend_known self.new.chunk (R.remaining calls.new.reader.now))
             self.new.line.items) }
         ensures read_fault { IsErrOf result RunFault.Read → self.new.chunk ≡ [] }
         ensures fault { IfErr result (λ e. e ≢ RunFault.Write) }
@@ -243,7 +239,7 @@ impl<'a, R: Read, L: Ledger> LineReader<'a, R, L> {
                 Part::TooLong => return Ok(Line::TooLong),
                 Part::More => {}
             }
-            if !fill(&mut self.chunk, &mut self.calls)? {
+            if !fill(&mut self.chunk, calls)? {
                 return Ok(if self.line.is_empty() {
                     Line::End
                 } else {
@@ -255,23 +251,26 @@ impl<'a, R: Read, L: Ledger> LineReader<'a, R, L> {
 
     /// Takes the rest of a line with its line feed, or to the end of the input; returns whether there is a line feed. `line`
     /// stays as it is.
-    pub fn skip_line(&mut self) -> Result<bool, RunFault>
-        ensures same_reader { self.new.calls.reader.ghost_name ≡ self.old.calls.reader.ghost_name }
-        ensures same_steps { self.new.calls.steps.ghost_name ≡ self.old.calls.steps.ghost_name }
-        ensures counted { self.new.calls.steps.now + self.new.calls.left
-            ≡ self.old.calls.steps.now + self.old.calls.left }
+    pub fn skip_line<R: Read, L: Ledger>(
+        &mut self,
+        calls: &mut Calls<R, L>,
+    ) -> Result<bool, RunFault>
+        ensures same_reader { calls.new.reader.ghost_name ≡ calls.old.reader.ghost_name }
+        ensures same_steps { calls.new.steps.ghost_name ≡ calls.old.steps.ghost_name }
+        ensures counted { calls.new.steps.now + calls.new.left
+            ≡ calls.old.steps.now + calls.old.left }
         ensures same_line { self.new.line.items ≡ self.old.line.items }
-        ensures fewer { OnOk result (bytes_to_come self.new.calls.left self.new.chunk
-            ≤ bytes_to_come self.old.calls.left self.old.chunk) }
+        ensures fewer { OnOk result (bytes_to_come calls.new.left self.new.chunk
+            ≤ bytes_to_come calls.old.left self.old.chunk) }
         ensures shorter { result ≡ Ok true →
-            bytes_to_come self.new.calls.left self.new.chunk
-            < bytes_to_come self.old.calls.left self.old.chunk }
+            bytes_to_come calls.new.left self.new.chunk
+            < bytes_to_come calls.old.left self.old.chunk }
         ensures skipped { IfOk result (λ feed. IsSkipped feed
-            (prepend_known self.old.chunk (R.remaining self.old.calls.reader.now))
-            (prepend_known self.new.chunk (R.remaining self.new.calls.reader.now))) }
+            (prepend_known self.old.chunk (R.remaining calls.old.reader.now))
+            (prepend_known self.new.chunk (R.remaining calls.new.reader.now))) }
         ensures begun { OnErr result ((bytes : List ℕ) × HasBegun
-            (prepend_known self.old.chunk (R.remaining self.old.calls.reader.now))
-            (prepend_known self.new.chunk (R.remaining self.new.calls.reader.now)) bytes) }
+            (prepend_known self.old.chunk (R.remaining calls.old.reader.now))
+            (prepend_known self.new.chunk (R.remaining calls.new.reader.now)) bytes) }
         ensures none { OnErr result (self.new.chunk ≡ []) }
         ensures fault { IfErr result (λ e. e ≡ RunFault.Read) }
     {
@@ -279,7 +278,7 @@ impl<'a, R: Read, L: Ledger> LineReader<'a, R, L> {
             if skip_part(&mut self.chunk) {
                 return Ok(true);
             }
-            if !fill(&mut self.chunk, &mut self.calls)? {
+            if !fill(&mut self.chunk, calls)? {
                 return Ok(false);
             }
         }
@@ -287,11 +286,6 @@ impl<'a, R: Read, L: Ledger> LineReader<'a, R, L> {
 
     /// Drops one carriage return at the end of the line.
     pub fn drop_return(&mut self)
-        ensures same_reader { self.new.calls.reader.ghost_name ≡ self.old.calls.reader.ghost_name }
-        ensures same_steps { self.new.calls.steps.ghost_name ≡ self.old.calls.steps.ghost_name }
-        ensures reader { self.new.calls.reader.now ≡ self.old.calls.reader.now }
-        ensures steps { self.new.calls.steps.now ≡ self.old.calls.steps.now }
-        ensures left { self.new.calls.left ≡ self.old.calls.left }
         ensures chunk { self.new.chunk ≡ self.old.chunk }
         ensures line { self.new.line.items ≡ returnless self.old.line.items }
     {

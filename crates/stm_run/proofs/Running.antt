@@ -1,5 +1,5 @@
 -- What a run has written, from what it has taken.
-use Rattle.std.proofs.Common.{◌≡◌, ℕ, ◌<◌, Result, OnErr, Option, Some, None, IfSome, List, [], ◌∷◌, ◌++◌, length, refl, sym, ap, ◌∙◌, subst, append_assoc, append-nil}
+use Rattle.std.proofs.Common.{◌≡◌, ℕ, ◌<◌, Result, Ok, Err, OnErr, Option, Some, None, IfSome, List, [], ◌∷◌, ◌++◌, length, refl, sym, ap, ◌∙◌, subst, append_assoc, append-nil}
 use Rattle.std.specs.Io.KnownBytes.{Appends, Consumes, Keeps, prepend_known}
 use Rattle.std.proofs.KnownBytes.{Appends-nil, Appends-trans, Appends-kept, Consumes-nil, Consumes-trans, prepend_known-nil}
 use Rattle.stm_lines.specs.LineClass.{line_class}
@@ -117,9 +117,10 @@ pub part_flushed : (s t : Console) (a b x y y' : Option (List ℕ)) → HasAnswe
 part_flushed s t a b x y y' h f = part_answered s t a b x y y' y' h f (none_written t b y')
 
 -- the last flush failed
-pub all_flushed : (s : Console) (a x y : Option (List ℕ)) → HasAnsweredAll s a x y → HasAnsweredPart s a x y
-all_flushed s None x y h = tt
-all_flushed s (Some i) x y h = (rest_text s i, ([], sym (append-nil _)), h)
+pub all_flushed : {E : Type 0} → (r : Result (Unit {0}) E) (s : Console) (a x y : Option (List ℕ)) → HasAnsweredAll s a x y → OnErr r (HasAnsweredPart s a x y)
+all_flushed (Ok u) s a x y h = tt
+all_flushed (Err e) s None x y h = tt
+all_flushed (Err e) s (Some i) x y h = (rest_text s i, ([], sym (append-nil _)), h)
 
 -- the reader failed in the rest
 pub whole_answered : (s t : Console) (a b r x y y' z : Option (List ℕ)) → HasAnswered s t a b x y → Keeps y y' → HasAnsweredWhole t b r y' z → HasAnsweredWhole s a r x z

@@ -17,6 +17,7 @@ use std::random::RandomSource;
 use std::sync::ledger::{Blank, Ledger};
 use std::thread::Threads;
 use stm_commands::Threading;
+use stm_lines::calls::Calls;
 use stm_lines::command_lines::{CommandLine, next_command_line};
 use stm_lines::output::flush;
 use stm_lines::{LineReader, RunFault, Steps};
@@ -25,10 +26,7 @@ use stm_store::Seed;
 
 /// Hands on what the writer holds, unless the next line is whole in the bytes that were read: the reader isn't called before the
 /// answers to all lines were handed on.
-fn flush_before_read<R: Read, W: Write, L: Ledger>(
-    lines: &LineReader<R, L>,
-    writer: &mut W,
-) -> Result<(), RunFault>
+fn flush_before_read<W: Write>(lines: &LineReader, writer: &mut W) -> Result<(), RunFault>
     ensures kept { Keeps (W.contents writer.old) (W.contents writer.new) }
     ensures fault { IfErr result (λ e. e ≢ RunFault.Read) }
 {
@@ -44,32 +42,33 @@ fn answer_next<T: Threads + Sync, R: Read, W: Write, L: Ledger>(
     rt: &T,
     alloc: Global,
     session: &mut Session,
-    lines: &mut LineReader<R, L>,
+    lines: &mut LineReader,
+    calls: &mut Calls<R, L>,
     writer: &mut W,
 ) -> Result<bool, RunFault>
-    ensures same_reader { lines.new.calls.reader.ghost_name ≡ lines.old.calls.reader.ghost_name }
-    ensures same_steps { lines.new.calls.steps.ghost_name ≡ lines.old.calls.steps.ghost_name }
-    ensures counted { lines.new.calls.steps.now + lines.new.calls.left
-        ≡ lines.old.calls.steps.now + lines.old.calls.left }
+    ensures same_reader { calls.new.reader.ghost_name ≡ calls.old.reader.ghost_name }
+    ensures same_steps { calls.new.steps.ghost_name ≡ calls.old.steps.ghost_name }
+    ensures counted { calls.new.steps.now + calls.new.left
+        ≡ calls.old.steps.now + calls.old.left }
     ensures shorter { result ≡ Ok true →
-        bytes_to_come lines.new.calls.left lines.new.chunk
-        < bytes_to_come lines.old.calls.left lines.old.chunk }
+        bytes_to_come calls.new.left lines.new.chunk
+        < bytes_to_come calls.old.left lines.old.chunk }
     ensures answered { IfOk result (λ more. MatchBool more
         (HasAnswered session.old.console session.new.console
-        (prepend_known lines.old.chunk (R.remaining lines.old.calls.reader.now))
-        (prepend_known lines.new.chunk (R.remaining lines.new.calls.reader.now))
+        (prepend_known lines.old.chunk (R.remaining calls.old.reader.now))
+        (prepend_known lines.new.chunk (R.remaining calls.new.reader.now))
         (W.contents writer.old) (W.contents writer.new))
         (HasAnsweredAll session.old.console
-        (prepend_known lines.old.chunk (R.remaining lines.old.calls.reader.now))
+        (prepend_known lines.old.chunk (R.remaining calls.old.reader.now))
         (W.contents writer.old) (W.contents writer.new))) }
     ensures read_fault { IsErrOf result RunFault.Read → HasAnsweredWhole session.old.console
-        (prepend_known lines.old.chunk (R.remaining lines.old.calls.reader.now))
-        (R.remaining lines.new.calls.reader.now) (W.contents writer.old) (W.contents writer.new) }
+        (prepend_known lines.old.chunk (R.remaining calls.old.reader.now))
+        (R.remaining calls.new.reader.now) (W.contents writer.old) (W.contents writer.new) }
     ensures part { OnErr result (HasAnsweredPart session.old.console
-        (prepend_known lines.old.chunk (R.remaining lines.old.calls.reader.now))
+        (prepend_known lines.old.chunk (R.remaining calls.old.reader.now))
         (W.contents writer.old) (W.contents writer.new)) }
 {
-    match next_command_line(lines) {
+    match next_command_line(lines, calls) {
         Ok(CommandLine::Whole) => {
             match session.answer_line(rt, alloc, lines.line(), writer) {
                 Ok(()) => Ok(true),
@@ -93,29 +92,30 @@ fn run_session<T: Threads + Sync, R: Read, W: Write, L: Ledger>(
     rt: &T,
     alloc: Global,
     session: &mut Session,
-    lines: &mut LineReader<R, L>,
+    lines: &mut LineReader,
+    calls: &mut Calls<R, L>,
     writer: &mut W,
 ) -> Result<(), RunFault>
     requires { lines.old.chunk ≡ [] }
-    ensures same_reader { lines.new.calls.reader.ghost_name ≡ lines.old.calls.reader.ghost_name }
-    ensures same_steps { lines.new.calls.steps.ghost_name ≡ lines.old.calls.steps.ghost_name }
+    ensures same_reader { calls.new.reader.ghost_name ≡ calls.old.reader.ghost_name }
+    ensures same_steps { calls.new.steps.ghost_name ≡ calls.old.steps.ghost_name }
     // Each call that is used up was counted.
-    ensures counted { lines.new.calls.steps.now + lines.new.calls.left
-        ≡ lines.old.calls.steps.now + lines.old.calls.left }
+    ensures counted { calls.new.steps.now + calls.new.left
+        ≡ calls.old.steps.now + calls.old.left }
     // The whole text of the input was written.
     ensures answered { OnOk result (HasAnsweredAll session.old.console
-        (R.remaining lines.old.calls.reader.now) (W.contents writer.old) (W.contents writer.new)) }
+        (R.remaining calls.old.reader.now) (W.contents writer.old) (W.contents writer.new)) }
     // After a read fault it is the text of the lines that were whole before.
     ensures read_fault { IsErrOf result RunFault.Read → HasAnsweredWhole session.old.console
-        (R.remaining lines.old.calls.reader.now) (R.remaining lines.new.calls.reader.now)
+        (R.remaining calls.old.reader.now) (R.remaining calls.new.reader.now)
         (W.contents writer.old) (W.contents writer.new) }
     // After any fault it is a prefix of the text.
     ensures part { OnErr result (HasAnsweredPart session.old.console
-        (R.remaining lines.old.calls.reader.now) (W.contents writer.old) (W.contents writer.new)) }
+        (R.remaining calls.old.reader.now) (W.contents writer.old) (W.contents writer.new)) }
 {
     'lines: loop {
         flush_before_read(lines, writer)?;
-        if !answer_next(rt, alloc, session, lines, writer)? {
+        if !answer_next(rt, alloc, session, lines, calls, writer)? {
             return flush(writer);
         }
     }
@@ -154,8 +154,9 @@ pub fn run_counted<T: Threads + RandomSource + Sync, R: Read, W: Write, L: Ledge
         EventLimit::new(options.max_events),
         Threading::new(options.workers, options.levels),
     );
-    let mut lines = LineReader::new(alloc, reader, steps);
-    run_session(rt, alloc, &mut session, &mut lines, writer)
+    let mut lines = LineReader::new(alloc);
+    let mut calls = Calls::new(reader, steps);
+    run_session(rt, alloc, &mut session, &mut lines, &mut calls, writer)
 }
 
 /// A run whose calls of the reader are counted by a new ledger.

@@ -6,12 +6,12 @@ use Rattle.stm_run.proofs.streams.run_session.Given as goal
 
 abbrev pub invariant-lines : goal.invariant-lines
 invariant-lines g l = record {
-  answered : HasAnswered l.initial.session.console l.session.console (g.R.Read.remaining l.initial.lines.calls.reader.now)
-      (prepend_known l.lines.chunk (g.R.Read.remaining l.lines.calls.reader.now)) (g.W.Write.contents l.initial.writer) (g.W.Write.contents l.writer);
-  same_reader : l.lines.calls.reader.ghost_name ≡ l.initial.lines.calls.reader.ghost_name;
-  same_steps : l.lines.calls.steps.ghost_name ≡ l.initial.lines.calls.steps.ghost_name;
-  counted : l.lines.calls.steps.now + l.lines.calls.left ≡ l.initial.lines.calls.steps.now + l.initial.lines.calls.left;
+  answered : HasAnswered l.initial.session.console l.session.console (g.R.Read.remaining l.initial.calls.reader.now)
+      (prepend_known l.lines.chunk (g.R.Read.remaining l.calls.reader.now)) (g.W.Write.contents l.initial.writer) (g.W.Write.contents l.writer);
+  same_reader : l.calls.reader.ghost_name ≡ l.initial.calls.reader.ghost_name;
+  same_steps : l.calls.steps.ghost_name ≡ l.initial.calls.steps.ghost_name;
+  counted : l.calls.steps.now + l.calls.left ≡ l.initial.calls.steps.now + l.initial.calls.left;
 }
 
 abbrev pub decreases-lines : goal.decreases-lines
-decreases-lines g l = bytes_to_come l.lines.calls.left l.lines.chunk
+decreases-lines g l = bytes_to_come l.calls.left l.lines.chunk
