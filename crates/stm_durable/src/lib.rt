@@ -15,6 +15,9 @@ pub use resuming::{OpenFault, Opened, open_history};
 // No program makes these calls by a script, and no contract says that they succeed.
 #[cfg(test)]
 mod tests {
+    ghost use Rattle.std.specs.Prelude.{IfOk, IfSome};
+    ghost use Rattle.stm_history.specs.Loading.{HasText};
+
     use super::*;
     use std::alloc::Global;
     use std::test::Fail;
@@ -44,7 +47,9 @@ mod tests {
 
     const OTHER: &[u8] = b"Dear diary\n";
 
-    fn opened(alloc: Global, bytes: &[u8]) -> Result<Opened<Memory>, Fail> {
+    fn opened(alloc: Global, bytes: &[u8]) -> Result<Opened<Memory>, Fail>
+        ensures { IfOk result (λ r. IfSome r.loaded (λ h. HasText h.table h.events.items)) }
+    {
         let device = Memory::new(alloc, bytes.to_vec(alloc)?);
         Ok(open_history(alloc, Seed::fixed(), device, SyncMode::Full).map_err(|e| e.1)?)
     }
