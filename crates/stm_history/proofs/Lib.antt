@@ -1,10 +1,12 @@
 pub mod Allowed
+pub mod Braces
 pub mod CheckedBlocks
 pub mod Cuts
 pub mod Exact
 pub mod Feeding
 pub mod FirstFault
 pub mod FitsPushed
+pub mod Loads
 pub mod OneLines
 pub mod Parts
 pub mod Ranges
@@ -14,6 +16,7 @@ pub mod RoundTrips
 pub mod Sent
 pub mod Shortness
 pub mod Standing
+pub mod Started
 pub mod Steps
 pub mod Telling
 pub mod Types

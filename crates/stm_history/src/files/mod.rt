@@ -3,6 +3,7 @@
 pub mod check;
 pub mod fault;
 pub mod laws;
+pub mod loading;
 pub mod replayer;
 pub mod replaying;
 pub mod stepping;
