@@ -3,7 +3,6 @@ pub mod Braces
 pub mod CheckedBlocks
 pub mod Cuts
 pub mod Exact
-pub mod Feeding
 pub mod FirstFault
 pub mod FitsPushed
 pub mod Loads
@@ -11,6 +10,7 @@ pub mod OneLines
 pub mod Parts
 pub mod Ranges
 pub mod ReadsBack
+pub mod Reading
 pub mod Refusing
 pub mod RoundTrips
 pub mod Sent

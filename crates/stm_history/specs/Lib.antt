@@ -10,6 +10,7 @@ pub mod WholeBlocks
 pub mod Checking
 pub mod Fields
 pub mod Following
+pub mod Reading
 pub mod Sending
 pub mod Stages
 pub mod Variables

@@ -218,7 +218,7 @@ impl LineReader {
         ensures fewer { OnOk result (bytes_to_come calls.new.left self.new.chunk
             ≤ bytes_to_come calls.old.left self.old.chunk) }
         ensures shorter { result ≡ Ok Line.Whole →
-            bytes_to_come calls.new.left self.new.chunk
+            bytes_to_come calls.new.left self.new.chunk + length self.new.line.items
             < bytes_to_come calls.old.left self.old.chunk }
         ensures line { IfOk result (λ line. IsRead line limit
             (prepend_known self.old.chunk (R.remaining calls.old.reader.now))

@@ -8,7 +8,7 @@ invariant-parts g l = record {
   begun : HasBegun (prepend_known l.initial.self.chunk (g.R.Read.remaining l.initial.calls.reader.now))
       (prepend_known l.self.chunk (g.R.Read.remaining l.calls.reader.now)) l.self.line.items;
   short : length l.self.line.items ≤ l.limit;
-  fewer : bytes_to_come l.calls.left l.self.chunk ≤ bytes_to_come l.initial.calls.left l.initial.self.chunk;
+  fewer : bytes_to_come l.calls.left l.self.chunk + length l.self.line.items ≤ bytes_to_come l.initial.calls.left l.initial.self.chunk;
   buffered : HasLineFeed l.initial.self.chunk → HasLineFeed l.self.chunk × (l.calls.left ≡ l.initial.calls.left);
   same_reader : l.calls.reader.ghost_name ≡ l.initial.calls.reader.ghost_name;
   same_steps : l.calls.steps.ghost_name ≡ l.initial.calls.steps.ghost_name;
