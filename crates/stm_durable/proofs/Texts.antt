@@ -8,6 +8,7 @@ use Rattle.stm_events.specs.SlowDesk.{max_cells}
 use Rattle.stm_history.specs.Fits.{WhatFitsFormat, IsOneLine, BeginsWithBrace}
 use Rattle.stm_history.specs.HistoryText.{variable_lines, event_lines, head_text, history_text}
 use Rattle.stm_history.specs.Judgement.{AreVariables, AreVariablesFrom, AreEvents}
+use Rattle.stm_history.specs.Loading.{HasText}
 use Rattle.stm_history.specs.Lines.{latest_format, IsFormat, event_line, header_line, variable_line}
 use Rattle.stm_history.proofs.Braces.{event_brace, header_brace, variable_brace}
 use Rattle.stm_history.proofs.ReadsBack.{event_one_line, header_one_line, variable_one_line}
@@ -90,3 +91,11 @@ pub batch_short : (begun : Bool) (table : List Declared) (events : List Event) �
 batch_short true table events fit small = events_short table events fit.fit small
 batch_short false table events fit small =
     events_short table events fit.fit (omega (arith, small, length-append (head_text latest_format (length table) table) (event_lines events)))
+
+events_fit : (table : List Declared) (events : List Event) → AreEvents latest_format table events → AreFit table events
+events_fit table [] are = tt
+events_fit table (e ∷ es) are = (are.0, events_fit table es are.3)
+
+-- what has a text can be in lines
+pub fits_again : (table : List Declared) (events : List Event) → HasText table events → FitLines table events
+fits_again table events text = let is = text.1 in record { few = is.few; variables = is.variables; fit = events_fit table events is.events }

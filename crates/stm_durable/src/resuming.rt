@@ -2,8 +2,8 @@
 
 ghost use Rattle.std.specs.Prelude.{◌≡◌, ◌⊎◌, ◌≤◌, ◌<◌, ◌≢◌, ◌^◌, ℕ, List, IsTrue, IfOk, IfErr, IfSome, MatchResult, length, take, get_or};
 ghost use Rattle.stm_events.specs.Laws.{SubmittedAreWellTyped};
-ghost use Rattle.stm_history.specs.Loading.{TellsLoadFault};
-ghost use Rattle.stm_journal.specs.Device.{LeavesOnly};
+ghost use Rattle.stm_history.specs.Loading.{HasText, TellsLoadFault};
+ghost use Rattle.stm_journal.specs.Device.{LeavesOnly, HasReadCause};
 ghost use Rattle.stm_journal.specs.Journal.{HasSameLines, most_batch};
 ghost use Rattle.stm_journal.specs.Text.{whole_count, recovered, dropped_count};
 ghost use Rattle.stm_machine.specs.Machine.{StandsFor};
@@ -43,6 +43,7 @@ fn load_front<D: Device>(
 ) -> Result<Option<Loaded>, LoadFault>
     requires { IsTrue D.is_honest → len ≤ length (D.seen device.now) }
     ensures stands { IfOk result (λ o. IfSome o (λ h. StandsFor h.table h.events.items h.machine)) }
+    ensures lines { IfOk result (λ o. IfSome o (λ h. HasText h.table h.events.items)) }
     ensures typed { IfOk result (λ o. IfSome o (λ h. SubmittedAreWellTyped h.events.items)) }
     ensures text { IsTrue D.is_honest → IfOk result (λ o. LoadsFront (take len (D.seen device.now)) o) }
     ensures fault { IsTrue D.is_honest
@@ -64,6 +65,7 @@ fn is_foreign<D: Device>(device: &D, found: Found) -> Result<bool, JournalError>
     requires dropped { IsTrue D.is_honest → found.dropped ≡ dropped_count (D.seen device.now) }
     ensures yes { IsTrue D.is_honest → IfOk result (λ b. IsTrue b → IsForeign (D.seen device.now)) }
     ensures no { IsTrue D.is_honest → IfOk result (λ b. IsForeign (D.seen device.now) → IsTrue b) }
+    ensures cause { IsTrue D.is_honest → HasReadCause (D.reads_fail device.now) result }
 {
     if found.kept > 0 || found.dropped < 2 {
         return Ok(false);
@@ -82,10 +84,18 @@ fn judge<D: Device>(
     ensures kept { IsTrue D.is_honest → IfOk result (λ r. r.0.kept ≡ whole_count 0 (D.seen device.now)) }
     ensures dropped { IsTrue D.is_honest → IfOk result (λ r. r.0.dropped ≡ dropped_count (D.seen device.now)) }
     ensures stands { IfOk result (λ r. IfSome r.1 (λ h. StandsFor h.table h.events.items h.machine)) }
+    ensures lines { IfOk result (λ r. IfSome r.1 (λ h. HasText h.table h.events.items)) }
     ensures typed { IfOk result (λ r. IfSome r.1 (λ h. SubmittedAreWellTyped h.events.items)) }
     ensures text { IsTrue D.is_honest → IfOk result (λ r. LoadsFront (recovered (D.seen device.now)) r.1) }
     ensures own { IsTrue D.is_honest → IfOk result (λ _. IsForeign (D.seen device.now) → ⊥) }
     ensures told { IsTrue D.is_honest → IfErr result (λ e. TellsOpenFault e (D.seen device.now)) }
+    ensures failed { IsTrue D.is_honest → IfErr result (λ e. e ≡ OpenFault.Journal JournalError.Failed
+        → D.reads_fail device.now) }
+    ensures no_space { IsTrue D.is_honest → IfErr result (λ e. e ≢ OpenFault.Journal JournalError.NoSpace) }
+    ensures full { IsTrue D.is_honest → IfErr result (λ e. e ≡ OpenFault.Journal JournalError.Full
+        → 2 ^ 62 < length (D.seen device.now)) }
+    ensures too_long { IsTrue D.is_honest → IfErr result (λ e. e ≢ OpenFault.Journal JournalError.TooLong) }
+    ensures torn { IsTrue D.is_honest → IfErr result (λ e. e ≢ OpenFault.Journal JournalError.TornTooLong) }
 {
     let found = match inspect(device) {
         Ok(found) => found,
@@ -127,6 +137,14 @@ fn repaired<D: Device>(
         (λ e. LeavesOnly D.moment D.left_since device e.0
         (λ c. D.may_leave device c ⊎ HasSameLines (D.seen device) c)) }
     ensures left { IsTrue D.is_honest → IfErr result (λ e. HasSameLines (D.seen device) (D.seen e.0)) }
+    ensures failed { IsTrue D.is_honest → IfErr result (λ e. e.1 ≡ OpenFault.Journal JournalError.Failed
+        → D.faults device < D.faults e.0) }
+    ensures no_space { IsTrue D.is_honest → IfErr result (λ e. e.1 ≡ OpenFault.Journal JournalError.NoSpace
+        → D.faults device < D.faults e.0) }
+    ensures full { IsTrue D.is_honest → IfErr result (λ e. e.1 ≢ OpenFault.Journal JournalError.Full) }
+    ensures too_long { IsTrue D.is_honest → IfErr result (λ e. e.1 ≢ OpenFault.Journal JournalError.TooLong) }
+    ensures torn { IsTrue D.is_honest → IfErr result (λ e. e.1 ≡ OpenFault.Journal JournalError.TornTooLong
+        → most_batch < dropped_count (D.seen device)) }
 {
     match repair(&mut device, found) {
         Ok(()) => {
@@ -161,6 +179,7 @@ pub fn open_history<D: Device>(
 ) -> Result<Opened<D>, (D, OpenFault)>
     // The history is legal, whatever the device is, and the machine is what it leads to.
     ensures stands { IfOk result (λ r. IfSome r.loaded (λ h. StandsFor h.table h.events.items h.machine)) }
+    ensures lines { IfOk result (λ r. IfSome r.loaded (λ h. HasText h.table h.events.items)) }
     ensures typed { IfOk result (λ r. IfSome r.loaded (λ h. SubmittedAreWellTyped h.events.items)) }
     // Its text is the file's whole lines, and the file then has exactly this text.
     ensures loaded { IsTrue D.is_honest → IfOk result (λ r. LoadsFront (recovered (D.seen device)) r.loaded) }
@@ -183,6 +202,16 @@ pub fn open_history<D: Device>(
         (λ c. D.may_leave device c ⊎ HasSameLines (D.seen device) c)) }
     // Also after an error the file stands for the same lines.
     ensures left { IsTrue D.is_honest → IfErr result (λ e. HasSameLines (D.seen device) (D.seen e.0)) }
+    // It doesn't give up by itself.
+    ensures failed { IsTrue D.is_honest → IfErr result (λ e. e.1 ≡ OpenFault.Journal JournalError.Failed
+        → D.reads_fail device ⊎ (D.faults device < D.faults e.0)) }
+    ensures no_space { IsTrue D.is_honest → IfErr result (λ e. e.1 ≡ OpenFault.Journal JournalError.NoSpace
+        → D.faults device < D.faults e.0) }
+    ensures full { IsTrue D.is_honest → IfErr result (λ e. e.1 ≡ OpenFault.Journal JournalError.Full
+        → 2 ^ 62 < length (D.seen device)) }
+    ensures too_long { IsTrue D.is_honest → IfErr result (λ e. e.1 ≢ OpenFault.Journal JournalError.TooLong) }
+    ensures torn_too_long { IsTrue D.is_honest → IfErr result (λ e. e.1 ≡ OpenFault.Journal JournalError.TornTooLong
+        → most_batch < dropped_count (D.seen device)) }
 {
     match judge(alloc, seed, &device) {
         Ok((found, loaded)) => repaired(device, sync, found, loaded),

@@ -6,7 +6,6 @@ pub mod Cuts
 pub mod Due
 pub mod Exact
 pub mod Explained
-pub mod Feeding
 pub mod FirstFault
 pub mod FitsPushed
 pub mod Loads
@@ -15,6 +14,7 @@ pub mod OneLines
 pub mod OneProgress
 pub mod Parts
 pub mod Ranges
+pub mod Reading
 pub mod ReadsBack
 pub mod Refusing
 pub mod RoundTrips

@@ -15,14 +15,6 @@ use Rattle.stm_terms.specs.Texts.{IsPrefixOf}
 pub drop-all : (at : ℕ) (text : List ℕ) → take (length text - at) (drop at text) ≡ drop at text
 drop-all at text = ap (λ n. take n (drop at text)) (sym (length-drop at text)) ∙ take-length (drop at text)
 
-pub Appends-more : (a b c : Option (List ℕ)) (at n : ℕ) (text : List ℕ) → Appends a b (take at text) → Appends b c (take n (take (length text - at) (drop at text))) → Appends a c (take (at + n) text)
-Appends-more a b c at n text p q =
-    let q' = subst (λ (rest : List ℕ). Appends b c (take n rest)) (drop-all at text) q in
-    subst (Appends a c) (sym (take-add at n text)) (Appends-trans a b c _ _ p q')
-
-pub IsPrefixOf-take : (at : ℕ) (text : List ℕ) → IsPrefixOf (take at text) text
-IsPrefixOf-take at text = (drop at text, sym (take-append-drop at text))
-
 -- one text after another
 pub part_after : (a b c : Option (List ℕ)) (first second : List ℕ) → Appends a b first → WritesFront b c second → WritesFront a c (first ++ second)
 part_after a b c first second p q = (first ++ q.0, (q.1.0, ap (λ x. first ++ x) q.1.1 ∙ sym (append_assoc first q.0 q.1.0)), Appends-trans a b c _ _ p q.2)

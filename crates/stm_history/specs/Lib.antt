@@ -12,6 +12,7 @@ pub mod Checking
 pub mod Expecting
 pub mod Fields
 pub mod Following
+pub mod Reading
 pub mod Sending
 pub mod Stages
 pub mod Stopping

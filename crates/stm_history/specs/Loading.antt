@@ -17,3 +17,7 @@ TellsLoadFault (Fault f) bytes = TellsFault f bytes
 TellsLoadFault (OldFormat format) bytes =
     IsFormat format × (format ≢ latest_format) × (table : List Declared) × (history : List Event)
     × IsWholeHistory format bytes table history
+
+-- the history is legal, and can be written: some text is its text
+abbrev pub HasText : List Declared → List Event → Type 0
+HasText table history = (text : List ℕ) × IsWholeHistory latest_format text table history

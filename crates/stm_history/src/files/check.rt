@@ -1,12 +1,16 @@
 //! Whole files, judged line by line.
 
-ghost use Rattle.std.specs.Prelude.{◌≡◌, ◌++◌, ◌∷◌, [], ◌+◌, ◌≤◌, ◌<◌, ◌^◌, ℕ, List, OnOk, IfOk, IfErr, IfSome, length, is_some};
+ghost use Rattle.std.specs.Prelude.{◌≡◌, ◌++◌, ◌∷◌, [], ◌+◌, ◌≤◌, ◌<◌, ◌^◌, ℕ, List, OnOk, IfOk, IfErr, IfSome, MatchBool, Ok, true, length, is_some};
 ghost use Rattle.stm_store.specs.Tables.{Declared};
 ghost use Rattle.stm_events.specs.declared.event.Event.{Event as AnyEvent};
-ghost use Rattle.stm_history.specs.Checking.{CheckerState, at_header, at_variables, at_events, LeadsTo, MayRefuse, NoFeed, StopsAt, strange};
+ghost use Rattle.std.specs.Io.KnownBytes.{prepend_known};
+ghost use Rattle.stm_lines.specs.Lines.{NoLineFeed};
+ghost use Rattle.stm_lines.specs.TakenLines.{bytes_to_come};
+ghost use Rattle.stm_history.specs.Checking.{CheckerState, at_header, at_variables, at_events, LeadsTo, MayRefuse, StopsAt, strange};
+ghost use Rattle.stm_history.specs.Reading.{FailsIn, IsReadingFault, TakesLine, TakesRest};
 ghost use Rattle.stm_history.specs.Fits.{FitsTable, FitsFormat};
 ghost use Rattle.stm_history.specs.Following.{Follows, FollowsIn};
-ghost use Rattle.stm_history.specs.Judgement.{IsHistory, TellsFault, next_line};
+ghost use Rattle.stm_history.specs.Judgement.{IsHistory, IsShort, TellsFault, next_line};
 ghost use Rattle.stm_history.specs.Lines.{event_line};
 ghost use Rattle.stm_events.specs.SlowDesk.{max_cells, max_events, IsLegal};
 ghost use Rattle.stm_history.specs.Stages.{keeps, IsRunning, IsStage, CountsWithinLimits, LeadsToStage, Reached, refused_by};
@@ -18,11 +22,15 @@ use crate::files::stepping::StepError;
 use crate::lines::formats::{fits_format, staleness_rule};
 use crate::lines::read::{LineError, read_event, read_header, read_variable};
 use crate::lines::variable::Variable;
-use memchr::memchr;
 use std::alloc::Global;
-use std::io::{ErrorKind, Read};
+use std::io::Read;
+use std::marker::Brand;
 use std::mem;
+use std::sync::ledger::{Blank, Ledger};
 use stm_events::event::Event;
+use stm_lines::calls::Calls;
+use stm_lines::line_reader::Line;
+use stm_lines::{LineReader, RunFault, Steps};
 use stm_store::{DeclareError, Seed, Table};
 
 /// The most bytes of a line.
@@ -298,80 +306,55 @@ impl Checker {
         }
     }
 
-    /// Takes the line feed that ends a line.
-    fn end_line(&mut self) -> Result<(), HistoryFault>
-        requires { (taken : List ℕ) × Reached self.old.stage self.old.whole self.old.line.items taken
+    /// Takes a line that a line feed ended.
+    fn take_whole(&mut self, line: &[u8]) -> Result<(), HistoryFault>
+        requires reached { (taken : List ℕ) × Reached self.old.stage self.old.whole [] taken
             × (length taken < 2 ^ 62) }
+        requires plain { NoLineFeed line.now }
+        requires short { IsShort line.now }
         ensures done { OnOk result ((taken : List ℕ)
-            → Reached self.old.stage self.old.whole self.old.line.items taken
-            → Reached self.new.stage self.new.whole self.new.line.items (taken ++ 10 ∷ [])) }
+            → Reached self.old.stage self.old.whole [] taken
+            → Reached self.new.stage self.new.whole [] (taken ++ (line.now ++ 10 ∷ []))) }
         ensures fault { IfErr result (λ e. (taken more : List ℕ)
-            → Reached self.old.stage self.old.whole self.old.line.items taken
-            → TellsFault e (taken ++ 10 ∷ more)) }
+            → Reached self.old.stage self.old.whole [] taken
+            → TellsFault e (taken ++ ((line.now ++ 10 ∷ []) ++ more))) }
         ensures stops { IfErr result (λ e. (taken more : List ℕ)
-            → Reached self.old.stage self.old.whole self.old.line.items taken
-            → StopsAt e self.new.whole (taken ++ 10 ∷ more)) }
+            → Reached self.old.stage self.old.whole [] taken
+            → StopsAt e self.new.whole (taken ++ ((line.now ++ 10 ∷ []) ++ more))) }
         ensures keeps { OnOk result (keeps self.new.stage ≡ keeps self.old.stage) }
+        ensures same_line { self.new.line.items ≡ self.old.line.items }
     {
         let stage = mem::replace(&mut self.stage, Stage::Before { keep: false });
-        match take_line(self.alloc, self.seed, stage, &self.line) {
+        match take_line(self.alloc, self.seed, stage, line) {
             Ok(next) => {
                 self.stage = next;
-                self.whole += self.line.len() + 1;
-                self.line.clear();
+                self.whole += line.len() + 1;
                 Ok(())
             }
             Err(fault) => Err(fault),
         }
     }
 
-    /// Takes bytes of the line that has begun, none of which is a line feed.
-    fn take_part(&mut self, bytes: &[u8]) -> Result<(), HistoryFault>
-        requires reached { (taken : List ℕ)
-            × Reached self.old.stage self.old.whole self.old.line.items taken }
-        requires plain { NoFeed bytes.now }
+    /// Takes the last line, which no line feed ended.
+    fn take_last(&mut self, line: &[u8]) -> Result<(), HistoryFault>
+        requires none { self.old.line.items ≡ [] }
+        requires plain { NoLineFeed line.now }
+        requires short { IsShort line.now }
         ensures done { OnOk result ((taken : List ℕ)
-            → Reached self.old.stage self.old.whole self.old.line.items taken
-            → Reached self.new.stage self.new.whole self.new.line.items (taken ++ bytes.now)) }
+            → Reached self.old.stage self.old.whole [] taken
+            → Reached self.new.stage self.new.whole self.new.line.items (taken ++ line.now)) }
         ensures fault { IfErr result (λ e. (taken more : List ℕ)
-            → Reached self.old.stage self.old.whole self.old.line.items taken
-            → TellsFault e (taken ++ (bytes.now ++ more))) }
+            → Reached self.old.stage self.old.whole [] taken
+            → TellsFault e (taken ++ (line.now ++ more))) }
         ensures stops { IfErr result (λ e. (taken more : List ℕ)
-            → Reached self.old.stage self.old.whole self.old.line.items taken
-            → StopsAt e self.new.whole (taken ++ (bytes.now ++ more))) }
+            → Reached self.old.stage self.old.whole [] taken
+            → StopsAt e self.new.whole (taken ++ (line.now ++ more))) }
         ensures keeps { keeps self.new.stage ≡ keeps self.old.stage }
     {
-        if bytes.len() > MAX_LINE.saturating_sub(self.line.len()) {
-            return Err(strange_fault(&self.stage));
-        }
-        match self.line.extend_from_slice(bytes) {
+        match self.line.extend_from_slice(line) {
             Ok(()) => Ok(()),
             Err(_) => Err(HistoryFault::NoMemory),
         }
-    }
-
-    /// Takes the next bytes.
-    fn take_bytes(&mut self, bytes: &[u8]) -> Result<(), HistoryFault>
-        requires { (taken : List ℕ) × Reached self.old.stage self.old.whole self.old.line.items taken
-            × (length taken + length bytes.now < 2 ^ 62) }
-        ensures done { OnOk result ((taken : List ℕ)
-            → Reached self.old.stage self.old.whole self.old.line.items taken
-            → Reached self.new.stage self.new.whole self.new.line.items (taken ++ bytes.now)) }
-        ensures fault { IfErr result (λ e. (taken more : List ℕ)
-            → Reached self.old.stage self.old.whole self.old.line.items taken
-            → TellsFault e (taken ++ (bytes.now ++ more))) }
-        ensures stops { IfErr result (λ e. (taken more : List ℕ)
-            → Reached self.old.stage self.old.whole self.old.line.items taken
-            → StopsAt e self.new.whole (taken ++ (bytes.now ++ more))) }
-        ensures keeps { OnOk result (keeps self.new.stage ≡ keeps self.old.stage) }
-    {
-        let mut rest = bytes;
-        while let Some(at) = memchr(b'\n', rest) {
-            self.take_part(&rest[..at])?;
-            self.end_line()?;
-            rest = &rest[at + 1..];
-        }
-        self.take_part(rest)
     }
 
     /// Judges where the bytes end.
@@ -400,6 +383,105 @@ impl Checker {
     }
 }
 
+/// What the fault of reading a line is to a check.
+fn fault_of(fault: RunFault) -> HistoryFault
+    ensures { IsReadingFault result }
+{
+    match fault {
+        RunFault::NoMemory => HistoryFault::NoMemory,
+        RunFault::Read => HistoryFault::ReadFault,
+        RunFault::Write => HistoryFault::ReadFault,
+    }
+}
+
+/// Takes the next line, if there is one; returns whether more may follow.
+fn take_next<R: Read, L: Ledger>(
+    checker: &mut Checker,
+    lines: &mut LineReader,
+    calls: &mut Calls<R, L>,
+) -> Result<bool, HistoryFault>
+    requires reached { (taken : List ℕ) × Reached checker.old.stage checker.old.whole [] taken
+        × (length taken < 2 ^ 62) }
+    requires none { checker.old.line.items ≡ [] }
+    ensures taken { IfOk result (λ more. MatchBool more
+        (TakesLine checker.old.stage checker.new.stage checker.old.whole checker.new.whole []
+        (prepend_known lines.old.chunk (R.remaining calls.old.reader.now))
+        (prepend_known lines.new.chunk (R.remaining calls.new.reader.now))
+        (bytes_to_come calls.old.left lines.old.chunk)
+        (bytes_to_come calls.new.left lines.new.chunk))
+        (TakesRest checker.old.stage checker.new.stage checker.old.whole checker.new.whole
+        checker.new.line.items
+        (prepend_known lines.old.chunk (R.remaining calls.old.reader.now)))) }
+    ensures none { result ≡ Ok true → checker.new.line.items ≡ [] }
+    ensures fault { IfErr result (λ e. FailsIn e checker.old.stage checker.old.whole
+        checker.new.whole (prepend_known lines.old.chunk (R.remaining calls.old.reader.now))) }
+    ensures keeps { OnOk result (keeps checker.new.stage ≡ keeps checker.old.stage) }
+{
+    match lines.next_line(calls, MAX_LINE) {
+        Ok(Line::Whole) => match checker.take_whole(lines.line()) {
+            Ok(()) => Ok(true),
+            Err(fault) => Err(fault),
+        },
+        Ok(Line::Last) => match checker.take_last(lines.line()) {
+            Ok(()) => Ok(false),
+            Err(fault) => Err(fault),
+        },
+        Ok(Line::TooLong) => Err(strange_fault(&checker.stage)),
+        Ok(Line::End) => Ok(false),
+        Err(fault) => Err(fault_of(fault)),
+    }
+}
+
+/// Takes all bytes, before any of which was read.
+fn read_lines<R: Read, L: Ledger>(
+    checker: &mut Checker,
+    lines: &mut LineReader,
+    calls: &mut Calls<R, L>,
+) -> Result<(), HistoryFault>
+    requires reached { Reached checker.old.stage checker.old.whole checker.old.line.items [] }
+    requires chunk { lines.old.chunk ≡ [] }
+    requires left { calls.old.left ≤ 4294967295 }
+    ensures done { OnOk result ((taken : List ℕ)
+        × IfSome (R.remaining calls.old.reader.now) (λ bytes. bytes ≡ taken)
+        × Reached checker.new.stage checker.new.whole checker.new.line.items taken) }
+    ensures fault { IfErr result (λ e.
+        IfSome (R.remaining calls.old.reader.now) (λ bytes. TellsFault e bytes)) }
+    ensures stops { IfErr result (λ e.
+        IfSome (R.remaining calls.old.reader.now) (λ bytes. StopsAt e checker.new.whole bytes)) }
+    ensures keeps { OnOk result (keeps checker.new.stage ≡ keeps checker.old.stage) }
+{
+    'lines: loop {
+        if !take_next(checker, lines, calls)? {
+            return Ok(());
+        }
+    }
+}
+
+/// Takes all bytes by calls that a new ledger counts.
+fn read_from<R: Read, L: Ledger>(
+    checker: &mut Checker,
+    reader: &mut R,
+    blank: Blank,
+) -> Result<(), HistoryFault>
+    requires reached { Reached checker.old.stage checker.old.whole checker.old.line.items [] }
+    requires name { blank.name ≡ L.name }
+    requires parts { blank.parts ≡ L.parts }
+    requires some { 0 < blank.parts }
+    ensures done { OnOk result ((taken : List ℕ)
+        × IfSome (R.remaining reader.old) (λ bytes. bytes ≡ taken)
+        × Reached checker.new.stage checker.new.whole checker.new.line.items taken) }
+    ensures fault { IfErr result (λ e.
+        IfSome (R.remaining reader.old) (λ bytes. TellsFault e bytes)) }
+    ensures stops { IfErr result (λ e.
+        IfSome (R.remaining reader.old) (λ bytes. StopsAt e checker.new.whole bytes)) }
+    ensures keeps { OnOk result (keeps checker.new.stage ≡ keeps checker.old.stage) }
+{
+    let mut steps = Steps::<L>::new(blank);
+    let mut lines = LineReader::new(checker.alloc);
+    let mut calls = Calls::new(reader, &mut steps);
+    read_lines(checker, &mut lines, &mut calls)
+}
+
 /// Takes all bytes that the reader has left, before any of which was taken.
 pub(crate) fn read_all<R: Read>(checker: &mut Checker, reader: &mut R) -> Result<(), HistoryFault>
     requires { Reached checker.old.stage checker.old.whole checker.old.line.items [] }
@@ -413,20 +495,7 @@ pub(crate) fn read_all<R: Read>(checker: &mut Checker, reader: &mut R) -> Result
         IfSome (R.remaining reader.old) (λ bytes. StopsAt e checker.new.whole bytes)) }
     ensures keeps { OnOk result (keeps checker.new.stage ≡ keeps checker.old.stage) }
 {
-    let mut buffer = [0u8; 8_192];
-    'reads: for _turn in 0..u32::MAX {
-        match reader.read(&mut buffer) {
-            Ok(count) => {
-                if count == 0 {
-                    return Ok(());
-                }
-                checker.take_bytes(&buffer[..count])?;
-            }
-            Err(fault) if fault.kind() == ErrorKind::Interrupted => {}
-            Err(_) => return Err(HistoryFault::ReadFault),
-        }
-    }
-    Err(HistoryFault::ReadFault)
+    read_from::<R, Brand>(checker, reader, Blank::new(1))
 }
 
 /// Judges the bytes that the reader has left, before any of which was taken.
@@ -442,8 +511,8 @@ fn check_rest<R: Read>(checker: &mut Checker, reader: &mut R) -> Result<Legal, H
     }
 }
 
-/// Judges the bytes of a reader as a history of format 1, 2 or 3, line by line; docs/HISTORY.md has the formats. A line is never kept
-/// beyond 1,048,576 bytes, and the reader is called 4,294,967,295 times at most. `ReadFault` where the reader fails.
+/// Judges the bytes of a reader as a history of format 1, 2 or 3, line by line; docs/HISTORY.md has the formats. Of a line no more
+/// than 1,048,577 bytes are kept, and the reader is called 4,294,967,295 times at most. `ReadFault` if the reader fails.
 pub fn check_history<R: Read>(alloc: Global, reader: &mut R) -> Result<Legal, HistoryFault>
     // The bytes are the text of a legal history, and the numbers are its own.
     ensures ok { IfOk result (λ n. IfSome (R.remaining reader.old) (λ bytes. IsHistory bytes n)) }

@@ -4,7 +4,7 @@ ghost use Rattle.std.specs.Prelude.{◌≡◌, [], true, ℕ, List, OnOk, IfOk, 
 ghost use Rattle.stm_events.specs.Laws.{SubmittedAreWellTyped};
 ghost use Rattle.stm_events.specs.declared.event.Event.{Event as AnyEvent};
 ghost use Rattle.stm_history.specs.Lines.{latest_format};
-ghost use Rattle.stm_history.specs.Loading.{IsWholeHistory, TellsLoadFault};
+ghost use Rattle.stm_history.specs.Loading.{HasText, IsWholeHistory, TellsLoadFault};
 ghost use Rattle.stm_history.specs.Stages.{keeps, Reached, IsLoaded};
 ghost use Rattle.stm_machine.specs.Machine.{StandsFor};
 
@@ -167,6 +167,7 @@ pub fn load_history<R: Read>(alloc: Global, seed: Seed, reader: &mut R) -> Resul
         IsWholeHistory latest_format bytes h.table h.events.items)) }
     // It is legal, whatever the reader was, and the machine is what it leads to.
     ensures stands { IfOk result (λ h. StandsFor h.table h.events.items h.machine) }
+    ensures text { IfOk result (λ h. HasText h.table h.events.items) }
     // Each block that is submitted in it is well typed.
     ensures typed { IfOk result (λ h. SubmittedAreWellTyped h.events.items) }
     // Otherwise the first error of the bytes is reported, or their format.

@@ -15,3 +15,6 @@ returns-in-Ok-clause-typed g c =
     let h = c.into_loaded.result in
     let is : IsWholeHistory latest_format done.0 h.table h.events.items = c.into_loaded.ensures.history done.0 done.2 in
     events_typed latest_format h.table h.events.items is.events
+
+pub returns-in-Ok-clause-text : goal.returns-in-Ok-clause-text
+returns-in-Ok-clause-text g c = let done = c.in-Ok.ensures.done in (done.0, c.into_loaded.ensures.history done.0 done.2)
