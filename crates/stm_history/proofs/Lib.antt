@@ -1,4 +1,5 @@
 pub mod Allowed
+pub mod Braces
 pub mod Calls
 pub mod CheckedBlocks
 pub mod Cuts
@@ -8,6 +9,7 @@ pub mod Explained
 pub mod Feeding
 pub mod FirstFault
 pub mod FitsPushed
+pub mod Loads
 pub mod Loose
 pub mod OneLines
 pub mod OneProgress
@@ -19,6 +21,7 @@ pub mod RoundTrips
 pub mod Sent
 pub mod Shortness
 pub mod Standing
+pub mod Started
 pub mod Steps
 pub mod Stopped
 pub mod Telling

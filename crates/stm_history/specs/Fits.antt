@@ -1,6 +1,6 @@
 -- What can stand in a line: numbers that fit the program's types, a client that there may be, types of at most 8 `TVar`,
 -- and blocks that are their texts parsed and checked, of the actions that the format has.
-use Rattle.std.specs.Prelude.{◌≡◌, ◌≢◌, ℕ, ◌<◌, ◌≤◌, ◌^◌, ℤ, pos, negsuc, List, [], ◌∷◌, Ok, ⊤, IsTrue, false}
+use Rattle.std.specs.Prelude.{◌≡◌, ℕ, ◌<◌, ◌≤◌, ◌^◌, ℤ, pos, negsuc, List, [], ◌∷◌, Ok, ⊤, IsTrue, false}
 use Rattle.stm_terms.specs.declared.kinds.Ty.{Ty}
 use Rattle.stm_terms.specs.declared.values.Value.{Value}
 use Rattle.stm_terms.specs.declared.values.Value.TheVariants as value
@@ -88,7 +88,11 @@ abbrev pub AreInRange : List Declared → Type 0
 AreInRange [] = ⊤
 AreInRange (d ∷ ds) = FitsValue d.value × AreInRange ds
 
--- each byte is ASCII and no line feed
+-- each byte is ASCII and no control character, so no line feed and no 0
 abbrev pub IsOneLine : List ℕ → Type 0
 IsOneLine [] = ⊤
-IsOneLine (x ∷ xs) = (x ≢ 10) × (x < 128) × IsOneLine xs
+IsOneLine (x ∷ xs) = (32 ≤ x) × (x < 128) × IsOneLine xs
+
+-- the line begins with `{`
+abbrev pub BeginsWithBrace : List ℕ → Type 0
+BeginsWithBrace line = (rest : List ℕ) × (line ≡ 123 ∷ rest)

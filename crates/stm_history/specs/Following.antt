@@ -20,11 +20,12 @@ pub record HasRoom (rule : StalenessRule) (table : List Declared) (history : Lis
 abbrev pub WhatIsIllegal : StalenessRule → List Declared → List Event → What → Type 0
 WhatIsIllegal rule table history what = (client : ℕ) → IsIllegalBy rule table history (event client what)
 
--- the events so far are this history; a copy, where there is one, is of the present store
+-- the events so far are this history, and so are those that are kept, if they are; a copy, if there is one, is of the present store
 pub record Follows (table : List Declared) (history : List Event) (r : Replayer) : Type 0 where
   pub stands : StandsForBy r.rule table history r.machine
   pub counted : r.events ≡ length history
   pub copied : IfSome r.copy (λ cells. cells ≡ plains r.machine.store)
+  pub kept : IfSome r.kept (λ events. events.items ≡ history)
 
 -- and they go by the rule of the format
 pub record FollowsIn (format : ℕ) (table : List Declared) (history : List Event) (r : Replayer) : Type 0 where

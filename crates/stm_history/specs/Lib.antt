@@ -5,6 +5,7 @@ pub mod Fits
 pub mod HistoryText
 pub mod Judgement
 pub mod Lines
+pub mod Loading
 pub mod WholeBlocks
 -- And the words inside.
 pub mod Checking

@@ -1,15 +1,15 @@
 //! Whole files, judged line by line.
 
-ghost use Rattle.std.specs.Prelude.{◌≡◌, ◌++◌, ◌∷◌, [], ◌≤◌, ◌<◌, ℕ, List, OnOk, IfOk, IfErr, IfSome, length};
+ghost use Rattle.std.specs.Prelude.{◌≡◌, ◌++◌, ◌∷◌, [], ◌+◌, ◌≤◌, ◌<◌, ◌^◌, ℕ, List, OnOk, IfOk, IfErr, IfSome, length, is_some};
 ghost use Rattle.stm_store.specs.Tables.{Declared};
 ghost use Rattle.stm_events.specs.declared.event.Event.{Event as AnyEvent};
-ghost use Rattle.stm_history.specs.Checking.{CheckerState, at_header, at_variables, at_events, LeadsTo, MayRefuse, NoFeed, strange};
+ghost use Rattle.stm_history.specs.Checking.{CheckerState, at_header, at_variables, at_events, LeadsTo, MayRefuse, NoFeed, StopsAt, strange};
 ghost use Rattle.stm_history.specs.Fits.{FitsTable, FitsFormat};
 ghost use Rattle.stm_history.specs.Following.{Follows, FollowsIn};
 ghost use Rattle.stm_history.specs.Judgement.{IsHistory, TellsFault, next_line};
 ghost use Rattle.stm_history.specs.Lines.{event_line};
 ghost use Rattle.stm_events.specs.SlowDesk.{max_cells, max_events, IsLegal};
-ghost use Rattle.stm_history.specs.Stages.{IsStage, CountsWithinLimits, LeadsToStage, Reached, refused_by};
+ghost use Rattle.stm_history.specs.Stages.{keeps, IsRunning, IsStage, CountsWithinLimits, LeadsToStage, Reached, refused_by};
 ghost use Rattle.stm_history.specs.Checking.{with_table as progress_with};
 
 use crate::files::fault::{HistoryFault, Legal};
@@ -32,11 +32,14 @@ pub(crate) const MAX_LINE: usize = 1_048_576;
 pub(crate) const MAX_CELLS: u32 = Table::LIMIT as u32;
 
 /// How far the lines have come: before the first; in a format, among the variables, of which so many were promised; in a
-/// format, among the events.
+/// format, among the events. Each stage has whether the events are kept.
 #[derive(Drop)]
 pub(crate) enum Stage {
-    Before,
+    Before {
+        keep: bool,
+    },
     Declaring {
+        keep: bool,
         format: u32,
         vars: u32,
         table: Table,
@@ -49,19 +52,27 @@ pub(crate) enum Stage {
 }
 
 /// The stage in a format where so many variables were promised and these are there.
-fn with_table(alloc: Global, format: u32, vars: u32, table: Table) -> Result<Stage, HistoryFault>
+fn with_table(
+    alloc: Global,
+    keep: bool,
+    format: u32,
+    vars: u32,
+    table: Table,
+) -> Result<Stage, HistoryFault>
     requires { length table ≤ vars }
     ensures stage { IfOk result (λ s. IsStage s (progress_with format vars table)) }
     ensures err { IfErr result (λ e. e ≡ HistoryFault.NoMemory) }
+    ensures keeps { IfOk result (λ s. keeps s ≡ keep) }
 {
     if table.len() < vars as usize {
         return Ok(Stage::Declaring {
+            keep,
             format,
             vars,
             table,
         });
     }
-    match Replayer::open(alloc, staleness_rule(format), &table) {
+    match Replayer::open(alloc, staleness_rule(format), &table, keep) {
         Ok(replayer) => Ok(Stage::Running {
             format,
             table,
@@ -72,15 +83,16 @@ fn with_table(alloc: Global, format: u32, vars: u32, table: Table) -> Result<Sta
 }
 
 /// Takes the first line.
-fn take_header(alloc: Global, seed: Seed, line: &[u8]) -> Result<Stage, HistoryFault>
+fn take_header(alloc: Global, seed: Seed, keep: bool, line: &[u8]) -> Result<Stage, HistoryFault>
     ensures leads { IfOk result (λ s. LeadsToStage at_header line.now s) }
     ensures refused { IfErr result (λ e. MayRefuse at_header line.now e) }
+    ensures keeps { IfOk result (λ s. keeps s ≡ keep) }
 {
     match read_header(alloc, line) {
         Ok(header) => {
             if header.vars <= MAX_CELLS {
                 let table = Table::with_seed(alloc, seed);
-                with_table(alloc, header.format, header.vars, table)
+                with_table(alloc, keep, header.format, header.vars, table)
             } else {
                 Err(HistoryFault::BadHeader)
             }
@@ -104,6 +116,7 @@ fn declare_refused(error: DeclareError) -> HistoryFault
 /// Takes a variable's line.
 fn take_variable(
     alloc: Global,
+    keep: bool,
     format: u32,
     vars: u32,
     mut table: Table,
@@ -112,11 +125,12 @@ fn take_variable(
     requires { length table < vars }
     ensures leads { IfOk result (λ s. LeadsToStage (at_variables format vars table) line.now s) }
     ensures refused { IfErr result (λ e. MayRefuse (at_variables format vars table) line.now e) }
+    ensures keeps { IfOk result (λ s. keeps s ≡ keep) }
 {
     match read_variable(alloc, line) {
         Ok(variable) => {
             match table.declare(&variable.name, variable.kind, variable.value) {
-                Ok(_) => with_table(alloc, format, vars, table),
+                Ok(_) => with_table(alloc, keep, format, vars, table),
                 Err(error) => Err(declare_refused(error)),
             }
         }
@@ -149,6 +163,7 @@ fn take_event(
     ensures refused { IfErr result (λ e. (T : List Declared) (H : List AnyEvent)
         → FollowsIn format T H replayer.old → FitsTable T event.now → number ≡ next_line T H
         → MayRefuse (at_events format T H) (event_line event.now) e) }
+    ensures keeps { OnOk result (is_some replayer.new.kept ≡ is_some replayer.old.kept) }
 {
     if !fits_format(format, event) {
         return Err(HistoryFault::BadLine(number));
@@ -176,6 +191,7 @@ fn take_event_line(
     ensures refused { IfErr result (λ e. (H : List AnyEvent)
         → FollowsIn format table.now H replayer.old
         → MayRefuse (at_events format table.now H) line.now e) }
+    ensures keeps { OnOk result (is_some replayer.new.kept ≡ is_some replayer.old.kept) }
 {
     let number = line_number(table, replayer);
     match read_event(alloc, table, line) {
@@ -198,6 +214,7 @@ fn run_on(
         → LeadsToStage (at_events format table H) line.now s) }
     ensures refused { IfErr result (λ e. (H : List AnyEvent) → FollowsIn format table H replayer
         → MayRefuse (at_events format table H) line.now e) }
+    ensures keeps { IfOk result (λ s. keeps s ≡ is_some replayer.kept) }
 {
     match take_event_line(alloc, format, &table, &mut replayer, line) {
         Ok(()) => Ok(Stage::Running {
@@ -210,25 +227,22 @@ fn run_on(
 }
 
 /// Takes a whole line.
-pub(crate) fn take_line(
-    alloc: Global,
-    seed: Seed,
-    stage: Stage,
-    line: &[u8],
-) -> Result<Stage, HistoryFault>
+fn take_line(alloc: Global, seed: Seed, stage: Stage, line: &[u8]) -> Result<Stage, HistoryFault>
     requires { (p : CheckerState) × IsStage stage p × CountsWithinLimits p }
     ensures leads { IfOk result (λ s. (p : CheckerState) → IsStage stage p
         → LeadsToStage p line.now s) }
     ensures refused { IfErr result (λ e. (p : CheckerState) → IsStage stage p
         → MayRefuse p line.now e) }
+    ensures keeps { IfOk result (λ s. keeps s ≡ keeps stage) }
 {
     match stage {
-        Stage::Before => take_header(alloc, seed, line),
+        Stage::Before { keep } => take_header(alloc, seed, keep, line),
         Stage::Declaring {
+            keep,
             format,
             vars,
             table,
-        } => take_variable(alloc, format, vars, table, line),
+        } => take_variable(alloc, keep, format, vars, table, line),
         Stage::Running {
             format,
             table,
@@ -238,12 +252,12 @@ pub(crate) fn take_line(
 }
 
 /// The fault at a line that can't be one of this place.
-pub(crate) fn strange_fault(stage: &Stage) -> HistoryFault
+fn strange_fault(stage: &Stage) -> HistoryFault
     requires { (p : CheckerState) × IsStage stage.now p × CountsWithinLimits p }
     ensures { (p : CheckerState) → IsStage stage.now p → result ≡ strange p }
 {
     match stage {
-        Stage::Before => HistoryFault::BadHeader,
+        Stage::Before { .. } => HistoryFault::BadHeader,
         Stage::Declaring { .. } => HistoryFault::BadHeader,
         Stage::Running {
             table,
@@ -253,41 +267,52 @@ pub(crate) fn strange_fault(stage: &Stage) -> HistoryFault
     }
 }
 
-/// A check under way: the seed of its table, the stage, and the bytes of a line that has begun.
+/// A check under way: the seed of its table, the stage, how many bytes of whole lines led to it, and the bytes of a line that
+/// has begun.
 #[derive(Drop)]
-struct Checker {
-    alloc: Global,
-    seed: Seed,
-    stage: Stage,
-    line: Vec<u8>,
+pub(crate) struct Checker {
+    pub alloc: Global,
+    pub seed: Seed,
+    pub stage: Stage,
+    pub whole: usize,
+    pub line: Vec<u8>,
 }
 
 impl Checker {
-    fn new(alloc: Global, seed: Seed) -> Checker
-        ensures { Reached result.stage result.line.items [] }
+    /// Before the first line. The caller says whether the events are to be kept.
+    pub(crate) fn new(alloc: Global, seed: Seed, keep: bool) -> Checker
+        ensures reached { Reached result.stage result.whole result.line.items [] }
+        ensures keeps { keeps result.stage ≡ keep }
     {
         Checker {
             alloc,
             seed,
-            stage: Stage::Before,
+            stage: Stage::Before { keep },
+            whole: 0,
             line: Vec::new(alloc),
         }
     }
 
     /// Takes the line feed that ends a line.
     fn end_line(&mut self) -> Result<(), HistoryFault>
-        requires { (taken : List ℕ) × Reached self.old.stage self.old.line.items taken }
+        requires { (taken : List ℕ) × Reached self.old.stage self.old.whole self.old.line.items taken
+            × (length taken < 2 ^ 62) }
         ensures done { OnOk result ((taken : List ℕ)
-            → Reached self.old.stage self.old.line.items taken
-            → Reached self.new.stage self.new.line.items (taken ++ 10 ∷ [])) }
+            → Reached self.old.stage self.old.whole self.old.line.items taken
+            → Reached self.new.stage self.new.whole self.new.line.items (taken ++ 10 ∷ [])) }
         ensures fault { IfErr result (λ e. (taken more : List ℕ)
-            → Reached self.old.stage self.old.line.items taken
+            → Reached self.old.stage self.old.whole self.old.line.items taken
             → TellsFault e (taken ++ 10 ∷ more)) }
+        ensures stops { IfErr result (λ e. (taken more : List ℕ)
+            → Reached self.old.stage self.old.whole self.old.line.items taken
+            → StopsAt e self.new.whole (taken ++ 10 ∷ more)) }
+        ensures keeps { OnOk result (keeps self.new.stage ≡ keeps self.old.stage) }
     {
-        let stage = mem::replace(&mut self.stage, Stage::Before);
+        let stage = mem::replace(&mut self.stage, Stage::Before { keep: false });
         match take_line(self.alloc, self.seed, stage, &self.line) {
             Ok(next) => {
                 self.stage = next;
+                self.whole += self.line.len() + 1;
                 self.line.clear();
                 Ok(())
             }
@@ -297,14 +322,19 @@ impl Checker {
 
     /// Takes bytes of the line that has begun, none of which is a line feed.
     fn take_part(&mut self, bytes: &[u8]) -> Result<(), HistoryFault>
-        requires reached { (taken : List ℕ) × Reached self.old.stage self.old.line.items taken }
+        requires reached { (taken : List ℕ)
+            × Reached self.old.stage self.old.whole self.old.line.items taken }
         requires plain { NoFeed bytes.now }
         ensures done { OnOk result ((taken : List ℕ)
-            → Reached self.old.stage self.old.line.items taken
-            → Reached self.new.stage self.new.line.items (taken ++ bytes.now)) }
+            → Reached self.old.stage self.old.whole self.old.line.items taken
+            → Reached self.new.stage self.new.whole self.new.line.items (taken ++ bytes.now)) }
         ensures fault { IfErr result (λ e. (taken more : List ℕ)
-            → Reached self.old.stage self.old.line.items taken
+            → Reached self.old.stage self.old.whole self.old.line.items taken
             → TellsFault e (taken ++ (bytes.now ++ more))) }
+        ensures stops { IfErr result (λ e. (taken more : List ℕ)
+            → Reached self.old.stage self.old.whole self.old.line.items taken
+            → StopsAt e self.new.whole (taken ++ (bytes.now ++ more))) }
+        ensures keeps { keeps self.new.stage ≡ keeps self.old.stage }
     {
         if bytes.len() > MAX_LINE.saturating_sub(self.line.len()) {
             return Err(strange_fault(&self.stage));
@@ -316,14 +346,19 @@ impl Checker {
     }
 
     /// Takes the next bytes.
-    fn take_bytes(&mut self, bytes: &[u8]) -> Result<(), HistoryFault>
-        requires { (taken : List ℕ) × Reached self.old.stage self.old.line.items taken }
+    pub(crate) fn take_bytes(&mut self, bytes: &[u8]) -> Result<(), HistoryFault>
+        requires { (taken : List ℕ) × Reached self.old.stage self.old.whole self.old.line.items taken
+            × (length taken + length bytes.now < 2 ^ 62) }
         ensures done { OnOk result ((taken : List ℕ)
-            → Reached self.old.stage self.old.line.items taken
-            → Reached self.new.stage self.new.line.items (taken ++ bytes.now)) }
+            → Reached self.old.stage self.old.whole self.old.line.items taken
+            → Reached self.new.stage self.new.whole self.new.line.items (taken ++ bytes.now)) }
         ensures fault { IfErr result (λ e. (taken more : List ℕ)
-            → Reached self.old.stage self.old.line.items taken
+            → Reached self.old.stage self.old.whole self.old.line.items taken
             → TellsFault e (taken ++ (bytes.now ++ more))) }
+        ensures stops { IfErr result (λ e. (taken more : List ℕ)
+            → Reached self.old.stage self.old.whole self.old.line.items taken
+            → StopsAt e self.new.whole (taken ++ (bytes.now ++ more))) }
+        ensures keeps { OnOk result (keeps self.new.stage ≡ keeps self.old.stage) }
     {
         let mut rest = bytes;
         while let Some(at) = memchr(b'\n', rest) {
@@ -335,39 +370,50 @@ impl Checker {
     }
 
     /// Judges where the bytes end.
-    fn end(&self) -> Result<Legal, HistoryFault>
-        requires { (taken : List ℕ) × Reached self.now.stage self.now.line.items taken }
+    pub(crate) fn end(&self) -> Result<Legal, HistoryFault>
+        requires { (taken : List ℕ) × Reached self.now.stage self.now.whole self.now.line.items taken }
         ensures ok { IfOk result (λ n. (taken : List ℕ)
-            → Reached self.now.stage self.now.line.items taken
+            → Reached self.now.stage self.now.whole self.now.line.items taken
             → IsHistory taken n) }
         ensures fault { IfErr result (λ e. (taken : List ℕ)
-            → Reached self.now.stage self.now.line.items taken
+            → Reached self.now.stage self.now.whole self.now.line.items taken
             → TellsFault e taken) }
+        ensures stops { IfErr result (λ e. (taken : List ℕ)
+            → Reached self.now.stage self.now.whole self.now.line.items taken
+            → StopsAt e self.now.whole taken) }
+        ensures running { OnOk result (IsRunning self.now.stage) }
+        ensures line { OnOk result (self.now.line.items ≡ []) }
     {
         if !self.line.is_empty() {
             return Err(strange_fault(&self.stage));
         }
         match &self.stage {
-            Stage::Before => Err(HistoryFault::BadHeader),
+            Stage::Before { .. } => Err(HistoryFault::BadHeader),
             Stage::Declaring { .. } => Err(HistoryFault::BadHeader),
             Stage::Running { replayer, .. } => Ok(replayer.numbers()),
         }
     }
 }
 
-/// Judges the bytes that the reader has left, before any of which was taken.
-fn check_rest<R: Read>(checker: &mut Checker, reader: &mut R) -> Result<Legal, HistoryFault>
-    requires { Reached checker.old.stage checker.old.line.items [] }
-    ensures ok { IfOk result (λ n. IfSome (R.remaining reader.old) (λ bytes. IsHistory bytes n)) }
+/// Takes all bytes that the reader has left, before any of which was taken.
+pub(crate) fn read_all<R: Read>(checker: &mut Checker, reader: &mut R) -> Result<(), HistoryFault>
+    requires { Reached checker.old.stage checker.old.whole checker.old.line.items [] }
+    ensures done { OnOk result ((taken : List ℕ)
+        × IfSome (R.remaining reader.old) (λ bytes. bytes ≡ taken)
+        × Reached checker.new.stage checker.new.whole checker.new.line.items taken) }
     ensures fault { IfErr result (λ e.
         IfSome (R.remaining reader.old) (λ bytes. TellsFault e bytes)) }
+    // The whole lines that were taken led to where the fault is.
+    ensures stops { IfErr result (λ e.
+        IfSome (R.remaining reader.old) (λ bytes. StopsAt e checker.new.whole bytes)) }
+    ensures keeps { OnOk result (keeps checker.new.stage ≡ keeps checker.old.stage) }
 {
     let mut buffer = [0u8; 8_192];
-    'reads: for _ in 0..u32::MAX {
+    'reads: for _turn in 0..u32::MAX {
         match reader.read(&mut buffer) {
             Ok(count) => {
                 if count == 0 {
-                    return checker.end();
+                    return Ok(());
                 }
                 checker.take_bytes(&buffer[..count])?;
             }
@@ -376,6 +422,19 @@ fn check_rest<R: Read>(checker: &mut Checker, reader: &mut R) -> Result<Legal, H
         }
     }
     Err(HistoryFault::ReadFault)
+}
+
+/// Judges the bytes that the reader has left, before any of which was taken.
+fn check_rest<R: Read>(checker: &mut Checker, reader: &mut R) -> Result<Legal, HistoryFault>
+    requires { Reached checker.old.stage checker.old.whole checker.old.line.items [] }
+    ensures ok { IfOk result (λ n. IfSome (R.remaining reader.old) (λ bytes. IsHistory bytes n)) }
+    ensures fault { IfErr result (λ e.
+        IfSome (R.remaining reader.old) (λ bytes. TellsFault e bytes)) }
+{
+    match read_all(checker, reader) {
+        Ok(()) => checker.end(),
+        Err(fault) => Err(fault),
+    }
 }
 
 /// Judges the bytes of a reader as a history of format 1, 2 or 3, line by line; docs/HISTORY.md has the formats. A line is never kept
@@ -402,6 +461,6 @@ pub fn check_history_with<R: Read>(
     ensures fault { IfErr result (λ e.
         IfSome (R.remaining reader.old) (λ bytes. TellsFault e bytes)) }
 {
-    let mut checker = Checker::new(alloc, seed);
+    let mut checker = Checker::new(alloc, seed, false);
     check_rest(&mut checker, reader)
 }

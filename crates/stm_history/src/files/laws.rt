@@ -2,12 +2,13 @@
 
 ghost use Rattle.stm_history.specs.Explanation.{ExpectedLeadsOn, OneEventOfACall, RefusedAreIllegal};
 ghost use Rattle.stm_history.specs.WholeBlocks.{CheckedAreWellTyped};
-ghost use Rattle.stm_history.specs.FileLaws.{EachLineIsOneEvent, EventsAreLines, NumbersAreFixed, TextsAreOfOneHistory, HistoriesAreTaken, FaultsAreFixed, WhatIsWrittenIsTaken};
+ghost use Rattle.stm_history.specs.FileLaws.{EachLineIsOneEvent, EventsAreLines, LinesBeginWithBraces, NumbersAreFixed, TextsAreOfOneHistory, HistoriesAreTaken, FaultsAreFixed, WhatIsWrittenIsTaken};
 
-/// Different events have different lines, and none has a line feed.
+/// Different events have different lines, and none has a line feed or a 0. Each line of a history begins with `{`.
 pub fn each_line_is_one_event()
     ensures one { EachLineIsOneEvent }
     ensures lines { EventsAreLines }
+    ensures braces { LinesBeginWithBraces }
 {}
 
 /// The numbers of a text are fixed: bytes are the text of legal histories with the same numbers only.

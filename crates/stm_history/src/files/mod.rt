@@ -6,6 +6,7 @@ pub mod explaining;
 pub mod explanation;
 pub mod fault;
 pub mod laws;
+pub mod loading;
 pub mod replayer;
 pub mod replaying;
 pub mod stepping;
