@@ -28,7 +28,7 @@ header_no_feed format n k h = no_feed (header_line format n) (header_one_line fo
 variable_no_feed : (d : Declared) → FitsVariable d → NoFeed (variable_line d)
 variable_no_feed d f = no_feed (variable_line d) (variable_one_line d f)
 
-event_no_feed : (table : List Declared) (e : Event) → FitsTable table e → NoFeed (event_line e)
+pub event_no_feed : (table : List Declared) (e : Event) → FitsTable table e → NoFeed (event_line e)
 event_no_feed table e f = no_feed (event_line e) (event_one_line table e f)
 
 -- where some variables' lines are the beginning of more, a variable's line comes next

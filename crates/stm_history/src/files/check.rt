@@ -235,12 +235,7 @@ fn run_on(
 }
 
 /// Takes a whole line.
-pub(crate) fn take_line(
-    alloc: Global,
-    seed: Seed,
-    stage: Stage,
-    line: &[u8],
-) -> Result<Stage, HistoryFault>
+fn take_line(alloc: Global, seed: Seed, stage: Stage, line: &[u8]) -> Result<Stage, HistoryFault>
     requires { (p : CheckerState) × IsStage stage p × CountsWithinLimits p }
     ensures leads { IfOk result (λ s. (p : CheckerState) → IsStage stage p
         → LeadsToStage p line.now s) }
@@ -265,7 +260,7 @@ pub(crate) fn take_line(
 }
 
 /// The fault at a line that can't be one of this place.
-pub(crate) fn strange_fault(stage: &Stage) -> HistoryFault
+fn strange_fault(stage: &Stage) -> HistoryFault
     requires { (p : CheckerState) × IsStage stage.now p × CountsWithinLimits p }
     ensures { (p : CheckerState) → IsStage stage.now p → result ≡ strange p }
 {

@@ -254,7 +254,7 @@ pub(crate) fn explain(
         → Explains p line.now x) }
 {
     match stage {
-        Stage::Before => explain_header(alloc, line),
+        Stage::Before { .. } => explain_header(alloc, line),
         Stage::Declaring { table, .. } => explain_variable(alloc, table, line),
         Stage::Running {
             format,

@@ -1,107 +1,43 @@
 //! Bytes that are no legal history: the first fault, and what is told of its line.
 
-ghost use Rattle.std.specs.Prelude.{◌≡◌, ◌++◌, ◌∷◌, ℕ, List, OnOk, IfOk, IfErr, length};
-ghost use Rattle.stm_history.specs.Checking.{CheckerState, NoFeed};
+ghost use Rattle.std.specs.Prelude.{◌≡◌, ◌≢◌, ◌++◌, [], ℕ, List, IfOk, IfErr, OnOk};
+ghost use Rattle.stm_history.specs.Checking.{CheckerState, NoFeed, StopsAt};
 ghost use Rattle.stm_history.specs.Explanation.{IsAfterLine, TellsWhy, line_after};
 ghost use Rattle.stm_history.specs.Judgement.{IsHistory, TellsFault};
-ghost use Rattle.stm_history.specs.Stages.{IsStage, CountsWithinLimits};
-ghost use Rattle.stm_history.specs.Stopping.{HasLeft, IsAfter, IsJudged, IsStop, IsThrough, IsToldAfter, StopsAt, TookLines};
+ghost use Rattle.stm_history.specs.Stages.{IsStage, CountsWithinLimits, Reached};
+ghost use Rattle.stm_history.specs.Stopping.{IsAfter, IsToldAfter};
 
-use crate::files::check::{MAX_LINE, Stage, line_number, strange_fault, take_line};
+use crate::files::check::{Checker, Stage, line_number, read_all};
 use crate::files::explaining::explain;
 use crate::files::explanation::{Explanation, Reason};
 use crate::files::fault::{HistoryFault, Legal};
 use memchr::memchr;
 use std::alloc::Global;
-use std::mem;
 use stm_store::Seed;
 use stm_terms::NoMemory;
 
-/// A fault, and how many bytes are left where its line begins.
-#[derive(Clone, Copy, Drop)]
-pub(crate) struct Stop {
-    pub fault: HistoryFault,
-    pub left: usize,
+/// Takes all the bytes.
+fn take_all(checker: &mut Checker, bytes: &[u8]) -> Result<(), HistoryFault>
+    requires { Reached checker.old.stage checker.old.whole checker.old.line.items [] }
+    ensures done { OnOk result
+        (Reached checker.new.stage checker.new.whole checker.new.line.items bytes.now) }
+    ensures fault { IfErr result (λ e. TellsFault e bytes.now) }
+    ensures stops { IfErr result (λ e. (e ≢ HistoryFault.NoMemory) → StopsAt e checker.new.whole bytes.now) }
+{
+    let mut reader = bytes;
+    read_all(checker, &mut reader)
 }
 
-/// Takes a whole line. After an error nothing is promised of the stage.
-fn take_next(alloc: Global, seed: Seed, stage: &mut Stage, line: &[u8]) -> Result<(), HistoryFault>
-    requires one_line { NoFeed line.now }
-    requires left { (bytes : List ℕ) × (more : List ℕ)
-        × HasLeft bytes stage.old (line.now ++ 10 ∷ more) }
-    ensures done { OnOk result ((bytes more : List ℕ)
-        → HasLeft bytes stage.old (line.now ++ 10 ∷ more) → HasLeft bytes stage.new more) }
-    ensures fault { IfErr result (λ e. (bytes more : List ℕ)
-        → HasLeft bytes stage.old (line.now ++ 10 ∷ more)
-        → IsStop bytes e (length (line.now ++ 10 ∷ more))) }
+/// Judges the bytes. After an error the checker has how many of them are whole lines that were accepted.
+fn judge(checker: &mut Checker, bytes: &[u8]) -> Result<Legal, HistoryFault>
+    requires { Reached checker.old.stage checker.old.whole checker.old.line.items [] }
+    ensures ok { IfOk result (λ n. IsHistory bytes.now n) }
+    ensures fault { IfErr result (λ e. TellsFault e bytes.now) }
+    ensures stops { IfErr result (λ e. (e ≢ HistoryFault.NoMemory) → StopsAt e checker.new.whole bytes.now) }
 {
-    if line.len() > MAX_LINE {
-        return Err(strange_fault(stage));
-    }
-    let before = mem::replace(stage, Stage::Before);
-    match take_line(alloc, seed, before, line) {
-        Ok(next) => {
-            *stage = next;
-            Ok(())
-        }
+    match take_all(checker, bytes) {
+        Ok(()) => checker.end(),
         Err(fault) => Err(fault),
-    }
-}
-
-/// Takes the whole lines of the bytes, until one has a fault. The answer is how many bytes are left of a line without a line feed.
-fn take_lines(alloc: Global, seed: Seed, stage: &mut Stage, bytes: &[u8]) -> Result<usize, Stop>
-    requires { HasLeft bytes.now stage.old bytes.now }
-    ensures done { IfOk result (λ left. IsThrough bytes.now stage.new left) }
-    ensures fault { IfErr result (λ stop. IsStop bytes.now stop.fault stop.left) }
-{
-    let mut rest = bytes;
-    while let Some(at) = memchr(b'\n', rest) {
-        match take_next(alloc, seed, stage, &rest[..at]) {
-            Ok(()) => {}
-            Err(fault) => {
-                return Err(Stop {
-                    fault,
-                    left: rest.len(),
-                });
-            }
-        }
-        rest = &rest[at + 1..];
-    }
-    Ok(rest.len())
-}
-
-/// Judges where the lines end, so many bytes after the last line feed.
-fn end_of(stage: &Stage, left: usize) -> Result<Legal, Stop>
-    requires { (bytes : List ℕ) × IsThrough bytes stage.now left }
-    ensures { (bytes : List ℕ) → IsThrough bytes stage.now left → IsJudged bytes result }
-{
-    if left > 0 {
-        return Err(Stop {
-            fault: strange_fault(stage),
-            left,
-        });
-    }
-    match stage {
-        Stage::Before => Err(Stop {
-            fault: HistoryFault::BadHeader,
-            left,
-        }),
-        Stage::Declaring { .. } => Err(Stop {
-            fault: HistoryFault::BadHeader,
-            left,
-        }),
-        Stage::Running { replayer, .. } => Ok(replayer.numbers()),
-    }
-}
-
-/// Judges the bytes.
-fn judge(alloc: Global, seed: Seed, bytes: &[u8]) -> Result<Legal, Stop>
-    ensures { IsJudged bytes.now result }
-{
-    let mut stage = Stage::Before;
-    match take_lines(alloc, seed, &mut stage, bytes) {
-        Ok(left) => end_of(&stage, left),
-        Err(stop) => Err(stop),
     }
 }
 
@@ -111,7 +47,7 @@ fn next_number(stage: &Stage) -> u32
     ensures { (p : CheckerState) → IsStage stage.now p → result ≡ line_after p }
 {
     match stage {
-        Stage::Before => 1,
+        Stage::Before { .. } => 1,
         Stage::Declaring { table, .. } => table.len() as u32 + 2,
         Stage::Running {
             table,
@@ -132,14 +68,19 @@ fn first_line(bytes: &[u8]) -> &[u8]
     }
 }
 
-/// The stage after the front, whose lines were accepted before: only out of memory refuses one of them.
-fn stage_after(alloc: Global, seed: Seed, front: &[u8]) -> Result<Stage, NoMemory>
-    ensures { IfOk result (λ s. IsAfter front.now s) }
+/// Takes whole lines, after which no line has begun. They were accepted before, so only out of memory refuses one of them.
+fn take_front(checker: &mut Checker, front: &[u8]) -> Result<(), NoMemory>
+    requires { Reached checker.old.stage checker.old.whole checker.old.line.items [] }
+    ensures { OnOk result (IsAfter front.now checker.new.stage) }
 {
-    let mut stage = Stage::Before;
-    match take_lines(alloc, seed, &mut stage, front) {
-        Ok(left) => { if left == 0 { Ok(stage) } else { Err(NoMemory) } }
-        Err(_) => Err(NoMemory),
+    match take_all(checker, front) {
+        Ok(()) => {}
+        Err(_) => return Err(NoMemory),
+    }
+    if checker.line.is_empty() {
+        Ok(())
+    } else {
+        Err(NoMemory)
     }
 }
 
@@ -152,41 +93,60 @@ fn explain_after(
 ) -> Result<(u32, Explanation), NoMemory>
     ensures { IfOk result (λ told. IsToldAfter front.now line.now told.0 told.1) }
 {
-    let mut stage = stage_after(alloc, seed, front)?;
-    let number = next_number(&stage);
-    let explanation = explain(alloc, &mut stage, line)?;
+    let mut checker = Checker::new(alloc, seed, false);
+    take_front(&mut checker, front)?;
+    let number = next_number(&checker.stage);
+    let explanation = explain(alloc, &mut checker.stage, line)?;
     Ok((number, explanation))
 }
 
-/// The reason of a fault where so many bytes are left.
-fn reason_of(alloc: Global, seed: Seed, bytes: &[u8], stop: Stop) -> Result<Reason, NoMemory>
-    requires { StopsAt bytes.now stop.fault stop.left }
-    ensures fault { IfOk result (λ r. TellsFault r.fault bytes.now) }
+/// The reason of a fault after so many bytes of whole lines.
+fn reason_of(
+    alloc: Global,
+    seed: Seed,
+    bytes: &[u8],
+    fault: HistoryFault,
+    whole: usize,
+) -> Result<Reason, NoMemory>
+    requires stops { StopsAt fault whole bytes.now }
+    requires read { fault ≢ HistoryFault.ReadFault }
+    requires memory { fault ≢ HistoryFault.NoMemory }
+    ensures fault { IfOk result (λ r. r.fault ≡ fault) }
     ensures why { IfOk result (λ r. TellsWhy bytes.now r.fault r.line r.explanation) }
 {
-    let at = bytes.len() - stop.left;
-    let line = first_line(&bytes[at..]);
-    let (number, explanation) = explain_after(alloc, seed, &bytes[..at], line)?;
+    let line = first_line(&bytes[whole..]);
+    let (number, explanation) = explain_after(alloc, seed, &bytes[..whole], line)?;
     Ok(Reason {
-        fault: stop.fault,
+        fault,
         line: number,
         explanation,
     })
 }
 
-/// The reason of a fault of the bytes.
-fn told(alloc: Global, seed: Seed, bytes: &[u8], stop: Stop) -> Result<Reason, NoMemory>
-    requires { IsStop bytes.now stop.fault stop.left }
+/// The reason of a fault of the bytes. The reader of bytes in memory has none.
+fn told(
+    alloc: Global,
+    seed: Seed,
+    bytes: &[u8],
+    fault: HistoryFault,
+    whole: usize,
+) -> Result<Reason, NoMemory>
+    requires fault { TellsFault fault bytes.now }
+    requires stops { (fault ≢ HistoryFault.NoMemory) → StopsAt fault whole bytes.now }
     ensures fault { IfOk result (λ r. TellsFault r.fault bytes.now) }
     ensures why { IfOk result (λ r. TellsWhy bytes.now r.fault r.line r.explanation) }
 {
-    match stop.fault {
+    match fault {
         HistoryFault::NoMemory => Err(NoMemory),
-        _ => reason_of(alloc, seed, bytes, stop),
+        HistoryFault::ReadFault => Err(NoMemory),
+        HistoryFault::BadHeader => reason_of(alloc, seed, bytes, fault, whole),
+        HistoryFault::BadLine(_) => reason_of(alloc, seed, bytes, fault, whole),
+        HistoryFault::NotLegal(_) => reason_of(alloc, seed, bytes, fault, whole),
     }
 }
 
-/// Judges bytes as a history, as `check_history` does, and tells why they are none. They are read twice if they have a fault. `ReadFault` and `NoMemory` are the fault of no bytes.
+/// Judges bytes as a history, as `check_history` does, and tells why they are none. If they have a fault the lines before it are judged
+/// twice. The fault of a reason is never `ReadFault` or `NoMemory`.
 pub fn why_history(
     alloc: Global,
     seed: Seed,
@@ -200,10 +160,11 @@ pub fn why_history(
     ensures why { IfOk result (λ r. IfErr r (λ e.
         TellsWhy bytes.now e.fault e.line e.explanation)) }
 {
-    match judge(alloc, seed, bytes) {
+    let mut checker = Checker::new(alloc, seed, false);
+    match judge(&mut checker, bytes) {
         Ok(legal) => Ok(Ok(legal)),
-        Err(stop) => {
-            let reason = told(alloc, seed, bytes, stop)?;
+        Err(fault) => {
+            let reason = told(alloc, seed, bytes, fault, checker.whole)?;
             Ok(Err(reason))
         }
     }
