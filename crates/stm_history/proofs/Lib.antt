@@ -7,6 +7,7 @@ pub mod Due
 pub mod Exact
 pub mod Explained
 pub mod FirstFault
+pub mod FirstLines
 pub mod FitsPushed
 pub mod Loads
 pub mod Loose

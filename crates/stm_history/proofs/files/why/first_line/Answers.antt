@@ -1,5 +1,5 @@
 use Rattle.std.proofs.Common.{◌∷◌, ◌+◌, drop, inr, refl}
-use Rattle.stm_history.proofs.Feeding.{none_found, none_before, split_at}
+use Rattle.stm_history.proofs.FirstLines.{none_found, none_before, split_at}
 use Rattle.stm_history.proofs.files.why.first_line.Goals as goal
 
 pub returns-in-Some-clause-one_line : goal.returns-in-Some-clause-one_line
