@@ -3,11 +3,11 @@ use Rattle.std.proofs.Common.{◌≡◌, ℕ, zero, suc, ◌+◌, ◌≤◌, Lis
 use Rattle.std.proofs.lemmas.List.{take-append-le}
 use Rattle.stm_store.specs.Tables.{Declared}
 use Rattle.stm_events.specs.declared.event.Event.{Event}
-use Rattle.stm_history.specs.Fits.{IsOneLine}
+use Rattle.stm_event_lines.specs.Fits.{IsOneLine}
 use Rattle.stm_history.specs.HistoryText.{event_lines}
-use Rattle.stm_history.specs.Lines.{event_line}
+use Rattle.stm_event_lines.specs.Lines.{event_line}
 use Rattle.stm_history.proofs.Braces.{event_brace}
-use Rattle.stm_history.proofs.ReadsBack.{event_one_line}
+use Rattle.stm_event_lines.proofs.ReadsBack.{event_one_line}
 use Rattle.stm_journal.specs.Text.{whole_count, IsWhole}
 use Rattle.stm_journal.proofs.Wholes.{whole_open, whole_shut, whole_on}
 use Rattle.stm_durable.specs.Durable.{AreFit}

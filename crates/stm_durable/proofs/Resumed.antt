@@ -8,7 +8,7 @@ use Rattle.stm_events.specs.declared.staleness.StalenessRule.TheVariants.{Change
 use Rattle.stm_events.specs.SlowDesk.{Slow, IsLegal, LegalFromBy, initial_state, after_by}
 use Rattle.stm_history.specs.HistoryText.{history_text}
 use Rattle.stm_history.specs.Judgement.{AreEvents}
-use Rattle.stm_history.specs.Lines.{latest_format}
+use Rattle.stm_event_lines.specs.Lines.{latest_format}
 use Rattle.stm_history.specs.Loading.{IsWholeHistory}
 use Rattle.stm_journal.specs.Text.{recovered}
 use Rattle.stm_durable.specs.Durable.{file_text, MayGoOn, AllOrNoneIsResumed, FirstAreResumed}

@@ -5,13 +5,13 @@ use Rattle.stm_events.specs.declared.event.Event.{Event}
 use Rattle.stm_events.specs.declared.event.What.{What}
 use Rattle.stm_events.specs.declared.event.What.TheVariants.{Submitted, Installed, Finished, Cancelled}
 use Rattle.stm_events.specs.SlowDesk.{max_cells}
-use Rattle.stm_history.specs.Fits.{WhatFitsFormat, IsOneLine, BeginsWithBrace}
+use Rattle.stm_event_lines.specs.Fits.{WhatFitsFormat, IsOneLine, BeginsWithBrace}
 use Rattle.stm_history.specs.HistoryText.{variable_lines, event_lines, head_text, history_text}
 use Rattle.stm_history.specs.Judgement.{AreVariables, AreVariablesFrom, AreEvents}
 use Rattle.stm_history.specs.Loading.{HasText}
-use Rattle.stm_history.specs.Lines.{latest_format, IsFormat, event_line, header_line, variable_line}
+use Rattle.stm_event_lines.specs.Lines.{latest_format, IsFormat, event_line, header_line, variable_line}
 use Rattle.stm_history.proofs.Braces.{event_brace, header_brace, variable_brace}
-use Rattle.stm_history.proofs.ReadsBack.{event_one_line, header_one_line, variable_one_line}
+use Rattle.stm_event_lines.proofs.ReadsBack.{event_one_line, header_one_line, variable_one_line}
 use Rattle.stm_journal.specs.Journal.{most_batch}
 use Rattle.stm_journal.specs.Text.{whole_count, IsWhole}
 use Rattle.stm_journal.proofs.Wholes.{whole_open, whole_feed, whole_on, IsWhole-append}

@@ -3,10 +3,10 @@ use Rattle.std.specs.Prelude.{◌≡◌, ◌≢◌, ◌⊎◌, ⊤, ◌≤◌, O
 use Rattle.stm_store.specs.Tables.{Declared}
 use Rattle.stm_events.specs.declared.event.Event.{Event}
 use Rattle.stm_events.specs.SlowDesk.{max_cells, IsLegal}
-use Rattle.stm_history.specs.Fits.{FitsTable}
+use Rattle.stm_event_lines.specs.Fits.{FitsTable}
 use Rattle.stm_history.specs.HistoryText.{event_lines, history_text}
 use Rattle.stm_history.specs.Judgement.{AreVariables, AreEvents}
-use Rattle.stm_history.specs.Lines.{latest_format}
+use Rattle.stm_event_lines.specs.Lines.{latest_format}
 use Rattle.stm_history.specs.Loading.{IsWholeHistory, TellsLoadFault}
 use Rattle.stm_history.specs.declared.files.loading.Loaded.{Loaded}
 use Rattle.stm_journal.specs.declared.sync_mode.SyncMode.{SyncMode}

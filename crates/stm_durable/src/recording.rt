@@ -3,7 +3,7 @@
 ghost use Rattle.std.specs.Prelude.{◌≡◌, ◌++◌, ◌+◌, ◌<◌, ◌≤◌, ◌^◌, true, false, List, IsTrue, length, OnOk, OnErr, IfOk, IfErr, IsErr, IsErrOf};
 ghost use Rattle.stm_events.specs.declared.event.Event.{Event as AnyEvent};
 ghost use Rattle.stm_history.specs.Judgement.{AreEvents};
-ghost use Rattle.stm_history.specs.Lines.{latest_format};
+ghost use Rattle.stm_event_lines.specs.Lines.{latest_format};
 ghost use Rattle.stm_journal.specs.Device.{LeavesOnly};
 ghost use Rattle.stm_journal.specs.Journal.{IsAtRest, MayLeave, most_batch};
 ghost use Rattle.stm_journal.specs.Text.{IsWhole};

@@ -6,8 +6,8 @@ use Rattle.stm_events.specs.declared.event.What.{What}
 use Rattle.stm_events.specs.declared.event.What.TheVariants.{Submitted, Installed, Finished, Cancelled}
 use Rattle.serde_json.specs.Written.{compact_text}
 use Rattle.stm_history.specs.FileLaws.{LinesBeginWithBraces}
-use Rattle.stm_history.specs.Fits.{BeginsWithBrace}
-use Rattle.stm_history.specs.Lines.{event_line, header_line, variable_line, what_data}
+use Rattle.stm_event_lines.specs.Fits.{BeginsWithBrace}
+use Rattle.stm_event_lines.specs.Lines.{event_line, header_line, variable_line, what_data}
 
 what_brace : (client : ℕ) (what : What) → BeginsWithBrace (compact_text (what_data client what))
 what_brace client (Submitted ticket block) = (_, refl)

@@ -20,10 +20,10 @@ use Rattle.stm_history.specs.declared.files.explanation.Explanation.TheVariants.
 use Rattle.stm_history.specs.Checking.{CheckerState, at_header, at_variables, at_events, with_table, LeadsTo, LinesUpTo}
 use Rattle.stm_history.specs.Expecting.{HasCheckedBlock, IsExpectation, IsLineOf, IsShortOr}
 use Rattle.stm_history.specs.Explanation.{CanStand, Explains, ExplainsEvent, ExplainsHead, ExpectedLeadsOn, IsDue, IsExpectedText, IsReadAs, IsSameCall}
-use Rattle.stm_history.specs.Fits.{FitsTable, FitsFormat, FitsVariable, WhatFitsTable}
+use Rattle.stm_event_lines.specs.Fits.{FitsTable, FitsFormat, FitsVariable, WhatFitsTable}
 use Rattle.stm_history.specs.Judgement.{IsShort}
-use Rattle.stm_history.specs.Lines.{event_line, rule_of, variable_line}
-use Rattle.stm_history.specs.WholeBlocks.{checked_block}
+use Rattle.stm_event_lines.specs.Lines.{event_line, rule_of, variable_line}
+use Rattle.stm_event_lines.specs.WholeBlocks.{checked_block}
 use Rattle.stm_history.proofs.Standing.{LinesUpTo-line}
 
 -- ---- one line

@@ -5,9 +5,9 @@ use Rattle.stm_events.specs.declared.event.Event.{Event}
 use Rattle.stm_events.specs.declared.event.What.{What}
 use Rattle.stm_events.specs.declared.event.What.TheVariants.{Submitted, Installed, Finished, Cancelled}
 use Rattle.stm_events.specs.Laws.{SubmitsWellTyped, SubmittedAreWellTyped}
-use Rattle.stm_history.specs.Fits.{WhatFitsTable}
+use Rattle.stm_event_lines.specs.Fits.{WhatFitsTable}
 use Rattle.stm_history.specs.Judgement.{AreEvents}
-use Rattle.stm_history.proofs.CheckedBlocks.{checked_are_well_typed}
+use Rattle.stm_event_lines.proofs.CheckedBlocks.{checked_are_well_typed}
 
 -- what holds of the bytes that were taken holds of the reader's, if those are known
 pub at_taken : (known : Option (List ℕ)) (taken : List ℕ) (P : List ℕ → Type 0) → IfSome known (λ bytes. bytes ≡ taken) → P taken → IfSome known P

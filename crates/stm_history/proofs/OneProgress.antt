@@ -3,12 +3,12 @@ use Rattle.std.proofs.Common.{◌≡◌, ℕ, ◌≤◌, ◌<◌, List, [], ◌�
 use Rattle.stm_store.specs.Tables.{Declared}
 use Rattle.stm_events.specs.declared.event.Event.{Event}
 use Rattle.stm_events.specs.SlowDesk.{max_cells}
-use Rattle.stm_history.specs.Lines.{IsFormat, header_line, variable_line, event_line}
+use Rattle.stm_event_lines.specs.Lines.{IsFormat, header_line, variable_line, event_line}
 use Rattle.stm_history.specs.HistoryText.{head_text, history_text, variable_lines, event_lines}
 use Rattle.stm_history.specs.Judgement.{AreVariables}
 use Rattle.stm_history.specs.Checking.{CheckerState, at_header, at_variables, at_events, LinesUpTo}
 use Rattle.stm_history.proofs.Cuts.{IsCut, cut_unique}
-use Rattle.stm_history.proofs.ReadsBack.{header_same}
+use Rattle.stm_event_lines.proofs.ReadsBack.{header_same}
 use Rattle.stm_history.proofs.Telling.{following, header_no_feed}
 use Rattle.stm_history.proofs.Unique.{tables, texts_are_of_one_history}
 

@@ -7,7 +7,7 @@ use Rattle.std.proofs.KnownBytes.{Appends-trans}
 use Rattle.std.specs.Io.KnownBytes.{Appends}
 use Rattle.stm_store.specs.Tables.{Declared}
 use Rattle.stm_events.specs.declared.event.Event.{Event}
-use Rattle.stm_history.specs.Lines.{latest_format, event_line, header_line, variable_line}
+use Rattle.stm_event_lines.specs.Lines.{latest_format, event_line, header_line, variable_line}
 use Rattle.stm_history.specs.HistoryText.{variable_lines, event_lines, history_text, WritesFront}
 use Rattle.stm_terms.specs.Texts.{IsPrefixOf}
 

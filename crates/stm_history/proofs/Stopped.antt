@@ -8,23 +8,12 @@ use Rattle.stm_history.specs.declared.files.fault.HistoryFault.TheVariants.{NoMe
 use Rattle.stm_history.specs.Checking.{CheckerState, at_header, at_variables, at_events, Forbids, ForbidsNext, IsFaultAt, LinesUpTo, NoFeed, StopsAt, strange}
 use Rattle.stm_history.specs.Explanation.{Explains, IsAfterLine, TellsWhy, line_after}
 use Rattle.stm_history.specs.Judgement.{TellsFault}
-use Rattle.stm_history.specs.Lines.{event_line}
+use Rattle.stm_event_lines.specs.Lines.{event_line}
 use Rattle.stm_history.specs.Stages.{IsStage, Reached}
 use Rattle.stm_history.specs.Stopping.{IsAfter, IsToldAfter}
 use Rattle.stm_history.proofs.Cuts.{cut_unique, no_feed_at_end}
 use Rattle.stm_history.proofs.OneProgress.{one_progress}
 use Rattle.stm_history.proofs.Telling.{event_no_feed}
-
--- ---- all bytes at once
-pub all_faults : {T : Type 0} (r : Result T HistoryFault) (bytes : List ℕ) (s : Stage) (whole : ℕ) (line : List ℕ) → Reached s whole line []
-    → IfErr r (λ e. (taken more : List ℕ) → Reached s whole line taken → TellsFault e (taken ++ (bytes ++ more))) → IfErr r (λ e. TellsFault e bytes)
-all_faults (Ok x) bytes s whole line start h = tt
-all_faults (Err e) bytes s whole line start h = subst (TellsFault e) (append-nil bytes) (h [] [] start)
-
-pub all_stops : {T : Type 0} (r : Result T HistoryFault) (bytes : List ℕ) (s : Stage) (whole : ℕ) (line : List ℕ) (count : ℕ) → Reached s whole line []
-    → IfErr r (λ e. (taken more : List ℕ) → Reached s whole line taken → StopsAt e count (taken ++ (bytes ++ more))) → IfErr r (λ e. e ≢ NoMemory → StopsAt e count bytes)
-all_stops (Ok x) bytes s whole line count start h = tt
-all_stops (Err e) bytes s whole line count start h = λ n. subst (StopsAt e count) (append-nil bytes) (h [] [] start)
 
 -- ---- after whole lines
 pub after_all : (front line : List ℕ) (s : Stage) (whole : ℕ) → Reached s whole line front → line ≡ [] → IsAfter front s

@@ -4,9 +4,9 @@ use Rattle.std.proofs.lemmas.List.{take_at, drop_at}
 use Rattle.stm_store.specs.Tables.{Declared}
 use Rattle.stm_events.specs.declared.event.Event.{Event}
 use Rattle.stm_events.specs.SlowDesk.{max_cells}
-use Rattle.stm_history.specs.Fits.{FitsTable, FitsFormat, FitsVariable}
-use Rattle.stm_history.specs.Lines.{IsFormat, rule_of, event_line, header_line, variable_line}
-use Rattle.stm_history.proofs.ReadsBack.{event_one_line, header_one_line, variable_one_line, event_same, header_same, variable_same}
+use Rattle.stm_event_lines.specs.Fits.{FitsTable, FitsFormat, FitsVariable}
+use Rattle.stm_event_lines.specs.Lines.{IsFormat, rule_of, event_line, header_line, variable_line}
+use Rattle.stm_event_lines.proofs.ReadsBack.{event_one_line, header_one_line, variable_one_line, event_same, header_same, variable_same}
 use Rattle.stm_history.specs.HistoryText.{history_text, variable_lines}
 use Rattle.stm_history.specs.Judgement.{IsShort, max_line, MayDeclare, AreVariablesFrom, TellsFault, IsHistory, numbers_by}
 use Rattle.stm_history.specs.declared.files.fault.HistoryFault.{HistoryFault}

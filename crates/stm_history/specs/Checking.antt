@@ -4,10 +4,10 @@ use Rattle.stm_store.specs.Tables.{Declared}
 use Rattle.stm_events.specs.declared.event.Event.{Event}
 use Rattle.stm_history.specs.declared.files.fault.HistoryFault.{HistoryFault}
 use Rattle.stm_history.specs.declared.files.fault.HistoryFault.TheVariants.{ReadFault, BadHeader, BadLine, NotLegal, NoMemory}
-use Rattle.stm_history.specs.Fits.{FitsTable, FitsFormat}
+use Rattle.stm_event_lines.specs.Fits.{FitsTable, FitsFormat}
 use Rattle.stm_history.specs.HistoryText.{head_text, history_text}
 use Rattle.stm_history.specs.Judgement.{IsShort, MayDeclare, AreVariables, AreEvents, NoEventNext, IsIllegalBy, next_line}
-use Rattle.stm_history.specs.Lines.{IsFormat, rule_of, event_line, header_line, variable_line}
+use Rattle.stm_event_lines.specs.Lines.{IsFormat, rule_of, event_line, header_line, variable_line}
 use Rattle.stm_events.specs.SlowDesk.{IsLegalBy, max_cells}
 
 -- no byte is a line feed

@@ -14,8 +14,8 @@ use Rattle.stm_history.specs.declared.files.explanation.Explanation.{Explanation
 use Rattle.stm_history.specs.declared.files.explanation.Explanation.TheVariants.{Expected, Refused, Unreadable}
 use Rattle.stm_history.specs.Explanation.{CanStand, IsDue, IsSameCall, is_full, refusal_of}
 use Rattle.stm_history.specs.Judgement.{IsShort}
-use Rattle.stm_history.specs.Lines.{event_line}
-use Rattle.stm_history.specs.WholeBlocks.{checked_block}
+use Rattle.stm_event_lines.specs.Lines.{event_line}
+use Rattle.stm_event_lines.specs.WholeBlocks.{checked_block}
 
 -- the machine stands for the history, which is full or not
 pub record IsAt (rule : StalenessRule) (table : List Declared) (history : List Event) (full : Bool) (m : Parts) : Type 0 where

@@ -18,9 +18,9 @@ use Rattle.stm_history.specs.declared.files.explanation.Explanation.{Explanation
 use Rattle.stm_history.specs.declared.files.explanation.Explanation.TheVariants.{Expected, Refused, Unreadable}
 use Rattle.stm_history.specs.declared.files.fault.HistoryFault.{HistoryFault}
 use Rattle.stm_history.specs.Checking.{CheckerState, at_header, at_variables, at_events, Forbids, LeadsTo, LinesUpTo, NoFeed, strange}
-use Rattle.stm_history.specs.Fits.{FitsTable, FitsFormat}
+use Rattle.stm_event_lines.specs.Fits.{FitsTable, FitsFormat}
 use Rattle.stm_history.specs.Judgement.{IsIllegalBy, IsShort, next_line}
-use Rattle.stm_history.specs.Lines.{event_line, rule_of}
+use Rattle.stm_event_lines.specs.Lines.{event_line, rule_of}
 
 -- ---- calls
 -- the two are one call: a submission of one block, or a delivery, a finish or a cancellation under one ticket

@@ -6,10 +6,10 @@ use Rattle.stm_events.specs.declared.event.Event.{Event}
 use Rattle.stm_history.specs.declared.files.fault.HistoryFault.{HistoryFault}
 use Rattle.stm_history.specs.declared.files.fault.HistoryFault.TheVariants.{ReadFault, BadHeader, BadLine, NotLegal, NoMemory}
 use Rattle.stm_history.specs.declared.files.fault.Legal.{Legal}
-use Rattle.stm_history.specs.Fits.{FitsTable, AreInRange, IsOneLine, BeginsWithBrace}
+use Rattle.stm_event_lines.specs.Fits.{FitsTable, AreInRange, IsOneLine, BeginsWithBrace}
 use Rattle.stm_history.specs.HistoryText.{history_text}
 use Rattle.stm_history.specs.Judgement.{IsHistory, TellsFault, AreVariables, AreEvents, numbers_by}
-use Rattle.stm_history.specs.Lines.{IsFormat, rule_of, event_line, header_line, variable_line}
+use Rattle.stm_event_lines.specs.Lines.{IsFormat, rule_of, event_line, header_line, variable_line}
 use Rattle.stm_events.specs.SlowDesk.{IsLegalBy}
 
 -- different events have different lines, without a line feed

@@ -7,7 +7,7 @@ use Rattle.stm_events.specs.declared.event.What.{What}
 use Rattle.stm_history.specs.declared.files.replayer.Replayer.{Replayer}
 use Rattle.stm_events.specs.declared.staleness.StalenessRule.{StalenessRule}
 use Rattle.stm_history.specs.Judgement.{IsIllegalBy}
-use Rattle.stm_history.specs.Lines.{rule_of}
+use Rattle.stm_event_lines.specs.Lines.{rule_of}
 use Rattle.stm_machine.specs.Machine.{Parts, StandsForBy, event}
 use Rattle.stm_events.specs.SlowDesk.{max_events}
 

@@ -5,7 +5,7 @@ use Rattle.stm_events.specs.declared.event.Event.{Event}
 use Rattle.stm_history.specs.declared.files.loading.LoadFault.{LoadFault}
 use Rattle.stm_history.specs.declared.files.loading.LoadFault.TheVariants.{Fault, OldFormat}
 use Rattle.stm_history.specs.Judgement.{BeginsWithHistory, TellsFault}
-use Rattle.stm_history.specs.Lines.{IsFormat, latest_format}
+use Rattle.stm_event_lines.specs.Lines.{IsFormat, latest_format}
 
 -- the bytes are the text of this legal history in the format, and nothing else
 abbrev pub IsWholeHistory : ℕ → List ℕ → List Declared → List Event → Type 0

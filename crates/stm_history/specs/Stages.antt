@@ -8,7 +8,7 @@ use Rattle.stm_history.specs.declared.files.fault.HistoryFault.{HistoryFault}
 use Rattle.stm_history.specs.declared.files.fault.HistoryFault.TheVariants.{BadHeader, NoMemory}
 use Rattle.stm_history.specs.Checking.{CheckerState, at_header, at_variables, at_events, LeadsTo, HasTaken}
 use Rattle.stm_history.specs.Following.{FollowsIn}
-use Rattle.stm_history.specs.Lines.{latest_format}
+use Rattle.stm_event_lines.specs.Lines.{latest_format}
 use Rattle.stm_events.specs.SlowDesk.{max_cells}
 
 -- the stage stands for the progress

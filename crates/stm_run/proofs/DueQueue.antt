@@ -12,7 +12,7 @@ use Rattle.stm_queue.proofs.Merging.{itself}
 use Rattle.stm_queue.proofs.SortedInsertion.{absent_above}
 use Rattle.stm_events.specs.declared.staleness.StalenessRule.TheVariants.{Changed}
 use Rattle.stm_events.specs.Laws.{AreRising, TicketsRise, BlocksStay}
-use Rattle.stm_history.specs.WholeBlocks.{CheckedAreWellTyped}
+use Rattle.stm_event_lines.specs.WholeBlocks.{CheckedAreWellTyped}
 use Rattle.stm_machine.specs.QueueAndIndex.{due_of}
 use Rattle.stm_events.specs.SlowDesk.{Waiter, is_current, find_waiter}
 use Rattle.stm_events.proofs.Rising.{not_above}

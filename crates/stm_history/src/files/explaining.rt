@@ -9,22 +9,24 @@ ghost use Rattle.stm_machine.specs.Machine.{event};
 ghost use Rattle.stm_history.specs.Checking.{CheckerState, at_header, at_variables, at_events, LeadsTo};
 ghost use Rattle.stm_history.specs.Expecting.{HasCheckedBlock, IsLineOf, IsShortOr};
 ghost use Rattle.stm_history.specs.Explanation.{Explains, ExplainsEvent, ExplainsHead};
-ghost use Rattle.stm_history.specs.Fits.{FitsTable, FitsVerdict, FitNews, FitsVariable, FitsFormat, WhatFitsTable};
+ghost use Rattle.stm_event_lines.specs.Fits.{FitsTable, FitsVerdict, FitNews, FitsVariable, FitsFormat, WhatFitsTable};
 ghost use Rattle.stm_history.specs.Following.{FollowsIn};
-ghost use Rattle.stm_history.specs.Lines.{IsFormat, header_line, variable_line};
+ghost use Rattle.stm_event_lines.specs.Lines.{IsFormat, header_line, variable_line};
 ghost use Rattle.stm_history.specs.Stages.{IsStage, CountsWithinLimits};
-ghost use Rattle.stm_history.specs.Variables.{declared};
+ghost use Rattle.stm_event_lines.specs.Variables.{declared};
 
 use crate::files::check::{MAX_CELLS, MAX_LINE, Stage};
 use crate::files::expecting::Expectation;
 use crate::files::explanation::Explanation;
 use crate::files::replayer::Replayer;
-use crate::lines::drafted::{number_in_range, numbers_in_range, value_in_range, writes_in_range};
-use crate::lines::formats::fits_format;
-use crate::lines::loose::{loose_event, loose_header, loose_variable};
-use crate::lines::variable::Variable;
-use crate::lines::write::{event_text, header_text, variable_text};
 use std::alloc::Global;
+use stm_event_lines::drafted::{
+    number_in_range, numbers_in_range, value_in_range, writes_in_range,
+};
+use stm_event_lines::formats::fits_format;
+use stm_event_lines::loose::{loose_event, loose_header, loose_variable};
+use stm_event_lines::variable::Variable;
+use stm_event_lines::write::{event_text, header_text, variable_text};
 use stm_events::event::{Event, What};
 use stm_events::shared_verdict::SharedVerdict;
 use stm_store::{DeclareError, Table};

@@ -1,7 +1,7 @@
 //! What holds of histories as text: each function's contract is a law of the definitions, and its body is empty.
 
 ghost use Rattle.stm_history.specs.Explanation.{ExpectedLeadsOn, OneEventOfACall, RefusedAreIllegal};
-ghost use Rattle.stm_history.specs.WholeBlocks.{CheckedAreWellTyped};
+ghost use Rattle.stm_event_lines.specs.WholeBlocks.{CheckedAreWellTyped};
 ghost use Rattle.stm_history.specs.FileLaws.{EachLineIsOneEvent, EventsAreLines, LinesBeginWithBraces, NumbersAreFixed, TextsAreOfOneHistory, HistoriesAreTaken, FaultsAreFixed, WhatIsWrittenIsTaken};
 
 /// Different events have different lines, and none has a line feed or a 0. Each line of a history begins with `{`.

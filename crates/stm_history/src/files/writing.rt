@@ -1,13 +1,13 @@
 //! Histories, written.
 
 ghost use Rattle.std.specs.Prelude.{◌<◌, ◌++◌, ◌∷◌, [], IfSome, slice_get, length, string_bytes};
-ghost use Rattle.stm_history.specs.Lines.{latest_format, header_line};
+ghost use Rattle.stm_event_lines.specs.Lines.{latest_format, header_line};
 ghost use Rattle.stm_history.specs.HistoryText.{variable_lines, event_lines, history_text, WritesText};
 
-use crate::lines::formats::LATEST_FORMAT;
-use crate::lines::write::{event_text, header_text, variable_text};
 use std::alloc::Global;
 use std::io::Write;
+use stm_event_lines::formats::LATEST_FORMAT;
+use stm_event_lines::write::{event_text, header_text, variable_text};
 use stm_events::event::Event;
 use stm_lines::output;
 use stm_store::Table;

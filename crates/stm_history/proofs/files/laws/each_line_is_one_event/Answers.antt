@@ -1,5 +1,5 @@
 use Rattle.stm_history.proofs.Braces.{lines_begin_with_braces}
-use Rattle.stm_history.proofs.ReadsBack.{event_same, event_one_line}
+use Rattle.stm_event_lines.proofs.ReadsBack.{event_same, event_one_line}
 use Rattle.stm_history.proofs.files.laws.each_line_is_one_event.Goals as goal
 
 pub returns : goal.returns

@@ -1,4 +1,4 @@
-use Rattle.stm_history.specs.Lines.{latest_format}
+use Rattle.stm_event_lines.specs.Lines.{latest_format}
 use Rattle.stm_history.specs.Loading.{IsWholeHistory}
 use Rattle.stm_history.proofs.Loads.{at_taken, events_typed}
 use Rattle.stm_history.proofs.files.loading.load_history.Goals as goal
