@@ -67,11 +67,6 @@ impl Desks {
         self.desk.as_ref()
     }
 
-    /// A desk in the place of the one that is there.
-    pub fn put(&mut self, desk: Desk) {
-        self.desk = Some(desk);
-    }
-
     /// What was handed out.
     pub fn work_mut(&mut self) -> &mut Work {
         &mut self.work

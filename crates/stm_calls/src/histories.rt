@@ -1,9 +1,4 @@
-//! Histories as text: lines that are gathered and judged, the history of the desk, and a desk that goes on from one.
-
-ghost use Rattle.std.specs.Prelude.{◌≤◌};
-ghost use Rattle.stm_events.specs.Laws.{SubmittedAreWellTyped};
-ghost use Rattle.stm_events.specs.SlowDesk.{max_events};
-ghost use Rattle.stm_machine.specs.Machine.{StandsFor};
+//! Histories as text: lines that are gathered and judged, and the history of the desk.
 
 use crate::desks::Desks;
 use crate::words::{first_word, number, say};
@@ -12,11 +7,7 @@ use std::fmt::Write as Formatted;
 use std::io;
 use std::io::{ErrorKind, Read, Write};
 use stm_desk::Desk;
-use stm_history::{
-    HistoryFault, Legal, LoadFault, Loaded, WriteFault, check_history, load_history, replay,
-    write_history,
-};
-use stm_store::Seed;
+use stm_history::{HistoryFault, Legal, WriteFault, check_history, replay, write_history};
 
 /// Bytes that were written, or gathered.
 #[derive(Drop)]
@@ -228,46 +219,6 @@ fn write(
     say("done", out)
 }
 
-/// A desk that goes on from a history, in the place of the desk that is there.
-fn resume_from(
-    desks: &mut Desks,
-    loaded: Loaded,
-    limit: u32,
-    out: &mut String,
-) -> Result<(), AllocError>
-    requires stands { StandsFor loaded.table loaded.events.items loaded.machine }
-    requires typed { SubmittedAreWellTyped loaded.events.items }
-    requires small { limit ≤ max_events }
-{
-    let (table, events, machine) = loaded.into_parts();
-    match Desk::resume(table, events, machine, limit) {
-        Ok(desk) => {
-            desks.put(desk);
-            say("done", out)
-        }
-        Err(_) => say("too many events", out),
-    }
-}
-
-/// A desk that goes on from what was gathered.
-fn resume(
-    gathered: &Gathered,
-    desks: &mut Desks,
-    alloc: Global,
-    limit: u32,
-    out: &mut String,
-) -> Result<(), AllocError> {
-    if limit > Desk::MAX_EVENTS {
-        return say("refused too many events", out);
-    }
-    let mut reader = gathered.bytes.as_slice();
-    match load_history(alloc, Seed::fixed(), &mut reader) {
-        Ok(loaded) => resume_from(desks, loaded, limit, out),
-        Err(LoadFault::OldFormat(format)) => writeln!(out, "format {format}"),
-        Err(LoadFault::Fault(fault)) => say_judgement(Err(fault), out),
-    }
-}
-
 /// Answers a call on the history of the desk.
 fn answer_desk(
     gathered: &mut Gathered,
@@ -289,7 +240,7 @@ fn answer_desk(
 /// Answers a call on histories.
 pub fn answer(
     gathered: &mut Gathered,
-    desks: &mut Desks,
+    desks: &Desks,
     alloc: Global,
     text: &str,
     out: &mut String,
@@ -304,7 +255,6 @@ pub fn answer(
         "part" => gather(gathered, rest, "", out),
         "show" => show(gathered, out),
         "check" => judge(gathered, alloc, number(rest) as usize, out),
-        "resume" => resume(gathered, desks, alloc, number(rest), out),
         "check_failing" => judge_failing(gathered, alloc, number(rest) as usize, out),
         _ => answer_desk(gathered, desks, call, number(rest) as usize, alloc, out),
     }

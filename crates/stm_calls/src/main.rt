@@ -219,7 +219,7 @@ fn answer_part(
         "watch" => watch::answer(&mut objects.watch, alloc, call, out),
         "log" => log_calls::answer(&mut objects.log, &objects.frozen, alloc, call, out),
         "desk" => desks::answer(&mut objects.desks, &objects.table, alloc, call, out),
-        "history" => histories::answer(&mut objects.gathered, &mut objects.desks, alloc, call, out),
+        "history" => histories::answer(&mut objects.gathered, &objects.desks, alloc, call, out),
         _ => answer_block(objects, alloc, module, call, out),
     }
 }

@@ -54,7 +54,8 @@ pub record FitLines (table : List Declared) (events : List Event) : Type 0 where
 
 -- ---- crashes
 
--- The file stands for the history, with all of these events or with none of them. Opening it drops no more bytes than a batch has.
+-- The file stands for the history, with all of these events or with none of them. Opening it drops no more bytes than a batch
+-- has.
 pub record HasAllOrNone (begun : Bool) (table : List Declared) (history events : List Event) (file : List ℕ) : Type 0 where
   pub lines : (recovered file ≡ file_text begun table history)
       ⊎ (recovered file ≡ history_text latest_format table (history ++ events))
@@ -99,8 +100,8 @@ abbrev pub LoadsFront : List ℕ → Option Loaded → Type 0
 LoadsFront front None = front ≡ []
 LoadsFront front (Some h) = IsWholeHistory latest_format front h.table h.events.items
 
--- It is some other file: it has no line of a history, and more than one byte, of which the first isn't the one that a first batch
--- has there until it is opened.
+-- It is some other file: it has no line of a history, and more than one byte, of which the first isn't the one that a first
+-- batch has there until it is opened.
 pub record IsForeign (file : List ℕ) : Type 0 where
   pub nothing : recovered file ≡ []
   pub some : 2 ≤ length file
@@ -128,8 +129,8 @@ pub record MayGoOn (table : List Declared) (history events : List Event) : Type 
   pub new : AreEvents latest_format table events
   pub legal : IsLegal table (history ++ events)
 
--- What a crash leaves with `Full` is loaded again as the history from before, or as that with all events; of a file with no batch yet,
--- as nothing.
+-- What a crash leaves with `Full` is loaded again as the history from before, or as that with all events; of a file with no
+-- batch yet, as nothing.
 abbrev pub AllOrNoneIsResumed : Type 0
 AllOrNoneIsResumed =
     (begun : Bool) (table : List Declared) (history events : List Event) (file : List ℕ)

@@ -168,8 +168,8 @@ fn repaired<D: Device>(
 /// Opens a file that a crash may have left: loads the history whose text its whole lines are, and cuts what comes after them.
 /// A crash may come at any moment of it. The names of variables are looked up under the seed.
 ///
-/// It judges before it cuts, and the first of these is the error: the disk, memory or the file's length; another file; the first
-/// error of its lines, or their format; a torn end of more than 1 MiB. An error returns the device, and the file is as it was,
+/// It judges before it cuts, and the first of these is the error: the disk, memory or the file's length; another file; the
+/// first error of its lines, or their format; a torn end of more than 1 MiB. An error returns the device, and the file is as it was,
 /// unless the disk failed.
 pub fn open_history<D: Device>(
     alloc: Global,

@@ -91,11 +91,12 @@ abbrev pub ForbidsNext : CheckerState → List ℕ → HistoryFault → Type 0
 ForbidsNext at_header rest f = ⊥
 ForbidsNext (at_variables format n table) rest f = ⊥
 ForbidsNext (at_events format table history) rest f =
-    (e : Event) × (more : List ℕ) × (rest ≡ event_line e ++ 10 ∷ more) × FitsTable table e × FitsFormat format e × IsShort (event_line e)
+    (e : Event) × (more : List ℕ) × (rest ≡ event_line e ++ 10 ∷ more)
+    × FitsTable table e × FitsFormat format e × IsShort (event_line e)
     × IsIllegalBy (rule_of format) table history e × (f ≡ NotLegal (next_line table history))
 
--- why no line is taken of what comes next: the reader failed, memory ran out, no line comes next that may stand here, or it is that
--- of an event which can't follow
+-- why no line is taken of what comes next: the reader failed, memory ran out, no line comes next that may stand here, or it is
+-- that of an event which can't follow
 abbrev pub IsFaultAt : CheckerState → List ℕ → HistoryFault → Type 0
 IsFaultAt p rest f = (f ≡ ReadFault) ⊎ ((f ≡ NoMemory) ⊎ (((f ≡ strange p) × NoNext p rest) ⊎ ForbidsNext p rest f))
 

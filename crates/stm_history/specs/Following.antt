@@ -20,7 +20,8 @@ pub record HasRoom (rule : StalenessRule) (table : List Declared) (history : Lis
 abbrev pub WhatIsIllegal : StalenessRule → List Declared → List Event → What → Type 0
 WhatIsIllegal rule table history what = (client : ℕ) → IsIllegalBy rule table history (event client what)
 
--- the events so far are this history, and so are those that are kept, if they are; a copy, if there is one, is of the present store
+-- the events so far are this history, and so are those that are kept, if they are; a copy, if there is one, is of the present
+-- store
 pub record Follows (table : List Declared) (history : List Event) (r : Replayer) : Type 0 where
   pub stands : StandsForBy r.rule table history r.machine
   pub counted : r.events ≡ length history

@@ -11,7 +11,8 @@ use Rattle.stm_event_lines.specs.Lines.{IsFormat, latest_format}
 abbrev pub IsWholeHistory : ℕ → List ℕ → List Declared → List Event → Type 0
 IsWholeHistory format bytes table history = BeginsWithHistory format bytes table history []
 
--- what is reported of bytes that are no legal history in the latest format: the first error, or that their format is an earlier one
+-- what is reported of bytes that are no legal history in the latest format: the first error, or that their format is an earlier
+-- one
 abbrev pub TellsLoadFault : LoadFault → List ℕ → Type 0
 TellsLoadFault (Fault f) bytes = TellsFault f bytes
 TellsLoadFault (OldFormat format) bytes =
