@@ -2314,6 +2314,16 @@ class Package(OnProgram):
                     typing.get_type_hints(found)
 
 
+    def test_mypy_finds_nothing(self):
+        mypy = shutil.which("mypy")
+        if not mypy:
+            self.skipTest("no mypy")
+        with tempfile.TemporaryDirectory() as cache:
+            command = [mypy, "--strict", "--python-version", "3.10", "--cache-dir", cache, str(HERE / "stmdesk")]
+            done = subprocess.run(command, capture_output=True, text=True, timeout=SECONDS)
+        self.assertEqual(done.returncode, 0, done.stdout + done.stderr)
+
+
 class Pages(OnProgram):
     def setUp(self):
         super().setUp()

@@ -39,7 +39,7 @@ from ._values import (
     Value, Verdict, Waits,
 )  # fmt: skip
 
-__version__ = "0.4.0"
+__version__ = "0.5.0"
 
 __all__ = [
     "Answer", "BadAnswer", "Batch", "Blocks", "Cancellation", "Cancelled", "Cell", "Change", "Checked", "ClientAt", "ClientState", "Commits",

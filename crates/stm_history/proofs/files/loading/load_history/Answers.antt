@@ -1,4 +1,3 @@
-use Rattle.std.proofs.Common.{List, ℕ}
 use Rattle.stm_history.specs.Lines.{latest_format}
 use Rattle.stm_history.specs.Loading.{IsWholeHistory}
 use Rattle.stm_history.proofs.Loads.{at_taken, events_typed}

@@ -1,4 +1,4 @@
-use Rattle.std.proofs.Common.{[], ◌∷◌, ◌+◌, ◌++◌, ◌∙◌, ◌<◌, ◌≡◌, ◌^◌, length, take, drop, refl, ap, arith, length-append}
+use Rattle.std.proofs.Common.{[], ◌∷◌, ◌+◌, ◌++◌, ◌∙◌, ◌≡◌, length, take, drop, refl, ap, arith, length-append}
 use Rattle.std.proofs.lemmas.Result.{err_from_is_err_and}
 use Rattle.stm_history.specs.Checking.{StopsAt}
 use Rattle.stm_history.specs.Judgement.{TellsFault}
