@@ -163,11 +163,12 @@ fn answer_why(alloc: Global, seed: Seed, bytes: &[u8]) -> Result<(Finding, Strin
     }
 }
 
-/// Reads a history to its end, writes whether it is legal, and if it isn't what would be accepted in place of the first line that
-/// isn't, and flushes. The whole history is read into memory first.
+/// Reads a history to its end, writes whether it is legal, and if it isn't what would be accepted in place of the first line
+/// that isn't, and flushes. The whole history is read into memory first.
 ///
-/// What is written begins as that of `check`. A line more follows unless the history is legal: `expected LINE`, `refused NAME` or
-/// `unreadable`, after `bad header` with `line N ` before it. The reader is called 4,294,967,295 times at most. The names of variables are looked up under the seed.
+/// What is written begins as that of `check`. A line more follows unless the history is legal: `expected LINE`, `refused NAME`
+/// or `unreadable`, after `bad header` with `line N ` before it. The reader is called 4,294,967,295 times at most. The names of
+/// variables are looked up under the seed.
 pub fn check_why<R: Read, W: Write>(
     alloc: Global,
     seed: Seed,
