@@ -1,4 +1,4 @@
-use Rattle.std.proofs.Common.{inl, refl, subst, sym}
+use Rattle.std.proofs.Common.{inl, refl}
 use Rattle.stm_console.proofs.ProgramAnswers.{storm_ends}
 use Rattle.stm_console.proofs.program.do_storm.Goals as goal
 
