@@ -25,8 +25,8 @@ explanation_text (Expected line) = codes "expected " ++ string_bytes line ++ cod
 explanation_text (Refused refusal) = call_refusal_text refusal
 explanation_text Unreadable = codes "unreadable\n"
 
--- the text says why the bytes have this finding: nothing of a legal history; of any other the explanation of its first line that is
--- not accepted, after `bad header` with the line's number
+-- the text says why the bytes have this finding: nothing of a legal history; of any other the explanation of its first line
+-- that is not accepted, after `bad header` with the line's number
 abbrev pub IsWhyText : List ℕ → Finding → List ℕ → Type 0
 IsWhyText bytes (Legal events) text = text ≡ []
 IsWhyText bytes BadHeader text =

@@ -20,7 +20,8 @@ use stm_terms::text::write_number;
 
 /// Reads all bytes of a reader, which is called 4,294,967,295 times at most.
 fn read_all<R: Read>(alloc: Global, reader: &mut R) -> Result<Vec<u8>, RunFault>
-    ensures { IfOk result (λ v. IfSome (R.remaining reader.old) (λ bytes. v.items ≡ bytes)) }
+    ensures bytes { IfOk result (λ v. IfSome (R.remaining reader.old) (λ bytes. v.items ≡ bytes)) }
+    ensures fault { IfErr result (λ e. e ≢ RunFault.Write) }
 {
     let mut bytes = Vec::new(alloc);
     let mut buffer = [0u8; 8_192];
@@ -30,7 +31,10 @@ fn read_all<R: Read>(alloc: Global, reader: &mut R) -> Result<Vec<u8>, RunFault>
                 if count == 0 {
                     return Ok(bytes);
                 }
-                bytes.extend_from_slice(&buffer[..count])?;
+                match bytes.extend_from_slice(&buffer[..count]) {
+                    Ok(()) => {}
+                    Err(_) => return Err(RunFault::NoMemory),
+                }
             }
             Err(fault) if fault.kind() == ErrorKind::Interrupted => {}
             Err(_) => return Err(RunFault::Read),
@@ -83,11 +87,7 @@ fn write_place(line: u32, out: &mut String) -> Result<(), NoMemory>
 }
 
 /// Appends what is printed of a bad header, and why it is one.
-fn write_bad_header(
-    line: u32,
-    explanation: &Explanation,
-    out: &mut String,
-) -> Result<(), NoMemory>
+fn write_bad_header(line: u32, explanation: &Explanation, out: &mut String) -> Result<(), NoMemory>
     ensures { OnOk result (string_bytes out.new ≡ string_bytes out.old
         ++ (finding_text Finding.BadHeader
         ++ (codes "line " ++ decimal line ++ codes " " ++ explanation_text explanation.now))) }
@@ -111,7 +111,7 @@ fn write_explained(
 }
 
 /// Appends what is printed of bytes that are no legal history, and answers what was found.
-fn write_reason(reason: &Reason, out: &mut String) -> Result<Finding, RunFault>
+fn write_reason(reason: &Reason, out: &mut String) -> Result<Finding, NoMemory>
     ensures { IfOk result (λ f. (bytes : List ℕ) → string_bytes out.old ≡ [] → TellsFault reason.now.fault bytes
         → TellsWhy bytes reason.now.fault reason.now.line reason.now.explanation
         → IsAnswerWhy bytes f (string_bytes out.new)) }
@@ -130,13 +130,13 @@ fn write_reason(reason: &Reason, out: &mut String) -> Result<Finding, RunFault>
             write_explained(Finding::NotLegal(line), explanation, out)?;
             Ok(Finding::NotLegal(line))
         }
-        HistoryFault::ReadFault => Err(RunFault::Read),
-        HistoryFault::NoMemory => Err(RunFault::NoMemory),
+        HistoryFault::ReadFault => Err(NoMemory),
+        HistoryFault::NoMemory => Err(NoMemory),
     }
 }
 
 /// Appends what is printed of the bytes, and answers what was found.
-fn write_why(alloc: Global, seed: Seed, bytes: &[u8], out: &mut String) -> Result<Finding, RunFault>
+fn write_why(alloc: Global, seed: Seed, bytes: &[u8], out: &mut String) -> Result<Finding, NoMemory>
     requires { string_bytes out.old ≡ [] }
     ensures { IfOk result (λ f. IsAnswerWhy bytes.now f (string_bytes out.new)) }
 {
@@ -147,15 +147,28 @@ fn write_why(alloc: Global, seed: Seed, bytes: &[u8], out: &mut String) -> Resul
             Ok(finding)
         }
         Ok(Err(reason)) => write_reason(&reason, out),
+        Err(refused) => Err(refused),
+    }
+}
+
+/// What is printed of the bytes, and what was found.
+fn answer_why(alloc: Global, seed: Seed, bytes: &[u8]) -> Result<(Finding, String), RunFault>
+    ensures answer { IfOk result (λ p. IsAnswerWhy bytes.now p.0 (string_bytes p.1)) }
+    ensures memory { IfErr result (λ e. e ≡ RunFault.NoMemory) }
+{
+    let mut text = String::new(alloc);
+    match write_why(alloc, seed, bytes, &mut text) {
+        Ok(finding) => Ok((finding, text)),
         Err(_) => Err(RunFault::NoMemory),
     }
 }
 
-/// Reads a history to its end, writes whether it is legal, and if it isn't what would be accepted in place of the first line that
-/// isn't, and flushes. The whole history is read into memory first.
+/// Reads a history to its end, writes whether it is legal, and if it isn't what would be accepted in place of the first line
+/// that isn't, and flushes. The whole history is read into memory first.
 ///
-/// What is written begins as that of `check`. A line more follows unless the history is legal: `expected LINE`, `refused NAME` or
-/// `unreadable`, after `bad header` with `line N ` before it. The reader is called 4,294,967,295 times at most. The names of variables are looked up under the seed.
+/// What is written begins as that of `check`. A line more follows unless the history is legal: `expected LINE`, `refused NAME`
+/// or `unreadable`, after `bad header` with `line N ` before it. The reader is called 4,294,967,295 times at most. The names of
+/// variables are looked up under the seed.
 pub fn check_why<R: Read, W: Write>(
     alloc: Global,
     seed: Seed,
@@ -175,8 +188,7 @@ pub fn check_why<R: Read, W: Write>(
         e ≢ RunFault.Write → Keeps (W.contents writer.old) (W.contents writer.new)) }
 {
     let bytes = read_all(alloc, reader)?;
-    let mut text = String::new(alloc);
-    let finding = write_why(alloc, seed, &bytes, &mut text)?;
+    let (finding, text) = answer_why(alloc, seed, &bytes)?;
     write_flushed(writer, text.as_bytes())?;
     Ok(finding)
 }

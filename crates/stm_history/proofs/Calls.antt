@@ -15,7 +15,7 @@ use Rattle.stm_events.specs.SlowDesk.{Waiter, Slow, AllowsBy, IsLegalBy, MayInst
 use Rattle.stm_machine.specs.Machine.{event}
 use Rattle.stm_history.specs.declared.files.explanation.CallRefusal.{CallRefusal}
 use Rattle.stm_history.specs.declared.files.explanation.CallRefusal.TheVariants.{Submission, Delivery, Finish, Cancellation}
-use Rattle.stm_history.specs.Explanation.{IsSameCall, deliver_first, deliver_refused, expected_what, finish_with, is_full, present_verdict, refusal_of, OneEventOfACall, RefusedAreIllegal}
+use Rattle.stm_history.specs.Explanation.{IsSameCall, deliver_first, deliver_refused, expected_what, finish_with, is_history_full, present_verdict, call_refusal, OneEventOfACall, RefusedAreIllegal}
 use Rattle.stm_history.proofs.Allowed.{wait_allowed, leave_allowed, finish_allowed}
 use Rattle.stm_history.proofs.Steps.{allowed, before_full}
 
@@ -57,7 +57,7 @@ same_expected rule s (Cancelled t) (Installed u w) e = absurd e
 same_expected rule s (Cancelled t) (Finished u w m k) e = absurd e
 same_expected rule s (Cancelled t) (Cancelled u) e = ap (λ (x : ℕ). Some (Cancelled x)) e
 
-pub same_refused : (s : Slow) (full : Bool) (a b : What) → IsSameCall a b → refusal_of s full a ≡ refusal_of s full b
+pub same_refused : (s : Slow) (full : Bool) (a b : What) → IsSameCall a b → call_refusal s full a ≡ call_refusal s full b
 same_refused s full (Submitted t b) (Submitted u c) e = ap (λ (x : Block). option_map Submission (submit_refused s full x)) e
 same_refused s full (Submitted t b) (Installed u w) e = absurd e
 same_refused s full (Submitted t b) (Finished u w m k) e = absurd e
@@ -89,19 +89,19 @@ deliver_by : (s : Slow) (v : Verdict) (o : Option Waiter) → IsSomeAnd o (λ w.
 deliver_by s v None a = absurd a
 deliver_by s v (Some w) a = rw a.not_current refl
 
-pub none_refused : (rule : StalenessRule) (s : Slow) (a : What) → AllowsBy rule s a → refusal_of s false a ≡ None
+pub none_refused : (rule : StalenessRule) (s : Slow) (a : What) → AllowsBy rule s a → call_refusal s false a ≡ None
 none_refused rule s (Submitted t b) a = ap (option_map Submission) (wait_allowed rule s t b a)
 none_refused rule s (Installed t v) a = ap (option_map Delivery) (deliver_by s v (find_waiter t s.waiters) a)
 none_refused rule s (Finished t v n stale) a = ap (option_map Finish) (finish_allowed rule s t v n stale a)
 none_refused rule s (Cancelled t) a = ap (option_map Cancellation) (leave_allowed rule s t a)
 
-pub room_left : (history : List Event) → length history < max_events → is_full history ≡ false
+pub room_left : (history : List Event) → length history < max_events → is_history_full history ≡ false
 room_left history h = grind (arith, nat_tests)
 
 pub refused_are_illegal : RefusedAreIllegal
 refused_are_illegal rule table history client a b r told same legal =
     let s : Slow = state_by rule table history in
-    let room : is_full history ≡ false = room_left history (before_full rule table history client b legal) in
-    let none : refusal_of s false b ≡ None = none_refused rule s b (allowed rule table history client b legal) in
-    let some : refusal_of s false b ≡ Some r = ap (λ (x : Bool). refusal_of s x b) (sym room) ∙ sym (same_refused s (is_full history) a b same) ∙ told in
+    let room : is_history_full history ≡ false = room_left history (before_full rule table history client b legal) in
+    let none : call_refusal s false b ≡ None = none_refused rule s b (allowed rule table history client b legal) in
+    let some : call_refusal s false b ≡ Some r = ap (λ (x : Bool). call_refusal s x b) (sym room) ∙ sym (same_refused s (is_history_full history) a b same) ∙ told in
     cc

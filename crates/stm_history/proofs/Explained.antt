@@ -18,8 +18,8 @@ use Rattle.stm_history.specs.declared.files.expecting.Expectation.TheVariants.{D
 use Rattle.stm_history.specs.declared.files.explanation.Explanation.{Explanation}
 use Rattle.stm_history.specs.declared.files.explanation.Explanation.TheVariants.{Expected, Refused, Unreadable}
 use Rattle.stm_history.specs.Checking.{CheckerState, at_header, at_variables, at_events, with_table, LeadsTo, LinesUpTo}
-use Rattle.stm_history.specs.Expecting.{HasCheckedBlock, IsExpectation, IsLineOf, IsShortOr}
-use Rattle.stm_history.specs.Explanation.{CanStand, Explains, ExplainsEvent, ExplainsHead, ExpectedLeadsOn, IsDue, IsExpectedText, IsReadAs, IsSameCall}
+use Rattle.stm_history.specs.Expecting.{HasCheckedBlock, TellsDue, IsLineOf, IsShortOr}
+use Rattle.stm_history.specs.Explanation.{CanStand, Explains, ExplainsEvent, ExplainsHead, ExpectedLeadsOn, IsCallDue, IsExpectedText, IsReadAs, IsSameCall}
 use Rattle.stm_event_lines.specs.Fits.{FitsTable, FitsFormat, FitsVariable, WhatFitsTable}
 use Rattle.stm_history.specs.Judgement.{IsShort}
 use Rattle.stm_event_lines.specs.Lines.{event_line, rule_of, variable_line}
@@ -62,7 +62,7 @@ checked_same table (Cancelled t) (Installed u w) f e = tt
 checked_same table (Cancelled t) (Finished u w m k) f e = tt
 checked_same table (Cancelled t) (Cancelled u) f e = tt
 
-pub explains_due : (format : ℕ) (table : List Declared) (history : List Event) (e : Event) (what : What) (x : Explanation) → IsDue (rule_of format) table history e what → IsLineOf format table (event e.client what) x
+pub explains_due : (format : ℕ) (table : List Declared) (history : List Event) (e : Event) (what : What) (x : Explanation) → IsCallDue (rule_of format) table history e what → IsLineOf format table (event e.client what) x
     → ExplainsEvent format table history e x
 explains_due format table history e what (Expected text) d l = (what, d, l.0, l.1)
 explains_due format table history e what (Refused r) d l = absurd l
@@ -71,14 +71,14 @@ explains_due format table history e what Unreadable d l = (what, d, l)
 pub read_as : (table : List Declared) (line : List ℕ) (e : Event) → FitsTable table e → ((d : Event) → FitsTable table d → event_line d ≡ line → Some e ≡ Some d) → IsReadAs table line e
 read_as table line e f h = (f, λ d g l. let s = h d g l in cc)
 
-due_in_format : (format : ℕ) (table : List Declared) (history : List Event) (s : Replayer) (e : Event) (what : What) → FollowsIn format table history s → IsDue s.rule table history e what → IsDue (rule_of format) table history e what
-due_in_format format table history s e what f d = subst (λ (x : StalenessRule). IsDue x table history e what) f.rule d
+due_in_format : (format : ℕ) (table : List Declared) (history : List Event) (s : Replayer) (e : Event) (what : What) → FollowsIn format table history s → IsCallDue s.rule table history e what → IsCallDue (rule_of format) table history e what
+due_in_format format table history s e what f d = subst (λ (x : StalenessRule). IsCallDue x table history e what) f.rule d
 
-pub due_explained : {E : Type 0} (r : Result Explanation E) (format : ℕ) (s : Replayer) (e : Event) (what : What) (y : Expectation) → y ≡ Due what → ((T : List Declared) (H : List Event) → Follows T H s → IsExpectation s.rule T H e y)
+pub due_explained : {E : Type 0} (r : Result Explanation E) (format : ℕ) (s : Replayer) (e : Event) (what : What) (y : Expectation) → y ≡ Due what → ((T : List Declared) (H : List Event) → Follows T H s → TellsDue s.rule T H e y)
     → IfOk r (λ x. (T : List Declared) → e.client < max_clients → HasCheckedBlock T what → IsLineOf format T (event e.client what) x)
     → IfOk r (λ x. (T : List Declared) (H : List Event) → FollowsIn format T H s → FitsTable T e → ExplainsEvent format T H e x)
 due_explained (Ok x) format s e what y is due h = λ T H f g.
-    let d = due_in_format format T H s e what f (subst (λ (z : Expectation). IsExpectation s.rule T H e z) is (due T H f.follows)) in
+    let d = due_in_format format T H s e what f (subst (λ (z : Expectation). TellsDue s.rule T H e z) is (due T H f.follows)) in
     explains_due format T H e what x d (h T g.0 (checked_same T e.what what g.1 d.same))
 due_explained (Err x) format s e what y is due h = tt
 

@@ -12,7 +12,7 @@ use Rattle.stm_history.specs.declared.files.expecting.Expectation.TheVariants.{D
 use Rattle.stm_history.specs.declared.files.explanation.CallRefusal.{CallRefusal}
 use Rattle.stm_history.specs.declared.files.explanation.Explanation.{Explanation}
 use Rattle.stm_history.specs.declared.files.explanation.Explanation.TheVariants.{Expected, Refused, Unreadable}
-use Rattle.stm_history.specs.Explanation.{CanStand, IsDue, IsSameCall, is_full, refusal_of}
+use Rattle.stm_history.specs.Explanation.{CanStand, IsCallDue, IsSameCall, is_history_full, call_refusal}
 use Rattle.stm_history.specs.Judgement.{IsShort}
 use Rattle.stm_event_lines.specs.Lines.{event_line}
 use Rattle.stm_event_lines.specs.WholeBlocks.{checked_block}
@@ -20,7 +20,7 @@ use Rattle.stm_event_lines.specs.WholeBlocks.{checked_block}
 -- the machine stands for the history, which is full or not
 pub record IsAt (rule : StalenessRule) (table : List Declared) (history : List Event) (full : Bool) (m : Parts) : Type 0 where
   pub stands : StandsForBy rule table history m
-  pub fullness : full ≡ is_full history
+  pub fullness : full ≡ is_history_full history
 
 -- the refusal is told
 abbrev pub TellsRefusal : Option CallRefusal → Expectation → Type 0
@@ -30,12 +30,12 @@ TellsRefusal told (Refuses r) = told ≡ Some r
 -- the machine moved by the same call as it has to be, or a desk refuses it
 abbrev pub Moves : StalenessRule → List Declared → List Event → What → Parts → Expectation → Type 0
 Moves rule table history call m (Due what) = IsSameCall call what × MovesToBy rule table history what m
-Moves rule table history call m (Refuses r) = refusal_of (state_by rule table history) (is_full history) call ≡ Some r
+Moves rule table history call m (Refuses r) = call_refusal (state_by rule table history) (is_history_full history) call ≡ Some r
 
 -- the same call as it has to be, or why a desk refuses it
-abbrev pub IsExpectation : StalenessRule → List Declared → List Event → Event → Expectation → Type 0
-IsExpectation rule table history e (Due what) = IsDue rule table history e what
-IsExpectation rule table history e (Refuses r) = refusal_of (state_by rule table history) (is_full history) e.what ≡ Some r
+abbrev pub TellsDue : StalenessRule → List Declared → List Event → Event → Expectation → Type 0
+TellsDue rule table history e (Due what) = IsCallDue rule table history e what
+TellsDue rule table history e (Refuses r) = call_refusal (state_by rule table history) (is_history_full history) e.what ≡ Some r
 
 -- a block that is submitted is what its text checks to over the table
 abbrev pub HasCheckedBlock : List Declared → What → Type 0

@@ -57,8 +57,8 @@ expected_what rule s (Installed t v) = option_map (Installed t) (present_verdict
 expected_what rule s (Finished t v n stale) = option_map (finish_with rule s t) (present_verdict s (find_waiter t s.waiters))
 expected_what rule s (Cancelled t) = Some (Cancelled t)
 
--- the first that holds: no block waits under the ticket, it is current, the history is full. A delivery of what a block does on the
--- present store is never overtaken.
+-- the first that holds: no block waits under the ticket, it is current, the history is full. A delivery of what a block does on
+-- the present store is never overtaken.
 abbrev pub deliver_first : Bool → Option Waiter → Option DeliverError
 deliver_first full None = Some Gone
 deliver_first full (Some w) = if is_current w then Some Already else if full then Some HistoryFull else None
@@ -68,15 +68,15 @@ abbrev pub deliver_refused : Slow → Bool → ℕ → Option DeliverError
 deliver_refused s full t = deliver_first full (find_waiter t s.waiters)
 
 -- why a desk refuses the call, if it does; `full` says that the history has no room for an event
-abbrev pub refusal_of : Slow → Bool → What → Option CallRefusal
-refusal_of s full (Submitted t b) = option_map Submission (submit_refused s full b)
-refusal_of s full (Installed t v) = option_map Delivery (deliver_refused s full t)
-refusal_of s full (Finished t v n stale) = option_map Finish (finish_refused s full t)
-refusal_of s full (Cancelled t) = option_map Cancellation (cancel_refused s full t)
+abbrev pub call_refusal : Slow → Bool → What → Option CallRefusal
+call_refusal s full (Submitted t b) = option_map Submission (submit_refused s full b)
+call_refusal s full (Installed t v) = option_map Delivery (deliver_refused s full t)
+call_refusal s full (Finished t v n stale) = option_map Finish (finish_refused s full t)
+call_refusal s full (Cancelled t) = option_map Cancellation (cancel_refused s full t)
 
 -- the history has no room for an event
-abbrev pub is_full : List Event → Bool
-is_full history = nat_le max_events (length history)
+abbrev pub is_history_full : List Event → Bool
+is_history_full history = nat_le max_events (length history)
 
 -- ---- explanations
 -- the event can stand in a line of a history in the format
@@ -84,21 +84,21 @@ abbrev pub CanStand : ℕ → List Declared → Event → Type 0
 CanStand format table e = FitsTable table e × FitsFormat format e × IsShort (event_line e)
 
 -- this is what the call of the event has to be after the history, and then it is legal
-pub record IsDue (rule : StalenessRule) (table : List Declared) (history : List Event) (e : Event) (what : What) : Type 0 where
+pub record IsCallDue (rule : StalenessRule) (table : List Declared) (history : List Event) (e : Event) (what : What) : Type 0 where
   pub same : IsSameCall e.what what
   pub expected : expected_what rule (state_by rule table history) e.what ≡ Some what
   pub legal : IsLegalBy rule table (history ++ event e.client what ∷ [])
 
--- what is told of a line that was read as this event: the line of what is due; why a desk refuses the call; nothing if what is due
--- has no line in the format
+-- what is told of a line that was read as this event: the line of what is due; why a desk refuses the call; nothing if what is
+-- due has no line in the format
 abbrev pub ExplainsEvent : ℕ → List Declared → List Event → Event → Explanation → Type 0
 ExplainsEvent format table history e (Expected text) =
-    (what : What) × IsDue (rule_of format) table history e what × CanStand format table (event e.client what)
+    (what : What) × IsCallDue (rule_of format) table history e what × CanStand format table (event e.client what)
     × (string_bytes text ≡ event_line (event e.client what))
 ExplainsEvent format table history e (Refused r) =
-    refusal_of (state_by (rule_of format) table history) (is_full history) e.what ≡ Some r
+    call_refusal (state_by (rule_of format) table history) (is_history_full history) e.what ≡ Some r
 ExplainsEvent format table history e Unreadable =
-    (what : What) × IsDue (rule_of format) table history e what × (CanStand format table (event e.client what) → ⊥)
+    (what : What) × IsCallDue (rule_of format) table history e what × (CanStand format table (event e.client what) → ⊥)
 
 -- the line was read as this event, though its JSON may be written in another way; the line of an event is read as that event
 abbrev pub IsReadAs : List Declared → List ℕ → Event → Type 0
@@ -137,8 +137,8 @@ line_after (at_events format table history) = next_line table history
 abbrev pub IsAfterLine : List ℕ → Type 0
 IsAfterLine rest = (rest ≡ []) ⊎ ((more : List ℕ) × (rest ≡ 10 ∷ more))
 
--- Why the bytes are no legal history: whole lines of them led to this progress; then comes the line of this number, which has this
--- fault; and this is told of it.
+-- Why the bytes are no legal history: whole lines of them led to this progress; then comes the line of this number, which has
+-- this fault; and this is told of it.
 pub record TellsWhy (bytes : List ℕ) (f : HistoryFault) (number : ℕ) (x : Explanation) : Type 0 where
   pub progress : CheckerState
   pub accepted : List ℕ
@@ -163,7 +163,7 @@ OneEventOfACall =
 abbrev pub RefusedAreIllegal : Type 0
 RefusedAreIllegal =
     (rule : StalenessRule) (table : List Declared) (history : List Event) (client : ℕ) (a b : What) (r : CallRefusal) →
-    refusal_of (state_by rule table history) (is_full history) a ≡ Some r → IsSameCall a b →
+    call_refusal (state_by rule table history) (is_history_full history) a ≡ Some r → IsSameCall a b →
     IsIllegalBy rule table history (event client b)
 
 -- the line is expected

@@ -18,7 +18,7 @@ use Rattle.stm_words.specs.declared.command_line.Request.TheVariants.{Run, Storm
 use Rattle.stm_options.specs.declared.explore_options.ExploreOptions.{ExploreOptions}
 use Rattle.stm_options.specs.declared.options.Options.{Options}
 use Rattle.stm_words.specs.declared.version.TheConstants.{VERSION}
-use Rattle.stm_options.specs.Options.{default_options}
+use Rattle.stm_options.specs.Options.{AreRunOptions, default_options}
 
 -- the program's name alone, or the word `run` after it
 abbrev pub asks_for_run : List (List ℕ) → Bool
@@ -174,39 +174,15 @@ request_said (Some p) =
 unfoldable pub request_of : List (List ℕ) → Request
 request_of words = request_said (subcommand_of command_line words)
 
--- where it is a run, this holds of its options
-abbrev pub IfRun : Request → (Options → Type 0) → Type 0
-IfRun (Run options) P = P options
-IfRun (Storm options) P = ⊤
-IfRun (Explore options) P = ⊤
-IfRun Check P = ⊤
-IfRun CheckWhy P = ⊤
-
--- where it is a storm, this holds of its options
-abbrev pub IfStorm : Request → (Options → Type 0) → Type 0
-IfStorm (Run options) P = ⊤
-IfStorm (Storm options) P = P options
-IfStorm (Explore options) P = ⊤
-IfStorm Check P = ⊤
-IfStorm CheckWhy P = ⊤
-
--- where it is an exploration, this holds of its options
-abbrev pub IfExplore : Request → (ExploreOptions → Type 0) → Type 0
-IfExplore (Run options) P = ⊤
-IfExplore (Storm options) P = ⊤
-IfExplore (Explore options) P = P options
-IfExplore Check P = ⊤
-IfExplore CheckWhy P = ⊤
-
 -- an exploration may keep some states, and no more than 32 bits count
 pub record AreExploreOptions (o : ExploreOptions) : Type 0 where
   pub some_state : 1 ≤ o.max_states
   pub few_states : o.max_states ≤ 4294967295
 
--- it judges: a check the history of the reader, a storm that of its clients, and an exploration all that its clients may do
-abbrev pub judges_history : Request → Bool
-judges_history (Run options) = false
-judges_history (Storm options) = true
-judges_history (Explore options) = true
-judges_history Check = true
-judges_history CheckWhy = true
+-- its options are in their ranges
+abbrev pub HasOptionsInRange : Request → Type 0
+HasOptionsInRange (Run options) = AreRunOptions options
+HasOptionsInRange (Storm options) = AreRunOptions options
+HasOptionsInRange (Explore options) = AreExploreOptions options
+HasOptionsInRange Check = ⊤
+HasOptionsInRange CheckWhy = ⊤

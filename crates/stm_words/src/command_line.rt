@@ -5,7 +5,7 @@ ghost use Rattle.clap.specs.Simple.{subcommand_rows_of};
 ghost use Rattle.clap.specs.Walk.{one_of, rows_of, rule_of};
 ghost use Rattle.clap.specs.Words.{app_of, found_of, new_app, with_subcommand, FailsBy};
 ghost use Rattle.clap.specs.declared.builder.command.Command.TheViews.{out-Command as fields_of};
-ghost use Rattle.stm_words.specs.CommandLine.{answers_of, asks_for_run, check_command, check_said, command_line, explore_command, explore_options_said, flag_option, flag_said, number_of_text, number_option, number_said, number_within, options_said, request_of, request_said, run_command, storm_command, with_options, with_version, AreExploreOptions, IfExplore, IfRun, IfStorm};
+ghost use Rattle.stm_words.specs.CommandLine.{answers_of, asks_for_run, check_command, check_said, command_line, explore_command, explore_options_said, flag_option, flag_said, number_of_text, number_option, number_said, number_within, options_said, request_of, request_said, run_command, storm_command, with_options, with_version, AreExploreOptions, HasOptionsInRange};
 ghost use Rattle.stm_options.specs.Options.{AreRunOptions};
 
 use crate::version::VERSION;
@@ -453,9 +453,7 @@ fn check_of(matches: &ArgMatches) -> Request
 /// What is asked for by words that clap takes.
 fn request_of<'a>(matches: &ArgMatches<'a>) -> Request
     ensures said { result ≡ request_said (subcommand_rows_of matches.now) }
-    ensures range { IfRun result AreRunOptions }
-    ensures storm_range { IfStorm result AreRunOptions }
-    ensures explore_range { IfExplore result AreExploreOptions }
+    ensures range { HasOptionsInRange result }
 {
     match matches.subcommand() {
         Some((name, inner)) => {
@@ -479,9 +477,7 @@ pub fn read_words<'a, S: AsStr>(alloc: Global, words: &'a [S]) -> Result<Request
     ensures run { IsTrue (asks_for_run (map S.text words.now)) → IsOk result }
     ensures answers { FailsBy (answers_of (map S.text words.now)) result }
     ensures request { IfOk result (λ r. r ≡ request_of (map S.text words.now)) }
-    ensures range { IfOk result (λ r. IfRun r AreRunOptions) }
-    ensures storm_range { IfOk result (λ r. IfStorm r AreRunOptions) }
-    ensures explore_range { IfOk result (λ r. IfExplore r AreExploreOptions) }
+    ensures range { IfOk result (λ r. HasOptionsInRange r) }
 {
     if is_plain_run(words) {
         return Ok(Request::Run(Options::standard()));

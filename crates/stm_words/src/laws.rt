@@ -3,7 +3,7 @@
 ghost use Rattle.stm_words.specs.WordLaws.{RunsAreAccepted, LastDashesChangeNothing, RunsHaveDefaults, OptionsAreInRange, StormsAreAccepted, StormsAreAsRuns, ChecksAreAccepted, ChecksWithReasonsAreAccepted, VersionsAreAskedFor, NumbersAreTaken, OthersAreRefused, NoOptionTwice, OptionsNeedRun};
 
 /// The program's name alone, and `run` after it, ask for a run with the default options, also with a last word `--`. No
-/// words give a run or a storm options that are out of their ranges.
+/// words give a run, a storm or an exploration options that are out of their ranges.
 pub fn words_of_a_run_are_accepted()
     ensures accepted { RunsAreAccepted }
     ensures dashes { LastDashesChangeNothing }

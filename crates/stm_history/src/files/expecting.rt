@@ -1,4 +1,5 @@
-//! What is due in place of an event: the machine is asked whether it refuses the call, and then moved by the call as it has to be.
+//! What is due in place of an event: the machine is asked whether it refuses the call, and then moved by the call as it has to
+//! be.
 
 ghost use Rattle.std.specs.Prelude.{◌≡◌, ◌<◌, ◌↔◌, ◌++◌, ◌∷◌, [], ℕ, List, Err, IfOk, IfSome, None, option_map};
 ghost use Rattle.stm_store.specs.Cells.{plains};
@@ -14,7 +15,7 @@ ghost use Rattle.stm_machine.specs.declared.finish.Plan.{Plan as AnyPlan};
 ghost use Rattle.stm_machine.specs.JobsHandedOut.{IsPresent};
 ghost use Rattle.stm_machine.specs.Machine.{CanFinishBy, CanInstallBy, CanWaitBy};
 ghost use Rattle.stm_history.specs.declared.files.explanation.CallRefusal.TheVariants.{Submission, Delivery, Finish, Cancellation};
-ghost use Rattle.stm_history.specs.Expecting.{IsAt, IsExpectation, Moves, TellsRefusal};
+ghost use Rattle.stm_history.specs.Expecting.{IsAt, TellsDue, Moves, TellsRefusal};
 ghost use Rattle.stm_history.specs.Following.{Follows};
 
 use crate::files::explanation::CallRefusal;
@@ -263,7 +264,7 @@ impl Replayer {
         requires follows { (T : List Declared) × (H : List AnyEvent) × Follows T H self.old }
         requires client { event.now.client < max_clients }
         ensures { IfOk result (λ x. (T : List Declared) (H : List AnyEvent) → Follows T H self.old
-            → IsExpectation self.old.rule T H event.now x) }
+            → TellsDue self.old.rule T H event.now x) }
     {
         let full = self.events >= MAX_EVENTS;
         due(&mut self.machine, self.rule, full, &event.what)

@@ -53,7 +53,8 @@ pub fn refused_calls_are_illegal()
     ensures { RefusedAreIllegal }
 {}
 
-/// With the line that is expected in place of the line that has a fault, the bytes up to it are the beginning of a legal history.
+/// With the line that is expected in place of the line that has a fault, the bytes up to it are the beginning of a legal
+/// history.
 pub fn expected_lines_lead_on()
     ensures { ExpectedLeadsOn }
 {}

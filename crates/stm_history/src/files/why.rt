@@ -145,8 +145,8 @@ fn told(
     }
 }
 
-/// Judges bytes as a history, as `check_history` does, and tells why they are none. If they have a fault the lines before it are judged
-/// twice. The fault of a reason is never `ReadFault` or `NoMemory`.
+/// Judges bytes as a history, as `check_history` does, and tells why they are none. If they have a fault the lines before it
+/// are judged twice. The fault of a reason is never `ReadFault` or `NoMemory`.
 pub fn why_history(
     alloc: Global,
     seed: Seed,
