@@ -1,7 +1,7 @@
 -- A text written part by part.
 use Rattle.std.proofs.Common.{ℕ, zero, suc, IfSome, ◌+◌, ◌-◌, List, length, arith, ap, ◌∙◌, ◌++◌, take, drop, Option, Some, sym, subst, append_assoc, [], ◌∷◌, ◌≡◌, ◌<◌, get_or, refl, add-one}
 use Rattle.std.specs.Prelude.{slice_get}
-use Rattle.std.proofs.Math.Seq.{take-add, take-length, take-suc, drop-cons}
+use Rattle.std.proofs.Math.Seq.{take-length, take-suc, drop-cons}
 use Rattle.std.proofs.lemmas.List.{length-drop, take-append-drop}
 use Rattle.std.proofs.KnownBytes.{Appends-trans}
 use Rattle.std.specs.Io.KnownBytes.{Appends}
@@ -9,7 +9,6 @@ use Rattle.stm_store.specs.Tables.{Declared}
 use Rattle.stm_events.specs.declared.event.Event.{Event}
 use Rattle.stm_event_lines.specs.Lines.{latest_format, event_line, header_line, variable_line}
 use Rattle.stm_history.specs.HistoryText.{variable_lines, event_lines, history_text, WritesFront}
-use Rattle.stm_terms.specs.Texts.{IsPrefixOf}
 
 -- the rest of a slice
 pub drop-all : (at : ℕ) (text : List ℕ) → take (length text - at) (drop at text) ≡ drop at text

@@ -4,7 +4,7 @@ use Rattle.std.proofs.KnownBytes.{Consumes-whole}
 use Rattle.std.proofs.lemmas.List.Elements.{All-head, All-tail}
 use Rattle.std.specs.Io.KnownBytes.{Consumes, prepend_known}
 use Rattle.stm_lines.specs.Lines.{NoLineFeed}
-use Rattle.stm_lines.specs.TakenLines.{HasBegun, IsLast, IsWhole}
+use Rattle.stm_lines.specs.TakenLines.{TakesPartOfLine, TakesLastLine, TakesWholeLine}
 use Rattle.stm_history.specs.declared.files.check.Stage.{Stage}
 use Rattle.stm_history.specs.declared.files.fault.HistoryFault.{HistoryFault}
 use Rattle.stm_history.specs.declared.files.fault.HistoryFault.TheVariants.{ReadFault, NoMemory, BadHeader, BadLine, NotLegal}
@@ -45,7 +45,7 @@ pub last_taken : (s : Stage) (m : ℕ) (line left : List ℕ) → NoLineFeed lin
 last_taken s m line left p k e taken h = subst (λ (l : List ℕ). Reached s m l (taken ++ line)) (sym e) (begun s m line taken p k h)
 
 -- ---- what a call took
-pub takes_line : (s t : Stage) (m n before after : ℕ) (line : List ℕ) (a b : Option (List ℕ)) → IsWhole a b line
+pub takes_line : (s t : Stage) (m n before after : ℕ) (line : List ℕ) (a b : Option (List ℕ)) → TakesWholeLine a b line
     → ((taken : List ℕ) → Reached s m [] taken → Reached t n [] (taken ++ (line ++ 10 ∷ []))) → after + length line < before → TakesLine s t m n [] a b before after
 takes_line s t m n before after line a b w h k = record {
   bytes = line ++ 10 ∷ [];
@@ -55,11 +55,11 @@ takes_line s t m n before after line a b w h k = record {
   few = omega (arith, length-append line (10 ∷ []), k);
 }
 
-pub takes_last : (s t : Stage) (m n : ℕ) (line left : List ℕ) (a b : Option (List ℕ)) → IsLast a b line
+pub takes_last : (s t : Stage) (m n : ℕ) (line left : List ℕ) (a b : Option (List ℕ)) → TakesLastLine a b line
     → ((taken : List ℕ) → Reached s m [] taken → Reached t n left (taken ++ line)) → TakesRest s t m n left a
 takes_last s t m n line left a b w h = (line, Consumes-whole a b line (λ all. all ≡ line) w.taken w.at_end refl, h)
 
-pub takes_none : (s : Stage) (m : ℕ) (line left : List ℕ) (a b : Option (List ℕ)) → IsLast a b line → line ≡ [] → left ≡ [] → TakesRest s s m m left a
+pub takes_none : (s : Stage) (m : ℕ) (line left : List ℕ) (a b : Option (List ℕ)) → TakesLastLine a b line → line ≡ [] → left ≡ [] → TakesRest s s m m left a
 takes_none s m line left a b w e n =
     takes_last s s m m line left a b w (λ taken h. subst (λ (l : List ℕ). Reached s m l (taken ++ line)) (sym n)
     (subst (λ (l : List ℕ). Reached s m [] (taken ++ l)) (sym e) (subst (Reached s m []) (sym (append-nil taken)) h)))
@@ -72,7 +72,7 @@ fails_at e s m n bytes (Some all) None c tells stops = absurd c
 fails_at e s m n bytes (Some all) (Some rest) c tells stops = λ taken h.
     (subst (λ (l : List ℕ). TellsFault e (taken ++ l)) (sym c) (tells taken rest h), subst (λ (l : List ℕ). StopsAt e n (taken ++ l)) (sym c) (stops taken rest h))
 
-pub fails_long : (e : HistoryFault) (s : Stage) (m : ℕ) (line : List ℕ) (a b : Option (List ℕ)) → HasBegun a b line → length line ≡ max_line + 1
+pub fails_long : (e : HistoryFault) (s : Stage) (m : ℕ) (line : List ℕ) (a b : Option (List ℕ)) → TakesPartOfLine a b line → length line ≡ max_line + 1
     → ((p : CheckerState) → IsStage s p → e ≡ strange p) → FailsIn e s m m a
 fails_long e s m line a b w long k =
     let above : max_line < length {A = ℕ} [] + length line = omega (arith, long) in

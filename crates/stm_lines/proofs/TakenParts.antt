@@ -8,7 +8,7 @@ use Rattle.std.specs.Io.KnownBytes.{Consumes, IsAtEnd, Keeps, prepend_known}
 use Rattle.memchr.specs.Find.{IsFirstByte, is_byte}
 use Rattle.stm_lines.proofs.LineFeeds.{NoLineFeed-all, NoLineFeed-take, split-at}
 use Rattle.stm_lines.specs.Lines.{NoLineFeed}
-use Rattle.stm_lines.specs.TakenLines.{HasBegun, IsLast, IsPart, IsSkippedPart, IsWhole}
+use Rattle.stm_lines.specs.TakenLines.{TakesPartOfLine, TakesLastLine, IsPart, IsSkippedPart, TakesWholeLine}
 use Rattle.stm_lines.specs.declared.line_reader.Part.TheVariants as part
 
 -- ---- parts of a chunk
@@ -46,47 +46,47 @@ Consumes-front : (b : Option (List ℕ)) (chunk bytes rest : List ℕ) → chunk
 Consumes-front None chunk bytes rest e = tt
 Consumes-front (Some x) chunk bytes rest e = ap (λ l. l ++ x) e ∙ append_assoc bytes rest x
 
-pub HasBegun-nil : (a : Option (List ℕ)) → HasBegun a a []
-HasBegun-nil a = record { plain = All-nil (λ b. b ≢ 10); taken = Consumes-nil a }
+pub TakesPartOfLine-nil : (a : Option (List ℕ)) → TakesPartOfLine a a []
+TakesPartOfLine-nil a = record { plain = All-nil (λ b. b ≢ 10); taken = Consumes-nil a }
 
 -- bytes more
-pub HasBegun-more : (a b : Option (List ℕ)) (begun line chunk bytes rest : List ℕ) → HasBegun a (prepend_known chunk b) begun → NoLineFeed bytes → line ≡ begun ++ bytes
-    → chunk ≡ bytes ++ rest → HasBegun a (prepend_known rest b) line
-HasBegun-more a b begun line chunk bytes rest h p l e = record {
+pub TakesPartOfLine-more : (a b : Option (List ℕ)) (begun line chunk bytes rest : List ℕ) → TakesPartOfLine a (prepend_known chunk b) begun → NoLineFeed bytes → line ≡ begun ++ bytes
+    → chunk ≡ bytes ++ rest → TakesPartOfLine a (prepend_known rest b) line
+TakesPartOfLine-more a b begun line chunk bytes rest h p l e = record {
   plain = subst NoLineFeed (sym l) (All-append (λ b. b ≢ 10) begun bytes h.plain p);
   taken = subst (Consumes a (prepend_known rest b)) (sym l) (Consumes-trans _ _ _ _ _ h.taken (Consumes-front b chunk bytes rest e));
 }
 
 -- all bytes of the chunk
-pub HasBegun-all : (a b : Option (List ℕ)) (begun line chunk rest : List ℕ) → HasBegun a (prepend_known chunk b) begun → NoLineFeed chunk → line ≡ begun ++ chunk
-    → rest ≡ [] → HasBegun a (prepend_known rest b) line
-HasBegun-all a b begun line chunk rest h p l e = HasBegun-more a b begun line chunk chunk rest h p l (sym (append-nil chunk) ∙ ap (λ r. chunk ++ r) (sym e))
+pub TakesPartOfLine-all : (a b : Option (List ℕ)) (begun line chunk rest : List ℕ) → TakesPartOfLine a (prepend_known chunk b) begun → NoLineFeed chunk → line ≡ begun ++ chunk
+    → rest ≡ [] → TakesPartOfLine a (prepend_known rest b) line
+TakesPartOfLine-all a b begun line chunk rest h p l e = TakesPartOfLine-more a b begun line chunk chunk rest h p l (sym (append-nil chunk) ∙ ap (λ r. chunk ++ r) (sym e))
 
 -- the line feed
-pub IsWhole-more : (a b : Option (List ℕ)) (begun line chunk bytes rest : List ℕ) → HasBegun a (prepend_known chunk b) begun → NoLineFeed bytes → line ≡ begun ++ bytes
-    → chunk ≡ bytes ++ 10 ∷ rest → IsWhole a (prepend_known rest b) line
-IsWhole-more a b begun line chunk bytes rest h p l e =
-    let so_far = HasBegun-more a b begun line chunk bytes (10 ∷ rest) h p l e in
+pub TakesWholeLine-more : (a b : Option (List ℕ)) (begun line chunk bytes rest : List ℕ) → TakesPartOfLine a (prepend_known chunk b) begun → NoLineFeed bytes → line ≡ begun ++ bytes
+    → chunk ≡ bytes ++ 10 ∷ rest → TakesWholeLine a (prepend_known rest b) line
+TakesWholeLine-more a b begun line chunk bytes rest h p l e =
+    let so_far = TakesPartOfLine-more a b begun line chunk bytes (10 ∷ rest) h p l e in
     record { plain = so_far.plain; taken = Consumes-trans _ _ _ _ _ so_far.taken (Consumes-front b (10 ∷ rest) (10 ∷ []) rest refl) }
 
 -- the next chunk was read
-pub HasBegun-refilled : (a b c : Option (List ℕ)) (line chunk next : List ℕ) → HasBegun a (prepend_known chunk b) line → chunk ≡ [] → Consumes b c next → HasBegun a (prepend_known next c) line
-HasBegun-refilled None b c line chunk next h e q = record { plain = h.plain; taken = tt }
-HasBegun-refilled (Some x) None c line chunk next h e q = absurd h.taken
-HasBegun-refilled (Some x) (Some y) None line chunk next h e q = absurd q
-HasBegun-refilled (Some x) (Some y) (Some z) line chunk next h e q = record { plain = h.plain; taken = h.taken ∙ ap (λ l. line ++ (l ++ y)) e ∙ ap (λ l. line ++ l) q }
+pub TakesPartOfLine-refilled : (a b c : Option (List ℕ)) (line chunk next : List ℕ) → TakesPartOfLine a (prepend_known chunk b) line → chunk ≡ [] → Consumes b c next → TakesPartOfLine a (prepend_known next c) line
+TakesPartOfLine-refilled None b c line chunk next h e q = record { plain = h.plain; taken = tt }
+TakesPartOfLine-refilled (Some x) None c line chunk next h e q = absurd h.taken
+TakesPartOfLine-refilled (Some x) (Some y) None line chunk next h e q = absurd q
+TakesPartOfLine-refilled (Some x) (Some y) (Some z) line chunk next h e q = record { plain = h.plain; taken = h.taken ∙ ap (λ l. line ++ (l ++ y)) e ∙ ap (λ l. line ++ l) q }
 
 -- a read failed
-pub HasBegun-kept : (a b c : Option (List ℕ)) (line chunk next : List ℕ) → HasBegun a (prepend_known chunk b) line → chunk ≡ [] → Keeps b c → next ≡ [] → HasBegun a (prepend_known next c) line
-HasBegun-kept None b c line chunk next h e q n = record { plain = h.plain; taken = tt }
-HasBegun-kept (Some x) None c line chunk next h e q n = absurd h.taken
-HasBegun-kept (Some x) (Some y) None line chunk next h e q n = absurd q
-HasBegun-kept (Some x) (Some y) (Some z) line chunk next h e q n = record { plain = h.plain; taken = h.taken ∙ ap (λ l. line ++ (l ++ y)) (e ∙ sym n) ∙ ap (λ l. line ++ (next ++ l)) (sym q) }
+pub TakesPartOfLine-kept : (a b c : Option (List ℕ)) (line chunk next : List ℕ) → TakesPartOfLine a (prepend_known chunk b) line → chunk ≡ [] → Keeps b c → next ≡ [] → TakesPartOfLine a (prepend_known next c) line
+TakesPartOfLine-kept None b c line chunk next h e q n = record { plain = h.plain; taken = tt }
+TakesPartOfLine-kept (Some x) None c line chunk next h e q n = absurd h.taken
+TakesPartOfLine-kept (Some x) (Some y) None line chunk next h e q n = absurd q
+TakesPartOfLine-kept (Some x) (Some y) (Some z) line chunk next h e q n = record { plain = h.plain; taken = h.taken ∙ ap (λ l. line ++ (l ++ y)) (e ∙ sym n) ∙ ap (λ l. line ++ (next ++ l)) (sym q) }
 
 IsAtEnd-prepended : (b : Option (List ℕ)) (chunk : List ℕ) → chunk ≡ [] → IsAtEnd b → IsAtEnd (prepend_known chunk b)
 IsAtEnd-prepended None chunk e q = tt
 IsAtEnd-prepended (Some x) chunk e q = ap (λ l. l ++ x) e ∙ q
 
 -- the input has ended
-pub IsLast-ended : (a b : Option (List ℕ)) (line chunk : List ℕ) → HasBegun a (prepend_known chunk b) line → chunk ≡ [] → IsAtEnd b → IsLast a (prepend_known chunk b) line
-IsLast-ended a b line chunk h e q = record { plain = h.plain; taken = h.taken; at_end = IsAtEnd-prepended b chunk e q }
+pub TakesLastLine-ended : (a b : Option (List ℕ)) (line chunk : List ℕ) → TakesPartOfLine a (prepend_known chunk b) line → chunk ≡ [] → IsAtEnd b → TakesLastLine a (prepend_known chunk b) line
+TakesLastLine-ended a b line chunk h e q = record { plain = h.plain; taken = h.taken; at_end = IsAtEnd-prepended b chunk e q }

@@ -2,17 +2,17 @@
 use Rattle.std.specs.Prelude.{◌≡◌, ℕ, ◌<◌, List, [], ◌∷◌, Option, Some, None, ⊤, length, map, IfSome}
 use Rattle.stm_lines.specs.LineClass.{LineClass, line_class}
 use Rattle.stm_lines.specs.Lines.{drop_return, lines_from}
-use Rattle.stm_lines.specs.TakenLines.{IsLast, IsWhole}
+use Rattle.stm_lines.specs.TakenLines.{TakesLastLine, TakesWholeLine}
 use Rattle.stm_lines.specs.declared.command_lines.CommandLine.{CommandLine}
 use Rattle.stm_lines.specs.declared.command_lines.CommandLine.TheVariants.{Whole, Last, End}
 
 -- the line that was read is judged as the one that was taken, which a line feed or the end of the input ended
 abbrev pub IsCommandLine : CommandLine → Option (List ℕ) → Option (List ℕ) → List ℕ → Type 0
 IsCommandLine Whole old new line =
-    (bytes : List ℕ) × IsWhole old new bytes × (line_class line ≡ line_class (drop_return bytes))
+    (bytes : List ℕ) × TakesWholeLine old new bytes × (line_class line ≡ line_class (drop_return bytes))
 IsCommandLine Last old new line =
-    (bytes : List ℕ) × IsLast old new bytes × (0 < length bytes) × (line_class line ≡ line_class bytes)
-IsCommandLine End old new line = IsLast old new []
+    (bytes : List ℕ) × TakesLastLine old new bytes × (0 < length bytes) × (line_class line ≡ line_class bytes)
+IsCommandLine End old new line = TakesLastLine old new []
 
 -- how the lines of what follows are judged, if the first of them has begun
 unfoldable pub classes_from : List ℕ → List ℕ → List LineClass

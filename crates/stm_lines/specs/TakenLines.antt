@@ -12,32 +12,32 @@ abbrev pub HasLineFeed : List ℕ → Type 0
 HasLineFeed bytes = ¬ NoLineFeed bytes
 
 -- bytes of one line were taken, and no line feed
-pub record HasBegun (old new : Option (List ℕ)) (bytes : List ℕ) : Type 0 where
+pub record TakesPartOfLine (old new : Option (List ℕ)) (bytes : List ℕ) : Type 0 where
   pub plain : NoLineFeed bytes
   pub taken : Consumes old new bytes
 
 -- a line and its line feed were taken
-pub record IsWhole (old new : Option (List ℕ)) (bytes : List ℕ) : Type 0 where
+pub record TakesWholeLine (old new : Option (List ℕ)) (bytes : List ℕ) : Type 0 where
   pub plain : NoLineFeed bytes
   pub taken : Consumes old new (bytes ++ 10 ∷ [])
 
 -- all that was left was taken, and has no line feed
-pub record IsLast (old new : Option (List ℕ)) (bytes : List ℕ) : Type 0 where
+pub record TakesLastLine (old new : Option (List ℕ)) (bytes : List ℕ) : Type 0 where
   pub plain : NoLineFeed bytes
   pub taken : Consumes old new bytes
   pub at_end : IsAtEnd new
 
 -- the line that was read, of at most so many bytes; of a line that is too long one byte more was taken
 abbrev pub IsRead : Line → ℕ → Option (List ℕ) → Option (List ℕ) → List ℕ → Type 0
-IsRead line.Whole limit old new bytes = IsWhole old new bytes × (length bytes ≤ limit)
-IsRead line.Last limit old new bytes = IsLast old new bytes × (0 < length bytes) × (length bytes ≤ limit)
-IsRead line.TooLong limit old new bytes = HasBegun old new bytes × (length bytes ≡ limit + 1)
-IsRead line.End limit old new bytes = IsLast old new bytes × (bytes ≡ [])
+IsRead line.Whole limit old new bytes = TakesWholeLine old new bytes × (length bytes ≤ limit)
+IsRead line.Last limit old new bytes = TakesLastLine old new bytes × (0 < length bytes) × (length bytes ≤ limit)
+IsRead line.TooLong limit old new bytes = TakesPartOfLine old new bytes × (length bytes ≡ limit + 1)
+IsRead line.End limit old new bytes = TakesLastLine old new bytes × (bytes ≡ [])
 
 -- the rest of a line was taken, with its line feed or to the end of the input
 abbrev pub IsSkipped : Bool → Option (List ℕ) → Option (List ℕ) → Type 0
-IsSkipped true old new = (bytes : List ℕ) × IsWhole old new bytes
-IsSkipped false old new = (bytes : List ℕ) × IsLast old new bytes
+IsSkipped true old new = (bytes : List ℕ) × TakesWholeLine old new bytes
+IsSkipped false old new = (bytes : List ℕ) × TakesLastLine old new bytes
 
 -- ---- inside the reader
 -- at most so many bytes are still to come, with these calls of the reader left and these bytes in the chunk

@@ -3,7 +3,7 @@
 ghost use Rattle.std.specs.Prelude.{◌≡◌, ◌≢◌, ◌+◌, ◌<◌, ◌≤◌, [], ℕ, length, List, IfErr, IfOk, IsErrOf, MatchBool, Ok, OnErr, Option};
 ghost use Rattle.std.specs.Io.KnownBytes.{prepend_known};
 ghost use Rattle.stm_lines.specs.LineReading.{IsCommandLine, IsNextLine, IsNoLine};
-ghost use Rattle.stm_lines.specs.TakenLines.{bytes_to_come, HasBegun};
+ghost use Rattle.stm_lines.specs.TakenLines.{bytes_to_come, TakesPartOfLine};
 
 use crate::calls::Calls;
 use crate::line_reader::{Line, LineReader};
@@ -38,14 +38,14 @@ fn skip_rest<R: Read, L: Ledger>(
     ensures shorter { result ≡ Ok CommandLine.Whole →
         bytes_to_come calls.new.left lines.new.chunk
         < bytes_to_come calls.old.left lines.old.chunk }
-    ensures line { IfOk result (λ line. (all : Option (List ℕ)) → HasBegun all
+    ensures line { IfOk result (λ line. (all : Option (List ℕ)) → TakesPartOfLine all
         (prepend_known lines.old.chunk (R.remaining calls.old.reader.now))
         lines.old.line.items → IsCommandLine line all
         (prepend_known lines.new.chunk (R.remaining calls.new.reader.now))
         lines.new.line.items) }
-    ensures begun { OnErr result ((all : Option (List ℕ)) → HasBegun all
+    ensures begun { OnErr result ((all : Option (List ℕ)) → TakesPartOfLine all
         (prepend_known lines.old.chunk (R.remaining calls.old.reader.now))
-        lines.old.line.items → (bytes : List ℕ) × HasBegun all
+        lines.old.line.items → (bytes : List ℕ) × TakesPartOfLine all
         (prepend_known lines.new.chunk (R.remaining calls.new.reader.now)) bytes) }
     ensures none { OnErr result (lines.new.chunk ≡ []) }
     ensures fault { IfErr result (λ e. e ≡ RunFault.Read) }
@@ -75,7 +75,7 @@ pub fn next_command_line<R: Read, L: Ledger>(
         (prepend_known lines.new.chunk (R.remaining calls.new.reader.now))
         lines.new.line.items) }
     // After a fault only bytes of one line were taken, and no line feed; after that of a read, all that was read.
-    ensures begun { OnErr result ((bytes : List ℕ) × HasBegun
+    ensures begun { OnErr result ((bytes : List ℕ) × TakesPartOfLine
         (prepend_known lines.old.chunk (R.remaining calls.old.reader.now))
         (prepend_known lines.new.chunk (R.remaining calls.new.reader.now)) bytes) }
     ensures read_fault { IsErrOf result RunFault.Read → lines.new.chunk ≡ [] }

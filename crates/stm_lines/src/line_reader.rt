@@ -4,7 +4,7 @@ ghost use Rattle.std.specs.Prelude.{◌≡◌, ◌≢◌, ◌++◌, ◌+◌, ◌
 ghost use Rattle.std.specs.Io.KnownBytes.{Consumes, IsAtEnd, Keeps, prepend_known};
 ghost use Rattle.memchr.specs.Find.{IsFirstByte, is_byte};
 ghost use Rattle.stm_lines.specs.Lines.{drop_return as returnless, NoLineFeed};
-ghost use Rattle.stm_lines.specs.TakenLines.{bytes_to_come, HasBegun, HasLineFeed, IsPart, IsRead, IsSkipped, IsSkippedPart};
+ghost use Rattle.stm_lines.specs.TakenLines.{bytes_to_come, TakesPartOfLine, HasLineFeed, IsPart, IsRead, IsSkipped, IsSkippedPart};
 
 use crate::calls::Calls;
 use crate::chunk::Chunk;
@@ -225,7 +225,7 @@ impl LineReader {
             (prepend_known self.new.chunk (R.remaining calls.new.reader.now))
             self.new.line.items) }
         // After a fault the line has the bytes that were taken of it.
-        ensures begun { OnErr result (HasBegun
+        ensures begun { OnErr result (TakesPartOfLine
             (prepend_known self.old.chunk (R.remaining calls.old.reader.now))
             (prepend_known self.new.chunk (R.remaining calls.new.reader.now))
             self.new.line.items) }
@@ -268,7 +268,7 @@ impl LineReader {
         ensures skipped { IfOk result (λ feed. IsSkipped feed
             (prepend_known self.old.chunk (R.remaining calls.old.reader.now))
             (prepend_known self.new.chunk (R.remaining calls.new.reader.now))) }
-        ensures begun { OnErr result ((bytes : List ℕ) × HasBegun
+        ensures begun { OnErr result ((bytes : List ℕ) × TakesPartOfLine
             (prepend_known self.old.chunk (R.remaining calls.old.reader.now))
             (prepend_known self.new.chunk (R.remaining calls.new.reader.now)) bytes) }
         ensures none { OnErr result (self.new.chunk ≡ []) }

@@ -4,7 +4,7 @@ use Rattle.std.specs.Io.KnownBytes.{Appends, Consumes, Keeps, prepend_known}
 use Rattle.std.proofs.KnownBytes.{Appends-nil, Appends-trans, Appends-kept, Consumes-nil, Consumes-trans, prepend_known-nil}
 use Rattle.stm_lines.specs.LineClass.{line_class}
 use Rattle.stm_lines.specs.Lines.{drop_return}
-use Rattle.stm_lines.specs.TakenLines.{HasBegun, IsLast, IsWhole}
+use Rattle.stm_lines.specs.TakenLines.{TakesPartOfLine, TakesLastLine, TakesWholeLine}
 use Rattle.stm_run.proofs.InputInParts.{Continues-nil, Continues-line, Continues-trans, rest_text-last, rest_text-nil, whole_rest_text-begun, IsPrefixOf-line}
 use Rattle.stm_terms.specs.Texts.{IsPrefixOf}
 use Rattle.stm_run.specs.Streaming.{HasAnswered, HasAnsweredAll, HasAnsweredPart, HasAnsweredWhole, rest_text, whole_rest_text}
@@ -13,7 +13,7 @@ use Rattle.stm_run.specs.Console.{answer_to, state_after, initial_console, conso
 
 -- ---- one line
 -- a line that a line feed ends
-pub line_answered : (s t : Console) (a b x y : Option (List ℕ)) (line bytes : List ℕ) → IsWhole a b bytes → line_class line ≡ line_class (drop_return bytes) → t ≡ state_after s line
+pub line_answered : (s t : Console) (a b x y : Option (List ℕ)) (line bytes : List ℕ) → TakesWholeLine a b bytes → line_class line ≡ line_class (drop_return bytes) → t ≡ state_after s line
     → Appends x y (answer_to s line) → HasAnswered s t a b x y
 line_answered s t a b x y line bytes w e n p = record {
   taken = bytes ++ 10 ∷ [];
@@ -23,7 +23,7 @@ line_answered s t a b x y line bytes w e n p = record {
   appended = p;
 }
 
-line_part : (s : Console) (a b x y : Option (List ℕ)) (line bytes front : List ℕ) → IsWhole a b bytes → line_class line ≡ line_class (drop_return bytes) → IsPrefixOf front (answer_to s line)
+line_part : (s : Console) (a b x y : Option (List ℕ)) (line bytes front : List ℕ) → TakesWholeLine a b bytes → line_class line ≡ line_class (drop_return bytes) → IsPrefixOf front (answer_to s line)
     → Appends x y front → HasAnsweredPart s a x y
 line_part s None b x y line bytes front w e k p = tt
 line_part s (Some i) None x y line bytes front w e k p = absurd w.taken
@@ -31,7 +31,7 @@ line_part s (Some i) (Some rest) x y line bytes front w e k p =
     (front, subst (λ (input : List ℕ). IsPrefixOf front (rest_text s input)) (sym w.taken) (IsPrefixOf-line s line bytes front rest w.plain e k), p)
 
 -- the writer failed in its answer
-pub line_part_answered : (s : Console) (a b x y : Option (List ℕ)) (line bytes : List ℕ) → IsWhole a b bytes → line_class line ≡ line_class (drop_return bytes)
+pub line_part_answered : (s : Console) (a b x y : Option (List ℕ)) (line bytes : List ℕ) → TakesWholeLine a b bytes → line_class line ≡ line_class (drop_return bytes)
     → (front : List ℕ) × IsPrefixOf front (answer_to s line) × Appends x y front → HasAnsweredPart s a x y
 line_part_answered s a b x y line bytes w e p = line_part s a b x y line bytes p.0 w e p.1 p.2
 
@@ -39,14 +39,14 @@ whole_input : (i rest bytes : List ℕ) → i ≡ bytes ++ rest → rest ≡ [] 
 whole_input i rest bytes h e = h ∙ ap (λ r. bytes ++ r) e ∙ append-nil bytes
 
 -- a line that the end of the input ends
-pub last_answered : (s : Console) (a b x y : Option (List ℕ)) (line bytes : List ℕ) → IsLast a b bytes → 0 < length bytes → line_class line ≡ line_class bytes
+pub last_answered : (s : Console) (a b x y : Option (List ℕ)) (line bytes : List ℕ) → TakesLastLine a b bytes → 0 < length bytes → line_class line ≡ line_class bytes
     → Appends x y (answer_to s line) → HasAnsweredAll s a x y
 last_answered s None b x y line bytes w k e p = tt
 last_answered s (Some i) None x y line bytes w k e p = absurd w.taken
 last_answered s (Some i) (Some rest) x y line bytes w k e p =
     subst (Appends x y) (sym (ap (rest_text s) (whole_input i rest bytes w.taken w.at_end) ∙ rest_text-last s line bytes w.plain k e)) p
 
-pub last_part_answered : (s : Console) (a b x y : Option (List ℕ)) (line bytes : List ℕ) → IsLast a b bytes → 0 < length bytes → line_class line ≡ line_class bytes
+pub last_part_answered : (s : Console) (a b x y : Option (List ℕ)) (line bytes : List ℕ) → TakesLastLine a b bytes → 0 < length bytes → line_class line ≡ line_class bytes
     → (front : List ℕ) × IsPrefixOf front (answer_to s line) × Appends x y front → HasAnsweredPart s a x y
 last_part_answered s None b x y line bytes w k e p = tt
 last_part_answered s (Some i) None x y line bytes w k e p = absurd w.taken
@@ -54,7 +54,7 @@ last_part_answered s (Some i) (Some rest) x y line bytes w k e p =
     (p.0, subst (IsPrefixOf p.0) (sym (ap (rest_text s) (whole_input i rest bytes w.taken w.at_end) ∙ rest_text-last s line bytes w.plain k e)) p.1, p.2)
 
 -- no line is left
-pub none_answered : (s : Console) (a b x : Option (List ℕ)) → IsLast a b [] → HasAnsweredAll s a x x
+pub none_answered : (s : Console) (a b x : Option (List ℕ)) → TakesLastLine a b [] → HasAnsweredAll s a x x
 none_answered s None b x w = tt
 none_answered s (Some i) None x w = absurd w.taken
 none_answered s (Some i) (Some rest) x w = subst (Appends x x) (sym (ap (rest_text s) (w.taken ∙ w.at_end) ∙ rest_text-nil s)) (Appends-nil x)
@@ -65,7 +65,7 @@ none_written s None x = tt
 none_written s (Some i) x = ([], (rest_text s i, refl), Appends-nil x)
 
 -- the reader failed in a line
-pub read_failed : (s : Console) (a r x : Option (List ℕ)) (chunk : List ℕ) → (bytes : List ℕ) × HasBegun a (prepend_known chunk r) bytes → chunk ≡ [] → HasAnsweredWhole s a r x x
+pub read_failed : (s : Console) (a r x : Option (List ℕ)) (chunk : List ℕ) → (bytes : List ℕ) × TakesPartOfLine a (prepend_known chunk r) bytes → chunk ≡ [] → HasAnsweredWhole s a r x x
 read_failed s None r x chunk h e = tt
 read_failed s (Some i) None x chunk h e = absurd h.1.taken
 read_failed s (Some i) (Some rest) x chunk h e =
