@@ -1,5 +1,5 @@
 -- A line that is too long has one answer, whatever its bytes.
-use Rattle.std.proofs.Common.{◌≡◌, ℕ, ◌+◌, ◌<◌, true, false, List, [], ◌∷◌, ◌++◌, length, refl, sym, ap, ◌∙◌, arith, cond}
+use Rattle.std.proofs.Common.{◌≡◌, ℕ, ◌<◌, true, false, List, [], ◌∷◌, ◌++◌, length, refl, sym, ap, ◌∙◌, arith, cond}
 use Rattle.std.specs.Prelude.{nat_eq}
 use Rattle.stm_lines.proofs.LongLines.{Long, judged-too_long, drop_return-long, more-long}
 use Rattle.stm_lines.specs.LineClass.{longest_line}
