@@ -56,7 +56,7 @@ pub record FitLines (table : List Declared) (events : List Event) : Type 0 where
 
 -- The file stands for the history, with all of these events or with none of them. Opening it drops no more bytes than a batch
 -- has.
-pub record HasAllOrNone (begun : Bool) (table : List Declared) (history events : List Event) (file : List ℕ) : Type 0 where
+pub record HasAllEventsOrNone (begun : Bool) (table : List Declared) (history events : List Event) (file : List ℕ) : Type 0 where
   pub lines : (recovered file ≡ file_text begun table history)
       ⊎ (recovered file ≡ history_text latest_format table (history ++ events))
   pub dropped : dropped_count file ≤ most_batch
@@ -75,7 +75,7 @@ pub record KeepsLines (begun : Bool) (table : List Declared) (history : List Eve
 
 -- what a crash may leave of a batch that is synced in this way, by whether the device fills with zeros
 abbrev pub LeavesBatch : SyncMode → Bool → Bool → List Declared → List Event → List Event → List ℕ → Type 0
-LeavesBatch Full zeros begun table history events file = HasAllOrNone begun table history events file
+LeavesBatch Full zeros begun table history events file = HasAllEventsOrNone begun table history events file
 LeavesBatch Append true begun table history events file = HasFirst table history events file
 LeavesBatch Append false begun table history events file = KeepsLines begun table history file
 LeavesBatch Never zeros begun table history events file = ⊤
@@ -134,7 +134,7 @@ pub record MayGoOn (table : List Declared) (history events : List Event) : Type 
 abbrev pub AllOrNoneIsResumed : Type 0
 AllOrNoneIsResumed =
     (begun : Bool) (table : List Declared) (history events : List Event) (file : List ℕ)
-    → HasAllOrNone begun table history events file → MayGoOn table history events
+    → HasAllEventsOrNone begun table history events file → MayGoOn table history events
     → (IsWholeHistory latest_format (recovered file) table history
     ⊎ IsWholeHistory latest_format (recovered file) table (history ++ events))
     ⊎ ((begun ≡ false) × (recovered file ≡ []))
