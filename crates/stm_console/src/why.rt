@@ -10,7 +10,7 @@ ghost use Rattle.stm_history.specs.Judgement.{TellsFault};
 use crate::checking::{Finding, write_finding};
 use std::alloc::Global;
 use std::io::{ErrorKind, Read, Write};
-use stm_commands::refusing::{refuse_cancel, refuse_delivery, refuse_finish, refuse_submit};
+use stm_commands::refusals::{refuse_cancel, refuse_delivery, refuse_finish, refuse_submit};
 use stm_history::{CallRefusal, Explanation, HistoryFault, Reason, why_history};
 use stm_lines::RunFault;
 use stm_lines::output::write_flushed;
