@@ -189,6 +189,8 @@ pub fn check_why<R: Read, W: Write>(
 {
     let bytes = read_all(alloc, reader)?;
     let (finding, text) = answer_why(alloc, seed, &bytes)?;
-    write_flushed(writer, text.as_bytes())?;
-    Ok(finding)
+    match write_flushed(writer, text.as_bytes()) {
+        Ok(()) => Ok(finding),
+        Err(fault) => Err(fault),
+    }
 }
