@@ -9,11 +9,13 @@ pub mod DeskMoves
 pub mod DueQueue
 pub mod EachAnswer
 pub mod EndedLines
+pub mod EventsOfConsole
 pub mod InputInParts
 pub mod LegalSettling
 pub mod ReachedConsole
 pub mod Running
 pub mod ShownVerdicts
+pub mod SmallNumbers
 pub mod StandingDesk
 pub mod TextsJudged
 pub mod TypedTable

@@ -1,0 +1,52 @@
+-- What each event of a console's desk is of: client 0, and if it is a submission, a block that is what its text checks to.
+use Rattle.std.specs.Prelude.{◌≡◌, ◌≤◌, ℕ, List, [], ◌∷◌, Ok, ⊤}
+use Rattle.stm_store.specs.Tables.{Declared}
+use Rattle.stm_events.specs.declared.event.Event.{Event}
+use Rattle.stm_events.specs.declared.event.What.{What}
+use Rattle.stm_events.specs.declared.event.What.TheVariants.{Submitted, Installed, Finished, Cancelled}
+use Rattle.stm_events.specs.SlowDesk as slow
+use Rattle.stm_history.specs.Fits.{Is32Bit, FitNumbers}
+use Rattle.stm_history.specs.WholeBlocks.{checked_block}
+use Rattle.stm_desk.specs.Seen.{Seen}
+use Rattle.stm_run.specs.Console.{initial_console}
+use Rattle.stm_run.specs.ConsoleState.{present_desk}
+use Rattle.stm_run.specs.Laws.{state_after_lines}
+
+-- a block that is submitted is what its text checks to over the table
+abbrev pub IsOfText : List Declared → What → Type 0
+IsOfText table (Submitted ticket block) = checked_block table block.text ≡ Ok block
+IsOfText table (Installed ticket v) = ⊤
+IsOfText table (Finished ticket v first_new stale) = ⊤
+IsOfText table (Cancelled ticket) = ⊤
+
+-- each event is of client 0, and of a block of its text
+abbrev pub AreOfConsole : List Declared → List Event → Type 0
+AreOfConsole table [] = ⊤
+AreOfConsole table (e ∷ es) = (e.client ≡ 0) × IsOfText table e.what × AreOfConsole table es
+
+-- the events of a desk are
+abbrev pub IsOfConsole : Seen → Type 0
+IsOfConsole d = AreOfConsole d.table d.history
+
+-- whatever lines came before, and however many events the history may have
+abbrev pub EventsAreOfConsole : Type 0
+EventsAreOfConsole =
+    (max_events : ℕ) (before : List (List ℕ)) → IsOfConsole (present_desk (state_after_lines (initial_console max_events) before)).desk
+
+-- the ticket, the first new variable and the stale tickets have at most 32 bits
+abbrev pub AreNumbersSmall : What → Type 0
+AreNumbersSmall (Submitted ticket block) = Is32Bit ticket
+AreNumbersSmall (Installed ticket v) = Is32Bit ticket
+AreNumbersSmall (Finished ticket v first_new stale) = Is32Bit ticket × Is32Bit first_new × FitNumbers stale
+AreNumbersSmall (Cancelled ticket) = Is32Bit ticket
+
+-- so of each event
+abbrev pub HaveSmallNumbers : List Event → Type 0
+HaveSmallNumbers [] = ⊤
+HaveSmallNumbers (e ∷ es) = AreNumbersSmall e.what × HaveSmallNumbers es
+
+-- whatever lines came before
+abbrev pub NumbersAreSmall : Type 0
+NumbersAreSmall =
+    (max_events : ℕ) → max_events ≤ slow.max_events → (before : List (List ℕ))
+    → HaveSmallNumbers (present_desk (state_after_lines (initial_console max_events) before)).desk.history
