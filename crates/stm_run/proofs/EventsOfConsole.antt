@@ -1,5 +1,5 @@
 -- Each event of a console's desk is of client 0, and each block that was submitted is what its text checks to.
-use Rattle.std.proofs.Common.{◌≡◌, ℕ, zero, suc, ◌+◌, ◌-◌, Bool, true, false, cond, List, [], ◌∷◌, ◌++◌, length, Option, Some, None, IfSome, Result, Ok, Err, refl, ap, sym, subst}
+use Rattle.std.proofs.Common.{◌≡◌, ℕ, zero, suc, ◌+◌, ◌-◌, List, [], ◌∷◌, ◌++◌, length, Option, Some, None, IfSome, Result, Ok, Err, refl, ap, sym, subst}
 use Rattle.std.specs.Prelude.{nat_lt}
 use Rattle.stm_terms.specs.Ast.{Act}
 use Rattle.stm_terms.specs.ParsedAst as raw
@@ -37,7 +37,7 @@ use Rattle.stm_lines.specs.LineClass.{LineClass, TooLong, Silent, NotAscii, Word
 use Rattle.stm_commands.specs.Arguments.{argument_refused}
 use Rattle.stm_commands.specs.Blocks.{submit_block_step, submit_text_step, submit_step}
 use Rattle.stm_commands.specs.Endings.{finish_verdict_step, finish_waiter_step, finish_ticket_step, finish_step, cancel_ticket_step, cancel_step, settle_desk_step, settle_step}
-use Rattle.stm_commands.specs.Evaluation.{Delivered, delivered_by, delivered_next, delivered_all, all_queued, evaluated, eval_desk_step, eval_step}
+use Rattle.stm_commands.specs.Evaluation.{Delivered, delivered_by, delivered_next, delivered_all, all_queued, eval_desk_step, eval_step}
 use Rattle.stm_commands.specs.Jobs.{max_jobs, taken, with_jobs, jobs_of, jobs_line, take_jobs_step, take_step, delivery_refusal, installed, delivery_step, job_at, deliver_job_step, deliver_step, queued_line, handed_back, handback_ticket_step, handback_step}
 use Rattle.stm_commands.specs.OpenDesk.{HandedOut, OpenDesk, on_desk}
 use Rattle.stm_commands.specs.Refusals.{refused}

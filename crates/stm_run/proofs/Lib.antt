@@ -10,6 +10,7 @@ pub mod DueQueue
 pub mod EachAnswer
 pub mod EndedLines
 pub mod EventsOfConsole
+pub mod FittingEvents
 pub mod InputInParts
 pub mod LegalSettling
 pub mod ReachedConsole

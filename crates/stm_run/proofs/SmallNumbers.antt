@@ -1,5 +1,5 @@
 -- The numbers of the events of a legal history are small.
-use Rattle.std.proofs.Common.{◌≡◌, ℕ, ◌+◌, ◌≤◌, ◌<◌, ◌^◌, Bool, true, false, cond, List, [], ◌∷◌, ◌++◌, length, map, Option, Some, None, refl, sym, ap, subst, ◌∙◌, arith, append_assoc, append-nil, length-append}
+use Rattle.std.proofs.Common.{◌≡◌, ℕ, ◌≤◌, ◌<◌, ◌^◌, Bool, true, false, cond, List, [], ◌∷◌, ◌++◌, length, map, Option, Some, None, refl, sym, subst, arith, append_assoc, length-append}
 use Rattle.std.specs.Prelude.{IsSomeAnd, filter, nat_eq}
 use Rattle.std.proofs.lemmas.Bool.Decides.{nat_tests}
 use Rattle.stm_terms.specs.declared.verdicts.Verdict.{Verdict}
@@ -12,11 +12,10 @@ use Rattle.stm_events.specs.declared.event.What.{What}
 use Rattle.stm_events.specs.declared.event.What.TheVariants.{Submitted, Installed, Finished, Cancelled}
 use Rattle.stm_events.specs.declared.staleness.StalenessRule.TheVariants.{Changed}
 use Rattle.stm_events.specs.Laws.{AreRising, TicketsAreRight, TicketsRise, BlocksStay}
-use Rattle.stm_events.specs.SlowDesk.{Waiter, Slow, find_waiter, without_waiter, stale_after, waking, becomes_stale, MayInstall, MayFinish, Allows, IsLegal, LegalFrom, initial_state, state, max_events, after}
+use Rattle.stm_events.specs.SlowDesk.{Waiter, Slow, find_waiter, without_waiter, stale_after, becomes_stale, MayInstall, MayFinish, Allows, IsLegal, LegalFrom, initial_state, state, max_events, after}
 use Rattle.stm_events.proofs.Folds.{legal_split}
 use Rattle.stm_history.specs.Fits.{Is32Bit, FitNumbers}
 use Rattle.stm_history.specs.WholeBlocks.{CheckedAreWellTyped}
-use Rattle.stm_desk.specs.Seen.{Seen}
 use Rattle.stm_run.specs.Console.{initial_console}
 use Rattle.stm_run.specs.ConsoleState.{present_desk}
 use Rattle.stm_run.specs.Laws.{state_after_lines}

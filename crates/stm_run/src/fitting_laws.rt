@@ -1,6 +1,6 @@
 //! What holds of the events of a console's desk, so that they can be in lines of a history: each function's contract is a law.
 
-ghost use Rattle.stm_run.specs.Fitting.{EventsAreOfConsole, NumbersAreSmall};
+ghost use Rattle.stm_run.specs.Fitting.{EventsAreOfConsole, EventsFitLines, NumbersAreSmall};
 
 /// Each event of the desk is of client 0, and each block that was submitted is what its text checks to over the declared
 /// variables, whatever lines came before. So when a history is read again, its blocks are the same.
@@ -19,4 +19,13 @@ pub fn numbers_are_small()
     stm_events::laws::tickets_rise();
     stm_events::laws::blocks_stay();
     stm_history::files::laws::checked_are_well_typed();
+}
+
+/// Each event of the desk can be in a line of a history, whatever lines came before, if the values of its verdict are in the range
+/// of the program's types, which no law of the definitions says.
+pub fn events_fit_lines()
+    ensures { EventsFitLines }
+{
+    events_are_of_console();
+    numbers_are_small();
 }
