@@ -32,7 +32,8 @@ IsOfConsole d = AreOfConsole d.table d.history
 -- whatever lines came before, and however many events the history may have
 abbrev pub EventsAreOfConsole : Type 0
 EventsAreOfConsole =
-    (max_events : ℕ) (before : List (List ℕ)) → IsOfConsole (present_desk (state_after_lines (initial_console max_events) before)).desk
+    (max_events : ℕ) (before : List (List ℕ))
+    → IsOfConsole (present_desk (state_after_lines (initial_console max_events) before)).desk
 
 -- ---- their numbers
 -- the ticket, the first new variable and the stale tickets have at most 32 bits

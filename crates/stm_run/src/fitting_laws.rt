@@ -21,8 +21,8 @@ pub fn numbers_are_small()
     stm_history::files::laws::checked_are_well_typed();
 }
 
-/// Each event of the desk can be in a line of a history, whatever lines came before, if the values of its verdict are in the range
-/// of the program's types, which no law of the definitions says.
+/// Each event of the desk can be in a line of a history, whatever lines came before, if the values of its verdict are in the
+/// range of the program's types, which no law says.
 pub fn events_fit_lines()
     ensures { EventsFitLines }
 {
