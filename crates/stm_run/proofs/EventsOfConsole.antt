@@ -1,5 +1,6 @@
--- Each event of a console's desk is of client 0, and each block that was submitted is what its text checks to.
-use Rattle.std.proofs.Common.{◌≡◌, ℕ, zero, suc, ◌+◌, ◌-◌, List, [], ◌∷◌, ◌++◌, length, Option, Some, None, IfSome, Result, Ok, Err, refl, ap, sym, subst}
+-- Each event of a console's desk is of client 0, each block that was submitted is what its text checks to, and the declared
+-- variables can be in lines.
+use Rattle.std.proofs.Common.{◌≡◌, ℕ, zero, suc, ◌+◌, ◌-◌, List, [], ◌∷◌, ◌++◌, length, Option, Some, None, IfSome, Result, Ok, Err, refl, ap, sym, subst, arith, length-append, append_assoc, append-nil}
 use Rattle.std.specs.Prelude.{nat_lt}
 use Rattle.stm_terms.specs.Ast.{Act}
 use Rattle.stm_terms.specs.ParsedAst as raw
@@ -48,8 +49,11 @@ use Rattle.stm_run.specs.declared.console.Console.TheVariants.{Declaring, Open}
 use Rattle.stm_run.specs.Console.{command_named, state_after, initial_console, desk_step, command_step, word_step, class_step, step}
 use Rattle.stm_run.specs.ConsoleState.{present_desk}
 use Rattle.stm_run.specs.Declaring.{declare_step, tvar_step}
-use Rattle.stm_run.specs.Fitting.{IsOfText, AreOfConsole, IsOfConsole, EventsAreOfConsole}
+use Rattle.stm_run.specs.Fitting.{IsOfText, AreOfConsole, IsOfConsole, EventsAreOfConsole, VariablesFit, VariablesFitLines}
 use Rattle.stm_run.specs.Laws.{state_after_lines}
+use Rattle.stm_run.proofs.DeclaredVariables.{MayBeNext, may_be_next}
+use Rattle.stm_parse.specs.ParseFunction.{DeclarationAnswersAreRight}
+use Rattle.stm_history.specs.Judgement.{MayDeclare, AreVariablesFrom}
 use Rattle.stm_run.proofs.ArgumentCases.{either_has, number_has, nothing_has}
 use Rattle.std.specs.Prelude.{codes}
 
@@ -91,65 +95,72 @@ event_more : (table : List Declared) (es : List Event) (what : What) → AreOfCo
 event_more table [] what h k = (refl, k, tt)
 event_more table (e ∷ es) what h k = (h.0, h.1, event_more table es what h.2 k)
 
-submitted : (d : Seen) (block : Block) (o : Option SubmitError) → checked_block d.table block.text ≡ Ok block → IsOfConsole d → IsOfConsole (submit_block_step d block o).0
-submitted d block None f k = event_more d.table d.history (Submitted (now d).next block) k f
+-- the events are of the console, and the variables can be in lines
+abbrev Holds : Seen → Type 0
+Holds d = IsOfConsole d × VariablesFit d.table
+
+more : (d : Seen) (what : What) → Holds d → IsOfText d.table what → Holds (with_event d (event 0 what))
+more d what k f = (event_more d.table d.history what k.0 f, k.1)
+
+submitted : (d : Seen) (block : Block) (o : Option SubmitError) → checked_block d.table block.text ≡ Ok block → Holds d → Holds (submit_block_step d block o).0
+submitted d block None f k = more d (Submitted (now d).next block) k f
 submitted d block (Some e) f k = k
 
-submits : (d : Seen) (r : Result Block Refusal) → ((b : Block) → r ≡ Ok b → checked_block d.table b.text ≡ Ok b) → IsOfConsole d → IsOfConsole (submit_text_step d r).0
+submits : (d : Seen) (r : Result Block Refusal) → ((b : Block) → r ≡ Ok b → checked_block d.table b.text ≡ Ok b) → Holds d → Holds (submit_text_step d r).0
 submits d (Ok b) h k = submitted d b (submit_refusal d b) (h b refl) k
 submits d (Err e) h k = k
 
-installs : (d : Seen) (t : ℕ) (o : Option Verdict) → IsOfConsole d → IsOfConsole (installed d t o)
+installs : (d : Seen) (t : ℕ) (o : Option Verdict) → Holds d → Holds (installed d t o)
 installs d t None k = k
-installs d t (Some v) k = event_more d.table d.history (Installed t v) k tt
+installs d t (Some v) k = more d (Installed t v) k tt
 
-delivered : (d : Seen) (j : HandedOut) (o : Option DeliverError) → IsOfConsole d → IsOfConsole (delivery_step d j o).0
+delivered : (d : Seen) (j : HandedOut) (o : Option DeliverError) → Holds d → Holds (delivery_step d j o).0
 delivered d j None k = installs d j.ticket (verdict (cell_value j.store) j.block.tree) k
 delivered d j (Some e) k = k
 
-delivers : (d : Seen) (o : Option HandedOut) → IsOfConsole d → IsOfConsole (deliver_job_step d o).0
+delivers : (d : Seen) (o : Option HandedOut) → Holds d → Holds (deliver_job_step d o).0
 delivers d None k = k
 delivers d (Some j) k = delivered d j (delivery_refusal d j) k
 
-hands_back : (d : Seen) (t : ℕ) → IsOfConsole d → IsOfConsole (handback_ticket_step d t).0
+hands_back : (d : Seen) (t : ℕ) → Holds d → Holds (handback_ticket_step d t).0
 hands_back d t k =
-    either_has (λ (p : Seen × List ℕ). IsOfConsole p.0) (is_out t d.pending) (handed_back d t, queued_line t) (d, refused (codes "NotOut")) k k
+    either_has (λ (p : Seen × List ℕ). Holds p.0) (is_out t d.pending) (handed_back d t, queued_line t) (d, refused (codes "NotOut")) k k
 
-takes : (d : OpenDesk) (n : ℕ) → IsOfConsole d.desk → IsOfConsole (take_jobs_step d n).0.desk
+takes : (d : OpenDesk) (n : ℕ) → Holds d.desk → Holds (take_jobs_step d n).0.desk
 takes d n k =
-    either_has (λ (p : OpenDesk × List ℕ). IsOfConsole p.0.desk) (nat_lt max_jobs (n + length d.jobs)) (d, refused (codes "JobsFull"))
+    either_has (λ (p : OpenDesk × List ℕ). Holds p.0.desk) (nat_lt max_jobs (n + length d.jobs)) (d, refused (codes "JobsFull"))
     (with_jobs d (taken d.desk n), jobs_line (length d.jobs + 1) (taken d.desk n)) k k
 
-evaluates_one : (d : Delivered) (j : HandedOut) (o : Option DeliverError) → IsOfConsole d.desk → IsOfConsole (delivered_by d j o).desk
+evaluates_one : (d : Delivered) (j : HandedOut) (o : Option DeliverError) → Holds d.desk → Holds (delivered_by d j o).desk
 evaluates_one d j None k = installs d.desk j.ticket (verdict (cell_value j.store) j.block.tree) k
 evaluates_one d j (Some e) k = k
 
-evaluates_next : (d : Delivered) (j : HandedOut) (o : Option DeliverError) → IsOfConsole d.desk → IsOfConsole (delivered_next d j o).desk
+evaluates_next : (d : Delivered) (j : HandedOut) (o : Option DeliverError) → Holds d.desk → Holds (delivered_next d j o).desk
 evaluates_next d j None k = evaluates_one d j (delivery_refusal d.desk j) k
 evaluates_next d j (Some e) k = k
 
-evaluates_all : (d : Delivered) (js : List HandedOut) → IsOfConsole d.desk → IsOfConsole (delivered_all d js).desk
+evaluates_all : (d : Delivered) (js : List HandedOut) → Holds d.desk → Holds (delivered_all d js).desk
 evaluates_all d [] k = k
 evaluates_all d (j ∷ js) k = evaluates_all (delivered_next d j d.stop) js (evaluates_next d j d.stop k)
 
-evaluates : (d : Seen) → IsOfConsole d → IsOfConsole (eval_desk_step d).0
+evaluates : (d : Seen) → Holds d → Holds (eval_desk_step d).0
 evaluates d k =
     evaluates_all (record { desk = record d { pending = sent (length (all_queued d)) d.pending }; count = 0; stop = None }) (jobs_of (now d) (all_queued d)) k
 
-finished_by : (d : Seen) (t : ℕ) (o : Option Verdict) → IsOfConsole d → IsOfConsole (finish_verdict_step d t o).0
+finished_by : (d : Seen) (t : ℕ) (o : Option Verdict) → Holds d → Holds (finish_verdict_step d t o).0
 finished_by d t None k = k
-finished_by d t (Some v) k = event_more d.table d.history _ k tt
+finished_by d t (Some v) k = more d _ k tt
 
-finished_of : (d : Seen) (t : ℕ) (o : Option Waiter) → IsOfConsole d → IsOfConsole (finish_waiter_step d t o).0
+finished_of : (d : Seen) (t : ℕ) (o : Option Waiter) → Holds d → Holds (finish_waiter_step d t o).0
 finished_of d t None k = k
 finished_of d t (Some w) k = finished_by d t (verdict_on (now d).store w.block) k
 
-finishes : (d : Seen) (t : ℕ) (o : Option FinishError) → IsOfConsole d → IsOfConsole (finish_ticket_step d t o).0
+finishes : (d : Seen) (t : ℕ) (o : Option FinishError) → Holds d → Holds (finish_ticket_step d t o).0
 finishes d t None k = finished_of d t (find_waiter t (now d).waiters) k
 finishes d t (Some e) k = k
 
-cancels : (d : Seen) (t : ℕ) (o : Option CancelError) → IsOfConsole d → IsOfConsole (cancel_ticket_step d t o).0
-cancels d t None k = event_more d.table d.history (Cancelled t) k tt
+cancels : (d : Seen) (t : ℕ) (o : Option CancelError) → Holds d → Holds (cancel_ticket_step d t o).0
+cancels d t None k = more d (Cancelled t) k tt
 cancels d t (Some e) k = k
 
 -- ---- settling
@@ -192,18 +203,18 @@ settling_quiet zero s = tt
 settling_quiet (suc room) s =
     settles_quiet room s (next_what s) (settling_quiet room) (next_quiet s (lowest is_due s.waiters) (lowest (can_end s.store) s.waiters))
 
-whats_more : (d : Seen) (xs : List What) → AreQuiet xs → IsOfConsole d → IsOfConsole (with_whats d 0 xs)
+whats_more : (d : Seen) (xs : List What) → AreQuiet xs → Holds d → Holds (with_whats d 0 xs)
 whats_more d [] q k = k
-whats_more d (x ∷ xs) q k = whats_more (with_event d (event 0 x)) xs q.1 (event_more d.table d.history x k (quiet_text d.table x q.0))
+whats_more d (x ∷ xs) q k = whats_more (with_event d (event 0 x)) xs q.1 (more d x k (quiet_text d.table x q.0))
 
-settles : (d : Seen) → IsOfConsole d → IsOfConsole (settle_desk_step d).0
+settles : (d : Seen) → Holds d → Holds (settle_desk_step d).0
 settles d k = whats_more d (slow_settle d) (settling_quiet (d.limit - length d.history) (now d)) k
 
 -- ---- commands and lines
 abbrev After : OpenDesk × List ℕ → Type 0
-After p = IsOfConsole p.0.desk
+After p = Holds p.0.desk
 
-desk_after : (d : OpenDesk) → IsOfConsole d.desk → (c : Command) (argument : List ℕ) → After (desk_step d c argument)
+desk_after : (d : OpenDesk) → Holds d.desk → (c : Command) (argument : List ℕ) → After (desk_step d c argument)
 unfolding submit_step take_step deliver_step handback_step eval_step finish_step cancel_step settle_step
 desk_after d k Submit argument = submits d.desk (compiled_block d.desk.table argument) (λ b e. of_text d.desk.table argument b e) k
 desk_after d k Take argument = number_has After (take_jobs_step d) (d, argument_refused) (number_argument argument) (λ n. takes d n k) k
@@ -222,47 +233,62 @@ desk_after d k c argument = k
 
 -- before the desk is open there is no event
 abbrev IsKept : Console → Type 0
-IsKept (Declaring table limit) = Unit {0}
-IsKept (Open d) = IsOfConsole d.desk
+IsKept (Declaring table limit) = VariablesFit table
+IsKept (Open d) = Holds d.desk
 
-present_kept : (s : Console) → IsKept s → IsOfConsole (present_desk s).desk
-present_kept (Declaring table limit) h = tt
+present_kept : (s : Console) → IsKept s → Holds (present_desk s).desk
+present_kept (Declaring table limit) h = (tt, h)
 present_kept (Open d) h = h
 
-declare_kept : (table : List Declared) (limit : ℕ) (r : Result Declared Refusal) → IsKept (declare_step table limit r).0
-declare_kept table limit (Ok d) = tt
-declare_kept table limit (Err e) = tt
+variables_push : (prior ds : List Declared) (d : Declared) → AreVariablesFrom prior ds → MayDeclare (prior ++ ds) d → AreVariablesFrom prior (ds ++ d ∷ [])
+variables_push prior [] d a m = (subst (λ (x : List Declared). MayDeclare x d) (append-nil prior) m, tt)
+variables_push prior (c ∷ ds) d a m =
+    (a.0, variables_push (prior ++ c ∷ []) ds d a.1 (subst (λ (x : List Declared). MayDeclare x d) (sym (append_assoc prior (c ∷ []) ds)) m))
 
-tvar_kept : (s : Console) → IsKept s → (argument : List ℕ) → IsKept (tvar_step s argument).0
-tvar_kept (Declaring table limit) h argument = declare_kept table limit (variable_of table argument)
-tvar_kept (Open d) h argument = h
+module _ (declarations : DeclarationAnswersAreRight) where
+  declare_kept : (table : List Declared) (limit : ℕ) (r : Result Declared Refusal) → VariablesFit table → ((d : Declared) → r ≡ Ok d → MayBeNext table d) → IsKept (declare_step table limit r).0
+  declare_kept table limit (Ok d) v next =
+      let n = next d refl in
+      let low = n.room in
+      (omega (arith, low, length-append table (d ∷ [])), variables_push [] table d v.1 n.may)
+  declare_kept table limit (Err e) v next = v
 
-command_kept : (s : Console) → IsKept s → (c : Command) (argument : List ℕ) → IsKept (command_step s c argument).0
-command_kept s h Tvar argument = tvar_kept s h argument
-command_kept s h c argument = desk_after (present_desk s) (present_kept s h) c argument
+  tvar_kept : (s : Console) → IsKept s → (argument : List ℕ) → IsKept (tvar_step s argument).0
+  tvar_kept (Declaring table limit) h argument = declare_kept table limit (variable_of table argument) h (λ d e. may_be_next declarations table argument d h.0 e)
+  tvar_kept (Open d) h argument = h
 
-word_kept : (s : Console) → IsKept s → (o : Option Command) (argument : List ℕ) → IsKept (word_step s o argument).0
-word_kept s h (Some c) argument = command_kept s h c argument
-word_kept s h None argument = h
+  command_kept : (s : Console) → IsKept s → (c : Command) (argument : List ℕ) → IsKept (command_step s c argument).0
+  command_kept s h Tvar argument = tvar_kept s h argument
+  command_kept s h c argument = desk_after (present_desk s) (present_kept s h) c argument
 
-class_kept : (s : Console) → IsKept s → (j : LineClass) → IsKept (class_step s j).0
-class_kept s h TooLong = h
-class_kept s h Silent = h
-class_kept s h NotAscii = h
-class_kept s h (Words word argument) = word_kept s h (command_named word) argument
+  word_kept : (s : Console) → IsKept s → (o : Option Command) (argument : List ℕ) → IsKept (word_step s o argument).0
+  word_kept s h (Some c) argument = command_kept s h c argument
+  word_kept s h None argument = h
 
-line_kept : (s : Console) → IsKept s → (line : List ℕ) → IsKept (state_after s line)
-unfolding step
-line_kept s h line = class_kept s h (line_class line)
+  class_kept : (s : Console) → IsKept s → (j : LineClass) → IsKept (class_step s j).0
+  class_kept s h TooLong = h
+  class_kept s h Silent = h
+  class_kept s h NotAscii = h
+  class_kept s h (Words word argument) = word_kept s h (command_named word) argument
 
-lines_kept : (s : Console) → IsKept s → (lines : List (List ℕ)) → IsKept (state_after_lines s lines)
-lines_kept s h [] = h
-lines_kept s h (line ∷ rest) = lines_kept (state_after s line) (line_kept s h line) rest
+  line_kept : (s : Console) → IsKept s → (line : List ℕ) → IsKept (state_after s line)
+  unfolding step
+  line_kept s h line = class_kept s h (line_class line)
 
-start_kept : (max_events : ℕ) → IsKept (initial_console max_events)
-unfolding initial_console
-start_kept max_events = tt
+  lines_kept : (s : Console) → IsKept s → (lines : List (List ℕ)) → IsKept (state_after_lines s lines)
+  lines_kept s h [] = h
+  lines_kept s h (line ∷ rest) = lines_kept (state_after s line) (line_kept s h line) rest
 
-pub events_are_of_console : EventsAreOfConsole
-events_are_of_console max_events before =
-    present_kept (state_after_lines (initial_console max_events) before) (lines_kept (initial_console max_events) (start_kept max_events) before)
+  start_kept : (max_events : ℕ) → IsKept (initial_console max_events)
+  unfolding initial_console
+  start_kept max_events = (omega arith, tt)
+
+  all_kept : (max_events : ℕ) (before : List (List ℕ)) → Holds (present_desk (state_after_lines (initial_console max_events) before)).desk
+  all_kept max_events before =
+      present_kept (state_after_lines (initial_console max_events) before) (lines_kept (initial_console max_events) (start_kept max_events) before)
+
+  pub events_are_of_console : EventsAreOfConsole
+  events_are_of_console max_events before = (all_kept max_events before).0
+
+  pub variables_fit : VariablesFitLines
+  variables_fit max_events before = (all_kept max_events before).1

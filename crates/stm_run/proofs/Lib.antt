@@ -3,6 +3,7 @@ pub mod AnsweredLongLines
 pub mod ArgumentCases
 pub mod Chunks
 pub mod CommandWords
+pub mod DeclaredVariables
 pub mod DeliveredJobs
 pub mod DeskAnswers
 pub mod DeskMoves

@@ -1,11 +1,12 @@
 -- The events of a console's desk can be in lines of a history.
-use Rattle.std.specs.Prelude.{◌≡◌, ◌≤◌, ℕ, List, [], ◌∷◌, Ok, ⊤}
+use Rattle.std.specs.Prelude.{◌≡◌, ◌≤◌, ℕ, List, [], ◌∷◌, length, Ok, ⊤}
 use Rattle.stm_store.specs.Tables.{Declared}
 use Rattle.stm_events.specs.declared.event.Event.{Event}
 use Rattle.stm_events.specs.declared.event.What.{What}
 use Rattle.stm_events.specs.declared.event.What.TheVariants.{Submitted, Installed, Finished, Cancelled}
 use Rattle.stm_events.specs.SlowDesk as slow
 use Rattle.stm_history.specs.Fits.{Is32Bit, FitNumbers, FitsVerdict, FitsTable}
+use Rattle.stm_history.specs.Judgement.{AreVariables}
 use Rattle.stm_history.specs.WholeBlocks.{checked_block}
 use Rattle.stm_desk.specs.Seen.{Seen}
 use Rattle.stm_run.specs.Console.{initial_console}
@@ -79,3 +80,14 @@ EventsFitLines =
     → VerdictsFit (present_desk (state_after_lines (initial_console max_events) before)).desk.history
     → AreFit (present_desk (state_after_lines (initial_console max_events) before)).desk.table
     (present_desk (state_after_lines (initial_console max_events) before)).desk.history
+
+-- ---- the declared variables
+-- they can be in lines, and are no more than a table has
+abbrev pub VariablesFit : List Declared → Type 0
+VariablesFit table = (length table ≤ slow.max_cells) × AreVariables table
+
+-- Whatever lines came before, the desk's variables may be declared in this order, and can be in lines.
+abbrev pub VariablesFitLines : Type 0
+VariablesFitLines =
+    (max_events : ℕ) (before : List (List ℕ))
+    → VariablesFit (present_desk (state_after_lines (initial_console max_events) before)).desk.table
