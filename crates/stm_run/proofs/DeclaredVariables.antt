@@ -1,5 +1,5 @@
 -- A variable that a text declares can be in a line of a history.
-use Rattle.std.proofs.Common.{◌≡◌, ℕ, zero, suc, ◌+◌, ◌-◌, ◌<◌, ◌≤◌, ◌^◌, Bool, true, false, cond, IsTrue, List, [], ◌∷◌, ◌++◌, length, drop, take, Option, Some, None, Result, Ok, Err, IfOk, pos, negsuc, refl, sym, ap, ◌∙◌, subst, rules, arith, length-append, length-drop}
+use Rattle.std.proofs.Common.{◌≡◌, ℕ, zero, suc, ◌+◌, ◌-◌, ◌<◌, ◌≤◌, ◌^◌, Bool, true, false, cond, IsTrue, List, [], ◌∷◌, ◌++◌, length, drop, Option, Some, None, Result, Ok, Err, IfOk, pos, refl, sym, subst, rules, arith, length-drop}
 use Rattle.std.specs.Prelude.{not, ◌&&◌, nat_le, nat_lt, neg_ℤ, is_some}
 use Rattle.std.specs.Str.{bytes_eq}
 use Rattle.std.proofs.lemmas.Bool.Decides.{nat_tests}
@@ -9,11 +9,10 @@ use Rattle.stm_terms.specs.declared.values.Value.{Value}
 use Rattle.stm_terms.specs.Limits.{most_refs}
 use Rattle.stm_terms.specs.Names.{is_name_text}
 use Rattle.stm_parse.specs.declared.fault.ParseFault.{ParseFault}
-use Rattle.stm_parse.specs.declared.tokenizer.Token.{Token}
 use Rattle.stm_parse.specs.declared.tokenizer.TokenClass.{TokenClass}
 use Rattle.stm_parse.specs.Declarations.{ParsedInit, literal, named, init_of}
 use Rattle.stm_parse.specs.Grammar.{At, at, greatest, WithinLimits, IsInit, is_number_init, is_negative_init, is_true_init, is_false_init, is_unit_init, is_name_init, DeclarationTree, IsDeclaration, is_declaration}
-use Rattle.stm_parse.specs.MaximalMunch.{IsLongest, is_token, Tokenization, token_before, IsTokenization, at_end, at_blank, at_token, at_fault, at_bad_byte}
+use Rattle.stm_parse.specs.MaximalMunch.{IsLongest, Tokenization, token_before, IsTokenization, at_end, at_blank, at_token, at_fault, at_bad_byte}
 use Rattle.stm_parse.specs.NameTokens.{NamesOf}
 use Rattle.stm_parse.specs.ParseFunction.{IsAnswer, declared_tree, declaration_result, parsed_declaration, DeclarationAnswersAreRight}
 use Rattle.stm_parse.specs.ParseResult.{IsTextOf}
