@@ -8,80 +8,87 @@ HERE = pathlib.Path(__file__).resolve().parent
 HEADER = b'{"format":3,"vars":'  # how the text of a history begins
 EXAMPLE = "the_example_of_a_history.case"  # it stands in docs/HISTORY.md; its variable has line 2, its events lines 3 to 8
 
-# Of the example: the line, what stands there, what takes its place (all of it, where nothing is named), and the answer.
+SAME = "expected SAME"  # the line that stands in the example is expected
+UNREADABLE = "unreadable"
+RETRY = '{"format":3,"vars":0}\n{"block":"retry","client":0,"event":"submitted","ticket":1}\n'
+RETRIED = '{"client":0,"event":"installed","ticket":1,"verdict":"blocks"}\n'
+RESULT = 'expected {"client":0,"event":"installed","ticket":1,"verdict":{"commits":{"news":[],"result":%d,"writes":[]}}}'
+
+# Of the example: the line, what stands there, what takes its place (all of it, where nothing is named), the answer, and if it isn't legal
+# the explanation.
 CHANGES = [
-    (1, '"format":3', '"format":0', "bad header"),
+    (1, '"format":3', '"format":0', "bad header", "line 1 unreadable"),
     (1, '"format":3', '"format":1', "legal 6 events"),
     (1, '"format":3', '"format":2', "legal 6 events"),
-    (1, '"format":3', '"format":03', "bad header"),
-    (1, '"format":3', '"format":4', "bad header"),
-    (1, '"format":3', '"format":"3"', "bad header"),
-    (1, '"format":3,', "", "bad header"),
-    (1, '"vars":1', '"vars":2', "bad header"),
-    (1, '"vars":1', '"vars": 1', "bad header"),
-    (1, '"vars":1', '"vars":01', "bad header"),
-    (1, '"vars":1', '"vars":-0', "bad header"),
-    (1, '"vars":1', '"vars":1000001', "bad header"),
-    (1, '"vars":1', '"vars":0', "bad line 2"),
-    (1, '"vars":1', '"vars":1,"vars":1', "bad header"),
-    (1, None, '{"vars":1,"format":3}', "bad header"),
-    (2, '"Int"', '"Bool"', "bad header"),
-    (2, '"Int"', '"int"', "bad header"),
-    (2, '"Int"', '"Int "', "bad header"),
-    (2, '"x"', '"X"', "bad header"),
-    (2, '"x"', '"do"', "bad header"),
-    (2, '"init":1', '"init":{"old":0}', "bad header"),
-    (2, '"init":1', '"init":9223372036854775808', "bad header"),
-    (2, '"init":1', '"init":9223372036854775807', "not legal 5"),
-    (2, None, "", "bad header"),
-    (3, "readTVar x", "readTVar z", "bad line 3"),
-    (3, "readTVar x", "readTVar", "bad line 3"),
-    (3, "readTVar x", "readTVar 1", "bad line 3"),
+    (1, '"format":3', '"format":03', "bad header", "line 1 unreadable"),
+    (1, '"format":3', '"format":4', "bad header", "line 1 unreadable"),
+    (1, '"format":3', '"format":"3"', "bad header", "line 1 unreadable"),
+    (1, '"format":3,', "", "bad header", "line 1 unreadable"),
+    (1, '"vars":1', '"vars":2', "bad header", "line 3 unreadable"),
+    (1, '"vars":1', '"vars": 1', "bad header", "line 1 " + SAME),
+    (1, '"vars":1', '"vars":01', "bad header", "line 1 unreadable"),
+    (1, '"vars":1', '"vars":-0', "bad header", "line 1 unreadable"),
+    (1, '"vars":1', '"vars":1000001', "bad header", "line 1 unreadable"),
+    (1, '"vars":1', '"vars":0', "bad line 2", UNREADABLE),
+    (1, '"vars":1', '"vars":1,"vars":1', "bad header", "line 1 " + SAME),
+    (1, None, '{"vars":1,"format":3}', "bad header", "line 1 " + SAME),
+    (2, '"Int"', '"Bool"', "bad header", "line 2 unreadable"),
+    (2, '"Int"', '"int"', "bad header", "line 2 unreadable"),
+    (2, '"Int"', '"Int "', "bad header", "line 2 " + SAME),
+    (2, '"x"', '"X"', "bad header", "line 2 unreadable"),
+    (2, '"x"', '"do"', "bad header", "line 2 unreadable"),
+    (2, '"init":1', '"init":{"old":0}', "bad header", "line 2 unreadable"),
+    (2, '"init":1', '"init":9223372036854775808', "bad header", "line 2 unreadable"),
+    (2, '"init":1', '"init":9223372036854775807', "not legal 5", RESULT % 9223372036854775807),
+    (2, None, "", "bad header", "line 2 unreadable"),
+    (3, "readTVar x", "readTVar z", "bad line 3", UNREADABLE),
+    (3, "readTVar x", "readTVar", "bad line 3", UNREADABLE),
+    (3, "readTVar x", "readTVar 1", "bad line 3", UNREADABLE),
     (3, "readTVar x", "readTVar\\tx\\n", "legal 6 events"),
-    (3, "readTVar x", "readTVar\\u0009x", "bad line 3"),
-    (3, "readTVar x", "readTVar\\u000bx", "bad line 3"),
-    (3, "readTVar x", "catch (throw 4) e (return e)", "not legal 5"),
+    (3, "readTVar x", "readTVar\\u0009x", "bad line 3", 'expected {"block":"readTVar\\tx","client":0,"event":"submitted","ticket":1}'),
+    (3, "readTVar x", "readTVar\\u000bx", "bad line 3", UNREADABLE),
+    (3, "readTVar x", "catch (throw 4) e (return e)", "not legal 5", RESULT % 4),
     (3, "readTVar x", "catch (readTVar x) e (return e)", "legal 6 events"),
     (3, '"client":0', '"client":127', "legal 6 events"),
-    (3, '"client":0', '"client":128', "bad line 3"),
-    (3, '"client":0', '"client":-1', "bad line 3"),
-    (3, '"client":0', '"client":0.0', "bad line 3"),
-    (3, '"ticket":1', '"ticket":0', "not legal 3"),
-    (3, '"ticket":1', '"ticket":2', "not legal 3"),
-    (3, '"ticket":1', '"ticket":4294967295', "not legal 3"),
-    (3, '"ticket":1', '"ticket":4294967296', "bad line 3"),
-    (3, '"submitted"', '"Submitted"', "bad line 3"),
-    (3, '"submitted"', '"cancelled"', "bad line 3"),
-    (3, None, "[" * 200, "bad line 3"),
-    (3, None, "", "bad line 3"),
-    (3, None, "null", "bad line 3"),
-    (3, None, "\xff", "bad line 3"),
-    (4, ":", ": ", "bad line 4"),
-    (4, "}", "}\r", "bad line 4"),
-    (4, '"ticket":2', '"ticket":3', "not legal 4"),
-    (5, '"result":1', '"result":2', "not legal 5"),
-    (5, '"result":1', '"result":true', "not legal 5"),
-    (5, '"result":1', '"result":{"new":0}', "not legal 5"),
-    (5, '"result":1', '"result":"1"', "bad line 5"),
-    (5, '"writes":[]', '"writes":[[0,1]]', "not legal 5"),
-    (5, '"news":[]', '"news":[["Int",1]]', "not legal 5"),
-    (5, '"news":[]', '"news":[["Integer",1]]', "bad line 5"),
-    (5, '{"commits":{"news":[],"result":1,"writes":[]}}', '"blocks"', "not legal 5"),
-    (5, '{"commits":{"news":[],"result":1,"writes":[]}}', '{"throws":1}', "not legal 5"),
-    (5, '{"commits":{"news":[],"result":1,"writes":[]}}', '"commits"', "bad line 5"),
-    (6, "[[0,5]]", "[[0,5],[0,5]]", "not legal 6"),
-    (6, "[[0,5]]", "[[1,5]]", "not legal 6"),
-    (6, "[[0,5]]", "[[0,5,0]]", "bad line 6"),
-    (6, '"ticket":2', '"ticket":1', "not legal 6"),
-    (7, '"stale":[1]', '"stale":[]', "not legal 7"),
-    (7, '"stale":[1]', '"stale":[1,1]', "not legal 7"),
-    (7, '"stale":[1]', '"stale":[1,2]', "not legal 7"),
-    (7, '"first_new":1', '"first_new":2', "not legal 7"),
+    (3, '"client":0', '"client":128', "bad line 3", UNREADABLE),
+    (3, '"client":0', '"client":-1', "bad line 3", UNREADABLE),
+    (3, '"client":0', '"client":0.0', "bad line 3", UNREADABLE),
+    (3, '"ticket":1', '"ticket":0', "not legal 3", SAME),
+    (3, '"ticket":1', '"ticket":2', "not legal 3", SAME),
+    (3, '"ticket":1', '"ticket":4294967295', "not legal 3", SAME),
+    (3, '"ticket":1', '"ticket":4294967296', "bad line 3", UNREADABLE),
+    (3, '"submitted"', '"Submitted"', "bad line 3", UNREADABLE),
+    (3, '"submitted"', '"cancelled"', "bad line 3", "refused NoTicket"),
+    (3, None, "[" * 200, "bad line 3", UNREADABLE),
+    (3, None, "", "bad line 3", UNREADABLE),
+    (3, None, "null", "bad line 3", UNREADABLE),
+    (3, None, "\xff", "bad line 3", UNREADABLE),
+    (4, ":", ": ", "bad line 4", SAME),
+    (4, "}", "}\r", "bad line 4", SAME),
+    (4, '"ticket":2', '"ticket":3', "not legal 4", SAME),
+    (5, '"result":1', '"result":2', "not legal 5", SAME),
+    (5, '"result":1', '"result":true', "not legal 5", SAME),
+    (5, '"result":1', '"result":{"new":0}', "not legal 5", SAME),
+    (5, '"result":1', '"result":"1"', "bad line 5", UNREADABLE),
+    (5, '"writes":[]', '"writes":[[0,1]]', "not legal 5", SAME),
+    (5, '"news":[]', '"news":[["Int",1]]', "not legal 5", SAME),
+    (5, '"news":[]', '"news":[["Integer",1]]', "bad line 5", UNREADABLE),
+    (5, '{"commits":{"news":[],"result":1,"writes":[]}}', '"blocks"', "not legal 5", SAME),
+    (5, '{"commits":{"news":[],"result":1,"writes":[]}}', '{"throws":1}', "not legal 5", SAME),
+    (5, '{"commits":{"news":[],"result":1,"writes":[]}}', '"commits"', "bad line 5", SAME),
+    (6, "[[0,5]]", "[[0,5],[0,5]]", "not legal 6", SAME),
+    (6, "[[0,5]]", "[[1,5]]", "not legal 6", SAME),
+    (6, "[[0,5]]", "[[0,5,0]]", "bad line 6", SAME),
+    (6, '"ticket":2', '"ticket":1', "not legal 6", "refused Already"),
+    (7, '"stale":[1]', '"stale":[]', "not legal 7", SAME),
+    (7, '"stale":[1]', '"stale":[1,1]', "not legal 7", SAME),
+    (7, '"stale":[1]', '"stale":[1,2]', "not legal 7", SAME),
+    (7, '"first_new":1', '"first_new":2', "not legal 7", SAME),
     (7, None, '{"client":0,"event":"cancelled","ticket":2}', "legal 6 events"),
-    (8, '"ticket":1', '"ticket":2', "not legal 8"),
-    (8, '"ticket":1', '"ticket":3', "not legal 8"),
+    (8, '"ticket":1', '"ticket":2', "not legal 8", "refused NoTicket"),
+    (8, '"ticket":1', '"ticket":3', "not legal 8", "refused NoTicket"),
     (8, '"client":0', '"client":1', "legal 6 events"),
-    (8, '"client":0', '"client":128', "bad line 8"),
+    (8, '"client":0', '"client":128', "bad line 8", UNREADABLE),
 ]
 
 
@@ -91,38 +98,58 @@ def example():
 
 
 def texts():
-    """What is to be checked, with its name and its answer."""
+    """What is to be checked, with its name, its answer and its explanation, which is empty if it is legal."""
     lines = example()
-    yield "nothing", "", "bad header"
+    yield "nothing", "", "bad header", "line 1 unreadable"
     for number, line in enumerate(lines, 1):
         before = "".join(lines[: number - 1])
-        whole = "bad header" if number == 1 else f"legal {number - 2} events"
+        place = f"line {number} " if number < 3 else ""
+        if number == 1:
+            yield "cut behind line 1", before + line, "bad header", "line 2 unreadable"
+        else:
+            yield f"cut behind line {number}", before + line, f"legal {number - 2} events", ""
         inside = "bad header" if number < 3 else f"bad line {number}"
-        yield f"cut behind line {number}", before + line, whole
-        for length in (1, len(line) // 2, len(line) - 1):
-            yield f"cut behind {length} bytes of line {number}", before + line[:length], inside
-    for number, old, new, answer in CHANGES:
+        for length in (1, len(line) // 2):
+            yield f"cut behind {length} bytes of line {number}", before + line[:length], inside, place + UNREADABLE
+        yield f"cut before the line feed of line {number}", before + line[:-1], inside, f"{place}expected {line[:-1]}"
+    for number, old, new, answer, *reason in CHANGES:
         line = lines[number - 1]
         changed = new + "\n" if old is None else line.replace(old, new, 1)
-        yield f"line {number} as {changed[:60]!r}", "".join(lines[: number - 1] + [changed] + lines[number:]), answer
+        explanation = "".join(reason).replace("SAME", line[:-1])
+        yield f"line {number} as {changed[:60]!r}", "".join(lines[: number - 1] + [changed] + lines[number:]), answer, explanation
     # A write of the value that is there makes nobody stale, from format 3 on.
     quiet = "".join(lines[:-1]).replace("x 5", "x 1").replace("[0,5]", "[0,1]")
-    for format, one, nobody in ((1, "legal 5 events", "not legal 7"), (2, "legal 5 events", "not legal 7"), (3, "not legal 7", "legal 5 events")):
+    finish = quiet.splitlines()[6]
+    nobody = finish.replace('"stale":[1]', '"stale":[]')
+    for format in (1, 2, 3):
         text = quiet.replace('"format":3', f'"format":{format}')
-        yield f"a write of the same value in format {format}", text, one
-        yield f"and with nobody stale in format {format}", text.replace('"stale":[1]', '"stale":[]'), nobody
+        both = [(text, finish), (text.replace(finish, nobody), nobody)]
+        right = both.pop(format == 3)
+        yield f"a right finish that changes no value in format {format}", right[0], "legal 5 events", ""
+        yield f"and a wrong one in format {format}", both[0][0], "not legal 7", f"expected {right[1]}"
     # A `catch` came with format 2.
     for nested in ("catch (readTVar x) e (return e)", "do { return 1; catch (readTVar x) e (return e) }"):
         caught = "".join(lines).replace("readTVar x", nested)
         for format, answer in ((1, "bad line 3"), (2, "legal 6 events"), (3, "legal 6 events")):
-            yield f"{nested!r} in format {format}", caught.replace('"format":3', f'"format":{format}'), answer
-    yield "twice", "".join(lines) * 2, "bad line 9"
+            reason = UNREADABLE if format == 1 else ""
+            yield f"{nested!r} in format {format}", caught.replace('"format":3', f'"format":{format}'), answer, reason
+    yield "twice", "".join(lines) * 2, "bad line 9", UNREADABLE
+    # Each refusal.
+    new, stale = "".join(lines[:4]), "".join(lines[:7])
+    for name, text, last, reason in (
+        ("a new block finishes", new, lines[6], "refused NotEvaluated"),
+        ("a stale block finishes", stale, lines[6].replace('"ticket":2', '"ticket":1'), "refused Stale"),
+        ("a block that blocks finishes", RETRY + RETRIED, RETRIED.replace("installed", "finished").replace('"ticket"', '"first_new":0,"stale":[],"ticket"'), "refused Blocks"),
+        ("nothing is delivered to", stale, lines[5], "refused Gone"),
+    ):
+        number = text.count("\n") + 1
+        yield name, text + last, f"not legal {number}", reason
 
 
-def asked(text, answer):
-    """The case in which this text is checked."""
-    status = 0 if answer.startswith("legal") else 3
-    case = transcript.Case("check", ["check"], printed=answer.encode() + b"\n", status=status)
+def asked(text, *answer, words=("check",)):
+    """The case in which this text is checked and these lines are printed."""
+    status = 0 if answer[0].startswith("legal") else 3
+    case = transcript.Case("check", words, printed="".join(f"{it}\n" for it in answer).encode(transcript.ENCODING), status=status)
     case.text = text
     return case
 
@@ -142,8 +169,11 @@ def judge_history(program, case):
 
 
 def judged(program, cases):
-    for name, text, answer in texts():
-        yield f"check: {name}", transcript.judged(program, asked(text.encode(transcript.ENCODING), answer))
+    for name, text, answer, reason in texts():
+        encoded = text.encode(transcript.ENCODING)
+        yield f"check: {name}", transcript.judged(program, asked(encoded, answer))
+        why = asked(encoded, answer, *[reason] * bool(reason), words=("check", "--why"))
+        yield f"check --why: {name}", transcript.judged(program, why)
     for case in cases:
         if case.is_small_run():
             yield f"check: the history of {case.name}", judge_history(program, case)

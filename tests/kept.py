@@ -10,7 +10,7 @@ import transcript
 
 LONG = "orElse (do { " + "newTVar 2; " * 200 + "retry }) (return 3)"
 SHORT = "return 3"
-THREE_PAGES = ["table many 130", "store open", "store freeze", "verdict commits writes #0=7 #64=8 #129=9"]
+THREE_PAGES = ["table many 130", "store open"]
 
 
 def script(name, lines):
@@ -30,7 +30,7 @@ def readers(count):
     """Blocks that wait, each current and reading a variable of its own, and one that writes another variable."""
     opened = [f"table many {count + 1}", "desk open 10000"]
     blocks = [f"desk submit readTVar v{number}" for number in range(count)]
-    return opened + blocks + [f"desk submit writeTVar v{count} 5", "desk eval"]
+    return opened + blocks + [f"desk submit writeTVar v{count} 5", "desk evaluate_queued 1000"]
 
 
 def alone(block):
@@ -46,5 +46,5 @@ def judged(calls, library):
         counts = [refusals(calls, library, alone(block) + lines + [last]) for block in (LONG, SHORT)]
         said = None if counts[0] == counts[1] else f"not the same: {counts}"
         yield f"{call} of a block with a long discarded branch", f"{counts[0]} refusals", said
-    count = refusals(calls, library, THREE_PAGES + ["store apply"])
+    count = refusals(calls, library, THREE_PAGES + ["store apply 0 64 129"])
     yield "an apply over three pages that a copy holds", f"{count} refusals", None if count >= 3 else "fewer than 3"

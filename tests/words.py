@@ -26,7 +26,7 @@ HELP_OF_STORM = [r"Usage: stmdesk storm .*", r" +--workers .*", r" +--levels .*"
 HELP_OF_STORM += [rf"  {word}( .*)?" for word in ("tvar NAME", "client", "submit BLOCK", "finish K", "cancel K", "expect NAME VALUE")]
 HELP_OF_EXPLORE = [r"Usage: stmdesk explore .*", r" +--max-states .*", r" +--history .*", r" +--all .*", r"  always BLOCK .*", r"  never BLOCK .*"]
 HELP_OF_EXPLORE += [rf"  {word}( .*)?" for word in ("tvar NAME", "client", "submit BLOCK", "finish K", "cancel K", "expect NAME VALUE")]
-HELP_OF_CHECK = [r"Usage: stmdesk check.*", r".*histor.*"]
+HELP_OF_CHECK = [r"Usage: stmdesk check \[OPTIONS\]", r" +--why .*", r".*histor.*"]
 FORMS_OF_HELP = [["--help"], ["-h"], ["help"]]
 FORMS_OF_HELP_OF_RUN = [["run", "--help"], ["run", "-h"], ["help", "run"]]
 FORMS_OF_HELP_OF_STORM = [["storm", "--help"], ["storm", "-h"], ["help", "storm"]]
@@ -60,7 +60,9 @@ REFUSED = [
     *(["explore", *rest] for rest in (["--max-states"], ["--max-states=0"], ["--max-states", "2", "--max-states", "2"])),
     *(["explore", *rest] for rest in (["--history=true"], ["--history", "--history"], ["--history", "1"], ["--", "--history"])),
     *(["explore", *rest] for rest in (["--all=true"], ["--all", "--all"], ["--all", "1"], ["--", "--all"], ["--al"], ["--reduce"])),
-    *([option] for option in ("--max-states", "--history", "--all")),
+    *([option] for option in ("--max-states", "--history", "--all", "--why")),
+    *(["check", *rest] for rest in (["--why=true"], ["--why", "--why"], ["--why", "1"], ["--", "--why"], ["--wh"])),
+    *([word, "--why"] for word in ("run", "storm", "explore")),
     *([word, option] for word in ("run", "storm", "check") for option in ("--history", "--all")),
 ]
 ACCEPTED = [  # behind a command that takes the options
@@ -85,6 +87,7 @@ EXPLORE_ACCEPTED = [  # behind `explore`
     ["--all"],
     ["--all", "--max-states", "1"],
 ]
+EMPTY = b'{"format":3,"vars":0}\n'
 SCRIPT = b"tvar x : Int = 1\nclient\nexpect x 1\n"  # of a storm without events, so that it takes any number of them
 COUNTS = b"client 0 submitted 0 finished 0 cancelled 0 refused 0 missed 0\nevents 0\nreplay ok\n"
 
@@ -180,6 +183,10 @@ def judged(program, cases):
         yield f"words {words}", judge_run(program, words, NO_STEP, EXPLORED)
     for words in [["explore", "--history"], ["explore", "--max-states", "1", "--history"], ["explore", "--all", "--history"]]:
         yield f"words {words}", judge_run(program, words, NO_STEP, b"", NO_FAULT)
+    for words, text, printed in ((["check", "--why"], b"", b"bad header\nline 1 unreadable\n"), (["check", "--why", "--"], EMPTY, b"legal 0 events\n")):
+        case = transcript.Case(f"words {words}", words, printed=printed, status=0 if text else 3)
+        case.text = text
+        yield f"words {words}", transcript.judged(program, case)
     for words in REFUSED:
         yield f"words {words}", judge_refused(program, words)
     for forms, patterns in (

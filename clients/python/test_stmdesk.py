@@ -39,7 +39,7 @@ import stmdesk
 from stmdesk import (
     BadAnswer, Blocks, Cancellation, Cell, Change, ClientAt, Commits, Current, Delivery, Desk, Ended, FinalCell, Finish, Finished,
     FinishedThrows, Job, New, NewRef, Ready, Ref, Refused, ScriptRefused, Settled, Stale, StaleBy, Stopped, Submission, Throws,
-    Waits, _commands, _hints, _program, aio, explore, find_program,
+    Waits, _commands, _hints, _program, aio, check, explore, find_program,
 )  # fmt: skip
 
 HERE = pathlib.Path(__file__).resolve().parent
@@ -2032,6 +2032,61 @@ expect ready True
 """
 
 
+CHECKED = '''{"format":3,"vars":1}
+{"init":1,"name":"x","type":"Int"}
+{"block":"readTVar x","client":0,"event":"submitted","ticket":1}
+'''
+
+
+class Checks(OnProgram):
+    def check(self, text, **options):
+        with tempfile.TemporaryDirectory() as folder:
+            file = pathlib.Path(folder) / "history"
+            file.write_bytes(text.encode())
+            return check(file, **{"program": program, **options})
+
+    def assert_checked(self, found, finding, events=None, line=None, expected=None, refused=None):
+        got = (found.finding, found.events, found.line, found.expected, found.refused)
+        self.assert_is(got, (finding, events, line, expected, refused))
+        self.assertIs(bool(found), finding == "legal")
+        self.assertTrue(str(found).startswith(finding))
+
+    def test_findings(self):
+        for why in (False, True):
+            self.assert_checked(self.check(CHECKED, why=why), "legal", 1)
+        for text, finding, line in (("", "bad header", None), (CHECKED + "{}\n", "bad line", 4), (CHECKED.replace(":1}\n{", ":0}\n{"), "bad line", 2)):
+            self.assert_checked(self.check(text), finding, None, line)
+        self.assert_checked(self.check(CHECKED.replace('"ticket":1', '"ticket":2')), "not legal", None, 3)
+
+    def test_reasons(self):
+        *head, event = CHECKED.splitlines()
+        self.assert_checked(self.check(CHECKED.replace('"ticket":1', '"ticket":2'), why=True), "not legal", None, 3, event)
+        self.assert_checked(self.check(CHECKED.replace(",", ", "), why=True), "bad header", None, 1, head[0])
+        self.assert_checked(self.check(CHECKED.replace("Int", "int"), why=True), "bad header", None, 2)
+        cancelled = '{"client":0,"event":"cancelled","ticket":2}\n'
+        self.assert_checked(self.check(CHECKED + cancelled, why=True), "not legal", None, 4, refused="NoTicket")
+
+    def test_a_file_that_cannot_be_read(self):
+        with self.assertRaises(FileNotFoundError):
+            check("/no/such/file", program=program)
+
+    def test_a_program_that_fails(self):
+        for command, status in {"exit 4": 4, "exit 1": 1, "kill -9 $$": -9}.items():
+            with self.assertRaises(Ended) as caught:
+                self.check(CHECKED, program=self.stand_in(command))
+            self.assertEqual(caught.exception.status, status)
+
+    def test_answers_that_no_stmdesk_gives(self):
+        reason = "not legal 3\\nunreadable\\n"
+        for why, answer, status in (
+            *((False, it, 3) for it in ("", "legal 1 events\\n", "not legal\\n", "bad line 3", reason)),
+            *((True, it, 3) for it in ("not legal 3\\n", "not legal 3\\nexpected \\n", "not legal 3\\nwrong\\n")),
+            (True, reason, 0),
+        ):
+            with self.subTest(answer=answer), self.assertRaises(BadAnswer):
+                self.check(CHECKED, why=why, program=self.stand_in(f"printf '{answer}'; exit {status}"))
+
+
 class Explorations(OnProgram):
     def explore(self, script, **options):
         return explore(script, program=program, **options)
@@ -2257,6 +2312,16 @@ class Package(OnProgram):
             for found in (it, *vars(it).values()) if isinstance(it, type) else (it,):
                 if isinstance(found, (type, types.FunctionType)):
                     typing.get_type_hints(found)
+
+
+    def test_mypy_finds_nothing(self):
+        mypy = shutil.which("mypy")
+        if not mypy:
+            self.skipTest("no mypy")
+        with tempfile.TemporaryDirectory() as cache:
+            command = [mypy, "--strict", "--python-version", "3.10", "--cache-dir", cache, str(HERE / "stmdesk")]
+            done = subprocess.run(command, capture_output=True, text=True, timeout=SECONDS)
+        self.assertEqual(done.returncode, 0, done.stdout + done.stderr)
 
 
 class Pages(OnProgram):

@@ -16,7 +16,8 @@ type if a block could return either. docs/CONSOLE.md says what each command does
 feed in a block is a blank.
 
 `Desk.atomically` runs a block and waits while it retries; `Desk.batch` gives many commands in one go; `Desk.ready` says which tickets
-can be finished, `Desk.why` what one waits for, and `Desk.events` what has happened since; `stmdesk.aio` is the same for asyncio. `explore` needs no desk: it tries every order of the steps of a script's clients.
+can be finished, `Desk.why` what one waits for, and `Desk.events` what has happened since; `stmdesk.aio` is the same for asyncio. `explore` needs no desk: it tries every order of the steps of a script's clients; and `check` judges
+a history in a file.
 
 A call raises `Refused` if the program refuses the command; `Stopped`, which is a `Refused`, if a `settle` stopped; `Ended`
 if the program ended; `BadAnswer` if the program printed what stmdesk never prints; `ValueError` or `TypeError` for an
@@ -26,6 +27,7 @@ argument that is no text or number of the right kind, in which case nothing is s
 
 from ._batch import Batch
 from ._blocks import or_else
+from ._check import Checked, Finding, check
 from ._commands import Answer
 from ._desk import Desk
 from ._errors import BadAnswer, Cancelled, DeskError, Ended, Refused, ScriptRefused, Stopped, Thrown, TimedOut
@@ -37,18 +39,18 @@ from ._values import (
     Value, Verdict, Waits,
 )  # fmt: skip
 
-__version__ = "0.4.0"
+__version__ = "0.5.0"
 
 __all__ = [
-    "Answer", "BadAnswer", "Batch", "Blocks", "Cancellation", "Cancelled", "Cell", "Change", "ClientAt", "ClientState", "Commits",
-    "Current", "Delivery", "Desk", "DeskError", "Ended", "Event", "Events", "Exploration", "Fault", "FinalCell", "FinalStore",
+    "Answer", "BadAnswer", "Batch", "Blocks", "Cancellation", "Cancelled", "Cell", "Change", "Checked", "ClientAt", "ClientState", "Commits",
+    "Current", "Delivery", "Desk", "DeskError", "Ended", "Event", "Events", "Exploration", "Fault", "FinalCell", "FinalStore", "Finding",
     "Finish", "Finished", "FinishedThrows", "Job", "New", "NewRef", "Outcome", "Ready", "Reason", "Ref", "Refused", "ScriptRefused",
     "Settled", "Stale", "StaleBy", "Status", "Stopped", "Store", "Submission", "Thrown", "Throws", "TimedOut", "Value", "Verdict",
-    "Waits", "explore", "find_program", "or_else",
+    "Waits", "check", "explore", "find_program", "or_else",
 ]  # fmt: skip
 
 for _name in __all__:
     _it = globals()[_name]
-    if isinstance(_it, type) or _it in (explore, find_program, or_else):
+    if isinstance(_it, type) or _it in (check, explore, find_program, or_else):
         _it.__module__ = __name__  # so that a traceback says stmdesk.Refused, which can be imported
 del _it, _name

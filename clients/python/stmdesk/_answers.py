@@ -242,7 +242,9 @@ class Answers:
         """A value of a history: a number, a Bool, null, or the object of a reference"""
         if isinstance(value, dict):
             return self.ref(f"#{value['old']}") if "old" in value else NewRef(value["new"])
-        return value
+        if value is None or isinstance(value, int):
+            return value
+        raise ValueError("no value")
 
     def refusal(self, words: Sequence[str], command: str, text: str) -> Refused:
         """`refused NAME`, with a place or a `#id` after it: the refusal of the command with this argument."""

@@ -5,7 +5,7 @@ from __future__ import annotations
 import os
 import re
 from dataclasses import dataclass, field
-from typing import Literal
+from typing import Literal, cast
 
 from ._answers import Answers
 from ._commands import decimal
@@ -178,7 +178,7 @@ def _read(printed: str, script: str, command: list[str]) -> Exploration:
         int(found["steps"]),
         int(found["ended"]),
         [answers.final_cells(it.splitlines()) for it in _STORE.findall(found["stores"])],
-        found["end"] or found["fault"],
+        cast(Outcome, found["end"] or found["fault"]),
         None if found["line"] is None else int(found["line"]),
         order,
         [_client(answers, it) for it in (found["clients"] or "").splitlines()],
@@ -194,4 +194,4 @@ def _client(answers: Answers, line: str) -> ClientAt:
     if not found or (found[3] == "ready") != (found[4] is None):
         raise ValueError("no client")
     client, number, what, rest = found.groups()
-    return ClientAt(int(client), int(number), what, answers.pairs(rest.split(" ")) if what == "waits" else {})
+    return ClientAt(int(client), int(number), cast(ClientState, what), answers.pairs(rest.split(" ")) if what == "waits" else {})

@@ -64,13 +64,13 @@ def check_built(program: str) -> None:
         raise FileNotFoundError(f"the program isn't built yet: run {folder / 'stmdesk'} --build once")
 
 
-def run_once(command: Sequence[str], text: str) -> tuple[int, str, str]:
+def run_once(command: Sequence[str], text: str | bytes) -> tuple[int, str, str]:
     """Runs the program on this input to its end. Returns its exit status, what it printed, and what it wrote on standard error.
     An exception that breaks this off kills the program, and all that it started."""
     pipe = subprocess.PIPE
     with subprocess.Popen(command, stdin=pipe, stdout=pipe, stderr=pipe, start_new_session=True) as process:
         try:
-            printed, said = process.communicate(text.encode())
+            printed, said = process.communicate(text.encode() if isinstance(text, str) else text)
         except BaseException:
             if process.poll() is None:
                 with suppress(OSError):

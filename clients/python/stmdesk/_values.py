@@ -395,7 +395,7 @@ class Cells(list[C]):
         if isinstance(key, str):
             return self._by_name[key]
         if isinstance(key, Ref):
-            if key not in self:
+            if not self.__contains__(key):
                 raise KeyError(key)
             return super().__getitem__(key.number)
         return super().__getitem__(key)
@@ -413,7 +413,7 @@ class Cells(list[C]):
 
     def get(self, key: str | Ref, default: Default | None = None) -> C | Default | None:
         """The cell of a variable, or `default` if there is none."""
-        return self[key] if key in self else default
+        return self[key] if self.__contains__(key) else default
 
 
 class Store(Cells[Cell]):

@@ -2,7 +2,7 @@
 use Rattle.std.specs.Prelude.{ℕ, List, Result, Ok, Err}
 use Rattle.stm_check.specs.TypedBlock.{Block}
 use Rattle.stm_store.specs.Tables.{Declared}
-use Rattle.stm_history.specs.WholeBlocks.{BlockFault, NotParsed, NotTyped, checked_block}
+use Rattle.stm_event_lines.specs.WholeBlocks.{BlockFault, NotParsed, NotTyped, checked_block}
 use Rattle.stm_blocks.specs.declared.refusal.Refusal.{Refusal}
 use Rattle.stm_blocks.specs.declared.refusal.Refusal.TheVariants.{Parsing, Typing}
 

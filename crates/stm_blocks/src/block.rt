@@ -14,7 +14,7 @@ use stm_parse::{ParseFault, parse_block};
 use stm_store::Table;
 
 /// The block of a text. The store that opens on the table has the variables that it names.
-#[tactic(auto, using(crate::proofs::UsesAreCovered::opened_covers), unfolding(crate::specs::CompiledBlock::compiled_block, stm_history::specs::WholeBlocks::checked_block))]
+#[tactic(auto, using(crate::proofs::UsesAreCovered::opened_covers), unfolding(crate::specs::CompiledBlock::compiled_block, stm_event_lines::specs::WholeBlocks::checked_block))]
 pub fn compile_block(alloc: Global, table: &Table, text: &str) -> Result<Typed, Refusal>
     ensures block { AnswersAs told_refusal (λ b. b) result (compiled_block table.now text.now) }
     ensures covered { IfOk result (λ b. Covers (plains (opened table.now)) b.uses) }

@@ -4,7 +4,7 @@ ghost use Rattle.std.specs.Prelude.{◌<◌};
 ghost use Rattle.stm_events.specs.SlowDesk.{max_clients};
 
 use crate::desks::Counts;
-use crate::words::{number, range, say, say_count, say_whether};
+use crate::words::say;
 use std::alloc::AllocError;
 use std::fmt::Write;
 use stm_check::SharedBlock;
@@ -30,27 +30,7 @@ pub fn submit(
     }
 }
 
-/// Submits the block until so many wait, and answers how many do, or why no more can.
-pub fn fill(
-    desk: &mut Desk,
-    client: u32,
-    block: &SharedBlock,
-    count: usize,
-    out: &mut String,
-) -> Result<(), AllocError>
-    requires { client < max_clients }
-{
-    for _ in desk.waiting()..count {
-        match desk.submit(client, block.share()?) {
-            Ok(_) => {}
-            Err(SubmitError::NoMemory) => return Err(AllocError),
-            Err(refusal) => return writeln!(out, "refused {refusal:?} at {}", desk.waiting()),
-        }
-    }
-    say_count(desk.waiting(), out)
-}
-
-/// Answers with tickets, or that there are none.
+/// Prints tickets, or that there are none.
 pub fn say_tickets(tickets: &[u32], out: &mut String) -> Result<(), AllocError> {
     if tickets.is_empty() {
         return say(" none", out);
@@ -61,7 +41,7 @@ pub fn say_tickets(tickets: &[u32], out: &mut String) -> Result<(), AllocError> 
     out.push_str("\n")
 }
 
-/// Answers with what a finish did.
+/// Prints what a finish did.
 pub fn say_finish(finish: &Finish, out: &mut String) -> Result<(), AllocError> {
     let blocks = Verdict::Blocks;
     write_verdict(finish.verdict.get(&blocks), out)?;
@@ -96,22 +76,7 @@ pub fn cancel(desk: &mut Desk, client: u32, ticket: u32, out: &mut String) -> Re
     }
 }
 
-/// Hands tickets back: whether one was out, or how many of a range were.
-pub fn hand_back(desk: &mut Desk, word: &str, out: &mut String) -> Result<(), AllocError> {
-    if !word.contains('.') {
-        return say_whether(desk.hand_back(number(word)), out);
-    }
-    let tickets = range(word);
-    let mut count = 0usize;
-    for ticket in tickets.from..tickets.to {
-        if desk.hand_back(ticket) {
-            count = count.saturating_add(1);
-        }
-    }
-    say_count(count, out)
-}
-
-/// Answers with all that settling did, calls that were refused memory included.
+/// Prints all that settling did, with the calls that ran out of memory.
 fn say_settled(
     settled: &mut Counts,
     done: Settled,

@@ -86,16 +86,8 @@ fn say_event(event: &Event, out: &mut String) -> Result<(), AllocError> {
     }
 }
 
-/// The event of a number, counted from 1.
+/// A copy of the event of a number, counted from 1.
 fn answer_event(desk: &Desk, number: u32, out: &mut String) -> Result<(), AllocError> {
-    match desk.history().get((number as usize).wrapping_sub(1)) {
-        Some(event) => say_event(event, out),
-        None => say("none", out),
-    }
-}
-
-/// The same of a copy of the event.
-fn answer_copied(desk: &Desk, number: u32, out: &mut String) -> Result<(), AllocError> {
     match desk.history().get((number as usize).wrapping_sub(1)) {
         Some(event) => {
             let copy = event.copy()?;
@@ -117,10 +109,8 @@ pub fn answer(desk: &Desk, call: &str, n: u32, out: &mut String) -> Result<(), A
         "next" => say_number(desk.next_waiting(n), out),
         "queued" => say_whether(desk.has_queued(), out),
         "full" => say_whether(desk.is_full(), out),
-        "variables" => say_count(desk.table().len(), out),
         "events" => say_count(desk.history().len(), out),
         "event" => answer_event(desk, n, out),
-        "copied" => answer_copied(desk, n, out),
         _ => say("no such call", out),
     }
 }

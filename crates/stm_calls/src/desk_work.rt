@@ -14,14 +14,11 @@ use stm_eval::{Evaluated, Job, evaluate};
 use stm_pool::{Answer, MAX_WORKERS, evaluate_all};
 use stm_store::Frozen;
 
-/// The jobs of the last call that took some, the copy of the store beside them, the messages made
-/// of them, and how many messages were accepted and refused since the jobs were taken.
+/// The jobs of the last call that took some, the copy of the store beside them, and the messages made of them.
 pub struct Work {
     frozen: Option<Frozen>,
     jobs: Vec<Job>,
     messages: Vec<Option<Evaluated>>,
-    accepted: u32,
-    refused: u32,
 }
 
 // Written out, and not derived, so that the proof of each owner calls it once.
@@ -31,8 +28,6 @@ impl Drop for Work {
             frozen: _,
             jobs: _,
             messages: _,
-            accepted: _,
-            refused: _,
         } = self;
     }
 }
@@ -44,8 +39,6 @@ impl Work {
             frozen: None,
             jobs: Vec::new(alloc),
             messages: Vec::new(alloc),
-            accepted: 0,
-            refused: 0,
         }
     }
 }
@@ -72,8 +65,6 @@ pub fn take(
     say_jobs(jobs.as_slice(), out)?;
     work.frozen = Some(frozen);
     work.jobs = jobs;
-    work.accepted = 0;
-    work.refused = 0;
     Ok(())
 }
 
@@ -175,7 +166,7 @@ fn keep_messages(
     Ok(())
 }
 
-/// The same by so many threads.
+/// The same by N threads.
 pub fn evaluate_by_threads<R: Threads + Sync>(
     work: &mut Work,
     rt: &R,
@@ -201,18 +192,6 @@ pub fn evaluate_by_threads<R: Threads + Sync>(
             }
         }
     }
-}
-
-/// Answers with the tickets of the messages that are left.
-pub fn say_messages(work: &Work, out: &mut String) -> Result<(), AllocError> {
-    out.push_str("messages")?;
-    for message in work.messages.as_slice() {
-        match message {
-            Some(message) => write!(out, " {}", message.ticket())?,
-            None => {}
-        }
-    }
-    out.push_str("\n")
 }
 
 /// Delivers a message. One that is refused is there again.
@@ -257,30 +236,6 @@ pub fn deliver(
     }
 }
 
-/// Delivers all messages that are left, and answers how many were accepted and refused since the
-/// jobs were taken.
-pub fn deliver_all(
-    desk: &mut Desk,
-    work: &mut Work,
-    client: u32,
-    out: &mut String,
-) -> Result<(), AllocError>
-    requires { client < max_clients }
-{
-    for place in 0..work.messages.len() {
-        match deliver_one(desk, &mut work.messages[place], client) {
-            None => {}
-            Some(Ok(())) => work.accepted = work.accepted.saturating_add(1),
-            Some(Err(DeliverError::NoMemory)) => return Err(AllocError),
-            Some(Err(_)) => {
-                work.messages[place] = None;
-                work.refused = work.refused.saturating_add(1);
-            }
-        }
-    }
-    writeln!(out, "accepted {} refused {}", work.accepted, work.refused)
-}
-
 /// Evaluates the n lowest queued blocks on the desk itself.
 pub fn evaluate_queued(
     desk: &mut Desk,
@@ -294,67 +249,5 @@ pub fn evaluate_queued(
     match stop {
         None => writeln!(out, "evaluated {count}"),
         Some(refusal) => writeln!(out, "evaluated {count} refused {refusal:?}"),
-    }
-}
-
-/// Evaluates the queued blocks and delivers them, one after another.
-pub fn eval(desk: &mut Desk, client: u32, alloc: Global, out: &mut String) -> Result<(), AllocError>
-    requires { client < max_clients }
-{
-    for _ in 0..desk.waiting() {
-        if !desk.has_queued() {
-            return say("done", out);
-        }
-        match eval_first(desk, client, alloc)? {
-            None => {}
-            Some(refusal) => return writeln!(out, "refused {refusal:?}"),
-        }
-    }
-    say("done", out)
-}
-
-/// Evaluates the first queued block and delivers it. One whose message is refused is queued again.
-fn eval_first(
-    desk: &mut Desk,
-    client: u32,
-    alloc: Global,
-) -> Result<Option<DeliverError>, AllocError>
-    requires { client < max_clients }
-{
-    let (frozen, jobs) = desk.take(1)?;
-    match jobs.as_slice().first() {
-        None => Ok(None),
-        Some(job) => {
-            let ticket = job.ticket;
-            match message_of(job, &frozen, alloc) {
-                Ok(Some(message)) => deliver_first(desk, client, message, ticket),
-                Ok(None) => Ok(None),
-                Err(refused) => {
-                    let _ = desk.hand_back(ticket);
-                    Err(refused)
-                }
-            }
-        }
-    }
-}
-
-fn deliver_first(
-    desk: &mut Desk,
-    client: u32,
-    message: Evaluated,
-    ticket: u32,
-) -> Result<Option<DeliverError>, AllocError>
-    requires { client < max_clients }
-{
-    match desk.deliver(client, message) {
-        Ok(()) => Ok(None),
-        Err((_, DeliverError::NoMemory)) => {
-            let _ = desk.hand_back(ticket);
-            Err(AllocError)
-        }
-        Err((_, refusal)) => {
-            let _ = desk.hand_back(ticket);
-            Ok(Some(refusal))
-        }
     }
 }

@@ -15,7 +15,7 @@ pub struct Lines {
 }
 
 impl Lines {
-    /// No line yet, and room for lines of so many bytes.
+    /// No line yet, and room for lines of N bytes.
     pub fn with_room(alloc: Global, bytes: usize) -> Result<Lines, AllocError> {
         Ok(Lines {
             line: Vec::with_capacity(alloc, bytes)?,
@@ -26,7 +26,7 @@ impl Lines {
         })
     }
 
-    /// The line; an empty one where it isn't text.
+    /// The line; an empty one if it isn't text.
     pub fn line(&self) -> &str {
         match str::from_utf8(&self.line) {
             Ok(line) => line,

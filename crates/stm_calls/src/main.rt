@@ -1,40 +1,29 @@
-//! Calls of the crates by a script: each line of standard input is a call, and its answer goes on
-//! standard output.
+//! Calls of the crates by a script: each line of standard input is a call, and its answer goes on standard output.
 //!
-//! The first word of a line names a module, the second a call of it (tests/README.md lists them). A
-//! premise of a call is asked for first, and where it doesn't hold the answer is `refused` with the
-//! reason. A call that is refused memory is made again, or told as `no memory` with the number of
-//! its line and left at that, as `memory again` and `memory once` say.
+//! The first word of a line names a module, the second a call of it (tests/README.md lists them). A premise of a call is tested
+//! first, and if it doesn't hold the answer is `refused` with the reason. A call that runs out of memory is made again, or is
+//! answered by `no memory` with the number of its line and not made again, as `memory again` and `memory once` say.
 #![tactic(auto)]
 
 mod blocks;
-mod cells;
 mod desk_calls;
 mod desk_show;
 mod desk_work;
 mod desks;
 mod evaluating;
-mod frozen;
 mod histories;
 mod input;
-mod log;
-mod log_calls;
 mod pool_calls;
 mod pool_gate;
-mod pool_late;
 mod pools;
-mod queue;
 mod store;
 mod tables;
-mod verdicts;
-mod watch;
 mod words;
 
 use crate::desks::Desks;
-use crate::evaluating::Evaluating;
 use crate::histories::Gathered;
 use crate::input::Lines;
-use crate::log::Logging;
+use crate::store::Held;
 use crate::words::{first_word, number, say};
 use std::alloc::{AllocError, Global};
 use std::io::{Read, Write};
@@ -42,15 +31,12 @@ use std::process::ExitCode;
 use std::sync::Wait;
 use std::thread::Threads;
 use std::time::Clock;
-use stm_queue::Pending;
-use stm_store::{Frozen, Ready, Store, Table};
-use stm_terms::Verdict;
-use stm_watch::Watch;
+use stm_store::Table;
 
-/// The exit status where the input or the output failed.
+/// The exit status if the input or the output failed.
 const BROKEN: u8 = 1;
 
-/// The exit status where memory was refused twice in one line, or before the first.
+/// The exit status if memory ran out twice in one line, or before the first.
 const NO_MEMORY: u8 = 4;
 
 /// Room for the longest line and the longest answer, so that neither asks for memory later.
@@ -58,15 +44,8 @@ const ROOM: usize = 1 << 18;
 
 /// What the calls are made on.
 struct Objects {
-    queue: Pending,
-    watch: Watch,
     table: Table,
-    store: Option<Store>,
-    ready: Option<Ready>,
-    frozen: Option<Frozen>,
-    verdict: Verdict,
-    log: Option<Logging>,
-    evaluating: Evaluating,
+    store: Option<Held>,
     desks: Desks,
     gathered: Gathered,
     calls_once: bool,
@@ -76,15 +55,8 @@ struct Objects {
 impl Drop for Objects {
     fn drop(self) {
         let Objects {
-            queue: _,
-            watch: _,
             table: _,
             store: _,
-            ready: _,
-            frozen: _,
-            verdict: _,
-            log: _,
-            evaluating: _,
             desks: _,
             gathered: _,
             calls_once: _,
@@ -94,56 +66,11 @@ impl Drop for Objects {
 
 fn new_objects(alloc: Global) -> Objects {
     Objects {
-        queue: Pending::empty(alloc),
-        watch: Watch::empty(alloc),
         table: Table::empty(alloc),
         store: None,
-        ready: None,
-        frozen: None,
-        verdict: Verdict::Blocks,
-        log: None,
-        evaluating: Evaluating::new(),
         desks: Desks::new(alloc),
         gathered: Gathered::new(alloc),
         calls_once: false,
-    }
-}
-
-/// Makes a call on the declared variables, the store or its copy.
-fn answer_store(
-    objects: &mut Objects,
-    alloc: Global,
-    module: &str,
-    call: &str,
-    out: &mut String,
-) -> Result<(), AllocError> {
-    match module {
-        "table" => tables::answer(&mut objects.table, alloc, call, out),
-        "verdict" => verdicts::answer(&mut objects.verdict, alloc, call, out),
-        "frozen" => frozen::answer(&mut objects.frozen, alloc, call, out),
-        "cell" => cells::answer(call, out),
-        "store" => answer_store_itself(objects, alloc, call, out),
-        _ => say("no such call", out),
-    }
-}
-
-fn answer_store_itself(
-    objects: &mut Objects,
-    alloc: Global,
-    call: &str,
-    out: &mut String,
-) -> Result<(), AllocError> {
-    if call == "open" {
-        return store::open(&mut objects.store, alloc, &objects.table, out);
-    }
-    match &mut objects.store {
-        Some(store) => match call {
-            "freeze" => store::freeze(store, &mut objects.frozen, out),
-            "prepare" => store::prepare(store, &objects.verdict, &mut objects.ready, out),
-            "install" => store::install(store, &mut objects.ready, out),
-            _ => store::answer(store, &objects.verdict, alloc, call, out),
-        },
-        None => say("refused no store", out),
     }
 }
 
@@ -163,50 +90,11 @@ fn answer_pool<T: Threads + Wait + Clock + Sync>(
         }
         "open" => pools::answer(rt, &objects.table, alloc, objects.calls_once, rest, out),
         "gate" => pool_gate::answer(rt, &objects.table, alloc, rest, out),
-        "late" => pool_late::answer(rt, &objects.table, alloc, rest, out),
         _ => say("no such call", out),
     }
 }
 
-/// Makes a call of the evaluator.
-fn answer_eval<T: Threads + Sync>(
-    objects: &mut Objects,
-    rt: &T,
-    alloc: Global,
-    text: &str,
-    out: &mut String,
-) -> Result<(), AllocError> {
-    let (call, levels) = first_word(text);
-    let (table, frozen) = (&objects.table, &objects.frozen);
-    let kept = &mut objects.evaluating;
-    if call == "forked" {
-        return evaluating::answer_forked(kept, frozen, rt, alloc, number(levels), out);
-    }
-    evaluating::answer(kept, table, frozen, alloc, text, out)
-}
-
-/// Makes a call on a text, a block that many hold, or what `answer_store` answers.
-fn answer_block(
-    objects: &mut Objects,
-    alloc: Global,
-    module: &str,
-    call: &str,
-    out: &mut String,
-) -> Result<(), AllocError> {
-    match module {
-        "text" => blocks::answer(&objects.table, alloc, call, out),
-        "block" => evaluating::answer_block(
-            &mut objects.evaluating,
-            &objects.table,
-            alloc,
-            call,
-            out,
-        ),
-        _ => answer_store(objects, alloc, module, call, out),
-    }
-}
-
-/// Makes a call of one thread on a part of the scheduler.
+/// Makes a call of one thread.
 fn answer_part(
     objects: &mut Objects,
     alloc: Global,
@@ -215,12 +103,12 @@ fn answer_part(
     out: &mut String,
 ) -> Result<(), AllocError> {
     match module {
-        "queue" => queue::answer(&mut objects.queue, alloc, call, out),
-        "watch" => watch::answer(&mut objects.watch, alloc, call, out),
-        "log" => log_calls::answer(&mut objects.log, &objects.frozen, alloc, call, out),
+        "tokens" => blocks::answer_tokens(alloc, call, out),
+        "table" => tables::answer(&mut objects.table, alloc, call, out),
+        "store" => store::answer(&mut objects.store, &objects.table, alloc, call, out),
         "desk" => desks::answer(&mut objects.desks, &objects.table, alloc, call, out),
         "history" => histories::answer(&mut objects.gathered, &objects.desks, alloc, call, out),
-        _ => answer_block(objects, alloc, module, call, out),
+        _ => say("no such call", out),
     }
 }
 
@@ -240,12 +128,12 @@ fn answer<T: Threads + Wait + Clock + Sync>(
             Ok(())
         }
         "pool" => answer_pool(objects, rt, alloc, call, out),
-        "eval" => answer_eval(objects, rt, alloc, call, out),
+        "eval" => evaluating::answer(rt, &objects.table, alloc, call, out),
         _ => answer_part(objects, alloc, module, call, out),
     }
 }
 
-/// Answers a line. A call that is refused memory is made again, or told by the number of its line.
+/// Answers a line. A call that runs out of memory is made again, or answered by the number of its line.
 fn answer_line<T: Threads + Wait + Clock + Sync>(
     objects: &mut Objects,
     rt: &T,
@@ -263,7 +151,7 @@ fn answer_line<T: Threads + Wait + Clock + Sync>(
     answer(objects, rt, alloc, lines.line(), out)
 }
 
-/// Answers each line of the reader on the writer, and tells the exit status.
+/// Answers each line of the reader on the writer, and returns the exit status.
 fn run<T: Threads + Wait + Clock + Sync, R: Read, W: Write>(
     objects: &mut Objects,
     rt: &T,

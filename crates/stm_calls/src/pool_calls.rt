@@ -1,7 +1,7 @@
 //! The calls of a shared desk, each on its own.
 
+use crate::blocks::block_of;
 use crate::desk_calls::say_finish;
-use crate::desks::script;
 use crate::words::{first_word, number, say, say_number, say_whether};
 use std::alloc::{AllocError, Global};
 use std::fmt::Write;
@@ -24,7 +24,7 @@ fn submit<L: Ledger, R: Wait>(
     text: &str,
     out: &mut String,
 ) -> Result<(), AllocError> {
-    let Some(block) = script(alloc, table, text, out)? else {
+    let Some(block) = block_of(alloc, table, text, out)? else {
         return Ok(());
     };
     match shared.submit(rt, pass, block) {
@@ -62,7 +62,7 @@ fn cancel<L: Ledger, R: Wait>(
     }
 }
 
-/// Answers with the number of events and the values of all variables.
+/// Prints the number of events and the values of all variables.
 fn say_view(view: &View, out: &mut String) -> Result<(), AllocError> {
     write!(out, "events {} store", view.events)?;
     for id in 0..view.store.len() as u32 {
@@ -85,7 +85,7 @@ fn view<L: Ledger, R: Wait>(
     }
 }
 
-/// Keeps a message, where its block was evaluated; otherwise its ticket is queued again.
+/// Keeps a message, if its block was evaluated; otherwise its ticket is queued again.
 fn keep_message<L: Ledger, R: Wait>(
     shared: &SharedDesk<L>,
     made: Result<Evaluated, (Job, AllocError)>,
@@ -207,7 +207,7 @@ pub fn answer_shared<L: Ledger, R: Wait>(
     }
 }
 
-/// A gate that says no so many times, and stops the desk after so many deliveries.
+/// A gate that says no N times, and stops the desk after M deliveries.
 #[derive(Drop)]
 struct Counting<'a, L: Ledger> {
     shared: &'a SharedDesk<L>,
@@ -233,8 +233,7 @@ impl<'a, L: Ledger, R: Wait> Gate<R> for Counting<'a, L> {
     }
 }
 
-/// Works with the last pass until so many deliveries were made, behind a gate that first says no so
-/// many times.
+/// Works with the last pass until N deliveries were made, behind a gate that first says no M times.
 pub fn work<L: Ledger, R: Wait + Threads + Sync>(
     shared: &SharedDesk<L>,
     passes: &mut Vec<Pass<L>>,

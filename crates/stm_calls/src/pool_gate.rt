@@ -3,7 +3,7 @@
 ghost use Rattle.std.specs.Prelude.{◌≡◌};
 ghost use Rattle.std.specs.Thread.{IsSync};
 
-use crate::desks::script;
+use crate::blocks::block_of;
 use crate::words::say;
 use std::alloc::{AllocError, Global};
 use std::fmt::Write;
@@ -88,7 +88,7 @@ fn run_worker<'a, L: Ledger, R: Threads + Wait + Clock + Sync>(
     (pass, end)
 }
 
-/// Two workers in threads of their own, until there are four events; nothing where a thread can't
+/// Two workers in threads of their own, until there are four events; nothing if a thread can't
 /// be started.
 fn two_workers<L: Ledger + Send + Sync, R: Threads + Wait + Clock + Sync>(
     rt: &R,
@@ -155,7 +155,7 @@ fn say_report(report: &Report, gate: &Held, out: &mut String) -> Result<(), Allo
     say_installed(report.desk.history(), out)
 }
 
-/// Answers with what closing the desk gave, where the workers had what they needed.
+/// Prints what closing the desk gave, if the workers had what they needed.
 fn say_closed<L: Ledger>(
     closed: &Result<Report, (SharedDesk<L>, Vec<Pass<L>>, CloseError)>,
     worked: Result<(), AllocError>,
@@ -200,8 +200,8 @@ fn put_back<L: Ledger>(
     }
 }
 
-/// Two workers evaluate and deliver, and their passes are with the others again, but where a thread
-/// or memory was refused.
+/// Two workers evaluate and deliver, and their passes are with the others again, unless a thread
+/// couldn't be started or memory ran out.
 fn with_both<L: Ledger + Send + Sync, R: Threads + Wait + Clock + Sync>(
     shared: &SharedDesk<L>,
     rt: &R,
@@ -265,7 +265,7 @@ pub fn answer<R: Threads + Wait + Clock + Sync>(
     text: &str,
     out: &mut String,
 ) -> Result<(), AllocError> {
-    match script(alloc, table, text, out)? {
+    match block_of(alloc, table, text, out)? {
         Some(block) => answer_with::<Brand, R>(rt, alloc, Blank::new(3), table, &block, out),
         None => Ok(()),
     }

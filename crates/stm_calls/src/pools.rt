@@ -44,16 +44,16 @@ impl<L: Ledger> Drop for Session<L> {
     }
 }
 
-/// The calls of a line, which are separated by ` / `, and whether one that is refused memory is left
-/// at that.
+/// The calls of a line, which are separated by ` / `, and whether one that runs out of memory is not
+/// made again.
 #[derive(Clone, Copy)]
 struct Calls<'a> {
     text: &'a str,
     are_once: bool,
 }
 
-/// Answers with what a desk was when it was closed. Its history is judged again where that was
-/// refused memory, since the desk is open no more.
+/// Prints what a desk was when it was closed. Its history is judged again if that ran out of
+/// memory, since the desk is open no more.
 fn say_report(report: &Report, alloc: Global, out: &mut String) -> Result<(), AllocError> {
     let queued = if report.desk.has_queued() {
         "yes"
@@ -114,12 +114,12 @@ fn close<L: Ledger>(
 ) -> Result<(), AllocError> {
     let mut kept = Vec::with_capacity(alloc, session.passes.len())?;
     move_last(&mut session.passes, &mut kept, without)?;
-    let told = match session.shared.take() {
+    let answered = match session.shared.take() {
         Some(shared) => close_desk(session, shared, alloc, out),
         None => say("refused no desk", out),
     };
     move_last(&mut kept, &mut session.passes, without)?;
-    told
+    answered
 }
 
 /// Makes one call of a line.
@@ -149,9 +149,9 @@ fn answer_call<L: Ledger, R: Wait + Threads + Sync>(
     }
 }
 
-/// Makes a call of a line. One that is refused memory is made again, or answered as `no memory` with
-/// its number, from 0, and left at that. A worker that is refused memory has stopped the desk, so
-/// the line begins anew where its call isn't left at that.
+/// Makes a call of a line. One that runs out of memory is made again, or answered as `no memory` with
+/// its number, from 0. A worker that runs out of memory has stopped the desk, so the whole line is
+/// made again unless calls are made once.
 fn answer_numbered<L: Ledger, R: Wait + Threads + Sync>(
     session: &mut Session<L>,
     rt: &R,

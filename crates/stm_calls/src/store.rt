@@ -1,152 +1,157 @@
-//! Calls of the store.
+//! A store on the declared variables, with a copy that is held, so that a change copies the pages that it writes.
 
 ghost use Rattle.std.specs.Prelude.{◌≡◌, ◌<◌};
-ghost use Rattle.stm_store.specs.Cells.{Fits, plains};
+ghost use Rattle.stm_store.specs.Cells.{Fits};
 
-use crate::words::{first_word, kind, number, reference, say, say_count, say_whether};
+use crate::words::{first_word, number, say};
 use std::alloc::{AllocError, Global};
 use std::fmt::Write;
-use stm_store::{Applied, ApplyError, Frozen, Ready, Store, Table};
-use stm_terms::{Ref, Ty, Verdict, write_type, write_value};
+use stm_store::{Applied, ApplyError, Frozen, Store, Table};
+use stm_terms::{Base, News, Ty, Value, Verdict, Writes, write_type, write_value};
+
+/// A store, and a copy of what it held when it was opened.
+pub struct Held {
+    store: Store,
+    copy: Frozen,
+}
+
+// Written out, and not derived, so that the proof of each owner calls it once.
+impl Drop for Held {
+    fn drop(self) {
+        let Held { store: _, copy: _ } = self;
+    }
+}
 
 /// Opens a store on the declared variables.
 pub fn open(
-    store: &mut Option<Store>,
+    held: &mut Option<Held>,
     alloc: Global,
     table: &Table,
     out: &mut String,
 ) -> Result<(), AllocError> {
-    *store = Some(Store::open(alloc, table)?);
+    let store = Store::open(alloc, table)?;
+    let copy = store.freeze()?;
+    *held = Some(Held { store, copy });
     say("done", out)
 }
 
-/// Keeps a copy of the store.
-pub fn freeze(
-    store: &Store,
-    frozen: &mut Option<Frozen>,
-    out: &mut String,
-) -> Result<(), AllocError> {
-    *frozen = Some(store.freeze()?);
-    say("done", out)
+/// Writes of 7 to variables.
+fn writes(alloc: Global, words: &str) -> Result<Vec<(u32, Value)>, AllocError> {
+    let mut found = Vec::new(alloc);
+    for word in words.split_whitespace() {
+        found.push((number(word), Value::Int(7)))?;
+    }
+    Ok(found)
 }
 
-/// Answers with what a verdict did: the number of the first new variable, and the result.
+/// A new variable that holds 5.
+fn news(alloc: Global) -> Result<Vec<(Ty, Value)>, AllocError> {
+    let mut made = Vec::new(alloc);
+    let int = Ty {
+        base: Base::Int,
+        refs: 0,
+    };
+    made.push((int, Value::Int(5)))?;
+    Ok(made)
+}
+
+/// A verdict that writes 7 to variables, and makes one that holds 5.
+fn verdict(alloc: Global, words: &str) -> Result<Verdict, AllocError> {
+    let writes = Writes::from_vec(writes(alloc, words)?);
+    Ok(Verdict::Commits {
+        writes,
+        news: News::from_vec(news(alloc)?),
+        result: Value::Unit,
+    })
+}
+
+/// Prints what a verdict did: the number of the first new variable.
 fn say_applied(applied: Applied, out: &mut String) -> Result<(), AllocError> {
-    write!(out, "first {} result ", applied.first_new)?;
-    match applied.result {
-        Some(value) => write_value(value, out)?,
-        None => out.push_str("none")?,
-    }
-    out.push_str("\n")
+    writeln!(out, "first {}", applied.first_new)
 }
 
-fn apply(store: &mut Store, verdict: &Verdict, out: &mut String) -> Result<(), AllocError> {
-    if !store.fits(verdict) {
-        return say("refused misfit", out);
-    }
-    match store.apply(verdict) {
+/// Applies a verdict, or prepares and installs it.
+fn change(
+    store: &mut Store,
+    verdict: &Verdict,
+    in_place: bool,
+    out: &mut String,
+) -> Result<(), AllocError>
+    requires { Fits store.old verdict.now }
+{
+    let applied = if in_place {
+        store.apply(verdict)
+    } else {
+        match store.prepare(verdict) {
+            Ok(ready) => Ok(store.install(ready)),
+            Err(refusal) => Err(refusal),
+        }
+    };
+    match applied {
         Ok(applied) => say_applied(applied, out),
         Err(ApplyError::CellsFull) => say("refused CellsFull", out),
         Err(ApplyError::NoMemory) => Err(AllocError),
     }
 }
 
-/// Prepares the verdict, to be installed.
-pub fn prepare(
-    store: &Store,
-    verdict: &Verdict,
-    ready: &mut Option<Ready>,
-    out: &mut String,
-) -> Result<(), AllocError> {
-    if !store.fits(verdict) {
-        return say("refused misfit", out);
+/// Prints the variables that a verdict changes.
+fn say_changes(store: &Store, verdict: &Verdict, out: &mut String) -> Result<(), AllocError>
+    requires { Fits store.now verdict.now }
+{
+    out.push_str("changes")?;
+    for variable in store.changes(verdict)?.as_slice() {
+        write!(out, " {variable}")?;
     }
-    match store.prepare(verdict) {
-        Ok(prepared) => {
-            *ready = Some(prepared);
-            say("done", out)
-        }
-        Err(ApplyError::CellsFull) => say("refused CellsFull", out),
-        Err(ApplyError::NoMemory) => Err(AllocError),
-    }
+    say("", out)
 }
 
-/// Installs what was prepared.
-pub fn install(
+/// Makes a call with the verdict of its words.
+fn answer_verdict(
     store: &mut Store,
-    ready: &mut Option<Ready>,
-    out: &mut String,
-) -> Result<(), AllocError> {
-    match ready.take() {
-        Some(prepared) => say_applied(store.install(prepared), out),
-        None => say("refused nothing prepared", out),
-    }
-}
-
-/// Variables with their types, of words as `#0:Int` or `#1:TVar.Bool`.
-pub fn uses(alloc: Global, words: &str) -> Result<Vec<(u32, Ty)>, AllocError> {
-    let mut found = Vec::new(alloc);
-    for word in words.split_whitespace() {
-        let (variable, ty) = word.split_once(':').unwrap_or((word, "Int"));
-        if let Ref::Old(id) = reference(variable) {
-            found.push((id, kind(ty)))?;
-        }
-    }
-    Ok(found)
-}
-
-fn answer_covers(
-    store: &Store,
     alloc: Global,
+    call: &str,
     words: &str,
     out: &mut String,
 ) -> Result<(), AllocError> {
-    let uses = uses(alloc, words)?;
-    say_whether(store.covers(uses.as_slice()), out)
-}
-
-fn answer_show(store: &Store, id: u32, out: &mut String) -> Result<(), AllocError> {
-    if id as usize >= store.len() {
-        return say("refused no variable", out);
-    }
-    write_type(store.kind(id), out)?;
-    out.push_str(" = ")?;
-    write_value(store.value(id), out)?;
-    writeln!(out, " count {}", store.count(id))
-}
-
-/// Answers with the variables that a verdict changes.
-fn answer_changes(store: &Store, verdict: &Verdict, out: &mut String) -> Result<(), AllocError> {
-    if !store.fits(verdict) {
+    let verdict = verdict(alloc, words)?;
+    if !store.fits(&verdict) {
         return say("refused misfit", out);
     }
-    let changed = store.changes(verdict)?;
-    out.push_str("changes")?;
-    if changed.is_empty() {
-        out.push_str(" none")?;
+    match call {
+        "changes" => say_changes(store, &verdict, out),
+        _ => change(store, &verdict, call == "apply", out),
     }
-    for variable in changed.as_slice() {
-        write!(out, " {variable}")?;
-    }
-    out.push_str("\n")
 }
 
-/// Answers a call of the store.
+/// Prints a variable of the store, and what the copy holds of it.
+fn say_cell(held: &Held, id: u32, out: &mut String) -> Result<(), AllocError> {
+    if id as usize >= held.store.len() {
+        return say("refused no variable", out);
+    }
+    write_type(held.store.kind(id), out)?;
+    out.push_str(" = ")?;
+    write_value(held.store.value(id), out)?;
+    write!(out, " count {}", held.store.count(id))?;
+    if (id as usize) < held.copy.len() {
+        out.push_str(" copy ")?;
+        write_value(held.copy.value(id), out)?;
+    }
+    say("", out)
+}
+
+/// Makes a call on the store.
 pub fn answer(
-    store: &mut Store,
-    verdict: &Verdict,
+    held: &mut Option<Held>,
+    table: &Table,
     alloc: Global,
     text: &str,
     out: &mut String,
 ) -> Result<(), AllocError> {
     let (call, rest) = first_word(text);
-    match call {
-        "len" => say_count(store.len(), out),
-        "show" => answer_show(store, number(rest), out),
-        "covers" => answer_covers(store, alloc, rest, out),
-        "changes" => answer_changes(store, verdict, out),
-        "fits" => say_whether(store.fits(verdict), out),
-        "apply" => apply(store, verdict, out),
-        _ => say("no such call", out),
+    match (call, held) {
+        ("open", held) => open(held, alloc, table, out),
+        ("show", Some(held)) => say_cell(held, number(rest), out),
+        (_, Some(held)) => answer_verdict(&mut held.store, alloc, call, rest, out),
+        (_, None) => say("refused no store", out),
     }
 }

@@ -1,16 +1,21 @@
-//! Calls of the declared variables.
+//! Declares variables.
 
 ghost use Rattle.std.specs.Prelude.{◌≡◌, IsTrue};
 ghost use Rattle.stm_terms.specs.Names.{is_name_text};
 
-use crate::words::{INT, first_word, number, say, say_count, say_number};
+use crate::words::{first_word, number, say};
 use std::alloc::{AllocError, Global};
 use std::fmt::Write;
 use stm_parse::{Declaration, Init, ParseFault, parse_declare};
 use stm_store::{DeclareError, Table};
-use stm_terms::{Ref, Ty, Value, is_name, write_type, write_value};
+use stm_terms::{Base, Ref, Ty, Value, is_name};
 
-/// Declares a variable; the second level of the answer is the refusal.
+const INT: Ty = Ty {
+    base: Base::Int,
+    refs: 0,
+};
+
+/// Declares a variable; the second level of the result is the refusal.
 fn declare(
     table: &mut Table,
     name: &str,
@@ -22,13 +27,6 @@ fn declare(
     match table.declare(name, kind, value) {
         Err(DeclareError::NoMemory) => Err(AllocError),
         answer => Ok(answer),
-    }
-}
-
-fn answer_declared(answer: Result<u32, DeclareError>, out: &mut String) -> Result<(), AllocError> {
-    match answer {
-        Ok(number) => writeln!(out, "{number}"),
-        Err(refusal) => writeln!(out, "refused {refusal:?}"),
     }
 }
 
@@ -52,8 +50,10 @@ fn declare_read(
         return say("refused no name", out);
     }
     let value = initial(table, &declaration.init);
-    let answer = declare(table, name, declaration.ty, value)?;
-    answer_declared(answer, out)
+    match declare(table, name, declaration.ty, value)? {
+        Ok(number) => writeln!(out, "{number}"),
+        Err(refusal) => writeln!(out, "refused {refusal:?}"),
+    }
 }
 
 /// Declares the variable of a text.
@@ -70,13 +70,9 @@ pub fn answer_declare(
     }
 }
 
-/// The name of a number after a front, as `v17`.
-fn numbered(alloc: Global, front: &str, number: u32) -> Result<String, AllocError> {
-    format!(in alloc; "{front}{number}")
-}
-
+/// Declares a variable that is named by its number, as `v17`.
 fn declare_numbered(table: &mut Table, alloc: Global, number: u32) -> Result<(), AllocError> {
-    let text = numbered(alloc, "v", number)?;
+    let text = format!(in alloc; "v{number}")?;
     let name = text.as_str();
     if is_name(name) {
         let _ = declare(table, name, INT, Value::Int(0))?;
@@ -84,7 +80,7 @@ fn declare_numbered(table: &mut Table, alloc: Global, number: u32) -> Result<(),
     Ok(())
 }
 
-/// Declares `Int` variables of value 0, each named by its number, until there are so many.
+/// Declares `Int` variables of value 0, each named by its number, until there are N.
 fn declare_numbers(table: &mut Table, alloc: Global, count: u32) -> Result<(), AllocError> {
     let first = table.len() as u32;
     for number in first..count {
@@ -101,54 +97,7 @@ fn declare_many(table: &mut Table, alloc: Global, count: u32) -> Result<(), Allo
     Ok(())
 }
 
-/// How many of the names of a front are found at their numbers.
-fn found(table: &Table, alloc: Global, front: &str, count: u32) -> Result<usize, AllocError> {
-    let mut right = 0usize;
-    for number in 0..count {
-        let name = numbered(alloc, front, number)?;
-        if table.find(name.as_str()) == Some(number) {
-            right = right.saturating_add(1);
-        }
-    }
-    Ok(right)
-}
-
-fn answer_show(table: &Table, id: u32, out: &mut String) -> Result<(), AllocError> {
-    if id as usize >= table.len() {
-        return say("refused no variable", out);
-    }
-    out.push_str(table.name(id))?;
-    out.push_str(" : ")?;
-    write_type(table.kind(id), out)?;
-    out.push_str(" = ")?;
-    write_value(table.value(id), out)?;
-    out.push_str("\n")
-}
-
-fn copy(table: &mut Table, alloc: Global) -> Result<(), AllocError> {
-    let copied = table.copy(alloc)?;
-    *table = copied;
-    Ok(())
-}
-
-/// Answers a call that changes the table.
-fn answer_change(
-    table: &mut Table,
-    alloc: Global,
-    call: &str,
-    rest: &str,
-    out: &mut String,
-) -> Result<(), AllocError> {
-    match call {
-        "new" => *table = Table::empty(alloc),
-        "many" => declare_many(table, alloc, number(rest))?,
-        "copy" => copy(table, alloc)?,
-        _ => return say("no such call", out),
-    }
-    say("done", out)
-}
-
-/// Answers a call of the declared variables.
+/// Makes a call on the declared variables.
 pub fn answer(
     table: &mut Table,
     alloc: Global,
@@ -158,13 +107,14 @@ pub fn answer(
     let (call, rest) = first_word(text);
     match call {
         "declare" => answer_declare(table, alloc, rest, out),
-        "find" => say_number(table.find(rest), out),
-        "found" => {
-            let (front, count) = first_word(rest);
-            say_count(found(table, alloc, front, number(count))?, out)
+        "new" => {
+            *table = Table::empty(alloc);
+            say("done", out)
         }
-        "len" => say_count(table.len(), out),
-        "show" => answer_show(table, number(rest), out),
-        _ => answer_change(table, alloc, call, rest, out),
+        "many" => {
+            declare_many(table, alloc, number(rest))?;
+            say("done", out)
+        }
+        _ => say("no such call", out),
     }
 }

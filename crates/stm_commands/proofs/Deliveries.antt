@@ -1,5 +1,5 @@
 -- What a delivery of a job's message does: the block under a ticket stays the same, so it is the job's.
-use Rattle.std.proofs.Common.{◌≡◌, ℕ, zero, suc, Bool, true, false, cond, List, [], ◌∷◌, Option, Some, None, Result, Ok, Err, IfOk, IfErr, OnOk, refl, sym, ap, ◌∙◌, subst, append-nil}
+use Rattle.std.proofs.Common.{◌≡◌, ℕ, zero, suc, List, [], ◌∷◌, Option, Some, None, Result, Ok, Err, IfOk, IfErr, OnOk, refl, sym, ap, ◌∙◌, subst, append-nil}
 use Rattle.std.specs.Prelude.{option_map, slice_get, length, map}
 use Rattle.stm_terms.specs.declared.kinds.Ty.{Ty}
 use Rattle.stm_terms.specs.declared.values.Value.{Value}
@@ -13,24 +13,22 @@ use Rattle.stm_eval.specs.declared.message.Evaluated.{Evaluated}
 use Rattle.stm_eval.specs.EvaluatedFields.{message_ticket, message_block, message_reads, message_verdict}
 use Rattle.stm_events.specs.declared.staleness.StalenessRule.TheVariants.{Changed}
 use Rattle.stm_events.specs.declared.errors.DeliverError.{DeliverError}
-use Rattle.stm_events.specs.declared.errors.DeliverError.TheVariants.{Gone, Already}
 use Rattle.stm_events.specs.declared.event.Event.{Event}
 use Rattle.stm_events.specs.declared.event.What.TheVariants.{Installed}
 use Rattle.stm_queue.specs.Queue.{Entry}
 use Rattle.stm_store.specs.Cells.{plains}
-use Rattle.stm_store.specs.declared.cell.Cell.{Cell}
 use Rattle.stm_machine.specs.JobsHandedOut.{AreJobs, AreCovered, sent}
 use Rattle.stm_events.specs.Laws.{BlocksStay}
 use Rattle.stm_machine.specs.Machine.{event}
-use Rattle.stm_events.specs.Refusals.{DeliverTold, differing, overtaken_first}
-use Rattle.stm_events.specs.SlowDesk.{Waiter, IsLegal, under, is_current, state, find_waiter}
+use Rattle.stm_events.specs.Refusals.{DeliverTold}
+use Rattle.stm_events.specs.SlowDesk.{Waiter, IsLegal, state, find_waiter}
 use Rattle.stm_desk.specs.Refusals.{TellsDeskDelivery, left_by}
 use Rattle.stm_desk.specs.Seen.{Seen, now, is_full, with_event}
 use Rattle.stm_commands.specs.declared.evaluation.Progress.{Progress}
 use Rattle.stm_commands.specs.Evaluation.{Delivered, delivered_all, all_queued, evaluated}
 use Rattle.stm_commands.specs.Jobs.{jobs_of, job_at, delivery_first, delivery_refusal, installed, delivery_step, deliver_job_step}
 use Rattle.stm_commands.specs.OpenDesk.{HandedOut}
-use Rattle.stm_commands.specs.OpenInvariant.{refusal_unevaluated, handed_out, JobStands, JobsStand, HasGrown, after_message}
+use Rattle.stm_commands.specs.OpenInvariant.{handed_out, JobStands, JobsStand, HasGrown, after_message}
 use Rattle.stm_commands.proofs.Growing.{now_next, grown_next, given_are, given_stand, queued_stand}
 
 -- the block that waits is the job's
@@ -129,31 +127,3 @@ evaluated_all d e f cells js r q t s a h = progress_is f _ _ r (taken_all d e ce
 pub given_queued : (d e : Seen) (cells : List (Ty × Value)) (js : List Job) → e ≡ record d { pending = sent (length js) d.pending } → AreJobs (now d) js → AreCovered cells js → JobsStand e (map (handed_out cells) js)
 given_queued d e cells js q a c =
     subst (λ (f : Seen). JobsStand f (map (handed_out cells) js)) (sym q) (queued_stand d (sent (length js) d.pending) (map (handed_out cells) js) (given_stand d cells js a c))
-
--- ---- a delivery that is refused whatever is delivered
-unevaluated_by : (store : List Cell) (o : Option Waiter) (reads : List (ℕ × Value)) (d : Seen) (e : DeliverError) → Some e ≡ refusal_unevaluated o → delivery_first store o reads d ≡ Some e
-unevaluated_by store None reads d e p = sym p
-unevaluated_by store (Some w) reads d e p = by (is_current w) p
-  where
-    by : (b : Bool) → Some e ≡ cond b (Some Already) None → cond b (Some Already) (overtaken_first (differing (under store) reads) (is_full d)) ≡ Some e
-    by true q = sym q
-    by false q = absurd cc
-
-pub refused_unevaluated : (d : Seen) (j : HandedOut) (e : DeliverError) → Some e ≡ refusal_unevaluated (find_waiter j.ticket (now d).waiters) → delivery_refusal d j ≡ Some e
-refused_unevaluated d j e p = unevaluated_by (now d).store (find_waiter j.ticket (now d).waiters) (reads_of (cell_value j.store) j.block.tree) d e p
-
--- it leaves the desk as it was
-left_unevaluated : (d : Seen) (o : Option Waiter) (t : ℕ) (e : DeliverError) → Some e ≡ refusal_unevaluated o → left_by e t d ≡ d
-left_unevaluated d o t e p = by o e p
-  where
-    by : (o : Option Waiter) (e : DeliverError) → Some e ≡ refusal_unevaluated o → left_by e t d ≡ d
-    by None e p = let q : e ≡ Gone = cc in ap (λ (x : DeliverError). left_by x t d) q
-    by (Some w) e p = two (is_current w) p
-      where
-        two : (b : Bool) → Some e ≡ cond b (Some Already) None → left_by e t d ≡ d
-        two true q = let r : e ≡ Already = cc in ap (λ (x : DeliverError). left_by x t d) r
-        two false q = absurd cc
-
-pub same_unevaluated : (d : Seen) (j : HandedOut) (e : DeliverError) → Some e ≡ refusal_unevaluated (find_waiter j.ticket (now d).waiters) → d ≡ (deliver_job_step d (Some j)).0
-same_unevaluated d j e p =
-    sym (left_unevaluated d (find_waiter j.ticket (now d).waiters) j.ticket e p) ∙ ap (λ (o : Option DeliverError). (delivery_step d j o).0) (sym (refused_unevaluated d j e p))

@@ -12,7 +12,7 @@ use Rattle.stm_check.specs.CheckFunction.{checked, table_kinds}
 use Rattle.stm_check.specs.declared.fault.TypeFault.{TypeFault}
 use Rattle.stm_store.specs.Cells.{Covers, plains}
 use Rattle.stm_store.specs.Tables.{Declared, opened}
-use Rattle.stm_history.specs.WholeBlocks.{given_type, block_if_typed, block_if_parsed, checked_block}
+use Rattle.stm_event_lines.specs.WholeBlocks.{given_type, block_if_typed, block_if_parsed, checked_block}
 use Rattle.stm_blocks.specs.declared.refusal.Refusal.{Refusal}
 use Rattle.stm_blocks.specs.CompiledBlock.{block_or_refusal, compiled_block}
 use Rattle.stm_blocks.specs.ToldRefusal.{told_refusal}

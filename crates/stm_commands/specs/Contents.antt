@@ -7,7 +7,7 @@ use Rattle.stm_check.specs.TypedBlock.{Block}
 use Rattle.stm_store.specs.declared.cell.Cell.{Cell}
 use Rattle.stm_store.specs.Tables.{Declared}
 use Rattle.stm_history.specs.HistoryText.{history_text as text_of_history}
-use Rattle.stm_history.specs.Lines.{latest_format}
+use Rattle.stm_event_lines.specs.Lines.{latest_format}
 use Rattle.stm_events.specs.SlowDesk.{Since, Waiter, Slow, Standing, New, Stale, Current, under, find_waiter, standing}
 use Rattle.stm_desk.specs.Seen.{now}
 use Rattle.stm_lines.specs.NumberArgument.{number_argument}

@@ -1,36 +1,132 @@
--- What is written where nothing is done: a prefix of any text.
-use Rattle.std.proofs.Common.{ℕ, List, [], inl, refl, Option, Some, None}
-use Rattle.std.specs.Prelude.{◌≢◌, IfSome}
+-- That the program does what its definition says.
+use Rattle.std.proofs.Common.{◌≡◌, ℕ, Bool, true, false, cond, List, [], ◌∷◌, inl, inr, refl, sym, subst, Option, Some, None}
+use Rattle.std.specs.Prelude.{◌⊎◌, IfSome, Result, Err}
 use Rattle.std.specs.Io.KnownBytes.{Appends, Keeps}
 use Rattle.std.proofs.KnownBytes.{Appends-kept, Appends-nil}
-use Rattle.stm_console.specs.Checking.{BeginsFindingText}
-use Rattle.stm_run.specs.Console.{console_text}
-use Rattle.stm_words.specs.CommandLine.{IfRun}
+use Rattle.clap.specs.Words.{Kinds, HasKind}
+use Rattle.clap.specs.Values.{kind_of}
+use Rattle.clap.specs.declared.error.Error.{Error}
+use Rattle.clap.specs.declared.error.kind.ErrorKind.TheVariants.{DisplayHelp, DisplayVersion, OutOfMemory}
 use Rattle.stm_terms.specs.Texts.{IsPrefixOf}
+use Rattle.stm_lines.specs.RunStatus.{status_of}
+use Rattle.stm_lines.specs.declared.run_fault.RunFault.{RunFault}
+use Rattle.stm_lines.specs.declared.run_fault.RunFault.TheVariants as run_fault
+use Rattle.stm_run.specs.Console.{console_text}
+use Rattle.stm_storm.specs.declared.storming.StormFault.{StormFault}
+use Rattle.stm_storm.specs.declared.storming.StormFault.TheVariants as storm_fault
+use Rattle.stm_exploration.specs.ExploreStatus.{explore_status}
+use Rattle.stm_exploration.specs.declared.exploring.ExploreFault.{ExploreFault}
+use Rattle.stm_exploration.specs.declared.exploring.ExploreFault.TheVariants as explore_fault
+use Rattle.stm_words.specs.CommandLine.{answers_of, are_mistakes, is_help, is_mistake, is_version, request_of, version_line}
 use Rattle.stm_words.specs.declared.command_line.Request.{Request}
-use Rattle.stm_words.specs.declared.command_line.Request.TheVariants.{Run, Storm, Explore, Check}
+use Rattle.stm_words.specs.declared.command_line.Request.TheVariants.{Run, Storm, Explore, Check, CheckWhy}
+use Rattle.stm_words.proofs.WordAnswers.{told_help, told_mistake, told_nothing, told_version}
+use Rattle.stm_console.specs.Checking.{BeginsFindingText}
+use Rattle.stm_console.specs.ExitStatus.{IsFailure, storm_status}
+use Rattle.stm_console.specs.Program.{Asked, Do, Help, Mistake, Several, Version, asked_by, asked_of, ProgramDoes, ReadsNothing, Streams, Writes, WritesNothing, WritesPartOf}
+use Rattle.stm_console.specs.Why.{BeginsAnswerWhy}
+use Rattle.stm_console.specs.declared.status.TheConstants.{DONE, NOT_RIGHT, NO_MEMORY, REFUSED}
+
+-- ---- what failed
+
+failure : (e : RunFault) → IsFailure (status_of e)
+failure run_fault.Read = inl refl
+failure run_fault.Write = inl refl
+failure run_fault.NoMemory = inr refl
+
+pub failed : (e : RunFault) (n : ℕ) → n ≡ status_of e → IsFailure n
+failed e n is = subst IsFailure (sym is) (failure e)
+
+pub storm_ends : (A P : Type 0) (r : Result (Unit {0}) StormFault) (e : StormFault) (n : ℕ) → r ≡ Err e → n ≡ storm_status e
+    → (r ≡ Err storm_fault.Replay → P) → A ⊎ (((n ≡ NOT_RIGHT) × P) ⊎ IsFailure n)
+storm_ends A P r (storm_fault.Run fault) n is s replay = inr (inr (failed fault n s))
+storm_ends A P r (storm_fault.Script line) n is s replay = inr (inr (inl s))
+storm_ends A P r storm_fault.Replay n is s replay = inr (inl (s, replay is))
+
+pub exploration_ends : (A : Type 0) (e : ExploreFault) (n : ℕ) → n ≡ explore_status e → A ⊎ ((n ≡ NOT_RIGHT) ⊎ IsFailure n)
+exploration_ends A (explore_fault.Run fault) n s = inr (inr (failed fault n s))
+exploration_ends A (explore_fault.Script line) n s = inr (inr (inl s))
+exploration_ends A explore_fault.Faulty n s = inr (inl s)
+exploration_ends A explore_fault.Incomplete n s = inr (inl s)
+exploration_ends A explore_fault.NoRoom n s = inr (inl s)
+exploration_ends A explore_fault.Replay n s = inr (inl s)
+
+-- ---- nothing was done
 
 -- a writer that holds what it held has got nothing, which begins each text
 appends_nothing : (a b : Option (List ℕ)) → Keeps a b → Appends a b []
 appends_nothing a b k = Appends-kept a a b [] (Appends-nil a) k
 
-pub nothing_written : (a b : Option (List ℕ)) (text : List ℕ) → Keeps a b → (front : List ℕ) × IsPrefixOf front text × Appends a b front
-nothing_written a b text k = ([], (text, refl), appends_nothing a b k)
+nothing_written : (s : Streams) (text : List ℕ) → WritesNothing s → WritesPartOf s text
+nothing_written s text k = ([], (text, refl), appends_nothing s.before s.after k)
 
--- so it is of a run's text
-run_part : (remaining old new : Option (List ℕ)) (max_events : ℕ) → Keeps old new
-    → IfSome remaining (λ input. (front : List ℕ) × IsPrefixOf front (console_text max_events input) × Appends old new front)
-run_part None old new max_events k = tt
-run_part (Some input) old new max_events k = nothing_written old new (console_text max_events input) k
+run_unwritten : (remaining : Option (List ℕ)) (s : Streams) (max_events : ℕ) → WritesNothing s
+    → IfSome remaining (λ input. WritesPartOf s (console_text max_events input))
+run_unwritten None s max_events k = tt
+run_unwritten (Some input) s max_events k = nothing_written s (console_text max_events input) k
 
-pub run_unwritten : (r : Request) (remaining old new : Option (List ℕ)) (n : ℕ) → Keeps old new
-    → IfRun r (λ o. n ≢ 0 → IfSome remaining (λ input. (front : List ℕ) × IsPrefixOf front (console_text o.max_events input) × Appends old new front))
-run_unwritten (Run o) remaining old new n k = λ _. run_part remaining old new o.max_events k
-run_unwritten (Storm o) remaining old new n k = tt
-run_unwritten (Explore o) remaining old new n k = tt
-run_unwritten Check remaining old new n k = tt
+check_unwritten : (remaining : Option (List ℕ)) (s : Streams) → WritesNothing s
+    → IfSome remaining (λ bytes. (front : List ℕ) × BeginsFindingText bytes front × Writes s front)
+check_unwritten None s k = tt
+check_unwritten (Some bytes) s k = ([], inl refl, appends_nothing s.before s.after k)
 
--- and of what a check finds
-pub found_unwritten : (remaining old new : Option (List ℕ)) → Keeps old new → IfSome remaining (λ bytes. (front : List ℕ) × BeginsFindingText bytes front × Appends old new front)
-found_unwritten None old new k = tt
-found_unwritten (Some bytes) old new k = ([], inl refl, appends_nothing old new k)
+why_unwritten : (remaining : Option (List ℕ)) (s : Streams) → WritesNothing s
+    → IfSome remaining (λ bytes. (front : List ℕ) × BeginsAnswerWhy bytes front × Writes s front)
+why_unwritten None s k = tt
+why_unwritten (Some bytes) s k = ([], inl refl, appends_nothing s.before s.after k)
+
+unperformed : (request : Request) (s : Streams) (n : ℕ) → n ≡ NO_MEMORY → WritesNothing s → ProgramDoes (Do request) s n
+unperformed (Run options) s n m k = inr (inr m, run_unwritten s.input s options.max_events k)
+unperformed (Storm options) s n m k = inr (inr (inr m))
+unperformed (Explore options) s n m k = inr (inr (inr m))
+unperformed Check s n m k = inr (inr m, check_unwritten s.input s k)
+unperformed CheckWhy s n m k = inr (inr m, why_unwritten s.input s k)
+
+-- ---- what clap prints
+
+told : (kinds : Kinds) (request : Request) (e : Error) (s : Streams) (n : ℕ) → HasKind kinds e → ReadsNothing s
+    → (kind_of e ≡ OutOfMemory → (n ≡ NO_MEMORY) × WritesNothing s)
+    → (kind_of e ≡ DisplayVersion → ((n ≡ DONE) × Writes s version_line) ⊎ (IsFailure n × WritesPartOf s version_line))
+    → (kind_of e ≡ DisplayHelp → (n ≡ DONE) ⊎ IsFailure n)
+    → (is_mistake (kind_of e) ≡ true → ((n ≡ REFUSED) ⊎ (n ≡ NO_MEMORY)) × WritesNothing s)
+    → ((n ≡ REFUSED) × WritesNothing s) ⊎ ((n ≡ DONE) ⊎ IsFailure n)
+    → ProgramDoes (asked_of kinds request) s n
+told [] request e s n has unread memory version help mistake any =
+    let m = memory (told_nothing [] e has refl) in unperformed request s n m.0 m.1
+told (k ∷ ks) request e s n has unread memory version help mistake any =
+    go (are_mistakes (k ∷ ks)) (is_help (k ∷ ks)) (is_version (k ∷ ks)) refl refl refl
+  where
+    go : (a b c : Bool) → a ≡ are_mistakes (k ∷ ks) → b ≡ is_help (k ∷ ks) → c ≡ is_version (k ∷ ks)
+        → ProgramDoes (cond a Mistake (cond b Help (cond c Version Several))) s n
+    go true b c is_a is_b is_c = let h = mistake (told_mistake (k ∷ ks) e has (sym is_a)) in (unread, h.1, h.0)
+    go false true c is_a is_b is_c = (
+      unread,
+      elim (told_help (k ∷ ks) e has (sym is_b)) [
+        | inl m ↦ inr (inr (memory m).0)
+        | inr h ↦ help h
+      ],
+    )
+    go false false true is_a is_b is_c = (
+      unread,
+      elim (told_version (k ∷ ks) e has (sym is_c)) [
+        | inl m ↦ inr (inr (memory m).0, nothing_written s version_line (memory m).1)
+        | inr v ↦ version v
+      ],
+    )
+    go false false false is_a is_b is_c = (unread, any)
+
+pub words_told : (words : List (List ℕ)) (e : Error) (s : Streams) (n : ℕ) → HasKind (answers_of words) e → ReadsNothing s
+    → (kind_of e ≡ OutOfMemory → (n ≡ NO_MEMORY) × WritesNothing s)
+    → (kind_of e ≡ DisplayVersion → ((n ≡ DONE) × Writes s version_line) ⊎ (IsFailure n × WritesPartOf s version_line))
+    → (kind_of e ≡ DisplayHelp → (n ≡ DONE) ⊎ IsFailure n)
+    → (is_mistake (kind_of e) ≡ true → ((n ≡ REFUSED) ⊎ (n ≡ NO_MEMORY)) × WritesNothing s)
+    → ((n ≡ REFUSED) × WritesNothing s) ⊎ ((n ≡ DONE) ⊎ IsFailure n)
+    → ProgramDoes (asked_by words) s n
+words_told words = told (answers_of words) (request_of words)
+
+-- ---- what is requested is done
+
+pub words_done : (words : List (List ℕ)) (r : Request) (s : Streams) (n : ℕ) → answers_of words ≡ [] → r ≡ request_of words
+    → ProgramDoes (Do r) s n → ProgramDoes (asked_by words) s n
+words_done words r s n none is h =
+    subst (λ (kinds : Kinds). ProgramDoes (asked_of kinds (request_of words)) s n) (sym none) (subst (λ (request : Request). ProgramDoes (Do request) s n) is h)

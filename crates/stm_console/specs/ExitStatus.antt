@@ -3,22 +3,23 @@ use Rattle.std.specs.Prelude.{◌≡◌, ◌⊎◌, ℕ}
 use Rattle.stm_lines.specs.RunStatus.{status_of}
 use Rattle.stm_console.specs.declared.checking.Finding.{Finding}
 use Rattle.stm_console.specs.declared.checking.Finding.TheVariants.{Legal, BadHeader, BadLine, NotLegal}
+use Rattle.stm_console.specs.declared.status.TheConstants.{DONE, FAILED, NOT_RIGHT, NO_MEMORY}
 use Rattle.stm_storm.specs.declared.storming.StormFault.{StormFault}
 use Rattle.stm_storm.specs.declared.storming.StormFault.TheVariants.{Run, Script, Replay}
 
--- a storm's: also where a line of the script is faulty, and where the history isn't legal, or not what the clients did
+-- the program failed: its reader, its writer, a line of its script, memory or a thread
+abbrev pub IsFailure : ℕ → Type 0
+IsFailure status = (status ≡ FAILED) ⊎ (status ≡ NO_MEMORY)
+
+-- after a storm that didn't succeed
 abbrev pub storm_status : StormFault → ℕ
 storm_status (Run fault) = status_of fault
-storm_status (Script line) = 1
-storm_status Replay = 3
+storm_status (Script line) = FAILED
+storm_status Replay = NOT_RIGHT
 
--- a history is legal, or not
+-- after a check: the history is legal, or not
 abbrev pub finding_status : Finding → ℕ
-finding_status (Legal events) = 0
-finding_status BadHeader = 3
-finding_status (BadLine n) = 3
-finding_status (NotLegal n) = 3
-
--- done, the words are refused, a history isn't legal, or a fault's
-abbrev pub IsStatus : ℕ → Type 0
-IsStatus n = (n ≡ 0) ⊎ ((n ≡ 1) ⊎ ((n ≡ 2) ⊎ ((n ≡ 3) ⊎ (n ≡ 4))))
+finding_status (Legal events) = DONE
+finding_status BadHeader = NOT_RIGHT
+finding_status (BadLine n) = NOT_RIGHT
+finding_status (NotLegal n) = NOT_RIGHT

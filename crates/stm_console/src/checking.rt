@@ -6,6 +6,7 @@ ghost use Rattle.stm_terms.specs.Texts.{IsPrefixOf};
 ghost use Rattle.stm_console.specs.Checking.{IsFinding, BeginsFindingText, finding_text};
 ghost use Rattle.stm_console.specs.ExitStatus.{finding_status};
 
+use crate::status::{DONE, NOT_RIGHT};
 use std::alloc::Global;
 use std::io::{Read, Write};
 use stm_history::{HistoryFault, check_history_with};
@@ -15,7 +16,7 @@ use stm_store::Seed;
 use stm_terms::NoMemory;
 use stm_terms::text::write_number;
 
-/// What is found of bytes: a legal history of so many events, or the first fault. Lines count from 1.
+/// What is found of bytes: a legal history of N events, or the first fault. Lines count from 1.
 #[derive(Clone, Copy, Debug, PartialEq, Eq)]
 pub enum Finding {
     Legal(u32),
@@ -30,10 +31,10 @@ impl Finding {
         ensures { result ≡ finding_status self }
     {
         match self {
-            Finding::Legal(_) => 0,
-            Finding::BadHeader => 3,
-            Finding::BadLine(_) => 3,
-            Finding::NotLegal(_) => 3,
+            Finding::Legal(_) => DONE,
+            Finding::BadHeader => NOT_RIGHT,
+            Finding::BadLine(_) => NOT_RIGHT,
+            Finding::NotLegal(_) => NOT_RIGHT,
         }
     }
 }
@@ -63,7 +64,7 @@ fn write_counted(before: &str, number: u32, after: &str, out: &mut String) -> Re
 }
 
 /// Appends what is printed of a finding.
-fn write_finding(finding: Finding, out: &mut String) -> Result<(), NoMemory>
+pub(crate) fn write_finding(finding: Finding, out: &mut String) -> Result<(), NoMemory>
     ensures { OnOk result (string_bytes out.new ≡ string_bytes out.old ++ finding_text finding) }
 {
     match finding {
@@ -102,7 +103,7 @@ pub fn check<R: Read, W: Write>(
     ensures part { OnErr result (IfSome (R.remaining reader.old) (λ bytes.
         (front : List ℕ) × BeginsFindingText bytes front
         × Appends (W.contents writer.old) (W.contents writer.new) front)) }
-    // After a read fault, or where memory is refused, nothing.
+    // After a read fault or an out-of-memory error, nothing.
     ensures unfound { IfErr result (λ e.
         e ≢ RunFault.Write → Keeps (W.contents writer.old) (W.contents writer.new)) }
 {
@@ -123,7 +124,7 @@ pub fn check_with<R: Read, W: Write>(
     ensures part { OnErr result (IfSome (R.remaining reader.old) (λ bytes.
         (front : List ℕ) × BeginsFindingText bytes front
         × Appends (W.contents writer.old) (W.contents writer.new) front)) }
-    // After a read fault, or where memory is refused, nothing.
+    // After a read fault or an out-of-memory error, nothing.
     ensures unfound { IfErr result (λ e.
         e ≢ RunFault.Write → Keeps (W.contents writer.old) (W.contents writer.new)) }
 {

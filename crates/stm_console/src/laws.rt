@@ -1,4 +1,6 @@
-//! What holds of the console's text and of the program's words: the laws of `stm_run` and `stm_words`.
+//! What holds of the exit statuses, and the laws of `stm_run` and `stm_words`: what holds of the console's text and of the words.
+
+ghost use Rattle.stm_console.specs.StatusLaws.{WordsAskForThis, StatusesAreFew, RefusedDoNothing, RequestsAreTaken, OnlyJudgesFindWrong, DoneRunsAnswer, DoneStormsReport, DoneExplorationsAreRight, DoneVersionsAreWritten, OtherRunsWriteAPart, OtherChecksWriteAPart, OtherVersionsWriteAPart};
 
 pub use stm_run::laws::{each_line_is_answered, queue_is_a_set_of_tickets, verdicts_are_shown};
 pub use stm_words::laws::{
@@ -6,3 +8,28 @@ pub use stm_words::laws::{
     words_of_a_check_are_accepted, words_of_a_run_are_accepted,
     words_of_a_storm_are_those_of_a_run,
 };
+
+/// What the program is asked for, by what clap prints of its words.
+pub fn words_ask_for_this()
+    ensures { WordsAskForThis }
+{}
+
+/// The exit statuses are 0 to 4. After 2 nothing was read and nothing written, and words that clap takes never end with it; 3 comes
+/// only from a check, a storm or an exploration.
+pub fn exit_statuses()
+    ensures few { StatusesAreFew }
+    ensures refused { RefusedDoNothing }
+    ensures taken { RequestsAreTaken }
+    ensures judged { OnlyJudgesFindWrong }
+{}
+
+/// What was written, if the exit status is 0, and if it isn't.
+pub fn output_by_status()
+    ensures run { DoneRunsAnswer }
+    ensures storm { DoneStormsReport }
+    ensures exploration { DoneExplorationsAreRight }
+    ensures version { DoneVersionsAreWritten }
+    ensures run_part { OtherRunsWriteAPart }
+    ensures check_part { OtherChecksWriteAPart }
+    ensures version_part { OtherVersionsWriteAPart }
+{}

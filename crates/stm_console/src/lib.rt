@@ -1,16 +1,19 @@
 //! The program over its words and streams.
 //!
 //! `start` (`program`) reads the words (`stm_words`) and does what they ask for: a run (`stm_run`), a storm (`stm_storm`), an
-//! exploration (`stm_exploration`), or a check of a history (`checking`), and returns the exit status. The public calls of these
-//! crates are named again here.
+//! exploration (`stm_exploration`), or a check of a history (`checking`, and `why` with reasons), and returns the exit status. The
+//! public calls of these crates are named again here.
 //!
-//! What a reader has to believe is in these modules of specs/: `Checking` has what `check` finds and prints, and `ExitStatus` what
-//! each exit status means; the words, runs, storms and explorations have their definitions in their crates.
+//! What a reader has to believe is in these modules of specs/: `Program` has what the program does, `Checking` what `check` finds
+//! and prints, `Why` what `check --why` prints, and `ExitStatus` which status goes with it; the words, runs, storms and explorations
+//! have their definitions in their crates. The numbers of the statuses are in `status`, and `laws` says what each of them means.
 #![tactic(auto)]
 
 mod checking;
 pub mod laws;
 mod program;
+pub mod status;
+mod why;
 
 pub use checking::{Finding, check, check_with};
 pub use program::start;
@@ -20,3 +23,4 @@ pub use stm_options::{ExploreOptions, Options, explore_options, options};
 pub use stm_run::{run, run_counted};
 pub use stm_storm::{StormFault, storm, storming};
 pub use stm_words::version;
+pub use why::check_why;

@@ -1,7 +1,7 @@
 -- Bytes are cut at line feeds in one way.
 use Rattle.std.proofs.Common.{◌≡◌, ℕ, suc, ◌<◌, List, [], ◌∷◌, ◌++◌, length, refl, sym, ap, ◌∙◌, arith}
 use Rattle.stm_history.specs.Checking.{NoFeed}
-use Rattle.stm_history.specs.Fits.{IsOneLine}
+use Rattle.stm_event_lines.specs.Fits.{IsOneLine}
 
 abbrev head : List ℕ → ℕ
 head [] = 0
@@ -43,4 +43,4 @@ nofeed-append (x ∷ xs) ys h k = (h.0, nofeed-append xs ys h.1 k)
 
 pub no_feed : (xs : List ℕ) → IsOneLine xs → NoFeed xs
 no_feed [] h = tt
-no_feed (x ∷ xs) h = (h.0, no_feed xs h.2)
+no_feed (x ∷ xs) h = (λ e. omega (arith, h.0, e), no_feed xs h.2)

@@ -5,8 +5,8 @@ use Rattle.stm_events.specs.declared.event.Event.{Event}
 use Rattle.stm_history.specs.declared.files.fault.HistoryFault.{HistoryFault}
 use Rattle.stm_history.specs.declared.files.fault.HistoryFault.TheVariants.{ReadFault, BadHeader, BadLine, NotLegal, NoMemory}
 use Rattle.stm_events.specs.SlowDesk.{IsLegalBy}
-use Rattle.stm_history.specs.Fits.{FitsTable, FitsFormat}
-use Rattle.stm_history.specs.Lines.{IsFormat, rule_of, event_line}
+use Rattle.stm_event_lines.specs.Fits.{FitsTable, FitsFormat}
+use Rattle.stm_event_lines.specs.Lines.{IsFormat, rule_of, event_line}
 use Rattle.stm_history.specs.Judgement.{IsShort, BeginsWithHistory, NoEventNext, IsIllegalBy, TellsFault, next_line}
 use Rattle.stm_history.specs.FileLaws.{HistoriesAreTaken, FaultsAreFixed}
 use Rattle.stm_history.proofs.Unique.{IsNext, Compared, same, more, fewer, at_same, both, nothing_next, never_next, legal_next, header_by}

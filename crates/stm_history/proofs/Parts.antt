@@ -1,27 +1,18 @@
 -- A text written part by part.
 use Rattle.std.proofs.Common.{ℕ, zero, suc, IfSome, ◌+◌, ◌-◌, List, length, arith, ap, ◌∙◌, ◌++◌, take, drop, Option, Some, sym, subst, append_assoc, [], ◌∷◌, ◌≡◌, ◌<◌, get_or, refl, add-one}
 use Rattle.std.specs.Prelude.{slice_get}
-use Rattle.std.proofs.Math.Seq.{take-add, take-length, take-suc, drop-cons}
+use Rattle.std.proofs.Math.Seq.{take-length, take-suc, drop-cons}
 use Rattle.std.proofs.lemmas.List.{length-drop, take-append-drop}
 use Rattle.std.proofs.KnownBytes.{Appends-trans}
 use Rattle.std.specs.Io.KnownBytes.{Appends}
 use Rattle.stm_store.specs.Tables.{Declared}
 use Rattle.stm_events.specs.declared.event.Event.{Event}
-use Rattle.stm_history.specs.Lines.{latest_format, event_line, header_line, variable_line}
+use Rattle.stm_event_lines.specs.Lines.{latest_format, event_line, header_line, variable_line}
 use Rattle.stm_history.specs.HistoryText.{variable_lines, event_lines, history_text, WritesFront}
-use Rattle.stm_terms.specs.Texts.{IsPrefixOf}
 
 -- the rest of a slice
 pub drop-all : (at : ℕ) (text : List ℕ) → take (length text - at) (drop at text) ≡ drop at text
 drop-all at text = ap (λ n. take n (drop at text)) (sym (length-drop at text)) ∙ take-length (drop at text)
-
-pub Appends-more : (a b c : Option (List ℕ)) (at n : ℕ) (text : List ℕ) → Appends a b (take at text) → Appends b c (take n (take (length text - at) (drop at text))) → Appends a c (take (at + n) text)
-Appends-more a b c at n text p q =
-    let q' = subst (λ (rest : List ℕ). Appends b c (take n rest)) (drop-all at text) q in
-    subst (Appends a c) (sym (take-add at n text)) (Appends-trans a b c _ _ p q')
-
-pub IsPrefixOf-take : (at : ℕ) (text : List ℕ) → IsPrefixOf (take at text) text
-IsPrefixOf-take at text = (drop at text, sym (take-append-drop at text))
 
 -- one text after another
 pub part_after : (a b c : Option (List ℕ)) (first second : List ℕ) → Appends a b first → WritesFront b c second → WritesFront a c (first ++ second)

@@ -15,9 +15,9 @@ use Rattle.stm_terms.specs.declared.values.Ref.TheVariants.{Old, New}
 use Rattle.stm_terms.specs.Names.{is_name_text, starts_lower, is_word_byte, is_reserved}
 use Rattle.stm_terms.specs.Texts.{refs_text, type_text}
 use Rattle.stm_store.specs.Tables.{Declared}
-use Rattle.stm_history.specs.Fits.{FitsValue, FitsVariable}
+use Rattle.stm_event_lines.specs.Fits.{FitsValue, FitsVariable}
 use Rattle.stm_history.specs.Judgement.{IsShort}
-use Rattle.stm_history.specs.Lines.{IsFormat, header_line, variable_line, value_data}
+use Rattle.stm_event_lines.specs.Lines.{IsFormat, header_line, variable_line, value_data}
 use Rattle.stm_events.specs.SlowDesk.{max_cells}
 
 pub header_short : (format n : ℕ) → IsFormat format → n ≤ max_cells → IsShort (header_line format n)

@@ -5,8 +5,8 @@ use Rattle.std.proofs.lemmas.Bool.Decides.{nat_tests}
 use Rattle.stm_store.specs.Tables.{Declared}
 use Rattle.stm_events.specs.declared.event.Event.{Event}
 use Rattle.stm_events.specs.SlowDesk.{max_cells}
-use Rattle.stm_history.specs.Fits.{FitsTable, FitsFormat}
-use Rattle.stm_history.specs.Lines.{IsFormat, event_line, header_line, variable_line}
+use Rattle.stm_event_lines.specs.Fits.{FitsTable, FitsFormat}
+use Rattle.stm_event_lines.specs.Lines.{IsFormat, event_line, header_line, variable_line}
 use Rattle.stm_history.specs.HistoryText.{head_text, history_text, variable_lines, event_lines}
 use Rattle.stm_history.specs.Judgement.{IsShort, MayDeclare, AreVariables, AreVariablesFrom, AreEvents}
 use Rattle.stm_history.specs.Checking.{CheckerState, at_header, at_variables, at_events, with_table, LeadsTo, LinesUpTo}

@@ -1,33 +1,34 @@
 -- What is reported of the bytes where a line is refused.
-use Rattle.std.proofs.Common.{◌≡◌, ℕ, ◌+◌, ◌≤◌, ◌<◌, ◌^◌, List, [], ◌∷◌, ◌++◌, length, refl, sym, ap, ◌∙◌, subst, arith, append_assoc, append-nil, length-append, ◌⊎◌, inl, inr, Result, Ok, Err, IfOk}
+use Rattle.std.proofs.Common.{Bool, ◌≡◌, ℕ, ◌+◌, ◌≤◌, ◌<◌, ◌^◌, List, [], ◌∷◌, ◌++◌, length, refl, sym, ap, ◌∙◌, subst, arith, append_assoc, append-nil, length-append, take, drop, ◌⊎◌, inl, inr, Result, Ok, Err, IfOk}
+use Rattle.std.proofs.lemmas.List.{take_at, drop_at}
 use Rattle.stm_store.specs.Tables.{Declared}
 use Rattle.stm_events.specs.declared.event.Event.{Event}
 use Rattle.stm_events.specs.SlowDesk.{max_cells}
-use Rattle.stm_history.specs.Fits.{FitsTable, FitsFormat, FitsVariable}
-use Rattle.stm_history.specs.Lines.{IsFormat, rule_of, event_line, header_line, variable_line}
-use Rattle.stm_history.proofs.ReadsBack.{event_one_line, header_one_line, variable_one_line, event_same, header_same, variable_same}
+use Rattle.stm_event_lines.specs.Fits.{FitsTable, FitsFormat, FitsVariable}
+use Rattle.stm_event_lines.specs.Lines.{IsFormat, rule_of, event_line, header_line, variable_line}
+use Rattle.stm_event_lines.proofs.ReadsBack.{event_one_line, header_one_line, variable_one_line, event_same, header_same, variable_same}
 use Rattle.stm_history.specs.HistoryText.{history_text, variable_lines}
 use Rattle.stm_history.specs.Judgement.{IsShort, max_line, MayDeclare, AreVariablesFrom, TellsFault, IsHistory, numbers_by}
 use Rattle.stm_history.specs.declared.files.fault.HistoryFault.{HistoryFault}
-use Rattle.stm_history.specs.declared.files.fault.HistoryFault.TheVariants.{BadHeader}
+use Rattle.stm_history.specs.declared.files.fault.HistoryFault.TheVariants.{ReadFault, BadHeader, NoMemory}
 use Rattle.stm_history.specs.declared.files.fault.Legal.{Legal}
 use Rattle.stm_history.specs.declared.files.check.Stage.{Stage}
-use Rattle.stm_history.specs.declared.files.check.Stage.TheVariants.{Declaring, Running}
+use Rattle.stm_history.specs.declared.files.check.Stage.TheVariants.{Before, Declaring, Running}
 use Rattle.stm_history.specs.declared.files.replayer.Replayer.{Replayer}
 use Rattle.stm_history.specs.Following.{FollowsIn}
-use Rattle.stm_history.specs.Checking.{CheckerState, at_header, at_variables, at_events, LeadsTo, LinesUpTo, NoNext, NoFeed, IsStrange, strange, MayRefuse, HasTaken}
+use Rattle.stm_history.specs.Checking.{CheckerState, at_header, at_variables, at_events, LeadsTo, LinesUpTo, NoNext, NoFeed, IsStrange, strange, MayRefuse, HasTaken, IsFaultAt, StopsAt}
 use Rattle.stm_history.specs.Stages.{IsStage, Reached, LeadsToStage}
 use Rattle.stm_history.proofs.Cuts.{IsCut, cut_unique, no_cut, no_feed_at_end, nofeed-append, no_feed}
 use Rattle.stm_history.proofs.Shortness.{header_short, variable_short}
 use Rattle.stm_history.proofs.Standing.{LinesUpTo-line}
 
-header_no_feed : (format n : ℕ) → IsFormat format → n ≤ max_cells → NoFeed (header_line format n)
+pub header_no_feed : (format n : ℕ) → IsFormat format → n ≤ max_cells → NoFeed (header_line format n)
 header_no_feed format n k h = no_feed (header_line format n) (header_one_line format n k (omega (arith, h)))
 
 variable_no_feed : (d : Declared) → FitsVariable d → NoFeed (variable_line d)
 variable_no_feed d f = no_feed (variable_line d) (variable_one_line d f)
 
-event_no_feed : (table : List Declared) (e : Event) → FitsTable table e → NoFeed (event_line e)
+pub event_no_feed : (table : List Declared) (e : Event) → FitsTable table e → NoFeed (event_line e)
 event_no_feed table e f = no_feed (event_line e) (event_one_line table e f)
 
 -- where some variables' lines are the beginning of more, a variable's line comes next
@@ -38,7 +39,7 @@ pub record Following (prior : List Declared) (a : List ℕ) : Type 0 where
   pub more : List ℕ
   pub rest : a ≡ variable_line variable ++ 10 ∷ more
 
-following : (prior xs ys : List Declared) (a b : List ℕ) → AreVariablesFrom prior xs → AreVariablesFrom prior ys → length xs < length ys → variable_lines xs ++ a ≡ variable_lines ys ++ b → Following (prior ++ xs) a
+pub following : (prior xs ys : List Declared) (a b : List ℕ) → AreVariablesFrom prior xs → AreVariablesFrom prior ys → length xs < length ys → variable_lines xs ++ a ≡ variable_lines ys ++ b → Following (prior ++ xs) a
 following prior [] [] a b h k l e = absurd (omega arith)
 following prior [] (y ∷ ys) a b h k l e = record {
   variable = y;
@@ -160,6 +161,30 @@ IsHistory-end format table history line taken n h e k =
     let s = h.lines in
     (format, s.0, table, history, record { text = h.taken_is ∙ ap (λ x. h.whole ++ x) e ∙ ap (λ x. x ++ []) s.1; few = s.3; variables = s.2; events = s.4; legal = s.5 }, k)
 
+-- ---- where a check stops
+
+-- the bytes after what was taken go on with the line that has begun, and the fault is at this line
+stops_at : (r : CheckerState) (whole : ℕ) (line taken rest : List ℕ) (e : HistoryFault) (h : HasTaken r line taken) → whole ≡ length h.whole → IsFaultAt r (line ++ rest) e → StopsAt e whole (taken ++ rest)
+stops_at r whole line taken rest e h n f =
+    let parts : taken ++ rest ≡ h.whole ++ (line ++ rest) = ap (λ x. x ++ rest) h.taken_is ∙ append_assoc h.whole line rest in
+    let front : take whole (taken ++ rest) ≡ h.whole = ap (take whole) parts ∙ take_at h.whole (line ++ rest) whole (sym n) in
+    let next : drop whole (taken ++ rest) ≡ line ++ rest = ap (drop whole) parts ∙ drop_at h.whole (line ++ rest) whole (sym n) in
+    let long = ap length parts ∙ length-append h.whole (line ++ rest) in
+    record {
+      progress = r;
+      within = omega (arith, n, long);
+      lines = subst (LinesUpTo r) (sym front) h.lines;
+      fault = subst (λ (x : List ℕ). IsFaultAt r x e) (sym next) f;
+    }
+
+refused_at : (r : CheckerState) (line more : List ℕ) (e : HistoryFault) → NoFeed line → IsShort line → MayRefuse r line e → IsFaultAt r (line ++ 10 ∷ more) e
+refused_at r line more e plain short (inl none) = inr (inl none)
+refused_at r line more e plain short (inr (inl k)) = inr (inr (inl (k.0, NoNext-line r line more plain k.1)))
+refused_at at_header line more e plain short (inr (inr k)) = absurd k
+refused_at (at_variables format n cells) line more e plain short (inr (inr k)) = absurd k
+refused_at (at_events format table history) line more e plain short (inr (inr k)) =
+    inr (inr (inr (k.0, more, ap (λ x. x ++ 10 ∷ more) (sym k.1), k.2, k.3, subst IsShort (sym k.1) short, k.4, k.5)))
+
 -- a first line that promises too much
 pub too_many : (format m : ℕ) (line : List ℕ) → IsFormat format → header_line format m ≡ line → m < 2 ^ 32 → max_cells < m → IsStrange at_header line
 too_many format m line read e small many = λ other n k few l.
@@ -171,36 +196,86 @@ unfit format table history e f none = λ d fits may k. none (subst (FitsFormat f
 
 -- ---- the same, as the code has it
 
-pub refused_byte : (s s' : Stage) (line line' taken more : List ℕ) (b : ℕ) (e : HistoryFault) → b ≡ 10 → s' ≡ s → line' ≡ line
-    → ((p : CheckerState) → IsStage s' p → MayRefuse p line' e) → Reached s line taken → TellsFault e (taken ++ b ∷ more)
-refused_byte s s' line line' taken more b e b10 es el h r =
+pub refused_byte : (s s' : Stage) (whole : ℕ) (line line' taken more : List ℕ) (b : ℕ) (e : HistoryFault) → b ≡ 10 → s' ≡ s → line' ≡ line
+    → ((p : CheckerState) → IsStage s' p → MayRefuse p line' e) → Reached s whole line taken → TellsFault e (taken ++ b ∷ more)
+refused_byte s s' whole line line' taken more b e b10 es el h r =
     let stage : IsStage s' r.progress = subst (λ (x : Stage). IsStage x r.progress) (sym es) r.stage in
     rw b10 (TellsFault-refused r.progress line taken more e r.held (subst (λ (l : List ℕ). MayRefuse r.progress l e) el (h r.progress stage)))
 
-pub fed_byte : (s s' t : Stage) (line line' left taken : List ℕ) (b : ℕ) → b ≡ 10 → s' ≡ s → line' ≡ line → left ≡ []
-    → ((p : CheckerState) → IsStage s' p → LeadsToStage p line' t) → Reached s line taken → Reached t left (taken ++ b ∷ [])
-fed_byte s s' t line line' left taken b b10 es el e h r =
+-- and so it stops there
+pub refused_stops : (s s' : Stage) (whole : ℕ) (line line' taken more : List ℕ) (e : HistoryFault) → s' ≡ s → line' ≡ line
+    → ((p : CheckerState) → IsStage s' p → MayRefuse p line' e) → Reached s whole line taken → StopsAt e whole (taken ++ 10 ∷ more)
+refused_stops s s' whole line line' taken more e es el h r =
+    let stage : IsStage s' r.progress = subst (λ (x : Stage). IsStage x r.progress) (sym es) r.stage in
+    let held = r.held in
+    stops_at r.progress whole line taken (10 ∷ more) e held r.counts
+    (refused_at r.progress line more e held.one_line held.short (subst (λ (l : List ℕ). MayRefuse r.progress l e) el (h r.progress stage)))
+
+-- how many bytes were taken
+pub counts_taken : (s : Stage) (whole : ℕ) (line taken : List ℕ) → Reached s whole line taken → whole + length line ≡ length taken
+counts_taken s whole line taken r =
+    let held = r.held in
+    let e = ap length held.taken_is ∙ length-append held.whole line in
+    omega (arith, r.counts, e)
+
+pub fed_byte : (s s' t : Stage) (whole whole' : ℕ) (line line' left taken : List ℕ) (b : ℕ) → b ≡ 10 → s' ≡ s → line' ≡ line → left ≡ [] → whole' ≡ whole + (length line + 1)
+    → ((p : CheckerState) → IsStage s' p → LeadsToStage p line' t) → Reached s whole line taken → Reached t whole' left (taken ++ b ∷ [])
+unfolding HasTaken-feed
+fed_byte s s' t whole whole' line line' left taken b b10 es el e n h r =
     let stage : IsStage s' r.progress = subst (λ (x : Stage). IsStage x r.progress) (sym es) r.stage in
     let k = h r.progress stage in
     let led : LeadsTo r.progress line k.0 = subst (λ (l : List ℕ). LeadsTo r.progress l k.0) el k.1 in
-    rw (b10, e) (record { progress = k.0; stage = k.2; held = HasTaken-feed r.progress k.0 line taken r.held led })
+    let held = r.held in
+    let longer : length (held.whole ++ (line ++ 10 ∷ [])) ≡ length held.whole + (length line + 1) = length-append held.whole (line ++ 10 ∷ []) ∙ ap (λ (k : ℕ). length held.whole + k) (length-append line (10 ∷ [])) in
+    rw (b10, e) (record { progress = k.0; stage = k.2; held = HasTaken-feed r.progress k.0 line taken r.held led; counts = omega (arith, n, r.counts, longer) })
 
-pub part_more : (s : Stage) (line taken part : List ℕ) → Reached s line taken → NoFeed part → length line + length part ≤ max_line → Reached s (line ++ part) (taken ++ part)
-part_more s line taken part r k l = record { progress = r.progress; stage = r.stage; held = HasTaken-part r.progress line taken part r.held k l }
+pub part_more : (s : Stage) (whole : ℕ) (line taken part : List ℕ) → Reached s whole line taken → NoFeed part → length line + length part ≤ max_line → Reached s whole (line ++ part) (taken ++ part)
+unfolding HasTaken-part
+part_more s whole line taken part r k l = record { progress = r.progress; stage = r.stage; held = HasTaken-part r.progress line taken part r.held k l; counts = r.counts }
 
-pub ends_early : (s : Stage) (line taken : List ℕ) (e : HistoryFault) → ((p : CheckerState) → IsStage s p → e ≡ strange p) → Reached s line taken → (0 < length line ⊎ (e ≡ BadHeader)) → TellsFault e taken
-ends_early s line taken e k r (inl some) = let same = k r.progress r.stage in subst (λ (x : HistoryFault). TellsFault x taken) (sym same) (TellsFault-end r.progress line taken r.held (inl some))
-ends_early s line taken e k r (inr bad) = let same = k r.progress r.stage in subst (λ (x : HistoryFault). TellsFault x taken) (sym same) (TellsFault-end r.progress line taken r.held (inr (sym same ∙ bad)))
+pub ends_early : (s : Stage) (whole : ℕ) (line taken : List ℕ) (e : HistoryFault) → ((p : CheckerState) → IsStage s p → e ≡ strange p) → Reached s whole line taken → (0 < length line ⊎ (e ≡ BadHeader)) → TellsFault e taken
+ends_early s whole line taken e k r (inl some) = let same = k r.progress r.stage in subst (λ (x : HistoryFault). TellsFault x taken) (sym same) (TellsFault-end r.progress line taken r.held (inl some))
+ends_early s whole line taken e k r (inr bad) = let same = k r.progress r.stage in subst (λ (x : HistoryFault). TellsFault x taken) (sym same) (TellsFault-end r.progress line taken r.held (inr (sym same ∙ bad)))
 
-pub too_long : (s : Stage) (line taken part more : List ℕ) (e : HistoryFault) → ((p : CheckerState) → IsStage s p → e ≡ strange p) → Reached s line taken → NoFeed part → max_line < length line + length part → TellsFault e (taken ++ (part ++ more))
-too_long s line taken part more e k r n l = subst (λ (x : HistoryFault). TellsFault x (taken ++ (part ++ more))) (sym (k r.progress r.stage)) (TellsFault-long r.progress line taken part more r.held n l)
+-- a check stops at the end of the bytes
+pub early_stops : (s : Stage) (whole : ℕ) (line taken : List ℕ) (e : HistoryFault) → ((p : CheckerState) → IsStage s p → e ≡ strange p) → Reached s whole line taken → StopsAt e whole taken
+early_stops s whole line taken e k r =
+    let held = r.held in
+    let never : NoNext r.progress (line ++ []) = subst (NoNext r.progress) (sym (append-nil line)) (NoNext-end r.progress line held.one_line) in
+    subst (StopsAt e whole) (append-nil taken) (stops_at r.progress whole line taken [] e held r.counts (inr (inr (inl (k r.progress r.stage, never)))))
+
+pub too_long : (s : Stage) (whole : ℕ) (line taken part more : List ℕ) (e : HistoryFault) → ((p : CheckerState) → IsStage s p → e ≡ strange p) → Reached s whole line taken → NoFeed part → max_line < length line + length part → TellsFault e (taken ++ (part ++ more))
+too_long s whole line taken part more e k r n l = subst (λ (x : HistoryFault). TellsFault x (taken ++ (part ++ more))) (sym (k r.progress r.stage)) (TellsFault-long r.progress line taken part more r.held n l)
+
+-- a check stops at a line that is too long
+pub long_stops : (s : Stage) (whole : ℕ) (line taken part more : List ℕ) (e : HistoryFault) → ((p : CheckerState) → IsStage s p → e ≡ strange p) → Reached s whole line taken → NoFeed part → max_line < length line + length part → StopsAt e whole (taken ++ (part ++ more))
+long_stops s whole line taken part more e k r n l =
+    let held = r.held in
+    let never : NoNext r.progress (line ++ (part ++ more)) =
+    subst (NoNext r.progress) (append_assoc line part more) (NoNext-long r.progress (line ++ part) more (nofeed-append line part held.one_line n) (omega (arith, length-append line part))) in
+    stops_at r.progress whole line taken (part ++ more) e held r.counts (inr (inr (inl (k r.progress r.stage, never))))
+
+-- or where memory runs out
+pub memory_stops : (s : Stage) (whole : ℕ) (line taken rest : List ℕ) → Reached s whole line taken → StopsAt NoMemory whole (taken ++ rest)
+memory_stops s whole line taken rest r = stops_at r.progress whole line taken rest NoMemory r.held r.counts (inr (inl refl))
+
+-- or where the reader fails
+pub reader_stops : (s : Stage) (whole : ℕ) (line taken rest : List ℕ) → Reached s whole line taken → StopsAt ReadFault whole (taken ++ rest)
+reader_stops s whole line taken rest r = stops_at r.progress whole line taken rest ReadFault r.held r.counts (inl refl)
+
+-- before the first line the fault is in the head
+pub before_strange : (s : Stage) (keep : Bool) (p : CheckerState) → s ≡ Before keep → IsStage s p → BadHeader ≡ strange p
+before_strange s keep at_header e i = refl
+before_strange s keep (at_variables other n table) e i = refl
+before_strange s keep (at_events other table history) e i =
+    let never : IsStage (Before keep) (at_events other table history) = subst (λ (x : Stage). IsStage x (at_events other table history)) e i in absurd never
 
 -- a stage with variables is at fault in the head
-pub declaring_strange : (s : Stage) (format vars : ℕ) (names : List Declared) (p : CheckerState) → s ≡ Declaring format vars names → IsStage s p → BadHeader ≡ strange p
-declaring_strange s format vars names at_header e i = refl
-declaring_strange s format vars names (at_variables other n table) e i = refl
-declaring_strange s format vars names (at_events other table history) e i =
-    let never : IsStage (Declaring format vars names) (at_events other table history) = subst (λ (x : Stage). IsStage x (at_events other table history)) e i in absurd never
+pub declaring_strange : (s : Stage) (keep : Bool) (format vars : ℕ) (names : List Declared) (p : CheckerState) → s ≡ Declaring keep format vars names → IsStage s p → BadHeader ≡ strange p
+declaring_strange s keep format vars names at_header e i = refl
+declaring_strange s keep format vars names (at_variables other n table) e i = refl
+declaring_strange s keep format vars names (at_events other table history) e i =
+    let never : IsStage (Declaring keep format vars names) (at_events other table history) = subst (λ (x : Stage). IsStage x (at_events other table history)) e i in absurd never
 
 leads_by : (format : ℕ) (names : List Declared) (r : Replayer) (line : List ℕ) (s : Stage) (p : CheckerState) → IsStage (Running format names r) p
     → ((H : List Event) → FollowsIn format names H r → LeadsToStage (at_events format names H) line s) → LeadsToStage p line s

@@ -4,9 +4,9 @@ use Rattle.stm_store.specs.Tables.{Declared}
 use Rattle.stm_events.specs.declared.event.Event.{Event}
 use Rattle.stm_events.specs.declared.staleness.StalenessRule.{StalenessRule}
 use Rattle.stm_events.specs.SlowDesk.{IsLegalBy, LegalFromBy, Slow, max_cells, max_events, initial_state, after_by}
-use Rattle.stm_history.specs.Fits.{FitsTable, FitsFormat}
-use Rattle.stm_history.specs.Lines.{IsFormat, rule_of, event_line, header_line, variable_line}
-use Rattle.stm_history.proofs.ReadsBack.{event_one_line, header_one_line, variable_one_line, header_same, variable_same, event_same}
+use Rattle.stm_event_lines.specs.Fits.{FitsTable, FitsFormat}
+use Rattle.stm_event_lines.specs.Lines.{IsFormat, rule_of, event_line, header_line, variable_line}
+use Rattle.stm_event_lines.proofs.ReadsBack.{event_one_line, header_one_line, variable_one_line, header_same, variable_same, event_same}
 use Rattle.stm_history.specs.declared.files.fault.HistoryFault.TheVariants.{BadHeader}
 use Rattle.stm_history.specs.HistoryText.{head_text, history_text, variable_lines, event_lines}
 use Rattle.stm_history.specs.Judgement.{IsShort, AreVariables, AreVariablesFrom, AreEvents, BeginsWithHistory, NoEventNext, IsIllegalBy, TellsFault, numbers_by}
@@ -19,7 +19,7 @@ pub record IsOneTable (xs ys : List Declared) (a b : List ℕ) : Type 0 where
   pub tables : xs ≡ ys
   pub rest : a ≡ b
 
-tables : (prior xs ys : List Declared) (a b : List ℕ) → AreVariablesFrom prior xs → AreVariablesFrom prior ys → length xs ≡ length ys → variable_lines xs ++ a ≡ variable_lines ys ++ b → IsOneTable xs ys a b
+pub tables : (prior xs ys : List Declared) (a b : List ℕ) → AreVariablesFrom prior xs → AreVariablesFrom prior ys → length xs ≡ length ys → variable_lines xs ++ a ≡ variable_lines ys ++ b → IsOneTable xs ys a b
 tables prior [] [] a b h k l e = record { tables = refl; rest = e }
 tables prior [] (y ∷ ys) a b h k l e = absurd (omega (arith, l))
 tables prior (x ∷ xs) [] a b h k l e = absurd (omega (arith, l))

@@ -3,9 +3,9 @@ use Rattle.std.proofs.Common.{◌≡◌, ℕ, List, Some, None, Err, refl, sym, 
 use Rattle.stm_store.specs.declared.table.DeclareError.{DeclareError}
 use Rattle.stm_store.specs.declared.table.DeclareError.TheVariants as declare
 use Rattle.stm_store.specs.Tables.{Declared, declare_refusal, refusal_of}
-use Rattle.stm_history.specs.Fits.{FitsVariable}
-use Rattle.stm_history.specs.Lines.{variable_line}
-use Rattle.stm_history.proofs.ReadsBack.{variable_same}
+use Rattle.stm_event_lines.specs.Fits.{FitsVariable}
+use Rattle.stm_event_lines.specs.Lines.{variable_line}
+use Rattle.stm_event_lines.proofs.ReadsBack.{variable_same}
 use Rattle.stm_history.specs.Checking.{at_variables, IsStrange, MayRefuse}
 use Rattle.stm_history.specs.Stages.{refused_by}
 

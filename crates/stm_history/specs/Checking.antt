@@ -1,13 +1,13 @@
 -- How a checker goes on, line after line.
-use Rattle.std.specs.Prelude.{◌≡◌, ◌≢◌, ℕ, ◌≤◌, ◌<◌, nat_lt, if◌then◌else◌, List, [], ◌∷◌, ◌++◌, length, ◌⊎◌}
+use Rattle.std.specs.Prelude.{◌≡◌, ◌≢◌, ℕ, ◌≤◌, ◌<◌, nat_lt, if◌then◌else◌, List, [], ◌∷◌, ◌++◌, length, take, drop, ◌⊎◌}
 use Rattle.stm_store.specs.Tables.{Declared}
 use Rattle.stm_events.specs.declared.event.Event.{Event}
 use Rattle.stm_history.specs.declared.files.fault.HistoryFault.{HistoryFault}
-use Rattle.stm_history.specs.declared.files.fault.HistoryFault.TheVariants.{BadHeader, BadLine, NotLegal, NoMemory}
-use Rattle.stm_history.specs.Fits.{FitsTable, FitsFormat}
+use Rattle.stm_history.specs.declared.files.fault.HistoryFault.TheVariants.{ReadFault, BadHeader, BadLine, NotLegal, NoMemory}
+use Rattle.stm_event_lines.specs.Fits.{FitsTable, FitsFormat}
 use Rattle.stm_history.specs.HistoryText.{head_text, history_text}
 use Rattle.stm_history.specs.Judgement.{IsShort, MayDeclare, AreVariables, AreEvents, NoEventNext, IsIllegalBy, next_line}
-use Rattle.stm_history.specs.Lines.{IsFormat, rule_of, event_line, header_line, variable_line}
+use Rattle.stm_event_lines.specs.Lines.{IsFormat, rule_of, event_line, header_line, variable_line}
 use Rattle.stm_events.specs.SlowDesk.{IsLegalBy, max_cells}
 
 -- no byte is a line feed
@@ -85,3 +85,24 @@ pub record HasTaken (p : CheckerState) (line taken : List ℕ) : Type 0 where
   pub lines : LinesUpTo p whole
   pub one_line : NoFeed line
   pub short : IsShort line
+
+-- the next line is that of an event which can't follow
+abbrev pub ForbidsNext : CheckerState → List ℕ → HistoryFault → Type 0
+ForbidsNext at_header rest f = ⊥
+ForbidsNext (at_variables format n table) rest f = ⊥
+ForbidsNext (at_events format table history) rest f =
+    (e : Event) × (more : List ℕ) × (rest ≡ event_line e ++ 10 ∷ more)
+    × FitsTable table e × FitsFormat format e × IsShort (event_line e)
+    × IsIllegalBy (rule_of format) table history e × (f ≡ NotLegal (next_line table history))
+
+-- why no line is taken of what comes next: the reader failed, memory ran out, no line comes next that may stand here, or it is
+-- that of an event which can't follow
+abbrev pub IsFaultAt : CheckerState → List ℕ → HistoryFault → Type 0
+IsFaultAt p rest f = (f ≡ ReadFault) ⊎ ((f ≡ NoMemory) ⊎ (((f ≡ strange p) × NoNext p rest) ⊎ ForbidsNext p rest f))
+
+-- a check of the bytes ends with this fault: this many of them are whole lines, which led to a progress that the fault is at
+pub record StopsAt (f : HistoryFault) (whole : ℕ) (bytes : List ℕ) : Type 0 where
+  pub progress : CheckerState
+  pub within : whole ≤ length bytes
+  pub lines : LinesUpTo progress (take whole bytes)
+  pub fault : IsFaultAt progress (drop whole bytes) f

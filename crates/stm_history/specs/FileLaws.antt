@@ -6,10 +6,10 @@ use Rattle.stm_events.specs.declared.event.Event.{Event}
 use Rattle.stm_history.specs.declared.files.fault.HistoryFault.{HistoryFault}
 use Rattle.stm_history.specs.declared.files.fault.HistoryFault.TheVariants.{ReadFault, BadHeader, BadLine, NotLegal, NoMemory}
 use Rattle.stm_history.specs.declared.files.fault.Legal.{Legal}
-use Rattle.stm_history.specs.Fits.{FitsTable, AreInRange, IsOneLine}
+use Rattle.stm_event_lines.specs.Fits.{FitsTable, AreInRange, IsOneLine, BeginsWithBrace}
 use Rattle.stm_history.specs.HistoryText.{history_text}
 use Rattle.stm_history.specs.Judgement.{IsHistory, TellsFault, AreVariables, AreEvents, numbers_by}
-use Rattle.stm_history.specs.Lines.{IsFormat, rule_of, event_line}
+use Rattle.stm_event_lines.specs.Lines.{IsFormat, rule_of, event_line, header_line, variable_line}
 use Rattle.stm_events.specs.SlowDesk.{IsLegalBy}
 
 -- different events have different lines, without a line feed
@@ -17,9 +17,15 @@ abbrev pub EachLineIsOneEvent : Type 0
 EachLineIsOneEvent =
     (table : List Declared) (d e : Event) → FitsTable table d → FitsTable table e → event_line d ≡ event_line e → d ≡ e
 
--- the line of an event is ASCII, without a line feed
+-- the line of an event is ASCII, without a line feed and without a 0
 abbrev pub EventsAreLines : Type 0
 EventsAreLines = (table : List Declared) (e : Event) → FitsTable table e → IsOneLine (event_line e)
+
+-- each line of a history begins with `{`
+abbrev pub LinesBeginWithBraces : Type 0
+LinesBeginWithBraces =
+    ((format n : ℕ) → BeginsWithBrace (header_line format n)) × ((d : Declared) → BeginsWithBrace (variable_line d))
+    × ((e : Event) → BeginsWithBrace (event_line e))
 
 -- the numbers of a history are fixed by its text
 abbrev pub NumbersAreFixed : Type 0

@@ -5,7 +5,7 @@ use Rattle.std.specs.declared.result.Result.{Result}
 use Rattle.stm_terms.specs.Texts.{IsPrefixOf}
 use Rattle.stm_store.specs.Tables.{Declared}
 use Rattle.stm_events.specs.declared.event.Event.{Event}
-use Rattle.stm_history.specs.Lines.{event_line, header_line, variable_line}
+use Rattle.stm_event_lines.specs.Lines.{event_line, header_line, variable_line}
 
 -- the lines of declared variables, with their line feeds
 abbrev pub variable_lines : List Declared → List ℕ

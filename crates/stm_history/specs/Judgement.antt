@@ -5,9 +5,9 @@ use Rattle.stm_events.specs.declared.event.Event.{Event}
 use Rattle.stm_history.specs.declared.files.fault.HistoryFault.{HistoryFault}
 use Rattle.stm_history.specs.declared.files.fault.HistoryFault.TheVariants.{ReadFault, BadHeader, BadLine, NotLegal, NoMemory}
 use Rattle.stm_history.specs.declared.files.fault.Legal.{Legal}
-use Rattle.stm_history.specs.Fits.{FitsTable, FitsFormat, FitsVariable}
+use Rattle.stm_event_lines.specs.Fits.{FitsTable, FitsFormat, FitsVariable}
 use Rattle.stm_history.specs.HistoryText.{head_text, history_text}
-use Rattle.stm_history.specs.Lines.{IsFormat, rule_of, event_line}
+use Rattle.stm_event_lines.specs.Lines.{IsFormat, rule_of, event_line}
 use Rattle.stm_events.specs.declared.staleness.StalenessRule.{StalenessRule}
 use Rattle.stm_events.specs.declared.staleness.StalenessRule.TheVariants.{Changed}
 use Rattle.stm_events.specs.SlowDesk.{state_by, IsLegal, IsLegalBy, max_cells}

@@ -1,14 +1,13 @@
 -- What a reader has to believe.
+pub mod Explanation
 pub mod FileLaws
-pub mod Fits
 pub mod HistoryText
 pub mod Judgement
-pub mod Lines
-pub mod WholeBlocks
+pub mod Loading
 -- And the words inside.
 pub mod Checking
-pub mod Fields
+pub mod Expecting
 pub mod Following
-pub mod Sending
+pub mod Reading
 pub mod Stages
-pub mod Variables
+pub mod Stopping

@@ -1,5 +1,7 @@
 pub mod AsciiArguments
+pub mod CommandLines
 pub mod LineFeeds
 pub mod LongLines
 pub mod ReadLines
+pub mod TakenParts
 pub mod Writing

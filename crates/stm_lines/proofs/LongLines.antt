@@ -1,13 +1,12 @@
 -- A line that is too long is judged so, whatever its bytes.
-use Rattle.std.proofs.Common.{◌≡◌, ℕ, ◌+◌, ◌-◌, ◌≤◌, ◌<◌, true, false, List, [], ◌∷◌, ◌++◌, length, take, refl, arith, cond, length-append}
+use Rattle.std.proofs.Common.{◌≡◌, ℕ, ◌+◌, ◌-◌, ◌≤◌, ◌<◌, true, false, List, ◌++◌, length, take, refl, sym, ◌∙◌, arith, cond, length-append}
 use Rattle.std.proofs.lemmas.Bool.{lt-ltb}
 use Rattle.std.proofs.lemmas.List.{length-take-le}
 use Rattle.std.specs.Io.BufRead.{ends_with_byte}
 use Rattle.stm_lines.specs.LineClass.{TooLong, longest_line, line_class}
 use Rattle.stm_lines.specs.Lines.{drop_return}
 
--- a line that is too long is judged so, whatever its bytes
-pub judged-too_long : (line : List ℕ) → longest_line < length line → line_class line ≡ TooLong
+judged-too_long : (line : List ℕ) → longest_line < length line → line_class line ≡ TooLong
 unfolding line_class
 judged-too_long line h = rw (lt-ltb longest_line (length line) h) refl
 
@@ -18,11 +17,15 @@ length-drop_return line = elim (ends_with_byte 13 line) as (λ t. length line �
 ]
 
 -- so many bytes that no carriage return can make them a line
-abbrev pub Long : List ℕ → Type 0
-Long line = longest_line + 2 ≤ length line
+abbrev pub IsLong : List ℕ → Type 0
+IsLong line = longest_line + 2 ≤ length line
 
-pub drop_return-long : (line : List ℕ) → Long line → longest_line < length (drop_return line)
-drop_return-long line h = omega (arith, length-drop_return line)
+-- the first bytes of a line that is too long are judged as the line, which a line feed ends
+pub line_class-long : (line more : List ℕ) → IsLong line → line_class line ≡ line_class (drop_return (line ++ more))
+line_class-long line more h =
+    judged-too_long line (omega arith)
+    ∙ sym (judged-too_long (drop_return (line ++ more)) (omega (arith, length-drop_return (line ++ more), length-append line more)))
 
-pub more-long : (a : List ℕ) (x : ℕ) → Long a → Long (a ++ x ∷ [])
-more-long a x h = omega (arith, length-append a (x ∷ []))
+-- and which the end of the input ends
+pub line_class-long_last : (line more : List ℕ) → IsLong line → line_class line ≡ line_class (line ++ more)
+line_class-long_last line more h = judged-too_long line (omega arith) ∙ sym (judged-too_long (line ++ more) (omega (arith, length-append line more)))

@@ -3,6 +3,7 @@ pub mod LineClass
 pub mod Lines
 pub mod NumberArgument
 pub mod RunStatus
--- The words inside, for a line that is read in parts.
+-- The words inside, for what is taken of an input line by line.
 pub mod Judged
 pub mod LineReading
+pub mod TakenLines

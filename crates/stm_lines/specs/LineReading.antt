@@ -1,17 +1,22 @@
--- What is left of an input that is read line by line.
-use Rattle.std.specs.Prelude.{◌≡◌, ℕ, List, [], ◌∷◌, Option, Some, None, ⊤, map, IfSome}
+-- What is left of an input whose lines are judged one after another.
+use Rattle.std.specs.Prelude.{◌≡◌, ℕ, ◌<◌, List, [], ◌∷◌, Option, Some, None, ⊤, length, map, IfSome}
 use Rattle.stm_lines.specs.LineClass.{LineClass, line_class}
-use Rattle.stm_lines.specs.Lines.{lines_from}
+use Rattle.stm_lines.specs.Lines.{drop_return, lines_from}
+use Rattle.stm_lines.specs.TakenLines.{TakesLastLine, TakesWholeLine}
+use Rattle.stm_lines.specs.declared.command_lines.CommandLine.{CommandLine}
+use Rattle.stm_lines.specs.declared.command_lines.CommandLine.TheVariants.{Whole, Last, End}
 
--- how the lines of what follows are judged, where the first of them has begun
+-- the line that was read is judged as the one that was taken, which a line feed or the end of the input ended
+abbrev pub IsCommandLine : CommandLine → Option (List ℕ) → Option (List ℕ) → List ℕ → Type 0
+IsCommandLine Whole old new line =
+    (bytes : List ℕ) × TakesWholeLine old new bytes × (line_class line ≡ line_class (drop_return bytes))
+IsCommandLine Last old new line =
+    (bytes : List ℕ) × TakesLastLine old new bytes × (0 < length bytes) × (line_class line ≡ line_class bytes)
+IsCommandLine End old new line = TakesLastLine old new []
+
+-- how the lines of what follows are judged, if the first of them has begun
 unfoldable pub classes_from : List ℕ → List ℕ → List LineClass
 classes_from begun rest = map line_class (lines_from begun rest)
-
--- where it is known what was left and what is: of the line that has begun this was taken, or one that is as much too long
-abbrev pub HasBegunLine : Option (List ℕ) → Option (List ℕ) → List ℕ → Type 0
-HasBegunLine None new line = ⊤
-HasBegunLine (Some all) None line = ⊥
-HasBegunLine (Some all) (Some rest) line = classes_from [] all ≡ classes_from line rest
 
 -- the line came first in what was left, or one that is judged as it is
 abbrev pub IsNextLine : Option (List ℕ) → Option (List ℕ) → List ℕ → Type 0

@@ -1,9 +1,11 @@
 //! Bytes of the input that are read and not yet taken.
 
-ghost use Rattle.std.specs.Prelude.{◌≡◌, ◌+◌, ◌<◌, ◌≤◌, [], drop, length, IfOk, OnErr, OnOk};
+ghost use Rattle.std.specs.Prelude.{◌≡◌, ◌+◌, ◌<◌, ◌≤◌, [], drop, length, IfOk, IfSome, OnErr, OnOk};
 ghost use Rattle.std.specs.Io.KnownBytes.{Consumes, IsAtEnd, Keeps};
+ghost use Rattle.memchr.specs.Find.{IsFirstByte, is_byte};
 
 use crate::calls::Calls;
+use memchr::memchr;
 use std::io;
 use std::io::Read;
 use std::marker::Model;
@@ -12,23 +14,27 @@ use std::sync::ledger::Ledger;
 /// The most bytes that one call of a reader gives.
 pub const CHUNK: usize = 8_192;
 
-/// Bytes that one call of a reader gave, as far as they are not yet taken. Contracts see these.
+/// Bytes that one call of a reader gave, as far as they are not yet taken. Contracts see these. The place of the first line feed
+/// among them is kept, so that it is searched for once.
 #[derive(Drop)]
 pub struct Chunk {
     buffer: [u8; CHUNK],
     at: usize,
     end: usize,
+    feed: Option<usize>,
 }
 
 impl Model for Chunk {
     ghost use Rattle.std.specs.Prelude.{ℕ, ◌≤◌, List, slice_range};
+    ghost use Rattle.memchr.specs.Find.{IsFirstByte, is_byte};
     ghost use Rattle.stm_lines.specs.declared.chunk.TheConstants.{CHUNK};
 
     ghost Value = { List ℕ };
 
     ghost view = { λ c. slice_range c.buffer c.at c.end };
 
-    ghost invariant = { λ c. (c.at ≤ c.end) × (c.end ≤ CHUNK) };
+    ghost invariant = { λ c. (c.at ≤ c.end) × (c.end ≤ CHUNK)
+        × IsFirstByte (is_byte 10) (slice_range c.buffer c.at c.end) c.feed };
 }
 
 impl Chunk {
@@ -39,6 +45,7 @@ impl Chunk {
             buffer: [0; CHUNK],
             at: 0,
             end: 0,
+            feed: None,
         }
     }
 
@@ -49,29 +56,45 @@ impl Chunk {
         &self.buffer[self.at..self.end]
     }
 
-    /// Takes bytes from the front.
+    /// The place of the first line feed.
+    pub fn feed(&self) -> Option<usize>
+        ensures place { IsFirstByte (is_byte 10) self.now result }
+        ensures low { IfSome result (λ at. at < CHUNK) }
+    {
+        self.feed
+    }
+
+    /// Takes bytes from the front, and searches for the next line feed.
     pub fn advance(&mut self, count: usize)
         requires { count ≤ length self.old }
         ensures { self.new ≡ drop count self.old }
     {
         self.at += count;
+        self.feed = memchr(b'\n', &self.buffer[self.at..self.end]);
     }
 
-    /// Reads the next bytes in place of those that were there, and answers how many they are: none only at the end.
+    /// Reads the next bytes in place of those that were there, and returns how many they are: none only at the end.
     pub fn read<R: Read, L: Ledger>(&mut self, calls: &mut Calls<R, L>) -> io::Result<usize>
         requires { 0 < calls.old.left }
+        ensures same_reader { calls.new.reader.ghost_name ≡ calls.old.reader.ghost_name }
+        ensures same_steps { calls.new.steps.ghost_name ≡ calls.old.steps.ghost_name }
         ensures one_less { calls.new.left + 1 ≡ calls.old.left }
+        ensures counted { calls.new.steps.now ≡ calls.old.steps.now + 1 }
+        ensures few { length self.new ≤ CHUNK }
         ensures bytes { OnOk result (Consumes (R.remaining calls.old.reader.now)
             (R.remaining calls.new.reader.now) self.new) }
         ensures end { IfOk result (λ n. n ≡ 0 →
             (self.new ≡ []) × IsAtEnd (R.remaining calls.new.reader.now)) }
         ensures kept { OnErr result (Keeps (R.remaining calls.old.reader.now)
             (R.remaining calls.new.reader.now)) }
+        ensures none { OnErr result (self.new ≡ []) }
     {
         self.at = 0;
         self.end = 0;
+        self.feed = None;
         let count = calls.read(&mut self.buffer)?;
         self.end = count;
+        self.feed = memchr(b'\n', &self.buffer[..count]);
         Ok(count)
     }
 }

@@ -1,52 +1,164 @@
-//! Lines pulled from a reader.
+//! Lines pulled from a reader, as they are.
 
-ghost use Rattle.std.specs.Prelude.{◌≡◌, ◌≢◌, ◌++◌, ◌∷◌, [], ◌<◌, ◌≤◌, ℕ, List, false, length, drop, IfOk, IfErr, IfNone, IfSome, MatchBool, OnOk};
-ghost use Rattle.std.specs.Io.KnownBytes.{Consumes, IsAtEnd, prepend_known};
-ghost use Rattle.stm_lines.specs.LineClass.{line_class};
-ghost use Rattle.stm_lines.specs.LineReading.{classes_from, IsNextLine, IsNoLine};
+ghost use Rattle.std.specs.Prelude.{◌≡◌, ◌≢◌, ◌++◌, ◌+◌, ◌↔◌, [], ◌<◌, ◌≤◌, ℕ, List, drop, false, true, length, take, IfErr, IfOk, IsErrOf, IsTrue, Ok, OnErr, OnOk, Some};
+ghost use Rattle.std.specs.Io.KnownBytes.{Consumes, IsAtEnd, Keeps, prepend_known};
+ghost use Rattle.memchr.specs.Find.{IsFirstByte, is_byte};
+ghost use Rattle.stm_lines.specs.Lines.{drop_return as returnless, NoLineFeed};
+ghost use Rattle.stm_lines.specs.TakenLines.{bytes_to_come, TakesPartOfLine, HasLineFeed, IsPart, IsRead, IsSkipped, IsSkippedPart};
 
-use crate::begun_line::{drop_return, keep};
 use crate::calls::Calls;
 use crate::chunk::Chunk;
 use crate::run_fault::RunFault;
-use crate::steps::Steps;
-use memchr::memchr;
 use std::alloc::Global;
 use std::io::{ErrorKind, Read};
 use std::sync::ledger::Ledger;
 
-/// Takes bytes to the line that has begun: all of them, or, where there is a line feed, those up to it, which ends the line.
-/// Then it answers how many they are.
-fn take_part(line: &mut Vec<u8>, bytes: &[u8]) -> Result<Option<usize>, RunFault>
-    ensures all { IfOk result (λ taken. IfNone taken ((more : List ℕ) →
-        classes_from line.old.items (bytes.now ++ more) ≡ classes_from line.new.items more)) }
-    ensures ended { IfOk result (λ taken. IfSome taken (λ n. (more : List ℕ) →
-        classes_from line.old.items (bytes.now ++ more)
-        ≡ line_class line.new.items ∷ classes_from [] (drop n bytes.now ++ more))) }
-    ensures within { IfOk result (λ taken. IfSome taken (λ n. n ≤ length bytes.now)) }
+/// What was read.
+#[derive(Clone, Copy)]
+pub enum Line {
+    /// A line that a line feed ended.
+    Whole,
+    /// A line that the end of the input ended.
+    Last,
+    /// The first bytes of a line that has more of them than it may have: one more.
+    TooLong,
+    /// The input has ended, and has no further line.
+    End,
+}
+
+/// What a part of the chunk brings: the line feed; more bytes than a line may have; or neither, so that more is to be read.
+enum Part {
+    Whole,
+    TooLong,
+    More,
+}
+
+/// Takes bytes from the front of the chunk, the first of which join the line.
+fn take_front(
+    line: &mut Vec<u8>,
+    chunk: &mut Chunk,
+    joined: usize,
+    taken: usize,
+) -> Result<(), RunFault>
+    requires joined { joined ≤ taken }
+    requires taken { taken ≤ length chunk.old }
+    ensures line { OnOk result (line.new.items ≡ line.old.items ++ take joined chunk.old) }
+    ensures chunk { OnOk result (chunk.new ≡ drop taken chunk.old) }
+    ensures same_line { OnErr result (line.new.items ≡ line.old.items) }
+    ensures same_chunk { OnErr result (chunk.new ≡ chunk.old) }
     ensures fault { IfErr result (λ e. e ≡ RunFault.NoMemory) }
 {
-    match memchr(b'\n', bytes) {
-        Some(at) => {
-            keep(line, &bytes[..at])?;
-            drop_return(line);
-            Ok(Some(at + 1))
+    match line.extend_from_slice(&chunk.bytes()[..joined]) {
+        Ok(()) => {
+            chunk.advance(taken);
+            Ok(())
         }
-        None => {
-            keep(line, bytes)?;
-            Ok(None)
+        Err(_) => Err(RunFault::NoMemory),
+    }
+}
+
+/// Takes the bytes before the line feed at this place, and the line feed, or as many bytes as make the line too long.
+fn take_to_feed(
+    line: &mut Vec<u8>,
+    chunk: &mut Chunk,
+    at: usize,
+    limit: usize,
+) -> Result<Part, RunFault>
+    requires begun { length line.old.items ≤ limit }
+    requires feed { IsFirstByte (is_byte 10) chunk.old (Some at) }
+    requires low { at < 8192 }
+    ensures part { IfOk result (λ part.
+        IsPart part limit line.old.items line.new.items chunk.old chunk.new) }
+    ensures same_line { OnErr result (line.new.items ≡ line.old.items) }
+    ensures same_chunk { OnErr result (chunk.new ≡ chunk.old) }
+    ensures fault { IfErr result (λ e. e ≡ RunFault.NoMemory) }
+{
+    let room = limit - line.len();
+    if at <= room {
+        match take_front(line, chunk, at, at + 1) {
+            Ok(()) => Ok(Part::Whole),
+            Err(fault) => Err(fault),
+        }
+    } else {
+        match take_front(line, chunk, room + 1, room + 1) {
+            Ok(()) => Ok(Part::TooLong),
+            Err(fault) => Err(fault),
         }
     }
 }
 
-/// Reads the next bytes in place of those that were there; answers whether there are any. An interrupted read is tried
-/// again.
+/// Takes all bytes, none of which is a line feed, or as many as make the line too long.
+fn take_all(line: &mut Vec<u8>, chunk: &mut Chunk, limit: usize) -> Result<Part, RunFault>
+    requires begun { length line.old.items ≤ limit }
+    requires none { NoLineFeed chunk.old }
+    ensures part { IfOk result (λ part.
+        IsPart part limit line.old.items line.new.items chunk.old chunk.new) }
+    ensures same_line { OnErr result (line.new.items ≡ line.old.items) }
+    ensures same_chunk { OnErr result (chunk.new ≡ chunk.old) }
+    ensures fault { IfErr result (λ e. e ≡ RunFault.NoMemory) }
+{
+    let room = limit - line.len();
+    let all = chunk.bytes().len();
+    if all <= room {
+        match take_front(line, chunk, all, all) {
+            Ok(()) => Ok(Part::More),
+            Err(fault) => Err(fault),
+        }
+    } else {
+        match take_front(line, chunk, room + 1, room + 1) {
+            Ok(()) => Ok(Part::TooLong),
+            Err(fault) => Err(fault),
+        }
+    }
+}
+
+/// Takes what the chunk has of the line that has begun.
+fn take_part(line: &mut Vec<u8>, chunk: &mut Chunk, limit: usize) -> Result<Part, RunFault>
+    requires { length line.old.items ≤ limit }
+    ensures part { IfOk result (λ part.
+        IsPart part limit line.old.items line.new.items chunk.old chunk.new) }
+    ensures same_line { OnErr result (line.new.items ≡ line.old.items) }
+    ensures same_chunk { OnErr result (chunk.new ≡ chunk.old) }
+    ensures fault { IfErr result (λ e. e ≡ RunFault.NoMemory) }
+{
+    match chunk.feed() {
+        Some(at) => take_to_feed(line, chunk, at, limit),
+        None => take_all(line, chunk, limit),
+    }
+}
+
+/// Takes the bytes up to the first line feed, and the line feed, or all; returns whether there is one.
+fn skip_part(chunk: &mut Chunk) -> bool
+    ensures { IsSkippedPart result chunk.old chunk.new }
+{
+    match chunk.feed() {
+        Some(at) => {
+            chunk.advance(at + 1);
+            true
+        }
+        None => {
+            let all = chunk.bytes().len();
+            chunk.advance(all);
+            false
+        }
+    }
+}
+
+/// Reads the next bytes; returns whether there are any. An interrupted read is tried again.
 fn fill<R: Read, L: Ledger>(chunk: &mut Chunk, calls: &mut Calls<R, L>) -> Result<bool, RunFault>
+    requires { chunk.old ≡ [] }
+    ensures same_reader { calls.new.reader.ghost_name ≡ calls.old.reader.ghost_name }
+    ensures same_steps { calls.new.steps.ghost_name ≡ calls.old.steps.ghost_name }
+    ensures counted { calls.new.steps.now + calls.new.left ≡ calls.old.steps.now + calls.old.left }
     ensures fewer { OnOk result (calls.new.left < calls.old.left) }
+    ensures few { OnOk result (length chunk.new ≤ 8192) }
     ensures bytes { OnOk result (Consumes (R.remaining calls.old.reader.now)
         (R.remaining calls.new.reader.now) chunk.new) }
     ensures end { IfOk result (λ some. some ≡ false →
         (chunk.new ≡ []) × IsAtEnd (R.remaining calls.new.reader.now)) }
+    ensures kept { OnErr result (Keeps (R.remaining calls.old.reader.now)
+        (R.remaining calls.new.reader.now)) }
+    ensures none { OnErr result (chunk.new ≡ []) }
     ensures fault { IfErr result (λ e. e ≡ RunFault.Read) }
 {
     'reads: while calls.may_read() {
@@ -59,57 +171,127 @@ fn fill<R: Read, L: Ledger>(chunk: &mut Chunk, calls: &mut Calls<R, L>) -> Resul
     Err(RunFault::Read)
 }
 
-/// Reads lines. The reader is called 4,294,967,295 times at most; an interrupted read is tried again.
+/// Bytes that were read and not yet taken, and the line that was read last.
 #[derive(Drop)]
-pub struct LineReader<'a, R, L: Ledger> {
-    calls: Calls<'a, R, L>,
+pub struct LineReader {
     chunk: Chunk,
     line: Vec<u8>,
 }
 
-impl<'a, R: Read, L: Ledger> LineReader<'a, R, L> {
-    pub fn new(alloc: Global, reader: &'a mut R, steps: &'a mut Steps<L>) -> LineReader<'a, R, L>
-        ensures same_reader { result.calls.reader.ghost_name ≡ reader.entry.ghost_name }
-        ensures reader { result.calls.reader.now ≡ reader.old }
-        ensures chunk { result.chunk ≡ [] }
+impl LineReader {
+    pub fn new(alloc: Global) -> LineReader
+        ensures { result.chunk ≡ [] }
     {
         LineReader {
-            calls: Calls::new(reader, steps),
             chunk: Chunk::new(),
             line: Vec::new(alloc),
         }
     }
 
-    /// The line that was read last.
+    /// The line that was read last, without its line feed.
     pub fn line(&self) -> &[u8]
         ensures { result.now ≡ self.now.line.items }
     {
         self.line.as_slice()
     }
 
-    /// Reads the next line; answers whether there is one. One carriage return before the line feed is dropped. A last line
-    /// without line feed counts unless it is empty. Of a line that is too long no more than its first 65,538 bytes are kept.
-    pub fn next_line(&mut self) -> Result<bool, RunFault>
-        // What was left begins with the line, or one that is judged as it is, and goes on with what is left.
-        ensures line { IfOk result (λ some. MatchBool some
-            (IsNextLine (prepend_known self.old.chunk (R.remaining self.old.calls.reader.now))
-            (prepend_known self.new.chunk (R.remaining self.new.calls.reader.now))
-            self.new.line.items)
-            (IsNoLine (prepend_known self.old.chunk (R.remaining self.old.calls.reader.now)))) }
+    /// Whether the next line is whole in the bytes that were read, so that to read it doesn't call the reader.
+    pub fn is_buffered(&self) -> bool
+        ensures { IsTrue result ↔ HasLineFeed self.now.chunk }
+    {
+        self.chunk.feed().is_some()
+    }
+
+    /// Reads the next line, of at most so many bytes. If it has more, one more is taken, as soon as that many were read;
+    /// `skip_line` takes the rest.
+    pub fn next_line<R: Read, L: Ledger>(
+        &mut self,
+        calls: &mut Calls<R, L>,
+        limit: usize,
+    ) -> Result<Line, RunFault>
+        ensures same_reader { calls.new.reader.ghost_name ≡ calls.old.reader.ghost_name }
+        ensures same_steps { calls.new.steps.ghost_name ≡ calls.old.steps.ghost_name }
+        ensures counted { calls.new.steps.now + calls.new.left
+            ≡ calls.old.steps.now + calls.old.left }
+        // No call is made if the line is whole in the bytes that were read.
+        ensures buffered { HasLineFeed self.old.chunk → calls.new.left ≡ calls.old.left }
+        ensures fewer { OnOk result (bytes_to_come calls.new.left self.new.chunk
+            ≤ bytes_to_come calls.old.left self.old.chunk) }
+        ensures shorter { result ≡ Ok Line.Whole →
+            bytes_to_come calls.new.left self.new.chunk + length self.new.line.items
+            < bytes_to_come calls.old.left self.old.chunk }
+        ensures line { IfOk result (λ line. IsRead line limit
+            (prepend_known self.old.chunk (R.remaining calls.old.reader.now))
+            (prepend_known self.new.chunk (R.remaining calls.new.reader.now))
+            self.new.line.items) }
+        // After a fault the line has the bytes that were taken of it.
+        ensures begun { OnErr result (TakesPartOfLine
+            (prepend_known self.old.chunk (R.remaining calls.old.reader.now))
+            (prepend_known self.new.chunk (R.remaining calls.new.reader.now))
+            self.new.line.items) }
+        ensures read_fault { IsErrOf result RunFault.Read → self.new.chunk ≡ [] }
         ensures fault { IfErr result (λ e. e ≢ RunFault.Write) }
     {
         self.line.clear();
         'parts: loop {
-            match take_part(&mut self.line, self.chunk.bytes())? {
-                Some(count) => {
-                    self.chunk.advance(count);
-                    return Ok(true);
-                }
-                None => {}
+            match take_part(&mut self.line, &mut self.chunk, limit)? {
+                Part::Whole => return Ok(Line::Whole),
+                Part::TooLong => return Ok(Line::TooLong),
+                Part::More => {}
             }
-            if !fill(&mut self.chunk, &mut self.calls)? {
-                return Ok(!self.line().is_empty());
+            if !fill(&mut self.chunk, calls)? {
+                return Ok(if self.line.is_empty() {
+                    Line::End
+                } else {
+                    Line::Last
+                });
             }
+        }
+    }
+
+    /// Takes the rest of a line with its line feed, or to the end of the input; returns whether there is a line feed. `line`
+    /// stays as it is.
+    pub fn skip_line<R: Read, L: Ledger>(
+        &mut self,
+        calls: &mut Calls<R, L>,
+    ) -> Result<bool, RunFault>
+        ensures same_reader { calls.new.reader.ghost_name ≡ calls.old.reader.ghost_name }
+        ensures same_steps { calls.new.steps.ghost_name ≡ calls.old.steps.ghost_name }
+        ensures counted { calls.new.steps.now + calls.new.left
+            ≡ calls.old.steps.now + calls.old.left }
+        ensures same_line { self.new.line.items ≡ self.old.line.items }
+        ensures fewer { OnOk result (bytes_to_come calls.new.left self.new.chunk
+            ≤ bytes_to_come calls.old.left self.old.chunk) }
+        ensures shorter { result ≡ Ok true →
+            bytes_to_come calls.new.left self.new.chunk
+            < bytes_to_come calls.old.left self.old.chunk }
+        ensures skipped { IfOk result (λ feed. IsSkipped feed
+            (prepend_known self.old.chunk (R.remaining calls.old.reader.now))
+            (prepend_known self.new.chunk (R.remaining calls.new.reader.now))) }
+        ensures begun { OnErr result ((bytes : List ℕ) × TakesPartOfLine
+            (prepend_known self.old.chunk (R.remaining calls.old.reader.now))
+            (prepend_known self.new.chunk (R.remaining calls.new.reader.now)) bytes) }
+        ensures none { OnErr result (self.new.chunk ≡ []) }
+        ensures fault { IfErr result (λ e. e ≡ RunFault.Read) }
+    {
+        'parts: loop {
+            if skip_part(&mut self.chunk) {
+                return Ok(true);
+            }
+            if !fill(&mut self.chunk, calls)? {
+                return Ok(false);
+            }
+        }
+    }
+
+    /// Drops one carriage return at the end of the line.
+    pub fn drop_return(&mut self)
+        ensures chunk { self.new.chunk ≡ self.old.chunk }
+        ensures line { self.new.line.items ≡ returnless self.old.line.items }
+    {
+        let len = self.line.len();
+        if len > 0 && self.line[len - 1] == b'\r' {
+            self.line.truncate(len - 1);
         }
     }
 }

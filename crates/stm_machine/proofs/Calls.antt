@@ -15,8 +15,9 @@ use Rattle.stm_events.specs.declared.staleness.StalenessRule.{StalenessRule}
 use Rattle.stm_events.specs.SlowDesk.{Waiter, Slow, find_waiter, initial_state, state_by, AllowsBy, max_waiting}
 use Rattle.stm_events.specs.Laws.{AreRising}
 use Rattle.stm_events.proofs.Rising.{rising_state, next_le}
-use Rattle.stm_machine.specs.declared.waiting.Waiting.{Waiting}
-use Rattle.stm_machine.specs.Entries.{kept_at, lose, AllBelow, AreDue, kept_reads}
+use Rattle.stm_waiting.specs.declared.waiting.Waiting.{Waiting}
+use Rattle.stm_waiting.specs.Entries.{kept_at, lose, AllBelow}
+use Rattle.stm_machine.specs.Entries.{AreDue, kept_reads}
 use Rattle.stm_machine.specs.Machine.{Parts, StandsForBy, CanWaitBy, CanLeaveBy, MovesToBy}
 use Rattle.stm_machine.specs.QueueAndIndex.{due_of}
 use Rattle.stm_events.specs.Refusals.{missing, submit_first, cancel_first}

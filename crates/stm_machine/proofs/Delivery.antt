@@ -22,10 +22,10 @@ use Rattle.stm_events.specs.declared.event.Event.{Event}
 use Rattle.stm_events.specs.declared.event.What.TheVariants.{Installed}
 use Rattle.stm_events.specs.declared.staleness.StalenessRule.{StalenessRule}
 use Rattle.stm_events.specs.SlowDesk.{Waiter, Slow, under, is_current, find_waiter, state_by, AllowsBy}
-use Rattle.stm_machine.specs.declared.waiting.Held.{Held}
+use Rattle.stm_waiting.specs.declared.waiting.Held.{Held}
 use Rattle.stm_events.specs.declared.errors.DeliverError.{DeliverError}
 use Rattle.stm_events.specs.declared.errors.DeliverError.TheVariants as deliver
-use Rattle.stm_machine.specs.Entries.{with_held}
+use Rattle.stm_waiting.specs.Entries.{with_held}
 use Rattle.stm_machine.specs.Machine.{Parts, StandsForBy, CanInstallBy, MovesToBy}
 use Rattle.stm_machine.specs.QueueAndIndex.{due_of}
 use Rattle.stm_events.specs.Refusals.{has_value, differing, overtaken_first, install_first, DeliverTold, pending_left}

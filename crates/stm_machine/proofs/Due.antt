@@ -6,9 +6,10 @@ use Rattle.stm_check.specs.TypedBlock.{Block}
 use Rattle.stm_eval.specs.Messages.{Holds}
 use Rattle.stm_events.specs.SlowDesk.{Since, Waiter, under, find_waiter, without_waiter, with_delivery, delivered, woken_more, after_writes}
 use Rattle.stm_events.specs.Laws.{AreRising}
-use Rattle.stm_machine.specs.declared.waiting.Held.{Held}
-use Rattle.stm_machine.specs.declared.waiting.Waiting.{Waiting}
-use Rattle.stm_machine.specs.Entries.{kept_at, kept, lose, with_held, AllBelow, IsHeld, IsDue, AreDue, held_reads}
+use Rattle.stm_waiting.specs.declared.waiting.Held.{Held}
+use Rattle.stm_waiting.specs.declared.waiting.Waiting.{Waiting}
+use Rattle.stm_waiting.specs.Entries.{kept_at, kept, lose, with_held, AllBelow, held_reads}
+use Rattle.stm_machine.specs.Entries.{IsHeld, IsDue, AreDue}
 use Rattle.stm_machine.specs.QueueAndIndex.{read_since}
 
 -- what is kept under a ticket is the block that waits under it

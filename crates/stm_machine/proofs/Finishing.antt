@@ -23,10 +23,11 @@ use Rattle.stm_events.specs.Laws.{AreRising}
 use Rattle.stm_events.proofs.Rising.{waiter_without, rising_without}
 use Rattle.stm_events.proofs.Covered.{blocks_are_covered}
 use Rattle.stm_events.proofs.Fresh.{current_holds}
-use Rattle.stm_machine.specs.declared.waiting.Held.{Held}
-use Rattle.stm_machine.specs.declared.waiting.Waiting.{Waiting}
+use Rattle.stm_waiting.specs.declared.waiting.Held.{Held}
+use Rattle.stm_waiting.specs.declared.waiting.Waiting.{Waiting}
 use Rattle.stm_events.specs.declared.errors.FinishError.TheVariants as finish
-use Rattle.stm_machine.specs.Entries.{kept_at, lose, IsHeld}
+use Rattle.stm_waiting.specs.Entries.{kept_at, lose}
+use Rattle.stm_machine.specs.Entries.{IsHeld}
 use Rattle.stm_machine.specs.Machine.{Parts, StandsForBy, CanFinishBy, MovesToBy}
 use Rattle.stm_machine.specs.QueueAndIndex.{due_of, with_tickets}
 use Rattle.stm_machine.specs.Plans.{IsPlanBy}

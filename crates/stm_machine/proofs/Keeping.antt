@@ -15,10 +15,10 @@ use Rattle.stm_queue.specs.Queue.{without_ticket}
 use Rattle.stm_events.specs.declared.event.Event.{Event}
 use Rattle.stm_events.specs.declared.event.What.TheVariants.{Installed}
 use Rattle.stm_events.specs.declared.staleness.StalenessRule.{StalenessRule}
-use Rattle.stm_machine.specs.declared.waiting.Held.{Held}
-use Rattle.stm_machine.specs.declared.waiting.Waiting.{Waiting}
+use Rattle.stm_waiting.specs.declared.waiting.Held.{Held}
+use Rattle.stm_waiting.specs.declared.waiting.Waiting.{Waiting}
 use Rattle.stm_events.specs.SlowDesk.{under, is_current, find_waiter, state_by, AllowsBy}
-use Rattle.stm_machine.specs.Entries.{kept_at, with_held}
+use Rattle.stm_waiting.specs.Entries.{kept_at, with_held}
 use Rattle.stm_machine.specs.Machine.{Parts, StandsForBy, MovesToBy}
 use Rattle.stm_machine.specs.QueueAndIndex.{due_of}
 use Rattle.stm_machine.specs.Keeping.{IsVerdictUnder, CanKeepBy}

@@ -2,7 +2,6 @@
 pub mod Due
 pub mod Few
 pub mod Keeping
-pub mod Placed
 pub mod Points
 pub mod Rises
 pub mod Stales

@@ -21,9 +21,10 @@ use Rattle.stm_events.specs.SlowDesk.{Waiter, Slow, under, is_current, waking, s
 use Rattle.stm_events.specs.Laws.{AreRising}
 use Rattle.stm_events.proofs.Folds.{state-push, is_legal-push}
 use Rattle.stm_events.proofs.Rising.{rising_without, waiter_without, waiter_delivered, waiter_marks, waiter_push}
-use Rattle.stm_machine.specs.declared.waiting.Held.{Held}
-use Rattle.stm_machine.specs.declared.waiting.Waiting.{Waiting}
-use Rattle.stm_machine.specs.Entries.{kept_at, lose, with_held, AreDue, held_reads, kept_reads}
+use Rattle.stm_waiting.specs.declared.waiting.Held.{Held}
+use Rattle.stm_waiting.specs.declared.waiting.Waiting.{Waiting}
+use Rattle.stm_waiting.specs.Entries.{kept_at, lose, with_held, held_reads}
+use Rattle.stm_machine.specs.Entries.{AreDue, kept_reads}
 use Rattle.stm_machine.specs.Machine.{Parts, StandsForBy, MovesToBy, event}
 use Rattle.stm_machine.specs.QueueAndIndex.{with_tickets, due_of, watches_of, read_since}
 use Rattle.stm_machine.specs.MachineInvariant.{Stands}

@@ -9,8 +9,9 @@ use Rattle.stm_check.specs.TypedBlock.{Block}
 use Rattle.stm_events.specs.SlowDesk.{Since, Waiter, under, verdict_on, is_current, is_stale_since, current_since, find_waiter, Standing, standing_since, standing}
 use Rattle.stm_events.specs.SlowDesk as slow
 use Rattle.stm_events.specs.SlowSettle.{lowest}
-use Rattle.stm_machine.specs.declared.waiting.Waiting.{Waiting}
-use Rattle.stm_machine.specs.Entries.{AreDue, first_above}
+use Rattle.stm_waiting.specs.declared.waiting.Waiting.{Waiting}
+use Rattle.stm_waiting.specs.Entries.{first_above}
+use Rattle.stm_machine.specs.Entries.{AreDue}
 use Rattle.stm_events.specs.BlockStatus.{read_then, read_now}
 
 -- ---- the least ticket above one

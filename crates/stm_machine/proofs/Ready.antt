@@ -18,9 +18,10 @@ use Rattle.stm_events.specs.Ready.{is_ready, next_ready}
 use Rattle.stm_events.specs.Laws.{AreRising}
 use Rattle.stm_events.proofs.Fresh.{current_holds}
 use Rattle.stm_events.proofs.Rising.{not_above, waiter_without}
-use Rattle.stm_machine.specs.declared.waiting.Held.{Held}
-use Rattle.stm_machine.specs.declared.waiting.Waiting.{Waiting}
-use Rattle.stm_machine.specs.Entries.{kept_at, kept, lose, with_held, AllBelow, AreDue, IsHeld, held_ends, kept_ends}
+use Rattle.stm_waiting.specs.declared.waiting.Held.{Held}
+use Rattle.stm_waiting.specs.declared.waiting.Waiting.{Waiting}
+use Rattle.stm_waiting.specs.Entries.{kept_at, kept, lose, with_held, AllBelow}
+use Rattle.stm_machine.specs.Entries.{AreDue, IsHeld, held_ends, kept_ends}
 use Rattle.stm_machine.specs.Machine.{Parts, StandsForBy}
 use Rattle.stm_machine.specs.QueueAndIndex.{with_tickets, due_of}
 use Rattle.stm_machine.specs.ReadySet.{could_finish, AreReady}

@@ -12,7 +12,7 @@ use Rattle.stm_watch.specs.Pairs.{Pairs, watches}
 use Rattle.stm_events.specs.SlowDesk.{Waiter, becomes_stale, stale_after, find_waiter, without_waiter}
 use Rattle.stm_events.specs.Laws.{AreRising}
 use Rattle.stm_events.proofs.Rising.{rising_without, waiter_without}
-use Rattle.stm_machine.specs.declared.waiting.Waiting.{Waiting}
+use Rattle.stm_waiting.specs.declared.waiting.Waiting.{Waiting}
 use Rattle.stm_machine.specs.Entries.{AreDue}
 use Rattle.stm_machine.specs.MachineInvariant.{AreWatched}
 use Rattle.stm_machine.proofs.Points.{stale_of, has_stale}

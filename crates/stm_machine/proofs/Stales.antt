@@ -13,8 +13,9 @@ use Rattle.stm_eval.specs.Messages.{Holds}
 use Rattle.stm_eval.proofs.FragmentsAndStores.{looked}
 use Rattle.stm_watch.specs.Pairs.{Pairs, is_read, watches}
 use Rattle.stm_events.specs.SlowDesk.{Since, Waiter, under, looked_on, intersects, is_stale_since, current_since, is_current, woken_more, find_waiter}
-use Rattle.stm_machine.specs.declared.waiting.Waiting.{Waiting}
-use Rattle.stm_machine.specs.Entries.{kept_at, AreDue, IsHeld}
+use Rattle.stm_waiting.specs.declared.waiting.Waiting.{Waiting}
+use Rattle.stm_waiting.specs.Entries.{kept_at}
+use Rattle.stm_machine.specs.Entries.{AreDue, IsHeld}
 use Rattle.stm_machine.specs.QueueAndIndex.{read_since, watches_of}
 use Rattle.stm_machine.specs.MachineInvariant.{AreWatched}
 use Rattle.stm_machine.proofs.Due.{IsSame, IsFound, found}

@@ -10,8 +10,8 @@ use Rattle.stm_eval.specs.declared.message.Evaluated.{Evaluated}
 use Rattle.stm_eval.specs.EvaluatedFields.{message_ticket, message_block, message_reads, message_verdict}
 use Rattle.stm_queue.specs.Queue.{Entry, first_queued, sent_out}
 use Rattle.stm_events.specs.SlowDesk.{Waiter, Slow, under, verdict_on, find_waiter}
-use Rattle.stm_machine.specs.declared.waiting.Waiting.{Waiting}
-use Rattle.stm_machine.specs.Entries.{kept_at}
+use Rattle.stm_waiting.specs.declared.waiting.Waiting.{Waiting}
+use Rattle.stm_waiting.specs.Entries.{kept_at}
 use Rattle.stm_events.specs.Refusals.{differing}
 
 -- the n lowest queued tickets are out

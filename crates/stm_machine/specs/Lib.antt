@@ -1,12 +1,10 @@
 -- The words inside, for what the machine holds and hands out.
 pub mod Entries
-pub mod FreshReads
 pub mod IndexEncoding
 pub mod JobsHandedOut
 pub mod Keeping
 pub mod Machine
 pub mod MachineInvariant
-pub mod Places
 pub mod Plans
 pub mod QueueAndIndex
 pub mod ReadySet

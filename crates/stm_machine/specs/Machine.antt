@@ -10,7 +10,7 @@ use Rattle.stm_eval.specs.EvaluatedFields.{message_ticket, message_block, messag
 use Rattle.stm_watch.specs.Pairs.{Pairs}
 use Rattle.stm_events.specs.declared.event.Event.{Event}
 use Rattle.stm_events.specs.declared.event.What.{What}
-use Rattle.stm_machine.specs.declared.waiting.Waiting.{Waiting}
+use Rattle.stm_waiting.specs.declared.waiting.Waiting.{Waiting}
 use Rattle.stm_events.specs.declared.staleness.StalenessRule.{StalenessRule}
 use Rattle.stm_events.specs.declared.staleness.StalenessRule.TheVariants.{Changed}
 use Rattle.stm_events.specs.SlowDesk.{find_waiter, state_by, IsLegalBy, max_events, max_clients}

@@ -4,7 +4,7 @@ use Rattle.stm_store.specs.declared.cell.Cell.{Cell}
 use Rattle.stm_watch.specs.Pairs.{Pairs, has_pair}
 use Rattle.stm_queue.specs.Queue.{Entry}
 use Rattle.stm_events.specs.SlowDesk.{Waiter, Slow, find_waiter}
-use Rattle.stm_machine.specs.declared.waiting.Waiting.{Waiting}
+use Rattle.stm_waiting.specs.declared.waiting.Waiting.{Waiting}
 use Rattle.stm_machine.specs.Entries.{AreDue}
 use Rattle.stm_machine.specs.QueueAndIndex.{AreQueued, watches_of}
 

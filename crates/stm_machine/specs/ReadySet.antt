@@ -2,13 +2,9 @@
 use Rattle.std.specs.Prelude.{◌≡◌, ℕ, ◌&&◌, Bool, not, List}
 use Rattle.stm_queue.specs.Queue.{Entry, has_ticket}
 use Rattle.stm_queue.specs.SortedTickets.{member}
-use Rattle.stm_machine.specs.declared.waiting.Waiting.{Waiting}
-use Rattle.stm_machine.specs.Entries.{kept_at, kept_ends}
-
--- tickets, ascending, and how many can be added with no memory taken
-pub record TicketsAndRoom : Type 0 where
-  pub tickets : List ℕ
-  pub room : ℕ
+use Rattle.stm_waiting.specs.declared.waiting.Waiting.{Waiting}
+use Rattle.stm_waiting.specs.Entries.{kept_at}
+use Rattle.stm_machine.specs.Entries.{kept_ends}
 
 -- the last delivery to the block under the ticket brought a verdict that doesn't block, and the ticket is neither queued nor out
 abbrev pub could_finish : ℕ → List (ℕ × Waiting) → List Entry → Bool

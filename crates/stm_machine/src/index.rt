@@ -6,16 +6,17 @@ ghost use Rattle.stm_watch.specs.Pairs.{has_pair, is_read, watches, WithoutReads
 ghost use Rattle.stm_queue.specs.Queue.{has_ticket};
 ghost use Rattle.stm_queue.specs.SortedTickets.{IsRising, delete};
 ghost use Rattle.stm_events.specs.SlowDesk.{written_in, waking};
-ghost use Rattle.stm_machine.specs.Entries.{kept_at, kept_reads, lose};
+ghost use Rattle.stm_waiting.specs.Entries.{kept_at, lose};
+ghost use Rattle.stm_machine.specs.Entries.{kept_reads};
 ghost use Rattle.stm_machine.specs.QueueAndIndex.{with_tickets};
 
-use crate::waiting::{Waiting, WaitingBlocks};
 use std::alloc::{AllocError as NoMemory, Global};
 use stm_events::staleness::StalenessRule;
 use stm_queue::Pending;
 use stm_store::Store;
 use stm_terms::values::Value;
 use stm_terms::verdicts::Verdict;
+use stm_waiting::{Waiting, WaitingBlocks};
 use stm_watch::Watch;
 
 fn push_variables(variables: &mut Vec<u32>, writes: &[(u32, Value)]) -> Result<(), NoMemory>

@@ -14,8 +14,6 @@ ghost use Rattle.stm_machine.specs.Machine.{StandsForBy, CanInstallBy, MovesToBy
 ghost use Rattle.stm_events.specs.Refusals.{differing, has_value, install_told, TellsDelivery};
 
 use crate::machine::Machine;
-use crate::ticket_set::TicketSet;
-use crate::waiting::{Held, Waiting};
 use std::alloc::Global;
 use stm_eval::Evaluated;
 use stm_events::errors::DeliverError;
@@ -23,6 +21,7 @@ use stm_events::shared_verdict::SharedVerdict;
 use stm_store::Store;
 use stm_terms::NoMemory;
 use stm_terms::values::Value;
+use stm_waiting::{Held, TicketSet, Waiting};
 use stm_watch::Watch;
 
 /// Whether the message is of the block that waits.

@@ -4,13 +4,12 @@ ghost use Rattle.std.specs.Prelude.{◌≡◌, List, [], IfOk};
 ghost use Rattle.stm_events.specs.declared.staleness.StalenessRule.{StalenessRule as AnyRule};
 ghost use Rattle.stm_machine.specs.Machine.{StandsForBy};
 
-use crate::ticket_set::TicketSet;
-use crate::waiting::WaitingBlocks;
 use std::alloc::Global;
 use std::marker::Model;
 use stm_queue::Pending;
 use stm_store::{Store, Table};
 use stm_terms::NoMemory;
+use stm_waiting::{TicketSet, WaitingBlocks};
 use stm_watch::Watch;
 
 /// What a history leads to: the store, the next ticket, the waiting blocks with what their last deliveries brought, the

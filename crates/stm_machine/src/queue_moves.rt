@@ -7,19 +7,19 @@ ghost use Rattle.stm_queue.specs.Queue.{has_ticket, queued, is_out, marked, reca
 ghost use Rattle.stm_events.specs.declared.event.Event.{Event};
 ghost use Rattle.stm_events.specs.declared.staleness.StalenessRule.{StalenessRule as AnyRule};
 ghost use Rattle.stm_events.specs.SlowDesk.{state_by};
-ghost use Rattle.stm_machine.specs.Entries.{kept_at};
+ghost use Rattle.stm_waiting.specs.Entries.{kept_at};
 ghost use Rattle.stm_machine.specs.Machine.{StandsForBy};
 ghost use Rattle.stm_events.specs.Refusals.{pending_left};
 ghost use Rattle.stm_machine.specs.JobsHandedOut.{sent, AreJobs, AreCovered, AreKept, IsKeptJob};
 
 use crate::machine::Machine;
-use crate::waiting::WaitingBlocks;
 use std::alloc::Global;
 use stm_eval::Job;
 use stm_events::errors::DeliverError;
 use stm_queue::Pending;
 use stm_store::Frozen;
 use stm_terms::NoMemory;
+use stm_waiting::WaitingBlocks;
 
 /// The job of a block that waits.
 pub(crate) fn job_of(waiting: &WaitingBlocks, ticket: u32) -> Result<Job, NoMemory>

@@ -15,13 +15,11 @@ ghost use Rattle.stm_machine.specs.SettleChoices.{some_out, next_due};
 ghost use Rattle.stm_machine.specs.Machine.{StandsForBy, MovesToBy};
 ghost use Rattle.stm_machine.specs.Keeping.{IsVerdictUnder, CanKeepBy};
 ghost use Rattle.stm_machine.specs.JobsHandedOut.{IsPresent};
-ghost use Rattle.stm_machine.specs.Entries.{kept_at};
-ghost use Rattle.stm_machine.specs.FreshReads.{AreFreshFor};
+ghost use Rattle.stm_waiting.specs.Entries.{kept_at};
+ghost use Rattle.stm_waiting.specs.FreshReads.{AreFreshFor};
 
 use crate::machine::Machine;
 use crate::queue_moves::job_of;
-use crate::ticket_set::TicketSet;
-use crate::waiting::WaitingBlocks;
 use std::alloc::Global;
 use stm_eval::{Evaluated, Scratch, evaluate, try_block_in};
 use stm_events::shared_verdict::SharedVerdict;
@@ -29,6 +27,7 @@ use stm_log::Reads;
 use stm_store::Frozen;
 use stm_terms::NoMemory;
 use stm_terms::verdicts::Verdict;
+use stm_waiting::{TicketSet, WaitingBlocks};
 use stm_watch::Watch;
 
 /// What keeping a verdict takes: two holds on it, a list for what was read unless there is one, room for the ticket in the set

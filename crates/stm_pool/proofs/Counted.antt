@@ -1,17 +1,13 @@
 -- What the counts of a storm's clients tell.
 use Rattle.std.proofs.Common.{◌≡◌, ℕ, suc, ◌+◌, ◌<◌, ◌≤◌, List, [], ◌∷◌, ◌++◌, length, get_or, refl, sym, ap, ◌∙◌, subst, below_more, arith}
 use Rattle.std.proofs.lemmas.List.{get_or_append_left, get_or_push}
-use Rattle.std.specs.Prelude.{Option, Some, None, Result, Ok, Err, IfOk, IfSome, IsSomeAnd}
-use Rattle.std.specs.declared.alloc.AllocError.{AllocError}
-use Rattle.stm_store.specs.Tables.{Declared}
+use Rattle.std.specs.Prelude.{Option, Some, None, IfSome, IsSomeAnd}
 use Rattle.stm_events.specs.declared.event.Event.{Event}
 use Rattle.stm_pool.specs.declared.storm.Counts.{Counts}
-use Rattle.stm_pool.specs.declared.storm.Replay.{Replay}
-use Rattle.stm_pool.specs.declared.storm.Replay.TheVariants.{NotClosed, NotLegal, Legal}
 use Rattle.stm_pool.specs.Own.{Known, own_of}
 use Rattle.stm_pool.specs.Closing.{pass_of, AgreesWith}
-use Rattle.stm_pool.specs.Counted.{CountsPasses, IsReplayed}
-use Rattle.stm_pool.specs.Storms.{CountsEvents, CountsClients, IsStormEnd}
+use Rattle.stm_pool.specs.Counted.{CountsPasses}
+use Rattle.stm_pool.specs.Storms.{CountsEvents, CountsClients}
 
 -- one client more is counted
 pub push_counted : (passes : List Known) (all now : List Counts) (one : Counts) (n : ℕ)
@@ -49,12 +45,3 @@ all_counted history passes counts n few agree each =
     counted_from history 0 counts (λ k d l.
     subst (λ (m : ℕ). CountsEvents (own_of m history) (get_or counts k d)) (omega arith)
     (counted_by history k (pass_of k passes) (get_or counts k d) (agree k (omega (arith, few, l))) (each k d l)))
-
--- what is found of a history whose passes are counted is the end of the storm
-pub storm_end : (table : List Declared) (counts : List Counts) (history : List Event) (r : Result Replay AllocError)
-    → IfOk r (λ e. IsReplayed table history e) → CountsClients history 0 counts → IfOk r (λ e. IsStormEnd table counts e)
-storm_end table counts history (Ok NotClosed) replayed counted = tt
-storm_end table counts history (Ok (NotLegal n)) replayed counted = tt
-storm_end table counts history (Ok (Legal n)) replayed counted =
-    (history, record { legal = replayed.0; many = replayed.1; counted = counted })
-storm_end table counts history (Err e) replayed counted = tt

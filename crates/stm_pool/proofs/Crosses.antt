@@ -18,9 +18,9 @@ use Rattle.stm_terms.specs.contracts.verdicts.Verdict as verdict
 use Rattle.stm_events.specs.contracts.shared_verdict.SharedVerdict as shared_verdict
 use Rattle.stm_events.specs.contracts.tickets.Tickets as tickets
 use Rattle.stm_events.specs.contracts.event.Event as event
-use Rattle.stm_machine.specs.contracts.waiting.Held as held
-use Rattle.stm_machine.specs.contracts.waiting.Waiting as waiting
-use Rattle.stm_machine.specs.contracts.waiting.WaitingBlocks as blocks
+use Rattle.stm_waiting.specs.contracts.waiting.Held as held
+use Rattle.stm_waiting.specs.contracts.waiting.Waiting as waiting
+use Rattle.stm_waiting.specs.contracts.waiting.WaitingBlocks as blocks
 use Rattle.stm_machine.specs.contracts.machine.Machine as machine
 use Rattle.stm_store.specs.contracts.table.Table as table
 use Rattle.stm_store.specs.contracts.store.Store as store

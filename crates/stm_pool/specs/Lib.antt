@@ -7,6 +7,6 @@ pub mod Own
 pub mod Shown
 pub mod Storms
 pub mod Worked
--- The words inside, for the slots of jobs, the counts of passes and what is found of a history.
+-- The words inside, for the slots of jobs and the counts of passes.
 pub mod Counted
 pub mod Slots

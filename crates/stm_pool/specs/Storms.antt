@@ -1,13 +1,10 @@
--- What a storm leaves: a legal history, which has what its counts tell.
+-- What a storm leaves: a desk, whose history has what its counts say.
 use Rattle.std.specs.Prelude.{◌≡◌, ℕ, ◌+◌, Bool, true, false, List, [], ◌∷◌, length, if◌then◌else◌, ⊤}
-use Rattle.stm_store.specs.Tables.{Declared}
 use Rattle.stm_events.specs.declared.event.Event.{Event}
 use Rattle.stm_events.specs.declared.event.What.{What}
 use Rattle.stm_events.specs.declared.event.What.TheVariants.{Submitted, Installed, Finished, Cancelled}
-use Rattle.stm_events.specs.SlowDesk.{IsLegal}
 use Rattle.stm_pool.specs.declared.storm.Counts.{Counts}
-use Rattle.stm_pool.specs.declared.storm.Replay.{Replay}
-use Rattle.stm_pool.specs.declared.storm.Replay.TheVariants.{NotClosed, NotLegal, Legal}
+use Rattle.stm_pool.specs.declared.close.Report.{Report}
 use Rattle.stm_pool.specs.Own.{own_of}
 
 -- the kinds of event that a client makes
@@ -47,14 +44,7 @@ abbrev pub CountsClients : List Event → ℕ → List Counts → Type 0
 CountsClients history client [] = ⊤
 CountsClients history client (c ∷ cs) = CountsEvents (own_of client history) c × CountsClients history (client + 1) cs
 
--- a history of so many events that is legal over the table, of which the counts tell what each client did
-pub record IsStormHistory (table : List Declared) (counts : List Counts) (events : ℕ) (history : List Event) : Type 0 where
-  pub legal : IsLegal table history
-  pub many : events ≡ length history
-  pub counted : CountsClients history 0 counts
-
--- where a storm's history was found legal, there is one
-abbrev pub IsStormEnd : List Declared → List Counts → Replay → Type 0
-IsStormEnd table counts NotClosed = ⊤
-IsStormEnd table counts (NotLegal n) = ⊤
-IsStormEnd table counts (Legal n) = (history : List Event) × IsStormHistory table counts n history
+-- a closed desk has as many events as it says, and the counts are those of its clients
+pub record CountsDesk (counts : List Counts) (r : Report) : Type 0 where
+  pub many : r.events ≡ length r.desk.history
+  pub counted : CountsClients r.desk.history 0 counts

@@ -9,13 +9,13 @@
 //! evaluates without the lock, and delivers.
 //!
 //! A storm (`run_storm`) runs clients and workers in threads of their own over one such desk, and
-//! replays the history that they leave.
+//! closes it.
 //!
 //! What a reader has to believe is what these answers say. `specs/Answers` says what is answered of
 //! a job, `specs/Own` what a pass knows of its client's events and when a history has them,
 //! `specs/Shown` what a view shows a client, `specs/Found` what store comes with a job that a
 //! worker finds, `specs/Worked` what a worker adds to its pass, and `specs/Storms` what a storm's
-//! counts and its replay tell of the history. `specs/Limits` says how many workers and sections
+//! counts say of the history. `specs/Limits` says how many workers and sections
 //! there may be.
 #![tactic(auto)]
 
@@ -49,5 +49,5 @@ pub use guarded::{Guarded, View};
 pub use pass::Pass;
 pub use section::{Section, Task};
 pub use shared::SharedDesk;
-pub use storm::{Counts, MAX_SECTIONS, Replay, StormEnd, run_storm};
+pub use storm::{Counts, MAX_SECTIONS, StormEnd, run_storm};
 pub use worker::{Gate, WorkEnd, work};

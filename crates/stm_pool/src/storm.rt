@@ -1,12 +1,11 @@
-//! A storm: clients and workers in threads of their own, over one desk, and the history that they
-//! leave.
+//! A storm: clients and workers in threads of their own, over one desk, and the desk that they leave.
 
-ghost use Rattle.std.specs.Prelude.{◌≡◌, ◌+◌, ◌<◌, ◌≤◌, length, vec_len, IfOk};
+ghost use Rattle.std.specs.Prelude.{◌≡◌, ◌+◌, ◌<◌, ◌≤◌, length, vec_len, IfOk, IfSome};
 ghost use Rattle.stm_eval.specs.Limits.{max_levels};
 ghost use Rattle.stm_events.specs.SlowDesk.{max_events as most_events};
-ghost use Rattle.stm_pool.specs.Counted.{CountsPasses, IsReplayed};
+ghost use Rattle.stm_pool.specs.Counted.{CountsPasses};
 ghost use Rattle.stm_pool.specs.Limits.{max_sections, max_workers};
-ghost use Rattle.stm_pool.specs.Storms.{IsStormEnd};
+ghost use Rattle.stm_pool.specs.Storms.{CountsDesk};
 
 use crate::close::Report;
 use crate::counting::counts_of;
@@ -19,7 +18,6 @@ use std::marker::Brand;
 use std::sync::Wait;
 use std::sync::ledger::{Blank, Ledger};
 use std::thread::Threads;
-use stm_history::{HistoryFault, replay};
 use stm_store::Table;
 use stm_terms::NoMemory;
 
@@ -37,52 +35,27 @@ pub struct Counts {
     pub missed: usize,
 }
 
-/// What is found of a storm's history.
-#[derive(Clone, Copy, PartialEq, Eq, Debug)]
-pub enum Replay {
-    /// The desk couldn't be closed: it lacks a pass, or a client's events are not those of its
-    /// pass.
-    NotClosed,
-    /// It has so many events, and isn't legal over the opened table.
-    NotLegal(u32),
-    /// It has so many events, and is legal over the opened table.
-    Legal(u32),
-}
-
-/// What a storm ended with: the counts of each client, in order, and what is found of the history.
+/// What a storm ended with: the counts of each client, in order, and the closed desk. There is no desk if it couldn't be closed, since it
+/// lacked a pass, or a client's events were not those of its pass.
 #[derive(Drop)]
 pub struct StormEnd {
     pub counts: Vec<Counts>,
-    pub replay: Replay,
+    pub report: Option<Report>,
 }
 
-/// What is found of a closed desk's history.
-fn judge(alloc: Global, table: &Table, report: &Report) -> Result<Replay, NoMemory>
-    requires { report.now.events ≡ length report.now.desk.history }
-    ensures { IfOk result (λ r. IsReplayed table.now report.now.desk.history r) }
-{
-    match replay(alloc, table, report.desk.history()) {
-        Ok(_) => Ok(Replay::Legal(report.events)),
-        Err(HistoryFault::NoMemory) => Err(NoMemory),
-        Err(_) => Ok(Replay::NotLegal(report.events)),
-    }
-}
-
-/// Closes a desk with its passes, by which the first clients are counted, and replays its history.
-fn close_and_replay<L: Ledger>(
-    alloc: Global,
-    table: &Table,
+/// Closes a desk with its passes, by which the first clients are counted.
+fn closed<L: Ledger>(
     shared: SharedDesk<L>,
     passes: Vec<Pass<L>>,
     counts: &[Counts],
-) -> Result<Replay, NoMemory>
+) -> Option<Report>
     requires few { length counts.now ≤ shared }
     requires each { CountsPasses passes.items counts.now }
-    ensures { IfOk result (λ r. IsStormEnd table.now counts.now r) }
+    ensures { IfSome result (λ r. CountsDesk counts.now r) }
 {
     match shared.close(passes) {
-        Ok(report) => judge(alloc, table, &report),
-        Err(_) => Ok(Replay::NotClosed),
+        Ok(report) => Some(report),
+        Err(_) => None,
     }
 }
 
@@ -90,22 +63,21 @@ fn close_and_replay<L: Ledger>(
 /// back, memory ran out.
 fn end_of<L: Ledger>(
     alloc: Global,
-    table: &Table,
     shared: SharedDesk<L>,
     returned: Returned<L>,
     clients: usize,
 ) -> Result<StormEnd, NoMemory>
     requires { clients ≤ shared }
     ensures each { IfOk result (λ e. vec_len e.counts ≡ clients) }
-    ensures end { IfOk result (λ e. IsStormEnd table.now e.counts.items e.replay) }
+    ensures end { IfOk result (λ e. IfSome e.report (λ r. CountsDesk e.counts.items r)) }
 {
     let Returned { passes, extras } = returned;
     if extras.len() != clients || passes.len() != shared.passes as usize {
         return Err(NoMemory);
     }
     let counts = counts_of(alloc, passes.as_slice(), extras.as_slice())?;
-    let replay = close_and_replay(alloc, table, shared, passes, counts.as_slice())?;
-    Ok(StormEnd { counts, replay })
+    let report = closed(shared, passes, counts.as_slice());
+    Ok(StormEnd { counts, report })
 }
 
 /// `run_storm`, with the blank of a ledger that has a part for each thread.
@@ -125,19 +97,19 @@ fn storm_with<L: Ledger + Send + Sync, R: Threads + Wait + Sync>(
     requires levels { levels ≤ max_levels }
     requires events { max_events ≤ most_events }
     ensures each { IfOk result (λ e. vec_len e.counts ≡ vec_len sections) }
-    ensures end { IfOk result (λ e. IsStormEnd table.now e.counts.items e.replay) }
+    ensures end { IfOk result (λ e. IfSome e.report (λ r. CountsDesk e.counts.items r)) }
 {
     let clients = sections.len();
     let threads = clients as u32 + workers;
     let (shared, passes) = SharedDesk::<L>::open(alloc, blank, table, threads, max_events)?;
     let returned = run_all(rt, alloc, &shared, passes, sections, levels);
-    end_of(alloc, table, shared, returned, clients)
+    end_of(alloc, shared, returned, clients)
 }
 
 /// Opens a desk with the variables of a table and room for so many events; does what each section
 /// says, in a thread of its own, while the workers, each in a thread of its own, evaluate what is
-/// queued; then closes the desk and replays its history over the table. `levels` is how deep the
-/// workers evaluate both branches of an `orElse` at once.
+/// queued; then closes the desk. `levels` is how deep the workers evaluate both branches of an
+/// `orElse` at once.
 ///
 /// A client finishes a ticket as soon as it is evaluated, and waits for that where it must. Section
 /// k is client k; the workers are the clients after them. Where memory runs out, or a thread can't
@@ -155,9 +127,8 @@ pub fn run_storm<R: Threads + Wait + Sync>(
     requires levels { levels ≤ max_levels }
     requires events { max_events ≤ most_events }
     ensures each { IfOk result (λ e. vec_len e.counts ≡ vec_len sections) }
-    // A history that is legal over the table, and what the counts tell of each client is what the
-    // history has of it.
-    ensures end { IfOk result (λ e. IsStormEnd table.now e.counts.items e.replay) }
+    // What the counts say of each client is what the desk's history has of it.
+    ensures end { IfOk result (λ e. IfSome e.report (λ r. CountsDesk e.counts.items r)) }
 {
     let parts = sections.len() as u64 + u64::from(workers);
     storm_with::<Brand, R>(

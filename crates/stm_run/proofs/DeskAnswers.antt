@@ -18,7 +18,7 @@ use Rattle.stm_events.specs.declared.errors.FinishError.{FinishError}
 use Rattle.stm_events.specs.declared.errors.SubmitError.{SubmitError}
 use Rattle.stm_events.specs.declared.event.What.{What}
 use Rattle.stm_events.specs.Laws.{DeclaredAreCovered, WaitingAreWellTyped, StoresAreTyped, BlocksHaveVerdicts}
-use Rattle.stm_history.specs.Lines.{latest_format}
+use Rattle.stm_event_lines.specs.Lines.{latest_format}
 use Rattle.stm_events.specs.Refusals.{missing, blocks_there, overflows, finish_first}
 use Rattle.stm_events.specs.SlowDesk.{Since, Waiter, Slow, under, verdict_on, is_blocks, is_new, is_current, find_waiter, without_waiter, stale_after, max_waiting}
 use Rattle.stm_events.specs.SlowSettle.{Stop, NoRoom, NoCells, finishes, installs}

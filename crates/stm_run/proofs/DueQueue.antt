@@ -1,5 +1,5 @@
 -- The queue of a desk that has taken some lines is that of the new and stale blocks: both rise and have the same tickets.
-use Rattle.std.proofs.Common.{◌≡◌, ℕ, zero, suc, ◌<◌, ◌≤◌, Bool, true, false, not, ◌&&◌, ◌||◌, cond, List, [], ◌∷◌, map, filter, take, Option, Some, None, refl, sym, ap, ap₂, subst, ◌∙◌, arith}
+use Rattle.std.proofs.Common.{◌≡◌, ℕ, ◌<◌, ◌≤◌, Bool, true, false, not, ◌||◌, cond, List, [], ◌∷◌, map, filter, Some, refl, sym, ap, ap₂, subst, ◌∙◌, arith}
 use Rattle.std.specs.Prelude.{nat_eq, nat_lt}
 use Rattle.std.proofs.lemmas.Bool.Decides.{nat_tests}
 use Rattle.stm_check.specs.Laws.{CheckNeverSaysNoMemory}
@@ -12,14 +12,14 @@ use Rattle.stm_queue.proofs.Merging.{itself}
 use Rattle.stm_queue.proofs.SortedInsertion.{absent_above}
 use Rattle.stm_events.specs.declared.staleness.StalenessRule.TheVariants.{Changed}
 use Rattle.stm_events.specs.Laws.{AreRising, TicketsRise, BlocksStay}
-use Rattle.stm_history.specs.WholeBlocks.{CheckedAreWellTyped}
+use Rattle.stm_event_lines.specs.WholeBlocks.{CheckedAreWellTyped}
 use Rattle.stm_machine.specs.QueueAndIndex.{due_of}
 use Rattle.stm_events.specs.SlowDesk.{Waiter, is_current, find_waiter}
 use Rattle.stm_events.proofs.Rising.{not_above}
 use Rattle.stm_desk.specs.Seen.{now}
 use Rattle.stm_run.specs.Console.{initial_console}
 use Rattle.stm_run.specs.ConsoleState.{present_desk}
-use Rattle.stm_commands.specs.DueTickets.{due_tickets, queue_for, tickets_out}
+use Rattle.stm_commands.specs.DueTickets.{due_tickets, tickets_out}
 use Rattle.stm_run.specs.Laws.{QueueIsOfDueTickets, state_after_lines}
 use Rattle.stm_commands.proofs.KeptQueue.{QueueKept, filtered_above, member_tickets}
 use Rattle.stm_run.proofs.ReachedConsole.{present_stands, reached}

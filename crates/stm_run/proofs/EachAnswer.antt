@@ -7,7 +7,7 @@ use Rattle.stm_eval.specs.Laws.{VerdictIsStable}
 use Rattle.stm_parse.specs.ParseFunction.{BlockAnswersAreRight, DeclarationAnswersAreRight}
 use Rattle.stm_store.specs.Tables.{Declared}
 use Rattle.stm_events.specs.Laws.{TicketsRise, DeclaredAreCovered, BlocksStay, WaitingAreWellTyped, StoresAreTyped, BlocksHaveVerdicts}
-use Rattle.stm_history.specs.WholeBlocks.{CheckedAreWellTyped}
+use Rattle.stm_event_lines.specs.WholeBlocks.{CheckedAreWellTyped}
 use Rattle.stm_run.specs.declared.command.Command.{Command}
 use Rattle.stm_run.specs.declared.command.Command.TheVariants.{Tvar}
 use Rattle.stm_run.specs.declared.console.Console.{Console}

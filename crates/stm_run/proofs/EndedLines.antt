@@ -17,7 +17,7 @@ use Rattle.stm_events.specs.declared.errors.FinishError.TheVariants as finish
 use Rattle.stm_events.specs.declared.errors.CancelError.{CancelError}
 use Rattle.stm_events.specs.declared.errors.CancelError.TheVariants as cancel
 use Rattle.stm_history.specs.HistoryText.{variable_lines, event_lines, head_text, history_text}
-use Rattle.stm_history.specs.Lines.{event_line, header_line, variable_line}
+use Rattle.stm_event_lines.specs.Lines.{event_line, header_line, variable_line}
 use Rattle.stm_blocks.specs.declared.refusal.Refusal.{Refusal}
 use Rattle.stm_blocks.specs.declared.refusal.Refusal.TheVariants.{Parsing, Typing, Unknown, Declaring}
 use Rattle.stm_commands.specs.Refusals.{refused, refused_at, refused_variable, refusal_text, submit_error_text, deliver_error_text, finish_error_text, cancel_error_text}

@@ -1,7 +1,5 @@
 pub mod AgreeingReads
-pub mod AnsweredLongLines
 pub mod ArgumentCases
-pub mod Chunks
 pub mod CommandWords
 pub mod DeclaredVariables
 pub mod DeliveredJobs

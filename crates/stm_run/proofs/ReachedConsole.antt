@@ -9,7 +9,7 @@ use Rattle.stm_queue.specs.Queue.{is_out, marked, recalled}
 use Rattle.stm_store.specs.Cells.{StoreIsTyped}
 use Rattle.stm_store.specs.Tables.{Declared, declared_cells}
 use Rattle.stm_events.specs.Laws.{TicketsRise, BlocksStay}
-use Rattle.stm_history.specs.WholeBlocks.{CheckedAreWellTyped}
+use Rattle.stm_event_lines.specs.WholeBlocks.{CheckedAreWellTyped}
 use Rattle.stm_events.specs.SlowDesk as slow
 use Rattle.stm_desk.specs.Refusals.{submit_refusal, finish_refusal, cancel_refusal}
 use Rattle.stm_desk.specs.Seen.{Seen}

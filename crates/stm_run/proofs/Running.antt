@@ -1,85 +1,144 @@
 -- What a run has written, from what it has taken.
-use Rattle.std.proofs.Common.{◌≡◌, ℕ, Result, OnErr, Option, Some, None, IfSome, List, [], ◌++◌, refl, sym, ap, ◌∙◌, subst, append_assoc, append-nil, take}
-use Rattle.std.specs.Io.KnownBytes.{Appends, Consumes, Keeps, IsAtEnd}
-use Rattle.std.proofs.KnownBytes.{Appends-trans, Appends-kept, Consumes-trans, Consumes-kept, Consumes-whole}
-use Rattle.stm_run.proofs.InputInParts.{Continues-trans}
+use Rattle.std.proofs.Common.{◌≡◌, ℕ, ◌<◌, Result, Ok, Err, OnErr, Option, Some, None, IfSome, List, [], ◌∷◌, ◌++◌, length, refl, sym, ap, ◌∙◌, subst, append_assoc, append-nil}
+use Rattle.std.specs.Io.KnownBytes.{Appends, Consumes, Keeps, prepend_known}
+use Rattle.std.proofs.KnownBytes.{Appends-nil, Appends-trans, Appends-kept, Consumes-nil, Consumes-trans, prepend_known-nil}
+use Rattle.stm_lines.specs.LineClass.{line_class}
+use Rattle.stm_lines.specs.Lines.{drop_return}
+use Rattle.stm_lines.specs.TakenLines.{TakesPartOfLine, TakesLastLine, TakesWholeLine}
+use Rattle.stm_run.proofs.InputInParts.{Continues-nil, Continues-line, Continues-trans, rest_text-last, rest_text-nil, whole_rest_text-begun, IsPrefixOf-line}
 use Rattle.stm_terms.specs.Texts.{IsPrefixOf}
-use Rattle.stm_run.specs.Streaming.{Continues, rest_text, whole_rest_text}
+use Rattle.stm_run.specs.Streaming.{HasAnswered, HasAnsweredAll, HasAnsweredPart, HasAnsweredWhole, rest_text, whole_rest_text}
 use Rattle.stm_run.specs.declared.console.Console.{Console}
-use Rattle.stm_run.specs.Console.{initial_console, console_text}
+use Rattle.stm_run.specs.Console.{answer_to, state_after, initial_console, console_text}
 
-pub console_text-continues : (o : Console) (s : Console) (line taken written more : List ℕ) → Continues o [] s line taken written → rest_text o [] (taken ++ more) ≡ written ++ rest_text s line more
-console_text-continues o s line taken written more h = h.all more
-
-console_text-ends : (o : Console) (s : Console) (line taken written : List ℕ) → Continues o [] s line taken written → rest_text o [] taken ≡ written ++ rest_text s line []
-console_text-ends o s line taken written h = ap (rest_text o []) (sym (append-nil taken)) ∙ console_text-continues o s line taken written [] h
-
-whole_lines_text-ends : (o : Console) (s : Console) (line taken written : List ℕ) → Continues o [] s line taken written → whole_rest_text o [] taken ≡ written
-unfolding whole_rest_text
-whole_lines_text-ends o s line taken written h = ap (whole_rest_text o []) (sym (append-nil taken)) ∙ h.whole [] ∙ append-nil written
-
-pub answered : (o : Console) (a b x y z : Option (List ℕ)) (s : Console) (line taken written : List ℕ) → Consumes a b taken → IsAtEnd b → Continues o [] s line taken written
-    → Appends x y written → Appends y z (rest_text s line []) → IfSome a (λ input. Appends x z (rest_text o [] input))
-answered o a b x y z s line taken written h at_end c p q =
-    Consumes-whole a b taken (λ input. Appends x z (rest_text o [] input)) h at_end (subst (Appends x z) (sym (console_text-ends o s line taken written c)) (Appends-trans x y z _ _ p q))
-
-pub ended_part : (o : Console) (a b x y z : Option (List ℕ)) (s : Console) (line taken written front : List ℕ) → Consumes a b taken → IsAtEnd b → Continues o [] s line taken written
-    → Appends x y written → IsPrefixOf front (rest_text s line []) → Appends y z front
-    → IfSome a (λ input. (front : List ℕ) × IsPrefixOf front (rest_text o [] input) × Appends x z front)
-ended_part o a b x y z s line taken written front h at_end c p k q =
-    Consumes-whole a b taken (λ input. (front : List ℕ) × IsPrefixOf front (rest_text o [] input) × Appends x z front) h at_end
-    (written ++ front, (k.0, console_text-ends o s line taken written c ∙ ap (λ r. written ++ r) k.1 ∙ sym (append_assoc written front k.0)), Appends-trans x y z _ _ p q)
-
-pub read_fault : (o : Console) (a b x y : Option (List ℕ)) (s : Console) (line taken written : List ℕ) → Consumes a b taken → Continues o [] s line taken written
-    → Appends x y written → IfSome a (λ input. (taken rest : List ℕ) × (input ≡ taken ++ rest) × (b ≡ Some rest) × Appends x y (whole_rest_text o [] taken))
-read_fault o None b x y s line taken written h c p = tt
-read_fault o (Some i) None x y s line taken written h c p = absurd h
-read_fault o (Some i) (Some rest) x y s line taken written h c p = (taken, rest, h, refl, subst (Appends x y) (sym (whole_lines_text-ends o s line taken written c)) p)
-
-pub part : (o : Console) (a b x y : Option (List ℕ)) (taken front : List ℕ) → Consumes a b taken → ((more : List ℕ) → IsPrefixOf front (rest_text o [] (taken ++ more)))
-    → Appends x y front → IfSome a (λ input. (front : List ℕ) × IsPrefixOf front (rest_text o [] input) × Appends x y front)
-part o None b x y taken front h k p = tt
-part o (Some i) None x y taken front h k p = absurd h
-part o (Some i) (Some rest) x y taken front h k p = (front, subst (λ (input : List ℕ). IsPrefixOf front (rest_text o [] input)) (sym h) (k rest), p)
-
-pub prefix-continues : (o : Console) (s : Console) (line taken written more : List ℕ) → Continues o [] s line taken written → IsPrefixOf written (rest_text o [] (taken ++ more))
-prefix-continues o s line taken written more c = (rest_text s line more, console_text-continues o s line taken written more c)
-
-pub prefix-within : (o : Console) (s : Console) (line taken written bytes front more : List ℕ) → Continues o [] s line taken written → IsPrefixOf front (rest_text s line (bytes ++ more))
-    → IsPrefixOf (written ++ front) (rest_text o [] ((taken ++ bytes) ++ more))
-prefix-within o s line taken written bytes front more c k =
-    (k.0, ap (rest_text o []) (append_assoc taken bytes more) ∙ console_text-continues o s line taken written (bytes ++ more) c ∙ ap (λ r. written ++ r) k.1 ∙ sym (append_assoc written front k.0))
-
--- a read of no byte takes none
-pub Consumes-none : (a b c : Option (List ℕ)) (taken buffer : List ℕ) (n : ℕ) → n ≡ 0 → Consumes a b taken → Consumes b c (take n buffer) → Consumes a c taken
-Consumes-none a b c taken buffer n e p q = subst (Consumes a c) (ap (λ k. taken ++ take k buffer) e ∙ append-nil taken) (Consumes-trans a b c _ _ p q)
-
--- what a run keeps from one read to the next
-pub record Kept (o : Console) (a b x y : Option (List ℕ)) (s : Console) (line : List ℕ) : Type 0 where
-  pub taken : List ℕ
-  pub written : List ℕ
-  pub consumed : Consumes a b taken
-  pub continues : Continues o [] s line taken written
-  pub appended : Appends x y written
-
-pub Kept-next : (o : Console) (a b c x y z z' : Option (List ℕ)) (s t : Console) (line left chunk part : List ℕ) → Kept o a b x y s line → Consumes b c chunk → Continues s line t left chunk part → Appends y z part → Keeps z z' → Kept o a c x z' t left
-Kept-next o a b c x y z z' s t line left chunk part k p q r f = record {
-  taken = k.taken ++ chunk;
-  written = k.written ++ part;
-  consumed = Consumes-trans a b c _ _ k.consumed p;
-  continues = Continues-trans _ _ _ _ _ _ _ _ _ _ k.continues q;
-  appended = Appends-kept x z z' _ (Appends-trans x y z _ _ k.appended r) f;
+-- ---- one line
+-- a line that a line feed ends
+pub line_answered : (s t : Console) (a b x y : Option (List ℕ)) (line bytes : List ℕ) → TakesWholeLine a b bytes → line_class line ≡ line_class (drop_return bytes) → t ≡ state_after s line
+    → Appends x y (answer_to s line) → HasAnswered s t a b x y
+line_answered s t a b x y line bytes w e n p = record {
+  taken = bytes ++ 10 ∷ [];
+  written = answer_to s line;
+  consumed = w.taken;
+  continues = Continues-line s t line bytes w.plain e n;
+  appended = p;
 }
 
--- after a read that gave nothing
-pub Kept-reread : (o : Console) (a b c x y : Option (List ℕ)) (s : Console) (line : List ℕ) → Kept o a b x y s line → Keeps b c → Kept o a c x y s line
-Kept-reread o a b c x y s line k f = record { taken = k.taken; written = k.written; consumed = Consumes-kept a b c _ k.consumed f; continues = k.continues; appended = k.appended }
+line_part : (s : Console) (a b x y : Option (List ℕ)) (line bytes front : List ℕ) → TakesWholeLine a b bytes → line_class line ≡ line_class (drop_return bytes) → IsPrefixOf front (answer_to s line)
+    → Appends x y front → HasAnsweredPart s a x y
+line_part s None b x y line bytes front w e k p = tt
+line_part s (Some i) None x y line bytes front w e k p = absurd w.taken
+line_part s (Some i) (Some rest) x y line bytes front w e k p =
+    (front, subst (λ (input : List ℕ). IsPrefixOf front (rest_text s input)) (sym w.taken) (IsPrefixOf-line s line bytes front rest w.plain e k), p)
+
+-- the writer failed in its answer
+pub line_part_answered : (s : Console) (a b x y : Option (List ℕ)) (line bytes : List ℕ) → TakesWholeLine a b bytes → line_class line ≡ line_class (drop_return bytes)
+    → (front : List ℕ) × IsPrefixOf front (answer_to s line) × Appends x y front → HasAnsweredPart s a x y
+line_part_answered s a b x y line bytes w e p = line_part s a b x y line bytes p.0 w e p.1 p.2
+
+whole_input : (i rest bytes : List ℕ) → i ≡ bytes ++ rest → rest ≡ [] → i ≡ bytes
+whole_input i rest bytes h e = h ∙ ap (λ r. bytes ++ r) e ∙ append-nil bytes
+
+-- a line that the end of the input ends
+pub last_answered : (s : Console) (a b x y : Option (List ℕ)) (line bytes : List ℕ) → TakesLastLine a b bytes → 0 < length bytes → line_class line ≡ line_class bytes
+    → Appends x y (answer_to s line) → HasAnsweredAll s a x y
+last_answered s None b x y line bytes w k e p = tt
+last_answered s (Some i) None x y line bytes w k e p = absurd w.taken
+last_answered s (Some i) (Some rest) x y line bytes w k e p =
+    subst (Appends x y) (sym (ap (rest_text s) (whole_input i rest bytes w.taken w.at_end) ∙ rest_text-last s line bytes w.plain k e)) p
+
+pub last_part_answered : (s : Console) (a b x y : Option (List ℕ)) (line bytes : List ℕ) → TakesLastLine a b bytes → 0 < length bytes → line_class line ≡ line_class bytes
+    → (front : List ℕ) × IsPrefixOf front (answer_to s line) × Appends x y front → HasAnsweredPart s a x y
+last_part_answered s None b x y line bytes w k e p = tt
+last_part_answered s (Some i) None x y line bytes w k e p = absurd w.taken
+last_part_answered s (Some i) (Some rest) x y line bytes w k e p =
+    (p.0, subst (IsPrefixOf p.0) (sym (ap (rest_text s) (whole_input i rest bytes w.taken w.at_end) ∙ rest_text-last s line bytes w.plain k e)) p.1, p.2)
+
+-- no line is left
+pub none_answered : (s : Console) (a b x : Option (List ℕ)) → TakesLastLine a b [] → HasAnsweredAll s a x x
+none_answered s None b x w = tt
+none_answered s (Some i) None x w = absurd w.taken
+none_answered s (Some i) (Some rest) x w = subst (Appends x x) (sym (ap (rest_text s) (w.taken ∙ w.at_end) ∙ rest_text-nil s)) (Appends-nil x)
+
+-- no line was answered
+pub none_written : (s : Console) (a x : Option (List ℕ)) → HasAnsweredPart s a x x
+none_written s None x = tt
+none_written s (Some i) x = ([], (rest_text s i, refl), Appends-nil x)
+
+-- the reader failed in a line
+pub read_failed : (s : Console) (a r x : Option (List ℕ)) (chunk : List ℕ) → (bytes : List ℕ) × TakesPartOfLine a (prepend_known chunk r) bytes → chunk ≡ [] → HasAnsweredWhole s a r x x
+read_failed s None r x chunk h e = tt
+read_failed s (Some i) None x chunk h e = absurd h.1.taken
+read_failed s (Some i) (Some rest) x chunk h e =
+    (h.0, rest, h.1.taken ∙ ap (λ l. h.0 ++ (l ++ rest)) e, refl, subst (Appends x x) (sym (whole_rest_text-begun s h.0 h.1.plain)) (Appends-nil x))
+
+-- ---- one line after another
+pub HasAnswered-begin : (s : Console) (a b x : Option (List ℕ)) (chunk : List ℕ) → chunk ≡ [] → b ≡ prepend_known chunk a → HasAnswered s s a b x x
+HasAnswered-begin s a b x chunk e q = record {
+  taken = [];
+  written = [];
+  consumed = subst (λ (o : Option (List ℕ)). Consumes a o []) (sym (q ∙ ap (λ l. prepend_known l a) e ∙ prepend_known-nil a)) (Consumes-nil a);
+  continues = Continues-nil s;
+  appended = Appends-nil x;
+}
+
+pub HasAnswered-more : (s t u : Console) (a b c x y y' z : Option (List ℕ)) → HasAnswered s t a b x y → Keeps y y' → HasAnswered t u b c y' z → HasAnswered s u a c x z
+HasAnswered-more s t u a b c x y y' z h f k = record {
+  taken = h.taken ++ k.taken;
+  written = h.written ++ k.written;
+  consumed = Consumes-trans a b c _ _ h.consumed k.consumed;
+  continues = Continues-trans _ _ _ _ _ _ _ h.continues k.continues;
+  appended = Appends-trans x y' z _ _ (Appends-kept x y y' _ h.appended f) k.appended;
+}
+
+text_after : (s t : Console) (i taken written rest : List ℕ) → i ≡ taken ++ rest → ((more : List ℕ) → rest_text s (taken ++ more) ≡ written ++ rest_text t more)
+    → rest_text s i ≡ written ++ rest_text t rest
+text_after s t i taken written rest h k = ap (rest_text s) h ∙ k rest
+
+-- the rest was answered
+pub all_answered : (s t : Console) (a b x y y' z z' : Option (List ℕ)) → HasAnswered s t a b x y → Keeps y y' → HasAnsweredAll t b y' z → Keeps z z' → HasAnsweredAll s a x z'
+all_answered s t None b x y y' z z' h f k g = tt
+all_answered s t (Some i) None x y y' z z' h f k g = absurd h.consumed
+all_answered s t (Some i) (Some rest) x y y' z z' h f k g =
+    subst (Appends x z') (sym (text_after s t i h.taken h.written rest h.consumed h.continues.all))
+    (Appends-kept x z z' _ (Appends-trans x y' z _ _ (Appends-kept x y y' _ h.appended f) k) g)
+
+-- a front of the rest was written
+pub part_answered : (s t : Console) (a b x y y' z : Option (List ℕ)) → HasAnswered s t a b x y → Keeps y y' → HasAnsweredPart t b y' z → HasAnsweredPart s a x z
+part_answered s t None b x y y' z h f k = tt
+part_answered s t (Some i) None x y y' z h f k = absurd h.consumed
+part_answered s t (Some i) (Some rest) x y y' z h f k = (
+  h.written ++ k.0,
+  (k.1.0, text_after s t i h.taken h.written rest h.consumed h.continues.all ∙ ap (λ r. h.written ++ r) k.1.1 ∙ sym (append_assoc h.written k.0 k.1.0)),
+  Appends-trans x y' z _ _ (Appends-kept x y y' _ h.appended f) k.2,
+)
+
+-- a flush failed after these lines
+pub part_flushed : (s t : Console) (a b x y y' : Option (List ℕ)) → HasAnswered s t a b x y → Keeps y y' → HasAnsweredPart s a x y'
+part_flushed s t a b x y y' h f = part_answered s t a b x y y' y' h f (none_written t b y')
+
+-- the last flush failed
+pub all_flushed : {E : Type 0} → (r : Result (Unit {0}) E) (s : Console) (a x y : Option (List ℕ)) → HasAnsweredAll s a x y → OnErr r (HasAnsweredPart s a x y)
+all_flushed (Ok u) s a x y h = tt
+all_flushed (Err e) s None x y h = tt
+all_flushed (Err e) s (Some i) x y h = (rest_text s i, ([], sym (append-nil _)), h)
+
+-- the reader failed in the rest
+pub whole_answered : (s t : Console) (a b r x y y' z : Option (List ℕ)) → HasAnswered s t a b x y → Keeps y y' → HasAnsweredWhole t b r y' z → HasAnsweredWhole s a r x z
+whole_answered s t None b r x y y' z h f k = tt
+whole_answered s t (Some i) None r x y y' z h f k = absurd h.consumed
+whole_answered s t (Some i) (Some rest) r x y y' z h f k = (
+  h.taken ++ k.0,
+  k.1,
+  h.consumed ∙ ap (λ l. h.taken ++ l) k.2 ∙ sym (append_assoc h.taken k.0 k.1),
+  k.3,
+  subst (Appends x z) (sym (h.continues.whole k.0)) (Appends-trans x y' z _ _ (Appends-kept x y y' _ h.appended f) k.4),
+)
 
 -- the text of what follows the beginning is the console's
 pub part_from_start : {E : Type 0} → (r : Result (Unit {0}) E) (a b x y : Option (List ℕ)) (m : ℕ) (s : Console) → a ≡ b → s ≡ initial_console m
-    → OnErr r (IfSome a (λ input. (front : List ℕ) × IsPrefixOf front (rest_text s [] input) × Appends x y front))
+    → OnErr r (HasAnsweredPart s a x y)
     → OnErr r (IfSome b (λ input. (front : List ℕ) × IsPrefixOf front (console_text m input) × Appends x y front))
 unfolding console_text rest_text
 part_from_start r a b x y m s p e h =
-    subst (λ (c : Option (List ℕ)). OnErr r (IfSome c (λ input. (front : List ℕ) × IsPrefixOf front (rest_text (initial_console m) [] input) × Appends x y front))) p
-    (subst (λ (t : Console). OnErr r (IfSome a (λ input. (front : List ℕ) × IsPrefixOf front (rest_text t [] input) × Appends x y front))) e h)
+    subst (λ (c : Option (List ℕ)). OnErr r (IfSome c (λ input. (front : List ℕ) × IsPrefixOf front (rest_text (initial_console m) input) × Appends x y front))) p
+    (subst (λ (t : Console). OnErr r (IfSome a (λ input. (front : List ℕ) × IsPrefixOf front (rest_text t input) × Appends x y front))) e h)

@@ -15,7 +15,7 @@ use Rattle.stm_events.specs.declared.event.Event.{Event}
 use Rattle.stm_events.specs.declared.event.What.{What}
 use Rattle.stm_events.specs.declared.event.What.TheVariants.{Submitted, Installed, Finished, Cancelled}
 use Rattle.stm_events.specs.Laws.{AreRising, TicketsRise, BlocksStay, WeakIsPresent}
-use Rattle.stm_history.specs.WholeBlocks.{CheckedAreWellTyped}
+use Rattle.stm_event_lines.specs.WholeBlocks.{CheckedAreWellTyped}
 use Rattle.stm_events.specs.SlowDesk as slow
 use Rattle.stm_events.specs.SlowDesk.{Since, Waiter, Slow, verdict_on, is_stale_since, find_waiter, without_waiter, delivered, after_writes, after, MayInstall, Allows, initial_state, state_from, state, standing, weak_since, LegalFrom, IsLegal}
 use Rattle.stm_run.specs.Console.{initial_console}

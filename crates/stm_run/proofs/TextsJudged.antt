@@ -21,8 +21,8 @@ use Rattle.stm_store.specs.declared.table.DeclareError.TheVariants as declare
 use Rattle.stm_store.specs.Cells.{Covers, plains}
 use Rattle.stm_store.specs.Tables.{Declared, declared_cells, number_of, may_hold, declare_refusal, opened}
 use Rattle.stm_events.specs.Laws.{IsWellTyped}
-use Rattle.stm_history.specs.WholeBlocks.{CheckedAreWellTyped}
-use Rattle.stm_history.specs.WholeBlocks.{BlockFault, NotParsed, NotTyped, block_if_typed, block_if_parsed, checked_block}
+use Rattle.stm_event_lines.specs.WholeBlocks.{CheckedAreWellTyped}
+use Rattle.stm_event_lines.specs.WholeBlocks.{BlockFault, NotParsed, NotTyped, block_if_typed, block_if_parsed, checked_block}
 use Rattle.stm_blocks.specs.declared.refusal.Refusal.{Refusal}
 use Rattle.stm_blocks.specs.declared.refusal.Refusal.TheVariants.{Unknown}
 use Rattle.stm_blocks.specs.CompiledBlock.{block_or_refusal, compiled_block}

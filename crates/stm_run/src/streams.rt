@@ -1,75 +1,124 @@
 //! From the bytes of a reader to the bytes of a writer.
 
-ghost use Rattle.std.specs.Prelude.{◌≡◌, ◌+◌, ◌<◌, ◌≤◌, [], ◌++◌, ℕ, List, OnOk, OnErr, IfSome, IsErrOf, Some};
-ghost use Rattle.std.specs.Io.KnownBytes.{Appends};
+ghost use Rattle.std.specs.Prelude.{◌≡◌, ◌≢◌, ◌+◌, ◌<◌, ◌≤◌, [], ◌++◌, true, ℕ, List, IfErr, IfOk, MatchBool, Ok, OnOk, OnErr, IfSome, IsErrOf, Some};
+ghost use Rattle.std.specs.Io.KnownBytes.{Appends, Keeps, prepend_known};
 ghost use Rattle.stm_terms.specs.Texts.{IsPrefixOf};
 ghost use Rattle.stm_run.specs.Console.{console_text, whole_lines_text};
 ghost use Rattle.stm_options.specs.Options.{AreRunOptions};
-ghost use Rattle.stm_run.specs.Streaming.{rest_text, whole_rest_text};
+ghost use Rattle.stm_run.specs.Streaming.{HasAnswered, HasAnsweredAll, HasAnsweredPart, HasAnsweredWhole};
+ghost use Rattle.stm_lines.specs.TakenLines.{bytes_to_come};
 
 use crate::limit::EventLimit;
 use crate::session::Session;
 use std::alloc::Global;
-use std::io::{ErrorKind, Read, Write};
+use std::io::{Read, Write};
 use std::marker::Brand;
 use std::random::RandomSource;
 use std::sync::ledger::{Blank, Ledger};
 use std::thread::Threads;
 use stm_commands::Threading;
 use stm_lines::calls::Calls;
-use stm_lines::chunk::CHUNK;
+use stm_lines::command_lines::{CommandLine, next_command_line};
 use stm_lines::output::flush;
-use stm_lines::{RunFault, Steps};
+use stm_lines::{LineReader, RunFault, Steps};
 use stm_options::Options;
 use stm_store::Seed;
 
-/// A run in a session in which no line has begun. `run` owns the session, so that this function, with a loop and many ends,
-/// owns nothing.
+/// Hands on what the writer holds, unless the next line is whole in the bytes that were read: the reader isn't called before the
+/// answers to all lines were handed on.
+fn flush_before_read<W: Write>(lines: &LineReader, writer: &mut W) -> Result<(), RunFault>
+    ensures kept { Keeps (W.contents writer.old) (W.contents writer.new) }
+    ensures fault { IfErr result (λ e. e ≢ RunFault.Read) }
+{
+    if lines.is_buffered() {
+        Ok(())
+    } else {
+        flush(writer)
+    }
+}
+
+/// Answers the next line, if there is one; returns whether more may follow.
+fn answer_next<T: Threads + Sync, R: Read, W: Write, L: Ledger>(
+    rt: &T,
+    alloc: Global,
+    session: &mut Session,
+    lines: &mut LineReader,
+    calls: &mut Calls<R, L>,
+    writer: &mut W,
+) -> Result<bool, RunFault>
+    ensures same_reader { calls.new.reader.ghost_name ≡ calls.old.reader.ghost_name }
+    ensures same_steps { calls.new.steps.ghost_name ≡ calls.old.steps.ghost_name }
+    ensures counted { calls.new.steps.now + calls.new.left
+        ≡ calls.old.steps.now + calls.old.left }
+    ensures shorter { result ≡ Ok true →
+        bytes_to_come calls.new.left lines.new.chunk
+        < bytes_to_come calls.old.left lines.old.chunk }
+    ensures answered { IfOk result (λ more. MatchBool more
+        (HasAnswered session.old.console session.new.console
+        (prepend_known lines.old.chunk (R.remaining calls.old.reader.now))
+        (prepend_known lines.new.chunk (R.remaining calls.new.reader.now))
+        (W.contents writer.old) (W.contents writer.new))
+        (HasAnsweredAll session.old.console
+        (prepend_known lines.old.chunk (R.remaining calls.old.reader.now))
+        (W.contents writer.old) (W.contents writer.new))) }
+    ensures read_fault { IsErrOf result RunFault.Read → HasAnsweredWhole session.old.console
+        (prepend_known lines.old.chunk (R.remaining calls.old.reader.now))
+        (R.remaining calls.new.reader.now) (W.contents writer.old) (W.contents writer.new) }
+    ensures part { OnErr result (HasAnsweredPart session.old.console
+        (prepend_known lines.old.chunk (R.remaining calls.old.reader.now))
+        (W.contents writer.old) (W.contents writer.new)) }
+{
+    match next_command_line(lines, calls) {
+        Ok(CommandLine::Whole) => {
+            match session.answer_line(rt, alloc, lines.line(), writer) {
+                Ok(()) => Ok(true),
+                Err(fault) => Err(fault),
+            }
+        }
+        Ok(CommandLine::Last) => {
+            match session.answer_line(rt, alloc, lines.line(), writer) {
+                Ok(()) => Ok(false),
+                Err(fault) => Err(fault),
+            }
+        }
+        Ok(CommandLine::End) => Ok(false),
+        Err(fault) => Err(fault),
+    }
+}
+
+/// A run of which nothing was read. `run_counted` owns the session and the lines, so that this function, with a loop and many
+/// ends, owns nothing.
 fn run_session<T: Threads + Sync, R: Read, W: Write, L: Ledger>(
     rt: &T,
     alloc: Global,
     session: &mut Session,
+    lines: &mut LineReader,
     calls: &mut Calls<R, L>,
     writer: &mut W,
 ) -> Result<(), RunFault>
-    requires line { session.old.line.items ≡ [] }
+    requires { lines.old.chunk ≡ [] }
     ensures same_reader { calls.new.reader.ghost_name ≡ calls.old.reader.ghost_name }
     ensures same_steps { calls.new.steps.ghost_name ≡ calls.old.steps.ghost_name }
     // Each call that is used up was counted.
-    ensures counted { calls.new.steps.now + calls.new.left ≡ calls.old.steps.now + calls.old.left }
+    ensures counted { calls.new.steps.now + calls.new.left
+        ≡ calls.old.steps.now + calls.old.left }
     // The whole text of the input was written.
-    ensures answered { OnOk result (IfSome (R.remaining calls.old.reader.now) (λ input.
-        Appends (W.contents writer.old) (W.contents writer.new)
-        (rest_text session.old.console [] input))) }
+    ensures answered { OnOk result (HasAnsweredAll session.old.console
+        (R.remaining calls.old.reader.now) (W.contents writer.old) (W.contents writer.new)) }
     // After a read fault it is the text of the lines that were whole before.
-    ensures read_fault { IsErrOf result RunFault.Read →
-        IfSome (R.remaining calls.old.reader.now) (λ input.
-        (taken rest : List ℕ) × (input ≡ taken ++ rest)
-        × (R.remaining calls.new.reader.now ≡ Some rest)
-        × Appends (W.contents writer.old) (W.contents writer.new)
-        (whole_rest_text session.old.console [] taken)) }
+    ensures read_fault { IsErrOf result RunFault.Read → HasAnsweredWhole session.old.console
+        (R.remaining calls.old.reader.now) (R.remaining calls.new.reader.now)
+        (W.contents writer.old) (W.contents writer.new) }
     // After any fault it is a prefix of the text.
-    ensures part { OnErr result (IfSome (R.remaining calls.old.reader.now) (λ input.
-        (front : List ℕ) × IsPrefixOf front (rest_text session.old.console [] input)
-        × Appends (W.contents writer.old) (W.contents writer.new) front)) }
+    ensures part { OnErr result (HasAnsweredPart session.old.console
+        (R.remaining calls.old.reader.now) (W.contents writer.old) (W.contents writer.new)) }
 {
-    let mut buffer = [0u8; CHUNK];
-    'reads: while calls.may_read() {
-        match calls.read(&mut buffer) {
-            Ok(count) => {
-                if count == 0 {
-                    session.end(rt, alloc, writer)?;
-                    flush(writer)?;
-                    return Ok(());
-                }
-                session.take_bytes(rt, alloc, &buffer[..count], writer)?;
-                flush(writer)?;
-            }
-            Err(fault) if fault.kind() == ErrorKind::Interrupted => {}
-            Err(_) => return Err(RunFault::Read),
+    'lines: loop {
+        flush_before_read(lines, writer)?;
+        if !answer_next(rt, alloc, session, lines, calls, writer)? {
+            return flush(writer);
         }
     }
-    Err(RunFault::Read)
 }
 
 /// Does what `run` does, and counts the calls of the reader: each call is one step, and the reader is called in no other place.
@@ -105,8 +154,9 @@ pub fn run_counted<T: Threads + RandomSource + Sync, R: Read, W: Write, L: Ledge
         EventLimit::new(options.max_events),
         Threading::new(options.workers, options.levels),
     );
+    let mut lines = LineReader::new(alloc);
     let mut calls = Calls::new(reader, steps);
-    run_session(rt, alloc, &mut session, &mut calls, writer)
+    run_session(rt, alloc, &mut session, &mut lines, &mut calls, writer)
 }
 
 /// A run whose calls of the reader are counted by a new ledger.

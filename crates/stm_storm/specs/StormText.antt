@@ -2,7 +2,7 @@
 use Rattle.std.specs.Prelude.{◌≡◌, ℕ, ◌+◌, List, [], ◌∷◌, ◌++◌, Option, Some, None, Ok, codes, decimal, length}
 use Rattle.stm_events.specs.declared.event.Event.{Event}
 use Rattle.stm_pool.specs.declared.storm.Counts.{Counts}
-use Rattle.stm_pool.specs.Storms.{IsStormHistory}
+use Rattle.stm_storm.specs.StormHistory.{IsStormHistory}
 use Rattle.stm_storm.specs.StormScript.{StormScript, storm_script}
 
 -- the line of a client

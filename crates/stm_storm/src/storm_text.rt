@@ -4,7 +4,8 @@ ghost use Rattle.std.specs.Prelude.{◌≡◌, ◌++◌, string_bytes, OnOk};
 ghost use Rattle.stm_storm.specs.StormEnd.{end_text};
 ghost use Rattle.stm_storm.specs.StormText.{client_line, client_lines, events_line};
 
-use stm_pool::{Counts, Replay};
+use crate::replaying::Replay;
+use stm_pool::Counts;
 use stm_terms::NoMemory;
 
 /// Appends the line of a client.

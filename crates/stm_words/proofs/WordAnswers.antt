@@ -17,14 +17,14 @@ use Rattle.clap.specs.declared.parser.matches.ArgMatches.{ArgMatches}
 use Rattle.clap.specs.Values.{kind_of}
 use Rattle.clap.specs.declared.error.Error.{Error}
 use Rattle.clap.specs.declared.error.kind.ErrorKind.{ErrorKind}
-use Rattle.clap.specs.declared.error.kind.ErrorKind.TheVariants.{DisplayVersion, OutOfMemory}
+use Rattle.clap.specs.declared.error.kind.ErrorKind.TheVariants.{DisplayHelp, DisplayVersion, OutOfMemory}
 use Rattle.clap.proofs.OnLiterals.{clap_on_literals}
 use Rattle.std.specs.Prelude.{Result}
-use Rattle.stm_words.specs.CommandLine.{answers_of, are_mistakes, asks_for_run, asks_for_version, command_line, is_mistake, is_version, number_of_text, number_within, explore_options_said, flag_said, options_said, request_of, request_said, AreExploreOptions, IfExplore, IfRun, IfStorm}
+use Rattle.stm_words.specs.CommandLine.{answers_of, are_mistakes, asks_for_run, asks_for_version, command_line, is_help, is_mistake, is_version, number_of_text, number_within, explore_options_said, flag_said, options_said, request_of, request_said, AreExploreOptions, HasOptionsInRange}
 use Rattle.stm_words.specs.WordLaws.{VersionsAreAskedFor}
 use Rattle.stm_options.specs.Options.{AreRunOptions, default_options}
 use Rattle.stm_words.specs.declared.command_line.Request.{Request}
-use Rattle.stm_words.specs.declared.command_line.Request.TheVariants.{Run, Storm, Explore, Check}
+use Rattle.stm_words.specs.declared.command_line.Request.TheVariants.{Run, Storm, Explore, Check, CheckWhy}
 
 -- clap's answers to any words are exact
 exact : is_simple_and_free command_line ≡ true
@@ -179,30 +179,24 @@ explored_in_range rows = record {
   few_states = (within 1 4294967295 1000000 (number (codes "max-states") rows) (omega arith) (omega arith)).1;
 }
 
-abbrev HasOptionsInRange : Request → Type 0
-HasOptionsInRange r = IfRun r AreRunOptions × IfStorm r AreRunOptions × IfExplore r AreExploreOptions
-
 subcommand_in_range : (name : List ℕ) (rows : List Row) → HasOptionsInRange (request_said (Some (name, rows)))
-subcommand_in_range name rows = go (bytes_eq name (codes "check")) (bytes_eq name (codes "storm")) (bytes_eq name (codes "explore"))
+subcommand_in_range name rows = go (flag_said (codes "why") rows) (bytes_eq name (codes "check")) (bytes_eq name (codes "storm")) (bytes_eq name (codes "explore"))
   where
-    go : (b c d : Bool) → HasOptionsInRange (cond b Check (cond c (Storm (options_said rows)) (cond d (Explore (explore_options_said rows)) (Run (options_said rows)))))
-    go true c d = (tt, tt, tt)
-    go false true d = (tt, said_in_range rows, tt)
-    go false false true = (tt, tt, explored_in_range rows)
-    go false false false = (said_in_range rows, tt, tt)
+    go : (a b c d : Bool) → HasOptionsInRange (cond b (cond a CheckWhy Check) (cond c (Storm (options_said rows)) (cond d (Explore (explore_options_said rows)) (Run (options_said rows)))))
+    go true true c d = tt
+    go false true c d = tt
+    go a false true d = said_in_range rows
+    go a false false true = explored_in_range rows
+    go a false false false = said_in_range rows
 
 in_range : (p : Option (List ℕ × List Row)) → HasOptionsInRange (request_said p)
-in_range None = (default_in_range, tt, tt)
+in_range None = default_in_range
 in_range (Some p) = subcommand_in_range p.0 p.1
 
 -- whatever the words are
-pub options_in_range : (words : List (List ℕ)) → IfRun (request_of words) AreRunOptions × IfStorm (request_of words) AreRunOptions
+pub options_in_range : (words : List (List ℕ)) → HasOptionsInRange (request_of words)
 unfolding request_of
-options_in_range words = let all = in_range (subcommand_of command_line words) in (all.0, all.1)
-
-pub explore_options_in_range : (words : List (List ℕ)) → IfExplore (request_of words) AreExploreOptions
-unfolding request_of
-explore_options_in_range words = (in_range (subcommand_of command_line words)).2
+options_in_range words = in_range (subcommand_of command_line words)
 
 -- ---- `check`
 
@@ -214,7 +208,15 @@ pub check_requested : (name : List ℕ) → request_of (name ∷ codes "check" �
 unfolding request_of clap_on_literals
 check_requested name = refl
 
--- ---- the version
+pub why_unanswered : (name : List ℕ) → answers_of (name ∷ codes "check" ∷ codes "--why" ∷ []) ≡ []
+unfolding answers_of clap_on_literals
+why_unanswered name = refl
+
+pub why_requested : (name : List ℕ) → request_of (name ∷ codes "check" ∷ codes "--why" ∷ []) ≡ CheckWhy
+unfolding request_of clap_on_literals
+why_requested name = refl
+
+-- ---- help and the version
 
 version_long : (name : List ℕ) (rest : List (List ℕ)) → asks_for_version (name ∷ codes "--version" ∷ rest) ≡ true
 unfolding answers_of clap_on_literals
@@ -227,19 +229,27 @@ version_short name rest = refl
 pub version_asked : VersionsAreAskedFor
 version_asked name rest = (version_long name rest, version_short name rest)
 
-version_alone : (kinds : Kinds) → is_version kinds ≡ true → kinds ≡ DisplayVersion ∷ []
+pub help_alone : (kinds : Kinds) → is_help kinds ≡ true → kinds ≡ DisplayHelp ∷ []
+help_alone [] h = absurd cc
+help_alone (DisplayHelp ∷ []) h = refl
+help_alone (kind ∷ kinds) h = absurd cc
+
+pub version_alone : (kinds : Kinds) → is_version kinds ≡ true → kinds ≡ DisplayVersion ∷ []
 version_alone [] v = absurd cc
 version_alone (DisplayVersion ∷ []) v = refl
 version_alone (kind ∷ kinds) v = absurd cc
 
-told_among : (e : Error) → HasKind (DisplayVersion ∷ []) e → (kind_of e ≡ OutOfMemory) ⊎ (kind_of e ≡ DisplayVersion)
-told_among e (inl same) = inl same
-told_among e (inr (inl same)) = inr same
-told_among e (inr (inr h)) = absurd h
+told_among : (k : ErrorKind) (e : Error) → HasKind (k ∷ []) e → (kind_of e ≡ OutOfMemory) ⊎ (kind_of e ≡ k)
+told_among k e (inl same) = inl same
+told_among k e (inr (inl same)) = inr same
+told_among k e (inr (inr h)) = absurd h
 
--- what is reported of a request for the version is the version, or an out-of-memory error
+-- what is printed of a request for help or the version is that, or an out-of-memory error
+pub told_help : (kinds : Kinds) (e : Error) → HasKind kinds e → is_help kinds ≡ true → (kind_of e ≡ OutOfMemory) ⊎ (kind_of e ≡ DisplayHelp)
+told_help kinds e h v = told_among DisplayHelp e (subst (λ (ks : Kinds). HasKind ks e) (help_alone kinds v) h)
+
 pub told_version : (kinds : Kinds) (e : Error) → HasKind kinds e → is_version kinds ≡ true → (kind_of e ≡ OutOfMemory) ⊎ (kind_of e ≡ DisplayVersion)
-told_version kinds e h v = told_among e (subst (λ (ks : Kinds). HasKind ks e) (version_alone kinds v) h)
+told_version kinds e h v = told_among DisplayVersion e (subst (λ (ks : Kinds). HasKind ks e) (version_alone kinds v) h)
 
 -- ---- words that nothing is done for
 

@@ -14,11 +14,11 @@ use Rattle.stm_eval.specs.Limits.{max_levels}
 use Rattle.stm_events.specs.SlowDesk.{max_events}
 use Rattle.stm_pool.specs.Limits.{max_workers}
 use Rattle.stm_words.specs.declared.command_line.Request.{Request}
-use Rattle.stm_words.specs.declared.command_line.Request.TheVariants.{Run, Storm, Explore, Check}
+use Rattle.stm_words.specs.declared.command_line.Request.TheVariants.{Run, Storm, Explore, Check, CheckWhy}
 use Rattle.stm_options.specs.declared.explore_options.ExploreOptions.{ExploreOptions}
 use Rattle.stm_options.specs.declared.options.Options.{Options}
 use Rattle.stm_words.specs.declared.version.TheConstants.{VERSION}
-use Rattle.stm_options.specs.Options.{default_options}
+use Rattle.stm_options.specs.Options.{AreRunOptions, default_options}
 
 -- the program's name alone, or the word `run` after it
 abbrev pub asks_for_run : List (List ℕ) → Bool
@@ -27,7 +27,7 @@ asks_for_run (name ∷ []) = true
 asks_for_run (name ∷ word ∷ []) = bytes_eq word (codes "run")
 asks_for_run (name ∷ word ∷ next ∷ rest) = false
 
--- ---- what the program takes: `run`, `storm` and `explore` with their options, `check`, and what clap adds for help and the version
+-- ---- what the program takes: `run`, `storm`, `explore` and `check` with their options, and what clap adds for help and the version
 
 -- an option that takes a number from low to high, and its default in digits
 abbrev pub number_option : List ℕ → ℕ → ℕ → List ℕ → Rule
@@ -64,9 +64,9 @@ explore_command = with_rule (with_rule (with_rule (new_app (codes "explore"))
     (flag_option (codes "history")))
     (flag_option (codes "all"))
 
--- `check`, which takes no option
+-- `check` with its option
 abbrev pub check_command : App
-check_command = new_app (codes "check")
+check_command = with_rule (new_app (codes "check")) (flag_option (codes "why"))
 
 -- a command that has a version, so that clap adds `--version` and `-V`
 abbrev pub with_version : App → App
@@ -157,48 +157,32 @@ explore_options_said rows = record {
   all = flag_said (codes "all") rows;
 }
 
+-- a check, with what would be accepted instead if that is said
+abbrev pub check_said : List Row → Request
+check_said rows = if flag_said (codes "why") rows then CheckWhy else Check
+
 -- a subcommand, by its name and what is said for its options; without one a run
 abbrev pub request_said : Option (List ℕ × List Row) → Request
 request_said None = Run default_options
 request_said (Some p) =
-    if bytes_eq p.0 (codes "check") then Check
+    if bytes_eq p.0 (codes "check") then check_said p.1
     else if bytes_eq p.0 (codes "storm") then Storm (options_said p.1)
     else if bytes_eq p.0 (codes "explore") then Explore (explore_options_said p.1)
     else Run (options_said p.1)
 
--- what words ask for that clap takes: `check`, or a run, a storm or an exploration with its options
+-- what words ask for that clap takes: a run, a storm, an exploration or a check, with its options
 unfoldable pub request_of : List (List ℕ) → Request
 request_of words = request_said (subcommand_of command_line words)
-
--- where it is a run, this holds of its options
-abbrev pub IfRun : Request → (Options → Type 0) → Type 0
-IfRun (Run options) P = P options
-IfRun (Storm options) P = ⊤
-IfRun (Explore options) P = ⊤
-IfRun Check P = ⊤
-
--- where it is a storm, this holds of its options
-abbrev pub IfStorm : Request → (Options → Type 0) → Type 0
-IfStorm (Run options) P = ⊤
-IfStorm (Storm options) P = P options
-IfStorm (Explore options) P = ⊤
-IfStorm Check P = ⊤
-
--- where it is an exploration, this holds of its options
-abbrev pub IfExplore : Request → (ExploreOptions → Type 0) → Type 0
-IfExplore (Run options) P = ⊤
-IfExplore (Storm options) P = ⊤
-IfExplore (Explore options) P = P options
-IfExplore Check P = ⊤
 
 -- an exploration may keep some states, and no more than 32 bits count
 pub record AreExploreOptions (o : ExploreOptions) : Type 0 where
   pub some_state : 1 ≤ o.max_states
   pub few_states : o.max_states ≤ 4294967295
 
--- it judges: a check the history of the reader, a storm that of its clients, and an exploration all that its clients may do
-abbrev pub judges_history : Request → Bool
-judges_history (Run options) = false
-judges_history (Storm options) = true
-judges_history (Explore options) = true
-judges_history Check = true
+-- its options are in their ranges
+abbrev pub HasOptionsInRange : Request → Type 0
+HasOptionsInRange (Run options) = AreRunOptions options
+HasOptionsInRange (Storm options) = AreRunOptions options
+HasOptionsInRange (Explore options) = AreExploreOptions options
+HasOptionsInRange Check = ⊤
+HasOptionsInRange CheckWhy = ⊤

@@ -3,10 +3,10 @@ use Rattle.std.specs.Prelude.{◌≡◌, ◌≤◌, ◌<◌, ◌^◌, ℕ, List,
 use Rattle.stm_eval.specs.Limits.{max_levels}
 use Rattle.stm_events.specs.SlowDesk as slow
 use Rattle.stm_pool.specs.Limits.{max_workers}
-use Rattle.stm_words.specs.declared.command_line.Request.TheVariants.{Run, Storm, Check}
+use Rattle.stm_words.specs.declared.command_line.Request.TheVariants.{Run, Storm, Check, CheckWhy}
 use Rattle.stm_options.specs.declared.options.Options.{Options}
-use Rattle.stm_words.specs.CommandLine.{answers_of, asks_for_run, asks_for_version, has_mistake, request_of, IfRun, IfStorm}
-use Rattle.stm_options.specs.Options.{AreRunOptions, default_options}
+use Rattle.stm_words.specs.CommandLine.{answers_of, asks_for_run, asks_for_version, has_mistake, request_of, HasOptionsInRange}
+use Rattle.stm_options.specs.Options.{default_options}
 
 -- of the program's name alone, and of the word `run` after it, there is nothing to tell, so they ask for a run
 abbrev pub RunsAreAccepted : Type 0
@@ -21,9 +21,9 @@ abbrev pub RunsHaveDefaults : Type 0
 RunsHaveDefaults = (words : List (List ℕ)) → IsTrue (asks_for_run words)
     → (request_of words ≡ Run default_options) × (request_of (words ++ codes "--" ∷ []) ≡ Run default_options)
 
--- whatever the words are, the options of a run and of a storm are in their ranges
+-- whatever the words are, the options of a run, of a storm and of an exploration are in their ranges
 abbrev pub OptionsAreInRange : Type 0
-OptionsAreInRange = (words : List (List ℕ)) → IfRun (request_of words) AreRunOptions × IfStorm (request_of words) AreRunOptions
+OptionsAreInRange = (words : List (List ℕ)) → HasOptionsInRange (request_of words)
 
 -- `storm` alone after the program's name asks for a storm with the default options, and there is nothing to tell of it
 abbrev pub StormsAreAccepted : Type 0
@@ -42,6 +42,12 @@ StormsAreAsRuns = (name : List ℕ) (rest : List (List ℕ))
 abbrev pub ChecksAreAccepted : Type 0
 ChecksAreAccepted =
     (name : List ℕ) → (answers_of (name ∷ codes "check" ∷ []) ≡ []) × (request_of (name ∷ codes "check" ∷ []) ≡ Check)
+
+-- with `--why` it asks for what would be accepted instead, too
+abbrev pub ChecksWithReasonsAreAccepted : Type 0
+ChecksWithReasonsAreAccepted = (name : List ℕ)
+    → (answers_of (name ∷ codes "check" ∷ codes "--why" ∷ []) ≡ [])
+    × (request_of (name ∷ codes "check" ∷ codes "--why" ∷ []) ≡ CheckWhy)
 
 -- `--version` and `-V` after the program's name ask for the version, whatever follows
 abbrev pub VersionsAreAskedFor : Type 0

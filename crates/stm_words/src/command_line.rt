@@ -5,7 +5,7 @@ ghost use Rattle.clap.specs.Simple.{subcommand_rows_of};
 ghost use Rattle.clap.specs.Walk.{one_of, rows_of, rule_of};
 ghost use Rattle.clap.specs.Words.{app_of, found_of, new_app, with_subcommand, FailsBy};
 ghost use Rattle.clap.specs.declared.builder.command.Command.TheViews.{out-Command as fields_of};
-ghost use Rattle.stm_words.specs.CommandLine.{answers_of, asks_for_run, command_line, explore_command, explore_options_said, flag_option, flag_said, number_of_text, number_option, number_said, number_within, options_said, request_of, request_said, run_command, storm_command, with_options, with_version, AreExploreOptions, IfExplore, IfRun, IfStorm};
+ghost use Rattle.stm_words.specs.CommandLine.{answers_of, asks_for_run, check_command, check_said, command_line, explore_command, explore_options_said, flag_option, flag_said, number_of_text, number_option, number_said, number_within, options_said, request_of, request_said, run_command, storm_command, with_options, with_version, AreExploreOptions, HasOptionsInRange};
 ghost use Rattle.stm_options.specs.Options.{AreRunOptions};
 
 use crate::version::VERSION;
@@ -14,13 +14,15 @@ use std::alloc::{AllocError, Global};
 use std::convert::AsStr;
 use stm_options::{ExploreOptions, Options};
 
-/// What words ask for: a run, a storm or an exploration with these options, or a check of a history.
+/// What words ask for: a run, a storm or an exploration with these options, a check of a history, or a check that also prints what
+/// would be accepted instead.
 #[derive(Clone, Copy, PartialEq, Eq, Debug)]
 pub enum Request {
     Run(Options),
     Storm(Options),
     Explore(ExploreOptions),
     Check,
+    CheckWhy,
 }
 
 const ABOUT: &str =
@@ -167,6 +169,13 @@ Prints one line:
   bad line N       Line N is not the line of an event; status 3
   not legal N      The event in line N can't follow the events before it; status 3
 
+With `--why` a line more follows if the history isn't legal. It explains the first line that isn't accepted, after
+`bad header` with `line N ` before it:
+  expected LINE    LINE would be accepted there: the same call as it has to be, or the same line as it has to be written
+  refused NAME     A desk refuses the call there, as `stmdesk run` prints it
+  unreadable       Neither
+Then the whole history is read into memory before it is checked.
+
 Example:
   $ printf 'tvar x : Int = 1\\nsubmit readTVar x\\neval\\nfinish 1\\nhistory\\n' | stmdesk | sed '1,4d' | stmdesk check
   legal 3 events
@@ -184,6 +193,8 @@ const MAX_STATES: &str = "How many states may be kept, from 1 to 4294967295";
 const HISTORY: &str = "Prints the history of the fault instead";
 
 const ALL: &str = "Explores every state, and leaves no client for later";
+
+const WHY: &str = "Also prints what would be accepted instead, or why nothing would be";
 
 /// Whether the words are those of a run with nothing else, so that clap need not be asked.
 fn is_plain_run<S: AsStr>(words: &[S]) -> bool
@@ -323,13 +334,23 @@ fn command_of_scripts<'a>(alloc: Global) -> Result<Command<'a>, AllocError>
     command_of_runs(alloc)?.subcommand(explore)
 }
 
+/// `check` with its option.
+fn check_words<'a>(alloc: Global) -> Result<Command<'a>, AllocError>
+    ensures app { IfOk result (λ c. app_of c ≡ check_command) }
+    ensures local { IfOk result (λ c. (fields_of c).has_globals ≡ false) }
+{
+    let why = flag_option(alloc, "why", WHY);
+    Command::new(alloc, "check")
+        .about(CHECK)
+        .after_help(FINDINGS)
+        .arg(why)
+}
+
 /// What the program takes: `run`, `storm`, `explore`, `check`, and what clap adds for help and the version.
 fn command<'a>(alloc: Global) -> Result<Command<'a>, AllocError>
     ensures { IfOk result (λ c. app_of c ≡ command_line) }
 {
-    let check = Command::new(alloc, "check")
-        .about(CHECK)
-        .after_help(FINDINGS);
+    let check = check_words(alloc)?;
     command_of_scripts(alloc)?.subcommand(check)
 }
 
@@ -418,17 +439,26 @@ fn explore_options_of(matches: &ArgMatches) -> ExploreOptions
     }
 }
 
+/// What is asked for by `check`.
+fn check_of(matches: &ArgMatches) -> Request
+    ensures { result ≡ check_said (rows_of (found_of matches.now)) }
+{
+    if flag_of(matches, "why") {
+        Request::CheckWhy
+    } else {
+        Request::Check
+    }
+}
+
 /// What is asked for by words that clap takes.
 fn request_of<'a>(matches: &ArgMatches<'a>) -> Request
     ensures said { result ≡ request_said (subcommand_rows_of matches.now) }
-    ensures range { IfRun result AreRunOptions }
-    ensures storm_range { IfStorm result AreRunOptions }
-    ensures explore_range { IfExplore result AreExploreOptions }
+    ensures range { HasOptionsInRange result }
 {
     match matches.subcommand() {
         Some((name, inner)) => {
             if name == "check" {
-                return Request::Check;
+                return check_of(inner);
             }
             if name == "storm" {
                 return Request::Storm(options_of(inner));
@@ -447,9 +477,7 @@ pub fn read_words<'a, S: AsStr>(alloc: Global, words: &'a [S]) -> Result<Request
     ensures run { IsTrue (asks_for_run (map S.text words.now)) → IsOk result }
     ensures answers { FailsBy (answers_of (map S.text words.now)) result }
     ensures request { IfOk result (λ r. r ≡ request_of (map S.text words.now)) }
-    ensures range { IfOk result (λ r. IfRun r AreRunOptions) }
-    ensures storm_range { IfOk result (λ r. IfStorm r AreRunOptions) }
-    ensures explore_range { IfOk result (λ r. IfExplore r AreExploreOptions) }
+    ensures range { IfOk result (λ r. HasOptionsInRange r) }
 {
     if is_plain_run(words) {
         return Ok(Request::Run(Options::standard()));

@@ -1,9 +1,9 @@
 //! What holds of the program's words. Each function is a law: its contract says it.
 
-ghost use Rattle.stm_words.specs.WordLaws.{RunsAreAccepted, LastDashesChangeNothing, RunsHaveDefaults, OptionsAreInRange, StormsAreAccepted, StormsAreAsRuns, ChecksAreAccepted, VersionsAreAskedFor, NumbersAreTaken, OthersAreRefused, NoOptionTwice, OptionsNeedRun};
+ghost use Rattle.stm_words.specs.WordLaws.{RunsAreAccepted, LastDashesChangeNothing, RunsHaveDefaults, OptionsAreInRange, StormsAreAccepted, StormsAreAsRuns, ChecksAreAccepted, ChecksWithReasonsAreAccepted, VersionsAreAskedFor, NumbersAreTaken, OthersAreRefused, NoOptionTwice, OptionsNeedRun};
 
 /// The program's name alone, and `run` after it, ask for a run with the default options, also with a last word `--`. No
-/// words give a run or a storm options that are out of their ranges.
+/// words give a run, a storm or an exploration options that are out of their ranges.
 pub fn words_of_a_run_are_accepted()
     ensures accepted { RunsAreAccepted }
     ensures dashes { LastDashesChangeNothing }
@@ -18,9 +18,10 @@ pub fn words_of_a_storm_are_those_of_a_run()
     ensures same { StormsAreAsRuns }
 {}
 
-/// `check` after the program's name asks for a check.
+/// `check` after the program's name asks for a check, and `check --why` for what would be accepted instead, too.
 pub fn words_of_a_check_are_accepted()
-    ensures { ChecksAreAccepted }
+    ensures accepted { ChecksAreAccepted }
+    ensures why { ChecksWithReasonsAreAccepted }
 {}
 
 /// `--version` and `-V` ask for the version.

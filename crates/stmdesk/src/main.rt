@@ -4,13 +4,8 @@
 use std::env;
 use std::io::{BufWriter, ErrorKind, Write};
 use std::process::ExitCode;
+use stm_console::status::{NO_MEMORY, REFUSED};
 use stm_console::{RunFault, start};
-
-/// The exit status where the words are refused.
-const REFUSED: u8 = 2;
-
-/// The exit status where memory is refused.
-const NO_MEMORY: u8 = 4;
 
 fn no_memory<E: Write>(errors: &mut E) -> ExitCode {
     let _ = writeln!(errors, "{}", RunFault::NoMemory);

@@ -1,42 +1,53 @@
 //! Whole files, judged line by line.
 
-ghost use Rattle.std.specs.Prelude.{◌≡◌, ◌++◌, ◌∷◌, [], ◌≤◌, ◌<◌, ℕ, List, OnOk, IfOk, IfErr, IfSome, length};
+ghost use Rattle.std.specs.Prelude.{◌≡◌, ◌++◌, ◌∷◌, [], ◌+◌, ◌≤◌, ◌<◌, ◌^◌, ℕ, List, OnOk, IfOk, IfErr, IfSome, MatchBool, Ok, true, length, is_some};
 ghost use Rattle.stm_store.specs.Tables.{Declared};
 ghost use Rattle.stm_events.specs.declared.event.Event.{Event as AnyEvent};
-ghost use Rattle.stm_history.specs.Checking.{CheckerState, at_header, at_variables, at_events, LeadsTo, MayRefuse, NoFeed, strange};
-ghost use Rattle.stm_history.specs.Fits.{FitsTable, FitsFormat};
+ghost use Rattle.std.specs.Io.KnownBytes.{prepend_known};
+ghost use Rattle.stm_lines.specs.Lines.{NoLineFeed};
+ghost use Rattle.stm_lines.specs.TakenLines.{bytes_to_come};
+ghost use Rattle.stm_history.specs.Checking.{CheckerState, at_header, at_variables, at_events, LeadsTo, MayRefuse, StopsAt, strange};
+ghost use Rattle.stm_history.specs.Reading.{FailsIn, IsReadingFault, TakesLine, TakesRest};
+ghost use Rattle.stm_event_lines.specs.Fits.{FitsTable, FitsFormat};
 ghost use Rattle.stm_history.specs.Following.{Follows, FollowsIn};
-ghost use Rattle.stm_history.specs.Judgement.{IsHistory, TellsFault, next_line};
-ghost use Rattle.stm_history.specs.Lines.{event_line};
+ghost use Rattle.stm_history.specs.Judgement.{IsHistory, IsShort, TellsFault, next_line};
+ghost use Rattle.stm_event_lines.specs.Lines.{event_line};
 ghost use Rattle.stm_events.specs.SlowDesk.{max_cells, max_events, IsLegal};
-ghost use Rattle.stm_history.specs.Stages.{IsStage, CountsWithinLimits, LeadsToStage, Reached, refused_by};
+ghost use Rattle.stm_history.specs.Stages.{keeps, IsRunning, IsStage, CountsWithinLimits, LeadsToStage, Reached, refused_by};
 ghost use Rattle.stm_history.specs.Checking.{with_table as progress_with};
 
 use crate::files::fault::{HistoryFault, Legal};
 use crate::files::replayer::Replayer;
 use crate::files::stepping::StepError;
-use crate::lines::formats::{fits_format, staleness_rule};
-use crate::lines::read::{LineError, read_event, read_header, read_variable};
-use crate::lines::variable::Variable;
-use memchr::memchr;
 use std::alloc::Global;
-use std::io::{ErrorKind, Read};
+use std::io::Read;
+use std::marker::Brand;
 use std::mem;
+use std::sync::ledger::{Blank, Ledger};
+use stm_event_lines::formats::{fits_format, staleness_rule};
+use stm_event_lines::read::{LineError, read_event, read_header, read_variable};
+use stm_event_lines::variable::Variable;
 use stm_events::event::Event;
+use stm_lines::calls::Calls;
+use stm_lines::line_reader::Line;
+use stm_lines::{LineReader, RunFault, Steps};
 use stm_store::{DeclareError, Seed, Table};
 
 /// The most bytes of a line.
-const MAX_LINE: usize = 1_048_576;
+pub(crate) const MAX_LINE: usize = 1_048_576;
 
 /// The most variables of a table.
-const MAX_CELLS: u32 = Table::LIMIT as u32;
+pub(crate) const MAX_CELLS: u32 = Table::LIMIT as u32;
 
 /// How far the lines have come: before the first; in a format, among the variables, of which so many were promised; in a
-/// format, among the events.
+/// format, among the events. Each stage has whether the events are kept.
 #[derive(Drop)]
 pub(crate) enum Stage {
-    Before,
+    Before {
+        keep: bool,
+    },
     Declaring {
+        keep: bool,
         format: u32,
         vars: u32,
         table: Table,
@@ -49,19 +60,27 @@ pub(crate) enum Stage {
 }
 
 /// The stage in a format where so many variables were promised and these are there.
-fn with_table(alloc: Global, format: u32, vars: u32, table: Table) -> Result<Stage, HistoryFault>
+fn with_table(
+    alloc: Global,
+    keep: bool,
+    format: u32,
+    vars: u32,
+    table: Table,
+) -> Result<Stage, HistoryFault>
     requires { length table ≤ vars }
     ensures stage { IfOk result (λ s. IsStage s (progress_with format vars table)) }
     ensures err { IfErr result (λ e. e ≡ HistoryFault.NoMemory) }
+    ensures keeps { IfOk result (λ s. keeps s ≡ keep) }
 {
     if table.len() < vars as usize {
         return Ok(Stage::Declaring {
+            keep,
             format,
             vars,
             table,
         });
     }
-    match Replayer::open(alloc, staleness_rule(format), &table) {
+    match Replayer::open(alloc, staleness_rule(format), &table, keep) {
         Ok(replayer) => Ok(Stage::Running {
             format,
             table,
@@ -72,15 +91,16 @@ fn with_table(alloc: Global, format: u32, vars: u32, table: Table) -> Result<Sta
 }
 
 /// Takes the first line.
-fn take_header(alloc: Global, seed: Seed, line: &[u8]) -> Result<Stage, HistoryFault>
+fn take_header(alloc: Global, seed: Seed, keep: bool, line: &[u8]) -> Result<Stage, HistoryFault>
     ensures leads { IfOk result (λ s. LeadsToStage at_header line.now s) }
     ensures refused { IfErr result (λ e. MayRefuse at_header line.now e) }
+    ensures keeps { IfOk result (λ s. keeps s ≡ keep) }
 {
     match read_header(alloc, line) {
         Ok(header) => {
             if header.vars <= MAX_CELLS {
                 let table = Table::with_seed(alloc, seed);
-                with_table(alloc, header.format, header.vars, table)
+                with_table(alloc, keep, header.format, header.vars, table)
             } else {
                 Err(HistoryFault::BadHeader)
             }
@@ -104,6 +124,7 @@ fn declare_refused(error: DeclareError) -> HistoryFault
 /// Takes a variable's line.
 fn take_variable(
     alloc: Global,
+    keep: bool,
     format: u32,
     vars: u32,
     mut table: Table,
@@ -112,11 +133,12 @@ fn take_variable(
     requires { length table < vars }
     ensures leads { IfOk result (λ s. LeadsToStage (at_variables format vars table) line.now s) }
     ensures refused { IfErr result (λ e. MayRefuse (at_variables format vars table) line.now e) }
+    ensures keeps { IfOk result (λ s. keeps s ≡ keep) }
 {
     match read_variable(alloc, line) {
         Ok(variable) => {
             match table.declare(&variable.name, variable.kind, variable.value) {
-                Ok(_) => with_table(alloc, format, vars, table),
+                Ok(_) => with_table(alloc, keep, format, vars, table),
                 Err(error) => Err(declare_refused(error)),
             }
         }
@@ -126,7 +148,7 @@ fn take_variable(
 }
 
 /// The number of the line that comes next.
-fn line_number(table: &Table, replayer: &Replayer) -> u32
+pub(crate) fn line_number(table: &Table, replayer: &Replayer) -> u32
     requires { (H : List AnyEvent) × Follows table.now H replayer.now }
     ensures { (H : List AnyEvent) → Follows table.now H replayer.now
         → result ≡ next_line table.now H }
@@ -149,6 +171,7 @@ fn take_event(
     ensures refused { IfErr result (λ e. (T : List Declared) (H : List AnyEvent)
         → FollowsIn format T H replayer.old → FitsTable T event.now → number ≡ next_line T H
         → MayRefuse (at_events format T H) (event_line event.now) e) }
+    ensures keeps { OnOk result (is_some replayer.new.kept ≡ is_some replayer.old.kept) }
 {
     if !fits_format(format, event) {
         return Err(HistoryFault::BadLine(number));
@@ -176,6 +199,7 @@ fn take_event_line(
     ensures refused { IfErr result (λ e. (H : List AnyEvent)
         → FollowsIn format table.now H replayer.old
         → MayRefuse (at_events format table.now H) line.now e) }
+    ensures keeps { OnOk result (is_some replayer.new.kept ≡ is_some replayer.old.kept) }
 {
     let number = line_number(table, replayer);
     match read_event(alloc, table, line) {
@@ -198,6 +222,7 @@ fn run_on(
         → LeadsToStage (at_events format table H) line.now s) }
     ensures refused { IfErr result (λ e. (H : List AnyEvent) → FollowsIn format table H replayer
         → MayRefuse (at_events format table H) line.now e) }
+    ensures keeps { IfOk result (λ s. keeps s ≡ is_some replayer.kept) }
 {
     match take_event_line(alloc, format, &table, &mut replayer, line) {
         Ok(()) => Ok(Stage::Running {
@@ -216,14 +241,16 @@ fn take_line(alloc: Global, seed: Seed, stage: Stage, line: &[u8]) -> Result<Sta
         → LeadsToStage p line.now s) }
     ensures refused { IfErr result (λ e. (p : CheckerState) → IsStage stage p
         → MayRefuse p line.now e) }
+    ensures keeps { IfOk result (λ s. keeps s ≡ keeps stage) }
 {
     match stage {
-        Stage::Before => take_header(alloc, seed, line),
+        Stage::Before { keep } => take_header(alloc, seed, keep, line),
         Stage::Declaring {
+            keep,
             format,
             vars,
             table,
-        } => take_variable(alloc, format, vars, table, line),
+        } => take_variable(alloc, keep, format, vars, table, line),
         Stage::Running {
             format,
             table,
@@ -238,7 +265,7 @@ fn strange_fault(stage: &Stage) -> HistoryFault
     ensures { (p : CheckerState) → IsStage stage.now p → result ≡ strange p }
 {
     match stage {
-        Stage::Before => HistoryFault::BadHeader,
+        Stage::Before { .. } => HistoryFault::BadHeader,
         Stage::Declaring { .. } => HistoryFault::BadHeader,
         Stage::Running {
             table,
@@ -248,133 +275,239 @@ fn strange_fault(stage: &Stage) -> HistoryFault
     }
 }
 
-/// A check under way: the seed of its table, the stage, and the bytes of a line that has begun.
+/// A check under way: the seed of its table, the stage, how many bytes of whole lines led to it, and the bytes of a line that
+/// has begun.
 #[derive(Drop)]
-struct Checker {
-    alloc: Global,
-    seed: Seed,
-    stage: Stage,
-    line: Vec<u8>,
+pub(crate) struct Checker {
+    pub alloc: Global,
+    pub seed: Seed,
+    pub stage: Stage,
+    pub whole: usize,
+    pub line: Vec<u8>,
 }
 
 impl Checker {
-    fn new(alloc: Global, seed: Seed) -> Checker
-        ensures { Reached result.stage result.line.items [] }
+    /// Before the first line. The caller says whether the events are to be kept.
+    pub(crate) fn new(alloc: Global, seed: Seed, keep: bool) -> Checker
+        ensures reached { Reached result.stage result.whole result.line.items [] }
+        ensures keeps { keeps result.stage ≡ keep }
     {
         Checker {
             alloc,
             seed,
-            stage: Stage::Before,
+            stage: Stage::Before { keep },
+            whole: 0,
             line: Vec::new(alloc),
         }
     }
 
-    /// Takes the line feed that ends a line.
-    fn end_line(&mut self) -> Result<(), HistoryFault>
-        requires { (taken : List ℕ) × Reached self.old.stage self.old.line.items taken }
+    /// Takes a line that a line feed ended.
+    fn take_whole(&mut self, line: &[u8]) -> Result<(), HistoryFault>
+        requires reached { (taken : List ℕ) × Reached self.old.stage self.old.whole [] taken
+            × (length taken < 2 ^ 62) }
+        requires plain { NoLineFeed line.now }
+        requires short { IsShort line.now }
         ensures done { OnOk result ((taken : List ℕ)
-            → Reached self.old.stage self.old.line.items taken
-            → Reached self.new.stage self.new.line.items (taken ++ 10 ∷ [])) }
+            → Reached self.old.stage self.old.whole [] taken
+            → Reached self.new.stage self.new.whole [] (taken ++ (line.now ++ 10 ∷ []))) }
         ensures fault { IfErr result (λ e. (taken more : List ℕ)
-            → Reached self.old.stage self.old.line.items taken
-            → TellsFault e (taken ++ 10 ∷ more)) }
+            → Reached self.old.stage self.old.whole [] taken
+            → TellsFault e (taken ++ ((line.now ++ 10 ∷ []) ++ more))) }
+        ensures stops { IfErr result (λ e. (taken more : List ℕ)
+            → Reached self.old.stage self.old.whole [] taken
+            → StopsAt e self.new.whole (taken ++ ((line.now ++ 10 ∷ []) ++ more))) }
+        ensures keeps { OnOk result (keeps self.new.stage ≡ keeps self.old.stage) }
+        ensures same_line { self.new.line.items ≡ self.old.line.items }
     {
-        let stage = mem::replace(&mut self.stage, Stage::Before);
-        match take_line(self.alloc, self.seed, stage, &self.line) {
+        let stage = mem::replace(&mut self.stage, Stage::Before { keep: false });
+        match take_line(self.alloc, self.seed, stage, line) {
             Ok(next) => {
                 self.stage = next;
-                self.line.clear();
+                self.whole += line.len() + 1;
                 Ok(())
             }
             Err(fault) => Err(fault),
         }
     }
 
-    /// Takes bytes of the line that has begun, none of which is a line feed.
-    fn take_part(&mut self, bytes: &[u8]) -> Result<(), HistoryFault>
-        requires reached { (taken : List ℕ) × Reached self.old.stage self.old.line.items taken }
-        requires plain { NoFeed bytes.now }
+    /// Takes the last line, which no line feed ended.
+    fn take_last(&mut self, line: &[u8]) -> Result<(), HistoryFault>
+        requires none { self.old.line.items ≡ [] }
+        requires plain { NoLineFeed line.now }
+        requires short { IsShort line.now }
         ensures done { OnOk result ((taken : List ℕ)
-            → Reached self.old.stage self.old.line.items taken
-            → Reached self.new.stage self.new.line.items (taken ++ bytes.now)) }
+            → Reached self.old.stage self.old.whole [] taken
+            → Reached self.new.stage self.new.whole self.new.line.items (taken ++ line.now)) }
         ensures fault { IfErr result (λ e. (taken more : List ℕ)
-            → Reached self.old.stage self.old.line.items taken
-            → TellsFault e (taken ++ (bytes.now ++ more))) }
+            → Reached self.old.stage self.old.whole [] taken
+            → TellsFault e (taken ++ (line.now ++ more))) }
+        ensures stops { IfErr result (λ e. (taken more : List ℕ)
+            → Reached self.old.stage self.old.whole [] taken
+            → StopsAt e self.new.whole (taken ++ (line.now ++ more))) }
+        ensures keeps { keeps self.new.stage ≡ keeps self.old.stage }
     {
-        if bytes.len() > MAX_LINE.saturating_sub(self.line.len()) {
-            return Err(strange_fault(&self.stage));
-        }
-        match self.line.extend_from_slice(bytes) {
+        match self.line.extend_from_slice(line) {
             Ok(()) => Ok(()),
             Err(_) => Err(HistoryFault::NoMemory),
         }
     }
 
-    /// Takes the next bytes.
-    fn take_bytes(&mut self, bytes: &[u8]) -> Result<(), HistoryFault>
-        requires { (taken : List ℕ) × Reached self.old.stage self.old.line.items taken }
-        ensures done { OnOk result ((taken : List ℕ)
-            → Reached self.old.stage self.old.line.items taken
-            → Reached self.new.stage self.new.line.items (taken ++ bytes.now)) }
-        ensures fault { IfErr result (λ e. (taken more : List ℕ)
-            → Reached self.old.stage self.old.line.items taken
-            → TellsFault e (taken ++ (bytes.now ++ more))) }
-    {
-        let mut rest = bytes;
-        while let Some(at) = memchr(b'\n', rest) {
-            self.take_part(&rest[..at])?;
-            self.end_line()?;
-            rest = &rest[at + 1..];
-        }
-        self.take_part(rest)
-    }
-
     /// Judges where the bytes end.
-    fn end(&self) -> Result<Legal, HistoryFault>
-        requires { (taken : List ℕ) × Reached self.now.stage self.now.line.items taken }
+    pub(crate) fn end(&self) -> Result<Legal, HistoryFault>
+        requires { (taken : List ℕ) × Reached self.now.stage self.now.whole self.now.line.items taken }
         ensures ok { IfOk result (λ n. (taken : List ℕ)
-            → Reached self.now.stage self.now.line.items taken
+            → Reached self.now.stage self.now.whole self.now.line.items taken
             → IsHistory taken n) }
         ensures fault { IfErr result (λ e. (taken : List ℕ)
-            → Reached self.now.stage self.now.line.items taken
+            → Reached self.now.stage self.now.whole self.now.line.items taken
             → TellsFault e taken) }
+        ensures stops { IfErr result (λ e. (taken : List ℕ)
+            → Reached self.now.stage self.now.whole self.now.line.items taken
+            → StopsAt e self.now.whole taken) }
+        ensures running { OnOk result (IsRunning self.now.stage) }
+        ensures line { OnOk result (self.now.line.items ≡ []) }
     {
         if !self.line.is_empty() {
             return Err(strange_fault(&self.stage));
         }
         match &self.stage {
-            Stage::Before => Err(HistoryFault::BadHeader),
+            Stage::Before { .. } => Err(HistoryFault::BadHeader),
             Stage::Declaring { .. } => Err(HistoryFault::BadHeader),
             Stage::Running { replayer, .. } => Ok(replayer.numbers()),
         }
     }
 }
 
+/// What the fault of reading a line is to a check.
+fn fault_of(fault: RunFault) -> HistoryFault
+    ensures { IsReadingFault result }
+{
+    match fault {
+        RunFault::NoMemory => HistoryFault::NoMemory,
+        RunFault::Read => HistoryFault::ReadFault,
+        RunFault::Write => HistoryFault::ReadFault,
+    }
+}
+
+/// Takes the next line, if there is one; returns whether more may follow.
+fn take_next<R: Read, L: Ledger>(
+    checker: &mut Checker,
+    lines: &mut LineReader,
+    calls: &mut Calls<R, L>,
+) -> Result<bool, HistoryFault>
+    requires reached { (taken : List ℕ) × Reached checker.old.stage checker.old.whole [] taken
+        × (length taken < 2 ^ 62) }
+    requires none { checker.old.line.items ≡ [] }
+    ensures taken { IfOk result (λ more. MatchBool more
+        (TakesLine checker.old.stage checker.new.stage checker.old.whole checker.new.whole []
+        (prepend_known lines.old.chunk (R.remaining calls.old.reader.now))
+        (prepend_known lines.new.chunk (R.remaining calls.new.reader.now))
+        (bytes_to_come calls.old.left lines.old.chunk)
+        (bytes_to_come calls.new.left lines.new.chunk))
+        (TakesRest checker.old.stage checker.new.stage checker.old.whole checker.new.whole
+        checker.new.line.items
+        (prepend_known lines.old.chunk (R.remaining calls.old.reader.now)))) }
+    ensures none { result ≡ Ok true → checker.new.line.items ≡ [] }
+    ensures fault { IfErr result (λ e. FailsIn e checker.old.stage checker.old.whole
+        checker.new.whole (prepend_known lines.old.chunk (R.remaining calls.old.reader.now))) }
+    ensures keeps { OnOk result (keeps checker.new.stage ≡ keeps checker.old.stage) }
+{
+    match lines.next_line(calls, MAX_LINE) {
+        Ok(Line::Whole) => match checker.take_whole(lines.line()) {
+            Ok(()) => Ok(true),
+            Err(fault) => Err(fault),
+        },
+        Ok(Line::Last) => match checker.take_last(lines.line()) {
+            Ok(()) => Ok(false),
+            Err(fault) => Err(fault),
+        },
+        Ok(Line::TooLong) => Err(strange_fault(&checker.stage)),
+        Ok(Line::End) => Ok(false),
+        Err(fault) => Err(fault_of(fault)),
+    }
+}
+
+/// Takes all bytes, before any of which was read.
+fn read_lines<R: Read, L: Ledger>(
+    checker: &mut Checker,
+    lines: &mut LineReader,
+    calls: &mut Calls<R, L>,
+) -> Result<(), HistoryFault>
+    requires reached { Reached checker.old.stage checker.old.whole checker.old.line.items [] }
+    requires chunk { lines.old.chunk ≡ [] }
+    requires left { calls.old.left ≤ 4294967295 }
+    ensures done { OnOk result ((taken : List ℕ)
+        × IfSome (R.remaining calls.old.reader.now) (λ bytes. bytes ≡ taken)
+        × Reached checker.new.stage checker.new.whole checker.new.line.items taken) }
+    ensures fault { IfErr result (λ e.
+        IfSome (R.remaining calls.old.reader.now) (λ bytes. TellsFault e bytes)) }
+    ensures stops { IfErr result (λ e.
+        IfSome (R.remaining calls.old.reader.now) (λ bytes. StopsAt e checker.new.whole bytes)) }
+    ensures keeps { OnOk result (keeps checker.new.stage ≡ keeps checker.old.stage) }
+{
+    'lines: loop {
+        if !take_next(checker, lines, calls)? {
+            return Ok(());
+        }
+    }
+}
+
+/// Takes all bytes by calls that a new ledger counts.
+fn read_from<R: Read, L: Ledger>(
+    checker: &mut Checker,
+    reader: &mut R,
+    blank: Blank,
+) -> Result<(), HistoryFault>
+    requires reached { Reached checker.old.stage checker.old.whole checker.old.line.items [] }
+    requires name { blank.name ≡ L.name }
+    requires parts { blank.parts ≡ L.parts }
+    requires some { 0 < blank.parts }
+    ensures done { OnOk result ((taken : List ℕ)
+        × IfSome (R.remaining reader.old) (λ bytes. bytes ≡ taken)
+        × Reached checker.new.stage checker.new.whole checker.new.line.items taken) }
+    ensures fault { IfErr result (λ e.
+        IfSome (R.remaining reader.old) (λ bytes. TellsFault e bytes)) }
+    ensures stops { IfErr result (λ e.
+        IfSome (R.remaining reader.old) (λ bytes. StopsAt e checker.new.whole bytes)) }
+    ensures keeps { OnOk result (keeps checker.new.stage ≡ keeps checker.old.stage) }
+{
+    let mut steps = Steps::<L>::new(blank);
+    let mut lines = LineReader::new(checker.alloc);
+    let mut calls = Calls::new(reader, &mut steps);
+    read_lines(checker, &mut lines, &mut calls)
+}
+
+/// Takes all bytes that the reader has left, before any of which was taken.
+pub(crate) fn read_all<R: Read>(checker: &mut Checker, reader: &mut R) -> Result<(), HistoryFault>
+    requires { Reached checker.old.stage checker.old.whole checker.old.line.items [] }
+    ensures done { OnOk result ((taken : List ℕ)
+        × IfSome (R.remaining reader.old) (λ bytes. bytes ≡ taken)
+        × Reached checker.new.stage checker.new.whole checker.new.line.items taken) }
+    ensures fault { IfErr result (λ e.
+        IfSome (R.remaining reader.old) (λ bytes. TellsFault e bytes)) }
+    // The whole lines that were taken led to where the fault is.
+    ensures stops { IfErr result (λ e.
+        IfSome (R.remaining reader.old) (λ bytes. StopsAt e checker.new.whole bytes)) }
+    ensures keeps { OnOk result (keeps checker.new.stage ≡ keeps checker.old.stage) }
+{
+    read_from::<R, Brand>(checker, reader, Blank::new(1))
+}
+
 /// Judges the bytes that the reader has left, before any of which was taken.
 fn check_rest<R: Read>(checker: &mut Checker, reader: &mut R) -> Result<Legal, HistoryFault>
-    requires { Reached checker.old.stage checker.old.line.items [] }
+    requires { Reached checker.old.stage checker.old.whole checker.old.line.items [] }
     ensures ok { IfOk result (λ n. IfSome (R.remaining reader.old) (λ bytes. IsHistory bytes n)) }
     ensures fault { IfErr result (λ e.
         IfSome (R.remaining reader.old) (λ bytes. TellsFault e bytes)) }
 {
-    let mut buffer = [0u8; 8_192];
-    'reads: for _ in 0..u32::MAX {
-        match reader.read(&mut buffer) {
-            Ok(count) => {
-                if count == 0 {
-                    return checker.end();
-                }
-                checker.take_bytes(&buffer[..count])?;
-            }
-            Err(fault) if fault.kind() == ErrorKind::Interrupted => {}
-            Err(_) => return Err(HistoryFault::ReadFault),
-        }
+    match read_all(checker, reader) {
+        Ok(()) => checker.end(),
+        Err(fault) => Err(fault),
     }
-    Err(HistoryFault::ReadFault)
 }
 
-/// Judges the bytes of a reader as a history of format 1, 2 or 3, line by line; docs/HISTORY.md has the formats. A line is never kept
-/// beyond 1,048,576 bytes, and the reader is called 4,294,967,295 times at most. `ReadFault` where the reader fails.
+/// Judges the bytes of a reader as a history of format 1, 2 or 3, line by line; docs/HISTORY.md has the formats. Of a line no more
+/// than 1,048,577 bytes are kept, and the reader is called 4,294,967,295 times at most. `ReadFault` if the reader fails.
 pub fn check_history<R: Read>(alloc: Global, reader: &mut R) -> Result<Legal, HistoryFault>
     // The bytes are the text of a legal history, and the numbers are its own.
     ensures ok { IfOk result (λ n. IfSome (R.remaining reader.old) (λ bytes. IsHistory bytes n)) }
@@ -397,6 +530,6 @@ pub fn check_history_with<R: Read>(
     ensures fault { IfErr result (λ e.
         IfSome (R.remaining reader.old) (λ bytes. TellsFault e bytes)) }
 {
-    let mut checker = Checker::new(alloc, seed);
+    let mut checker = Checker::new(alloc, seed, false);
     check_rest(&mut checker, reader)
 }

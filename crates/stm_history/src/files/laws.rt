@@ -1,12 +1,14 @@
 //! What holds of histories as text: each function's contract is a law of the definitions, and its body is empty.
 
-ghost use Rattle.stm_history.specs.WholeBlocks.{CheckedAreWellTyped};
-ghost use Rattle.stm_history.specs.FileLaws.{EachLineIsOneEvent, EventsAreLines, NumbersAreFixed, TextsAreOfOneHistory, HistoriesAreTaken, FaultsAreFixed, WhatIsWrittenIsTaken};
+ghost use Rattle.stm_history.specs.Explanation.{ExpectedLeadsOn, OneEventOfACall, RefusedAreIllegal};
+ghost use Rattle.stm_event_lines.specs.WholeBlocks.{CheckedAreWellTyped};
+ghost use Rattle.stm_history.specs.FileLaws.{EachLineIsOneEvent, EventsAreLines, LinesBeginWithBraces, NumbersAreFixed, TextsAreOfOneHistory, HistoriesAreTaken, FaultsAreFixed, WhatIsWrittenIsTaken};
 
-/// Different events have different lines, and none has a line feed.
+/// Different events have different lines, and none has a line feed or a 0. Each line of a history begins with `{`.
 pub fn each_line_is_one_event()
     ensures one { EachLineIsOneEvent }
     ensures lines { EventsAreLines }
+    ensures braces { LinesBeginWithBraces }
 {}
 
 /// The numbers of a text are fixed: bytes are the text of legal histories with the same numbers only.
@@ -38,4 +40,21 @@ pub fn what_is_written_is_taken()
 /// A block that a text parses and checks to is well typed.
 pub fn checked_are_well_typed()
     ensures { CheckedAreWellTyped }
+{}
+
+/// Two allowed events of the same call are equal, and what is expected of a call is the allowed one. So at most one line can be
+/// expected.
+pub fn calls_have_one_event()
+    ensures { OneEventOfACall }
+{}
+
+/// A call that is refused is no event that may follow.
+pub fn refused_calls_are_illegal()
+    ensures { RefusedAreIllegal }
+{}
+
+/// With the line that is expected in place of the line that has a fault, the bytes up to it are the beginning of a legal
+/// history.
+pub fn expected_lines_lead_on()
+    ensures { ExpectedLeadsOn }
 {}

@@ -1,9 +1,14 @@
 //! Whole histories: written, checked line by line, and replayed.
 
 pub mod check;
+pub mod expecting;
+pub mod explaining;
+pub mod explanation;
 pub mod fault;
 pub mod laws;
+pub mod loading;
 pub mod replayer;
 pub mod replaying;
 pub mod stepping;
+pub mod why;
 pub mod writing;

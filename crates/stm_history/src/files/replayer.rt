@@ -1,9 +1,10 @@
-//! What goes through a history: the machine that the events so far lead to. It keeps no list of them.
+//! What goes through a history: the machine that the events so far lead to, and a list of them if it is to keep one.
 
-ghost use Rattle.std.specs.Prelude.{◌≡◌, List, [], IfOk};
+ghost use Rattle.std.specs.Prelude.{◌≡◌, List, [], IfOk, IfSome, is_some};
 
 use crate::files::fault::Legal;
 use std::alloc::Global;
+use stm_events::event::Event as OneEvent;
 use stm_events::staleness::StalenessRule;
 use stm_machine::machine::Machine;
 use stm_store::{Frozen, Table};
@@ -13,13 +14,22 @@ use stm_terms::NoMemory;
 pub(crate) const MAX_EVENTS: u32 = 1_048_576;
 
 /// The rule that a history goes by, the machine that its events so far lead to, how many they are, and an unchanging copy of
-/// the present store, where one was made after the last finish.
+/// the present store, if one was made after the last finish; the events themselves, if they are kept.
 #[derive(Drop)]
 pub(crate) struct Replayer {
     pub rule: StalenessRule,
     pub machine: Machine,
     pub events: u32,
     pub copy: Option<Frozen>,
+    pub kept: Option<Vec<OneEvent>>,
+}
+
+/// No events yet, if events are to be kept.
+fn none_kept(alloc: Global, keep: bool) -> Option<Vec<OneEvent>>
+    ensures keeps { is_some result ≡ keep }
+    ensures none { IfSome result (λ events. events.items ≡ []) }
+{
+    if keep { Some(Vec::new(alloc)) } else { None }
 }
 
 impl Replayer {
@@ -28,20 +38,23 @@ impl Replayer {
     ghost use Rattle.stm_history.specs.Following.{Follows};
     ghost use Rattle.stm_history.specs.Judgement.{numbers_by};
 
-    /// The variables of a table, and no event.
+    /// The variables of a table, and no event. The caller says whether events are to be kept.
     pub(crate) fn open(
         alloc: Global,
         rule: StalenessRule,
         table: &Table,
+        keep: bool,
     ) -> Result<Replayer, NoMemory>
         ensures follows { IfOk result (λ r. Follows table.now [] r) }
         ensures rule { IfOk result (λ r. r.rule ≡ rule) }
+        ensures keeps { IfOk result (λ r. is_some r.kept ≡ keep) }
     {
         Ok(Replayer {
             rule,
             machine: Machine::open(alloc, table)?,
             events: 0,
             copy: None,
+            kept: none_kept(alloc, keep),
         })
     }
 

@@ -43,7 +43,7 @@ pub fn replay(alloc: Global, table: &Table, history: &[Event]) -> Result<Legal, 
     // Otherwise the first event that isn't allowed is reported.
     ensures fault { IfErr result (λ e. Refuses e table.now history.now) }
 {
-    let mut replayer = match Replayer::open(alloc, StalenessRule::Changed, table) {
+    let mut replayer = match Replayer::open(alloc, StalenessRule::Changed, table, false) {
         Ok(replayer) => replayer,
         Err(_) => return Err(HistoryFault::NoMemory),
     };

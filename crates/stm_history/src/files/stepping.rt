@@ -1,6 +1,6 @@
 //! One event more: the machine is asked whether it may follow, its fields are compared, and then the machine is moved.
 
-ghost use Rattle.std.specs.Prelude.{◌≡◌, ◌<◌, ◌↔◌, ◌++◌, ◌∷◌, [], ℕ, List, OnOk, IfSome, IsErrOf, IsTrue, Some, None, Err};
+ghost use Rattle.std.specs.Prelude.{◌≡◌, ◌<◌, ◌↔◌, ◌++◌, ◌∷◌, [], ℕ, List, OnOk, IfSome, IsErrOf, IsTrue, is_some, Some, None, Err};
 ghost use Rattle.stm_store.specs.Cells.{plains};
 ghost use Rattle.stm_store.specs.Tables.{Declared};
 ghost use Rattle.stm_eval.specs.EvaluatedFields.{message_ticket, message_verdict};
@@ -296,6 +296,21 @@ fn keep_copy(machine: &Machine, copy: &mut Option<Frozen>) -> Result<(), NoMemor
     Ok(())
 }
 
+/// Adds a copy of an event to those that are kept, if they are.
+fn keep_event(kept: &mut Option<Vec<Event>>, event: &Event) -> Result<(), NoMemory>
+    ensures keeps { is_some kept.new ≡ is_some kept.old }
+    ensures kept { OnOk result ((H : List AnyEvent) → IfSome kept.old (λ events. events.items ≡ H)
+        → IfSome kept.new (λ events. events.items ≡ H ++ event.now ∷ [])) }
+{
+    match kept {
+        Some(events) => {
+            events.push(event.copy()?)?;
+            Ok(())
+        }
+        None => Ok(()),
+    }
+}
+
 impl Replayer {
     /// A verdict is installed.
     fn install(&mut self, ticket: u32, verdict: &SharedVerdict) -> Result<(), StepError>
@@ -311,6 +326,7 @@ impl Replayer {
         ensures copied { OnOk result (self.new.copy ≡ Some (plains self.old.machine.store)) }
         ensures events { self.new.events ≡ self.old.events }
         ensures rule { self.new.rule ≡ self.old.rule }
+        ensures kept { self.new.kept ≡ self.old.kept }
     {
         keep_copy(&self.machine, &mut self.copy)?;
         match &self.copy {
@@ -334,6 +350,7 @@ impl Replayer {
             (IfSome self.new.copy (λ cells. cells ≡ plains self.new.machine.store)) }
         ensures events { self.new.events ≡ self.old.events }
         ensures rule { self.new.rule ≡ self.old.rule }
+        ensures kept { self.new.kept ≡ self.old.kept }
     {
         match what {
             What::Submitted { ticket, block } => submitted(&mut self.machine, *ticket, block),
@@ -367,6 +384,7 @@ impl Replayer {
             → (T : List Declared) (H : List AnyEvent) → Follows T H self.old
             → IsIllegalBy self.old.rule T H event.now }
         ensures rule { OnOk result (self.new.rule ≡ self.old.rule) }
+        ensures keeps { OnOk result (is_some self.new.kept ≡ is_some self.old.kept) }
     {
         if event.client >= Event::MAX_CLIENTS || self.events >= MAX_EVENTS {
             return Err(StepError::NotAllowed);
@@ -374,6 +392,7 @@ impl Replayer {
         match self.act(&event.what) {
             Ok(()) => {
                 self.events += 1;
+                keep_event(&mut self.kept, event)?;
                 Ok(())
             }
             Err(error) => Err(error),

@@ -1,16 +1,15 @@
 //! Histories, written.
 
-ghost use Rattle.std.specs.Prelude.{◌≡◌, ◌<◌, ◌++◌, ◌∷◌, [], ◌≤◌, ℕ, List, OnOk, OnErr, IfSome, slice_get, length, string_bytes};
-ghost use Rattle.std.specs.Io.{WritesAtMost};
-ghost use Rattle.std.specs.Io.KnownBytes.{WriteAppends};
-ghost use Rattle.stm_history.specs.Lines.{latest_format, header_line};
+ghost use Rattle.std.specs.Prelude.{◌<◌, ◌++◌, ◌∷◌, [], IfSome, slice_get, length, string_bytes};
+ghost use Rattle.stm_event_lines.specs.Lines.{latest_format, header_line};
 ghost use Rattle.stm_history.specs.HistoryText.{variable_lines, event_lines, history_text, WritesText};
 
-use crate::lines::formats::LATEST_FORMAT;
-use crate::lines::write::{event_text, header_text, variable_text};
 use std::alloc::Global;
-use std::io::{ErrorKind, Write};
+use std::io::Write;
+use stm_event_lines::formats::LATEST_FORMAT;
+use stm_event_lines::write::{event_text, header_text, variable_text};
 use stm_events::event::Event;
+use stm_lines::output;
 use stm_store::Table;
 
 /// Why a history wasn't written whole. What was written is a part of it from its front.
@@ -22,35 +21,14 @@ pub enum WriteFault {
     NoMemory,
 }
 
-/// Writes some of a text, and returns how many bytes the writer took. A write that is interrupted is tried again, 4,294,967,295
-/// times at most, so that a writer that is always interrupted is a fault.
-fn write_some<W: Write>(writer: &mut W, text: &[u8]) -> Result<usize, WriteFault>
-    ensures bound { WritesAtMost result text.now }
-    ensures bytes { WriteAppends (W.contents writer.old) (W.contents writer.new) result text.now }
-{
-    'tries: for _ in 0..u32::MAX {
-        match writer.write(text) {
-            Ok(count) => return Ok(count),
-            Err(fault) if fault.kind() == ErrorKind::Interrupted => {}
-            Err(_) => return Err(WriteFault::Write),
-        }
-    }
-    Err(WriteFault::Write)
-}
-
 /// Writes all of a text, or a part from its front.
 fn write_text<W: Write>(writer: &mut W, text: &[u8]) -> Result<(), WriteFault>
     ensures { WritesText result (W.contents writer.old) (W.contents writer.new) text.now }
 {
-    let mut at = 0;
-    while at < text.len() {
-        match write_some(writer, &text[at..]) {
-            Ok(0) => return Err(WriteFault::Write),
-            Ok(n) => at += n,
-            Err(fault) => return Err(fault),
-        }
+    match output::write_text(writer, text) {
+        Ok(()) => Ok(()),
+        Err(_) => Err(WriteFault::Write),
     }
-    Ok(())
 }
 
 /// Writes a line and its line feed.

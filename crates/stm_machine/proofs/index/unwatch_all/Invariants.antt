@@ -2,7 +2,8 @@ use Rattle.std.proofs.Common.{◌≡◌, ℕ, drop, ◌&&◌, not}
 use Rattle.std.specs.Prelude.{nat_eq}
 use Rattle.std.specs.List.{list_any}
 use Rattle.stm_watch.specs.Pairs.{has_pair, is_read}
-use Rattle.stm_machine.specs.Entries.{kept_at, kept_reads}
+use Rattle.stm_waiting.specs.Entries.{kept_at}
+use Rattle.stm_machine.specs.Entries.{kept_reads}
 use Rattle.stm_machine.proofs.index.unwatch_all.Given as goal
 
 abbrev pub invariant-loop-ticket : goal.invariant-loop-ticket

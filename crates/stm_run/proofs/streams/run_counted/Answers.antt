@@ -5,4 +5,4 @@ use Rattle.stm_run.proofs.streams.run_counted.Goals as goal
 
 pub returns-clause-part : goal.returns-clause-part
 returns-clause-part g c =
-    part_from_start c.run_session.result _ _ _ _ c.args.options.max_events c.new-session.result.console (ap g.R.Read.remaining c.new-calls.ensures.reader) (c.new-session.ensures.console ∙ ap initial_console c.new.ensures) c.run_session.ensures.part
+    part_from_start c.run_session.result _ _ _ _ c.args.options.max_events c.new-session.result.console (ap g.R.Read.remaining c.new-calls.ensures.reader) (c.new-session.ensures ∙ ap initial_console c.new.ensures) c.run_session.ensures.part

@@ -1,4 +1,4 @@
-use Rattle.std.proofs.Common.{OnOk, Result, Ok, sym, subst, string_bytes}
+use Rattle.std.proofs.Common.{OnOk, Result, sym, subst, string_bytes}
 use Rattle.stm_check.specs.TypedBlock.{Block}
 use Rattle.stm_blocks.specs.declared.refusal.Refusal.{Refusal}
 use Rattle.stm_desk.specs.Refusals.{submit_refusal}

@@ -1,4 +1,4 @@
-use Rattle.stm_history.proofs.CheckedBlocks.{checked_are_well_typed}
+use Rattle.stm_event_lines.proofs.CheckedBlocks.{checked_are_well_typed}
 use Rattle.stm_history.proofs.files.laws.checked_are_well_typed.Goals as goal
 
 pub returns : goal.returns

@@ -3,7 +3,7 @@ use Rattle.std.specs.Prelude.{IsSomeAnd}
 use Rattle.stm_eval.specs.EvaluatedFields.{message_ticket, message_block, message_reads, message_verdict}
 use Rattle.stm_eval.proofs.FragmentsAndStores.{to_store}
 use Rattle.stm_events.specs.SlowDesk.{find_waiter, state_by}
-use Rattle.stm_machine.specs.Entries.{kept_at}
+use Rattle.stm_waiting.specs.Entries.{kept_at}
 use Rattle.stm_machine.specs.Machine.{Parts, CanInstallBy}
 use Rattle.stm_machine.proofs.Calls.{lost}
 use Rattle.stm_machine.proofs.Delivery.{moves_install, install_queued}

@@ -3,7 +3,7 @@ use Rattle.std.specs.Option.{option_copied}
 use Rattle.std.specs.Prelude.{IsSomeAnd}
 use Rattle.stm_eval.specs.EvaluatedFields.{message_ticket, message_block, message_reads}
 use Rattle.stm_events.specs.SlowDesk.{Waiter, under, is_current, find_waiter, state_by}
-use Rattle.stm_machine.specs.Entries.{kept_at}
+use Rattle.stm_waiting.specs.Entries.{kept_at}
 use Rattle.stm_machine.specs.Machine.{StandsForBy}
 use Rattle.stm_events.specs.Refusals.{differing}
 use Rattle.stm_machine.proofs.Calls.{waits, lost}

@@ -1,6 +1,6 @@
 use Rattle.std.proofs.Common.{◌≡◌, ◌∙◌, Some, None, refl, sym, ap, subst}
 use Rattle.std.specs.Option.{option_copied}
-use Rattle.stm_machine.specs.Entries.{kept_at}
+use Rattle.stm_waiting.specs.Entries.{kept_at}
 use Rattle.stm_machine.specs.Machine.{StandsForBy}
 use Rattle.stm_machine.proofs.Calls.{waits, lost}
 use Rattle.stm_machine.proofs.machine.Machine.may_leave.Goals as goal

@@ -4,7 +4,7 @@ use Rattle.stm_store.specs.declared.cell.Cell.{Cell}
 use Rattle.stm_terms.specs.Typing.{action_type, kinds_in, result_type}
 use Rattle.stm_check.specs.TypedBlock.{Block}
 use Rattle.stm_events.specs.SlowDesk.{state_by, is_blocks}
-use Rattle.stm_machine.specs.Entries.{kept_at}
+use Rattle.stm_waiting.specs.Entries.{kept_at}
 use Rattle.stm_machine.specs.Machine.{StandsForBy}
 use Rattle.stm_events.specs.Refusals.{overflows}
 use Rattle.stm_machine.proofs.Calls.{lost}

@@ -1,6 +1,6 @@
 use Rattle.std.proofs.Common.{◌≡◌, ◌∙◌, Some, None, refl, sym, ap, subst}
 use Rattle.std.specs.Option.{option_copied}
-use Rattle.stm_machine.specs.Entries.{kept_at}
+use Rattle.stm_waiting.specs.Entries.{kept_at}
 use Rattle.stm_machine.specs.Machine.{StandsForBy}
 use Rattle.stm_events.specs.SlowDesk.{find_waiter, state_by}
 use Rattle.stm_machine.proofs.Calls.{lost}

@@ -5,7 +5,7 @@ use Rattle.stm_store.specs.Cells.{plains}
 use Rattle.stm_store.specs.Tables.{Declared}
 use Rattle.stm_events.specs.declared.event.Event.{Event}
 use Rattle.stm_events.specs.declared.staleness.StalenessRule.{StalenessRule}
-use Rattle.stm_machine.specs.Entries.{kept_at}
+use Rattle.stm_waiting.specs.Entries.{kept_at}
 use Rattle.stm_machine.specs.Keeping.{IsVerdictUnder}
 use Rattle.stm_machine.specs.Machine.{Parts, StandsForBy}
 use Rattle.stm_events.specs.SlowDesk.{state_by}

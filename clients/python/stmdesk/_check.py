@@ -1,0 +1,90 @@
+"""Checks a history in a file."""
+
+from __future__ import annotations
+
+import os
+import re
+from dataclasses import dataclass
+from pathlib import Path
+from typing import Literal
+
+from ._errors import BadAnswer, Ended
+from ._program import check_built, find_program, run_once
+
+Finding = Literal["legal", "bad header", "bad line", "not legal"]
+
+_PRINTED = re.compile(
+    r"(?:(?P<legal>legal) (?P<events>\d+) events|(?P<header>bad header)|(?P<bad>bad line|not legal) (?P<line>\d+))\n"
+    r"(?P<why>(?:line (?P<at>\d+) )?(?:expected (?P<expected>.+)|refused (?P<refused>.+)|unreadable)\n)?"
+)
+
+
+@dataclass(frozen=True)
+class Checked:
+    """What `check` found of a history. It is true if the history is legal, and as text it is what the program prints.
+
+    `finding` is "legal", "bad header", "bad line" or "not legal", and `events` the number of the events of a legal history, else None.
+    `line` is the number of the first line that isn't accepted, counted from 1 with the header; None if the history is legal, or if the
+    header is bad and `why` wasn't asked.
+
+    With `why`, `expected` is the line that would be accepted there for the same call, or `refused` why a desk refuses that call there, as
+    "Stale"; both are None if the line can't be read, if the history is legal, or without `why`.
+    """
+
+    finding: Finding
+    events: int | None
+    line: int | None
+    expected: str | None
+    refused: str | None
+    text: str
+
+    def __bool__(self) -> bool:
+        return self.finding == "legal"
+
+    def __str__(self) -> str:
+        return self.text.removesuffix("\n")
+
+
+def check(
+    path: str | os.PathLike[str], *, why: bool = False, program: str | os.PathLike[str] | None = None
+) -> Checked:
+    """Whether the file at this path is a legal history, by `program check` (docs/HISTORY.md).
+
+    With `why` also what would be accepted in place of the first line that isn't, by `check --why`. Without `program` it runs what
+    `find_program` returns. Raises OSError if the file can't be read, and `Ended` if the program ends otherwise, for example since it is
+    out of memory.
+
+    >>> import tempfile
+    >>> from pathlib import Path
+    >>> with Desk() as desk, tempfile.TemporaryDirectory() as folder:
+    ...     x = desk.tvar("x : Int = 1")
+    ...     ticket = desk.submit("readTVar x")
+    ...     evaluated = desk.eval()
+    ...     file = Path(folder) / "history"
+    ...     size = file.write_text(desk.history())
+    ...     print(check(file))
+    ...     size = file.write_text(desk.history().replace('"result":1', '"result":2'))
+    ...     found = check(file, why=True)
+    legal 2 events
+    >>> bool(found), found.finding, found.line
+    (False, 'not legal', 4)
+    >>> print(found.expected)
+    {"client":0,"event":"installed","ticket":1,"verdict":{"commits":{"news":[],"result":1,"writes":[]}}}
+    """
+    command = [find_program() if program is None else os.fspath(program), "check"]
+    check_built(command[0])
+    status, printed, said = run_once(command + ["--why"] * why, Path(path).read_bytes())
+    if status not in (0, 3):
+        raise Ended(status, said)
+    found = _PRINTED.fullmatch(printed)
+    if not found or bool(found["legal"]) != (status == 0) or bool(found["why"]) != (why and status == 3):
+        raise BadAnswer("check", printed or said)
+    line = found["line"] or found["at"]
+    return Checked(
+        found["legal"] or found["header"] or found["bad"],
+        int(found["events"]) if found["events"] else None,
+        int(line) if line else None,
+        found["expected"],
+        found["refused"],
+        printed,
+    )

@@ -1,0 +1,14 @@
+use Rattle.stm_console.proofs.StatusProofs.{few, refused_kept, taken, judged}
+use Rattle.stm_console.proofs.laws.exit_statuses.Goals as goal
+
+pub returns-clause-few : goal.returns-clause-few
+returns-clause-few c = few
+
+pub returns-clause-refused : goal.returns-clause-refused
+returns-clause-refused c = refused_kept
+
+pub returns-clause-taken : goal.returns-clause-taken
+returns-clause-taken c = taken
+
+pub returns-clause-judged : goal.returns-clause-judged
+returns-clause-judged c = judged

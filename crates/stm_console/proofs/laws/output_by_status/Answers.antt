@@ -1,0 +1,23 @@
+use Rattle.stm_console.proofs.StatusProofs.{done_run, done_storm, done_exploration, done_version, other_run, other_check, other_version}
+use Rattle.stm_console.proofs.laws.output_by_status.Goals as goal
+
+pub returns-clause-run : goal.returns-clause-run
+returns-clause-run c = done_run
+
+pub returns-clause-storm : goal.returns-clause-storm
+returns-clause-storm c = done_storm
+
+pub returns-clause-exploration : goal.returns-clause-exploration
+returns-clause-exploration c = done_exploration
+
+pub returns-clause-version : goal.returns-clause-version
+returns-clause-version c = done_version
+
+pub returns-clause-run_part : goal.returns-clause-run_part
+returns-clause-run_part c = other_run
+
+pub returns-clause-check_part : goal.returns-clause-check_part
+returns-clause-check_part c = other_check
+
+pub returns-clause-version_part : goal.returns-clause-version_part
+returns-clause-version_part c = other_version

@@ -1,0 +1,108 @@
+-- What the program does, by what its words ask for: how it ends, and what it reads and writes.
+use Rattle.std.specs.Prelude.{◌≡◌, ◌⊎◌, ℕ, List, [], ◌∷◌, Option, if◌then◌else◌, IfSome}
+use Rattle.std.specs.Io.KnownBytes.{Appends, Keeps}
+use Rattle.clap.specs.Words.{Kinds}
+use Rattle.stm_terms.specs.Texts.{IsPrefixOf}
+use Rattle.stm_run.specs.Console.{console_text}
+use Rattle.stm_storm.specs.StormText.{IsFailedStormText, IsStormText}
+use Rattle.stm_exploration.specs.ExploreEnd.{WritesRight}
+use Rattle.stm_words.specs.CommandLine.{answers_of, are_mistakes, is_help, is_version, request_of, version_line}
+use Rattle.stm_words.specs.declared.command_line.Request.{Request}
+use Rattle.stm_words.specs.declared.command_line.Request.TheVariants.{Run, Storm, Explore, Check, CheckWhy}
+use Rattle.stm_console.specs.Checking.{BeginsFindingText, IsFinding, finding_text}
+use Rattle.stm_console.specs.ExitStatus.{IsFailure, finding_status}
+use Rattle.stm_console.specs.declared.checking.Finding.{Finding}
+use Rattle.stm_console.specs.Why.{BeginsAnswerWhy, IsAnswerWhy}
+use Rattle.stm_console.specs.declared.status.TheConstants.{DONE, NOT_RIGHT, NO_MEMORY, REFUSED}
+
+-- ---- what words ask for
+
+-- what the program is asked for by its words
+pub data Asked : Type 0 where
+  Help : Asked
+  Version : Asked
+  -- the words are wrong
+  Mistake : Asked
+  -- clap prints one of several things: of the word `help` it prints help, or that what follows is wrong
+  Several : Asked
+  -- a run, a storm, an exploration or a check
+  Do : Request → Asked
+
+-- the same by the kinds of what clap may print of the words; if there are none, by the request
+abbrev pub asked_of : Kinds → Request → Asked
+asked_of [] request = Do request
+asked_of (kind ∷ kinds) request =
+    if are_mistakes (kind ∷ kinds) then Mistake
+    else if is_help (kind ∷ kinds) then Help
+    else if is_version (kind ∷ kinds) then Version
+    else Several
+
+abbrev pub asked_by : List (List ℕ) → Asked
+asked_by words = asked_of (answers_of words) (request_of words)
+
+-- ---- what is read and written
+
+-- the bytes that the reader has left, before the program and after it, and those that the writer has got; none if they aren't known
+pub record Streams : Type 0 where
+  pub input : Option (List ℕ)
+  pub rest : Option (List ℕ)
+  pub before : Option (List ℕ)
+  pub after : Option (List ℕ)
+
+abbrev pub streams : Option (List ℕ) → Option (List ℕ) → Option (List ℕ) → Option (List ℕ) → Streams
+streams input rest before after = record { input = input; rest = rest; before = before; after = after }
+
+abbrev pub ReadsNothing : Streams → Type 0
+ReadsNothing s = Keeps s.input s.rest
+
+abbrev pub WritesNothing : Streams → Type 0
+WritesNothing s = Keeps s.before s.after
+
+-- this text is written
+abbrev pub Writes : Streams → List ℕ → Type 0
+Writes s text = Appends s.before s.after text
+
+-- a part of this text is written, from its front
+abbrev pub AppendsPartOf : Option (List ℕ) → Option (List ℕ) → List ℕ → Type 0
+AppendsPartOf before after text = (front : List ℕ) × IsPrefixOf front text × Appends before after front
+
+abbrev pub WritesPartOf : Streams → List ℕ → Type 0
+WritesPartOf s text = AppendsPartOf s.before s.after text
+
+-- ---- what the program does
+
+-- asked for this, the program reads and writes so, and ends with the exit status
+abbrev pub ProgramDoes : Asked → Streams → ℕ → Type 0
+-- help is printed, unless the writer fails or memory runs out
+ProgramDoes Help s status = ReadsNothing s × ((status ≡ DONE) ⊎ IsFailure status)
+-- the version's line is printed, or a part of it
+ProgramDoes Version s status = ReadsNothing s
+    × (((status ≡ DONE) × Writes s version_line)
+    ⊎ (IsFailure status × WritesPartOf s version_line))
+-- wrong words are refused
+ProgramDoes Mistake s status = ReadsNothing s × WritesNothing s × ((status ≡ REFUSED) ⊎ (status ≡ NO_MEMORY))
+-- one of these three, and if it is a refusal nothing is written
+ProgramDoes Several s status = ReadsNothing s
+    × (((status ≡ REFUSED) × WritesNothing s)
+    ⊎ ((status ≡ DONE) ⊎ IsFailure status))
+-- a run writes the whole text of its input, or a part of it
+ProgramDoes (Do (Run options)) s status =
+    ((status ≡ DONE) × IfSome s.input (λ input. Writes s (console_text options.max_events input)))
+    ⊎ (IsFailure status × IfSome s.input (λ input. WritesPartOf s (console_text options.max_events input)))
+-- a storm writes a text of its script; a failed one if the history that its clients left isn't found legal
+ProgramDoes (Do (Storm options)) s status =
+    ((status ≡ DONE) × IfSome s.input (λ input. (text : List ℕ) × IsStormText input text × Writes s text))
+    ⊎ (((status ≡ NOT_RIGHT) × IfSome s.input (λ input. (text : List ℕ) × IsFailedStormText input text × Writes s text))
+    ⊎ IsFailure status)
+-- an exploration ends with success only if nothing is wrong with any state that its clients can reach, and writes so
+ProgramDoes (Do (Explore options)) s status =
+    ((status ≡ DONE) × IfSome s.input (λ input. WritesRight options.history options input s.before s.after))
+    ⊎ ((status ≡ NOT_RIGHT) ⊎ IsFailure status)
+-- a check writes what it finds of the bytes, which the status says too; if it fails, nothing or a part of that
+ProgramDoes (Do Check) s status =
+    ((f : Finding) × (status ≡ finding_status f) × IfSome s.input (λ bytes. IsFinding bytes f) × Writes s (finding_text f))
+    ⊎ (IsFailure status × IfSome s.input (λ bytes. (front : List ℕ) × BeginsFindingText bytes front × Writes s front))
+-- with `--why` it also writes why
+ProgramDoes (Do CheckWhy) s status =
+    ((f : Finding) × (status ≡ finding_status f) × IfSome s.input (λ bytes. (text : List ℕ) × IsAnswerWhy bytes f text × Writes s text))
+    ⊎ (IsFailure status × IfSome s.input (λ bytes. (front : List ℕ) × BeginsAnswerWhy bytes front × Writes s front))

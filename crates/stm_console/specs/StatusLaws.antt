@@ -1,0 +1,92 @@
+-- What each exit status says.
+use Rattle.std.specs.Prelude.{◌≡◌, ◌≢◌, ◌⊎◌, ℕ, List, [], IfSome, IsTrue, ⊤}
+use Rattle.stm_run.specs.Console.{console_text}
+use Rattle.stm_storm.specs.StormText.{IsStormText}
+use Rattle.stm_exploration.specs.ExploreEnd.{WritesRight}
+use Rattle.stm_options.specs.declared.explore_options.ExploreOptions.{ExploreOptions}
+use Rattle.stm_options.specs.declared.options.Options.{Options}
+use Rattle.stm_words.specs.CommandLine.{answers_of, asks_for_help, asks_for_version, has_mistake, request_of, version_line}
+use Rattle.stm_words.specs.declared.command_line.Request.{Request}
+use Rattle.stm_words.specs.declared.command_line.Request.TheVariants.{Run, Storm, Explore, Check, CheckWhy}
+use Rattle.stm_console.specs.Checking.{BeginsFindingText}
+use Rattle.stm_console.specs.Program.{Asked, Do, Help, Mistake, Version, asked_by, ProgramDoes, ReadsNothing, Streams, Writes, WritesNothing, WritesPartOf}
+use Rattle.stm_console.specs.declared.status.TheConstants.{DONE, NOT_RIGHT, REFUSED}
+
+-- ---- what words ask for
+
+-- words of which clap has nothing to print ask for their request; the others for what clap's answers say
+abbrev pub WordsAskForThis : Type 0
+WordsAskForThis = (words : List (List ℕ))
+    → (answers_of words ≡ [] → asked_by words ≡ Do (request_of words))
+    × (IsTrue (asks_for_help words) → asked_by words ≡ Help)
+    × (IsTrue (asks_for_version words) → asked_by words ≡ Version)
+    × (IsTrue (has_mistake words) → asked_by words ≡ Mistake)
+
+-- ---- the statuses
+
+-- there is no other than 0, 1, 2, 3 and 4
+abbrev pub StatusesAreFew : Type 0
+StatusesAreFew = (asked : Asked) (s : Streams) (status : ℕ) → ProgramDoes asked s status
+    → (status ≡ 0) ⊎ ((status ≡ 1) ⊎ ((status ≡ 2) ⊎ ((status ≡ 3) ⊎ (status ≡ 4))))
+
+-- ---- the words are refused
+
+-- nothing is read, and nothing written
+abbrev pub RefusedDoNothing : Type 0
+RefusedDoNothing = (asked : Asked) (s : Streams) → ProgramDoes asked s REFUSED → ReadsNothing s × WritesNothing s
+
+-- words that clap takes aren't refused
+abbrev pub RequestsAreTaken : Type 0
+RequestsAreTaken = (request : Request) (s : Streams) → ProgramDoes (Do request) s REFUSED → ⊥
+
+-- ---- something isn't right
+
+-- it judges: a check the history of the reader, a storm that of its clients, and an exploration all that its clients can do
+abbrev pub Judges : Request → Type 0
+Judges (Run options) = ⊥
+Judges (Storm options) = ⊤
+Judges (Explore options) = ⊤
+Judges Check = ⊤
+Judges CheckWhy = ⊤
+
+-- only such a request ends so
+abbrev pub OnlyJudgesFindWrong : Type 0
+OnlyJudgesFindWrong = (asked : Asked) (s : Streams) → ProgramDoes asked s NOT_RIGHT
+    → (request : Request) × (asked ≡ Do request) × Judges request
+
+-- ---- success
+
+-- the whole text of a run was written
+abbrev pub DoneRunsAnswer : Type 0
+DoneRunsAnswer = (options : Options) (s : Streams) → ProgramDoes (Do (Run options)) s DONE
+    → IfSome s.input (λ input. Writes s (console_text options.max_events input))
+
+-- a storm's script is right, and a text of it was written
+abbrev pub DoneStormsReport : Type 0
+DoneStormsReport = (options : Options) (s : Streams) → ProgramDoes (Do (Storm options)) s DONE
+    → IfSome s.input (λ input. (text : List ℕ) × IsStormText input text × Writes s text)
+
+-- nothing is wrong with any state that an exploration's clients can reach
+abbrev pub DoneExplorationsAreRight : Type 0
+DoneExplorationsAreRight = (options : ExploreOptions) (s : Streams) → ProgramDoes (Do (Explore options)) s DONE
+    → IfSome s.input (λ input. WritesRight options.history options input s.before s.after)
+
+-- the version's line was written
+abbrev pub DoneVersionsAreWritten : Type 0
+DoneVersionsAreWritten = (s : Streams) → ProgramDoes Version s DONE → Writes s version_line
+
+-- ---- no success
+
+-- a part of a run's text was written
+abbrev pub OtherRunsWriteAPart : Type 0
+OtherRunsWriteAPart = (options : Options) (s : Streams) (status : ℕ) → ProgramDoes (Do (Run options)) s status → status ≢ DONE
+    → IfSome s.input (λ input. WritesPartOf s (console_text options.max_events input))
+
+-- a part of what a check prints of the bytes was written, if not all of it
+abbrev pub OtherChecksWriteAPart : Type 0
+OtherChecksWriteAPart = (s : Streams) (status : ℕ) → ProgramDoes (Do Check) s status → status ≢ DONE
+    → IfSome s.input (λ bytes. (front : List ℕ) × BeginsFindingText bytes front × Writes s front)
+
+-- a part of the version's line was written
+abbrev pub OtherVersionsWriteAPart : Type 0
+OtherVersionsWriteAPart = (s : Streams) (status : ℕ) → ProgramDoes Version s status → status ≢ DONE → WritesPartOf s version_line

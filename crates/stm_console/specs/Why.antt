@@ -1,0 +1,46 @@
+-- What `check --why` prints.
+use Rattle.std.specs.Prelude.{◌≡◌, ◌⊎◌, ℕ, List, [], ◌∷◌, ◌++◌, codes, decimal, string_bytes}
+use Rattle.stm_terms.specs.Texts.{IsPrefixOf}
+use Rattle.stm_history.specs.declared.files.explanation.CallRefusal.{CallRefusal}
+use Rattle.stm_history.specs.declared.files.explanation.CallRefusal.TheVariants.{Submission, Delivery, Finish, Cancellation}
+use Rattle.stm_history.specs.declared.files.explanation.Explanation.{Explanation}
+use Rattle.stm_history.specs.declared.files.explanation.Explanation.TheVariants.{Expected, Refused, Unreadable}
+use Rattle.stm_history.specs.declared.files.fault.HistoryFault.TheVariants as fault
+use Rattle.stm_history.specs.Explanation.{TellsWhy}
+use Rattle.stm_commands.specs.Refusals.{submit_error_text, deliver_error_text, finish_error_text, cancel_error_text}
+use Rattle.stm_console.specs.declared.checking.Finding.{Finding}
+use Rattle.stm_console.specs.declared.checking.Finding.TheVariants.{Legal, BadHeader, BadLine, NotLegal}
+use Rattle.stm_console.specs.Checking.{IsFinding, finding_text}
+
+-- a refusal, as a run prints it
+abbrev pub call_refusal_text : CallRefusal → List ℕ
+call_refusal_text (Submission error) = submit_error_text error
+call_refusal_text (Delivery error) = deliver_error_text error
+call_refusal_text (Finish error) = finish_error_text error
+call_refusal_text (Cancellation error) = cancel_error_text error
+
+-- the line that is printed of an explanation
+abbrev pub explanation_text : Explanation → List ℕ
+explanation_text (Expected line) = codes "expected " ++ string_bytes line ++ codes "\n"
+explanation_text (Refused refusal) = call_refusal_text refusal
+explanation_text Unreadable = codes "unreadable\n"
+
+-- the text says why the bytes have this finding: nothing of a legal history; of any other the explanation of its first line
+-- that is not accepted, after `bad header` with the line's number
+abbrev pub IsWhyText : List ℕ → Finding → List ℕ → Type 0
+IsWhyText bytes (Legal events) text = text ≡ []
+IsWhyText bytes BadHeader text =
+    (line : ℕ) × (x : Explanation) × TellsWhy bytes fault.BadHeader line x
+    × (text ≡ codes "line " ++ decimal line ++ codes " " ++ explanation_text x)
+IsWhyText bytes (BadLine n) text =
+    (line : ℕ) × (x : Explanation) × TellsWhy bytes (fault.BadLine n) line x × (text ≡ explanation_text x)
+IsWhyText bytes (NotLegal n) text =
+    (line : ℕ) × (x : Explanation) × TellsWhy bytes (fault.NotLegal n) line x × (text ≡ explanation_text x)
+
+-- what is printed of the bytes with this finding: the finding, and why
+abbrev pub IsAnswerWhy : List ℕ → Finding → List ℕ → Type 0
+IsAnswerWhy bytes f text = IsFinding bytes f × ((why : List ℕ) × IsWhyText bytes f why × (text ≡ finding_text f ++ why))
+
+-- nothing, or a prefix of what is printed of the bytes
+abbrev pub BeginsAnswerWhy : List ℕ → List ℕ → Type 0
+BeginsAnswerWhy bytes front = (front ≡ []) ⊎ ((f : Finding) × (text : List ℕ) × IsAnswerWhy bytes f text × IsPrefixOf front text)

@@ -1,0 +1,57 @@
+//! A desk that goes on from where a history ends.
+
+ghost use Rattle.std.specs.Prelude.{◌≡◌, ◌≤◌, ◌↔◌, false, length, IsOk, IfOk};
+ghost use Rattle.stm_events.specs.Laws.{SubmittedAreWellTyped};
+ghost use Rattle.stm_events.specs.SlowDesk.{max_events as most_events};
+ghost use Rattle.stm_machine.specs.Machine.{StandsFor};
+ghost use Rattle.stm_machine.specs.SettleChoices.{some_out};
+ghost use Rattle.stm_desk.specs.Seen.{DeskQueueIsRight};
+
+use crate::desk::Desk;
+use stm_events::Event;
+use stm_machine::Machine;
+use stm_store::Table;
+use thiserror::Error;
+
+/// The history has more events than the desk may take.
+#[derive(Clone, Copy, Debug, PartialEq, Eq, Error)]
+#[error("the history has more events than the desk takes")]
+pub struct TooManyEvents;
+
+impl Desk {
+    /// A desk with this table and these events, on which each new and each stale block is queued, and none is out. It takes
+    /// `max_events` events, with those that are there. Nothing is allocated, and no block is evaluated.
+    ///
+    /// `stm_history::load_history` returns the three for the text of a history.
+    pub fn resume(
+        table: Table,
+        events: Vec<Event>,
+        mut machine: Machine,
+        max_events: u32,
+    ) -> Result<Desk, TooManyEvents>
+        // The history is legal, and the machine is what it leads to.
+        requires stands { StandsFor table events.items machine }
+        requires typed { SubmittedAreWellTyped events.items }
+        requires small { max_events ≤ most_events }
+        ensures fits { IsOk result ↔ (length events.items ≤ max_events) }
+        ensures table { IfOk result (λ d. d.table ≡ table) }
+        ensures limit { IfOk result (λ d. d.limit ≡ max_events) }
+        ensures history { IfOk result (λ d. d.history ≡ events.items) }
+        ensures queue { IfOk result (λ d. DeskQueueIsRight d) }
+        ensures none_out { IfOk result (λ d. some_out d.pending ≡ false) }
+    {
+        if events.len() > max_events as usize {
+            return Err(TooManyEvents);
+        }
+        machine.recall();
+        let desk = Desk {
+            table,
+            limit: max_events,
+            history: events,
+            machine,
+        };
+        // The queue is known to be right by this.
+        let _queue = desk.waiting();
+        Ok(desk)
+    }
+}

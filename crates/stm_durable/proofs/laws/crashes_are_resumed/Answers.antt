@@ -1,0 +1,5 @@
+use Rattle.stm_durable.proofs.Resumed.{all_or_none_is_resumed, first_are_resumed}
+use Rattle.stm_durable.proofs.laws.crashes_are_resumed.Goals as goal
+
+pub returns : goal.returns
+returns c = record { full = all_or_none_is_resumed; append = first_are_resumed }

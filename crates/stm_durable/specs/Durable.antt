@@ -1,0 +1,147 @@
+-- The file of a history: nothing before its first batch, and then exactly the text of docs/HISTORY.md.
+use Rattle.std.specs.Prelude.{◌≡◌, ◌≢◌, ◌⊎◌, ⊤, ◌≤◌, Option, Some, None, ℕ, Bool, true, false, List, [], ◌∷◌, ◌++◌, length, take, get_or}
+use Rattle.stm_store.specs.Tables.{Declared}
+use Rattle.stm_events.specs.declared.event.Event.{Event}
+use Rattle.stm_events.specs.SlowDesk.{max_cells, IsLegal}
+use Rattle.stm_event_lines.specs.Fits.{FitsTable}
+use Rattle.stm_history.specs.HistoryText.{event_lines, history_text}
+use Rattle.stm_history.specs.Judgement.{AreVariables, AreEvents}
+use Rattle.stm_event_lines.specs.Lines.{latest_format}
+use Rattle.stm_history.specs.Loading.{IsWholeHistory, TellsLoadFault}
+use Rattle.stm_history.specs.declared.files.loading.Loaded.{Loaded}
+use Rattle.stm_journal.specs.declared.sync_mode.SyncMode.{SyncMode}
+use Rattle.stm_journal.specs.declared.sync_mode.SyncMode.TheVariants.{Full, Append, Never}
+use Rattle.stm_journal.specs.Journal.{IsAtRest, most_batch}
+use Rattle.stm_journal.specs.Text.{recovered, dropped_count}
+use Rattle.stm_durable.specs.declared.resuming.OpenFault.{OpenFault}
+use Rattle.stm_durable.specs.declared.resuming.OpenFault.TheVariants.{Journal, History, Foreign}
+
+-- what the file has
+abbrev pub file_text : Bool → List Declared → List Event → List ℕ
+file_text false table history = []
+file_text true table history = history_text latest_format table history
+
+-- what a batch of events adds to it: the first one also the lines of the header and of the variables
+abbrev pub batch_text : Bool → List Declared → List Event → List ℕ
+batch_text false table events = history_text latest_format table events
+batch_text true table events = event_lines events
+
+-- How a batch is synced: the first one, in which no line is of use without those of all variables, with `Full`, if at all.
+abbrev pub batch_sync : SyncMode → Bool → SyncMode
+batch_sync Full begun = Full
+batch_sync Append true = Append
+batch_sync Append false = Full
+batch_sync Never begun = Never
+
+-- the file has exactly this history, and all of it is on the disk, if the journal syncs
+pub record KeepsHistory
+    {D : Type 0} (seen : D → List ℕ) (may_leave : D → List ℕ → Type 0) (device : D) (sync : SyncMode) (len : ℕ) (begun : Bool)
+    (table : List Declared) (history : List Event) : Type 0 where
+  pub at_rest : IsAtRest seen may_leave device sync len
+  pub text : seen device ≡ file_text begun table history
+  pub none : begun ≡ false → history ≡ []
+
+-- each event can be in a line over the table
+abbrev pub AreFit : List Declared → List Event → Type 0
+AreFit table [] = ⊤
+AreFit table (e ∷ es) = FitsTable table e × AreFit table es
+
+-- the table and the events can be in lines
+pub record FitLines (table : List Declared) (events : List Event) : Type 0 where
+  pub few : length table ≤ max_cells
+  pub variables : AreVariables table
+  pub fit : AreFit table events
+
+-- ---- crashes
+
+-- The file stands for the history, with all of these events or with none of them. Opening it drops no more bytes than a batch
+-- has.
+pub record HasAllEventsOrNone (begun : Bool) (table : List Declared) (history events : List Event) (file : List ℕ) : Type 0 where
+  pub lines : (recovered file ≡ file_text begun table history)
+      ⊎ (recovered file ≡ history_text latest_format table (history ++ events))
+  pub dropped : dropped_count file ≤ most_batch
+
+-- The file stands for the history and the first of these events, this many of them.
+pub record HasFirst (table : List Declared) (history events : List Event) (file : List ℕ) : Type 0 where
+  pub count : ℕ
+  pub lines : recovered file ≡ history_text latest_format table (history ++ take count events)
+  pub dropped : dropped_count file ≤ most_batch
+
+-- The file stands for the history, and perhaps for lines after it, about which nothing is said.
+pub record KeepsLines (begun : Bool) (table : List Declared) (history : List Event) (file : List ℕ) : Type 0 where
+  pub more : List ℕ
+  pub lines : recovered file ≡ file_text begun table history ++ more
+  pub dropped : dropped_count file ≤ most_batch
+
+-- what a crash may leave of a batch that is synced in this way, by whether the device fills with zeros
+abbrev pub LeavesBatch : SyncMode → Bool → Bool → List Declared → List Event → List Event → List ℕ → Type 0
+LeavesBatch Full zeros begun table history events file = HasAllEventsOrNone begun table history events file
+LeavesBatch Append true begun table history events file = HasFirst table history events file
+LeavesBatch Append false begun table history events file = KeepsLines begun table history file
+LeavesBatch Never zeros begun table history events file = ⊤
+
+-- what a crash may leave while events are recorded after a history, and what the file may be after an error
+abbrev pub LeavesHistory : SyncMode → Bool → Bool → List Declared → List Event → List Event → List ℕ → Type 0
+LeavesHistory sync zeros begun table history events file =
+    LeavesBatch (batch_sync sync begun) zeros begun table history events file
+
+-- ---- opening
+
+-- the file has what was loaded of it, or nothing yet
+abbrev pub HasLoaded :
+    {D : Type 0} → (D → List ℕ) → (D → List ℕ → Type 0) → D → SyncMode → ℕ → Bool → Option Loaded → Type 0
+HasLoaded seen may_leave device sync len begun None =
+    (begun ≡ false) × ((table : List Declared) → KeepsHistory seen may_leave device sync len false table [])
+HasLoaded seen may_leave device sync len begun (Some h) =
+    (begun ≡ true) × KeepsHistory seen may_leave device sync len true h.table h.events.items
+
+-- a front of a file was loaded: it is empty, or the text of a legal history
+abbrev pub LoadsFront : List ℕ → Option Loaded → Type 0
+LoadsFront front None = front ≡ []
+LoadsFront front (Some h) = IsWholeHistory latest_format front h.table h.events.items
+
+-- It is some other file: it has no line of a history, and more than one byte, of which the first isn't the one that a first
+-- batch has there until it is opened.
+pub record IsForeign (file : List ℕ) : Type 0 where
+  pub nothing : recovered file ≡ []
+  pub some : 2 ≤ length file
+  pub first : get_or file 0 0 ≢ 0
+
+-- why a file isn't opened
+abbrev pub TellsOpenFault : OpenFault → List ℕ → Type 0
+TellsOpenFault (Journal e) file = ⊤
+TellsOpenFault (History f) file = TellsLoadFault f (recovered file)
+TellsOpenFault Foreign file = IsForeign file
+
+-- the file was judged, and is left as it was
+abbrev pub IsOfFile : OpenFault → Type 0
+IsOfFile (Journal e) = ⊥
+IsOfFile (History f) = ⊤
+IsOfFile Foreign = ⊤
+
+-- ---- laws
+
+-- the history's events are in short lines, and so is each of these; with them it is legal
+pub record MayGoOn (table : List Declared) (history events : List Event) : Type 0 where
+  pub few : length table ≤ max_cells
+  pub variables : AreVariables table
+  pub old : AreEvents latest_format table history
+  pub new : AreEvents latest_format table events
+  pub legal : IsLegal table (history ++ events)
+
+-- What a crash leaves with `Full` is loaded again as the history from before, or as that with all events; of a file with no
+-- batch yet, as nothing.
+abbrev pub AllOrNoneIsResumed : Type 0
+AllOrNoneIsResumed =
+    (begun : Bool) (table : List Declared) (history events : List Event) (file : List ℕ)
+    → HasAllEventsOrNone begun table history events file → MayGoOn table history events
+    → (IsWholeHistory latest_format (recovered file) table history
+    ⊎ IsWholeHistory latest_format (recovered file) table (history ++ events))
+    ⊎ ((begun ≡ false) × (recovered file ≡ []))
+
+-- With `Append`, on a device that fills with zeros, it is loaded again as the history with some first events of the batch.
+abbrev pub FirstAreResumed : Type 0
+FirstAreResumed =
+    (table : List Declared) (history events : List Event) (file : List ℕ)
+    → HasFirst table history events file → MayGoOn table history events
+    → (count : ℕ) × IsWholeHistory latest_format (recovered file) table (history ++ take count events)

@@ -1,0 +1,9 @@
+//! What holds of files and crashes: each function's contract is a law of the definitions, and its body is empty.
+
+ghost use Rattle.stm_durable.specs.Durable.{AllOrNoneIsResumed, FirstAreResumed};
+
+/// What a crash leaves while events are recorded is loaded again.
+pub fn crashes_are_resumed()
+    ensures full { AllOrNoneIsResumed }
+    ensures append { FirstAreResumed }
+{}

@@ -1,0 +1,121 @@
+//! The file that keeps a desk's history: exactly the text of docs/HISTORY.md, batch after batch.
+//!
+//! When `record` returns `Ok`, the events are in the file and, as the `SyncMode` says, on the disk. A crash at any moment
+//! leaves a file that stands for the events from before the batch, with some or all of the batch (`specs/Durable`). `open_history` reads
+//! these, and the desk goes on from there.
+#![tactic(auto)]
+
+ghost use Rattle.std.specs.Prelude.{IfOk, IfSome};
+ghost use Rattle.stm_history.specs.Loading.{HasText};
+
+pub mod laws;
+mod recording;
+mod resuming;
+
+pub use recording::HistoryFile;
+pub use resuming::{OpenFault, Opened, open_history};
+
+// No program makes these calls by a script, and no contract says that they succeed.
+#[cfg(test)]
+mod tests {
+    use super::*;
+    use std::alloc::Global;
+    use std::test::Fail;
+    use stm_history::{HistoryFault, LoadFault};
+    use stm_journal::{Memory, SyncMode};
+    use stm_store::Seed;
+
+    /// A history of four lines.
+    const WHOLE: &[u8] = b"{\"format\":3,\"vars\":1}
+{\"init\":1,\"name\":\"x\",\"type\":\"Int\"}
+{\"block\":\"readTVar x\",\"client\":0,\"event\":\"submitted\",\"ticket\":1}
+{\"client\":0,\"event\":\"cancelled\",\"ticket\":1}
+";
+
+    /// The same, and the torn end of a batch that was not opened.
+    const TORN: &[u8] = b"{\"format\":3,\"vars\":1}
+{\"init\":1,\"name\":\"x\",\"type\":\"Int\"}
+{\"block\":\"readTVar x\",\"client\":0,\"event\":\"submitted\",\"ticket\":1}
+{\"client\":0,\"event\":\"cancelled\",\"ticket\":1}
+\0\"client\":0,\"event\":\"cancelled\",\"ticket\":1}
+";
+
+    const OLD: &[u8] = b"{\"format\":2,\"vars\":0}\n";
+
+    const ILLEGAL: &[u8] =
+        b"{\"format\":3,\"vars\":0}\n{\"client\":0,\"event\":\"cancelled\",\"ticket\":1}\n\0";
+
+    const OTHER: &[u8] = b"Dear diary\n";
+
+    fn opened(alloc: Global, bytes: &[u8]) -> Result<Opened<Memory>, Fail>
+        ensures { IfOk result (λ r. IfSome r.loaded (λ h. HasText h.table h.events.items)) }
+    {
+        let device = Memory::new(alloc, bytes.to_vec(alloc)?);
+        Ok(open_history(alloc, Seed::fixed(), device, SyncMode::Full).map_err(|e| e.1)?)
+    }
+
+    #[test]
+    fn a_torn_history_is_opened(rt: HostRuntime) -> Result<(), Fail> {
+        let opened = opened(rt.alloc(), TORN)?;
+        assert_eq!(rt; opened.file.journal.device.bytes(), WHOLE);
+        assert_eq!(rt; opened.found.dropped, 44usize);
+        match &opened.loaded {
+            Some(loaded) => {
+                assert_eq!(rt; loaded.events.len(), 2usize);
+            }
+            None => panic!(rt; "nothing was loaded"),
+        }
+        Ok(())
+    }
+
+    /// Why a file isn't opened, if it is left as it was.
+    fn fault_of(alloc: Global, bytes: &[u8]) -> Result<Option<OpenFault>, Fail> {
+        let device = Memory::new(alloc, bytes.to_vec(alloc)?);
+        match open_history(alloc, Seed::fixed(), device, SyncMode::Append) {
+            Err((device, fault)) => {
+                let same = device.bytes() == bytes;
+                Ok(if same { Some(fault) } else { None })
+            }
+            Ok(_opened) => Ok(None),
+        }
+    }
+
+    #[test]
+    fn other_files_are_left_alone(rt: HostRuntime) -> Result<(), Fail> {
+        assert_eq!(rt;
+            fault_of(rt.alloc(), OLD)?,
+            Some(OpenFault::History(LoadFault::OldFormat(2)))
+        );
+        assert_eq!(rt;
+            fault_of(rt.alloc(), ILLEGAL)?,
+            Some(OpenFault::History(LoadFault::Fault(HistoryFault::NotLegal(2))))
+        );
+        assert_eq!(rt; fault_of(rt.alloc(), OTHER)?, Some(OpenFault::Foreign));
+        Ok(())
+    }
+
+    /// What a new file has after the events of a history were recorded in it.
+    fn recorded(alloc: Global, sync: SyncMode) -> Result<Vec<u8>, Fail> {
+        let whole = opened(alloc, WHOLE)?;
+        let device = Memory::new(alloc, Vec::new(alloc));
+        let mut new = match open_history(alloc, Seed::fixed(), device, sync) {
+            Ok(new) => new,
+            Err(_) => return Ok(Vec::new(alloc)),
+        };
+        match (&whole.loaded, &new.loaded) {
+            (Some(loaded), None) => {
+                new.file.record(alloc, &loaded.table, &loaded.events)?;
+                Ok(new.file.journal.device.bytes().to_vec(alloc)?)
+            }
+            _ => Ok(Vec::new(alloc)),
+        }
+    }
+
+    #[test]
+    fn events_are_recorded(rt: HostRuntime) -> Result<(), Fail> {
+        assert_eq!(rt; recorded(rt.alloc(), SyncMode::Full)?.as_slice(), WHOLE);
+        assert_eq!(rt; recorded(rt.alloc(), SyncMode::Append)?.as_slice(), WHOLE);
+        assert_eq!(rt; recorded(rt.alloc(), SyncMode::Never)?.as_slice(), WHOLE);
+        Ok(())
+    }
+}

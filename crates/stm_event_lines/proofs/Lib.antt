@@ -1,0 +1,11 @@
+-- Lines that are written and read back.
+pub mod CheckedBlocks
+pub mod Exact
+pub mod FitsPushed
+pub mod ReadLoosely
+pub mod OneLines
+pub mod Ranges
+pub mod ReadsBack
+pub mod RoundTrips
+pub mod Sent
+pub mod Types

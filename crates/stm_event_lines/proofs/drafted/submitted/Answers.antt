@@ -1,0 +1,10 @@
+use Rattle.std.proofs.Common.{sym, ◌∙◌}
+use Rattle.stm_events.specs.declared.event.What.TheVariants.{Submitted}
+use Rattle.stm_event_lines.proofs.FitsPushed.{fits_by}
+use Rattle.stm_event_lines.proofs.Ranges.{own_text}
+use Rattle.stm_event_lines.proofs.drafted.submitted.Goals as goal
+
+pub returns-in-Some : goal.returns-in-Some
+returns-in-Some c =
+    fits_by c.event_by.result c.args.table.now (Submitted c.args.ticket c.in-Some.block) c.event_by.ensures
+    (c.ranges.ticket.fits, own_text c.args.table.now c.args.text.now c.in-Some.block (sym c.in_ok-block.ensures ∙ c.in-Some.is))

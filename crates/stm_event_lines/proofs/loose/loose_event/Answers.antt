@@ -1,0 +1,10 @@
+use Rattle.std.proofs.Common.{None, Err, ap}
+use Rattle.serde_json.specs.View.{view}
+use Rattle.stm_event_lines.proofs.ReadLoosely.{loose_same, loose_none}
+use Rattle.stm_event_lines.proofs.loose.loose_event.Goals as goal
+
+pub returns-in-Ok-clause-same : goal.returns-in-Ok-clause-same
+returns-in-Ok-clause-same c = loose_same c.event_of.result c.args.table.now c.args.line.now (view c.in-Ok.json) c.in-Ok.ensures.ok c.event_of.ensures.value
+
+pub returns-in-Err-Bad-clause-same : goal.returns-in-Err-Bad-clause-same
+returns-in-Err-Bad-clause-same c = λ d f l. loose_none c.args.table.now c.args.line.now d None (c.in-Err-Bad.ensures.bad (ap (λ x. Err x) c.in-Err-Bad.field-0-is)) f l

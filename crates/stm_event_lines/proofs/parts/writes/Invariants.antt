@@ -1,0 +1,12 @@
+use Rattle.std.proofs.Common.{◌≡◌, ◌++◌, drop}
+use Rattle.std.specs.Prelude.{option_map}
+use Rattle.serde_json.specs.View.{items_view}
+use Rattle.stm_event_lines.specs.Fields.{all_of, write_of}
+use Rattle.stm_event_lines.specs.Fits.{FitWrites}
+use Rattle.stm_event_lines.proofs.parts.writes.Given as goal
+
+abbrev pub invariant-loop-json : goal.invariant-loop-json
+invariant-loop-json l = record {
+  value : option_map (λ xs. l.found.items ++ xs) (all_of write_of (items_view (drop l.json-index l.list))) ≡ all_of write_of (items_view l.list);
+  fits : FitWrites l.found.items;
+}

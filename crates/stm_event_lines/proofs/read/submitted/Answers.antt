@@ -1,0 +1,9 @@
+use Rattle.std.proofs.Common.{◌≡◌, Some, sym, ◌∙◌}
+use Rattle.stm_event_lines.specs.Fields.{block_of_text}
+use Rattle.stm_event_lines.proofs.Ranges.{own_text}
+use Rattle.stm_event_lines.proofs.read.submitted.Goals as goal
+
+pub returns-in-Some-2-clause-fits : goal.returns-in-Some-2-clause-fits
+returns-in-Some-2-clause-fits c =
+    let e : block_of_text c.args.table.now c.in-Some.text.now ≡ Some c.in-Some-2.block = sym c.in_ok-block.ensures ∙ c.in-Some-2.is in
+    (c.ranges.ticket.fits, own_text c.args.table.now c.in-Some.text.now c.in-Some-2.block e)

@@ -1,0 +1,7 @@
+use Rattle.std.proofs.lemmas.Result.{on_ok_weaker}
+use Rattle.stm_event_lines.proofs.send.send_new.Goals as goal
+
+pub returns : goal.returns
+returns g c =
+    let w = g.S.Serializer.written in
+    on_ok_weaker c.end_seq.result (λ e. (w c.begin_seq.new.self, c.in_ok-begin_seq.ensures, (w c.send_type.new.out, c.in_ok-send_type.ensures, (w c.send_value.new.out, c.in_ok-send_value.ensures, e)))) c.end_seq.ensures

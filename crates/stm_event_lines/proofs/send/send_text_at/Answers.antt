@@ -1,0 +1,7 @@
+use Rattle.std.proofs.lemmas.Result.{on_ok_weaker}
+use Rattle.stm_event_lines.proofs.send.send_text_at.Goals as goal
+
+pub returns : goal.returns
+returns g c =
+    let w = g.S.Serializer.written in
+    on_ok_weaker c.str.result (λ e. (w c.key.new.self, c.in_ok-key.ensures, e)) c.str.ensures

@@ -1,0 +1,8 @@
+-- What a reader has to believe: the lines of a history, what can stand in them, and which block a text has.
+pub mod Fits
+pub mod Lines
+pub mod WholeBlocks
+-- The words inside.
+pub mod Fields
+pub mod Sending
+pub mod Variables

@@ -1,0 +1,49 @@
+//! The formats of histories: which are read, which is written, and what may stand in each.
+
+ghost use Rattle.std.specs.Prelude.{◌≡◌, ◌↔◌, IsTrue};
+ghost use Rattle.stm_event_lines.specs.Fits.{FitsFormat};
+ghost use Rattle.stm_event_lines.specs.Lines.{IsFormat, rule_of};
+
+use stm_events::event::{Event, What};
+use stm_events::staleness::StalenessRule;
+
+/// The first format, in which no block has a `catch`.
+pub const FIRST_FORMAT: u32 = 1;
+
+/// The format that is written, the latest of those that are read.
+pub const LATEST_FORMAT: u32 = 3;
+
+/// Whether histories of the format are read.
+pub fn is_format(format: u32) -> bool
+    ensures { IsTrue result ↔ IsFormat format }
+{
+    FIRST_FORMAT <= format && format <= LATEST_FORMAT
+}
+
+/// The first format whose histories go by what blocks changed.
+const FIRST_BY_CHANGES: u32 = 3;
+
+/// The rule by which the blocks of a history become stale.
+pub fn staleness_rule(format: u32) -> StalenessRule
+    ensures { result ≡ rule_of format }
+{
+    if format >= FIRST_BY_CHANGES {
+        StalenessRule::Changed
+    } else {
+        StalenessRule::Written
+    }
+}
+
+/// Whether the event may stand in a history of the format.
+pub fn fits_format(format: u32, event: &Event) -> bool
+    ensures { IsTrue result ↔ FitsFormat format event.now }
+{
+    match &event.what {
+        What::Submitted { block, .. } => {
+            format != FIRST_FORMAT || !block.block().action().has_catch()
+        }
+        What::Installed { .. } => true,
+        What::Finished { .. } => true,
+        What::Cancelled { .. } => true,
+    }
+}

@@ -1,0 +1,317 @@
+//! Lines read back.
+
+ghost use Rattle.std.specs.Prelude.{◌≡◌, ◌≢◌, ◌<◌, ◌^◌, ◌≤◌, ℕ, List, IfOk, IfSome, IsErrOf, IsUtf8, Some, None, codes, option_map, option_and_then, string_bytes};
+ghost use Rattle.serde_json.specs.Read.{read as read_text};
+ghost use Rattle.serde_json.specs.View.{view};
+ghost use Rattle.stm_events.specs.declared.event.Event.{Event as AnyEvent};
+ghost use Rattle.stm_store.specs.Tables.{Declared};
+ghost use Rattle.stm_event_lines.specs.Fields.{block_of_text};
+ghost use Rattle.stm_event_lines.specs.Fields.{event_of as event_meant, header_of as header_meant, what_of as what_meant, client_of, submitted_of, installed_of, finished_of, number_field, declared_from_json as variable_meant, type_in as type_meant, text_field};
+ghost use Rattle.stm_terms.specs.Limits.{most_refs};
+ghost use Rattle.stm_events.specs.SlowDesk.{max_clients};
+ghost use Rattle.stm_event_lines.specs.Fits.{Is32Bit, FitsTable, WhatFitsTable, FitsValue, FitsVariable};
+ghost use Rattle.stm_event_lines.specs.Lines.{IsFormat, event_line, header_line, variable_line};
+ghost use Rattle.stm_event_lines.specs.Variables.{declared};
+
+use crate::drafted::{block_of, drafted_event};
+use crate::fields::{number_at, text_at, type_of, value_at};
+use crate::formats::is_format;
+use crate::parts::numbers_at;
+use crate::variable::Variable;
+use crate::verdicts::verdict_at;
+use crate::write::{event_text, header_text, variable_text};
+use serde_json::Value as Json;
+use std::alloc::Global;
+use stm_events::event::{Event, What};
+use stm_events::shared_verdict::SharedVerdict;
+use stm_events::tickets::Tickets;
+use stm_store::Table;
+use stm_terms::kinds::Ty;
+use stm_terms::{NoMemory, is_name};
+
+/// Why a line is refused.
+#[derive(Clone, Copy, Debug, PartialEq, Eq, Drop)]
+pub enum LineError {
+    Bad,
+    NoMemory,
+}
+
+impl From<NoMemory> for LineError {
+    ghost use Rattle.std.specs.Prelude.{◌≡◌};
+    ghost use Rattle.stm_event_lines.specs.declared.read.LineError.TheVariants.{NoMemory};
+
+    ghost from_gives = { λ _ e. e ≡ NoMemory };
+
+    fn from(_refused: NoMemory) -> LineError {
+        LineError::NoMemory
+    }
+}
+
+/// The JSON value that the line is the text of.
+pub fn json_of(alloc: Global, line: &[u8]) -> Result<Json, LineError>
+    ensures ok { IfOk result (λ v. read_text line.now ≡ Some (view v)) }
+    ensures bad { IsErrOf result LineError.Bad → IsUtf8 line.now → read_text line.now ≡ None }
+{
+    match Json::from_slice(alloc, line) {
+        Ok(json) => Ok(json),
+        Err(e) if e.is_memory() => Err(LineError::NoMemory),
+        Err(_) => Err(LineError::Bad),
+    }
+}
+
+fn client_at(json: &Json) -> Option<u32>
+    ensures value { result ≡ client_of (view json.now) }
+    ensures fits { IfSome result (λ n. n < max_clients) }
+{
+    let client = number_at(json, "client")?;
+    if client < Event::MAX_CLIENTS {
+        Some(client)
+    } else {
+        None
+    }
+}
+
+fn submitted(
+    alloc: Global,
+    table: &Table,
+    json: &Json,
+    ticket: u32,
+) -> Result<Option<What>, NoMemory>
+    ensures value { IfOk result (λ o. o ≡ submitted_of table.now (view json.now) ticket) }
+    ensures fits { IfOk result (λ o. IfSome o (λ w. WhatFitsTable table.now w)) }
+{
+    let Some(text) = text_at(json, "block") else {
+        return Ok(None);
+    };
+    match block_of(alloc, table, text)? {
+        Some(block) => Ok(Some(What::Submitted { ticket, block })),
+        None => Ok(None),
+    }
+}
+
+fn installed(alloc: Global, json: &Json, ticket: u32) -> Result<Option<What>, NoMemory>
+    ensures value { IfOk result (λ o. o ≡ installed_of (view json.now) ticket) }
+    ensures fits { IfOk result (λ o. IfSome o (λ w. (t : List Declared) → WhatFitsTable t w)) }
+{
+    match verdict_at(alloc, json, "verdict")? {
+        Some(verdict) => Ok(Some(What::Installed {
+            ticket,
+            verdict: SharedVerdict::new(alloc, verdict)?,
+        })),
+        None => Ok(None),
+    }
+}
+
+fn finished(alloc: Global, json: &Json, ticket: u32) -> Result<Option<What>, NoMemory>
+    ensures value { IfOk result (λ o. o ≡ finished_of (view json.now) ticket) }
+    ensures fits { IfOk result (λ o. IfSome o (λ w. (t : List Declared) → WhatFitsTable t w)) }
+{
+    let Some(verdict) = verdict_at(alloc, json, "verdict")? else {
+        return Ok(None);
+    };
+    let Some(first_new) = number_at(json, "first_new") else {
+        return Ok(None);
+    };
+    let Some(stale) = numbers_at(alloc, json, "stale")? else {
+        return Ok(None);
+    };
+    Ok(Some(What::Finished {
+        ticket,
+        verdict: SharedVerdict::new(alloc, verdict)?,
+        first_new,
+        stale: Tickets::new(alloc, stale)?,
+    }))
+}
+
+fn what_of(
+    alloc: Global,
+    table: &Table,
+    json: &Json,
+    kind: &str,
+    ticket: u32,
+) -> Result<Option<What>, NoMemory>
+    ensures value { IfOk result (λ o. o ≡ what_meant table.now (view json.now) kind.now ticket) }
+    ensures fits { IfOk result (λ o. IfSome o (λ w. WhatFitsTable table.now w)) }
+{
+    if kind == "submitted" {
+        submitted(alloc, table, json, ticket)
+    } else if kind == "installed" {
+        installed(alloc, json, ticket)
+    } else if kind == "finished" {
+        finished(alloc, json, ticket)
+    } else if kind == "cancelled" {
+        Ok(Some(What::Cancelled { ticket }))
+    } else {
+        Ok(None)
+    }
+}
+
+/// The event that the value stands for, if it does.
+pub fn event_of(alloc: Global, table: &Table, json: &Json) -> Result<Option<Event>, NoMemory>
+    ensures value { IfOk result (λ o. o ≡ event_meant table.now (view json.now)) }
+    ensures fits { IfOk result (λ o. IfSome o (λ e. FitsTable table.now e)) }
+{
+    let Some(kind) = text_at(json, "event") else {
+        return Ok(None);
+    };
+    let Some(client) = client_at(json) else {
+        return Ok(None);
+    };
+    let Some(ticket) = number_at(json, "ticket") else {
+        return Ok(None);
+    };
+    match what_of(alloc, table, json, kind, ticket)? {
+        Some(what) => Ok(Some(Event { client, what })),
+        None => Ok(None),
+    }
+}
+
+/// The event that the value stands for, where the line is that event's.
+fn event_in(alloc: Global, table: &Table, json: &Json, line: &[u8]) -> Result<Event, LineError>
+    ensures ok { IfOk result (λ e. event_line e ≡ line.now) }
+    ensures fits { IfOk result (λ e. FitsTable table.now e) }
+    ensures bad { IsErrOf result LineError.Bad → (e : AnyEvent)
+        → event_meant table.now (view json.now) ≡ Some e → event_line e ≢ line.now }
+{
+    let Some(event) = event_of(alloc, table, json)? else {
+        return Err(LineError::Bad);
+    };
+    let again = event_text(alloc, &event)?;
+    if again.as_bytes() == line {
+        Ok(event)
+    } else {
+        Err(LineError::Bad)
+    }
+}
+
+/// Reads a line as `read_event` does, by its JSON value.
+fn read_by_value(alloc: Global, table: &Table, line: &[u8]) -> Result<Event, LineError>
+    ensures ok { IfOk result (λ e. event_line e ≡ line.now) }
+    ensures fits { IfOk result (λ e. FitsTable table.now e) }
+    ensures bad { IsErrOf result LineError.Bad → (e : AnyEvent) → FitsTable table.now e
+        → event_line e ≢ line.now }
+{
+    match json_of(alloc, line) {
+        Ok(json) => event_in(alloc, table, &json, line),
+        Err(e) => Err(e),
+    }
+}
+
+/// Reads a line, exactly where it is the text of an event that fits the table.
+pub fn read_event(alloc: Global, table: &Table, line: &[u8]) -> Result<Event, LineError>
+    ensures ok { IfOk result (λ e. event_line e ≡ line.now) }
+    ensures fits { IfOk result (λ e. FitsTable table.now e) }
+    ensures bad { IsErrOf result LineError.Bad → (e : AnyEvent) → FitsTable table.now e
+        → event_line e ≢ line.now }
+{
+    match drafted_event(alloc, table, line)? {
+        Some(event) => Ok(event),
+        None => read_by_value(alloc, table, line),
+    }
+}
+
+/// What the first line says: the format, and how many variables' lines follow.
+#[derive(Clone, Copy)]
+pub struct Header {
+    pub format: u32,
+    pub vars: u32,
+}
+
+/// What the value says as a first line, whether or not the format is read.
+pub fn header_of(json: &Json) -> Option<Header>
+    ensures value { result ≡ header_meant (view json.now) }
+    ensures fits { IfSome result (λ h. Is32Bit h.vars) }
+{
+    let format = number_at(json, "format")?;
+    let vars = number_at(json, "vars")?;
+    Some(Header { format, vars })
+}
+
+/// Reads the first line, exactly where it is one of a format that is read.
+pub fn read_header(alloc: Global, line: &[u8]) -> Result<Header, LineError>
+    ensures ok { IfOk result (λ h. IsFormat h.format × (header_line h.format h.vars ≡ line.now)) }
+    ensures small { IfOk result (λ h. Is32Bit h.vars) }
+    ensures bad { IsErrOf result LineError.Bad → (format n : ℕ) → IsFormat format → Is32Bit n
+        → header_line format n ≢ line.now }
+{
+    let json = match json_of(alloc, line) {
+        Ok(json) => json,
+        Err(e) => return Err(e),
+    };
+    let Some(header) = header_of(&json) else {
+        return Err(LineError::Bad);
+    };
+    let again = header_text(alloc, header.format, header.vars)?;
+    if is_format(header.format) && again.as_bytes() == line {
+        Ok(header)
+    } else {
+        Err(LineError::Bad)
+    }
+}
+
+/// The declared variable that the value stands for, if it does.
+pub fn variable_of(alloc: Global, json: &Json) -> Result<Option<Variable>, NoMemory>
+    ensures value { IfOk result (λ o. option_map declared o ≡ variable_meant (view json.now)) }
+    ensures fits { IfOk result (λ o.
+        IfSome o (λ v. (v.kind.refs ≤ most_refs) × FitsValue v.value)) }
+{
+    let Some(name) = text_at(json, "name") else {
+        return Ok(None);
+    };
+    let Some(kind) = kind_at(alloc, json)? else {
+        return Ok(None);
+    };
+    let Some(value) = value_at(json, "init") else {
+        return Ok(None);
+    };
+    Ok(Some(Variable {
+        name: String::from_str(alloc, name)?,
+        kind,
+        value,
+    }))
+}
+
+fn kind_at(alloc: Global, json: &Json) -> Result<Option<Ty>, NoMemory>
+    ensures value { IfOk result (λ o. o ≡ option_and_then type_meant
+        (text_field (codes "type") (view json.now))) }
+    ensures fits { IfOk result (λ o. IfSome o (λ t. t.refs ≤ most_refs)) }
+{
+    match text_at(json, "type") {
+        Some(text) => type_of(alloc, text),
+        None => Ok(None),
+    }
+}
+
+/// The variable that the value stands for, where it has a name and the line is that variable's.
+fn variable_in(alloc: Global, json: &Json, line: &[u8]) -> Result<Variable, LineError>
+    ensures ok { IfOk result (λ v. variable_line (declared v) ≡ line.now) }
+    ensures fits { IfOk result (λ v. FitsVariable (declared v)) }
+    ensures bad { IsErrOf result LineError.Bad → (d : Declared) → FitsVariable d
+        → variable_meant (view json.now) ≡ Some d → variable_line d ≢ line.now }
+{
+    let Some(variable) = variable_of(alloc, json)? else {
+        return Err(LineError::Bad);
+    };
+    if !is_name(&variable.name) {
+        return Err(LineError::Bad);
+    }
+    let again = variable_text(alloc, &variable.name, variable.kind, variable.value)?;
+    if again.as_bytes() == line {
+        Ok(variable)
+    } else {
+        Err(LineError::Bad)
+    }
+}
+
+/// Reads a variable's line, exactly where it is one.
+pub fn read_variable(alloc: Global, line: &[u8]) -> Result<Variable, LineError>
+    ensures ok { IfOk result (λ v. variable_line (declared v) ≡ line.now) }
+    ensures fits { IfOk result (λ v. FitsVariable (declared v)) }
+    ensures bad { IsErrOf result LineError.Bad → (d : Declared) → FitsVariable d
+        → variable_line d ≢ line.now }
+{
+    match json_of(alloc, line) {
+        Ok(json) => variable_in(alloc, &json, line),
+        Err(e) => Err(e),
+    }
+}

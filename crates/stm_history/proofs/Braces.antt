@@ -1,0 +1,31 @@
+-- Each line of a history begins with `{`.
+use Rattle.std.proofs.Common.{ℕ, refl}
+use Rattle.stm_store.specs.Tables.{Declared}
+use Rattle.stm_events.specs.declared.event.Event.{Event}
+use Rattle.stm_events.specs.declared.event.What.{What}
+use Rattle.stm_events.specs.declared.event.What.TheVariants.{Submitted, Installed, Finished, Cancelled}
+use Rattle.serde_json.specs.Written.{compact_text}
+use Rattle.stm_history.specs.FileLaws.{LinesBeginWithBraces}
+use Rattle.stm_event_lines.specs.Fits.{BeginsWithBrace}
+use Rattle.stm_event_lines.specs.Lines.{event_line, header_line, variable_line, what_data}
+
+what_brace : (client : ℕ) (what : What) → BeginsWithBrace (compact_text (what_data client what))
+what_brace client (Submitted ticket block) = (_, refl)
+what_brace client (Installed ticket verdict) = (_, refl)
+what_brace client (Finished ticket verdict first_new stale) = (_, refl)
+what_brace client (Cancelled ticket) = (_, refl)
+
+pub event_brace : (e : Event) → BeginsWithBrace (event_line e)
+unfolding event_line
+event_brace e = what_brace e.client e.what
+
+pub header_brace : (format n : ℕ) → BeginsWithBrace (header_line format n)
+unfolding header_line
+header_brace format n = (_, refl)
+
+pub variable_brace : (d : Declared) → BeginsWithBrace (variable_line d)
+unfolding variable_line
+variable_brace d = (_, refl)
+
+pub lines_begin_with_braces : LinesBeginWithBraces
+lines_begin_with_braces = (header_brace, variable_brace, event_brace)

@@ -1,0 +1,5 @@
+use Rattle.stm_history.proofs.Started.{reached_start}
+use Rattle.stm_history.proofs.files.check.Checker.new.Goals as goal
+
+pub returns-clause-reached : goal.returns-clause-reached
+returns-clause-reached c = reached_start c.args.keep _ c.new.ensures.items

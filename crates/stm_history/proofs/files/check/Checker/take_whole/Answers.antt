@@ -1,0 +1,12 @@
+use Rattle.std.proofs.Common.{arith}
+use Rattle.stm_history.proofs.Reading.{whole_stops, whole_taken, whole_tells}
+use Rattle.stm_history.proofs.files.check.Checker.take_whole.Goals as goal
+
+pub returns-in-Err-clause-fault : goal.returns-in-Err-clause-fault
+returns-in-Err-clause-fault c = whole_tells _ _ _ _ _ c.requires.plain c.requires.short c.replace-stage.ensures.value c.in-Err.ensures.refused
+
+pub returns-in-Err-clause-stops : goal.returns-in-Err-clause-stops
+returns-in-Err-clause-stops c = whole_stops _ _ _ _ _ c.requires.plain c.requires.short c.replace-stage.ensures.value c.in-Err.ensures.refused
+
+pub returns-in-Ok-clause-done : goal.returns-in-Ok-clause-done
+returns-in-Ok-clause-done c = whole_taken _ _ _ _ _ _ c.requires.plain c.requires.short c.replace-stage.ensures.value (omega arith) c.in-Ok.ensures.leads

@@ -1,7 +1,0 @@
-use Rattle.std.proofs.lemmas.Result.{on_ok_weaker}
-use Rattle.stm_history.proofs.lines.send.send_commits.Goals as goal
-
-pub returns : goal.returns
-returns g c =
-    let w = g.S.Serializer.written in
-    on_ok_weaker c.end_map.result (λ e. (w c.begin_map.new.self, c.in_ok-begin_map.ensures, (w c.key.new.self, w c.send_changes.new.out, c.in_ok-key.ensures, c.in_ok-send_changes.ensures, e))) c.end_map.ensures

@@ -1,7 +1,0 @@
-use Rattle.std.proofs.lemmas.Result.{on_ok_weaker}
-use Rattle.stm_history.proofs.lines.send.send_result_at.Goals as goal
-
-pub returns : goal.returns
-returns g c =
-    let w = g.S.Serializer.written in
-    on_ok_weaker c.send_value.result (λ e. (w c.key.new.self, c.in_ok-key.ensures, e)) c.send_value.ensures

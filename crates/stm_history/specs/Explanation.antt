@@ -1,0 +1,179 @@
+-- What is told of the line at which a checker stopped: the line that would be accepted there for the same call, or why a desk
+-- refuses the call.
+use Rattle.std.specs.Prelude.{◌≡◌, ◌⊎◌, ℕ, ◌<◌, Bool, nat_le, if◌then◌else◌, List, [], ◌∷◌, ◌++◌, length, Option, Some, None, option_map, option_and_then, string_bytes}
+use Rattle.stm_terms.specs.declared.verdicts.Verdict.{Verdict}
+use Rattle.stm_store.specs.Tables.{Declared}
+use Rattle.stm_events.specs.declared.errors.DeliverError.{DeliverError}
+use Rattle.stm_events.specs.declared.errors.DeliverError.TheVariants.{Gone, Already, HistoryFull}
+use Rattle.stm_events.specs.declared.event.Event.{Event}
+use Rattle.stm_events.specs.declared.event.What.{What}
+use Rattle.stm_events.specs.declared.event.What.TheVariants.{Submitted, Installed, Finished, Cancelled}
+use Rattle.stm_events.specs.declared.staleness.StalenessRule.{StalenessRule}
+use Rattle.stm_events.specs.Refusals.{submit_refused, cancel_refused, finish_refused}
+use Rattle.stm_events.specs.SlowDesk.{Waiter, Slow, AllowsBy, IsLegalBy, find_waiter, is_current, max_clients, max_events, stale_after, state_by, verdict_on, waking, without_waiter}
+use Rattle.stm_machine.specs.Machine.{event}
+use Rattle.stm_history.specs.declared.files.explanation.CallRefusal.{CallRefusal}
+use Rattle.stm_history.specs.declared.files.explanation.CallRefusal.TheVariants.{Submission, Delivery, Finish, Cancellation}
+use Rattle.stm_history.specs.declared.files.explanation.Explanation.{Explanation}
+use Rattle.stm_history.specs.declared.files.explanation.Explanation.TheVariants.{Expected, Refused, Unreadable}
+use Rattle.stm_history.specs.declared.files.fault.HistoryFault.{HistoryFault}
+use Rattle.stm_history.specs.Checking.{CheckerState, at_header, at_variables, at_events, Forbids, LeadsTo, LinesUpTo, NoFeed, strange}
+use Rattle.stm_event_lines.specs.Fits.{FitsTable, FitsFormat}
+use Rattle.stm_history.specs.Judgement.{IsIllegalBy, IsShort, next_line}
+use Rattle.stm_event_lines.specs.Lines.{event_line, rule_of}
+
+-- ---- calls
+-- the two are one call: a submission of one block, or a delivery, a finish or a cancellation under one ticket
+abbrev pub IsSameCall : What → What → Type 0
+IsSameCall (Submitted t b) (Submitted u c) = b ≡ c
+IsSameCall (Submitted t b) (Installed u w) = ⊥
+IsSameCall (Submitted t b) (Finished u w m k) = ⊥
+IsSameCall (Submitted t b) (Cancelled u) = ⊥
+IsSameCall (Installed t v) (Submitted u c) = ⊥
+IsSameCall (Installed t v) (Installed u w) = t ≡ u
+IsSameCall (Installed t v) (Finished u w m k) = ⊥
+IsSameCall (Installed t v) (Cancelled u) = ⊥
+IsSameCall (Finished t v n stale) (Submitted u c) = ⊥
+IsSameCall (Finished t v n stale) (Installed u w) = ⊥
+IsSameCall (Finished t v n stale) (Finished u w m k) = t ≡ u
+IsSameCall (Finished t v n stale) (Cancelled u) = ⊥
+IsSameCall (Cancelled t) (Submitted u c) = ⊥
+IsSameCall (Cancelled t) (Installed u w) = ⊥
+IsSameCall (Cancelled t) (Finished u w m k) = ⊥
+IsSameCall (Cancelled t) (Cancelled u) = t ≡ u
+
+-- the verdict on the present store of the block that waits under a ticket
+abbrev pub present_verdict : Slow → Option Waiter → Option Verdict
+present_verdict s o = option_and_then (λ w. verdict_on s.store w.block) o
+
+-- the finish of a ticket by this verdict, with the tickets that it makes stale
+abbrev pub finish_with : StalenessRule → Slow → ℕ → Verdict → What
+finish_with rule s t v = Finished t v (length s.store) (stale_after (waking rule s.store v) (without_waiter t s.waiters))
+
+-- the same call as it has to be on this state, if there is a verdict for it
+abbrev pub expected_what : StalenessRule → Slow → What → Option What
+expected_what rule s (Submitted t b) = Some (Submitted s.next b)
+expected_what rule s (Installed t v) = option_map (Installed t) (present_verdict s (find_waiter t s.waiters))
+expected_what rule s (Finished t v n stale) = option_map (finish_with rule s t) (present_verdict s (find_waiter t s.waiters))
+expected_what rule s (Cancelled t) = Some (Cancelled t)
+
+-- the first that holds: no block waits under the ticket, it is current, the history is full. A delivery of what a block does on
+-- the present store is never overtaken.
+abbrev pub deliver_first : Bool → Option Waiter → Option DeliverError
+deliver_first full None = Some Gone
+deliver_first full (Some w) = if is_current w then Some Already else if full then Some HistoryFull else None
+
+-- why nothing can be delivered to a ticket, if nothing can
+abbrev pub deliver_refused : Slow → Bool → ℕ → Option DeliverError
+deliver_refused s full t = deliver_first full (find_waiter t s.waiters)
+
+-- why a desk refuses the call, if it does; `full` says that the history has no room for an event
+abbrev pub call_refusal : Slow → Bool → What → Option CallRefusal
+call_refusal s full (Submitted t b) = option_map Submission (submit_refused s full b)
+call_refusal s full (Installed t v) = option_map Delivery (deliver_refused s full t)
+call_refusal s full (Finished t v n stale) = option_map Finish (finish_refused s full t)
+call_refusal s full (Cancelled t) = option_map Cancellation (cancel_refused s full t)
+
+-- the history has no room for an event
+abbrev pub is_history_full : List Event → Bool
+is_history_full history = nat_le max_events (length history)
+
+-- ---- explanations
+-- the event can stand in a line of a history in the format
+abbrev pub CanStand : ℕ → List Declared → Event → Type 0
+CanStand format table e = FitsTable table e × FitsFormat format e × IsShort (event_line e)
+
+-- this is what the call of the event has to be after the history, and then it is legal
+pub record IsCallDue (rule : StalenessRule) (table : List Declared) (history : List Event) (e : Event) (what : What) : Type 0 where
+  pub same : IsSameCall e.what what
+  pub expected : expected_what rule (state_by rule table history) e.what ≡ Some what
+  pub legal : IsLegalBy rule table (history ++ event e.client what ∷ [])
+
+-- what is told of a line that was read as this event: the line of what is due; why a desk refuses the call; nothing if what is
+-- due has no line in the format
+abbrev pub ExplainsEvent : ℕ → List Declared → List Event → Event → Explanation → Type 0
+ExplainsEvent format table history e (Expected text) =
+    (what : What) × IsCallDue (rule_of format) table history e what × CanStand format table (event e.client what)
+    × (string_bytes text ≡ event_line (event e.client what))
+ExplainsEvent format table history e (Refused r) =
+    call_refusal (state_by (rule_of format) table history) (is_history_full history) e.what ≡ Some r
+ExplainsEvent format table history e Unreadable =
+    (what : What) × IsCallDue (rule_of format) table history e what × (CanStand format table (event e.client what) → ⊥)
+
+-- the line was read as this event, though its JSON may be written in another way; the line of an event is read as that event
+abbrev pub IsReadAs : List Declared → List ℕ → Event → Type 0
+IsReadAs table line e = FitsTable table e × ((d : Event) → FitsTable table d → event_line d ≡ line → d ≡ e)
+
+-- the line is of no event
+abbrev pub IsOfNoEvent : List Declared → List ℕ → Type 0
+IsOfNoEvent table line = (d : Event) → FitsTable table d → event_line d ≡ line → ⊥
+
+-- what is told of a line at which it was not read as an event
+abbrev pub IsUnread : List Declared → List ℕ → Explanation → Type 0
+IsUnread table line (Expected text) = ⊥
+IsUnread table line (Refused r) = ⊥
+IsUnread table line Unreadable = IsOfNoEvent table line
+
+-- what is told of a header or of a variable: a line that leads on from here; no desk refuses one
+abbrev pub ExplainsHead : CheckerState → Explanation → Type 0
+ExplainsHead p (Expected text) = ((q : CheckerState) × LeadsTo p (string_bytes text) q) × IsShort (string_bytes text)
+ExplainsHead p (Refused r) = ⊥
+ExplainsHead p Unreadable = Unit {0}
+
+-- what is told of the line that is not accepted here
+abbrev pub Explains : CheckerState → List ℕ → Explanation → Type 0
+Explains at_header line x = ExplainsHead at_header x
+Explains (at_variables format n table) line x = ExplainsHead (at_variables format n table) x
+Explains (at_events format table history) line x =
+    ((e : Event) × IsReadAs table line e × ExplainsEvent format table history e x) ⊎ IsUnread table line x
+
+-- the number of the line that comes next, the first line being number 1
+abbrev pub line_after : CheckerState → ℕ
+line_after at_header = 1
+line_after (at_variables format n table) = next_line table []
+line_after (at_events format table history) = next_line table history
+
+-- the rest is empty, or begins with a line feed
+abbrev pub IsAfterLine : List ℕ → Type 0
+IsAfterLine rest = (rest ≡ []) ⊎ ((more : List ℕ) × (rest ≡ 10 ∷ more))
+
+-- Why the bytes are no legal history: whole lines of them led to this progress; then comes the line of this number, which has
+-- this fault; and this is told of it.
+pub record TellsWhy (bytes : List ℕ) (f : HistoryFault) (number : ℕ) (x : Explanation) : Type 0 where
+  pub progress : CheckerState
+  pub accepted : List ℕ
+  pub line : List ℕ
+  pub rest : List ℕ
+  pub text : bytes ≡ accepted ++ (line ++ rest)
+  pub lines : LinesUpTo progress accepted
+  pub one_line : NoFeed line
+  pub ends : IsAfterLine rest
+  pub fault : (f ≡ strange progress) ⊎ Forbids progress line f
+  pub counted : number ≡ line_after progress
+  pub why : Explains progress line x
+
+-- ---- laws
+-- two allowed events of the same call are equal, and the allowed one is what is expected
+abbrev pub OneEventOfACall : Type 0
+OneEventOfACall =
+    (rule : StalenessRule) (s : Slow) (a b : What) → AllowsBy rule s b → IsSameCall a b →
+    (expected_what rule s a ≡ Some b) × (AllowsBy rule s a → a ≡ b)
+
+-- a call that a desk refuses is no event that may follow
+abbrev pub RefusedAreIllegal : Type 0
+RefusedAreIllegal =
+    (rule : StalenessRule) (table : List Declared) (history : List Event) (client : ℕ) (a b : What) (r : CallRefusal) →
+    call_refusal (state_by rule table history) (is_history_full history) a ≡ Some r → IsSameCall a b →
+    IsIllegalBy rule table history (event client b)
+
+-- the line is expected
+abbrev pub IsExpectedText : Explanation → List ℕ → Type 0
+IsExpectedText (Expected s) text = string_bytes s ≡ text
+IsExpectedText (Refused r) text = ⊥
+IsExpectedText Unreadable text = ⊥
+
+-- with the line that is expected, the bytes up to it are the beginning of a legal history
+abbrev pub ExpectedLeadsOn : Type 0
+ExpectedLeadsOn =
+    (p : CheckerState) (line text : List ℕ) (x : Explanation) → Explains p line x → IsExpectedText x text →
+    (accepted : List ℕ) → LinesUpTo p accepted → (q : CheckerState) × LinesUpTo q (accepted ++ (text ++ 10 ∷ []))

@@ -1,0 +1,267 @@
+//! A line that is not accepted, explained at the stage before it.
+
+ghost use Rattle.std.specs.Prelude.{◌≡◌, ◌↔◌, ◌≤◌, ◌∷◌, [], ◌<◌, ℕ, List, IfOk, IsTrue, length, string_bytes};
+ghost use Rattle.stm_store.specs.Tables.{Declared};
+ghost use Rattle.stm_events.specs.declared.event.Event.{Event as AnyEvent};
+ghost use Rattle.stm_events.specs.SlowDesk.{max_clients};
+ghost use Rattle.stm_terms.specs.declared.verdicts.Verdict.TheVariants.{Throws};
+ghost use Rattle.stm_machine.specs.Machine.{event};
+ghost use Rattle.stm_history.specs.Checking.{CheckerState, at_header, at_variables, at_events, LeadsTo};
+ghost use Rattle.stm_history.specs.Expecting.{HasCheckedBlock, IsLineOf, IsShortOr};
+ghost use Rattle.stm_history.specs.Explanation.{Explains, ExplainsEvent, ExplainsHead};
+ghost use Rattle.stm_event_lines.specs.Fits.{FitsTable, FitsVerdict, FitNews, FitsVariable, FitsFormat, WhatFitsTable};
+ghost use Rattle.stm_history.specs.Following.{FollowsIn};
+ghost use Rattle.stm_event_lines.specs.Lines.{IsFormat, header_line, variable_line};
+ghost use Rattle.stm_history.specs.Stages.{IsStage, CountsWithinLimits};
+ghost use Rattle.stm_event_lines.specs.Variables.{declared};
+
+use crate::files::check::{MAX_CELLS, MAX_LINE, Stage};
+use crate::files::expecting::Expectation;
+use crate::files::explanation::Explanation;
+use crate::files::replayer::Replayer;
+use std::alloc::Global;
+use stm_event_lines::drafted::{
+    number_in_range, numbers_in_range, value_in_range, writes_in_range,
+};
+use stm_event_lines::formats::fits_format;
+use stm_event_lines::loose::{loose_event, loose_header, loose_variable};
+use stm_event_lines::variable::Variable;
+use stm_event_lines::write::{event_text, header_text, variable_text};
+use stm_events::event::{Event, What};
+use stm_events::shared_verdict::SharedVerdict;
+use stm_store::{DeclareError, Table};
+use stm_terms::NoMemory;
+use stm_terms::kinds::Ty;
+use stm_terms::values::{Fault, Value};
+use stm_terms::verdicts::Verdict;
+
+/// The most `TVar` of a type in a line.
+const MOST_REFS: u8 = 8;
+
+/// Whether the types of new variables can stand in a line. Their values can.
+fn fit_news(news: &[(Ty, Value)]) -> bool
+    ensures { IsTrue result ↔ FitNews news.now }
+{
+    match news.split_first() {
+        None => true,
+        Some((first, rest)) => {
+            value_in_range(first.1);
+            first.0.refs <= MOST_REFS && fit_news(rest)
+        }
+    }
+}
+
+// Any number that is thrown is in range, by its type.
+fn fault_in_range(fault: Fault)
+    ensures { FitsVerdict (Throws fault) }
+{
+    match fault {
+        Fault::Thrown(_) => {}
+        Fault::Overflow => {}
+    }
+}
+
+/// Whether the verdict can stand in a line.
+fn fits_verdict(verdict: &Verdict) -> bool
+    ensures { IsTrue result ↔ FitsVerdict verdict.now }
+{
+    match verdict {
+        Verdict::Commits {
+            writes,
+            news,
+            result,
+        } => {
+            writes_in_range(writes.as_slice());
+            value_in_range(*result);
+            fit_news(news.as_slice())
+        }
+        Verdict::Throws(fault) => {
+            fault_in_range(*fault);
+            true
+        }
+        Verdict::Blocks => true,
+    }
+}
+
+fn fits_shared(verdict: &SharedVerdict) -> bool
+    ensures { IsTrue result ↔ FitsVerdict verdict.now }
+{
+    let blocks = Verdict::Blocks;
+    fits_verdict(verdict.get(&blocks))
+}
+
+/// Whether what happens can stand in a line over a table to which its block was checked.
+fn fits_line(what: &What) -> bool
+    ensures { (T : List Declared) → HasCheckedBlock T what.now
+        → (IsTrue result ↔ WhatFitsTable T what.now) }
+{
+    match what {
+        What::Submitted { ticket, .. } => {
+            number_in_range(*ticket);
+            true
+        }
+        What::Installed { ticket, verdict } => {
+            number_in_range(*ticket);
+            fits_shared(verdict)
+        }
+        What::Finished {
+            ticket,
+            verdict,
+            first_new,
+            stale,
+        } => {
+            number_in_range(*ticket);
+            number_in_range(*first_new);
+            numbers_in_range(stale.as_slice());
+            fits_shared(verdict)
+        }
+        What::Cancelled { ticket } => {
+            number_in_range(*ticket);
+            true
+        }
+    }
+}
+
+/// The line, if it is no longer than one may be.
+fn short_line(text: String) -> Explanation
+    ensures { IsShortOr (string_bytes text) result }
+{
+    if text.len() <= MAX_LINE {
+        Explanation::Expected(text)
+    } else {
+        Explanation::Unreadable
+    }
+}
+
+/// The line of what is due, if it can stand in the format.
+fn due_line(alloc: Global, format: u32, event: &Event) -> Result<Explanation, NoMemory>
+    ensures { IfOk result (λ x. (T : List Declared) → event.now.client < max_clients
+        → HasCheckedBlock T event.now.what → IsLineOf format T event.now x) }
+{
+    if !fits_format(format, event) {
+        return Ok(Explanation::Unreadable);
+    }
+    if !fits_line(&event.what) {
+        return Ok(Explanation::Unreadable);
+    }
+    let text = event_text(alloc, event)?;
+    Ok(short_line(text))
+}
+
+/// The line of what is due from a client, if it can stand in the format.
+fn line_due(alloc: Global, format: u32, client: u32, what: What) -> Result<Explanation, NoMemory>
+    ensures { IfOk result (λ x. (T : List Declared) → client < max_clients
+        → HasCheckedBlock T what → IsLineOf format T (event client what) x) }
+{
+    let event = Event { client, what };
+    due_line(alloc, format, &event)
+}
+
+/// What is told of a line that was read as the event.
+fn explain_event(
+    alloc: Global,
+    format: u32,
+    replayer: &mut Replayer,
+    event: &Event,
+) -> Result<Explanation, NoMemory>
+    requires { (T : List Declared) × (H : List AnyEvent) × FollowsIn format T H replayer.old
+        × FitsTable T event.now }
+    ensures { IfOk result (λ x. (T : List Declared) (H : List AnyEvent)
+        → FollowsIn format T H replayer.old → FitsTable T event.now
+        → ExplainsEvent format T H event.now x) }
+{
+    match replayer.expect(event) {
+        Ok(Expectation::Refuses(refusal)) => Ok(Explanation::Refused(refusal)),
+        Ok(Expectation::Due(what)) => line_due(alloc, format, event.client, what),
+        Err(refused) => Err(refused),
+    }
+}
+
+/// What is told of a line among the events.
+fn explain_event_line(
+    alloc: Global,
+    format: u32,
+    table: &Table,
+    replayer: &mut Replayer,
+    line: &[u8],
+) -> Result<Explanation, NoMemory>
+    requires { (H : List AnyEvent) × FollowsIn format table.now H replayer.old }
+    ensures { IfOk result (λ x. (H : List AnyEvent) → FollowsIn format table.now H replayer.old
+        → Explains (at_events format table.now H) line.now x) }
+{
+    match loose_event(alloc, table, line)? {
+        Some(event) => explain_event(alloc, format, replayer, &event),
+        None => Ok(Explanation::Unreadable),
+    }
+}
+
+/// What is told of a line before the first.
+fn explain_header(alloc: Global, line: &[u8]) -> Result<Explanation, NoMemory>
+    ensures { IfOk result (λ x. ExplainsHead at_header x) }
+{
+    let Some(header) = loose_header(alloc, line)? else {
+        return Ok(Explanation::Unreadable);
+    };
+    if header.vars > MAX_CELLS {
+        return Ok(Explanation::Unreadable);
+    }
+    let text = header_text(alloc, header.format, header.vars)?;
+    Ok(short_line(text))
+}
+
+/// The line of a variable, if it is no longer than one may be.
+fn variable_written(alloc: Global, variable: &Variable) -> Result<Explanation, NoMemory>
+    ensures { IfOk result (λ x. IsShortOr (variable_line (declared variable.now)) x) }
+{
+    let text = variable_text(alloc, &variable.name, variable.kind, variable.value)?;
+    Ok(short_line(text))
+}
+
+/// The line of a variable that may be declared.
+fn variable_due(
+    alloc: Global,
+    table: &mut Table,
+    variable: &Variable,
+) -> Result<Explanation, NoMemory>
+    requires { FitsVariable (declared variable.now) }
+    ensures { IfOk result (λ x. (format n : ℕ)
+        → ExplainsHead (at_variables format n table.old) x) }
+{
+    match table.declare(&variable.name, variable.kind, variable.value) {
+        Ok(_) => variable_written(alloc, variable),
+        Err(DeclareError::NoMemory) => Err(NoMemory),
+        Err(_) => Ok(Explanation::Unreadable),
+    }
+}
+
+/// What is told of a line among the variables.
+fn explain_variable(alloc: Global, table: &mut Table, line: &[u8]) -> Result<Explanation, NoMemory>
+    ensures { IfOk result (λ x. (format n : ℕ)
+        → ExplainsHead (at_variables format n table.old) x) }
+{
+    match loose_variable(alloc, line)? {
+        Some(variable) => variable_due(alloc, table, &variable),
+        None => Ok(Explanation::Unreadable),
+    }
+}
+
+/// What is told of a line that is not accepted at this stage. Nothing is promised of the stage afterwards.
+pub(crate) fn explain(
+    alloc: Global,
+    stage: &mut Stage,
+    line: &[u8],
+) -> Result<Explanation, NoMemory>
+    requires { (p : CheckerState) × IsStage stage.old p }
+    ensures { IfOk result (λ x. (p : CheckerState) → IsStage stage.old p
+        → Explains p line.now x) }
+{
+    match stage {
+        Stage::Before { .. } => explain_header(alloc, line),
+        Stage::Declaring { table, .. } => explain_variable(alloc, table, line),
+        Stage::Running {
+            format,
+            table,
+            replayer,
+        } => explain_event_line(alloc, *format, table, replayer, line),
+    }
+}

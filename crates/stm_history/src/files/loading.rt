@@ -1,0 +1,182 @@
+//! Whole files, read to go on from.
+
+ghost use Rattle.std.specs.Prelude.{◌≡◌, [], true, ℕ, List, OnOk, IfOk, IfErr, IfSome, is_some};
+ghost use Rattle.stm_events.specs.Laws.{SubmittedAreWellTyped};
+ghost use Rattle.stm_events.specs.declared.event.Event.{Event as AnyEvent};
+ghost use Rattle.stm_event_lines.specs.Lines.{latest_format};
+ghost use Rattle.stm_history.specs.Loading.{HasText, IsWholeHistory, TellsLoadFault};
+ghost use Rattle.stm_history.specs.Stages.{keeps, Reached, IsLoaded};
+ghost use Rattle.stm_machine.specs.Machine.{StandsFor};
+
+use crate::files::check::{Checker, Stage, read_all};
+use crate::files::fault::HistoryFault;
+use crate::files::replayer::Replayer;
+use std::alloc::Global;
+use std::io::Read;
+use stm_event_lines::formats::LATEST_FORMAT;
+use stm_events::event::Event;
+use stm_machine::machine::Machine;
+use stm_store::{Seed, Table};
+
+/// Why a history isn't loaded.
+#[derive(Clone, Copy, Debug, PartialEq, Eq, Drop)]
+pub enum LoadFault {
+    /// It is no legal history: its first error.
+    Fault(HistoryFault),
+    /// It is legal, in an earlier format, whose rule of what becomes stale no desk goes by.
+    OldFormat(u32),
+}
+
+/// A legal history: its table, its events, and the machine that they lead to.
+pub struct Loaded {
+    pub table: Table,
+    pub events: Vec<Event>,
+    pub machine: Machine,
+}
+
+// Written out, and not derived, so that the proof of each owner calls it once.
+impl Drop for Loaded {
+    fn drop(self) {
+        let Loaded {
+            table: _,
+            events: _,
+            machine: _,
+        } = self;
+    }
+}
+
+impl Loaded {
+    /// The table, the events and the machine.
+    pub fn into_parts(self) -> (Table, Vec<Event>, Machine)
+        ensures table { result.0 ≡ self.table }
+        ensures events { result.1 ≡ self.events }
+        ensures machine { result.2 ≡ self.machine }
+    {
+        let Loaded {
+            table,
+            events,
+            machine,
+        } = self;
+        (table, events, machine)
+    }
+}
+
+/// What a replayer that keeps the events has come to.
+fn loaded_of(table: Table, replayer: Replayer) -> Loaded
+    requires { is_some replayer.kept ≡ true }
+    ensures table { result.table ≡ table }
+    ensures machine { result.machine ≡ replayer.machine }
+    ensures events { (H : List AnyEvent) → IfSome replayer.kept (λ events. events.items ≡ H)
+        → result.events.items ≡ H }
+{
+    let Replayer {
+        rule: _,
+        machine,
+        events: _,
+        copy: _,
+        kept,
+    } = replayer;
+    match kept {
+        Some(events) => Loaded {
+            table,
+            events,
+            machine,
+        },
+        None => unreachable!(),
+    }
+}
+
+impl Checker {
+    /// Judges, where the bytes end, whether they are a history to go on from.
+    fn may_load(&self) -> Result<(), LoadFault>
+        requires { (taken : List ℕ) × Reached self.now.stage self.now.whole self.now.line.items taken }
+        ensures ok { OnOk result (keeps self.now.stage ≡ true → IsLoaded self.now.stage) }
+        ensures line { OnOk result (self.now.line.items ≡ []) }
+        ensures fault { IfErr result (λ e. (taken : List ℕ)
+            → Reached self.now.stage self.now.whole self.now.line.items taken
+            → TellsLoadFault e taken) }
+    {
+        match self.end() {
+            Ok(_) => {}
+            Err(fault) => return Err(LoadFault::Fault(fault)),
+        }
+        match &self.stage {
+            Stage::Before { .. } => unreachable!(),
+            Stage::Declaring { .. } => unreachable!(),
+            Stage::Running { format, .. } => {
+                if *format == LATEST_FORMAT {
+                    Ok(())
+                } else {
+                    Err(LoadFault::OldFormat(*format))
+                }
+            }
+        }
+    }
+
+    /// The history that was read.
+    fn into_loaded(self) -> Loaded
+        requires reached { (taken : List ℕ) × Reached self.stage self.whole self.line.items taken }
+        requires stage { IsLoaded self.stage }
+        requires line { self.line.items ≡ [] }
+        ensures history { (taken : List ℕ) → Reached self.stage self.whole self.line.items taken
+            → IsWholeHistory latest_format taken result.table result.events.items }
+        ensures stands { StandsFor result.table result.events.items result.machine }
+    {
+        let Checker {
+            alloc: _,
+            seed: _,
+            stage,
+            whole: _,
+            line: _,
+        } = self;
+        match stage {
+            Stage::Before { .. } => unreachable!(),
+            Stage::Declaring { .. } => unreachable!(),
+            Stage::Running {
+                format: _,
+                table,
+                replayer,
+            } => loaded_of(table, replayer),
+        }
+    }
+}
+
+/// Takes the bytes that the reader has left, before any of which was taken, and judges them.
+fn load_rest<R: Read>(checker: &mut Checker, reader: &mut R) -> Result<(), LoadFault>
+    requires reached { Reached checker.old.stage checker.old.whole checker.old.line.items [] }
+    requires keeps { keeps checker.old.stage ≡ true }
+    ensures stage { OnOk result (IsLoaded checker.new.stage) }
+    ensures line { OnOk result (checker.new.line.items ≡ []) }
+    ensures done { OnOk result ((taken : List ℕ)
+        × IfSome (R.remaining reader.old) (λ bytes. bytes ≡ taken)
+        × Reached checker.new.stage checker.new.whole checker.new.line.items taken) }
+    ensures fault { IfErr result (λ e.
+        IfSome (R.remaining reader.old) (λ bytes. TellsLoadFault e bytes)) }
+{
+    match read_all(checker, reader) {
+        Ok(()) => checker.may_load(),
+        Err(fault) => Err(LoadFault::Fault(fault)),
+    }
+}
+
+/// Reads the text of a legal history of the latest format to its end, line by line, and keeps what it read. It judges as
+/// `check_history_with` does, and evaluates each installed verdict once. The names of variables are looked up under the seed.
+pub fn load_history<R: Read>(alloc: Global, seed: Seed, reader: &mut R) -> Result<Loaded, LoadFault>
+    // The bytes are the text of the history.
+    ensures ok { IfOk result (λ h. IfSome (R.remaining reader.old) (λ bytes.
+        IsWholeHistory latest_format bytes h.table h.events.items)) }
+    // It is legal, whatever the reader was, and the machine is what it leads to.
+    ensures stands { IfOk result (λ h. StandsFor h.table h.events.items h.machine) }
+    ensures text { IfOk result (λ h. HasText h.table h.events.items) }
+    // Each block that is submitted in it is well typed.
+    ensures typed { IfOk result (λ h. SubmittedAreWellTyped h.events.items) }
+    // Otherwise the first error of the bytes is reported, or their format.
+    ensures fault { IfErr result (λ e.
+        IfSome (R.remaining reader.old) (λ bytes. TellsLoadFault e bytes)) }
+{
+    let mut checker = Checker::new(alloc, seed, true);
+    match load_rest(&mut checker, reader) {
+        Ok(()) => Ok(checker.into_loaded()),
+        Err(fault) => Err(fault),
+    }
+}

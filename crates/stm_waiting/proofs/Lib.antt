@@ -1,0 +1,2 @@
+-- The waiting blocks as their places have them.
+pub mod Placed

@@ -1,0 +1,8 @@
+use Rattle.std.proofs.Common.{◌∙◌}
+use Rattle.stm_waiting.proofs.Placed.{kept_at_place}
+use Rattle.stm_waiting.proofs.waiting.WaitingBlocks.get.Goals as goal
+
+pub returns : goal.returns
+returns c =
+    rw (← c.self.view_is) (rw c.deref.ensures.value at c.held_at.ensures
+    ∙ kept_at_place c.args.ticket c.place_of.result c.self.inside.places.items c.self.inside.slots.items (rw c.deref-2.ensures.value at c.place_of.ensures))
