@@ -23,7 +23,7 @@ use Rattle.stm_store.specs.declared.table.DeclareError.{DeclareError}
 use Rattle.stm_store.specs.declared.table.DeclareError.TheVariants as declare
 use Rattle.stm_store.specs.Tables.{Declared, declared_cells, number_from, number_of, is_of, may_hold, declare_refusal}
 use Rattle.stm_events.specs.SlowDesk.{max_cells}
-use Rattle.stm_history.specs.Fits.{FitsInt, FitsValue}
+use Rattle.stm_event_lines.specs.Fits.{FitsInt, FitsValue}
 use Rattle.stm_history.specs.Judgement.{MayDeclare}
 use Rattle.stm_blocks.specs.declared.refusal.Refusal.{Refusal}
 use Rattle.stm_blocks.specs.DeclaredVariable.{reference_to, initial, unless_refused, with_initial_value, on_declaration, variable_of}

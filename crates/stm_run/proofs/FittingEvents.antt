@@ -4,7 +4,7 @@ use Rattle.stm_store.specs.Tables.{Declared}
 use Rattle.stm_events.specs.declared.event.Event.{Event}
 use Rattle.stm_events.specs.declared.event.What.{What}
 use Rattle.stm_events.specs.declared.event.What.TheVariants.{Submitted, Installed, Finished, Cancelled}
-use Rattle.stm_history.specs.Fits.{WhatFitsTable}
+use Rattle.stm_event_lines.specs.Fits.{WhatFitsTable}
 use Rattle.stm_run.specs.Console.{initial_console}
 use Rattle.stm_run.specs.ConsoleState.{present_desk}
 use Rattle.stm_run.specs.Laws.{state_after_lines}

@@ -14,8 +14,8 @@ use Rattle.stm_events.specs.declared.staleness.StalenessRule.TheVariants.{Change
 use Rattle.stm_events.specs.Laws.{AreRising, TicketsAreRight, TicketsRise, BlocksStay}
 use Rattle.stm_events.specs.SlowDesk.{Waiter, Slow, find_waiter, without_waiter, stale_after, becomes_stale, MayInstall, MayFinish, Allows, IsLegal, LegalFrom, initial_state, state, max_events, after}
 use Rattle.stm_events.proofs.Folds.{legal_split}
-use Rattle.stm_history.specs.Fits.{Is32Bit, FitNumbers}
-use Rattle.stm_history.specs.WholeBlocks.{CheckedAreWellTyped}
+use Rattle.stm_event_lines.specs.Fits.{Is32Bit, FitNumbers}
+use Rattle.stm_event_lines.specs.WholeBlocks.{CheckedAreWellTyped}
 use Rattle.stm_run.specs.Console.{initial_console}
 use Rattle.stm_run.specs.ConsoleState.{present_desk}
 use Rattle.stm_run.specs.Laws.{state_after_lines}

@@ -5,9 +5,9 @@ use Rattle.stm_events.specs.declared.event.Event.{Event}
 use Rattle.stm_events.specs.declared.event.What.{What}
 use Rattle.stm_events.specs.declared.event.What.TheVariants.{Submitted, Installed, Finished, Cancelled}
 use Rattle.stm_events.specs.SlowDesk as slow
-use Rattle.stm_history.specs.Fits.{Is32Bit, FitNumbers, FitsVerdict, FitsTable}
+use Rattle.stm_event_lines.specs.Fits.{Is32Bit, FitNumbers, FitsVerdict, FitsTable}
 use Rattle.stm_history.specs.Judgement.{AreVariables}
-use Rattle.stm_history.specs.WholeBlocks.{checked_block}
+use Rattle.stm_event_lines.specs.WholeBlocks.{checked_block}
 use Rattle.stm_desk.specs.Seen.{Seen}
 use Rattle.stm_run.specs.Console.{initial_console}
 use Rattle.stm_run.specs.ConsoleState.{present_desk}
