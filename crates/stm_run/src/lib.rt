@@ -11,6 +11,7 @@
 
 pub mod command;
 pub mod console;
+pub mod fitting_laws;
 pub mod laws;
 pub mod limit;
 pub mod reply;

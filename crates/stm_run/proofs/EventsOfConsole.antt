@@ -1,0 +1,294 @@
+-- Each event of a console's desk is of client 0, each block that was submitted is what its text checks to, and the declared
+-- variables can be in lines.
+use Rattle.std.proofs.Common.{◌≡◌, ℕ, zero, suc, ◌+◌, ◌-◌, List, [], ◌∷◌, ◌++◌, length, Option, Some, None, IfSome, Result, Ok, Err, refl, ap, sym, subst, arith, length-append, append_assoc, append-nil}
+use Rattle.std.specs.Prelude.{nat_lt}
+use Rattle.stm_terms.specs.Ast.{Act}
+use Rattle.stm_terms.specs.ParsedAst as raw
+use Rattle.stm_terms.specs.Changes.{cell_value}
+use Rattle.stm_terms.specs.Typing.{ActionType, uses_of}
+use Rattle.stm_terms.specs.Verdict.{verdict}
+use Rattle.stm_terms.specs.declared.verdicts.Verdict.{Verdict}
+use Rattle.stm_parse.specs.declared.fault.ParseFault.{ParseFault}
+use Rattle.stm_parse.specs.ParseFunction.{parsed_block}
+use Rattle.stm_check.specs.CheckFunction.{checked, table_kinds}
+use Rattle.stm_check.specs.TypedBlock.{Block}
+use Rattle.stm_check.specs.declared.fault.TypeFault.{TypeFault}
+use Rattle.stm_store.specs.Tables.{Declared}
+use Rattle.stm_queue.specs.Queue.{is_out}
+use Rattle.stm_events.specs.declared.errors.CancelError.{CancelError}
+use Rattle.stm_events.specs.declared.errors.DeliverError.{DeliverError}
+use Rattle.stm_events.specs.declared.errors.FinishError.{FinishError}
+use Rattle.stm_events.specs.declared.errors.SubmitError.{SubmitError}
+use Rattle.stm_events.specs.declared.event.Event.{Event}
+use Rattle.stm_events.specs.declared.event.What.{What}
+use Rattle.stm_events.specs.declared.event.What.TheVariants.{Submitted, Installed, Finished, Cancelled}
+use Rattle.stm_events.specs.SlowDesk.{Waiter, Slow, verdict_on, find_waiter, after}
+use Rattle.stm_events.specs.SlowSettle.{lowest, is_due, can_end, installing, ending, next_of, next_what, has_cells, settle_on, settling}
+use Rattle.stm_machine.specs.Machine.{event}
+use Rattle.stm_machine.specs.JobsHandedOut.{sent}
+use Rattle.stm_event_lines.specs.WholeBlocks.{BlockFault, NotParsed, NotTyped, given_type, block_if_typed, block_if_parsed, checked_block}
+use Rattle.stm_desk.specs.Refusals.{submit_refusal, finish_refusal, cancel_refusal}
+use Rattle.stm_desk.specs.Seen.{Seen, now, with_event}
+use Rattle.stm_desk.specs.Settling.{slow_settle, called_back, with_whats}
+use Rattle.stm_blocks.specs.declared.refusal.Refusal.{Refusal}
+use Rattle.stm_blocks.specs.CompiledBlock.{block_or_refusal, compiled_block}
+use Rattle.stm_blocks.specs.DeclaredVariable.{variable_of}
+use Rattle.stm_lines.specs.NumberArgument.{number_argument}
+use Rattle.stm_lines.specs.LineClass.{LineClass, TooLong, Silent, NotAscii, Words, line_class}
+use Rattle.stm_commands.specs.Arguments.{argument_refused}
+use Rattle.stm_commands.specs.Blocks.{submit_block_step, submit_text_step, submit_step}
+use Rattle.stm_commands.specs.Endings.{finish_verdict_step, finish_waiter_step, finish_ticket_step, finish_step, cancel_ticket_step, cancel_step, settle_desk_step, settle_step}
+use Rattle.stm_commands.specs.Evaluation.{Delivered, delivered_by, delivered_next, delivered_all, all_queued, eval_desk_step, eval_step}
+use Rattle.stm_commands.specs.Jobs.{max_jobs, taken, with_jobs, jobs_of, jobs_line, take_jobs_step, take_step, delivery_refusal, installed, delivery_step, job_at, deliver_job_step, deliver_step, queued_line, handed_back, handback_ticket_step, handback_step}
+use Rattle.stm_commands.specs.OpenDesk.{HandedOut, OpenDesk, on_desk}
+use Rattle.stm_commands.specs.Refusals.{refused}
+use Rattle.stm_run.specs.declared.command.Command.{Command}
+use Rattle.stm_run.specs.declared.command.Command.TheVariants.{Tvar, Submit, Take, Deliver, Handback, Eval, Finish, Cancel, Settle}
+use Rattle.stm_run.specs.declared.console.Console.{Console}
+use Rattle.stm_run.specs.declared.console.Console.TheVariants.{Declaring, Open}
+use Rattle.stm_run.specs.Console.{command_named, state_after, initial_console, desk_step, command_step, word_step, class_step, step}
+use Rattle.stm_run.specs.ConsoleState.{present_desk}
+use Rattle.stm_run.specs.Declaring.{declare_step, tvar_step}
+use Rattle.stm_run.specs.Fitting.{IsOfText, AreOfConsole, IsOfConsole, EventsAreOfConsole, VariablesFit, VariablesFitLines}
+use Rattle.stm_run.specs.Laws.{state_after_lines}
+use Rattle.stm_run.proofs.DeclaredVariables.{MayBeNext, may_be_next}
+use Rattle.stm_parse.specs.ParseFunction.{DeclarationAnswersAreRight}
+use Rattle.stm_history.specs.Judgement.{MayDeclare, AreVariablesFrom}
+use Rattle.stm_run.proofs.ArgumentCases.{either_has, number_has, nothing_has}
+use Rattle.std.specs.Prelude.{codes}
+
+-- ---- the block of a text has that text
+typed_text : (table : List Declared) (text : List ℕ) (block : Block) (o : Result (Act × ActionType) TypeFault) → block_if_typed table text o ≡ Ok block → block.text ≡ text
+typed_text table text block (Err f) e = cc
+typed_text table text block (Ok p) e =
+    let made : Block = record { tree = p.0; text = text; result_type = given_type p.1; uses = uses_of (table_kinds table) p.0 } in
+    let q : made ≡ block = cc in
+    ap (λ (b : Block). b.text) (sym q)
+
+parsed_text : (table : List Declared) (text : List ℕ) (block : Block) (o : Result raw.RawAct ParseFault) → block_if_parsed table text o ≡ Ok block → block.text ≡ text
+parsed_text table text block (Err f) e = cc
+parsed_text table text block (Ok tree) e = typed_text table text block (checked table text [] tree) e
+
+checked_text : (table : List Declared) (text : List ℕ) (block : Block) → checked_block table text ≡ Ok block → block.text ≡ text
+unfolding checked_block
+checked_text table text block e = parsed_text table text block (parsed_block text) e
+
+abbrev as_ok : Block → Result Block BlockFault
+as_ok b = Ok b
+
+checked_by : (block : Block) (o : Result Block BlockFault) → block_or_refusal o ≡ Ok block → o ≡ Ok block
+checked_by block (Ok b) e = let q : b ≡ block = cc in ap as_ok q
+checked_by block (Err (NotParsed x)) e = cc
+checked_by block (Err (NotTyped x)) e = cc
+
+compiled_of : (table : List Declared) (text : List ℕ) (block : Block) → compiled_block table text ≡ Ok block → checked_block table text ≡ Ok block
+unfolding compiled_block
+compiled_of table text block e = checked_by block (checked_block table text) e
+
+of_text : (table : List Declared) (text : List ℕ) (block : Block) → compiled_block table text ≡ Ok block → checked_block table block.text ≡ Ok block
+of_text table text block e =
+    let c = compiled_of table text block e in
+    subst (λ (t : List ℕ). checked_block table t ≡ Ok block) (sym (checked_text table text block c)) c
+
+-- ---- one event more
+event_more : (table : List Declared) (es : List Event) (what : What) → AreOfConsole table es → IsOfText table what → AreOfConsole table (es ++ event 0 what ∷ [])
+event_more table [] what h k = (refl, k, tt)
+event_more table (e ∷ es) what h k = (h.0, h.1, event_more table es what h.2 k)
+
+-- the events are of the console, and the variables can be in lines
+abbrev Holds : Seen → Type 0
+Holds d = IsOfConsole d × VariablesFit d.table
+
+more : (d : Seen) (what : What) → Holds d → IsOfText d.table what → Holds (with_event d (event 0 what))
+more d what k f = (event_more d.table d.history what k.0 f, k.1)
+
+submitted : (d : Seen) (block : Block) (o : Option SubmitError) → checked_block d.table block.text ≡ Ok block → Holds d → Holds (submit_block_step d block o).0
+submitted d block None f k = more d (Submitted (now d).next block) k f
+submitted d block (Some e) f k = k
+
+submits : (d : Seen) (r : Result Block Refusal) → ((b : Block) → r ≡ Ok b → checked_block d.table b.text ≡ Ok b) → Holds d → Holds (submit_text_step d r).0
+submits d (Ok b) h k = submitted d b (submit_refusal d b) (h b refl) k
+submits d (Err e) h k = k
+
+installs : (d : Seen) (t : ℕ) (o : Option Verdict) → Holds d → Holds (installed d t o)
+installs d t None k = k
+installs d t (Some v) k = more d (Installed t v) k tt
+
+delivered : (d : Seen) (j : HandedOut) (o : Option DeliverError) → Holds d → Holds (delivery_step d j o).0
+delivered d j None k = installs d j.ticket (verdict (cell_value j.store) j.block.tree) k
+delivered d j (Some e) k = k
+
+delivers : (d : Seen) (o : Option HandedOut) → Holds d → Holds (deliver_job_step d o).0
+delivers d None k = k
+delivers d (Some j) k = delivered d j (delivery_refusal d j) k
+
+hands_back : (d : Seen) (t : ℕ) → Holds d → Holds (handback_ticket_step d t).0
+hands_back d t k =
+    either_has (λ (p : Seen × List ℕ). Holds p.0) (is_out t d.pending) (handed_back d t, queued_line t) (d, refused (codes "NotOut")) k k
+
+takes : (d : OpenDesk) (n : ℕ) → Holds d.desk → Holds (take_jobs_step d n).0.desk
+takes d n k =
+    either_has (λ (p : OpenDesk × List ℕ). Holds p.0.desk) (nat_lt max_jobs (n + length d.jobs)) (d, refused (codes "JobsFull"))
+    (with_jobs d (taken d.desk n), jobs_line (length d.jobs + 1) (taken d.desk n)) k k
+
+evaluates_one : (d : Delivered) (j : HandedOut) (o : Option DeliverError) → Holds d.desk → Holds (delivered_by d j o).desk
+evaluates_one d j None k = installs d.desk j.ticket (verdict (cell_value j.store) j.block.tree) k
+evaluates_one d j (Some e) k = k
+
+evaluates_next : (d : Delivered) (j : HandedOut) (o : Option DeliverError) → Holds d.desk → Holds (delivered_next d j o).desk
+evaluates_next d j None k = evaluates_one d j (delivery_refusal d.desk j) k
+evaluates_next d j (Some e) k = k
+
+evaluates_all : (d : Delivered) (js : List HandedOut) → Holds d.desk → Holds (delivered_all d js).desk
+evaluates_all d [] k = k
+evaluates_all d (j ∷ js) k = evaluates_all (delivered_next d j d.stop) js (evaluates_next d j d.stop k)
+
+evaluates : (d : Seen) → Holds d → Holds (eval_desk_step d).0
+evaluates d k =
+    evaluates_all (record { desk = record d { pending = sent (length (all_queued d)) d.pending }; count = 0; stop = None }) (jobs_of (now d) (all_queued d)) k
+
+finished_by : (d : Seen) (t : ℕ) (o : Option Verdict) → Holds d → Holds (finish_verdict_step d t o).0
+finished_by d t None k = k
+finished_by d t (Some v) k = more d _ k tt
+
+finished_of : (d : Seen) (t : ℕ) (o : Option Waiter) → Holds d → Holds (finish_waiter_step d t o).0
+finished_of d t None k = k
+finished_of d t (Some w) k = finished_by d t (verdict_on (now d).store w.block) k
+
+finishes : (d : Seen) (t : ℕ) (o : Option FinishError) → Holds d → Holds (finish_ticket_step d t o).0
+finishes d t None k = finished_of d t (find_waiter t (now d).waiters) k
+finishes d t (Some e) k = k
+
+cancels : (d : Seen) (t : ℕ) (o : Option CancelError) → Holds d → Holds (cancel_ticket_step d t o).0
+cancels d t None k = more d (Cancelled t) k tt
+cancels d t (Some e) k = k
+
+-- ---- settling
+-- nothing is submitted
+abbrev IsQuiet : What → Type 0
+IsQuiet (Submitted ticket block) = ⊥
+IsQuiet (Installed ticket v) = Unit {0}
+IsQuiet (Finished ticket v first_new stale) = Unit {0}
+IsQuiet (Cancelled ticket) = Unit {0}
+
+abbrev AreQuiet : List What → Type 0
+AreQuiet [] = Unit {0}
+AreQuiet (x ∷ xs) = IsQuiet x × AreQuiet xs
+
+quiet_text : (table : List Declared) (what : What) → IsQuiet what → IsOfText table what
+quiet_text table (Submitted ticket block) q = absurd q
+quiet_text table (Installed ticket v) q = tt
+quiet_text table (Finished ticket v first_new stale) q = tt
+quiet_text table (Cancelled ticket) q = tt
+
+installing_quiet : (t : ℕ) (o : Option Verdict) → IfSome (installing t o) IsQuiet
+installing_quiet t None = tt
+installing_quiet t (Some v) = tt
+
+ending_quiet : (s : Slow) (t : ℕ) (o : Option Verdict) → IfSome (ending s t o) IsQuiet
+ending_quiet s t None = tt
+ending_quiet s t (Some v) = tt
+
+next_quiet : (s : Slow) (o e : Option Waiter) → IfSome (next_of s o e) IsQuiet
+next_quiet s (Some w) e = installing_quiet w.ticket (verdict_on s.store w.block)
+next_quiet s None (Some w) = ending_quiet s w.ticket (verdict_on s.store w.block)
+next_quiet s None None = tt
+
+settles_quiet : (room : ℕ) (s : Slow) (o : Option What) → ((x : Slow) → AreQuiet (settling room x)) → IfSome o IsQuiet → AreQuiet (settle_on (settling room) s o)
+settles_quiet room s None more q = tt
+settles_quiet room s (Some what) more q = either_has AreQuiet (has_cells s what) (what ∷ settling room (after s what)) [] (q, more (after s what)) tt
+
+settling_quiet : (room : ℕ) (s : Slow) → AreQuiet (settling room s)
+settling_quiet zero s = tt
+settling_quiet (suc room) s =
+    settles_quiet room s (next_what s) (settling_quiet room) (next_quiet s (lowest is_due s.waiters) (lowest (can_end s.store) s.waiters))
+
+whats_more : (d : Seen) (xs : List What) → AreQuiet xs → Holds d → Holds (with_whats d 0 xs)
+whats_more d [] q k = k
+whats_more d (x ∷ xs) q k = whats_more (with_event d (event 0 x)) xs q.1 (more d x k (quiet_text d.table x q.0))
+
+settles : (d : Seen) → Holds d → Holds (settle_desk_step d).0
+settles d k = whats_more d (slow_settle d) (settling_quiet (d.limit - length d.history) (now d)) k
+
+-- ---- commands and lines
+abbrev After : OpenDesk × List ℕ → Type 0
+After p = Holds p.0.desk
+
+desk_after : (d : OpenDesk) → Holds d.desk → (c : Command) (argument : List ℕ) → After (desk_step d c argument)
+unfolding submit_step take_step deliver_step handback_step eval_step finish_step cancel_step settle_step
+desk_after d k Submit argument = submits d.desk (compiled_block d.desk.table argument) (λ b e. of_text d.desk.table argument b e) k
+desk_after d k Take argument = number_has After (take_jobs_step d) (d, argument_refused) (number_argument argument) (λ n. takes d n k) k
+desk_after d k Deliver argument =
+    number_has After (λ n. on_desk d (deliver_job_step d.desk (job_at n d.jobs))) (d, argument_refused) (number_argument argument) (λ n. delivers d.desk (job_at n d.jobs) k) k
+desk_after d k Handback argument =
+    number_has After (λ t. on_desk d (handback_ticket_step d.desk t)) (d, argument_refused) (number_argument argument) (λ t. hands_back d.desk t k) k
+desk_after d k Eval argument = nothing_has After (on_desk d (eval_desk_step d.desk)) (d, argument_refused) argument (evaluates d.desk k) k
+desk_after d k Finish argument =
+    number_has After (λ t. on_desk d (finish_ticket_step d.desk t (finish_refusal d.desk t))) (d, argument_refused) (number_argument argument) (λ t. finishes d.desk t (finish_refusal d.desk t) k) k
+desk_after d k Cancel argument =
+    number_has After (λ t. on_desk d (cancel_ticket_step d.desk t (cancel_refusal d.desk t))) (d, argument_refused) (number_argument argument) (λ t. cancels d.desk t (cancel_refusal d.desk t) k) k
+desk_after d k Settle argument =
+    nothing_has After (on_desk d (settle_desk_step (called_back d.desk))) (d, argument_refused) argument (settles (called_back d.desk) k) k
+desk_after d k c argument = k
+
+-- before the desk is open there is no event
+abbrev IsKept : Console → Type 0
+IsKept (Declaring table limit) = VariablesFit table
+IsKept (Open d) = Holds d.desk
+
+present_kept : (s : Console) → IsKept s → Holds (present_desk s).desk
+present_kept (Declaring table limit) h = (tt, h)
+present_kept (Open d) h = h
+
+variables_push : (prior ds : List Declared) (d : Declared) → AreVariablesFrom prior ds → MayDeclare (prior ++ ds) d → AreVariablesFrom prior (ds ++ d ∷ [])
+variables_push prior [] d a m = (subst (λ (x : List Declared). MayDeclare x d) (append-nil prior) m, tt)
+variables_push prior (c ∷ ds) d a m =
+    (a.0, variables_push (prior ++ c ∷ []) ds d a.1 (subst (λ (x : List Declared). MayDeclare x d) (sym (append_assoc prior (c ∷ []) ds)) m))
+
+module _ (declarations : DeclarationAnswersAreRight) where
+  declare_kept : (table : List Declared) (limit : ℕ) (r : Result Declared Refusal) → VariablesFit table → ((d : Declared) → r ≡ Ok d → MayBeNext table d) → IsKept (declare_step table limit r).0
+  declare_kept table limit (Ok d) v next =
+      let n = next d refl in
+      let low = n.room in
+      (omega (arith, low, length-append table (d ∷ [])), variables_push [] table d v.1 n.may)
+  declare_kept table limit (Err e) v next = v
+
+  tvar_kept : (s : Console) → IsKept s → (argument : List ℕ) → IsKept (tvar_step s argument).0
+  tvar_kept (Declaring table limit) h argument = declare_kept table limit (variable_of table argument) h (λ d e. may_be_next declarations table argument d h.0 e)
+  tvar_kept (Open d) h argument = h
+
+  command_kept : (s : Console) → IsKept s → (c : Command) (argument : List ℕ) → IsKept (command_step s c argument).0
+  command_kept s h Tvar argument = tvar_kept s h argument
+  command_kept s h c argument = desk_after (present_desk s) (present_kept s h) c argument
+
+  word_kept : (s : Console) → IsKept s → (o : Option Command) (argument : List ℕ) → IsKept (word_step s o argument).0
+  word_kept s h (Some c) argument = command_kept s h c argument
+  word_kept s h None argument = h
+
+  class_kept : (s : Console) → IsKept s → (j : LineClass) → IsKept (class_step s j).0
+  class_kept s h TooLong = h
+  class_kept s h Silent = h
+  class_kept s h NotAscii = h
+  class_kept s h (Words word argument) = word_kept s h (command_named word) argument
+
+  line_kept : (s : Console) → IsKept s → (line : List ℕ) → IsKept (state_after s line)
+  unfolding step
+  line_kept s h line = class_kept s h (line_class line)
+
+  lines_kept : (s : Console) → IsKept s → (lines : List (List ℕ)) → IsKept (state_after_lines s lines)
+  lines_kept s h [] = h
+  lines_kept s h (line ∷ rest) = lines_kept (state_after s line) (line_kept s h line) rest
+
+  start_kept : (max_events : ℕ) → IsKept (initial_console max_events)
+  unfolding initial_console
+  start_kept max_events = (omega arith, tt)
+
+  all_kept : (max_events : ℕ) (before : List (List ℕ)) → Holds (present_desk (state_after_lines (initial_console max_events) before)).desk
+  all_kept max_events before =
+      present_kept (state_after_lines (initial_console max_events) before) (lines_kept (initial_console max_events) (start_kept max_events) before)
+
+  pub events_are_of_console : EventsAreOfConsole
+  events_are_of_console max_events before = (all_kept max_events before).0
+
+  pub variables_fit : VariablesFitLines
+  variables_fit max_events before = (all_kept max_events before).1

@@ -1,0 +1,104 @@
+-- The numbers of the events of a legal history are small.
+use Rattle.std.proofs.Common.{◌≡◌, ℕ, ◌≤◌, ◌<◌, ◌^◌, Bool, true, false, cond, List, [], ◌∷◌, ◌++◌, length, map, Option, Some, None, refl, sym, subst, arith, append_assoc, length-append}
+use Rattle.std.specs.Prelude.{IsSomeAnd, filter, nat_eq}
+use Rattle.std.proofs.lemmas.Bool.Decides.{nat_tests}
+use Rattle.stm_terms.specs.declared.verdicts.Verdict.{Verdict}
+use Rattle.stm_check.specs.Laws.{CheckNeverSaysNoMemory}
+use Rattle.stm_eval.specs.Laws.{VerdictIsStable}
+use Rattle.stm_parse.specs.ParseFunction.{BlockAnswersAreRight, DeclarationAnswersAreRight}
+use Rattle.stm_store.specs.Tables.{Declared}
+use Rattle.stm_events.specs.declared.event.Event.{Event}
+use Rattle.stm_events.specs.declared.event.What.{What}
+use Rattle.stm_events.specs.declared.event.What.TheVariants.{Submitted, Installed, Finished, Cancelled}
+use Rattle.stm_events.specs.declared.staleness.StalenessRule.TheVariants.{Changed}
+use Rattle.stm_events.specs.Laws.{AreRising, TicketsAreRight, TicketsRise, BlocksStay}
+use Rattle.stm_events.specs.SlowDesk.{Waiter, Slow, find_waiter, without_waiter, stale_after, becomes_stale, MayInstall, MayFinish, Allows, IsLegal, LegalFrom, initial_state, state, max_events, after}
+use Rattle.stm_events.proofs.Folds.{legal_split}
+use Rattle.stm_event_lines.specs.Fits.{Is32Bit, FitNumbers}
+use Rattle.stm_event_lines.specs.WholeBlocks.{CheckedAreWellTyped}
+use Rattle.stm_run.specs.Console.{initial_console}
+use Rattle.stm_run.specs.ConsoleState.{present_desk}
+use Rattle.stm_run.specs.Laws.{state_after_lines}
+use Rattle.stm_run.specs.Fitting.{AreNumbersSmall, HaveSmallNumbers, NumbersAreSmall}
+use Rattle.stm_run.proofs.ArgumentCases.{either_has}
+use Rattle.stm_run.proofs.ReachedConsole.{present_stands, reached}
+
+-- each ticket of these blocks is below n
+abbrev AreBelow : ℕ → List Waiter → Type 0
+AreBelow n [] = Unit {0}
+AreBelow n (w ∷ ws) = (w.ticket < n) × AreBelow n ws
+
+below : (n k : ℕ) (ws : List Waiter) → AreRising n k ws → AreBelow n ws
+below n k [] r = tt
+below n k (w ∷ ws) r = (r.1, below n w.ticket ws r.2)
+
+below_without : (n t : ℕ) (ws : List Waiter) → AreBelow n ws → AreBelow n (without_waiter t ws)
+below_without n t [] b = tt
+below_without n t (w ∷ ws) b = either_has (AreBelow n) (nat_eq t w.ticket) ws (w ∷ without_waiter t ws) b.1 (b.0, below_without n t ws b.1)
+
+small_of : (n t : ℕ) → t < n → n ≤ 2 ^ 21 → Is32Bit t
+small_of n t l s = omega (arith, l, s)
+
+stale_small : (n : ℕ) (woken : List ℕ) (ws : List Waiter) → n ≤ 2 ^ 21 → AreBelow n ws → FitNumbers (stale_after woken ws)
+stale_small n woken [] s b = tt
+stale_small n woken (w ∷ ws) s b =
+    let rest = stale_small n woken ws s b.1 in
+    either_has (λ (l : List Waiter). FitNumbers (map (λ x. x.ticket) l)) (becomes_stale woken w) (w ∷ filter (becomes_stale woken) ws) (filter (becomes_stale woken) ws)
+    (small_of n w.ticket b.0 s, rest) rest
+
+-- a block that waits under a ticket has it
+found_first : (n t : ℕ) (x : Waiter) (o : Option Waiter) (w : Waiter) (c : Bool) → nat_eq t x.ticket ≡ c → x.ticket < n → (o ≡ Some w → t < n) → cond c (Some x) o ≡ Some w → t < n
+found_first n t x o w true h l more q = let same : t ≡ x.ticket = grind (arith, nat_tests) in omega (arith, same, l)
+found_first n t x o w false h l more q = more q
+
+found_below : (n t : ℕ) (ws : List Waiter) (w : Waiter) → AreBelow n ws → find_waiter t ws ≡ Some w → t < n
+found_below n t [] w b e = absurd cc
+found_below n t (x ∷ xs) w b e = found_first n t x (find_waiter t xs) w (nat_eq t x.ticket) refl b.0 (found_below n t xs w b.1) e
+
+waits_below : (P : Waiter → Type 0) (n t : ℕ) (ws : List Waiter) (o : Option Waiter) → AreBelow n ws → find_waiter t ws ≡ o → IsSomeAnd o P → t < n
+waits_below P n t ws None b e h = absurd h
+waits_below P n t ws (Some w) b e h = found_below n t ws w b e
+
+finish_small : (s : Slow) (t n : ℕ) (v : Verdict) (stale : List ℕ) (o : Option Waiter) → s.next ≤ 2 ^ 21 → AreBelow s.next s.waiters → find_waiter t s.waiters ≡ o → IsSomeAnd o (λ w. MayFinish s t w v n stale)
+    → AreNumbersSmall (Finished t v n stale)
+finish_small s t n v stale None small b e h = absurd h
+finish_small s t n v stale (Some w) small b e h = (
+  small_of s.next t (found_below s.next t s.waiters w b e) small,
+  omega (arith, h.first_new, h.room),
+  subst FitNumbers (sym h.listed) (stale_small s.next _ (without_waiter t s.waiters) small (below_without s.next t s.waiters b)),
+)
+
+-- what may happen has small numbers
+allowed_small : (s : Slow) (what : What) → s.next ≤ 2 ^ 21 → AreBelow s.next s.waiters → Allows s what → AreNumbersSmall what
+allowed_small s (Submitted t block) small b a = omega (arith, a.0, small)
+allowed_small s (Installed t v) small b a = small_of s.next t (waits_below (λ w. MayInstall s w v) s.next t s.waiters (find_waiter t s.waiters) b refl a) small
+allowed_small s (Finished t v n stale) small b a = finish_small s t n v stale (find_waiter t s.waiters) small b refl a
+allowed_small s (Cancelled t) small b a = small_of s.next t (waits_below (λ w. Unit {0}) s.next t s.waiters (find_waiter t s.waiters) b refl a) small
+
+legal_front : (s : Slow) (xs ys : List Event) → LegalFrom s (xs ++ ys) → LegalFrom s xs
+legal_front s [] ys l = tt
+legal_front s (x ∷ xs) ys l = (l.0, legal_front (after s x.what) xs ys l.1)
+
+front_is_legal : (table : List Declared) (xs ys : List Event) → IsLegal table (xs ++ ys) → IsLegal table xs
+front_is_legal table xs ys l = record { each = legal_front (initial_state table) xs ys l.each; few = omega (arith, l.few, length-append xs ys) }
+
+module _ (rise : TicketsRise) where
+  rest_small : (table : List Declared) (front rest : List Event) → IsLegal table (front ++ rest) → HaveSmallNumbers rest
+  rest_small table front [] l = tt
+  rest_small table front (e ∷ es) l =
+      let parts : front ++ e ∷ es ≡ (front ++ e ∷ []) ++ es = sym (append_assoc front (e ∷ []) es) in
+      let whole : IsLegal table ((front ++ e ∷ []) ++ es) = subst (IsLegal table) parts l in
+      let one : IsLegal table (front ++ e ∷ []) = front_is_legal table (front ++ e ∷ []) es whole in
+      let before : IsLegal table front = front_is_legal table front (e ∷ es) l in
+      let tickets : TicketsAreRight (state table front) (length front) = rise Changed table front before in
+      let split = legal_split Changed (initial_state table) front e one.each in
+      let allowed : Allows (state table front) e.what = (split.allowed).what in
+      let few = before.few in
+      let small : (state table front).next ≤ 2 ^ 21 = omega (arith, tickets.few, few) in
+      (allowed_small (state table front) e.what small (below (state table front).next 0 (state table front).waiters tickets.rising) allowed, rest_small table (front ++ e ∷ []) es whole)
+
+  pub numbers_are_small : BlockAnswersAreRight → DeclarationAnswersAreRight → CheckNeverSaysNoMemory → VerdictIsStable → BlocksStay → CheckedAreWellTyped → NumbersAreSmall
+  numbers_are_small blocks declarations faults stable stay checked max_events low before =
+      let s = state_after_lines (initial_console max_events) before in
+      let stands = present_stands s (reached blocks declarations faults stable rise stay checked max_events low before) in
+      rest_small (present_desk s).desk.table [] (present_desk s).desk.history stands.legal

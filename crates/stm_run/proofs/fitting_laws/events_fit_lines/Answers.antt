@@ -1,0 +1,5 @@
+use Rattle.stm_run.proofs.FittingEvents.{events_fit}
+use Rattle.stm_run.proofs.fitting_laws.events_fit_lines.Goals as goal
+
+pub returns : goal.returns
+returns c = events_fit c.events_are_of_console.ensures c.numbers_are_small.ensures

@@ -1,0 +1,93 @@
+-- The events of a console's desk can be in lines of a history.
+use Rattle.std.specs.Prelude.{◌≡◌, ◌≤◌, ℕ, List, [], ◌∷◌, length, Ok, ⊤}
+use Rattle.stm_store.specs.Tables.{Declared}
+use Rattle.stm_events.specs.declared.event.Event.{Event}
+use Rattle.stm_events.specs.declared.event.What.{What}
+use Rattle.stm_events.specs.declared.event.What.TheVariants.{Submitted, Installed, Finished, Cancelled}
+use Rattle.stm_events.specs.SlowDesk as slow
+use Rattle.stm_event_lines.specs.Fits.{Is32Bit, FitNumbers, FitsVerdict, FitsTable}
+use Rattle.stm_history.specs.Judgement.{AreVariables}
+use Rattle.stm_event_lines.specs.WholeBlocks.{checked_block}
+use Rattle.stm_desk.specs.Seen.{Seen}
+use Rattle.stm_run.specs.Console.{initial_console}
+use Rattle.stm_run.specs.ConsoleState.{present_desk}
+use Rattle.stm_run.specs.Laws.{state_after_lines}
+
+-- ---- what they are of
+-- a block that is submitted is what its text checks to over the table
+abbrev pub IsOfText : List Declared → What → Type 0
+IsOfText table (Submitted ticket block) = checked_block table block.text ≡ Ok block
+IsOfText table (Installed ticket v) = ⊤
+IsOfText table (Finished ticket v first_new stale) = ⊤
+IsOfText table (Cancelled ticket) = ⊤
+
+-- each event is of client 0, and of a block of its text
+abbrev pub AreOfConsole : List Declared → List Event → Type 0
+AreOfConsole table [] = ⊤
+AreOfConsole table (e ∷ es) = (e.client ≡ 0) × IsOfText table e.what × AreOfConsole table es
+
+-- the events of a desk are
+abbrev pub IsOfConsole : Seen → Type 0
+IsOfConsole d = AreOfConsole d.table d.history
+
+-- whatever lines came before, and however many events the history may have
+abbrev pub EventsAreOfConsole : Type 0
+EventsAreOfConsole =
+    (max_events : ℕ) (before : List (List ℕ))
+    → IsOfConsole (present_desk (state_after_lines (initial_console max_events) before)).desk
+
+-- ---- their numbers
+-- the ticket, the first new variable and the stale tickets have at most 32 bits
+abbrev pub AreNumbersSmall : What → Type 0
+AreNumbersSmall (Submitted ticket block) = Is32Bit ticket
+AreNumbersSmall (Installed ticket v) = Is32Bit ticket
+AreNumbersSmall (Finished ticket v first_new stale) = Is32Bit ticket × Is32Bit first_new × FitNumbers stale
+AreNumbersSmall (Cancelled ticket) = Is32Bit ticket
+
+-- so of each event
+abbrev pub HaveSmallNumbers : List Event → Type 0
+HaveSmallNumbers [] = ⊤
+HaveSmallNumbers (e ∷ es) = AreNumbersSmall e.what × HaveSmallNumbers es
+
+-- whatever lines came before
+abbrev pub NumbersAreSmall : Type 0
+NumbersAreSmall =
+    (max_events : ℕ) → max_events ≤ slow.max_events → (before : List (List ℕ))
+    → HaveSmallNumbers (present_desk (state_after_lines (initial_console max_events) before)).desk.history
+
+-- ---- their lines
+-- the numbers and values of each verdict are in range
+abbrev pub VerdictFits : What → Type 0
+VerdictFits (Submitted ticket block) = ⊤
+VerdictFits (Installed ticket v) = FitsVerdict v
+VerdictFits (Finished ticket v first_new stale) = FitsVerdict v
+VerdictFits (Cancelled ticket) = ⊤
+
+-- so of each event
+abbrev pub VerdictsFit : List Event → Type 0
+VerdictsFit [] = ⊤
+VerdictsFit (e ∷ es) = VerdictFits e.what × VerdictsFit es
+
+-- each event can be in a line over the table
+abbrev pub AreFit : List Declared → List Event → Type 0
+AreFit table [] = ⊤
+AreFit table (e ∷ es) = FitsTable table e × AreFit table es
+
+-- Whatever lines came before, each event of the desk can be in a line of a history, if the values of its verdict are in range.
+abbrev pub EventsFitLines : Type 0
+EventsFitLines =
+    (max_events : ℕ) → max_events ≤ slow.max_events → (before : List (List ℕ))
+    → VerdictsFit (present_desk (state_after_lines (initial_console max_events) before)).desk.history
+    → AreFit (present_desk (state_after_lines (initial_console max_events) before)).desk.table
+    (present_desk (state_after_lines (initial_console max_events) before)).desk.history
+
+-- ---- the declared variables
+-- they can be in lines, and are no more than a table has
+abbrev pub VariablesFit : List Declared → Type 0
+VariablesFit table = (length table ≤ slow.max_cells) × AreVariables table
+
+-- Whatever lines came before, the desk's variables may be declared in this order, and can be in lines.
+abbrev pub VariablesFitLines : Type 0
+VariablesFitLines =
+    (max_events : ℕ) (before : List (List ℕ))
+    → VariablesFit (present_desk (state_after_lines (initial_console max_events) before)).desk.table

@@ -1,0 +1,40 @@
+//! What holds of the events of a console's desk, so that they can be in lines of a history: each function's contract is a law.
+
+ghost use Rattle.stm_run.specs.Fitting.{EventsAreOfConsole, EventsFitLines, NumbersAreSmall, VariablesFitLines};
+
+/// Each event of the desk is of client 0, and each block that was submitted is what its text checks to over the declared
+/// variables, whatever lines came before. So when a history is read again, its blocks are the same.
+pub fn events_are_of_console()
+    ensures { EventsAreOfConsole }
+{
+    stm_parse::laws::answers_are_right();
+}
+
+/// The declared variables can be in lines of a history, in their order, whatever lines came before.
+pub fn variables_fit_lines()
+    ensures { VariablesFitLines }
+{
+    stm_parse::laws::answers_are_right();
+}
+
+/// The tickets of the events, the numbers of their first new variables and the tickets that they make stale have at most 32
+/// bits, whatever lines came before.
+pub fn numbers_are_small()
+    ensures { NumbersAreSmall }
+{
+    stm_parse::laws::answers_are_right();
+    stm_check::laws::check_never_says_no_memory();
+    stm_eval::laws::verdict_is_stable();
+    stm_events::laws::tickets_rise();
+    stm_events::laws::blocks_stay();
+    stm_history::files::laws::checked_are_well_typed();
+}
+
+/// Each event of the desk can be in a line of a history, whatever lines came before, if the values of its verdict are in the
+/// range of the program's types, which no law says.
+pub fn events_fit_lines()
+    ensures { EventsFitLines }
+{
+    events_are_of_console();
+    numbers_are_small();
+}
