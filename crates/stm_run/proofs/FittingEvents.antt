@@ -8,15 +8,15 @@ use Rattle.stm_event_lines.specs.Fits.{WhatFitsTable}
 use Rattle.stm_run.specs.Console.{initial_console}
 use Rattle.stm_run.specs.ConsoleState.{present_desk}
 use Rattle.stm_run.specs.Laws.{state_after_lines}
-use Rattle.stm_run.specs.Fitting.{IsOfText, AreOfConsole, EventsAreOfConsole, AreNumbersSmall, HaveSmallNumbers, NumbersAreSmall, VerdictFits, VerdictsFit, AreFit, EventsFitLines}
+use Rattle.stm_run.specs.Fitting.{IsOfText, AreOfConsole, EventsAreOfConsole, AreNumbersSmall, HaveSmallNumbers, NumbersAreSmall, IsVerdictInRange, AreVerdictsInRange, EventsFitTable, EventsFitLines}
 
-what_fits : (table : List Declared) (what : What) → IsOfText table what → AreNumbersSmall what → VerdictFits what → WhatFitsTable table what
+what_fits : (table : List Declared) (what : What) → IsOfText table what → AreNumbersSmall what → IsVerdictInRange what → WhatFitsTable table what
 what_fits table (Submitted ticket block) t n v = (n, t)
 what_fits table (Installed ticket w) t n v = (n, v)
 what_fits table (Finished ticket w first_new stale) t n v = (n.0, v, n.1, n.2)
 what_fits table (Cancelled ticket) t n v = n
 
-all_fit : (table : List Declared) (es : List Event) → AreOfConsole table es → HaveSmallNumbers es → VerdictsFit es → AreFit table es
+all_fit : (table : List Declared) (es : List Event) → AreOfConsole table es → HaveSmallNumbers es → AreVerdictsInRange es → EventsFitTable table es
 all_fit table [] t n v = tt
 all_fit table (e ∷ es) t n v = ((omega (arith, t.0), what_fits table e.what t.1 n.0 v.0), all_fit table es t.2 n.1 v.1)
 

@@ -57,28 +57,28 @@ NumbersAreSmall =
 
 -- ---- their lines
 -- the numbers and values of each verdict are in range
-abbrev pub VerdictFits : What → Type 0
-VerdictFits (Submitted ticket block) = ⊤
-VerdictFits (Installed ticket v) = FitsVerdict v
-VerdictFits (Finished ticket v first_new stale) = FitsVerdict v
-VerdictFits (Cancelled ticket) = ⊤
+abbrev pub IsVerdictInRange : What → Type 0
+IsVerdictInRange (Submitted ticket block) = ⊤
+IsVerdictInRange (Installed ticket v) = FitsVerdict v
+IsVerdictInRange (Finished ticket v first_new stale) = FitsVerdict v
+IsVerdictInRange (Cancelled ticket) = ⊤
 
 -- so of each event
-abbrev pub VerdictsFit : List Event → Type 0
-VerdictsFit [] = ⊤
-VerdictsFit (e ∷ es) = VerdictFits e.what × VerdictsFit es
+abbrev pub AreVerdictsInRange : List Event → Type 0
+AreVerdictsInRange [] = ⊤
+AreVerdictsInRange (e ∷ es) = IsVerdictInRange e.what × AreVerdictsInRange es
 
 -- each event can be in a line over the table
-abbrev pub AreFit : List Declared → List Event → Type 0
-AreFit table [] = ⊤
-AreFit table (e ∷ es) = FitsTable table e × AreFit table es
+abbrev pub EventsFitTable : List Declared → List Event → Type 0
+EventsFitTable table [] = ⊤
+EventsFitTable table (e ∷ es) = FitsTable table e × EventsFitTable table es
 
 -- Whatever lines came before, each event of the desk can be in a line of a history, if the values of its verdict are in range.
 abbrev pub EventsFitLines : Type 0
 EventsFitLines =
     (max_events : ℕ) → max_events ≤ slow.max_events → (before : List (List ℕ))
-    → VerdictsFit (present_desk (state_after_lines (initial_console max_events) before)).desk.history
-    → AreFit (present_desk (state_after_lines (initial_console max_events) before)).desk.table
+    → AreVerdictsInRange (present_desk (state_after_lines (initial_console max_events) before)).desk.history
+    → EventsFitTable (present_desk (state_after_lines (initial_console max_events) before)).desk.table
     (present_desk (state_after_lines (initial_console max_events) before)).desk.history
 
 -- ---- the declared variables
