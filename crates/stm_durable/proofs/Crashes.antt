@@ -44,7 +44,7 @@ rests_after (Err e) seen may_leave device s t begun len is rests = tt
 -- ---- what a batch leaves
 
 all_or_none : (begun : Bool) (table : List Declared) (history events : List Event) (text batch c : List ℕ) → text ≡ file_text begun table history
-    → text ++ batch ≡ history_text latest_format table (history ++ events) → length batch ≤ most_batch → journal.HasAllEventsOrNone text batch c → HasAllEventsOrNone begun table history events c
+    → text ++ batch ≡ history_text latest_format table (history ++ events) → length batch ≤ most_batch → journal.HasAllOrNone text batch c → HasAllEventsOrNone begun table history events c
 all_or_none begun table history events text batch c is longer small h = record {
   lines = ⊎_elim (λ before. inl (before ∙ is)) (λ after. inr (after ∙ longer)) h.lines;
   dropped = omega (arith, h.dropped, small);
