@@ -6,13 +6,13 @@ use Rattle.stm_lines.specs.Lines.{drop_return, lines_of, whole_lines_of, NoLineF
 use Rattle.stm_terms.specs.Texts.{IsPrefixOf}
 use Rattle.stm_run.specs.Streaming.{Continues, rest_text, whole_rest_text}
 use Rattle.stm_run.specs.declared.console.Console.{Console}
-use Rattle.stm_run.specs.Console.{answer_to, state_after, answers_to, answer_to_class, state_after_class}
+use Rattle.stm_run.specs.Console.{answer_to, state_after, answers_to, class_step, step}
 
 -- of a line no more counts than how it is judged
 answers_to-judged : (s t : Console) (line other : List ℕ) (more : List (List ℕ)) → line_class line ≡ line_class other → t ≡ state_after s line
     → answers_to s (other ∷ more) ≡ answer_to s line ++ answers_to t more
-unfolding answer_to state_after
-answers_to-judged s t line other more e n = ap (λ j. answer_to_class s j ++ answers_to (state_after_class s j) more) (sym e) ∙ ap (λ u. answer_to s line ++ answers_to u more) (sym n)
+unfolding step
+answers_to-judged s t line other more e n = ap (λ j. (class_step s j).1 ++ answers_to (class_step s j).0 more) (sym e) ∙ ap (λ u. answer_to s line ++ answers_to u more) (sym n)
 
 pub Continues-nil : (s : Console) → Continues s s [] []
 Continues-nil s = record { all = λ more. refl; whole = λ more. refl }
