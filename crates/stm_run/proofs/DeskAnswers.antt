@@ -6,7 +6,7 @@ use Rattle.stm_terms.specs.declared.verdicts.Verdict.{Verdict}
 use Rattle.stm_terms.specs.declared.verdicts.Verdict.TheVariants.{Commits, Throws, Blocks}
 use Rattle.stm_terms.specs.ReadSet.{reads_of}
 use Rattle.stm_terms.specs.Texts.{list_text, write_text, value_text, verdict_text}
-use Rattle.stm_check.specs.Laws.{IsVerdictInRange}
+use Rattle.stm_check.specs.Laws.{VerdictFits}
 use Rattle.stm_check.specs.TypedBlock.{Block}
 use Rattle.stm_store.specs.declared.cell.Cell.{Cell}
 use Rattle.stm_store.specs.Cells.{StoreIsTyped, plains, renumbered, changed_by}
@@ -152,7 +152,7 @@ why_ends t None = refused_ends (codes "NoTicket")
 later_events_end : (d : OpenDesk) (n : ℕ) → EndsALine (later_events_text d n)
 later_events_end d n = counted_end (drop (n - 1) d.desk.history) (codes "events " ++ decimal (length d.desk.history))
 
-module _ (judged : (table : List Declared) (text : List ℕ) → BlockOrTold table (compiled_block table text)) (fits : IsVerdictInRange) (cover : DeclaredAreCovered) (wait : WaitingAreWellTyped) (stay_typed : StoresAreTyped) (verdicts : BlocksHaveVerdicts) where
+module _ (judged : (table : List Declared) (text : List ℕ) → BlockOrTold table (compiled_block table text)) (fits : VerdictFits) (cover : DeclaredAreCovered) (wait : WaitingAreWellTyped) (stay_typed : StoresAreTyped) (verdicts : BlocksHaveVerdicts) where
   store_typed : (d : Seen) (jobs : List HandedOut) → Stands d jobs → StoreIsTyped (plains (now d).store)
   store_typed d jobs k = stay_typed Changed d.table d.history k.table_typed k.typed k.legal
 

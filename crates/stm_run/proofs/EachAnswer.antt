@@ -2,7 +2,7 @@
 -- nothing.
 use Rattle.std.proofs.Common.{◌≢◌, ℕ, List, ◌∷◌, ◌++◌, length, Option, Some, None, Result, Ok, Err, refl}
 use Rattle.std.specs.Prelude.{codes, decimal}
-use Rattle.stm_check.specs.Laws.{CheckNeverSaysNoMemory, IsVerdictInRange}
+use Rattle.stm_check.specs.Laws.{CheckNeverSaysNoMemory, VerdictFits}
 use Rattle.stm_eval.specs.Laws.{VerdictIsStable}
 use Rattle.stm_parse.specs.ParseFunction.{BlockAnswersAreRight, DeclarationAnswersAreRight}
 use Rattle.stm_store.specs.Tables.{Declared}
@@ -30,7 +30,7 @@ unfolding tvar_line
 declare_ends table limit (Ok d) h = (codes "tvar #" ++ decimal (length table) ++ 32 ∷ d.name, refl)
 declare_ends table limit (Err e) h = refusal_ends e h
 
-module _ (blocks : BlockAnswersAreRight) (declarations : DeclarationAnswersAreRight) (faults : CheckNeverSaysNoMemory) (fits : IsVerdictInRange) (stable : VerdictIsStable) (rise : TicketsRise) (cover : DeclaredAreCovered) (stay : BlocksStay) (checked : CheckedAreWellTyped) (wait : WaitingAreWellTyped) (stay_typed : StoresAreTyped) (verdicts : BlocksHaveVerdicts) where
+module _ (blocks : BlockAnswersAreRight) (declarations : DeclarationAnswersAreRight) (faults : CheckNeverSaysNoMemory) (fits : VerdictFits) (stable : VerdictIsStable) (rise : TicketsRise) (cover : DeclaredAreCovered) (stay : BlocksStay) (checked : CheckedAreWellTyped) (wait : WaitingAreWellTyped) (stay_typed : StoresAreTyped) (verdicts : BlocksHaveVerdicts) where
   judged : (table : List Declared) (text : List ℕ) → BlockOrTold table (compiled_block table text)
   judged = compiled blocks declarations faults checked
 
