@@ -6,7 +6,7 @@ import os
 import re
 from dataclasses import dataclass
 from pathlib import Path
-from typing import Literal
+from typing import Literal, cast
 
 from ._errors import BadAnswer, Ended
 from ._program import check_built, find_program, run_once
@@ -29,6 +29,18 @@ class Checked:
 
     With `why`, `expected` is the line that would be accepted there for the same call, or `refused` why a desk refuses that call there, as
     "Stale"; both are None if the line can't be read, if the history is legal, or without `why`.
+
+    >>> import tempfile
+    >>> from pathlib import Path
+    >>> with tempfile.TemporaryDirectory() as folder:
+    ...     file = Path(folder) / "history"
+    ...     size = file.write_text('{"format":3,"vars":0}\\n{"client":0,"event":"cancelled","ticket":7}\\n')
+    ...     found = check(file, why=True)
+    >>> found.finding, found.line, found.refused
+    ('not legal', 2, 'NoTicket')
+    >>> print(found)
+    not legal 2
+    refused NoTicket
     """
 
     finding: Finding
@@ -81,7 +93,7 @@ def check(
         raise BadAnswer("check", printed or said)
     line = found["line"] or found["at"]
     return Checked(
-        found["legal"] or found["header"] or found["bad"],
+        cast(Finding, found["legal"] or found["header"] or found["bad"]),
         int(found["events"]) if found["events"] else None,
         int(line) if line else None,
         found["expected"],
