@@ -1,7 +1,7 @@
 //! A store on the declared variables, with a copy that is held, so that a change copies the pages that it writes.
 
 ghost use Rattle.std.specs.Prelude.{◌≡◌, ◌<◌};
-ghost use Rattle.stm_store.specs.Cells.{Fits};
+ghost use Rattle.stm_store.specs.Cells.{Fits, plains};
 
 use crate::words::{first_word, number, say};
 use std::alloc::{AllocError, Global};
@@ -77,7 +77,7 @@ fn change(
     in_place: bool,
     out: &mut String,
 ) -> Result<(), AllocError>
-    requires { Fits store.old verdict.now }
+    requires { Fits (plains store.old) verdict.now }
 {
     let applied = if in_place {
         store.apply(verdict)
@@ -96,7 +96,7 @@ fn change(
 
 /// Prints the variables that a verdict changes.
 fn say_changes(store: &Store, verdict: &Verdict, out: &mut String) -> Result<(), AllocError>
-    requires { Fits store.now verdict.now }
+    requires { Fits (plains store.now) verdict.now }
 {
     out.push_str("changes")?;
     for variable in store.changes(verdict)?.as_slice() {
@@ -139,6 +139,21 @@ fn say_cell(held: &Held, id: u32, out: &mut String) -> Result<(), AllocError> {
     say("", out)
 }
 
+/// Makes a call on a store that is open.
+fn answer_on(
+    held: &mut Held,
+    alloc: Global,
+    call: &str,
+    words: &str,
+    out: &mut String,
+) -> Result<(), AllocError> {
+    if call == "show" {
+        say_cell(held, number(words), out)
+    } else {
+        answer_verdict(&mut held.store, alloc, call, words, out)
+    }
+}
+
 /// Makes a call on the store.
 pub fn answer(
     held: &mut Option<Held>,
@@ -148,10 +163,11 @@ pub fn answer(
     out: &mut String,
 ) -> Result<(), AllocError> {
     let (call, rest) = first_word(text);
-    match (call, held) {
-        ("open", held) => open(held, alloc, table, out),
-        ("show", Some(held)) => say_cell(held, number(rest), out),
-        (_, Some(held)) => answer_verdict(&mut held.store, alloc, call, rest, out),
-        (_, None) => say("refused no store", out),
+    if call == "open" {
+        return open(held, alloc, table, out);
+    }
+    match held {
+        Some(held) => answer_on(held, alloc, call, rest, out),
+        None => say("refused no store", out),
     }
 }
