@@ -233,7 +233,7 @@ impl<'a, L: Ledger, R: Wait> Gate<R> for Counting<'a, L> {
     }
 }
 
-/// Works with the last pass until N deliveries were made, behind a gate that first says no M times.
+/// Runs a worker with the last pass until N deliveries are made. Its gate first refuses M times.
 pub fn work<L: Ledger, R: Wait + Threads + Sync>(
     shared: &SharedDesk<L>,
     passes: &mut Vec<Pass<L>>,

@@ -79,8 +79,8 @@ fn deliver_answer(desk: &mut Desk, answer: Answer, so_far: Progress) -> Result<P
     }
 }
 
-/// Delivers answers, one after another, until one is refused, after others of which so many were taken. The one that is refused
-/// and those after it are queued again.
+/// Delivers answers one after another until one is refused. `before` counts the deliveries that were accepted earlier. The answer
+/// that is refused and those after it are queued again.
 fn deliver_answers(
     desk: &mut Desk,
     answers: Vec<Answer>,
@@ -103,8 +103,8 @@ fn deliver_answers(
     Ok(so_far)
 }
 
-/// Blocks of so many bytes of text are work for one thread: they take some eighty microseconds, and a thread some forty until
-/// it has begun.
+/// How many bytes of text of the blocks are enough work for one thread: to evaluate them takes about 80 microseconds, and to start
+/// a thread about 40.
 const BYTES_OF_A_THREAD: usize = 16_384;
 
 /// By how many threads jobs are evaluated: as many as there are workers, but no more than their blocks are worth.
@@ -120,8 +120,8 @@ fn threads_for(threading: Threading, jobs: &[Job]) -> usize
     worth.min(threading.workers() as usize)
 }
 
-/// Evaluates jobs by threads on a store, and delivers their answers in the order of the jobs, after others of which so many
-/// were taken.
+/// Evaluates jobs by threads on a store, and delivers their answers in the order of the jobs. `before` counts the deliveries that
+/// were accepted earlier.
 fn evaluate_batch<T: Threads + Sync>(
     desk: &mut Desk,
     rt: &T,
@@ -148,8 +148,8 @@ fn evaluate_batch<T: Threads + Sync>(
     }
 }
 
-/// Blocks of so many bytes of text for each worker are evaluated before they are delivered: their delivery goes over them once
-/// more, and finds them in the processor's cache.
+/// How many bytes of text of the blocks each worker evaluates before they are delivered: a delivery walks its block once more, and
+/// finds it in the processor's cache.
 const BYTES_OF_A_BATCH: usize = 65_536;
 
 /// Evaluates jobs by threads on a store, and delivers their answers in the order of the jobs, batch by batch.

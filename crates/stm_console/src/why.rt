@@ -110,7 +110,7 @@ fn write_explained(
     write_explanation(explanation, out)
 }
 
-/// Appends what is printed of bytes that are no legal history, and answers what was found.
+/// Appends what is printed of bytes that are no legal history, and returns what was found.
 fn write_reason(reason: &Reason, out: &mut String) -> Result<Finding, NoMemory>
     ensures { IfOk result (λ f. (bytes : List ℕ) → string_bytes out.old ≡ [] → TellsFault reason.now.fault bytes
         → TellsWhy bytes reason.now.fault reason.now.line reason.now.explanation
@@ -135,7 +135,7 @@ fn write_reason(reason: &Reason, out: &mut String) -> Result<Finding, NoMemory>
     }
 }
 
-/// Appends what is printed of the bytes, and answers what was found.
+/// Appends what is printed of the bytes, and returns what was found.
 fn write_why(alloc: Global, seed: Seed, bytes: &[u8], out: &mut String) -> Result<Finding, NoMemory>
     requires { string_bytes out.old ≡ [] }
     ensures { IfOk result (λ f. IsAnswerWhy bytes.now f (string_bytes out.new)) }
