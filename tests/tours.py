@@ -29,36 +29,43 @@ def blocks(text):
 
 
 def sessions(text):
-    """Each command with the lines below it; a block without a command goes on with the one before it."""
+    """Each command with the lines below it, and the number of its block; a block without a command goes on with the one before it."""
     found = []
-    for block in blocks(text):
+    for number, block in enumerate(blocks(text)):
         for line in block:
             if line.startswith("$ "):
-                found.append((line[2:], []))
+                found.append((line[2:], [], number))
             else:
                 found[-1][1].append(line)
     return found
 
 
-def judge(program, command, lines):
-    """None, or how what a command prints differs from what the document says."""
+def judge(program, command, lines, folder=None):
+    """None, or how what a command prints differs from what the document says. It runs in this folder, or else in an empty one."""
+    if folder is None:
+        with tempfile.TemporaryDirectory() as empty:
+            return judge(program, command, lines, pathlib.Path(empty))
     case = transcript.parsed(command, [""] + lines)
-    with tempfile.TemporaryDirectory() as folder:
-        (pathlib.Path(folder) / "stmdesk").symlink_to(program)
-        (pathlib.Path(folder) / "tools").symlink_to(ROOT / "tools")
-        done = subprocess.run(
-            ["sh", "-c", command],
-            cwd=folder,
-            input=case.text,
-            stdout=subprocess.PIPE,
-            stderr=subprocess.STDOUT,
-            timeout=transcript.SECONDS,
-        )
+    if not (folder / "stmdesk").exists():
+        (folder / "stmdesk").symlink_to(program)
+        (folder / "tools").symlink_to(ROOT / "tools")
+    done = subprocess.run(
+        ["sh", "-c", command],
+        cwd=folder,
+        input=case.text,
+        stdout=subprocess.PIPE,
+        stderr=subprocess.STDOUT,
+        timeout=transcript.SECONDS,
+    )
     return None if done.stdout == case.printed else transcript.shown(case, done.stdout)
 
 
-def judged(program, root):
-    """Each command of the documents, and what is said of it."""
+def judged(program, root, has_files=True):
+    """Each command of the documents, and what is said of it. Without files those on a journal are left out."""
     for path in [root / "README.md"] + sorted((root / "docs").glob("*.md")):
-        for command, lines in sessions(path.read_text(transcript.ENCODING)):
-            yield f"{path.name}: $ {command}", judge(program, command, lines)
+        with tempfile.TemporaryDirectory() as folder:
+            for command, lines, number in sessions(path.read_text(transcript.ENCODING)):
+                if has_files or "journal" not in command:
+                    own = pathlib.Path(folder) / str(number)
+                    own.mkdir(exist_ok=True)
+                    yield f"{path.name}: $ {command}", judge(program, command, lines, own)

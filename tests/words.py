@@ -21,7 +21,7 @@ HELP = [r"Usage: stmdesk \[COMMAND\]", r"Commands:", *(rf"  {word} +.*" for word
 HELP += [r"  -h, --help +.*", r"  -V, --version +.*"]
 EXAMPLE_IN_HELP = rf" {{4,}}(({'|'.join(ARGUMENTS)})( .*)?)"
 REFUSED_ALONE = ["NotOut", "NotEvaluated", "Stale", "Blocks", "NoTicket", "NoJob", "Already"]  # what an example may be
-HELP_OF_RUN = [r"Usage: stmdesk run .*", r" +--workers .*", r" +--levels .*", r" +--max-events .*", *COMMANDS]
+HELP_OF_RUN = [r"Usage: stmdesk run .*", r" +--workers .*", r" +--levels .*", r" +--max-events .*", r" +--journal .*", r" +--sync .*", *COMMANDS]
 HELP_OF_STORM = [r"Usage: stmdesk storm .*", r" +--workers .*", r" +--levels .*", r" +--max-events .*"]
 HELP_OF_STORM += [rf"  {word}( .*)?" for word in ("tvar NAME", "client", "submit BLOCK", "finish K", "cancel K", "expect NAME VALUE")]
 HELP_OF_EXPLORE = [r"Usage: stmdesk explore .*", r" +--max-states .*", r" +--history .*", r" +--all .*", r"  always BLOCK .*", r"  never BLOCK .*"]
@@ -64,6 +64,12 @@ REFUSED = [
     *(["check", *rest] for rest in (["--why=true"], ["--why", "--why"], ["--why", "1"], ["--", "--why"], ["--wh"])),
     *([word, "--why"] for word in ("run", "storm", "explore")),
     *([word, option] for word in ("run", "storm", "check") for option in ("--history", "--all")),
+    *(["run", *rest] for rest in (["--journal"], ["--journal="], ["--journal", ""], ["--journal", "a", "--journal", "a"], ["--journal", b"\xff"])),
+    *(["run", *rest] for rest in (["--sync"], ["--sync", "full"], ["--sync=none"], ["--journal", "a", "--sync"], ["--", "--journal", "a"])),
+    *(["run", "--journal", "a", "--sync", mode] for mode in ("", "Full", "full ", "never", "0")),
+    *(["run", "--journal", "a", "--sync", mode, "--sync", mode] for mode in ("full", "append", "none")),
+    *([*word, *rest] for word in ([], ["storm"], ["explore"], ["check"]) for rest in (["--journal", "a"], ["--journal=a"], ["--sync", "full"])),
+    *(["storm", *rest] for rest in (["--journal", "a", "--sync", "full"], ["--sync"], ["--journal"])),
 ]
 ACCEPTED = [  # behind a command that takes the options
     *([option, str(number)] for option, ends in OPTIONS.items() for number in ends),

@@ -30,6 +30,7 @@ import typing
 import unittest
 import warnings
 import zipfile
+from functools import partial
 from unittest import mock
 
 sys.dont_write_bytecode = True
@@ -38,8 +39,8 @@ import job_engine
 import stmdesk
 from stmdesk import (
     BadAnswer, Blocks, Cancellation, Cell, Change, ClientAt, Commits, Current, Delivery, Desk, Ended, FinalCell, Finish, Finished,
-    FinishedThrows, Job, New, NewRef, Ready, Ref, Refused, ScriptRefused, Settled, Stale, StaleBy, Stopped, Submission, Throws,
-    Waits, _commands, _hints, _program, aio, check, explore, find_program,
+    FinishedThrows, Job, JournalError, New, NewRef, Ready, Ref, Refused, ScriptRefused, Settled, Stale, StaleBy, Stopped,
+    Submission, Throws, Waits, _commands, _hints, _program, aio, check, explore, find_program,
 )  # fmt: skip
 
 HERE = pathlib.Path(__file__).resolve().parent
@@ -976,6 +977,7 @@ class Carets(OnProgram):
             Refused("Overtaken", variable=X),
             Stopped("HistoryFull", Settled(1, 2)),
             Ended(4, "out of memory"),
+            JournalError(1, "stmdesk: a file: in use"),
             BadAnswer("eval", "x"),
             stmdesk.Thrown(4),
             stmdesk.TimedOut(0.5),
@@ -2275,6 +2277,280 @@ class Explorations(OnProgram):
                 explore("client", program=launcher)
 
 
+class Journals(OnProgram):
+    def setUp(self):
+        super().setUp()
+        folder = tempfile.TemporaryDirectory()
+        self.addCleanup(folder.cleanup)
+        self.path = pathlib.Path(folder.name) / "a journal"
+
+    def open(self, **options):
+        """A desk whose history is kept in the file, which ends with the test."""
+        desk = Desk(program, journal=self.path, **options)
+        self.addCleanup(desk.__exit__, ValueError, None, None)
+        return desk
+
+    def write(self, text):
+        self.path.write_text(text)
+        return len(text)
+
+    def assert_not_opened(self, status, message):
+        with self.assertRaises(JournalError) as caught:
+            self.open()
+        self.assertEqual((caught.exception.status, str(caught.exception)), (status, f"{self.path}: {message}"))
+
+    def test_it_goes_on(self):
+        for number, sync in enumerate((None, "full", "append", "none")):
+            self.path = self.path.with_name(f"{sync}")
+            with self.open(sync=sync) as desk:
+                self.assert_is((desk.is_resumed, desk.dropped), (False, 0))
+                self.assert_is(desk.variable("x : Int = 1"), X)
+                self.assert_is(desk.tvar("flag : Bool = False"), FLAG)
+                self.assert_is(desk.submit("do { a <- readTVar x; f <- readTVar flag; if f then return a else retry }"), 1)
+                self.assert_is(desk.submit(INCREMENT), 2)
+                self.assert_is(desk.eval(), 2)
+                self.assert_is(desk.finish(2), Finished(2, 1, [1]))
+                self.assert_is(desk.submit("writeTVar flag True"), 3)
+                store, shown, history = desk.store(), desk.show(), desk.history()
+                self.assertEqual(self.path.read_text(), history)
+            self.assertEqual(self.path.read_text(), history)
+            self.assertTrue(check(self.path, program=program))
+            with self.open(sync=sync) as desk:
+                self.assert_is((desk.is_resumed, desk.dropped), (True, 0))
+                self.assert_is((desk.store(), desk.show(), desk.history()), (store, shown, history))
+                self.assert_is(desk.variable("flag : Bool = True"), FLAG)
+                self.assert_is(desk.events(6), [Submission(6, 0, 3, "writeTVar flag True")])
+                self.assert_is(desk.looks("readTVar x"), {X: 2})
+                self.assert_is(desk.eval(), 2)
+                self.assert_is(desk.finish(3), Finished(3, None, [1]))
+                self.assert_is(desk.settle(), Settled(1, 1))
+                self.assert_is(desk.submit("retry"), 4)
+            self.assertEqual(check(self.path, program=program).events, 12)
+
+    def test_variables_of_a_desk_without_events(self):
+        with self.open() as desk:
+            desk.tvar("x : Int = 1")
+        with self.open() as desk:  # nothing but a declaration was given, so there is nothing yet
+            self.assert_is(desk.is_resumed, False)
+            desk.tvar("x : Int = 2")
+            desk.store()
+        with self.open() as desk:
+            self.assert_is((desk.is_resumed, desk.store()), (True, [cell(0, "x", "Int", 2, 0)]))
+
+    def test_variable(self):
+        declarations = ["x : Int = 1", "slot : TVar Int = x", "deep : TVar (TVar Int) = slot", "u : () = ()", "u' : TVar () = u"]
+        spelled = ["x:Int=7", "slot: TVar (Int) = x", "deep : TVar(TVar Int)=slot", " u : ( )= ()", "u' : (TVar ( )) = u"]
+        with self.open() as desk:
+            refs = [desk.variable(it) for it in declarations]
+            self.assertEqual([desk.variable(it) for it in spelled], refs)
+            self.assert_refused(lambda: desk.variable("x : Bool = True"), "Twice")
+            desk.store()
+            self.assertEqual([desk.variable(it) for it in spelled], refs)
+        with self.open() as desk:
+            self.assert_is([desk.variable(it) for it in spelled], refs)
+            for wrong in ("x : Bool = True", "slot : TVar (TVar Int) = x", "new : Int = 1", "x", ""):
+                self.assert_refused(lambda wrong=wrong: desk.variable(wrong), "Late")
+            with self.assertRaisesRegex(Refused, "hint: the journal has it already, as `x : Int`"):
+                desk.tvar("x : Bool = True")
+            with self.assertRaisesRegex(Refused, "hint: the desk goes on from its journal, and has the variables"):
+                desk.tvar("new : Bool = True")
+
+    def test_names_of_a_journal(self):
+        with self.open() as desk:
+            desk.tvar("x : Int = 1")
+            desk.tvar("slot : TVar Int = x")
+            desk.submit("do { r <- newTVar 3; writeTVar slot r }")
+            desk.settle()
+        with self.open() as desk:
+            self.assert_is(desk.try_("do { writeTVar x 5; r <- readTVar slot; return r }"), Commits({X: 5}, [], Ref(2)))
+            self.assert_is([desk.value("x"), desk.value(X), desk.value(Ref(2))], [1, 1, 3])
+            with self.assertRaisesRegex(Refused, "hint: nothing of this name is declared; the names here are slot, x"):
+                desk.submit("readTVar y")
+
+    def test_blocks_that_waited(self):
+        with self.open() as desk:
+            desk.tvar("x : Int = 1")
+            desk.submit("do { a <- readTVar x; if a < 5 then retry else return a }")
+            desk.eval()
+            os.kill(desk.pid, signal.SIGKILL)
+            with self.assertRaises(Ended):
+                desk.show()
+        with self.open() as desk:
+            self.assert_is((desk.show(), desk.why(1)), ([Current(1, Blocks())], Waits(1, {X: 1})))
+            self.assert_is(desk.atomically("writeTVar x 5"), None)
+            self.assert_is(desk.eval(), 1)
+            self.assert_is(desk.finish(1), Finished(1, 5, []))
+
+    def test_a_torn_end(self):
+        with self.open() as desk:
+            desk.submit("retry")
+        text = self.path.read_text()
+        for end in ("{", "\0" * 100, '{"client":0,"event":"cancelled","ticket":1}', "\n", "x" * (1 << 20)):
+            self.write(text + end)
+            with self.open() as desk:
+                self.assert_is((desk.is_resumed, desk.dropped, desk.show()), (True, len(end), [New(1)]))
+            self.assertEqual(self.path.read_text(), text)
+        for end in ("{", "\0", "x", '\0"format":3,"vars":0}\n{"block"'):  # of a first batch
+            self.write(end)
+            with self.open() as desk:
+                self.assert_is((desk.is_resumed, desk.dropped), (False, len(end)))
+            self.assertEqual(self.path.read_text(), "")
+
+    def test_it_is_not_opened(self):
+        header, event = '{"format":3,"vars":0}\n', '{"client":0,"event":"cancelled","ticket":1}\n'
+        for text, message in (
+            (header + event, "not legal 2"),
+            (header + "{}\n", "bad line 2"),
+            ("{}\n", "bad header"),
+            ("a letter\n", "bad header"),
+            ('{"format":3,"va', "bad header"),
+            (header.replace("3", "2"), "format 2; a journal has format 3"),
+            (header + "x" * ((1 << 20) + 1), "more than 1048576 bytes after the last whole line"),
+        ):
+            self.write(text)
+            self.assert_not_opened(3, message)
+            self.assertEqual(self.path.read_text(), text)
+        self.write(header)
+        with self.open():
+            self.assert_not_opened(1, "in use")
+        self.path = self.path.parent
+        self.assert_not_opened(1, "is a directory")
+
+    def test_a_full_history(self):
+        with self.open(max_events=2) as desk:
+            for _ in range(2):
+                desk.submit("retry")
+            self.assert_refused(lambda: desk.submit("retry"), "HistoryFull")
+        for most in (0, 1, 2):
+            with self.assertRaisesRegex(JournalError, r"the history is full \(2 events\)$"):
+                self.open(max_events=most)
+        with self.open(max_events=3) as desk:
+            self.assert_is(desk.submit("retry"), 3)
+
+    def test_wrong_arguments(self):
+        for options in ({"sync": "full"}, {"sync": "always", "journal": self.path}, {"sync": "", "journal": self.path}):
+            with self.assertRaises(ValueError):
+                Desk(program, **options)
+        with self.assertRaises(TypeError):
+            Desk(program, journal=3)
+        with self.assertRaises(Ended) as caught:
+            Desk(program, journal="")
+        self.assertEqual((caught.exception.status, type(caught.exception)), (2, Ended))
+
+    def test_a_program_that_ends_while_it_opens(self):
+        for status, kind in ((1, JournalError), (3, JournalError), (2, Ended), (4, Ended), (-9, Ended)):
+            end = "kill -9 $$" if status < 0 else f"exit {status}"
+            stand_in = self.stand_in("echo 'stmdesk: a file: in use' >&2", end)
+            with self.assertRaises(Ended) as caught:
+                Desk(stand_in, journal=self.path)
+            self.assertEqual((type(caught.exception), caught.exception.status), (kind, status))
+            self.assertEqual(str(caught.exception).startswith("a file: in use"), kind is JournalError)
+
+    def test_a_fault_while_it_runs(self):
+        say = 'read it; echo "refused EndOfText"; read it; echo "ticket 1"; read it'
+        stand_in = self.stand_in(say, "echo 'stmdesk: journal fault: no space left on the disk' >&2", "exit 1")
+        desk = Desk(stand_in, journal=self.path)
+        self.assert_is(desk.submit("retry"), 1)
+        for _ in range(2):
+            with self.assertRaises(JournalError) as caught:
+                desk.submit("retry")
+            self.assertEqual(str(caught.exception), "journal fault: no space left on the disk")
+        desk.close()
+        desk = Desk(stand_in, journal=self.path)  # whose last answer isn't asked for
+        with self.assertRaises(JournalError):
+            desk.close()
+
+    def test_a_program_without_journals(self):
+        with self.assertRaises(Ended) as caught:
+            Desk(self.stand_in("echo \"error: unexpected argument '--journal' found\" >&2", "exit 2"), journal=self.path)
+        self.assertEqual((caught.exception.status, type(caught.exception)), (2, Ended))
+
+    def test_asyncio(self):
+        async def first():
+            async with aio.Desk(program, journal=self.path, sync="none") as desk:
+                self.assert_is((desk.is_resumed, await desk.variable("x : Int = 1")), (False, X))
+                return await desk.atomically(INCREMENT)
+
+        async def second():
+            desk = aio.Desk(program, journal=self.path)
+            self.assert_is(await desk.value("x"), 2)
+            self.assert_is((desk.is_resumed, desk.dropped), (True, 1))
+            with self.assertRaisesRegex(JournalError, "in use$"):
+                async with aio.Desk(program, journal=self.path):
+                    self.fail("the file was opened twice")
+            again = aio.Desk(program, journal=self.path)
+            for call in (again.store, again.store, partial(again.atomically, "retry")):
+                with self.assertRaisesRegex(JournalError, "in use$"):
+                    await call()
+            await again.close()
+            await desk.close()
+
+        self.assert_is(asyncio.run(first()), 1)
+        self.write(self.path.read_text() + "{")
+        asyncio.run(second())
+
+    def test_a_hundred_kills(self):
+        """Commands are given in batches, and the program is killed at a random moment; again and again on one file. Each time the
+        file has each event that was acknowledged, and after that at most events of the commands that weren't answered yet."""
+        signal.alarm(5 * SECONDS)
+        chance = random.Random(1)
+        events, given, unanswered, answered = [], [], 0, 0
+        with self.open() as desk:
+            desk.tvar("x : Int = 0")
+            desk.store()
+        for _ in range(101):
+            with self.open(sync=chance.choice(("full", "append", "none"))) as desk:
+                found = desk.events()
+                self.assertEqual(found[: len(events)], events)
+                self.assertEqual(self.explained(given, found[len(events) :]), [])
+                events, given = found, []
+                threading.Timer(chance.uniform(0, 0.08), os.kill, [desk.pid, signal.SIGKILL]).start()
+                with self.assertRaises(Ended) as caught:
+                    while True:
+                        self.give(desk, chance, given)
+                self.assertEqual(caught.exception.status, -signal.SIGKILL)
+            answered += sum(it.error is None for _, _, it in given)
+            unanswered += sum(isinstance(it.error, Ended) for _, _, it in given)
+        with self.open():
+            self.assertGreaterEqual(check(self.path, program=program).events, len(events))
+        self.assertTrue(answered > 100 and unanswered > 100, f"{answered} commands were answered, and {unanswered} not")
+
+    @staticmethod
+    def give(desk, chance, given):
+        """Gives a batch of some commands, and notes each with its argument and its answer."""
+        with desk.batch() as batch:
+            for _ in range(chance.randrange(1, 10)):
+                kind, last = chance.choice(("submit", "submit", "eval", "finish", "cancel")), 1 + len(given)
+                argument = {"submit": INCREMENT, "eval": ""}.get(kind, chance.randrange(1, last + 1))
+                given.append((kind, argument, getattr(batch, kind)(*[argument] * (kind != "eval"))))
+
+    def explained(self, given, events):
+        """The events that are left when those of the commands were taken from the first on: all of each command that was
+        answered, and of the others what there is."""
+        for kind, argument, answer in given:
+            is_answered = answer.error is None
+            if answer.error is not None and not isinstance(answer.error, Ended):
+                continue  # it was refused
+            if kind == "eval":
+                are_deliveries = [isinstance(it, Delivery) for it in events]
+                count = answer.value if is_answered else [*are_deliveries, False].index(False)
+                self.assertEqual(are_deliveries[:count], [True] * count)
+                del events[:count]
+                continue
+            event = events[0] if events else None
+            is_its = (
+                isinstance(event, Submission) and event.block == argument
+                if kind == "submit"
+                else isinstance(event, {"finish": Finish, "cancel": Cancellation}[kind]) and event.ticket == argument
+            )
+            if is_answered:
+                self.assertTrue(is_its, f"{kind} {argument} was acknowledged, and the file has {event}")
+                self.assertTrue(kind != "submit" or event.ticket == answer.value)
+            if is_its:
+                del events[0]
+        return events
+
+
 class Package(OnProgram):
     def test_its_version_is_the_program_s(self):
         source = REPOSITORY / "crates" / "stm_words" / "src" / "version.rt"
@@ -2372,6 +2648,57 @@ class Pages(OnProgram):
         command = [sys.executable, "-B", str(folder / "engine.py"), program]
         done = subprocess.run(command, capture_output=True, text=True, timeout=SECONDS)
         self.assertEqual((done.stdout, done.stderr), ((folder / "engine.out").read_text(), ""))
+
+    def killed(self, command):
+        """Starts the command with a journal again and again, and kills it at a random moment, until it ends by itself; after
+        the fourth kill it is let be. Does so twice. Yields what it prints at last, the journal's path, and how often it was
+        killed."""
+        signal.alarm(5 * SECONDS)
+        begun = time.monotonic()
+        subprocess.run(command, capture_output=True, timeout=SECONDS, check=True)
+        seconds, chance = time.monotonic() - begun, random.Random(1)
+        for _ in range(2):
+            with tempfile.TemporaryDirectory() as folder:
+                moments = [chance.uniform(0.2, 0.9) * seconds for _ in range(4)]
+                yield self.run_killed(command, pathlib.Path(folder) / "journal", moments)
+
+    def run_killed(self, command, path, moments):
+        for kills, moment in enumerate([*moments, None]):
+            running = subprocess.Popen([*command, path], stdout=subprocess.PIPE, stderr=subprocess.PIPE, text=True)
+            with contextlib.suppress(subprocess.TimeoutExpired):
+                running.communicate(timeout=moment)
+            running.kill()
+            printed, errors = running.communicate()
+            if running.returncode != -signal.SIGKILL:
+                self.assertEqual((running.returncode, errors), (0, ""))
+                return printed, path, kills
+            if path.exists():
+                with path.open() as file:  # until the program has noticed that the input has ended
+                    fcntl.flock(file, fcntl.LOCK_SH)
+        raise AssertionError("it didn't end")
+
+    def test_the_engine_of_the_examples_goes_on(self):
+        folder = REPOSITORY / "examples" / "engine"
+        if not folder.exists():
+            self.skipTest("the package was copied without the examples")
+        command = [sys.executable, "-B", str(folder / "engine.py"), program]
+        for printed, path, _ in self.killed(command):
+            self.assertEqual(printed, (folder / "engine.out").read_text())
+            self.assertTrue(check(path, program=program))
+
+    def test_the_job_engine_goes_on(self):
+        command = [sys.executable, "-B", str(HERE / "job_engine.py"), program]
+        for printed, path, kills in self.killed(command):
+            self.assertTrue(check(path, program=program))
+            if kills == 0:
+                self.assertEqual(printed, (HERE / "job_engine.out").read_text())
+            took = re.findall(r"(?m)^  (?:ann|bob) finishes with (\d+)", printed)
+            self.assertEqual(sorted(took), ["11", "12", "13"])
+            for line in ("report finishes with 3", "put 0 throws 400"):
+                self.assertEqual(printed.count(f"  {line}\n"), 1)
+            again = subprocess.run([*command, path], capture_output=True, text=True, timeout=SECONDS)
+            lines = re.sub(r"(?m)^.* waits, having read .*\n", "", printed)
+            self.assertEqual((again.stdout, again.stderr), (lines, ""))
 
     def test_the_docstrings(self):
         finder = doctest.DocTestFinder()

@@ -15,14 +15,15 @@ A value of the language is a value of Python: a number is an `int`, `True` and `
 type if a block could return either. docs/CONSOLE.md says what each command does, and docs/LANGUAGE.md what a block is. A line
 feed in a block is a blank.
 
-`Desk.atomically` runs a block and waits while it retries; `Desk.batch` gives many commands in one go; `Desk.ready` says which tickets
-can be finished, `Desk.why` what one waits for, and `Desk.events` what has happened since; `stmdesk.aio` is the same for asyncio. `explore` needs no desk: it tries every order of the steps of a script's clients; and `check` judges
-a history in a file.
+`Desk.atomically` runs a block and waits while it retries; `Desk.batch` gives many commands in one go; `Desk.ready` says which
+tickets can be finished, `Desk.why` what one waits for, and `Desk.events` what has happened since; `Desk(journal=PATH)` keeps
+the history in a file, and goes on from there at the next start; `stmdesk.aio` is the same for asyncio. `explore` needs no desk:
+it tries every order of the steps of a script's clients; and `check` judges a history in a file.
 
-A call raises `Refused` if the program refuses the command; `Stopped`, which is a `Refused`, if a `settle` stopped; `Ended`
-if the program ended; `BadAnswer` if the program printed what stmdesk never prints; `ValueError` or `TypeError` for an
-argument that is no text or number of the right kind, in which case nothing is sent. `atomically` also raises `Thrown`,
-`TimedOut` and `Cancelled`.
+A call raises `Refused` if the program refuses the command; `Stopped`, which is a `Refused`, if a `settle` stopped; `Ended` if
+the program ended, and `JournalError`, which is an `Ended`, if that was because of its journal; `BadAnswer` if the program
+printed what stmdesk never prints; `ValueError` or `TypeError` for an argument that is no text or number of the right kind, in
+which case nothing is sent. `atomically` also raises `Thrown`, `TimedOut` and `Cancelled`.
 """
 
 from ._batch import Batch
@@ -30,7 +31,7 @@ from ._blocks import or_else
 from ._check import Checked, Finding, check
 from ._commands import Answer
 from ._desk import Desk
-from ._errors import BadAnswer, Cancelled, DeskError, Ended, Refused, ScriptRefused, Stopped, Thrown, TimedOut
+from ._errors import BadAnswer, Cancelled, DeskError, Ended, JournalError, Refused, ScriptRefused, Stopped, Thrown, TimedOut
 from ._explore import ClientAt, ClientState, Exploration, Outcome, explore
 from ._program import find_program
 from ._values import (
@@ -39,14 +40,14 @@ from ._values import (
     Value, Verdict, Waits,
 )  # fmt: skip
 
-__version__ = "0.5.0"
+__version__ = "0.6.0"
 
 __all__ = [
     "Answer", "BadAnswer", "Batch", "Blocks", "Cancellation", "Cancelled", "Cell", "Change", "Checked", "ClientAt", "ClientState", "Commits",
     "Current", "Delivery", "Desk", "DeskError", "Ended", "Event", "Events", "Exploration", "Fault", "FinalCell", "FinalStore", "Finding",
-    "Finish", "Finished", "FinishedThrows", "Job", "New", "NewRef", "Outcome", "Ready", "Reason", "Ref", "Refused", "ScriptRefused",
-    "Settled", "Stale", "StaleBy", "Status", "Stopped", "Store", "Submission", "Thrown", "Throws", "TimedOut", "Value", "Verdict",
-    "Waits", "check", "explore", "find_program", "or_else",
+    "Finish", "Finished", "FinishedThrows", "Job", "JournalError", "New", "NewRef", "Outcome", "Ready", "Reason", "Ref",
+    "Refused", "ScriptRefused", "Settled", "Stale", "StaleBy", "Status", "Stopped", "Store", "Submission", "Thrown", "Throws",
+    "TimedOut", "Value", "Verdict", "Waits", "check", "explore", "find_program", "or_else",
 ]  # fmt: skip
 
 for _name in __all__:

@@ -8,7 +8,7 @@ from collections.abc import Sequence
 from typing import Any
 
 from ._errors import Refused, Stopped
-from ._hints import hint
+from ._hints import JOURNAL, hint
 from ._values import (
     Blocks, Cancellation, Cell, Change, Commits, Current, Delivery, Event, Events, Fault, FinalCell, FinalStore, Finish,
     Finished, FinishedThrows, Job, New, NewRef, Ready, Reason, Ref, Settled, Stale, StaleBy, Status, Store, Submission, Throws,
@@ -30,12 +30,13 @@ class Answers:
 
     def __init__(self) -> None:
         self.refs: dict[str, Ref] = {}  # of each declared variable, by its text
+        self.named: dict[str, Ref] = {}  # the same, by its name
         self.types: dict[str, str] = {}  # of each declared name
         self.first: str | None = None  # the command that ended the declarations
 
     def tvar(self, words: Sequence[str]) -> Ref:
         """`tvar #0 x`: the variable, whose name is kept."""
-        self.refs[words[1]] = ref = Ref(int(words[1].removeprefix("#")), words[2])
+        self.refs[words[1]] = self.named[words[2]] = ref = Ref(int(words[1].removeprefix("#")), words[2])
         return ref
 
     def note(self, command: str, text: str, answer: object) -> None:
@@ -49,6 +50,14 @@ class Answers:
             is_first = True
         if is_first:
             self.first = command
+
+    def go_on(self, store: Store) -> None:
+        """Takes over the variables of a desk that goes on from a journal."""
+        self.first = JOURNAL
+        for cell in store:
+            if cell.name is not None:
+                self.refs[f"#{cell.variable.number}"] = self.named[cell.name] = cell.variable
+                self.types[cell.name] = cell.type
 
     def ref(self, text: str) -> Ref:
         """`#0`"""

@@ -3,11 +3,13 @@
 from __future__ import annotations
 
 import os
+import re
 import threading
 from collections.abc import Iterable, Iterator, Sequence
+from copy import copy
 from threading import get_ident
 from types import TracebackType
-from typing import Any, TypeVar
+from typing import Any, Literal, TypeVar, get_args
 
 from ._answers import Answers
 from ._batch import Batch
@@ -15,7 +17,7 @@ from ._commands import (
     CANCEL, DELIVER, EVAL, EVENTS, FINISH, HANDBACK, HISTORY, LOOKS, READS, READY, SETTLE, SHOW, STORE, SUBMIT, TAKE, TRY, TVAR,
     WHY, Answer, Command, decimal, number_of,
 )  # fmt: skip
-from ._errors import BadAnswer, Cancelled, Ended, Refused, TimedOut
+from ._errors import BadAnswer, Cancelled, Refused, TimedOut
 from ._program import Closed, Odd, Process, check_built, find_program, is_ours
 from ._values import Commits, Events, Finished, FinishedThrows, Job, Reason, Ref, Settled, Status, Store, Value, Verdict
 from ._waits import Wait, Waits
@@ -23,6 +25,10 @@ from ._waits import Wait, Waits
 PATIENCE = 5.0  # seconds that the program has to end after its input has ended
 FEW = 8  # commands that are sent in one go whatever their length
 PART = 1 << 15  # bytes of commands that are sent in one go; while one such is answered, the next is sent
+
+Sync = Literal["full", "append", "none"]
+
+_DROPPED = re.compile(r"(?m): dropped (\d+) bytes after the last whole line$")
 
 T = TypeVar("T")
 
@@ -46,12 +52,17 @@ class Desk:
         self,
         program: str | os.PathLike[str] | None = None,
         *,
+        journal: str | os.PathLike[str] | None = None,
+        sync: Sync | None = None,
         workers: int | None = None,
         levels: int | None = None,
         max_events: int | None = None,
         patience: float = PATIENCE,
     ) -> None:
         """Starts `program run`, with the options that are given: `stmdesk run --help` has what they mean.
+
+        With a `journal`, a path, the desk's history is kept in this file, as `sync` says, and the desk goes on from the history
+        that the file has (docs/JOURNAL.md). Then this returns when the file is opened, and raises `JournalError` if it isn't.
 
         Without `program` it runs what `find_program` returns. After the program's input has ended, the program is killed if
         it takes more than `patience` seconds to end. Raises OSError, FileNotFoundError for example, if the program can't be
@@ -61,8 +72,14 @@ class Desk:
         ...     desk.eval()
         0
         """
+        if sync is not None and (journal is None or sync not in get_args(Sync)):
+            raise ValueError(f"sync={sync!r} goes with a journal, and is one of {', '.join(get_args(Sync))}")
         given = {"--workers": workers, "--levels": levels, "--max-events": max_events}
         options = [word for name, value in given.items() if value is not None for word in (name, decimal(value))]
+        if journal is not None:
+            options.append(f"--journal={os.fspath(journal)}")
+        if sync is not None:
+            options.append(f"--sync={sync}")
         path = find_program() if program is None else os.fspath(program)
         check_built(path)
         self._patience = patience
@@ -72,7 +89,26 @@ class Desk:
         self._answers = Answers()
         self._waits: Waits | None = None  # there is none before the first `atomically`
         self._beginning = threading.Lock()  # so that two threads don't begin it
-        self._process = Process([path, "run", *options])
+        self._is_resumed = False
+        self._dropped = 0
+        self._process = Process([path, "run", *options], is_opening=journal is not None)
+        if journal is not None:
+            self._open_journal()
+
+    def _open_journal(self) -> None:
+        """Waits until the program has opened its journal, and takes over the variables that it has. Raises what a call raises."""
+        with self._calls:
+            # A `tvar` of nothing is refused in any case: as `Late` if the desk goes on from a history.
+            opened = Answer(TVAR)
+            self._perform((opened,))
+            self._process.is_opening = False
+            dropped = _DROPPED.search(self._process.said())
+            self._dropped = int(dropped[1]) if dropped else 0
+            if isinstance(opened.error, Refused) and opened.error.name == "Late":
+                store = Answer(STORE)
+                self._perform((store,))
+                self._answers.go_on(store.result())
+                self._is_resumed = True
 
     # One method for each command.
 
@@ -261,6 +297,19 @@ class Desk:
         assert isinstance(verdict, Commits)
         return verdict.result
 
+    def variable(self, declaration: str) -> Ref:
+        """The variable of a declaration: the one that has been declared with this name and this type, here or in the journal, or
+        else a new one, as by `tvar`. So a program that keeps a journal begins in the same way at each start.
+
+        >>> desk.variable("x : Int = 0"), desk.variable("y : Int = 0")
+        (Ref(0, 'x'), Ref(1, 'y'))
+        """
+        name, _, rest = declaration.partition(":")
+        found = self._answers.named.get(name.strip())
+        if found is not None and _one_text(rest.partition("=")[0]) == _one_text(self._answers.types[name.strip()]):
+            return found
+        return self.tvar(declaration)
+
     def atomically(self, block: str, timeout: float | None = None) -> Value:
         """Runs the block and returns its result. While the block retries, waits until what it has read changes.
 
@@ -327,6 +376,24 @@ class Desk:
         """The number of the program's process."""
         return self._process.pid
 
+    @property
+    def is_resumed(self) -> bool:
+        """Whether the desk goes on from the history of its journal. Then no variable can be declared any more.
+
+        >>> desk.is_resumed
+        False
+        """
+        return self._is_resumed
+
+    @property
+    def dropped(self) -> int:
+        """How many bytes a crash had left after the last whole line of the journal; they were dropped when it was opened.
+
+        >>> desk.dropped
+        0
+        """
+        return self._dropped
+
     def close(self) -> None:
         """Ends the program's input and waits for the program to end; kills it if that takes more than `patience` seconds.
 
@@ -378,7 +445,7 @@ class Desk:
         try:
             self._caller = get_ident()
             if self._process.end:
-                raise Ended(*self._process.end.args)
+                raise copy(self._process.end)
             self._exchange(answers, waits)
         finally:
             self._caller = 0
@@ -419,7 +486,7 @@ class Desk:
             if waits:
                 waits.see(answers)
         except Closed:
-            raise Ended(*process.wait(self._patience).args) from None
+            raise copy(process.wait(self._patience)) from None
         except Odd as odd:
             process.kill()
             raise BadAnswer(it.line(), str(odd)) from None
@@ -428,6 +495,11 @@ class Desk:
             if isinstance(error, (ValueError, LookupError, TypeError)) and is_ours(error):
                 raise BadAnswer(it.line(), said if isinstance(said, str) else "\n".join(said)) from None
             raise
+
+
+def _one_text(kind: str) -> str:
+    """The text of a type without blanks and brackets, which is the same for all texts of one type."""
+    return re.sub(r"[\s()]", "", re.sub(r"\(\s*\)", "unit", kind))
 
 
 def _parts(answers: Sequence[Answer[Any]]) -> Iterator[tuple[Sequence[Answer[Any]], bytes]]:

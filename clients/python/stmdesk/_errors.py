@@ -5,6 +5,8 @@ from __future__ import annotations
 from ._values import Fault, Ref, Settled
 
 _WIDTH = 100  # characters of a line of the caller's text that an error shows
+_PROGRAM = "stmdesk: "  # how each message of the program begins
+JOURNAL_FAULT = f"{_PROGRAM}journal fault: "  # and that of a journal that can't be written
 
 
 class DeskError(Exception):
@@ -180,6 +182,20 @@ class Ended(DeskError):
 
     def __str__(self) -> str:
         return f"the program ended with status {self.status}" + (f": {self.said}" if self.said else "")
+
+
+class JournalError(Ended):
+    """The program has ended because of its journal: `Desk(journal=..)` raises this if the file isn't opened, and a later call
+    if it can't be written any more. `said` ends with the program's message; docs/JOURNAL.md has the messages, and what to do.
+
+    >>> Desk(journal="/")
+    Traceback (most recent call last):
+    stmdesk.JournalError: /: is a directory
+    """
+
+    def __str__(self) -> str:
+        _, is_there, message = self.said.rpartition(_PROGRAM)
+        return message if is_there else super().__str__()
 
 
 class BadAnswer(DeskError):

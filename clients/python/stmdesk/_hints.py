@@ -99,6 +99,9 @@ _NAMES = {
 }
 
 
+JOURNAL = "journal"  # stands for the first command of a desk that goes on from a journal
+
+
 def hint(
     name: str,
     place: int | None,
@@ -112,6 +115,11 @@ def hint(
     `first` is the first command that was no declaration."""
     if variable is not None:
         return f"`{variable}` has another value now than the job read"
+    if name == "Late" and first == JOURNAL:
+        declared = text.partition(":")[0].strip()
+        if declared in types:
+            return f"the journal has it already, as `{declared} : {types[declared]}`"
+        return "the desk goes on from its journal, and has the variables that were declared there"
     if name == "Late" and first:
         return f"declare all variables before the first other command, which was `{first}`"
     if name == "NotAscii":

@@ -12,10 +12,11 @@ import threading
 from collections import deque
 from collections.abc import Sequence
 from contextlib import suppress
+from copy import copy
 from io import BufferedReader, BufferedWriter
 from pathlib import Path
 
-from ._errors import Ended
+from ._errors import JOURNAL_FAULT, Ended, JournalError
 
 PIECE = 1 << 16  # bytes that are read at a time: what a pipe holds
 LINE_LIMIT = 16 << 20  # bytes of a line; stmdesk's longest have some 2 MiB
@@ -100,7 +101,9 @@ def is_ours(error: BaseException) -> bool:
 class Process:
     """The running program, with pipes to its standard input and output."""
 
-    def __init__(self, command: Sequence[str]) -> None:
+    def __init__(self, command: Sequence[str], *, is_opening: bool = False) -> None:
+        """`is_opening` says that the program first opens a journal, as it does until somebody sets this to false."""
+        self.is_opening = is_opening
         self.end: Ended | None = None
         self._ending = threading.RLock()
         self._sending = threading.RLock()  # so that the input isn't closed in the midst of a write
@@ -130,7 +133,7 @@ class Process:
         """A second descriptor of the pipe from the program, which is the caller's to close. Raises `Ended`."""
         with self._ending:
             if self.end:
-                raise Ended(*self.end.args)
+                raise copy(self.end)
             return os.dup(self._output.fileno())
 
     def send(self, text: bytes) -> None:
@@ -209,7 +212,13 @@ class Process:
                     self._input.close()
                 with suppress(OSError):
                     self._output.close()
-                self._errors.seek(max(0, self._errors.seek(0, os.SEEK_END) - SAID_LIMIT))
-                self.end = Ended(status, self._errors.read().decode("utf-8", "replace").strip())
+                said = self.said()
+                is_of_journal = JOURNAL_FAULT in said or (self.is_opening and status in (1, 3))
+                self.end = (JournalError if is_of_journal else Ended)(status, said)
                 self._errors.close()
             return self.end
+
+    def said(self) -> str:
+        """The end of what the program wrote on standard error so far."""
+        file = self._errors.fileno()  # whose position is the program's, too
+        return os.pread(file, SAID_LIMIT, max(0, os.fstat(file).st_size - SAID_LIMIT)).decode("utf-8", "replace").strip()

@@ -19,17 +19,36 @@ import asyncio
 import os
 from collections.abc import Callable
 from contextlib import suppress
+from copy import copy
 from functools import partial
 from types import TracebackType
 from typing import Any, TypeVar
 
 from . import _desk
 from ._batch import Commands
-from ._errors import Cancelled, TimedOut
+from ._errors import Cancelled, DeskError, JournalError, TimedOut
 from ._values import Events, Finished, FinishedThrows, Job, Reason, Ref, Settled, Status, Store, Value, Verdict
 from ._waits import Wait
 
 T = TypeVar("T")
+
+
+class _Desk(_desk.Desk):
+    """A desk whose journal is opened in its own thread."""
+
+    def _open_journal(self) -> None:
+        open_journal = super()._open_journal
+
+        def work() -> None:
+            with suppress(DeskError):  # which each later call raises
+                open_journal()
+
+        self._begin_waits().helper.run(work)
+
+    def check_journal(self) -> None:
+        """Raises `JournalError` if the journal isn't open."""
+        if isinstance(self._process.end, JournalError):
+            raise copy(self._process.end)
 
 
 class Desk:
@@ -51,17 +70,22 @@ class Desk:
         self,
         program: str | os.PathLike[str] | None = None,
         *,
+        journal: str | os.PathLike[str] | None = None,
+        sync: _desk.Sync | None = None,
         workers: int | None = None,
         levels: int | None = None,
         max_events: int | None = None,
         patience: float = _desk.PATIENCE,
     ) -> None:
-        """Starts the program, as `stmdesk.Desk` does.
+        """Starts the program, as `stmdesk.Desk` does, and doesn't wait until a journal is opened. If it isn't, `async with`
+        raises `JournalError`, or else the first call does.
 
         >>> other = aio.Desk(workers=4, max_events=1000)
         >>> run(other.close())
         """
-        self._desk = _desk.Desk(program, workers=workers, levels=levels, max_events=max_events, patience=patience)
+        self._desk = _Desk(
+            program, journal=journal, sync=sync, workers=workers, levels=levels, max_events=max_events, patience=patience
+        )
 
     async def tvar(self, declaration: str) -> Ref:
         """Declares a variable.
@@ -70,6 +94,14 @@ class Desk:
         Ref(1, 'y')
         """
         return await self._call(partial(self._desk.tvar, declaration))
+
+    async def variable(self, declaration: str) -> Ref:
+        """The variable of a declaration, which the journal has, or which is declared.
+
+        >>> run(desk.variable("x : Int = 0")), run(desk.variable("y : Int = 0"))
+        (Ref(0, 'x'), Ref(1, 'y'))
+        """
+        return await self._call(partial(self._desk.variable, declaration))
 
     async def try_(self, block: str) -> Verdict:
         """What the block would do on the present store, which doesn't change.
@@ -269,6 +301,24 @@ class Desk:
         """The number of the program's process."""
         return self._desk.pid
 
+    @property
+    def is_resumed(self) -> bool:
+        """Whether the desk goes on from the history of its journal, once that is opened.
+
+        >>> desk.is_resumed
+        False
+        """
+        return self._desk.is_resumed
+
+    @property
+    def dropped(self) -> int:
+        """How many bytes were dropped when the journal was opened.
+
+        >>> desk.dropped
+        0
+        """
+        return self._desk.dropped
+
     async def close(self) -> None:
         """Ends the program's input and waits for the program to end, as `stmdesk.Desk.close` does.
 
@@ -277,6 +327,7 @@ class Desk:
         await asyncio.to_thread(self._desk.close)
 
     async def __aenter__(self) -> Desk:
+        await self._call(self._desk.check_journal)
         return self
 
     async def __aexit__(

@@ -2,6 +2,6 @@
 pub mod CompiledBlock
 pub mod DeclaredVariable
 pub mod NameText
-pub mod ToldRefusal
+pub mod OutOfMemory
 -- The words inside, for what a declaration does to the table.
 pub mod Declares

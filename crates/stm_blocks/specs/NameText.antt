@@ -2,8 +2,7 @@
 use Rattle.std.specs.Prelude.{ℕ, ◌+◌, List, [], ◌∷◌, ◌++◌, Option, Some, None}
 use Rattle.stm_store.specs.Tables.{Declared}
 
--- ---- store
--- a declared variable stands with its name
+-- the name of a declared variable and a space, or nothing
 abbrev pub name_text : Option Declared → List ℕ
 name_text (Some d) = d.name ++ 32 ∷ []
 name_text None = []

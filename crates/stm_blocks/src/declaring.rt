@@ -1,9 +1,8 @@
 //! Variables from their texts.
 
-ghost use Rattle.stm_terms.specs.UnlessNoMemory.{AnswersAs};
+ghost use Rattle.std.specs.Prelude.{◌≡◌};
 ghost use Rattle.stm_parse.specs.Declarations.{parsed_initial};
 ghost use Rattle.stm_blocks.specs.DeclaredVariable.{initial as initial_of, variable_of};
-ghost use Rattle.stm_blocks.specs.ToldRefusal.{told_refusal};
 ghost use Rattle.stm_blocks.specs.Declares.{Declares};
 
 use crate::refusal::Refusal;
@@ -14,8 +13,7 @@ use stm_terms::values::{Ref, Value};
 
 /// A first value: a literal, or a reference to the variable of a name.
 pub fn initial(table: &Table, init: &Init) -> Result<Value, Refusal>
-    ensures { AnswersAs told_refusal (λ v. v) result
-        (initial_of table.now (parsed_initial init.now)) }
+    ensures { result ≡ initial_of table.now (parsed_initial init.now) }
 {
     match init {
         Init::Literal(value) => Ok(*value),
@@ -26,7 +24,7 @@ pub fn initial(table: &Table, init: &Init) -> Result<Value, Refusal>
     }
 }
 
-/// Declares the variable of a text after the others, and answers its number.
+/// Declares the variable of a text after the others, and returns its number.
 #[tactic(auto, unfolding(crate::specs::DeclaredVariable::variable_of))]
 pub fn declare(alloc: Global, table: &mut Table, text: &str) -> Result<u32, Refusal>
     ensures { Declares table.old result table.new (variable_of table.old text.now) }

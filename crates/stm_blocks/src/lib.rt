@@ -4,8 +4,8 @@
 //! is refused. `naming` prints the name of a variable.
 //!
 //! What a reader has to believe is in these modules of specs/: `CompiledBlock` has the block of a text, `DeclaredVariable` the
-//! variable that a text declares, each with the first reason why it is refused; `ToldRefusal` which of these are printed, and
-//! `NameText` how a name is printed.
+//! variable that a text declares, each with the first reason why it is refused; `OutOfMemory` which refusals say that memory ran
+//! out, and `NameText` how a name is printed.
 #![tactic(auto)]
 
 pub mod block;

@@ -1,6 +1,6 @@
 -- A well typed action has an outcome, of its type, in every well typed view.
 use Rattle.std.proofs.Common.{◌≡◌, ◌≢◌, ℕ, zero, suc, ◌<◌, ◌≤◌, Bool, true, false, List, [], ◌∷◌, ◌++◌, length, ◌⊎◌, inl, inr, Option, Some, None, Ok, Err, refl, ap, sym, ◌∙◌, subst, arith, eqb-true, ⊎_elim}
-use Rattle.std.specs.Prelude.{slice_get, slice_set, option_map, nat_eq, nat_lt, nat_le, if◌then◌else◌}
+use Rattle.std.specs.Prelude.{slice_get, slice_set, option_map, nat_eq, nat_lt, nat_le, if◌then◌else◌, ⊤}
 use Rattle.std.proofs.lemmas.Bool.Decides.{nat_tests}
 use Rattle.stm_terms.specs.declared.kinds.Ty.{Ty}
 use Rattle.stm_terms.specs.declared.values.Ref.{Ref}
@@ -241,8 +241,8 @@ module _ (kinds : TypeEnv) (under : Variables) where
   -- an outcome is never stuck; a return is of the type, in a well typed view that has the cells from before
   abbrev pub Fine : Changes → ActionType → Outcome → Type 0
   Fine h r (Returned v k) = HasResult k r v × WellTyped kinds under k × Extends h k
-  Fine h r (Threw f) = Unit {0}
-  Fine h r Retried = Unit {0}
+  Fine h r (Threw f) = ⊤
+  Fine h r Retried = ⊤
   Fine h r Stuck = ⊥
 
   answer_fine : (h : Changes) (t : Ty) (r : ActionType) (a : Answer) (go : Value → Outcome) → IsOf kinds h t a → ((v : Value) → type_of kinds h v ≡ Some t → Fine h r (go v)) → Fine h r (on_answer a go)

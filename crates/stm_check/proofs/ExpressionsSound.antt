@@ -1,6 +1,6 @@
 -- A well typed expression has a value of its type, or a fault.
 use Rattle.std.proofs.Common.{◌≡◌, ◌≢◌, ℕ, zero, suc, Bool, true, false, List, [], ◌∷◌, Option, Some, None, Result, Ok, Err, refl, ap, sym, ◌∙◌, subst, arith, eqb-true}
-use Rattle.std.specs.Prelude.{ℤ, ◌+ℤ◌, ◌-ℤ◌, ◌*ℤ◌, slice_get, option_map, ◌&&◌, ◌||◌, if◌then◌else◌}
+use Rattle.std.specs.Prelude.{ℤ, ◌+ℤ◌, ◌-ℤ◌, ◌*ℤ◌, slice_get, option_map, ◌&&◌, ◌||◌, if◌then◌else◌, ⊤}
 use Rattle.std.proofs.lemmas.Bool.{false≢true}
 use Rattle.stm_terms.specs.declared.kinds.Base.{Base as BaseTy}
 use Rattle.stm_terms.specs.declared.kinds.Base.TheVariants.{Int as IntBase, Bool as BoolBase, Unit as UnitBase}
@@ -63,7 +63,7 @@ operands_given w g t u r e =
 -- what is said of an answer at a type
 abbrev pub IsOf : TypeEnv → Changes → Ty → Answer → Type 0
 IsOf kinds h t (Some (Ok v)) = type_of kinds h v ≡ Some t
-IsOf kinds h t (Some (Err f)) = Unit {0}
+IsOf kinds h t (Some (Err f)) = ⊤
 IsOf kinds h t None = ⊥
 
 module _ (kinds : TypeEnv) (h : Changes) where

@@ -1,6 +1,6 @@
 -- The types of the variables that a block names are enough for its typing.
 use Rattle.std.proofs.Common.{◌≡◌, ℕ, Bool, true, false, List, [], ◌∷◌, ◌++◌, Option, Some, None, refl, ap, ◌∙◌, sym, ◌⊎◌, inl, inr}
-use Rattle.std.specs.Prelude.{nat_eq, option_map, if◌then◌else◌}
+use Rattle.std.specs.Prelude.{nat_eq, option_map, if◌then◌else◌, ⊤}
 use Rattle.std.proofs.lemmas.Bool.{eqb-true, eq-eqb}
 use Rattle.stm_terms.specs.declared.kinds.Ty.{Ty}
 use Rattle.stm_terms.specs.Ast.{Term, lit, local, global, bin, Act, return, read, write, make, retry, throw, if_else, or_else, bind, let_in, seq, catch}
@@ -8,7 +8,7 @@ use Rattle.stm_terms.specs.Typing.{TypeEnv, var_ty, with_type, int_ty, expr_type
 
 -- at each of these variables both say the same
 abbrev pub AgreeAt : TypeEnv → TypeEnv → List ℕ → Type 0
-AgreeAt k m [] = Unit {0}
+AgreeAt k m [] = ⊤
 AgreeAt k m (i ∷ is) = (m i ≡ k i) × AgreeAt k m is
 
 agree_left : (k m : TypeEnv) (is js : List ℕ) → AgreeAt k m (is ++ js) → AgreeAt k m is

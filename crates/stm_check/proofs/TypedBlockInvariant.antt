@@ -1,6 +1,6 @@
 -- What a checked block keeps.
 use Rattle.std.proofs.Common.{◌≡◌, ℕ, ◌≤◌, List, [], ◌∷◌, Some, Result, Ok, Err, IfOk, sym, subst, arith}
-use Rattle.std.specs.Prelude.{nat_le}
+use Rattle.std.specs.Prelude.{nat_le, ⊤}
 use Rattle.stm_terms.specs.declared.kinds.Ty.{Ty}
 use Rattle.stm_terms.specs.Ast.{Term, Act, return, read, write, make, retry, throw, if_else, or_else, bind, let_in, seq, catch}
 use Rattle.stm_terms.specs.ParsedAst as raw
@@ -17,7 +17,7 @@ abbrev Small : ℕ → Act × ActionType → Type 0
 Small n x = makes x.0 ≤ n
 
 abbrev Anything : Term × Ty → Type 0
-Anything x = Unit {0}
+Anything x = ⊤
 
 any_expr : (o : Result (Term × Ty) TypeFault) → IfOk o Anything
 any_expr (Ok x) = tt

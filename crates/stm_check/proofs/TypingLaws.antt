@@ -26,13 +26,13 @@ keeps_types kinds under a locals types h r v k w l p e =
 pub knowing_more_keeps_types : Weakening
 knowing_more_keeps_types few more a types r known p = action_more few more known a types r p
 
-told : (o : Outcome) → o ≢ Stuck → (v : Verdict) × (verdict_from o ≡ Some v)
-told (Returned v h) p = (Commits h.writes h.news v, refl)
-told (Threw f) p = (Throws f, refl)
-told Retried p = (Blocks, refl)
-told Stuck p = absurd (p refl)
+has_verdict : (o : Outcome) → o ≢ Stuck → (v : Verdict) × (verdict_from o ≡ Some v)
+has_verdict (Returned v h) p = (Commits h.writes h.news v, refl)
+has_verdict (Threw f) p = (Throws f, refl)
+has_verdict Retried p = (Blocks, refl)
+has_verdict Stuck p = absurd (p refl)
 
 pub every_verdict_fits : VerdictFits
 every_verdict_fits cells uses block r s c p =
-    let v = told (run (cell_value cells) block [] no_changes) (block_defined cells uses block r s c p) in
+    let v = has_verdict (run (cell_value cells) block [] no_changes) (block_defined cells uses block r s c p) in
     (v.0, v.1, verdict_fits cells uses block r v.0 s c p v.1)

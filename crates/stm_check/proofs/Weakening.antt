@@ -76,9 +76,6 @@ store_fine cells s = record {
   news = λ k c e. absurd (cc);
 }
 
-same_type : (t u : Ty) → Some t ≡ Some u → t ≡ u
-same_type t u e = cc
-
 -- a variable that a block names is one of the store's, with its type
 pub covered : (cells : List (Ty × Value)) (uses : List (ℕ × Ty)) → Covers cells uses → (i : ℕ) (t : Ty) → kinds_in uses i ≡ Some t → kinds_of cells i ≡ Some t
 covered cells [] c i t e = absurd (cc)

@@ -6,11 +6,12 @@ use Rattle.stm_terms.specs.Ast.{Term, Act}
 use Rattle.stm_terms.specs.Limits.{most_refs}
 use Rattle.stm_terms.specs.ParsedAst as raw
 use Rattle.stm_terms.specs.Typing.{ActionType, result_type, named_in, named, record_uses}
-use Rattle.stm_terms.specs.UnlessNoMemory.{AnswersAs}
+use Rattle.stm_terms.specs.UnlessNoMemory.{AnswersUnless}
 use Rattle.stm_check.specs.declared.fault.TypeFault.{TypeFault}
+use Rattle.stm_check.specs.declared.fault.TypeFault.TheVariants.{NoMemory}
 use Rattle.stm_check.specs.declared.checker.Checker.{Checker}
 use Rattle.stm_check.specs.Scopes.{scope, ScopeHasFewRefs}
-use Rattle.stm_check.specs.CheckFunction.{table_kinds, checked_expr, checked, told_type_fault}
+use Rattle.stm_check.specs.CheckFunction.{table_kinds, checked_expr, checked}
 
 -- the names of an expression can be looked up
 abbrev pub CanLookUp : Checker → raw.RawTerm → Type 0
@@ -40,20 +41,20 @@ recorded_expr checker e uses = record_uses (table_kinds checker.table.now) (name
 abbrev pub recorded_act : Checker → Act → List (ℕ × Ty) → List (ℕ × Ty)
 recorded_act checker a uses = record_uses (table_kinds checker.table.now) (named a) uses
 
--- a type has at most one `TVar` more than that of what a variable holds, where it is one
+-- a type has at most one `TVar` more than that of what a variable holds, if it has a type
 abbrev pub HasFewRefs : Option Ty → Type 0
 HasFewRefs o = IfSome o (λ t. t.refs ≤ most_refs + 1)
 
--- the check of an expression, seen by view: what it answers, which variables it notes, and how deep its type is
+-- the check of an expression, seen by view: what it returns, which variables it notes, and how deep its type is
 pub record ChecksExpr {X : Type 0} (checker : Checker) (e : raw.RawTerm) (view : X → Term)
     (result : Result (X × Ty) TypeFault) (before after : List (ℕ × Ty)) : Type 0 where
-  pub says : AnswersAs told_type_fault (λ r. (view r.0, r.1)) result (expr_found checker e)
+  pub says : AnswersUnless NoMemory (λ r. (view r.0, r.1)) result (expr_found checker e)
   pub uses : IfOk result (λ r. after ≡ recorded_expr checker (view r.0) before)
   pub low : IfOk result (λ r. r.1.refs ≤ most_refs + 1)
 
 -- so too of an action
 pub record ChecksAction {X : Type 0} (checker : Checker) (a : raw.RawAct) (view : X → Act)
     (result : Result (X × Option Ty) TypeFault) (before after : List (ℕ × Ty)) : Type 0 where
-  pub says : AnswersAs told_type_fault (λ r. (view r.0, result_type r.1)) result (act_found checker a)
+  pub says : AnswersUnless NoMemory (λ r. (view r.0, result_type r.1)) result (act_found checker a)
   pub uses : IfOk result (λ r. after ≡ recorded_act checker (view r.0) before)
   pub low : IfOk result (λ r. HasFewRefs r.1)

@@ -12,9 +12,9 @@ use Rattle.stm_store.specs.Cells.{kinds_of}
 use Rattle.stm_store.specs.Tables.{Declared, number_of, declared_cells}
 use Rattle.stm_check.specs.Scopes.{Locals, innermost}
 use Rattle.stm_check.specs.declared.fault.TypeFault.{TypeFault}
-use Rattle.stm_check.specs.declared.fault.TypeFault.TheVariants.{Unknown, Mismatch, NotAVariable, Untyped, TypeTooDeep, NoMemory}
+use Rattle.stm_check.specs.declared.fault.TypeFault.TheVariants.{Unknown, Mismatch, NotAVariable, Untyped, TypeTooDeep}
 
--- the type that both operands must have, where that is one
+-- the type that both operands must have, if that is fixed
 abbrev pub wanted : Op → Option Ty
 wanted Mul = Some int_ty
 wanted Add = Some int_ty
@@ -36,7 +36,7 @@ given And = bool_ty
 given Or = bool_ty
 given Eq = bool_ty
 
--- whether an operand's type is the one that is wanted, where one is
+-- whether an operand's type is the one that is wanted, if one is
 abbrev pub as_wanted : Option Ty → Ty → Bool
 as_wanted (Some w) t = same_ty t w
 as_wanted None t = true
@@ -51,7 +51,7 @@ abbrev pub on_ok : {A B : Type 0} → Result A TypeFault → (A → Result B Typ
 on_ok (Ok x) go = go x
 on_ok (Err e) go = Err e
 
--- goes on where the test holds
+-- goes on if the test holds
 abbrev pub unless : {B : Type 0} → Bool → TypeFault → Result B TypeFault → Result B TypeFault
 unless b fault go = if b then go else Err fault
 
@@ -69,7 +69,7 @@ on_type Any fault go = Err fault
 abbrev pub table_kinds : List Declared → TypeEnv
 table_kinds table = kinds_of (declared_cells table)
 
--- a variable by its number, where it has one, with the type of its cell
+-- a variable by its number, if it has one, with the type of its cell
 abbrev pub with_kind : TypeEnv → Option ℕ → Option (ℕ × Ty)
 with_kind kinds (Some i) = option_map (λ t. (i, t)) (kinds i)
 with_kind kinds None = None
@@ -132,8 +132,3 @@ module _ (table : List Declared) (text : List ℕ) where
   checked ls (raw.catch a span at b) =
       on_ok (checked ls a) (λ y. on_ok (checked ((raw.text_at text span, int_ty) ∷ ls) b)
       (λ z. on_some (join_types y.1 z.1) (Mismatch at) (λ r. Ok (catch y.0 z.0, r))))
-
--- the fault that is told; an out-of-memory error tells none
-abbrev pub told_type_fault : TypeFault → Option TypeFault
-told_type_fault NoMemory = None
-told_type_fault f = Some f

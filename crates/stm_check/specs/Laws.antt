@@ -1,5 +1,5 @@
 -- What typing promises, and how the check is tied to it.
-use Rattle.std.specs.Prelude.{◌≡◌, ◌≢◌, ◌↔◌, ℕ, List, [], ◌∷◌, Some, None, Ok, Err}
+use Rattle.std.specs.Prelude.{◌≡◌, ◌≢◌, ◌↔◌, ℕ, List, [], ◌∷◌, Some, None, Ok, Err, ⊤}
 use Rattle.stm_terms.specs.declared.kinds.Ty.{Ty}
 use Rattle.stm_terms.specs.declared.values.Value.{Value}
 use Rattle.stm_terms.specs.declared.verdicts.Verdict.{Verdict}
@@ -38,7 +38,7 @@ Preservation =
     → run under a locals h ≡ Returned v k
     → OfType kinds k r v × WellTyped kinds under k
 
--- an action keeps its type where more variables are known
+-- an action keeps its type if more variables are known
 abbrev pub Weakening : Type 0
 Weakening =
     (few more : TypeEnv) (a : Act) (types : List Ty) (r : ActionType)
@@ -52,7 +52,7 @@ VerdictFits =
     → StoreIsTyped cells → Covers cells uses → action_type (kinds_in uses) [] block ≡ Some r
     → (v : Verdict) × (verdict (cell_value cells) block ≡ Some v) × Fits cells v
 
--- the check accepts a parsed tree exactly where its names resolve and the tree that they give has a type: that tree, with
+-- the check accepts a parsed tree exactly if its names resolve and the tree that they give has a type: that tree, with
 -- that type
 abbrev pub CheckIsExact : Type 0
 CheckIsExact =
@@ -60,7 +60,7 @@ CheckIsExact =
     → (checked table text locals parsed ≡ Ok (a, r))
     ↔ (IsAct table text (names_of locals) parsed a × (action_type (table_kinds table) (types_of locals) a ≡ Some r))
 
--- and it reports a fault exactly where no tree that the names give has a type
+-- and it reports a fault exactly if no tree that the names give has a type
 abbrev pub CheckErrsExactly : Type 0
 CheckErrsExactly =
     (table : List Declared) (text : List ℕ) (parsed : raw.RawAct) (locals : Locals)
@@ -73,9 +73,9 @@ Strengthening =
     (kinds : TypeEnv) (block : Act) (r : ActionType)
     → action_type kinds [] block ≡ Some r → action_type (kinds_in (uses_of kinds block)) [] block ≡ Some r
 
--- no variable stands twice
+-- no variable is there twice
 abbrev pub AreDistinct : List (ℕ × Ty) → Type 0
-AreDistinct [] = Unit {0}
+AreDistinct [] = ⊤
 AreDistinct (u ∷ us) = (kinds_in us u.0 ≡ None) × AreDistinct us
 
 -- a block names each variable once

@@ -1,6 +1,6 @@
 -- The block that a parsed block stands for: the same tree, with each name the number of a local or of a declared variable.
 -- Types play no part in it.
-use Rattle.std.specs.Prelude.{◌≡◌, ℕ, List, [], ◌∷◌, length, Option, Some, None, if◌then◌else◌}
+use Rattle.std.specs.Prelude.{◌≡◌, ℕ, List, [], ◌∷◌, length, Option, Some, None, if◌then◌else◌, ⊤}
 use Rattle.std.specs.Str.{bytes_eq}
 use Rattle.stm_terms.specs.declared.values.Value.TheVariants as value
 use Rattle.stm_terms.specs.Ast.{Term, lit, local, global, bin, Act, return, read, write, make, retry, throw, if_else, or_else, bind, let_in, seq, catch}
@@ -13,7 +13,7 @@ number_in name [] = None
 number_in name (n ∷ outer) = if bytes_eq n name then Some (length outer) else number_in name outer
 
 module _ (table : List Declared) (text : List ℕ) where
-  -- a name is a local where there is one of that name, else a declared variable
+  -- a name is a local if there is one of that name, else a declared variable
   abbrev pub IsNamed : List (List ℕ) → List ℕ → Term → Type 0
   IsNamed ns name (local i) = number_in name ns ≡ Some i
   IsNamed ns name (global i) = (number_in name ns ≡ None) × (number_of name table ≡ Some i)
@@ -34,7 +34,7 @@ module _ (table : List Declared) (text : List ℕ) where
   IsAct ns (raw.read e) (read x) = IsTerm ns e x
   IsAct ns (raw.write r e) (write x y) = IsTerm ns r x × IsTerm ns e y
   IsAct ns (raw.make e) (make t x) = IsTerm ns e x
-  IsAct ns raw.retry retry = Unit {0}
+  IsAct ns raw.retry retry = ⊤
   IsAct ns (raw.throw e) (throw x) = IsTerm ns e x
   IsAct ns (raw.if_else e a at b) (if_else x y z) = IsTerm ns e x × IsAct ns a y × IsAct ns b z
   IsAct ns (raw.or_else a at b) (or_else y z) = IsAct ns a y × IsAct ns b z

@@ -1,5 +1,5 @@
 -- The locals in scope.
-use Rattle.std.specs.Prelude.{ℕ, ◌+◌, ◌≤◌, List, [], ◌∷◌, ◌++◌, length, Option, Some, None, if◌then◌else◌}
+use Rattle.std.specs.Prelude.{ℕ, ◌+◌, ◌≤◌, List, [], ◌∷◌, ◌++◌, length, Option, Some, None, if◌then◌else◌, ⊤}
 use Rattle.std.specs.Str.{bytes_eq}
 use Rattle.stm_terms.specs.declared.kinds.Ty.{Ty}
 use Rattle.stm_terms.specs.Limits.{most_refs}
@@ -32,5 +32,5 @@ names_of (l ∷ outer) = l.0 ∷ names_of outer
 
 -- each type has at most one `TVar` more than that of what a variable holds
 abbrev pub ScopeHasFewRefs : Locals → Type 0
-ScopeHasFewRefs [] = Unit {0}
+ScopeHasFewRefs [] = ⊤
 ScopeHasFewRefs (l ∷ outer) = (l.1.refs ≤ most_refs + 1) × ScopeHasFewRefs outer

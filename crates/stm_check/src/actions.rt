@@ -234,7 +234,7 @@ impl Checker<'_> {
         Ok((Action::Seq(a, b), kind))
     }
 
-    /// The check of an action that is part of another. It is boxed here, so that no memory is asked for where parts wait for
+    /// The check of an action that is part of another. It is boxed here, so that no memory is asked for while parts wait for
     /// each other.
     #[cycle(actions)]
     fn check_part(

@@ -5,8 +5,8 @@ ghost use Rattle.std.specs.Str.{IsAscii};
 ghost use Rattle.stm_terms.specs.ParsedAst.{raw_act_of, SpansWithin, actions};
 ghost use Rattle.stm_terms.specs.Ast.{act_of};
 ghost use Rattle.stm_terms.specs.Typing.{result_type, uses_of};
-ghost use Rattle.stm_terms.specs.UnlessNoMemory.{AnswersAs};
-ghost use Rattle.stm_check.specs.CheckFunction.{checked, table_kinds, told_type_fault};
+ghost use Rattle.stm_terms.specs.UnlessNoMemory.{AnswersUnless};
+ghost use Rattle.stm_check.specs.CheckFunction.{checked, table_kinds};
 
 use crate::checker::Checker;
 use crate::fault::TypeFault;
@@ -29,7 +29,7 @@ fn check_tree(
     requires ascii { IsAscii text.now }
     requires spans { SpansWithin (length text.now) (raw_act_of raw.now) }
     requires small { actions (raw_act_of raw.now) ≤ 2 ^ 32 }
-    ensures says { AnswersAs told_type_fault (λ r. (act_of r.0, result_type r.1)) result
+    ensures says { AnswersUnless TypeFault.NoMemory (λ r. (act_of r.0, result_type r.1)) result
         (checked table.now text.now [] (raw_act_of raw.now)) }
     ensures uses { IfOk result (λ r. r.2.items ≡ uses_of (table_kinds table.now) (act_of r.0)) }
 {
@@ -54,7 +54,7 @@ pub(crate) fn check_raw(
     requires ascii { IsAscii (string_bytes text) }
     requires spans { SpansWithin (length (string_bytes text)) (raw_act_of raw.now) }
     requires small { actions (raw_act_of raw.now) ≤ 2 ^ 32 }
-    ensures says { AnswersAs told_type_fault (λ t. (t.tree, result_type t.result_type)) result
+    ensures says { AnswersUnless TypeFault.NoMemory (λ t. (t.tree, result_type t.result_type)) result
         (checked table.now (string_bytes text) [] (raw_act_of raw.now)) }
     ensures uses { IfOk result (λ t. t.uses ≡ uses_of (table_kinds table.now) t.tree) }
     ensures text { IfOk result (λ t. t.text ≡ string_bytes text) }
@@ -67,9 +67,9 @@ pub(crate) fn check_raw(
 ///
 /// Names are resolved: a local has its number, counted from 0 and from the outermost, and a declared variable its number
 /// in the table. Where locals have one name, the innermost is meant; a local hides a declared variable (docs/LANGUAGE.md,
-/// "Types"). The fault is the one of docs/LANGUAGE.md, "Type faults"; `NoMemory` stands where memory ran out.
+/// "Types"). The fault is the one of docs/LANGUAGE.md, "Type errors", or `NoMemory` if memory ran out before it was found.
 pub fn check(alloc: Global, table: &Table, raw: Raw) -> Result<Typed, TypeFault>
-    ensures says { AnswersAs told_type_fault (λ t. (t.tree, result_type t.result_type)) result
+    ensures says { AnswersUnless TypeFault.NoMemory (λ t. (t.tree, result_type t.result_type)) result
         (checked table.now raw.text [] raw.tree) }
     ensures uses { IfOk result (λ t. t.uses ≡ uses_of (table_kinds table.now) t.tree) }
     ensures text { IfOk result (λ t. t.text ≡ raw.text) }

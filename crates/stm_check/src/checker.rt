@@ -1,4 +1,4 @@
-//! What a check of trees works with. Its methods stand in `expressions` and `actions`.
+//! What a check of trees works with. Its methods are in `expressions` and `actions`.
 
 use crate::scope::Scope;
 use std::alloc::Global;

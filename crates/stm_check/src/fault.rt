@@ -3,7 +3,7 @@
 use std::alloc::AllocFailed;
 use stm_terms::NoMemory;
 
-/// The first fault of a block, with its place in the text, in bytes from 0 (docs/LANGUAGE.md, "Type faults").
+/// The first fault of a block, with its place in the text, in bytes from 0 (docs/LANGUAGE.md, "Type errors").
 ///
 /// Parts are checked from left to right, each before the judgement on it.
 #[derive(Clone, Copy, PartialEq, Eq, Debug)]

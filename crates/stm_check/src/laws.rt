@@ -22,17 +22,17 @@ pub fn verdict_fits()
     ensures { VerdictFits }
 {}
 
-/// The check accepts a parsed tree exactly where it resolves to a tree that has a type, and gives that tree and type.
+/// The check accepts a parsed tree exactly if it resolves to a tree that has a type, and gives that tree and type.
 pub fn check_is_exact()
     ensures { CheckIsExact }
 {}
 
-/// The check reports a fault exactly where no tree that the parsed one resolves to has a type.
+/// The check reports a fault exactly if no tree that the parsed one resolves to has a type.
 pub fn check_errs_exactly()
     ensures { CheckErrsExactly }
 {}
 
-/// A block keeps its type where only the variables that it names are known.
+/// A block keeps its type if only the variables that it names are known.
 pub fn strengthening()
     ensures { Strengthening }
 {}

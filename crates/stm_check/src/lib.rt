@@ -1,9 +1,9 @@
 //! Typing: the check that makes a parsed block a typed one or reports its first fault, and typed blocks.
 //!
-//! What typing is stands in stm_terms (`specs/Typing`). Here `specs/CheckFunction` says what the check gives, with the order of
-//! the faults, `specs/Scopes` which local a name means, `specs/Resolving` what a parsed tree is without its names, and
-//! `specs/TypedBlock` what callers see of a typed block. `specs/Laws` ties the check and the resolving to typing, and typing to what a block does: a well typed block is never
-//! stuck, and its verdict fits the store.
+//! stm_terms defines typing (`specs/Typing`). Here `specs/CheckFunction` says what the check returns, with the order of the
+//! faults, `specs/Scopes` which local a name means, `specs/Resolving` what a parsed tree is without its names, and
+//! `specs/TypedBlock` what callers see of a typed block. `specs/Laws` ties the check and the resolving to typing, and typing to
+//! what a block does: a well typed block is never stuck, and its verdict fits the store.
 #![tactic(auto)]
 
 mod actions;

@@ -112,7 +112,7 @@ impl Typed {
         self.text.as_str()
     }
 
-    /// The type of its result; none where it never returns.
+    /// The type of its result; none if it never returns.
     pub fn result(&self) -> Option<Ty>
         ensures { result ≡ self.now.result_type }
     {
@@ -164,7 +164,7 @@ impl Model for SharedBlock {
 }
 
 impl SharedBlock {
-    /// Puts a block where many may hold it.
+    /// Makes a block that many may hold.
     pub fn new(alloc: Global, block: Typed) -> Result<SharedBlock, NoMemory>
         ensures { IfOk result (λ s. s ≡ block) }
     {

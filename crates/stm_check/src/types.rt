@@ -60,7 +60,7 @@ pub(crate) fn inside(t: Ty) -> Option<Ty>
     }
 }
 
-/// The type that both operands must have, where that is one.
+/// The type that both operands must have, if that is fixed.
 pub(crate) fn wanted(op: Op) -> Option<Ty>
     ensures { result ≡ wanted op }
 {
@@ -81,7 +81,7 @@ pub(crate) fn given(op: Op) -> Ty
     }
 }
 
-/// Whether a type is the one that is wanted, where one is.
+/// Whether a type is the one that is wanted, if one is.
 pub(crate) fn as_wanted(wanted: Option<Ty>, t: Ty) -> bool
     ensures { result ≡ as_wanted wanted t }
 {

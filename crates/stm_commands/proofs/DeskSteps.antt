@@ -2,56 +2,75 @@
 use Rattle.std.proofs.Common.{◌≡◌, ◌≢◌, ℕ, ◌+◌, Bool, false, cond, List, ◌++◌, length, Option, Some, None, Result, Ok, Err, OnOk, refl, sym, ap, ap₂, subst, ◌∙◌, append_assoc}
 use Rattle.std.specs.Prelude.{codes, nat_lt}
 use Rattle.stm_check.specs.TypedBlock.{Block}
+use Rattle.stm_terms.specs.UnlessNoMemory.{RefusedAs}
+use Rattle.stm_terms.specs.declared.verdicts.Verdict.{Verdict}
+use Rattle.stm_store.specs.Cells.{changed_by}
 use Rattle.stm_queue.specs.Queue.{Entry, is_out}
 use Rattle.stm_machine.specs.JobsHandedOut.{sent}
-use Rattle.stm_machine.specs.Machine.{event}
 use Rattle.stm_events.specs.declared.errors.DeliverError.{DeliverError}
 use Rattle.stm_events.specs.declared.errors.SubmitError.{SubmitError}
-use Rattle.stm_events.specs.declared.event.What.TheVariants.{Submitted}
-use Rattle.stm_events.specs.Refusals.{submit_told}
+use Rattle.stm_events.specs.declared.errors.SubmitError.TheVariants as submit
+use Rattle.stm_events.specs.declared.errors.CancelError.{CancelError}
+use Rattle.stm_events.specs.declared.errors.CancelError.TheVariants as cancel
+use Rattle.stm_events.specs.declared.errors.FinishError.{FinishError}
+use Rattle.stm_events.specs.declared.errors.FinishError.TheVariants as finish
+use Rattle.stm_events.specs.declared.event.What.TheVariants.{Submitted, Finished, Cancelled}
+use Rattle.stm_events.specs.declared.staleness.StalenessRule.{StalenessRule}
+use Rattle.stm_events.specs.declared.staleness.StalenessRule.TheVariants.{Changed}
+use Rattle.stm_events.specs.SlowDesk.{Waiter, verdict_on, find_waiter, without_waiter, stale_after, waking, initial_state}
 use Rattle.stm_events.specs.SlowSettle.{finishes}
+use Rattle.stm_events.proofs.Folds.{state-rule}
+use Rattle.stm_machine.specs.Plans.{IsPlan}
 use Rattle.stm_desk.specs.declared.errors.SettleWhy.{SettleWhy}
 use Rattle.stm_desk.specs.declared.errors.SettleWhy.TheVariants.{HistoryFull, CellsFull, NoMemory}
-use Rattle.stm_desk.specs.Refusals.{submit_refusal}
-use Rattle.stm_desk.specs.Seen.{Seen, now, with_event}
-use Rattle.stm_desk.specs.Settling.{with_whats, called_back, slow_settle, slow_stop, HasSettled, StopTold}
+use Rattle.stm_desk.specs.Refusals.{submit_refusal, cancel_refusal, finish_refusal}
+use Rattle.stm_desk.proofs.Calls.{accepted}
+use Rattle.stm_desk.specs.declared.finish.Finish.{Finish}
+use Rattle.stm_desk.specs.Events.{finish_of}
+use Rattle.stm_desk.specs.DeskView.{DeskView, state_of, with_event}
+use Rattle.stm_desk.specs.Settling.{with_whats, requeued_all, slow_settle, slow_stop, HasSettled, HasStopped}
 use Rattle.stm_commands.specs.Blocks.{ticket_line, submit_block_step}
-use Rattle.stm_commands.specs.Endings.{settled_line, why_text, settle_text, settle_desk_step}
+use Rattle.stm_commands.specs.Endings.{finished_line, finish_verdict_step, finish_waiter_step, finish_ticket_step, cancelled_line, cancel_ticket_step, settled_line, why_text, settle_text, settle_desk_step}
 use Rattle.stm_commands.specs.declared.evaluation.Progress.{Progress}
 use Rattle.stm_commands.specs.Evaluation.{Delivered, evaluated, evaluation_text, eval_desk_step}
 use Rattle.stm_commands.specs.Jobs.{max_jobs, jobs_of, taken, jobs_line, with_jobs, take_jobs_step, delivery_refusal, delivery_step, deliver_job_step, queued_line, handed_back, handback_ticket_step}
 use Rattle.stm_commands.specs.OpenDesk.{HandedOut, OpenDesk, on_desk, Steps}
 use Rattle.stm_commands.specs.OpenInvariant.{delivered_so_far}
-use Rattle.stm_commands.specs.Refusals.{refused, submit_error_text}
+use Rattle.stm_commands.specs.Refusals.{refused, submit_error_text, finish_error_text, cancel_error_text}
 use Rattle.stm_commands.proofs.EvaluatedHere.{marked_queued}
 
-abbrev opened_as : List HandedOut → Seen → OpenDesk
+abbrev opened_as : List HandedOut → DeskView → OpenDesk
 opened_as js d = record { desk = d; jobs = js }
 
+-- a refusal that isn't for lack of memory is the definition's
+refusal_is : (A : Type 0) {E : Type 0} (no_memory : E) (o : Option E) (e : E) → RefusedAs {A = A} no_memory o (Err e) → e ≢ no_memory → o ≡ Some e
+refusal_is A no_memory None e h n = absurd (n h)
+refusal_is A no_memory (Some r) e h n = let q : r ≡ e = cc in ap Some q
+
 -- ---- submit
-pub submit_ok : {A E : Type 0} → (d e : Seen) (js : List HandedOut) (b : Block) (t : ℕ) (old new : List ℕ) (r : Result A E) → e ≡ with_event d (event 0 (Submitted t b)) → t ≡ (now d).next → None ≡ submit_refusal d b
+pub submit_ok : {A E : Type 0} → (d e : DeskView) (js : List HandedOut) (b : Block) (t : ℕ) (old new : List ℕ) (r : Result A E) → e ≡ with_event d 0 (Submitted t b) → t ≡ (state_of d).next → RefusedAs submit.NoMemory (submit_refusal d b) (Ok t)
     → OnOk r (new ≡ old ++ ticket_line t) → OnOk r (Steps (opened_as js e) old new (on_desk (opened_as js d) (submit_block_step d b (submit_refusal d b))))
 submit_ok d e js b t old new (Ok x) p q n h =
-    subst (λ (o : Option SubmitError). Steps (opened_as js e) old new (on_desk (opened_as js d) (submit_block_step d b o))) n
-    (ap (opened_as js) (p ∙ ap (λ (u : ℕ). with_event d (event 0 (Submitted u b))) q), h ∙ ap (λ (u : ℕ). old ++ ticket_line u) q)
+    subst (λ (o : Option SubmitError). Steps (opened_as js e) old new (on_desk (opened_as js d) (submit_block_step d b o))) (sym (accepted submit.NoMemory (submit_refusal d b) t n))
+    (ap (opened_as js) (p ∙ ap (λ (u : ℕ). with_event d 0 (Submitted u b)) q), h ∙ ap (λ (u : ℕ). old ++ ticket_line u) q)
 submit_ok d e js b t old new (Err x) p q n h = tt
 
-pub submit_err : {A E : Type 0} → (d e : Seen) (js : List HandedOut) (b : Block) (x : SubmitError) (old new : List ℕ) (r : Result A E) → e ≡ d → submit_told {A = ℕ} (Err x) ≡ submit_refusal d b → OnOk r (submit_told {A = ℕ} (Err x) ≡ Some x)
+pub submit_err : {A E : Type 0} → (d e : DeskView) (js : List HandedOut) (b : Block) (x : SubmitError) (old new : List ℕ) (r : Result A E) → e ≡ d → RefusedAs {A = ℕ} submit.NoMemory (submit_refusal d b) (Err x) → OnOk r (x ≢ submit.NoMemory)
     → OnOk r (new ≡ old ++ submit_error_text x) → OnOk r (Steps (opened_as js e) old new (on_desk (opened_as js d) (submit_block_step d b (submit_refusal d b))))
 submit_err d e js b x old new (Ok y) p n t h =
-    subst (λ (o : Option SubmitError). Steps (opened_as js e) old new (on_desk (opened_as js d) (submit_block_step d b o))) (sym t ∙ n) (ap (opened_as js) p, h)
+    subst (λ (o : Option SubmitError). Steps (opened_as js e) old new (on_desk (opened_as js d) (submit_block_step d b o))) (sym (refusal_is ℕ submit.NoMemory (submit_refusal d b) x n t)) (ap (opened_as js) p, h)
 submit_err d e js b x old new (Err y) p n t h = tt
 
 -- ---- take
-pub take_made : {A E : Type 0} → (d e : Seen) (js made more : List HandedOut) (n first : ℕ) (old new : List ℕ) (r : Result A E) → nat_lt max_jobs (n + length js) ≡ false → first ≡ length js + 1 → new ≡ old ++ jobs_line first (taken d n)
-    → made ≡ jobs_of (now d) (taken d n) → e ≡ record d { pending = sent (length (taken d n)) d.pending } → OnOk r (more ≡ js ++ made) → OnOk r (Steps (opened_as more e) old new (take_jobs_step (opened_as js d) n))
+pub take_made : {A E : Type 0} → (d e : DeskView) (js made more : List HandedOut) (n first : ℕ) (old new : List ℕ) (r : Result A E) → nat_lt max_jobs (n + length js) ≡ false → first ≡ length js + 1 → new ≡ old ++ jobs_line first (taken d n)
+    → made ≡ jobs_of (state_of d) (taken d n) → e ≡ record d { pending = sent (length (taken d n)) d.pending } → OnOk r (more ≡ js ++ made) → OnOk r (Steps (opened_as more e) old new (take_jobs_step (opened_as js d) n))
 take_made d e js made more n first old new (Ok x) few f p m q h =
     subst (λ (b : Bool). Steps (opened_as more e) old new (cond b (opened_as js d, refused (codes "JobsFull")) (with_jobs (opened_as js d) (taken d n), jobs_line (length js + 1) (taken d n)))) (sym few)
     (ap₂ opened_as (h ∙ ap (λ (ks : List HandedOut). js ++ ks) m) q, p ∙ ap (λ (k : ℕ). old ++ jobs_line k (taken d n)) f)
 take_made d e js made more n first old new (Err x) few f p m q h = tt
 
 -- ---- deliver
-pub delivered_job : {A E : Type 0} → (d e : Seen) (j k : HandedOut) (o : Option DeliverError) (old line new : List ℕ) (r : Result A E) → j ≡ k → o ≡ delivery_refusal d j → e ≡ (deliver_job_step d (Some j)).0 → (delivery_step d k o).1 ≡ line
+pub delivered_job : {A E : Type 0} → (d e : DeskView) (j k : HandedOut) (o : Option DeliverError) (old line new : List ℕ) (r : Result A E) → j ≡ k → o ≡ delivery_refusal d j → e ≡ (deliver_job_step d (Some j)).0 → (delivery_step d k o).1 ≡ line
     → OnOk r (new ≡ old ++ line) → OnOk r (Steps e old new (deliver_job_step d (Some k)))
 delivered_job d e j k o old line new (Ok x) s p q l h =
     let refusal : o ≡ delivery_refusal d k = p ∙ ap (delivery_refusal d) s in
@@ -59,11 +78,11 @@ delivered_job d e j k o old line new (Ok x) s p q l h =
 delivered_job d e j k o old line new (Err x) s p q l h = tt
 
 -- ---- handback
-not_out : (d : Seen) (t : ℕ) → is_out t d.pending ≡ false → handed_back d t ≡ d
+not_out : (d : DeskView) (t : ℕ) → is_out t d.pending ≡ false → handed_back d t ≡ d
 not_out d t h = ap (λ (p : List Entry). record d { pending = p }) (marked_queued t d.pending h)
 
 -- a ticket that isn't out is handed back to no effect
-pub handback_refused : {A E : Type 0} → (d e : Seen) (js : List HandedOut) (t : ℕ) (old new : List ℕ) (r : Result A E) → is_out t d.pending ≡ false → e ≡ handed_back d t → OnOk r (new ≡ old ++ refused (codes "NotOut"))
+pub handback_refused : {A E : Type 0} → (d e : DeskView) (js : List HandedOut) (t : ℕ) (old new : List ℕ) (r : Result A E) → is_out t d.pending ≡ false → e ≡ handed_back d t → OnOk r (new ≡ old ++ refused (codes "NotOut"))
     → OnOk r (Steps (opened_as js e) old new (on_desk (opened_as js d) (handback_ticket_step d t)))
 handback_refused d e js t old new (Ok x) h q p =
     subst (λ (b : Bool). Steps (opened_as js e) old new (on_desk (opened_as js d) (cond b (handed_back d t, queued_line t) (d, refused (codes "NotOut"))))) (sym h)
@@ -71,27 +90,68 @@ handback_refused d e js t old new (Ok x) h q p =
 handback_refused d e js t old new (Err x) h q p = tt
 
 -- ---- eval
-eval_here : {A E : Type 0} → (d e : Seen) (js : List HandedOut) (p : Progress) (old new : List ℕ) (r : Result A E) → delivered_so_far e p ≡ evaluated d → OnOk r (new ≡ old ++ evaluation_text p.count p.stop)
+eval_here : {A E : Type 0} → (d e : DeskView) (js : List HandedOut) (p : Progress) (old new : List ℕ) (r : Result A E) → delivered_so_far e p ≡ evaluated d → OnOk r (new ≡ old ++ evaluation_text p.count p.stop)
     → OnOk r (Steps (opened_as js e) old new (on_desk (opened_as js d) (eval_desk_step d)))
 eval_here d e js p old new (Ok x) q h = (ap (λ (v : Delivered). opened_as js v.desk) q, h ∙ ap (λ (v : Delivered). old ++ evaluation_text v.count v.stop) q)
 eval_here d e js p old new (Err x) q h = tt
 
-pub eval_made : {A E : Type 0} → (d e : Seen) (js : List HandedOut) (s : OpenDesk) (p : Progress) (old new : List ℕ) (r : Result A E) → opened_as js d ≡ s → delivered_so_far e p ≡ evaluated d → OnOk r (new ≡ old ++ evaluation_text p.count p.stop)
+pub eval_made : {A E : Type 0} → (d e : DeskView) (js : List HandedOut) (s : OpenDesk) (p : Progress) (old new : List ℕ) (r : Result A E) → opened_as js d ≡ s → delivered_so_far e p ≡ evaluated d → OnOk r (new ≡ old ++ evaluation_text p.count p.stop)
     → OnOk r (Steps (opened_as js e) old new (on_desk s (eval_desk_step s.desk)))
 eval_made d e js s p old new r w q h = subst (λ (t : OpenDesk). OnOk r (Steps (opened_as js e) old new (on_desk t (eval_desk_step t.desk)))) w (eval_here d e js p old new r q h)
 
+-- ---- cancel
+pub cancel_ok : {A E : Type 0} → (d e : DeskView) (js : List HandedOut) (t : ℕ) (old new : List ℕ) (r : Result A E) → e ≡ with_event d 0 (Cancelled t) → RefusedAs {A = Unit {0}} cancel.NoMemory (cancel_refusal d t) (Ok tt)
+    → OnOk r (new ≡ old ++ cancelled_line t) → OnOk r (Steps (opened_as js e) old new (on_desk (opened_as js d) (cancel_ticket_step d t (cancel_refusal d t))))
+cancel_ok d e js t old new (Ok x) p n h =
+    subst (λ (o : Option CancelError). Steps (opened_as js e) old new (on_desk (opened_as js d) (cancel_ticket_step d t o))) (sym (accepted {A = Unit {0}} cancel.NoMemory (cancel_refusal d t) tt n))
+    (ap (opened_as js) p, h)
+cancel_ok d e js t old new (Err x) p n h = tt
+
+pub cancel_err : {A E : Type 0} → (d e : DeskView) (js : List HandedOut) (t : ℕ) (x : CancelError) (old new : List ℕ) (r : Result A E) → e ≡ d → RefusedAs {A = Unit {0}} cancel.NoMemory (cancel_refusal d t) (Err x) → OnOk r (x ≢ cancel.NoMemory)
+    → OnOk r (new ≡ old ++ cancel_error_text x) → OnOk r (Steps (opened_as js e) old new (on_desk (opened_as js d) (cancel_ticket_step d t (cancel_refusal d t))))
+cancel_err d e js t x old new (Ok y) p n m h =
+    subst (λ (o : Option CancelError). Steps (opened_as js e) old new (on_desk (opened_as js d) (cancel_ticket_step d t o))) (sym (refusal_is (Unit {0}) cancel.NoMemory (cancel_refusal d t) x n m)) (ap (opened_as js) p, h)
+cancel_err d e js t x old new (Err y) p n m h = tt
+
+-- ---- finish
+-- the step of a finish that is planned
+finish_planned : (d : DeskView) (t : ℕ) (f : Finish) → IsPlan (state_of d) t f.verdict f.applied.first_new f.stale
+    → finish_waiter_step d t (find_waiter t (state_of d).waiters) ≡ (with_event d 0 (finish_of t f), finished_line t f.applied.first_new f.verdict f.stale)
+finish_planned d t f plan =
+    let s = state_of d in
+    let may = plan.may in
+    let ws = without_waiter t s.waiters in
+    let stale : f.stale ≡ stale_after (changed_by s.store f.verdict) ws = may.listed ∙ ap (λ (r : StalenessRule). stale_after (waking r s.store f.verdict) ws) (state-rule (initial_state Changed d.table) d.history) in
+    ap (finish_waiter_step d t) plan.found ∙ ap (finish_verdict_step d t) may.verdict_is ∙ sym (
+    ap (λ (n : ℕ). (with_event d 0 (Finished t f.verdict n f.stale), finished_line t n f.verdict f.stale)) may.first_new
+    ∙ ap (λ (l : List ℕ). (with_event d 0 (Finished t f.verdict (length s.store) l), finished_line t (length s.store) f.verdict l)) stale)
+
+pub finish_ok : {A E : Type 0} → (d e : DeskView) (js : List HandedOut) (t : ℕ) (f : Finish) (old new : List ℕ) (r : Result A E) → e ≡ with_event d 0 (finish_of t f) → IsPlan (state_of d) t f.verdict f.applied.first_new f.stale
+    → RefusedAs finish.NoMemory (finish_refusal d t) (Ok f) → OnOk r (new ≡ old ++ finished_line t f.applied.first_new f.verdict f.stale)
+    → OnOk r (Steps (opened_as js e) old new (on_desk (opened_as js d) (finish_ticket_step d t (finish_refusal d t))))
+finish_ok d e js t f old new (Ok x) p plan n h =
+    subst (λ (o : Option FinishError). Steps (opened_as js e) old new (on_desk (opened_as js d) (finish_ticket_step d t o))) (sym (accepted finish.NoMemory (finish_refusal d t) f n))
+    (subst (λ (s : DeskView × List ℕ). Steps (opened_as js e) old new (on_desk (opened_as js d) s)) (sym (finish_planned d t f plan)) (ap (opened_as js) p, h))
+finish_ok d e js t f old new (Err x) p plan n h = tt
+
+pub finish_err : {A E : Type 0} → (d e : DeskView) (js : List HandedOut) (t : ℕ) (x : FinishError) (old new : List ℕ) (r : Result A E) → e ≡ d → RefusedAs {A = Finish} finish.NoMemory (finish_refusal d t) (Err x) → OnOk r (x ≢ finish.NoMemory)
+    → OnOk r (new ≡ old ++ finish_error_text x) → OnOk r (Steps (opened_as js e) old new (on_desk (opened_as js d) (finish_ticket_step d t (finish_refusal d t))))
+finish_err d e js t x old new (Ok y) p n m h =
+    subst (λ (o : Option FinishError). Steps (opened_as js e) old new (on_desk (opened_as js d) (finish_ticket_step d t o))) (sym (refusal_is Finish finish.NoMemory (finish_refusal d t) x n m)) (ap (opened_as js) p, h)
+finish_err d e js t x old new (Err y) p n m h = tt
+
 -- ---- settle
-pub settle_ok : {A E : Type 0} → (d e : Seen) (js : List HandedOut) (f n : ℕ) (old new : List ℕ) (r : Result A E) → HasSettled 0 (called_back d) e f n None → OnOk r (new ≡ old ++ settled_line f n)
-    → OnOk r (Steps (opened_as js e) old new (on_desk (opened_as js d) (settle_desk_step (called_back d))))
+pub settle_ok : {A E : Type 0} → (d e : DeskView) (js : List HandedOut) (f n : ℕ) (old new : List ℕ) (r : Result A E) → HasSettled 0 (requeued_all d) e f n None → OnOk r (new ≡ old ++ settled_line f n)
+    → OnOk r (Steps (opened_as js e) old new (on_desk (opened_as js d) (settle_desk_step (requeued_all d))))
 settle_ok d e js f n old new (Ok x) s p =
-    let c = called_back d in (
+    let c = requeued_all d in (
       ap (opened_as js) s.grown,
       p ∙ ap (λ (t : List ℕ). old ++ t) (ap (λ (k : ℕ). settled_line k n) s.finished ∙ ap (λ (k : ℕ). settled_line (finishes (slow_settle c)) k) s.evaluated ∙ ap (settle_text (slow_settle c)) (sym s.stopped)),
     )
 settle_ok d e js f n old new (Err x) s p = tt
 
 -- settling that stopped, by what was told of it
-stopped_told : (d e : Seen) (w : SettleWhy) (f n : ℕ) → StopTold w 0 d e f n → w ≢ NoMemory → (e ≡ with_whats d 0 (slow_settle d)) × (why_text w ++ settled_line f n ≡ settle_text (slow_settle d) (slow_stop d))
+stopped_told : (d e : DeskView) (w : SettleWhy) (f n : ℕ) → HasStopped w 0 d e f n → w ≢ NoMemory → (e ≡ with_whats d 0 (slow_settle d)) × (why_text w ++ settled_line f n ≡ settle_text (slow_settle d) (slow_stop d))
 stopped_told d e HistoryFull f n s h = (
   s.0.grown,
   ap (λ k. why_text HistoryFull ++ settled_line k n) s.0.finished ∙ ap (λ k. why_text HistoryFull ++ settled_line (finishes (slow_settle d)) k) s.0.evaluated ∙ ap (settle_text (slow_settle d)) (sym s.0.stopped),
@@ -102,9 +162,9 @@ stopped_told d e CellsFull f n s h = (
 )
 stopped_told d e NoMemory f n s h = absurd (h refl)
 
-pub settle_err : {A E : Type 0} → (d e : Seen) (js : List HandedOut) (w : SettleWhy) (f n : ℕ) (old new : List ℕ) (r : Result A E) → StopTold w 0 (called_back d) e f n → OnOk r (new ≡ old ++ why_text w ++ settled_line f n)
-    → OnOk r (w ≢ NoMemory) → OnOk r (Steps (opened_as js e) old new (on_desk (opened_as js d) (settle_desk_step (called_back d))))
+pub settle_err : {A E : Type 0} → (d e : DeskView) (js : List HandedOut) (w : SettleWhy) (f n : ℕ) (old new : List ℕ) (r : Result A E) → HasStopped w 0 (requeued_all d) e f n → OnOk r (new ≡ old ++ why_text w ++ settled_line f n)
+    → OnOk r (w ≢ NoMemory) → OnOk r (Steps (opened_as js e) old new (on_desk (opened_as js d) (settle_desk_step (requeued_all d))))
 settle_err d e js w f n old new (Ok x) s p h =
-    let t = stopped_told (called_back d) e w f n s h in
+    let t = stopped_told (requeued_all d) e w f n s h in
     (ap (opened_as js) t.0, p ∙ append_assoc old (why_text w) (settled_line f n) ∙ ap (λ (line : List ℕ). old ++ line) t.1)
 settle_err d e js w f n old new (Err x) s p h = tt

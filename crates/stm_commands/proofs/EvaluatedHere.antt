@@ -23,7 +23,7 @@ use Rattle.stm_events.specs.SlowDesk.{Waiter, Slow, IsLegal, max_waiting, under,
 use Rattle.stm_machine.proofs.Agreeing.{reads_differ_nowhere}
 use Rattle.stm_events.proofs.Rising.{waiter_delivered}
 use Rattle.stm_desk.specs.Evaluating.{EvaluatedSoFar, verdict_of_waiter, verdict_under, with_installed, with_evaluated, evaluate_unless, evaluate_each, none_evaluated, evaluate_lowest}
-use Rattle.stm_desk.specs.Seen.{Seen, now, is_full, with_event, DeskQueueIsRight, AllHaveVerdicts}
+use Rattle.stm_desk.specs.DeskView.{DeskView, state_of, is_full, with_event, DeskQueueIsRight, AllHaveVerdicts}
 use Rattle.stm_commands.specs.Evaluation.{Delivered, delivered_by, delivered_all, evaluated}
 use Rattle.stm_commands.specs.Jobs.{delivery_first, delivery_refusal, installed, jobs_of, job_of, taken}
 use Rattle.stm_commands.specs.OpenDesk.{HandedOut}
@@ -190,16 +190,16 @@ taken_in (suc n) es (t ∷ ts) q = (q.0, q.1, not_taken t n ts q.2, taken_in n e
 
 -- ---- the tickets that are evaluated next
 -- the block under a ticket is new or stale, and waits as it did; the ticket isn't out
-record IsReady (s : Slow) (d : Seen) (t : ℕ) : Type 0 where
+record IsReady (s : Slow) (d : DeskView) (t : ℕ) : Type 0 where
   pub due : due_of (find_waiter t s.waiters) ≡ true
-  pub same : find_waiter t (now d).waiters ≡ find_waiter t s.waiters
+  pub same : find_waiter t (state_of d).waiters ≡ find_waiter t s.waiters
   pub stays : is_out t d.pending ≡ false
 
-abbrev AreReady : Slow → Seen → List ℕ → Type 0
+abbrev AreReady : Slow → DeskView → List ℕ → Type 0
 AreReady s d [] = Unit {0}
 AreReady s d (t ∷ ts) = IsReady s d t × (member t ts ≡ false) × AreReady s d ts
 
-ready_first : (d : Seen) (ts : List ℕ) → DeskQueueIsRight d → AreQueuedIn d.pending ts → AreReady (now d) d ts
+ready_first : (d : DeskView) (ts : List ℕ) → DeskQueueIsRight d → AreQueuedIn d.pending ts → AreReady (state_of d) d ts
 ready_first d [] right q = tt
 ready_first d (t ∷ ts) right q = (record { due = sym (right t) ∙ q.0; same = refl; stays = q.1 }, q.2, ready_first d ts right q.3)
 
@@ -210,18 +210,18 @@ nothing_out : (a b : Bool) → b ≡ false → (not a && b) ≡ false
 nothing_out true b h = refl
 nothing_out false b h = h
 
-ready_next : (s : Slow) (d : Seen) (t u : ℕ) (v : Verdict) → nat_eq u t ≡ false → IsReady s d u → IsReady s (with_event d (event 0 (Installed t v))) u
+ready_next : (s : Slow) (d : DeskView) (t u : ℕ) (v : Verdict) → nat_eq u t ≡ false → IsReady s d u → IsReady s (with_event d 0 (Installed t v)) u
 ready_next s d t u v n r =
-    let o = find_waiter u (now d).waiters in
+    let o = find_waiter u (state_of d).waiters in
     record {
       due = r.due;
       same =
-          ap (λ (x : Slow). find_waiter u x.waiters) (now_next d 0 (Installed t v)) ∙ waiter_delivered t u (now d).store (now d).waiters
-          ∙ ap (λ (b : Bool). cond b (option_map (with_delivery (now d).store) o) o) n ∙ r.same;
+          ap (λ (x : Slow). find_waiter u x.waiters) (now_next d 0 (Installed t v)) ∙ waiter_delivered t u (state_of d).store (state_of d).waiters
+          ∙ ap (λ (b : Bool). cond b (option_map (with_delivery (state_of d).store) o) o) n ∙ r.same;
       stays = out_without t u d.pending ∙ nothing_out (nat_eq u t) (is_out u d.pending) r.stays;
     }
 
-are_ready_next : (s : Slow) (d : Seen) (t : ℕ) (v : Verdict) (ts : List ℕ) → member t ts ≡ false → AreReady s d ts → AreReady s (with_event d (event 0 (Installed t v))) ts
+are_ready_next : (s : Slow) (d : DeskView) (t : ℕ) (v : Verdict) (ts : List ℕ) → member t ts ≡ false → AreReady s d ts → AreReady s (with_event d 0 (Installed t v)) ts
 are_ready_next s d t v [] h r = tt
 are_ready_next s d t v (u ∷ us) h r =
     (ready_next s d t u v (other_way t u (left_false (nat_eq t u) (member t us) h)) r.0, r.1, are_ready_next s d t v us (right_false (nat_eq t u) (member t us) h) r.2)
@@ -230,17 +230,17 @@ are_ready_next s d t v (u ∷ us) h r =
 abbrev as_delivered : EvaluatedSoFar → Delivered
 as_delivered p = record { desk = p.desk; count = p.count; stop = p.stop }
 
-abbrev so_far : Seen → List Entry → ℕ → Option DeliverError → Delivered
+abbrev so_far : DeskView → List Entry → ℕ → Option DeliverError → Delivered
 so_far d p n stop = record { desk = record d { pending = p }; count = n; stop = stop }
 
-abbrev here : Seen → ℕ → Option DeliverError → EvaluatedSoFar
+abbrev here : DeskView → ℕ → Option DeliverError → EvaluatedSoFar
 here d n stop = record { desk = d; count = n; stop = stop }
 
 abbrev job : Slow → ℕ → Waiter → HandedOut
 job s t w = record { ticket = t; block = w.block; store = plains s.store }
 
 -- after a refusal those that are left are queued again
-back_rest : (ts : List ℕ) (s : Slow) (d : Seen) (n : ℕ) (e : DeliverError) → AreReady s d ts → delivered_all (so_far d (all_out ts d.pending) n (Some e)) (jobs_of s ts) ≡ record { desk = d; count = n; stop = Some e }
+back_rest : (ts : List ℕ) (s : Slow) (d : DeskView) (n : ℕ) (e : DeliverError) → AreReady s d ts → delivered_all (so_far d (all_out ts d.pending) n (Some e)) (jobs_of s ts) ≡ record { desk = d; count = n; stop = Some e }
 back_rest [] s d n e r = refl
 back_rest (t ∷ ts) s d n e r = by (find_waiter t s.waiters) r.0.due (back_rest ts s d n e r.2)
   where
@@ -250,7 +250,7 @@ back_rest (t ∷ ts) s d n e r = by (find_waiter t s.waiters) r.0.due (back_rest
     by (Some w) h more = ap (λ (p : List Entry). delivered_all (so_far d p n (Some e)) (jobs_of s ts)) (first_back t ts d.pending r.1 r.0.stays) ∙ more
 
 -- once stopped, an evaluation goes no further
-stopped : (d : Seen) (n : ℕ) (e : DeliverError) (ts : List ℕ) → evaluate_each 0 (here d n (Some e)) ts ≡ here d n (Some e)
+stopped : (d : DeskView) (n : ℕ) (e : DeliverError) (ts : List ℕ) → evaluate_each 0 (here d n (Some e)) ts ≡ here d n (Some e)
 stopped d n e [] = refl
 stopped d n e (t ∷ ts) = stopped d n e ts
 
@@ -259,23 +259,23 @@ not_current true h = absurd cc
 not_current false h = refl
 
 -- what a block does on the present store is refused only if the history is full
-refusal : (s : Slow) (d : Seen) (p : List Entry) (t : ℕ) (w : Waiter) (full : Bool) → find_waiter t s.waiters ≡ Some w → due_of (Some w) ≡ true → find_waiter t (now d).waiters ≡ find_waiter t s.waiters → (now d).store ≡ s.store → is_full d ≡ full
+refusal : (s : Slow) (d : DeskView) (p : List Entry) (t : ℕ) (w : Waiter) (full : Bool) → find_waiter t s.waiters ≡ Some w → due_of (Some w) ≡ true → find_waiter t (state_of d).waiters ≡ find_waiter t s.waiters → (state_of d).store ≡ s.store → is_full d ≡ full
     → delivery_refusal (record d { pending = p }) (job s t w) ≡ cond full (Some HistoryFull) None
 refusal s d p t w full f due same store q =
     let reads = reads_of (cell_value (plains s.store)) w.block.tree in
-    ap (λ (o : Option Waiter). delivery_first (now d).store o reads (record d { pending = p })) (same ∙ f)
-    ∙ ap (λ (b : Bool). cond b (Some Already) (overtaken_first (differing (under (now d).store) reads) (is_full d))) (not_current (is_current w) due)
+    ap (λ (o : Option Waiter). delivery_first (state_of d).store o reads (record d { pending = p })) (same ∙ f)
+    ∙ ap (λ (b : Bool). cond b (Some Already) (overtaken_first (differing (under (state_of d).store) reads) (is_full d))) (not_current (is_current w) due)
     ∙ ap (λ (x : List Cell). overtaken_first (differing (under x) reads) (is_full d)) store
     ∙ ap (λ (i : Option ℕ). overtaken_first i (is_full d)) (reads_differ_nowhere (under s.store) w.block.tree)
     ∙ ap (λ (b : Bool). cond b (Some HistoryFull) None) q
 
-store_next : (s : Slow) (d : Seen) (t : ℕ) (v : Verdict) → (now d).store ≡ s.store → (now (with_event d (event 0 (Installed t v)))).store ≡ s.store
+store_next : (s : Slow) (d : DeskView) (t : ℕ) (v : Verdict) → (state_of d).store ≡ s.store → (state_of (with_event d 0 (Installed t v))).store ≡ s.store
 store_next s d t v e = ap (λ (x : Slow). x.store) (now_next d 0 (Installed t v)) ∙ e
 
 abbrev SameFrom : Slow → List ℕ → Type 0
-SameFrom s ts = (d : Seen) (n : ℕ) → (now d).store ≡ s.store → AreReady s d ts → delivered_all (so_far d (all_out ts d.pending) n None) (jobs_of s ts) ≡ as_delivered (evaluate_each 0 (here d n None) ts)
+SameFrom s ts = (d : DeskView) (n : ℕ) → (state_of d).store ≡ s.store → AreReady s d ts → delivered_all (so_far d (all_out ts d.pending) n None) (jobs_of s ts) ≡ as_delivered (evaluate_each 0 (here d n None) ts)
 
-step_full : (s : Slow) (t : ℕ) (ts : List ℕ) (d : Seen) (n : ℕ) (w : Waiter) → find_waiter t s.waiters ≡ Some w → due_of (Some w) ≡ true → (now d).store ≡ s.store → AreReady s d (t ∷ ts) → is_full d ≡ true
+step_full : (s : Slow) (t : ℕ) (ts : List ℕ) (d : DeskView) (n : ℕ) (w : Waiter) → find_waiter t s.waiters ≡ Some w → due_of (Some w) ≡ true → (state_of d).store ≡ s.store → AreReady s d (t ∷ ts) → is_full d ≡ true
     → delivered_all (so_far d (all_out (t ∷ ts) d.pending) n None) (job_of s t (Some w.block) ++ jobs_of s ts) ≡ as_delivered (evaluate_each 0 (evaluate_unless 0 (here d n None) t None) ts)
 step_full s t ts d n w f due e r q =
     ap (λ (o : Option DeliverError). delivered_all (delivered_by (so_far d (all_out (t ∷ ts) d.pending) n None) (job s t w) o) (jobs_of s ts)) (refusal s d (all_out (t ∷ ts) d.pending) t w true f due r.0.same e q)
@@ -286,14 +286,14 @@ step_full s t ts d n w f due e r q =
     ∙ ap as_delivered (stopped d n HistoryFull ts)
     )
 
-step_room : (s : Slow) (t : ℕ) (ts : List ℕ) (d : Seen) (n : ℕ) (w : Waiter) (v : Verdict) → find_waiter t s.waiters ≡ Some w → due_of (Some w) ≡ true → verdict_on s.store w.block ≡ Some v → (now d).store ≡ s.store → AreReady s d (t ∷ ts)
+step_room : (s : Slow) (t : ℕ) (ts : List ℕ) (d : DeskView) (n : ℕ) (w : Waiter) (v : Verdict) → find_waiter t s.waiters ≡ Some w → due_of (Some w) ≡ true → verdict_on s.store w.block ≡ Some v → (state_of d).store ≡ s.store → AreReady s d (t ∷ ts)
     → is_full d ≡ false → SameFrom s ts
     → delivered_all (so_far d (all_out (t ∷ ts) d.pending) n None) (job_of s t (Some w.block) ++ jobs_of s ts) ≡ as_delivered (evaluate_each 0 (evaluate_unless 0 (here d n None) t None) ts)
 step_room s t ts d n w v f due x e r q more =
-    let next = with_event d (event 0 (Installed t v)) in
+    let next = with_event d 0 (Installed t v) in
     let p = all_out (t ∷ ts) d.pending in
-    let there : verdict_under (now d) t ≡ Some v =
-    ap (verdict_of_waiter (now d).store) (r.0.same ∙ f) ∙ ap (λ (y : List Cell). verdict_on y w.block) e ∙ x in
+    let there : verdict_under (state_of d) t ≡ Some v =
+    ap (verdict_of_waiter (state_of d).store) (r.0.same ∙ f) ∙ ap (λ (y : List Cell). verdict_on y w.block) e ∙ x in
     ap (λ (o : Option DeliverError). delivered_all (delivered_by (so_far d p n None) (job s t w) o) (jobs_of s ts)) (refusal s d p t w false f due r.0.same e q)
     ∙ ap (λ (o : Option Verdict). delivered_all (record { desk = installed (record d { pending = p }) t o; count = n + 1; stop = None }) (jobs_of s ts)) x
     ∙ ap (λ (es : List Entry). delivered_all (so_far next es (n + 1) None) (jobs_of s ts)) (first_gone t ts d.pending)
@@ -307,7 +307,7 @@ a_verdict : (o : Option Verdict) → is_some o ≡ true → (v : Verdict) × (o 
 a_verdict None h = absurd cc
 a_verdict (Some v) h = (v, refl)
 
-same_step_of : (s : Slow) → AllHaveVerdicts s → (t : ℕ) (ts : List ℕ) (d : Seen) (n : ℕ) (o : Option Waiter) (full : Bool) → find_waiter t s.waiters ≡ o → due_of o ≡ true → is_full d ≡ full → (now d).store ≡ s.store → AreReady s d (t ∷ ts)
+same_step_of : (s : Slow) → AllHaveVerdicts s → (t : ℕ) (ts : List ℕ) (d : DeskView) (n : ℕ) (o : Option Waiter) (full : Bool) → find_waiter t s.waiters ≡ o → due_of o ≡ true → is_full d ≡ full → (state_of d).store ≡ s.store → AreReady s d (t ∷ ts)
     → SameFrom s ts
     → delivered_all (so_far d (all_out (t ∷ ts) d.pending) n None) (job_of s t (option_map (λ w. w.block) o) ++ jobs_of s ts) ≡ as_delivered (evaluate_each 0 (evaluate_unless 0 (here d n None) t None) ts)
 same_step_of s have t ts d n None full f due q e r more = absurd cc
@@ -318,37 +318,37 @@ same_each : (s : Slow) → AllHaveVerdicts s → (ts : List ℕ) → SameFrom s 
 same_each s have [] d n e r = refl
 same_each s have (t ∷ ts) d n e r = same_step_of s have t ts d n (find_waiter t s.waiters) (is_full d) refl r.0.due refl e r (same_each s have ts)
 
-same_lowest : (d : Seen) (n : ℕ) → DeskQueueIsRight d → IsRising (tickets d.pending) → AllHaveVerdicts (now d)
-    → delivered_all (so_far d (sent (length (taken d n)) d.pending) 0 None) (jobs_of (now d) (taken d n)) ≡ as_delivered (evaluate_lowest d 0 n)
+same_lowest : (d : DeskView) (n : ℕ) → DeskQueueIsRight d → IsRising (tickets d.pending) → AllHaveVerdicts (state_of d)
+    → delivered_all (so_far d (sent (length (taken d n)) d.pending) 0 None) (jobs_of (state_of d) (taken d n)) ≡ as_delivered (evaluate_lowest d 0 n)
 same_lowest d n right r have =
-    ap (λ (p : List Entry). delivered_all (so_far d p 0 None) (jobs_of (now d) (taken d n))) (sent_all n d.pending r)
-    ∙ same_each (now d) have (taken d n) d 0 refl (ready_first d (taken d n) right (taken_in n d.pending (queued d.pending) (queued_are_in d.pending r)))
+    ap (λ (p : List Entry). delivered_all (so_far d p 0 None) (jobs_of (state_of d) (taken d n))) (sent_all n d.pending r)
+    ∙ same_each (state_of d) have (taken d n) d 0 refl (ready_first d (taken d n) right (taken_in n d.pending (queued d.pending) (queued_are_in d.pending r)))
 
 -- all that is queued, evaluated on the desk itself
-pub evaluated_here : (d e : Seen) (count n : ℕ) (stop : Option DeliverError) → n ≡ max_waiting → record { desk = e; count = count; stop = stop } ≡ evaluate_lowest d 0 n → DeskQueueIsRight d → IsRising (tickets d.pending) → AllHaveVerdicts (now d)
+pub evaluated_here : (d e : DeskView) (count n : ℕ) (stop : Option DeliverError) → n ≡ max_waiting → record { desk = e; count = count; stop = stop } ≡ evaluate_lowest d 0 n → DeskQueueIsRight d → IsRising (tickets d.pending) → AllHaveVerdicts (state_of d)
     → record { desk = e; count = count; stop = stop } ≡ evaluated d
 evaluated_here d e count n stop m done right r have =
     ap as_delivered done ∙ ap (λ (k : ℕ). as_delivered (evaluate_lowest d 0 k)) m ∙ sym (same_lowest d max_waiting right r have)
 
 -- ---- the history grows
-record IsLonger (d e : Seen) : Type 0 where
+record IsLonger (d e : DeskView) : Type 0 where
   pub table : e.table ≡ d.table
   pub limit : e.limit ≡ d.limit
   pub more : List Event
   pub history : e.history ≡ d.history ++ more
 
-longer_same : (d : Seen) → IsLonger d d
+longer_same : (d : DeskView) → IsLonger d d
 longer_same d = record { table = refl; limit = refl; more = []; history = sym (append-nil d.history) }
 
-longer_with : (d : Seen) (t : ℕ) (o : Option Verdict) → IsLonger d (with_installed d 0 t o)
+longer_with : (d : DeskView) (t : ℕ) (o : Option Verdict) → IsLonger d (with_installed d 0 t o)
 longer_with d t None = longer_same d
 longer_with d t (Some v) = record { table = refl; limit = refl; more = event 0 (Installed t v) ∷ []; history = refl }
 
-longer_by : (d : Seen) (n t : ℕ) (b : Bool) → IsLonger d (cond b (here d n (Some HistoryFull)) (here (with_evaluated d 0 t) (n + 1) None)).desk
+longer_by : (d : DeskView) (n t : ℕ) (b : Bool) → IsLonger d (cond b (here d n (Some HistoryFull)) (here (with_evaluated d 0 t) (n + 1) None)).desk
 longer_by d n t true = longer_same d
-longer_by d n t false = longer_with d t (verdict_under (now d) t)
+longer_by d n t false = longer_with d t (verdict_under (state_of d) t)
 
-longer_unless : (d : Seen) (n t : ℕ) (o : Option DeliverError) → IsLonger d (evaluate_unless 0 (here d n o) t o).desk
+longer_unless : (d : DeskView) (n t : ℕ) (o : Option DeliverError) → IsLonger d (evaluate_unless 0 (here d n o) t o).desk
 longer_unless d n t (Some e) = longer_same d
 longer_unless d n t None = longer_by d n t (is_full d)
 
@@ -365,7 +365,7 @@ longer_each (t ∷ ts) p =
       history = h.history ∙ ap (λ (es : List Event). es ++ h.more) g.history ∙ append_assoc p.desk.history g.more h.more;
     }
 
-pub evaluated_grown : (d : Seen) (n : ℕ) (p : EvaluatedSoFar) → p ≡ evaluate_lowest d 0 n → IsLegal p.desk.table p.desk.history → HasGrown d p.desk
+pub evaluated_grown : (d : DeskView) (n : ℕ) (p : EvaluatedSoFar) → p ≡ evaluate_lowest d 0 n → IsLegal p.desk.table p.desk.history → HasGrown d p.desk
 evaluated_grown d n p done legal =
     let g = subst (λ (q : EvaluatedSoFar). IsLonger d q.desk) (sym done) (longer_each (take n (queued d.pending)) (none_evaluated d)) in
     record { table = g.table; limit = g.limit; more = g.more; history = g.history; legal = legal }

@@ -7,51 +7,51 @@ use Rattle.stm_terms.specs.declared.kinds.Ty.{Ty}
 use Rattle.stm_terms.specs.declared.values.Value.{Value}
 use Rattle.stm_eval.specs.declared.job.Job.{Job}
 use Rattle.stm_eval.specs.declared.message.Evaluated.{Evaluated}
-use Rattle.stm_eval.specs.EvaluatedFields.{message_ticket, message_block, message_reads}
+use Rattle.stm_eval.specs.EvaluatedFields.{message_ticket}
 use Rattle.stm_events.specs.declared.errors.DeliverError.{DeliverError}
 use Rattle.stm_machine.specs.JobsHandedOut.{AreCovered}
 use Rattle.stm_events.specs.Laws.{BlocksStay}
 use Rattle.stm_events.specs.SlowDesk.{IsLegal}
 use Rattle.stm_pool.specs.Answers.{IsMessageOf, AnswersJob}
-use Rattle.stm_desk.specs.Refusals.{TellsDeskDelivery, left_by}
-use Rattle.stm_desk.specs.Seen.{Seen}
+use Rattle.stm_desk.specs.Refusals.{requeued_if_overtaken}
+use Rattle.stm_desk.specs.DeskView.{DeskView}
 use Rattle.stm_commands.specs.Evaluation.{Delivered, delivered_by, delivered_next, delivered_all}
 use Rattle.stm_commands.specs.Jobs.{handed_back, delivery_refusal}
 use Rattle.stm_commands.specs.OpenDesk.{HandedOut}
-use Rattle.stm_commands.specs.OpenInvariant.{handed_out, JobStands, JobsStand, HasGrown, after_message, AnswerJobs}
-use Rattle.stm_commands.proofs.Deliveries.{told_of_job, refused_of_job}
+use Rattle.stm_commands.specs.OpenInvariant.{handed_out, JobStands, JobsStand, HasGrown, after_message, IsRefusedFor, AnswerJobs}
+use Rattle.stm_commands.proofs.Deliveries.{reason_of_job, refused_of_job}
 use Rattle.stm_commands.proofs.Growing.{stand_grown}
 
 abbrev pub Answer : Type 0
 Answer = Result Evaluated (Job × AllocError)
 
 -- ---- one message
-told : BlocksStay → (d : Seen) (cells : List (Ty × Value)) (j : Job) (m : Evaluated) (r : Option DeliverError) → IsLegal d.table d.history → JobStands d (handed_out cells j) → IsMessageOf j cells m
-    → TellsDeskDelivery r d (message_ticket m) (message_block m) (message_reads m) → r ≡ delivery_refusal d (handed_out cells j)
-told law d cells j m r legal s i t = told_of_job law d cells j m r legal s i.ticket i.block i.reads_are t
+reason : BlocksStay → (d : DeskView) (cells : List (Ty × Value)) (j : Job) (m : Evaluated) (r : Option DeliverError) → IsLegal d.table d.history → JobStands d (handed_out cells j) → IsMessageOf j cells m
+    → IsRefusedFor d m r → r ≡ delivery_refusal d (handed_out cells j)
+reason law d cells j m r legal s i t = reason_of_job law d cells j m r legal s i.ticket i.block i.reads_are t
 
 -- a message that is taken
-pub next_taken : BlocksStay → (d e : Seen) (cells : List (Ty × Value)) (j : Job) (m : Evaluated) (n : ℕ) (stop r : Option DeliverError) → is_some stop ≡ false → is_some r ≡ false
-    → IsLegal d.table d.history → JobStands d (handed_out cells j) → IsMessageOf j cells m → TellsDeskDelivery r d (message_ticket m) (message_block m) (message_reads m)
+pub next_taken : BlocksStay → (d e : DeskView) (cells : List (Ty × Value)) (j : Job) (m : Evaluated) (n : ℕ) (stop r : Option DeliverError) → is_some stop ≡ false → is_some r ≡ false
+    → IsLegal d.table d.history → JobStands d (handed_out cells j) → IsMessageOf j cells m → IsRefusedFor d m r
     → e ≡ after_message d m r
     → record { desk = e; count = n + 1; stop = None } ≡ delivered_next (record { desk = d; count = n; stop = stop }) (handed_out cells j) stop
 next_taken law d e cells j m n (Some x) r f g legal s i t p = absurd cc
 next_taken law d e cells j m n None (Some x) f g legal s i t p = absurd cc
 next_taken law d e cells j m n None None f g legal s i t p =
-    ap (λ (x : Seen). record { desk = x; count = n + 1; stop = None }) (p ∙ refused_of_job d cells j m None i.ticket i.verdict_is)
-    ∙ ap (delivered_by (record { desk = d; count = n; stop = None }) (handed_out cells j)) (told law d cells j m None legal s i t)
+    ap (λ (x : DeskView). record { desk = x; count = n + 1; stop = None }) (p ∙ refused_of_job d cells j m None i.ticket i.verdict_is)
+    ∙ ap (delivered_by (record { desk = d; count = n; stop = None }) (handed_out cells j)) (reason law d cells j m None legal s i t)
 
 -- a message that is refused
-pub next_refused : BlocksStay → (d mid e : Seen) (cells : List (Ty × Value)) (j : Job) (m : Evaluated) (n t : ℕ) (stop r : Option DeliverError) → is_some stop ≡ false → is_some r ≡ true
-    → IsLegal d.table d.history → JobStands d (handed_out cells j) → IsMessageOf j cells m → TellsDeskDelivery r d (message_ticket m) (message_block m) (message_reads m)
+pub next_refused : BlocksStay → (d mid e : DeskView) (cells : List (Ty × Value)) (j : Job) (m : Evaluated) (n t : ℕ) (stop r : Option DeliverError) → is_some stop ≡ false → is_some r ≡ true
+    → IsLegal d.table d.history → JobStands d (handed_out cells j) → IsMessageOf j cells m → IsRefusedFor d m r
     → mid ≡ after_message d m r → t ≡ message_ticket m → e ≡ handed_back mid t
     → record { desk = e; count = n; stop = r } ≡ delivered_next (record { desk = d; count = n; stop = stop }) (handed_out cells j) stop
 next_refused law d mid e cells j m n t (Some x) r f g legal s i w p q o = absurd cc
 next_refused law d mid e cells j m n t None None f g legal s i w p q o = absurd cc
 next_refused law d mid e cells j m n t None (Some x) f g legal s i w p q o =
-    ap (λ (y : Seen). record { desk = y; count = n; stop = Some x })
-    (o ∙ ap (λ (y : Seen). handed_back y t) p ∙ ap (λ (u : ℕ). handed_back (left_by x (message_ticket m) d) u) (q ∙ i.ticket) ∙ ap (λ (u : ℕ). handed_back (left_by x u d) j.ticket) i.ticket)
-    ∙ ap (delivered_by (record { desk = d; count = n; stop = None }) (handed_out cells j)) (told law d cells j m (Some x) legal s i w)
+    ap (λ (y : DeskView). record { desk = y; count = n; stop = Some x })
+    (o ∙ ap (λ (y : DeskView). handed_back y t) p ∙ ap (λ (u : ℕ). handed_back (requeued_if_overtaken x (message_ticket m) d) u) (q ∙ i.ticket) ∙ ap (λ (u : ℕ). handed_back (requeued_if_overtaken x u d) j.ticket) i.ticket)
+    ∙ ap (delivered_by (record { desk = d; count = n; stop = None }) (handed_out cells j)) (reason law d cells j m (Some x) legal s i w)
 
 -- ---- answers
 -- the answers that are left of some jobs, which are delivered to a desk yet
@@ -107,7 +107,7 @@ covered_both : (cells : List (Ty × Value)) (js ks : List Job) → AreCovered ce
 covered_both cells [] ks c = (tt, c)
 covered_both cells (j ∷ js) ks c = let b = covered_both cells js ks c.1 in ((c.0, b.0), b.1)
 
-stand_both : (d : Seen) (cells : List (Ty × Value)) (js ks : List Job) → JobsStand d (map (handed_out cells) (js ++ ks)) → JobsStand d (map (handed_out cells) js) × JobsStand d (map (handed_out cells) ks)
+stand_both : (d : DeskView) (cells : List (Ty × Value)) (js ks : List Job) → JobsStand d (map (handed_out cells) (js ++ ks)) → JobsStand d (map (handed_out cells) js) × JobsStand d (map (handed_out cells) ks)
 stand_both d cells [] ks s = (tt, s)
 stand_both d cells (j ∷ js) ks s = let b = stand_both d cells js ks s.1 in ((s.0, b.0), b.1)
 

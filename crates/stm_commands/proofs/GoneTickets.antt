@@ -21,10 +21,10 @@ record IsGiven (t : ℕ) (s : Slow) : Type 0 where
 
 given_after : (t : ℕ) (s : Slow) (d : What) → Allows s d → IsGiven t s → IsGiven t (after s d)
 given_after t s (Submitted u block) a k =
-    record { rising = rising_after Changed s (Submitted u block) (let g = k.given in omega arith) k.rising a; given = let g = k.given in omega arith }
-given_after t s (Installed u v) a k = record { rising = rising_after Changed s (Installed u v) (let g = k.given in omega arith) k.rising a; given = k.given }
-given_after t s (Finished u v n l) a k = record { rising = rising_after Changed s (Finished u v n l) (let g = k.given in omega arith) k.rising a; given = k.given }
-given_after t s (Cancelled u) a k = record { rising = rising_after Changed s (Cancelled u) (let g = k.given in omega arith) k.rising a; given = k.given }
+    record { rising = rising_after s (Submitted u block) (let g = k.given in omega arith) k.rising a; given = let g = k.given in omega arith }
+given_after t s (Installed u v) a k = record { rising = rising_after s (Installed u v) (let g = k.given in omega arith) k.rising a; given = k.given }
+given_after t s (Finished u v n l) a k = record { rising = rising_after s (Finished u v n l) (let g = k.given in omega arith) k.rising a; given = k.given }
+given_after t s (Cancelled u) a k = record { rising = rising_after s (Cancelled u) (let g = k.given in omega arith) k.rising a; given = k.given }
 
 given_from : (t : ℕ) (s : Slow) (es : List Event) → LegalFrom s es → IsGiven t s → IsGiven t (state_from s es)
 given_from t s [] l k = k
@@ -56,8 +56,8 @@ gone_after t s (Submitted u block) a k g =
     waiter_push t s.next 0 v s.waiters a.0 k.rising ∙ none_pushed (nat_eq t u) v (find_waiter t s.waiters) (unlike t u s.next k.given a.0) g
 gone_after t s (Installed u v) a k g = waiter_delivered u t s.store s.waiters ∙ none_delivered (nat_eq t u) (with_delivery s.store) (find_waiter t s.waiters) g
 gone_after t s (Finished u v n l) a k g =
-    waiter_marks t (waking Changed s.store v) (without_waiter u s.waiters)
-    ∙ none_mapped (after_writes (waking Changed s.store v)) (find_waiter t (without_waiter u s.waiters))
+    waiter_marks t (waking s.rule s.store v) (without_waiter u s.waiters)
+    ∙ none_mapped (after_writes (waking s.rule s.store v)) (find_waiter t (without_waiter u s.waiters))
     (waiter_without u t s.next 0 s.waiters k.rising ∙ none_without (nat_eq t u) (find_waiter t s.waiters) g)
 gone_after t s (Cancelled u) a k g = waiter_without u t s.next 0 s.waiters k.rising ∙ none_without (nat_eq t u) (find_waiter t s.waiters) g
 
@@ -69,7 +69,7 @@ gone_from t s (e ∷ es) l k g = gone_from t (after s e.what) es l.1 (given_afte
 pub legal_before : (table : List Declared) (before more : List Event) → IsLegal table (before ++ more) → IsLegal table before
 legal_before table before more l =
     let few = l.few in
-    record { each = (legal-append Changed (initial_state table) before more l.each).first; few = omega (arith, length-append before more, few) }
+    record { each = (legal-append (initial_state Changed table) before more l.each).first; few = omega (arith, length-append before more, few) }
 
 given_waiting : (table : List Declared) (history : List Event) (t : ℕ) (w : Waiter) → IsLegal table history → find_waiter t (state table history).waiters ≡ Some w → IsGiven t (state table history)
 given_waiting table history t w l f =
@@ -79,13 +79,13 @@ given_waiting table history t w l f =
 
 given_later : (table : List Declared) (before more : List Event) (t : ℕ) (w : Waiter) → IsLegal table (before ++ more) → find_waiter t (state table before).waiters ≡ Some w → IsGiven t (state table (before ++ more))
 given_later table before more t w l f =
-    subst (IsGiven t) (sym (state-append Changed (initial_state table) before more))
-    (given_from t (state table before) more (legal-append Changed (initial_state table) before more l.each).rest (given_waiting table before t w (legal_before table before more l) f))
+    subst (IsGiven t) (sym (state-append (initial_state Changed table) before more))
+    (given_from t (state table before) more (legal-append (initial_state Changed table) before more l.each).rest (given_waiting table before t w (legal_before table before more l) f))
 
 -- once a ticket waited, and after some more events waits no more, it doesn't wait after any more events
 pub gone_stays : (table : List Declared) (before between more : List Event) (t : ℕ) (v : Waiter) → IsLegal table ((before ++ between) ++ more) → find_waiter t (state table before).waiters ≡ Some v
     → find_waiter t (state table (before ++ between)).waiters ≡ None → find_waiter t (state table ((before ++ between) ++ more)).waiters ≡ None
 gone_stays table before between more t v l f g =
-    ap (λ (s : Slow). find_waiter t s.waiters) (state-append Changed (initial_state table) (before ++ between) more)
-    ∙ gone_from t (state table (before ++ between)) more (legal-append Changed (initial_state table) (before ++ between) more l.each).rest
+    ap (λ (s : Slow). find_waiter t s.waiters) (state-append (initial_state Changed table) (before ++ between) more)
+    ∙ gone_from t (state table (before ++ between)) more (legal-append (initial_state Changed table) (before ++ between) more l.each).rest
     (given_later table before between t v (legal_before table (before ++ between) more l) f) g

@@ -16,13 +16,15 @@ use Rattle.stm_events.specs.declared.event.What.TheVariants.{Submitted, Finished
 use Rattle.stm_machine.specs.JobsHandedOut.{block_at, AreJobs, AreCovered}
 use Rattle.stm_machine.specs.Machine.{event}
 use Rattle.stm_events.specs.SlowDesk.{Slow, IsLegal, state, state_from, after, initial_state}
-use Rattle.stm_desk.specs.Seen.{Seen, now, with_event}
+use Rattle.stm_events.specs.declared.staleness.StalenessRule.TheVariants.{Changed}
+use Rattle.stm_desk.specs.DeskView.{DeskView, state_of, with_event}
 use Rattle.stm_desk.specs.declared.errors.SettleStop.{SettleStop}
 use Rattle.stm_desk.specs.declared.errors.SettleWhy.{SettleWhy}
 use Rattle.stm_desk.specs.declared.errors.SettleWhy.TheVariants.{HistoryFull, CellsFull, NoMemory}
 use Rattle.stm_desk.specs.declared.finish.Finish.{Finish}
 use Rattle.stm_desk.specs.declared.settle.Settled.{Settled}
-use Rattle.stm_desk.specs.Settling.{with_whats, called_back, slow_settle, HasSettled, StopTold}
+use Rattle.stm_desk.specs.Events.{finish_of}
+use Rattle.stm_desk.specs.Settling.{with_whats, requeued_all, slow_settle, HasStopped, SettlesAs}
 use Rattle.stm_commands.specs.declared.jobs.KeptJob.{KeptJob}
 use Rattle.stm_commands.specs.Jobs.{job_of, jobs_of}
 use Rattle.stm_commands.specs.OpenDesk.{HandedOut}
@@ -34,23 +36,23 @@ state_from-append s [] fs = refl
 state_from-append s (e ∷ es) fs = state_from-append (after s e.what) es fs
 
 -- the desk after one event more
-pub now_next : (d : Seen) (client : ℕ) (w : What) → now (with_event d (event client w)) ≡ after (now d) w
-now_next d client w = state_from-append (initial_state d.table) d.history (event client w ∷ [])
+pub now_next : (d : DeskView) (client : ℕ) (w : What) → state_of (with_event d client w) ≡ after (state_of d) w
+now_next d client w = state_from-append (initial_state Changed d.table) d.history (event client w ∷ [])
 
 -- submissions and cancellations leave the store as it is
-pub submitted_store : (d : Seen) (client t : ℕ) (b : Block) → (now (with_event d (event client (Submitted t b)))).store ≡ (now d).store
+pub submitted_store : (d : DeskView) (client t : ℕ) (b : Block) → (state_of (with_event d client (Submitted t b))).store ≡ (state_of d).store
 submitted_store d client t b = ap (λ s. s.store) (now_next d client (Submitted t b))
 
-pub cancelled_store : (d : Seen) (client t : ℕ) → (now (with_event d (event client (Cancelled t)))).store ≡ (now d).store
+pub cancelled_store : (d : DeskView) (client t : ℕ) → (state_of (with_event d client (Cancelled t))).store ≡ (state_of d).store
 cancelled_store d client t = ap (λ s. s.store) (now_next d client (Cancelled t))
 
-pub grown_same : (d e : Seen) → e ≡ d → IsLegal e.table e.history → HasGrown d e
+pub grown_same : (d e : DeskView) → e ≡ d → IsLegal e.table e.history → HasGrown d e
 grown_same d e p legal = record { table = ap (λ s. s.table) p; limit = ap (λ s. s.limit) p; more = []; history = ap (λ s. s.history) p ∙ sym (append-nil d.history); legal = legal }
 
-pub grown_next : (d e : Seen) (client : ℕ) (w : What) → e ≡ with_event d (event client w) → IsLegal e.table e.history → HasGrown d e
+pub grown_next : (d e : DeskView) (client : ℕ) (w : What) → e ≡ with_event d client w → IsLegal e.table e.history → HasGrown d e
 grown_next d e client w p legal = record { table = ap (λ s. s.table) p; limit = ap (λ s. s.limit) p; more = event client w ∷ []; history = ap (λ s. s.history) p; legal = legal }
 
-pub grown_trans : (c d e : Seen) → HasGrown c d → HasGrown d e → HasGrown c e
+pub grown_trans : (c d e : DeskView) → HasGrown c d → HasGrown d e → HasGrown c e
 grown_trans c d e g h = record {
   table = h.table ∙ g.table;
   limit = h.limit ∙ g.limit;
@@ -60,7 +62,7 @@ grown_trans c d e g h = record {
 }
 
 -- a job that stood stands
-pub stands_grown : (d e : Seen) (j : HandedOut) → HasGrown d e → JobStands d j → JobStands e j
+pub stands_grown : (d e : DeskView) (j : HandedOut) → HasGrown d e → JobStands d j → JobStands e j
 stands_grown d e j g s = record {
   covered = s.covered;
   before = s.before;
@@ -69,16 +71,16 @@ stands_grown d e j g s = record {
   waited = ap (λ (t : List Declared). block_at (state t s.before) j.ticket) g.table ∙ s.waited;
 }
 
-pub stand_grown : (d e : Seen) (js : List HandedOut) → HasGrown d e → JobsStand d js → JobsStand e js
+pub stand_grown : (d e : DeskView) (js : List HandedOut) → HasGrown d e → JobsStand d js → JobsStand e js
 stand_grown d e [] g s = tt
 stand_grown d e (j ∷ js) g s = (stands_grown d e j g s.0, stand_grown d e js g s.1)
 
-copied_same : (d e : Seen) (copy : Option (List (Ty × Value))) → (now e).store ≡ (now d).store → IsPresentCopy d copy → IsPresentCopy e copy
+copied_same : (d e : DeskView) (copy : Option (List (Ty × Value))) → (state_of e).store ≡ (state_of d).store → IsPresentCopy d copy → IsPresentCopy e copy
 copied_same d e None p c = tt
 copied_same d e (Some cells) p c = c ∙ ap plains (sym p)
 
 -- and so does what an open desk keeps
-pub kept_grown : {table : List Declared} → (d e : Seen) (copy : Option (List (Ty × Value))) (ks : List KeptJob) → HasGrown d e → (now e).store ≡ (now d).store → OpenInvariant d copy ks table → OpenInvariant e copy ks table
+pub kept_grown : {table : List Declared} → (d e : DeskView) (copy : Option (List (Ty × Value))) (ks : List KeptJob) → HasGrown d e → (state_of e).store ≡ (state_of d).store → OpenInvariant d copy ks table → OpenInvariant e copy ks table
 kept_grown d e copy ks g p k = record {
   legal = g.legal;
   copied = copied_same d e copy p k.copied;
@@ -88,11 +90,11 @@ kept_grown d e copy ks g p k = record {
 }
 
 -- with other blocks by their texts
-pub kept_prepared : (d : Seen) (copy : Option (List (Ty × Value))) (ks : List KeptJob) (table others : List Declared) → others ≡ table → OpenInvariant d copy ks table → OpenInvariant d copy ks others
+pub kept_prepared : (d : DeskView) (copy : Option (List (Ty × Value))) (ks : List KeptJob) (table others : List Declared) → others ≡ table → OpenInvariant d copy ks table → OpenInvariant d copy ks others
 kept_prepared d copy ks table others same k = subst (OpenInvariant d copy ks) (sym same) k
 
 -- without a copy the store may be another one
-pub kept_without : {table : List Declared} → (d e : Seen) (copy : Option (List (Ty × Value))) (ks : List KeptJob) → HasGrown d e → OpenInvariant d copy ks table → OpenInvariant e None ks table
+pub kept_without : {table : List Declared} → (d e : DeskView) (copy : Option (List (Ty × Value))) (ks : List KeptJob) → HasGrown d e → OpenInvariant d copy ks table → OpenInvariant e None ks table
 kept_without d e copy ks g k = record {
   legal = g.legal;
   copied = tt;
@@ -102,116 +104,115 @@ kept_without d e copy ks g k = record {
 }
 
 -- jobs that a desk gives out stand
-pub given_stand : (d : Seen) (cells : List (Ty × Value)) (js : List Job) → AreJobs (now d) js → AreCovered cells js → JobsStand d (map (handed_out cells) js)
+pub given_stand : (d : DeskView) (cells : List (Ty × Value)) (js : List Job) → AreJobs (state_of d) js → AreCovered cells js → JobsStand d (map (handed_out cells) js)
 given_stand d cells [] a c = tt
 given_stand d cells (j ∷ js) a c = (record { covered = c.0; before = d.history; more = []; history = sym (append-nil d.history); waited = a.0 }, given_stand d cells js a.1 c.1)
 
-pub stand_append : (d : Seen) (js ks : List HandedOut) → JobsStand d js → JobsStand d ks → JobsStand d (js ++ ks)
+pub stand_append : (d : DeskView) (js ks : List HandedOut) → JobsStand d js → JobsStand d ks → JobsStand d (js ++ ks)
 stand_append d [] ks s t = t
 stand_append d (j ∷ js) ks s t = (s.0, stand_append d js ks s.1 t)
 
 -- they are those of their tickets
-pub given_are : (d : Seen) (cells : List (Ty × Value)) (js : List Job) → cells ≡ plains (now d).store → AreJobs (now d) js → map (handed_out cells) js ≡ jobs_of (now d) (map (λ j. j.ticket) js)
+pub given_are : (d : DeskView) (cells : List (Ty × Value)) (js : List Job) → cells ≡ plains (state_of d).store → AreJobs (state_of d) js → map (handed_out cells) js ≡ jobs_of (state_of d) (map (λ j. j.ticket) js)
 given_are d cells [] e a = refl
-given_are d cells (j ∷ js) e a = by (block_at (now d) j.ticket) a.0 (given_are d cells js e a.1)
+given_are d cells (j ∷ js) e a = by (block_at (state_of d) j.ticket) a.0 (given_are d cells js e a.1)
   where
-    by : (o : Option Block) → o ≡ Some j.block → map (handed_out cells) js ≡ jobs_of (now d) (map (λ j. j.ticket) js) → handed_out cells j ∷ map (handed_out cells) js ≡ job_of (now d) j.ticket o ++ jobs_of (now d) (map (λ j. j.ticket) js)
+    by : (o : Option Block) → o ≡ Some j.block → map (handed_out cells) js ≡ jobs_of (state_of d) (map (λ j. j.ticket) js) → handed_out cells j ∷ map (handed_out cells) js ≡ job_of (state_of d) j.ticket o ++ jobs_of (state_of d) (map (λ j. j.ticket) js)
     by (Some b) p q =
         let r : b ≡ j.block = cc in
         ap (λ (c : List (Ty × Value)). record { ticket = j.ticket; block = j.block; store = c } ∷ map (handed_out cells) js) e
-        ∙ ap (λ (b : Block). record { ticket = j.ticket; block = b; store = plains (now d).store } ∷ map (handed_out cells) js) (sym r)
-        ∙ ap (λ (hs : List HandedOut). record { ticket = j.ticket; block = b; store = plains (now d).store } ∷ hs) q
+        ∙ ap (λ (b : Block). record { ticket = j.ticket; block = b; store = plains (state_of d).store } ∷ map (handed_out cells) js) (sym r)
+        ∙ ap (λ (hs : List HandedOut). record { ticket = j.ticket; block = b; store = plains (state_of d).store } ∷ hs) q
     by None p q = absurd cc
 
 -- a desk that differs in its queue alone
-pub queued_stand : (d : Seen) (p : List (ℕ × Bool)) (js : List HandedOut) → JobsStand d js → JobsStand (record d { pending = p }) js
+pub queued_stand : (d : DeskView) (p : List (ℕ × Bool)) (js : List HandedOut) → JobsStand d js → JobsStand (record d { pending = p }) js
 queued_stand d p [] s = tt
 queued_stand d p (j ∷ js) s = (record { covered = s.0.covered; before = s.0.before; more = s.0.more; history = s.0.history; waited = s.0.waited }, queued_stand d p js s.1)
 
-queued_copied : (d : Seen) (p : List (ℕ × Bool)) (copy : Option (List (Ty × Value))) → IsPresentCopy d copy → IsPresentCopy (record d { pending = p }) copy
+queued_copied : (d : DeskView) (p : List (ℕ × Bool)) (copy : Option (List (Ty × Value))) → IsPresentCopy d copy → IsPresentCopy (record d { pending = p }) copy
 queued_copied d p None c = tt
 queued_copied d p (Some cells) c = c
 
-pub kept_queued : {table : List Declared} → (d e : Seen) (copy : Option (List (Ty × Value))) (ks : List KeptJob) → e ≡ record d { pending = e.pending } → OpenInvariant d copy ks table → OpenInvariant e copy ks table
+pub kept_queued : {table : List Declared} → (d e : DeskView) (copy : Option (List (Ty × Value))) (ks : List KeptJob) → e ≡ record d { pending = e.pending } → OpenInvariant d copy ks table → OpenInvariant e copy ks table
 kept_queued {table = table} d e copy ks q k =
-    subst (λ (f : Seen). OpenInvariant f copy ks table) (sym q)
+    subst (λ (f : DeskView). OpenInvariant f copy ks table) (sym q)
     (record { legal = k.legal; copied = queued_copied d e.pending copy k.copied; jobs_stand = queued_stand d e.pending (map job_kept ks) k.jobs_stand; have_stores = k.have_stores; same_table = k.same_table })
 
-pub kept_pending : {table : List Declared} → (d e : Seen) (p : List (ℕ × Bool)) (copy : Option (List (Ty × Value))) (ks : List KeptJob) → e ≡ record d { pending = p } → OpenInvariant d copy ks table → OpenInvariant e copy ks table
+pub kept_pending : {table : List Declared} → (d e : DeskView) (p : List (ℕ × Bool)) (copy : Option (List (Ty × Value))) (ks : List KeptJob) → e ≡ record d { pending = p } → OpenInvariant d copy ks table → OpenInvariant e copy ks table
 kept_pending {table = table} d e p copy ks q k =
-    subst (λ (f : Seen). OpenInvariant f copy ks table) (sym q)
+    subst (λ (f : DeskView). OpenInvariant f copy ks table) (sym q)
     (record { legal = k.legal; copied = queued_copied d p copy k.copied; jobs_stand = queued_stand d p (map job_kept ks) k.jobs_stand; have_stores = k.have_stores; same_table = k.same_table })
 
 -- with more jobs that stand, where each that needs its store has it
-pub kept_more : {A E : Type 0} {table : List Declared} → (d e : Seen) (copy : Option (List (Ty × Value))) (ks ls ms : List KeptJob) (r : Result A E) → e ≡ record d { pending = e.pending } → JobsStand d (map job_kept ls)
-    → OnOk r (map job_kept ms ≡ map job_kept ks ++ map job_kept ls) → OnErr r (map job_kept ms ≡ map job_kept ks) → HaveStores (now e).waiters ms → OpenInvariant d copy ks table → OpenInvariant e copy ms table
+pub kept_more : {A E : Type 0} {table : List Declared} → (d e : DeskView) (copy : Option (List (Ty × Value))) (ks ls ms : List KeptJob) (r : Result A E) → e ≡ record d { pending = e.pending } → JobsStand d (map job_kept ls)
+    → OnOk r (map job_kept ms ≡ map job_kept ks ++ map job_kept ls) → OnErr r (map job_kept ms ≡ map job_kept ks) → HaveStores (state_of e).waiters ms → OpenInvariant d copy ks table → OpenInvariant e copy ms table
 kept_more {A = A} {E = E} {table = table} d e copy ks ls ms r q s ok err h k = by r ok err (kept_queued d e copy ks q k)
   where
     stand : JobsStand e (map job_kept ls)
-    stand = subst (λ (f : Seen). JobsStand f (map job_kept ls)) (sym q) (queued_stand d e.pending (map job_kept ls) s)
+    stand = subst (λ (f : DeskView). JobsStand f (map job_kept ls)) (sym q) (queued_stand d e.pending (map job_kept ls) s)
 
     by : (r : Result A E) → OnOk r (map job_kept ms ≡ map job_kept ks ++ map job_kept ls) → OnErr r (map job_kept ms ≡ map job_kept ks) → OpenInvariant e copy ks table → OpenInvariant e copy ms table
     by (Ok x) p n i = record { legal = i.legal; copied = i.copied; jobs_stand = subst (JobsStand e) (sym p) (stand_append e (map job_kept ks) (map job_kept ls) i.jobs_stand stand); have_stores = h; same_table = i.same_table }
     by (Err x) p n i = record { legal = i.legal; copied = i.copied; jobs_stand = subst (JobsStand e) (sym n) i.jobs_stand; have_stores = h; same_table = i.same_table }
 
 -- settling
-whats_table : (d : Seen) (client : ℕ) (ws : List What) → (with_whats d client ws).table ≡ d.table
+whats_table : (d : DeskView) (client : ℕ) (ws : List What) → (with_whats d client ws).table ≡ d.table
 whats_table d client [] = refl
-whats_table d client (w ∷ ws) = whats_table (with_event d (event client w)) client ws
+whats_table d client (w ∷ ws) = whats_table (with_event d client w) client ws
 
-whats_limit : (d : Seen) (client : ℕ) (ws : List What) → (with_whats d client ws).limit ≡ d.limit
+whats_limit : (d : DeskView) (client : ℕ) (ws : List What) → (with_whats d client ws).limit ≡ d.limit
 whats_limit d client [] = refl
-whats_limit d client (w ∷ ws) = whats_limit (with_event d (event client w)) client ws
+whats_limit d client (w ∷ ws) = whats_limit (with_event d client w) client ws
 
-whats_history : (d : Seen) (client : ℕ) (ws : List What) → (with_whats d client ws).history ≡ d.history ++ map (event client) ws
+whats_history : (d : DeskView) (client : ℕ) (ws : List What) → (with_whats d client ws).history ≡ d.history ++ map (event client) ws
 whats_history d client [] = sym (append-nil d.history)
-whats_history d client (w ∷ ws) = whats_history (with_event d (event client w)) client ws ∙ append_assoc d.history (event client w ∷ []) (map (event client) ws)
+whats_history d client (w ∷ ws) = whats_history (with_event d client w) client ws ∙ append_assoc d.history (event client w ∷ []) (map (event client) ws)
 
-pub grown_whats : (d e : Seen) (client : ℕ) (ws : List What) → e ≡ with_whats (called_back d) client ws → IsLegal e.table e.history → HasGrown d e
+pub grown_whats : (d e : DeskView) (client : ℕ) (ws : List What) → e ≡ with_whats (requeued_all d) client ws → IsLegal e.table e.history → HasGrown d e
 grown_whats d e client ws p legal = record {
-  table = ap (λ s. s.table) p ∙ whats_table (called_back d) client ws;
-  limit = ap (λ s. s.limit) p ∙ whats_limit (called_back d) client ws;
+  table = ap (λ s. s.table) p ∙ whats_table (requeued_all d) client ws;
+  limit = ap (λ s. s.limit) p ∙ whats_limit (requeued_all d) client ws;
   more = map (event client) ws;
-  history = ap (λ s. s.history) p ∙ whats_history (called_back d) client ws;
+  history = ap (λ s. s.history) p ∙ whats_history (requeued_all d) client ws;
   legal = legal;
 }
 
 -- ---- by call
-submitted_grown : (d e : Seen) (b : Block) (r : Result ℕ SubmitError) → IfOk r (λ t. e ≡ with_event d (event 0 (Submitted t b))) → OnErr r (e ≡ d) → IsLegal e.table e.history
-    → HasGrown d e × ((now e).store ≡ (now d).store)
-submitted_grown d e b (Ok t) p q legal = (grown_next d e 0 (Submitted t b) p legal, ap (λ s. (now s).store) p ∙ submitted_store d 0 t b)
-submitted_grown d e b (Err x) p q legal = (grown_same d e q legal, ap (λ s. (now s).store) q)
+submitted_grown : (d e : DeskView) (b : Block) (r : Result ℕ SubmitError) → IfOk r (λ t. e ≡ with_event d 0 (Submitted t b)) → OnErr r (e ≡ d) → IsLegal e.table e.history
+    → HasGrown d e × ((state_of e).store ≡ (state_of d).store)
+submitted_grown d e b (Ok t) p q legal = (grown_next d e 0 (Submitted t b) p legal, ap (λ s. (state_of s).store) p ∙ submitted_store d 0 t b)
+submitted_grown d e b (Err x) p q legal = (grown_same d e q legal, ap (λ s. (state_of s).store) q)
 
-pub kept_submitted : {table : List Declared} → (d e : Seen) (copy : Option (List (Ty × Value))) (ks : List KeptJob) (b : Block) (r : Result ℕ SubmitError) → IfOk r (λ t. e ≡ with_event d (event 0 (Submitted t b))) → OnErr r (e ≡ d)
+pub kept_submitted : {table : List Declared} → (d e : DeskView) (copy : Option (List (Ty × Value))) (ks : List KeptJob) (b : Block) (r : Result ℕ SubmitError) → IfOk r (λ t. e ≡ with_event d 0 (Submitted t b)) → OnErr r (e ≡ d)
     → IsLegal e.table e.history → OpenInvariant d copy ks table → OpenInvariant e copy ks table
 kept_submitted d e copy ks b r p q legal k = let g = submitted_grown d e b r p q legal in kept_grown d e copy ks g.0 g.1 k
 
-cancelled_grown : (d e : Seen) (t : ℕ) (r : Result (Unit {0}) CancelError) → OnOk r (e ≡ with_event d (event 0 (Cancelled t))) → OnErr r (e ≡ d) → IsLegal e.table e.history
-    → HasGrown d e × ((now e).store ≡ (now d).store)
-cancelled_grown d e t (Ok x) p q legal = (grown_next d e 0 (Cancelled t) p legal, ap (λ s. (now s).store) p ∙ cancelled_store d 0 t)
-cancelled_grown d e t (Err x) p q legal = (grown_same d e q legal, ap (λ s. (now s).store) q)
+cancelled_grown : (d e : DeskView) (t : ℕ) (r : Result (Unit {0}) CancelError) → OnOk r (e ≡ with_event d 0 (Cancelled t)) → OnErr r (e ≡ d) → IsLegal e.table e.history
+    → HasGrown d e × ((state_of e).store ≡ (state_of d).store)
+cancelled_grown d e t (Ok x) p q legal = (grown_next d e 0 (Cancelled t) p legal, ap (λ s. (state_of s).store) p ∙ cancelled_store d 0 t)
+cancelled_grown d e t (Err x) p q legal = (grown_same d e q legal, ap (λ s. (state_of s).store) q)
 
-pub kept_cancelled : {table : List Declared} → (d e : Seen) (copy : Option (List (Ty × Value))) (ks : List KeptJob) (t : ℕ) (r : Result (Unit {0}) CancelError) → OnOk r (e ≡ with_event d (event 0 (Cancelled t))) → OnErr r (e ≡ d)
+pub kept_cancelled : {table : List Declared} → (d e : DeskView) (copy : Option (List (Ty × Value))) (ks : List KeptJob) (t : ℕ) (r : Result (Unit {0}) CancelError) → OnOk r (e ≡ with_event d 0 (Cancelled t)) → OnErr r (e ≡ d)
     → IsLegal e.table e.history → OpenInvariant d copy ks table → OpenInvariant e copy ks table
 kept_cancelled d e copy ks t r p q legal k = let g = cancelled_grown d e t r p q legal in kept_grown d e copy ks g.0 g.1 k
 
-finished_grown : (d e : Seen) (t : ℕ) (r : Result Finish FinishError) → IfOk r (λ f. e ≡ with_event d (event 0 (Finished t f.verdict f.applied.first_new f.stale))) → OnErr r (e ≡ d) → IsLegal e.table e.history → HasGrown d e
-finished_grown d e t (Ok f) p q legal = grown_next d e 0 (Finished t f.verdict f.applied.first_new f.stale) p legal
+finished_grown : (d e : DeskView) (t : ℕ) (r : Result Finish FinishError) → IfOk r (λ f. e ≡ with_event d 0 (finish_of t f)) → OnErr r (e ≡ d) → IsLegal e.table e.history → HasGrown d e
+finished_grown d e t (Ok f) p q legal = grown_next d e 0 (finish_of t f) p legal
 finished_grown d e t (Err x) p q legal = grown_same d e q legal
 
-pub kept_finished : {table : List Declared} → (d e : Seen) (copy : Option (List (Ty × Value))) (ks : List KeptJob) (t : ℕ) (r : Result Finish FinishError)
-    → IfOk r (λ f. e ≡ with_event d (event 0 (Finished t f.verdict f.applied.first_new f.stale))) → OnErr r (e ≡ d) → IsLegal e.table e.history → OpenInvariant d copy ks table → OpenInvariant e None ks table
+pub kept_finished : {table : List Declared} → (d e : DeskView) (copy : Option (List (Ty × Value))) (ks : List KeptJob) (t : ℕ) (r : Result Finish FinishError)
+    → IfOk r (λ f. e ≡ with_event d 0 (finish_of t f)) → OnErr r (e ≡ d) → IsLegal e.table e.history → OpenInvariant d copy ks table → OpenInvariant e None ks table
 kept_finished d e copy ks t r p q legal k = kept_without d e copy ks (finished_grown d e t r p q legal) k
 
-stopped_grown : (d e : Seen) (w : SettleWhy) (f n : ℕ) → StopTold w 0 (called_back d) e f n → IsLegal e.table e.history → HasGrown d e
-stopped_grown d e HistoryFull f n s legal = grown_whats d e 0 (slow_settle (called_back d)) s.0.grown legal
-stopped_grown d e CellsFull f n s legal = grown_whats d e 0 (slow_settle (called_back d)) s.0.grown legal
+stopped_grown : (d e : DeskView) (w : SettleWhy) (f n : ℕ) → HasStopped w 0 (requeued_all d) e f n → IsLegal e.table e.history → HasGrown d e
+stopped_grown d e HistoryFull f n s legal = grown_whats d e 0 (slow_settle (requeued_all d)) s.0.grown legal
+stopped_grown d e CellsFull f n s legal = grown_whats d e 0 (slow_settle (requeued_all d)) s.0.grown legal
 stopped_grown d e NoMemory f n s legal = grown_whats d e 0 s.done s.grown legal
 
-settled_grown : (d e : Seen) (r : Result Settled SettleStop) → IfOk r (λ s. HasSettled 0 (called_back d) e s.finished s.evaluations None) → IfErr r (λ s. StopTold s.why 0 (called_back d) e s.finished s.evaluations) → IsLegal e.table e.history → HasGrown d e
-settled_grown d e (Ok s) p q legal = grown_whats d e 0 (slow_settle (called_back d)) p.grown legal
-settled_grown d e (Err s) p q legal = stopped_grown d e s.why s.finished s.evaluations q legal
+settled_grown : (d e : DeskView) (r : Result Settled SettleStop) → SettlesAs 0 (requeued_all d) e r → IsLegal e.table e.history → HasGrown d e
+settled_grown d e (Ok s) p legal = grown_whats d e 0 (slow_settle (requeued_all d)) p.grown legal
+settled_grown d e (Err s) p legal = stopped_grown d e s.why s.finished s.evaluations p legal
 
-pub kept_settled : {table : List Declared} → (d e : Seen) (copy : Option (List (Ty × Value))) (ks : List KeptJob) (r : Result Settled SettleStop) → IfOk r (λ s. HasSettled 0 (called_back d) e s.finished s.evaluations None)
-    → IfErr r (λ s. StopTold s.why 0 (called_back d) e s.finished s.evaluations) → IsLegal e.table e.history → OpenInvariant d copy ks table → OpenInvariant e None ks table
-kept_settled d e copy ks r p q legal k = kept_without d e copy ks (settled_grown d e r p q legal) k
+pub kept_settled : {table : List Declared} → (d e : DeskView) (copy : Option (List (Ty × Value))) (ks : List KeptJob) (r : Result Settled SettleStop) → SettlesAs 0 (requeued_all d) e r → IsLegal e.table e.history → OpenInvariant d copy ks table → OpenInvariant e None ks table
+kept_settled d e copy ks r p legal k = kept_without d e copy ks (settled_grown d e r p legal) k

@@ -24,7 +24,7 @@ use Rattle.stm_events.specs.Refusals.{pending_left}
 use Rattle.stm_events.specs.SlowDesk.{Waiter, Slow, is_current, waking, becomes_stale, after_writes, find_waiter, without_waiter, after, Allows, MayFinish}
 use Rattle.stm_machine.proofs.Points.{not_yet, has_with_tickets, queue_push, queue_delivered, queue_gone, stale_of, queue_finished, has_stale}
 use Rattle.stm_events.proofs.Rising.{rising_without, waiter_without, waiter_delivered, waiter_marks, waiter_push}
-use Rattle.stm_desk.specs.Seen.{pending_after}
+use Rattle.stm_desk.specs.DeskView.{pending_after}
 
 pub record QueueKept (ws : List Waiter) (es : List Entry) : Type 0 where
   pub rising : IsRising (tickets es)
@@ -150,7 +150,7 @@ stale_not_due woken false (Some w) h = and_left (is_current w) (not (is_current 
 kept_finish : (s : Slow) (t n : ℕ) (w : Waiter) (v : Verdict) (stale : List ℕ) (es : List Entry) → AreRising s.next 0 s.waiters → find_waiter t s.waiters ≡ Some w → MayFinish s t w v n stale → QueueKept s.waiters es
     → QueueKept (after s (Finished t v n stale)).waiters (with_tickets stale es)
 kept_finish s t n w v stale es r f may k =
-    let W = waking Changed s.store v in
+    let W = waking s.rule s.store v in
     let ws = without_waiter t s.waiters in
     let listed : (u : ℕ) → member u stale ≡ stale_of W (cond (nat_eq u t) None (find_waiter u s.waiters)) = λ u.
     ap (member u) may.listed ∙ has_stale u s.next 0 W ws (rising_without t s.next 0 s.waiters r) ∙ ap (stale_of W) (waiter_without t u s.next 0 s.waiters r) in

@@ -9,7 +9,7 @@ use Rattle.stm_eval.specs.declared.job.Job.{Job}
 use Rattle.stm_events.specs.declared.event.Event.{Event}
 use Rattle.stm_machine.specs.JobsHandedOut.{block_at}
 use Rattle.stm_events.specs.SlowDesk.{Waiter, IsLegal, find_waiter, state}
-use Rattle.stm_desk.specs.Seen.{Seen, now}
+use Rattle.stm_desk.specs.DeskView.{DeskView, state_of}
 use Rattle.stm_commands.specs.declared.jobs.KeptJob.{KeptJob}
 use Rattle.stm_commands.specs.Jobs.{job_at}
 use Rattle.stm_commands.specs.OpenDesk.{HandedOut}
@@ -106,7 +106,7 @@ store_later table before between more k l b h = λ w f. by w f (find_waiter k.ti
     by w f (Some x) e = h x e
     by w f None e = let g = gone_stays table before between more k.ticket first.0 l first.1 e in absurd (cc)
 
-store_grown : (d e : Seen) (k : KeptJob) → HasGrown d e → JobStands d (job_kept k) → HasStore (now d).waiters k → HasStore (now e).waiters k
+store_grown : (d e : DeskView) (k : KeptJob) → HasGrown d e → JobStands d (job_kept k) → HasStore (state_of d).waiters k → HasStore (state_of e).waiters k
 store_grown d e k g s h =
     subst (λ (t : List Declared). HasStore (state t e.history).waiters k) (sym g.table)
     (subst (λ (es : List Event). HasStore (state d.table es).waiters k) (sym (g.history ∙ ap (λ (es : List Event). es ++ g.more) s.history))
@@ -114,6 +114,6 @@ store_grown d e k g s h =
     (subst (IsLegal d.table) (g.history ∙ ap (λ (es : List Event). es ++ g.more) s.history) (subst (λ (t : List Declared). IsLegal t e.history) g.table g.legal)) s.waited
     (subst (λ (es : List Event). HasStore (state d.table es).waiters k) s.history h)))
 
-pub stores_grown : (d e : Seen) (ks : List KeptJob) → HasGrown d e → JobsStand d (map job_kept ks) → HaveStores (now d).waiters ks → HaveStores (now e).waiters ks
+pub stores_grown : (d e : DeskView) (ks : List KeptJob) → HasGrown d e → JobsStand d (map job_kept ks) → HaveStores (state_of d).waiters ks → HaveStores (state_of e).waiters ks
 stores_grown d e [] g s h = tt
 stores_grown d e (k ∷ ks) g s h = (store_grown d e k g s.0 h.0, stores_grown d e ks g s.1 h.1)

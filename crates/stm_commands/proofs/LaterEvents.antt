@@ -6,7 +6,7 @@ use Rattle.std.proofs.KnownBytes.{Appends-trans}
 use Rattle.stm_events.specs.declared.event.Event.{Event}
 use Rattle.stm_history.specs.declared.files.writing.WriteFault.{WriteFault}
 use Rattle.stm_history.specs.HistoryText.{event_lines, WritesFront, WritesText}
-use Rattle.stm_history.proofs.Parts.{part_after, part_within}
+use Rattle.stm_history.proofs.TextInParts.{part_after, part_within}
 use Rattle.stm_commands.specs.Questions.{later_lines}
 
 -- a text after one that was written

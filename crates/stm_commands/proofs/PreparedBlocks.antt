@@ -1,10 +1,9 @@
 -- Blocks that are kept by their texts: that of a place is the one of its text.
 use Rattle.std.proofs.Common.{◌≡◌, ℕ, zero, suc, ◌<◌, List, [], ◌∷◌, ◌++◌, length, Option, Some, None, Result, Ok, Err, IfOk, IfErr, sym, ap, subst, ◌∙◌, arith, slice_index_or, slice_set}
-use Rattle.std.specs.Prelude.{IfSome}
 use Rattle.stm_terms.specs.Ast.{Act}
 use Rattle.stm_terms.specs.ParsedAst as raw
 use Rattle.stm_terms.specs.Typing.{ActionType, uses_of}
-use Rattle.stm_terms.specs.UnlessNoMemory.{AnswersAs}
+use Rattle.stm_terms.specs.UnlessNoMemory.{AnswersExcept}
 use Rattle.stm_parse.specs.declared.fault.ParseFault.{ParseFault}
 use Rattle.stm_parse.specs.ParseFunction.{parsed_block}
 use Rattle.stm_check.specs.TypedBlock.{Block}
@@ -15,7 +14,7 @@ use Rattle.stm_store.specs.Tables.{Declared, opened}
 use Rattle.stm_event_lines.specs.WholeBlocks.{given_type, block_if_typed, block_if_parsed, checked_block}
 use Rattle.stm_blocks.specs.declared.refusal.Refusal.{Refusal}
 use Rattle.stm_blocks.specs.CompiledBlock.{block_or_refusal, compiled_block}
-use Rattle.stm_blocks.specs.ToldRefusal.{told_refusal}
+use Rattle.stm_blocks.specs.OutOfMemory.{IsOutOfMemory}
 use Rattle.stm_commands.specs.BlockCache.{IsBlockOf, IsPrepared, ArePrepared}
 
 -- a block has its text
@@ -49,9 +48,9 @@ prepared_set table (o ∷ os) zero b h p = (h, p.1)
 prepared_set table (o ∷ os) (suc n) b h p = (p.0, prepared_set table os n b h p.1)
 
 -- one more hold on the block of a text
-pub answers_shared : (table : List Declared) (text : List ℕ) (b : Block) (r : Result Block Refusal) → IsBlockOf table text b → IfOk r (λ x. x ≡ b) → IfErr r (λ e. told_refusal e ≡ None) → AnswersAs told_refusal (λ x. x) r (compiled_block table text)
+pub answers_shared : (table : List Declared) (text : List ℕ) (b : Block) (r : Result Block Refusal) → IsBlockOf table text b → IfOk r (λ x. x ≡ b) → IfErr r IsOutOfMemory → AnswersExcept IsOutOfMemory (λ x. x) r (compiled_block table text)
 answers_shared table text b (Ok x) h p q = h.0 ∙ ap (λ (y : Block). Ok y) (sym p)
-answers_shared table text b (Err e) h p q = subst (λ (o : Option Refusal). IfSome o (λ f. compiled_block table text ≡ Err f)) (sym q) tt
+answers_shared table text b (Err e) h p q = λ n. absurd (n q)
 
 pub covers_shared : (table : List Declared) (text : List ℕ) (b : Block) (r : Result Block Refusal) → IsBlockOf table text b → IfOk r (λ x. x ≡ b) → IfOk r (λ x. Covers (plains (opened table)) x.uses)
 covers_shared table text b (Ok x) h p = subst (λ (y : Block). Covers (plains (opened table)) y.uses) (sym p) h.1

@@ -8,9 +8,8 @@ use Rattle.stm_check.specs.TypedBlock.{Block}
 use Rattle.stm_store.specs.declared.cell.Cell.{Cell}
 use Rattle.stm_events.specs.declared.errors.SubmitError.{SubmitError}
 use Rattle.stm_events.specs.declared.event.What.TheVariants.{Submitted}
-use Rattle.stm_machine.specs.Machine.{event}
 use Rattle.stm_events.specs.SlowDesk.{under, verdict_on}
-use Rattle.stm_desk.specs.Seen.{Seen, now, with_event}
+use Rattle.stm_desk.specs.DeskView.{DeskView, state_of, with_event}
 use Rattle.stm_desk.specs.Refusals.{submit_refusal}
 use Rattle.stm_blocks.specs.declared.refusal.Refusal.{Refusal}
 use Rattle.stm_blocks.specs.CompiledBlock.{compiled_block}
@@ -49,12 +48,12 @@ unfoldable pub ticket_line : ℕ → List ℕ
 ticket_line ticket = codes "ticket " ++ decimal ticket ++ 10 ∷ []
 
 -- `submit` of a block: it waits from now on, under the next ticket, or it is refused
-abbrev pub submit_block_step : Seen → Block → Option SubmitError → Seen × List ℕ
-submit_block_step d block None = (with_event d (event 0 (Submitted (now d).next block)), ticket_line (now d).next)
+abbrev pub submit_block_step : DeskView → Block → Option SubmitError → DeskView × List ℕ
+submit_block_step d block None = (with_event d 0 (Submitted (state_of d).next block), ticket_line (state_of d).next)
 submit_block_step d block (Some e) = (d, submit_error_text e)
 
 -- `submit` of what a text was compiled to
-abbrev pub submit_text_step : Seen → Result Block Refusal → Seen × List ℕ
+abbrev pub submit_text_step : DeskView → Result Block Refusal → DeskView × List ℕ
 submit_text_step d (Ok block) = submit_block_step d block (submit_refusal d block)
 submit_text_step d (Err e) = (d, refusal_text e)
 

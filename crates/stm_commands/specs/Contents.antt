@@ -9,7 +9,7 @@ use Rattle.stm_store.specs.Tables.{Declared}
 use Rattle.stm_history.specs.HistoryText.{history_text as text_of_history}
 use Rattle.stm_event_lines.specs.Lines.{latest_format}
 use Rattle.stm_events.specs.SlowDesk.{Since, Waiter, Slow, Standing, New, Stale, Current, under, find_waiter, standing}
-use Rattle.stm_desk.specs.Seen.{now}
+use Rattle.stm_desk.specs.DeskView.{state_of}
 use Rattle.stm_lines.specs.NumberArgument.{number_argument}
 use Rattle.stm_blocks.specs.NameText.{name_text}
 use Rattle.stm_commands.specs.Arguments.{with_number, with_nothing, argument_refused}
@@ -44,7 +44,7 @@ show_text s = waiter_lines s.store s.waiters ++ codes "waiting " ++ decimal (len
 
 -- `show`: how each waiting block stands, in ascending order of the tickets
 unfoldable pub show_answer : OpenDesk → List ℕ → List ℕ
-show_answer d argument = with_nothing (show_text (now d.desk)) argument_refused argument
+show_answer d argument = with_nothing (show_text (state_of d.desk)) argument_refused argument
 
 -- ---- reads
 -- what a block read at its last delivery, or that there was none
@@ -60,7 +60,7 @@ waiter_reads_text None = refused (codes "NoTicket")
 -- `reads`: what a block read at its last delivery
 unfoldable pub reads_answer : OpenDesk → List ℕ → List ℕ
 reads_answer d argument =
-    with_number (λ t. waiter_reads_text (find_waiter t (now d.desk).waiters)) argument_refused (number_argument argument)
+    with_number (λ t. waiter_reads_text (find_waiter t (state_of d.desk).waiters)) argument_refused (number_argument argument)
 
 -- what a cell is and holds
 unfoldable pub content_text : Cell → List ℕ

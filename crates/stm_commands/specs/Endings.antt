@@ -9,14 +9,13 @@ use Rattle.stm_events.specs.declared.errors.CancelError.{CancelError}
 use Rattle.stm_events.specs.declared.errors.FinishError.{FinishError}
 use Rattle.stm_events.specs.declared.event.What.{What}
 use Rattle.stm_events.specs.declared.event.What.TheVariants.{Finished, Cancelled}
-use Rattle.stm_machine.specs.Machine.{event}
 use Rattle.stm_events.specs.SlowDesk.{Waiter, verdict_on, find_waiter, without_waiter, stale_after}
 use Rattle.stm_events.specs.SlowSettle.{finishes, installs, Stop, NoRoom, NoCells}
 use Rattle.stm_desk.specs.declared.errors.SettleWhy.{SettleWhy}
 use Rattle.stm_desk.specs.declared.errors.SettleWhy.TheVariants.{HistoryFull, CellsFull, NoMemory}
 use Rattle.stm_desk.specs.Refusals.{finish_refusal, cancel_refusal}
-use Rattle.stm_desk.specs.Seen.{Seen, now, with_event}
-use Rattle.stm_desk.specs.Settling.{slow_settle, slow_stop, called_back, with_whats}
+use Rattle.stm_desk.specs.DeskView.{DeskView, state_of, with_event}
+use Rattle.stm_desk.specs.Settling.{slow_settle, slow_stop, requeued_all, with_whats}
 use Rattle.stm_lines.specs.NumberArgument.{number_argument}
 use Rattle.stm_commands.specs.Arguments.{with_number, with_nothing, argument_refused}
 use Rattle.stm_commands.specs.OpenDesk.{OpenDesk, on_desk}
@@ -41,21 +40,21 @@ finished_line t first_new (Throws fault) stale = codes "finished " ++ decimal t 
 finished_line t first_new Blocks stale = []
 
 -- `finish` of a block with this verdict
-abbrev pub finish_verdict_step : Seen → ℕ → Option Verdict → Seen × List ℕ
+abbrev pub finish_verdict_step : DeskView → ℕ → Option Verdict → DeskView × List ℕ
 finish_verdict_step d t (Some v) =
-    let first_new = length (now d).store in
-    let stale = stale_after (changed_by (now d).store v) (without_waiter t (now d).waiters) in
-    (with_event d (event 0 (Finished t v first_new stale)), finished_line t first_new v stale)
+    let first_new = length (state_of d).store in
+    let stale = stale_after (changed_by (state_of d).store v) (without_waiter t (state_of d).waiters) in
+    (with_event d 0 (Finished t v first_new stale), finished_line t first_new v stale)
 finish_verdict_step d t None = (d, [])
 
 -- `finish` of a waiting block
-abbrev pub finish_waiter_step : Seen → ℕ → Option Waiter → Seen × List ℕ
-finish_waiter_step d t (Some w) = finish_verdict_step d t (verdict_on (now d).store w.block)
+abbrev pub finish_waiter_step : DeskView → ℕ → Option Waiter → DeskView × List ℕ
+finish_waiter_step d t (Some w) = finish_verdict_step d t (verdict_on (state_of d).store w.block)
 finish_waiter_step d t None = (d, [])
 
 -- `finish` of a ticket, which is done or refused for this reason
-abbrev pub finish_ticket_step : Seen → ℕ → Option FinishError → Seen × List ℕ
-finish_ticket_step d t None = finish_waiter_step d t (find_waiter t (now d).waiters)
+abbrev pub finish_ticket_step : DeskView → ℕ → Option FinishError → DeskView × List ℕ
+finish_ticket_step d t None = finish_waiter_step d t (find_waiter t (state_of d).waiters)
 finish_ticket_step d t (Some e) = (d, finish_error_text e)
 
 -- `finish`: a block takes effect and waits no more
@@ -70,8 +69,8 @@ unfoldable pub cancelled_line : ℕ → List ℕ
 cancelled_line t = codes "cancelled " ++ decimal t ++ 10 ∷ []
 
 -- `cancel` of a ticket, which is done or refused for this reason
-abbrev pub cancel_ticket_step : Seen → ℕ → Option CancelError → Seen × List ℕ
-cancel_ticket_step d t None = (with_event d (event 0 (Cancelled t)), cancelled_line t)
+abbrev pub cancel_ticket_step : DeskView → ℕ → Option CancelError → DeskView × List ℕ
+cancel_ticket_step d t None = (with_event d 0 (Cancelled t), cancelled_line t)
 cancel_ticket_step d t (Some e) = (d, cancel_error_text e)
 
 -- `cancel`: a block waits no more
@@ -107,9 +106,9 @@ settle_text whats None = counts_line whats
 settle_text whats (Some stop) = why_text (stop_why stop) ++ counts_line whats
 
 -- `settle` of a desk with no ticket out
-abbrev pub settle_desk_step : Seen → Seen × List ℕ
+abbrev pub settle_desk_step : DeskView → DeskView × List ℕ
 settle_desk_step d = (with_whats d 0 (slow_settle d), settle_text (slow_settle d) (slow_stop d))
 
 -- `settle`: all that can run does, in a fixed order; first each ticket that is out is queued
 unfoldable pub settle_step : OpenDesk → List ℕ → OpenDesk × List ℕ
-settle_step d argument = with_nothing (on_desk d (settle_desk_step (called_back d.desk))) (d, argument_refused) argument
+settle_step d argument = with_nothing (on_desk d (settle_desk_step (requeued_all d.desk))) (d, argument_refused) argument

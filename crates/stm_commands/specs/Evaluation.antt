@@ -5,8 +5,8 @@ use Rattle.stm_terms.specs.Verdict.{verdict}
 use Rattle.stm_events.specs.declared.errors.DeliverError.{DeliverError}
 use Rattle.stm_machine.specs.JobsHandedOut.{sent}
 use Rattle.stm_events.specs.SlowDesk.{max_waiting}
-use Rattle.stm_desk.specs.Refusals.{left_by}
-use Rattle.stm_desk.specs.Seen.{Seen, now}
+use Rattle.stm_desk.specs.Refusals.{requeued_if_overtaken}
+use Rattle.stm_desk.specs.DeskView.{DeskView, state_of}
 use Rattle.stm_commands.specs.Arguments.{with_nothing, argument_refused}
 use Rattle.stm_commands.specs.Jobs.{installed, handed_back, jobs_of, taken, delivery_refusal}
 use Rattle.stm_commands.specs.OpenDesk.{HandedOut, OpenDesk, on_desk}
@@ -14,7 +14,7 @@ use Rattle.stm_commands.specs.Refusals.{deliver_error_text}
 
 -- how far delivering came: the desk, how many were taken, and the first refusal
 pub record Delivered : Type 0 where
-  pub desk : Seen
+  pub desk : DeskView
   pub count : ℕ
   pub stop : Option DeliverError
 
@@ -25,7 +25,7 @@ delivered_by d j None = record {
   count = d.count + 1;
   stop = None;
 }
-delivered_by d j (Some e) = record { desk = handed_back (left_by e j.ticket d.desk) j.ticket; count = d.count; stop = Some e }
+delivered_by d j (Some e) = record { desk = handed_back (requeued_if_overtaken e j.ticket d.desk) j.ticket; count = d.count; stop = Some e }
 
 -- after a refusal the tickets that come after it are queued again too
 abbrev pub delivered_next : Delivered → HandedOut → Option DeliverError → Delivered
@@ -42,15 +42,15 @@ unfoldable pub evaluated_line : ℕ → List ℕ
 evaluated_line n = codes "evaluated " ++ decimal n ++ 10 ∷ []
 
 -- all queued tickets, since no more may wait
-abbrev pub all_queued : Seen → List ℕ
+abbrev pub all_queued : DeskView → List ℕ
 all_queued d = taken d max_waiting
 
 -- the queued tickets are taken, and what their blocks do on the present store is delivered, in ascending order
-abbrev pub evaluated : Seen → Delivered
+abbrev pub evaluated : DeskView → Delivered
 evaluated d =
     delivered_all
     (record { desk = record d { pending = sent (length (all_queued d)) d.pending }; count = 0; stop = None })
-    (jobs_of (now d) (all_queued d))
+    (jobs_of (state_of d) (all_queued d))
 
 -- an evaluation of all that was queued, by how it ended: how many blocks were evaluated, or the first refusal
 abbrev pub evaluation_text : ℕ → Option DeliverError → List ℕ
@@ -58,7 +58,7 @@ evaluation_text n None = evaluated_line n
 evaluation_text n (Some e) = deliver_error_text e
 
 -- `eval` of a desk
-abbrev pub eval_desk_step : Seen → Seen × List ℕ
+abbrev pub eval_desk_step : DeskView → DeskView × List ℕ
 eval_desk_step d = let e = evaluated d in (e.desk, evaluation_text e.count e.stop)
 
 -- `eval`: evaluates and delivers all that is queued

@@ -14,11 +14,10 @@ use Rattle.stm_events.specs.declared.errors.DeliverError.{DeliverError}
 use Rattle.stm_events.specs.declared.errors.DeliverError.TheVariants.{Gone}
 use Rattle.stm_events.specs.declared.event.What.TheVariants.{Installed}
 use Rattle.stm_machine.specs.JobsHandedOut.{block_at, sent}
-use Rattle.stm_machine.specs.Machine.{event}
 use Rattle.stm_events.specs.Refusals.{install_first}
 use Rattle.stm_events.specs.SlowDesk.{Waiter, Slow, find_waiter}
-use Rattle.stm_desk.specs.Refusals.{left_by}
-use Rattle.stm_desk.specs.Seen.{Seen, now, is_full, with_event}
+use Rattle.stm_desk.specs.Refusals.{requeued_if_overtaken}
+use Rattle.stm_desk.specs.DeskView.{DeskView, state_of, is_full, with_event}
 use Rattle.stm_lines.specs.NumberArgument.{number_argument}
 use Rattle.stm_commands.specs.Arguments.{with_number, argument_refused}
 use Rattle.stm_commands.specs.OpenDesk.{HandedOut, OpenDesk, on_desk}
@@ -40,7 +39,7 @@ jobs_of s [] = []
 jobs_of s (t ∷ ts) = job_of s t (block_at s t) ++ jobs_of s ts
 
 -- the lowest queued tickets, n of them or all
-abbrev pub taken : Seen → ℕ → List ℕ
+abbrev pub taken : DeskView → ℕ → List ℕ
 taken d n = take n (queued d.pending)
 
 -- a job by its number and its ticket
@@ -61,7 +60,7 @@ abbrev pub with_jobs : OpenDesk → List ℕ → OpenDesk
 with_jobs d tickets =
     record {
       desk = record d.desk { pending = sent (length tickets) d.desk.pending };
-      jobs = d.jobs ++ jobs_of (now d.desk) tickets;
+      jobs = d.jobs ++ jobs_of (state_of d.desk) tickets;
     }
 
 -- `take` of n jobs
@@ -77,18 +76,18 @@ take_step d argument = with_number (take_jobs_step d) (d, argument_refused) (num
 -- ---- deliver
 -- why what a job's block does on the job's store isn't taken; the first that holds. The block under a ticket is never
 -- another one
-abbrev pub delivery_first : List Cell → Option Waiter → List (ℕ × Value) → Seen → Option DeliverError
+abbrev pub delivery_first : List Cell → Option Waiter → List (ℕ × Value) → DeskView → Option DeliverError
 delivery_first store None reads d = Some Gone
 delivery_first store (Some w) reads d = install_first store (is_full d) w reads
 
 -- why what a job's block does on the job's store isn't taken, if it isn't
-abbrev pub delivery_refusal : Seen → HandedOut → Option DeliverError
+abbrev pub delivery_refusal : DeskView → HandedOut → Option DeliverError
 delivery_refusal d j =
-    delivery_first (now d).store (find_waiter j.ticket (now d).waiters) (reads_of (cell_value j.store) j.block.tree) d
+    delivery_first (state_of d).store (find_waiter j.ticket (state_of d).waiters) (reads_of (cell_value j.store) j.block.tree) d
 
 -- the verdict is kept from now on, in a new event
-abbrev pub installed : Seen → ℕ → Option Verdict → Seen
-installed d t (Some v) = with_event d (event 0 (Installed t v))
+abbrev pub installed : DeskView → ℕ → Option Verdict → DeskView
+installed d t (Some v) = with_event d 0 (Installed t v)
 installed d t None = d
 
 -- the line that tells that the verdict of a ticket was taken
@@ -96,9 +95,9 @@ unfoldable pub delivered_line : ℕ → List ℕ
 delivered_line t = codes "delivered " ++ decimal t ++ 10 ∷ []
 
 -- a delivery of what a job's block does, which is taken or refused for this reason
-abbrev pub delivery_step : Seen → HandedOut → Option DeliverError → Seen × List ℕ
+abbrev pub delivery_step : DeskView → HandedOut → Option DeliverError → DeskView × List ℕ
 delivery_step d j None = (installed d j.ticket (verdict (cell_value j.store) j.block.tree), delivered_line j.ticket)
-delivery_step d j (Some e) = (left_by e j.ticket d, deliver_error_text e)
+delivery_step d j (Some e) = (requeued_if_overtaken e j.ticket d, deliver_error_text e)
 
 -- the job of a number
 abbrev pub job_at : ℕ → List HandedOut → Option HandedOut
@@ -106,7 +105,7 @@ job_at zero jobs = None
 job_at (suc n) jobs = slice_get jobs n
 
 -- `deliver` of a job, if there is one of its number
-abbrev pub deliver_job_step : Seen → Option HandedOut → Seen × List ℕ
+abbrev pub deliver_job_step : DeskView → Option HandedOut → DeskView × List ℕ
 deliver_job_step d (Some j) = delivery_step d j (delivery_refusal d j)
 deliver_job_step d None = (d, refused (codes "NoJob"))
 
@@ -121,11 +120,11 @@ unfoldable pub queued_line : ℕ → List ℕ
 queued_line t = codes "queued " ++ decimal t ++ 10 ∷ []
 
 -- the desk where a ticket is no longer out
-abbrev pub handed_back : Seen → ℕ → Seen
+abbrev pub handed_back : DeskView → ℕ → DeskView
 handed_back d t = record d { pending = marked t false d.pending }
 
 -- `handback` of a ticket
-abbrev pub handback_ticket_step : Seen → ℕ → Seen × List ℕ
+abbrev pub handback_ticket_step : DeskView → ℕ → DeskView × List ℕ
 handback_ticket_step d t = if is_out t d.pending then (handed_back d t, queued_line t) else (d, refused (codes "NotOut"))
 
 -- `handback`: a ticket that is out is queued again

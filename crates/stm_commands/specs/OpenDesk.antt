@@ -5,7 +5,7 @@ use Rattle.stm_terms.specs.declared.values.Value.{Value}
 use Rattle.stm_check.specs.TypedBlock.{Block}
 use Rattle.stm_store.specs.declared.cell.Cell.{Cell}
 use Rattle.stm_store.specs.Tables.{Declared}
-use Rattle.stm_desk.specs.Seen.{Seen, now}
+use Rattle.stm_desk.specs.DeskView.{DeskView, state_of}
 
 -- a job that was handed out: a ticket, its block, and the store at its `take`
 pub record HandedOut : Type 0 where
@@ -15,7 +15,7 @@ pub record HandedOut : Type 0 where
 
 -- the desk, and the jobs that were handed out on it, in the order of their numbers
 pub record OpenDesk : Type 0 where
-  pub desk : Seen
+  pub desk : DeskView
   pub jobs : List HandedOut
 
 -- the desk on which nothing has happened, with these variables and room for so many events
@@ -24,10 +24,10 @@ opened_desk table limit = record { desk = record { table = table; limit = limit;
 
 -- the present store
 abbrev pub present : OpenDesk → List Cell
-present d = (now d.desk).store
+present d = (state_of d.desk).store
 
 -- a step of the desk alone, as one of the open desk: its jobs stay
-abbrev pub on_desk : OpenDesk → Seen × List ℕ → OpenDesk × List ℕ
+abbrev pub on_desk : OpenDesk → DeskView × List ℕ → OpenDesk × List ℕ
 on_desk d s = (record d { desk = s.0 }, s.1)
 
 -- this is the state after a step, and the new text is the old one with what the step prints after it

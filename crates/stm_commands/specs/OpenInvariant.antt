@@ -1,5 +1,5 @@
 -- What the type of an open desk keeps.
-use Rattle.std.specs.Prelude.{◌≡◌, List, [], ◌∷◌, ◌++◌, map, Option, Some, None, Result, if◌then◌else◌}
+use Rattle.std.specs.Prelude.{◌≡◌, ◌≢◌, List, [], ◌∷◌, ◌++◌, map, Option, Some, None, Result, Ok, Err, if◌then◌else◌}
 use Rattle.std.specs.declared.alloc.AllocError.{AllocError}
 use Rattle.stm_terms.specs.declared.kinds.Ty.{Ty}
 use Rattle.stm_terms.specs.declared.values.Value.{Value}
@@ -7,17 +7,16 @@ use Rattle.stm_store.specs.Cells.{Covers, plains}
 use Rattle.stm_store.specs.Tables.{Declared}
 use Rattle.stm_eval.specs.declared.job.Job.{Job}
 use Rattle.stm_eval.specs.declared.message.Evaluated.{Evaluated}
-use Rattle.stm_eval.specs.EvaluatedFields.{message_ticket, message_verdict}
+use Rattle.stm_eval.specs.EvaluatedFields.{message_ticket}
 use Rattle.stm_events.specs.declared.errors.DeliverError.{DeliverError}
-use Rattle.stm_events.specs.declared.errors.DeliverError.TheVariants.{Gone, Already}
+use Rattle.stm_events.specs.declared.errors.DeliverError.TheVariants.{Gone, Already, NoMemory}
 use Rattle.stm_events.specs.declared.event.Event.{Event}
-use Rattle.stm_events.specs.declared.event.What.TheVariants.{Installed}
 use Rattle.stm_machine.specs.JobsHandedOut.{block_at}
-use Rattle.stm_machine.specs.Machine.{event}
 use Rattle.stm_events.specs.SlowDesk.{Waiter, IsLegal, is_current, find_waiter, state}
 use Rattle.stm_pool.specs.Answers.{AnswersJob}
-use Rattle.stm_desk.specs.Refusals.{left_by}
-use Rattle.stm_desk.specs.Seen.{Seen, now, with_event}
+use Rattle.stm_desk.specs.Events.{installation_of}
+use Rattle.stm_desk.specs.Refusals.{RefusesDelivery, requeued_if_overtaken}
+use Rattle.stm_desk.specs.DeskView.{DeskView, state_of, with_event}
 use Rattle.stm_commands.specs.declared.jobs.KeptJob.{KeptJob}
 use Rattle.stm_commands.specs.declared.evaluation.Progress.{Progress}
 use Rattle.stm_commands.specs.Evaluation.{Delivered}
@@ -29,7 +28,7 @@ handed_out store j = record { ticket = j.ticket; block = j.block; store = store 
 
 -- a kept job is of a block that waited under its ticket when some of the events had happened, and its store has the
 -- variables that the block names
-pub record JobStands (d : Seen) (j : HandedOut) : Type 0 where
+pub record JobStands (d : DeskView) (j : HandedOut) : Type 0 where
   pub covered : Covers j.store j.block.uses
   pub before : List Event
   pub more : List Event
@@ -37,7 +36,7 @@ pub record JobStands (d : Seen) (j : HandedOut) : Type 0 where
   pub waited : block_at (state d.table before) j.ticket ≡ Some j.block
 
 -- each of the jobs does
-abbrev pub JobsStand : Seen → List HandedOut → Type 0
+abbrev pub JobsStand : DeskView → List HandedOut → Type 0
 JobsStand d [] = Unit {0}
 JobsStand d (j ∷ js) = JobStands d j × JobsStand d js
 
@@ -64,20 +63,20 @@ HaveStores ws [] = Unit {0}
 HaveStores ws (k ∷ ks) = HasStore ws k × HaveStores ws ks
 
 -- the copy of the present store, if there is one
-abbrev pub IsPresentCopy : Seen → Option (List (Ty × Value)) → Type 0
+abbrev pub IsPresentCopy : DeskView → Option (List (Ty × Value)) → Type 0
 IsPresentCopy d None = Unit {0}
-IsPresentCopy d (Some cells) = cells ≡ plains (now d).store
+IsPresentCopy d (Some cells) = cells ≡ plains (state_of d).store
 
 -- what the type of an open desk keeps
-pub record OpenInvariant (d : Seen) (copy : Option (List (Ty × Value))) (jobs : List KeptJob) (cache : List Declared) : Type 0 where
+pub record OpenInvariant (d : DeskView) (copy : Option (List (Ty × Value))) (jobs : List KeptJob) (cache : List Declared) : Type 0 where
   pub legal : IsLegal d.table d.history
   pub copied : IsPresentCopy d copy
   pub jobs_stand : JobsStand d (map job_kept jobs)
-  pub have_stores : HaveStores (now d).waiters jobs
+  pub have_stores : HaveStores (state_of d).waiters jobs
   pub same_table : cache ≡ d.table
 
 -- the desk has the same table and limit, and maybe more events
-pub record HasGrown (old new : Seen) : Type 0 where
+pub record HasGrown (old new : DeskView) : Type 0 where
   pub table : new.table ≡ old.table
   pub limit : new.limit ≡ old.limit
   pub more : List Event
@@ -90,9 +89,18 @@ refusal_unevaluated None = Some Gone
 refusal_unevaluated (Some w) = if is_current w then Some Already else None
 
 -- the desk after a message was delivered, or refused
-abbrev pub after_message : Seen → Evaluated → Option DeliverError → Seen
-after_message d m None = with_event d (event 0 (Installed (message_ticket m) (message_verdict m)))
-after_message d m (Some e) = left_by e (message_ticket m) d
+abbrev pub after_message : DeskView → Evaluated → Option DeliverError → DeskView
+after_message d m None = with_event d 0 (installation_of m)
+after_message d m (Some e) = requeued_if_overtaken e (message_ticket m) d
+
+-- the result of a delivery by its refusal, if there is one
+abbrev pub delivery_result : Option DeliverError → Result (Unit {0}) DeliverError
+delivery_result None = Ok tt
+delivery_result (Some e) = Err e
+
+-- the delivery of a message is refused for this reason, if there is one; lack of memory is none
+abbrev pub IsRefusedFor : DeskView → Evaluated → Option DeliverError → Type 0
+IsRefusedFor d m reason = RefusesDelivery (delivery_result reason) d m × (reason ≢ Some NoMemory)
 
 -- each answers the job at its place, and there are as many
 abbrev pub AnswerJobs : List Job → List (Ty × Value) → List (Result Evaluated (Job × AllocError)) → Type 0
@@ -102,9 +110,9 @@ AnswerJobs (j ∷ js) cells [] = ⊥
 AnswerJobs (j ∷ js) cells (a ∷ rest) = AnswersJob j cells a × AnswerJobs js cells rest
 
 -- how far the delivery of jobs came, with the desk as it then is
-abbrev pub delivered_so_far : Seen → Progress → Delivered
+abbrev pub delivered_so_far : DeskView → Progress → Delivered
 delivered_so_far d p = record { desk = d; count = p.count; stop = p.stop }
 
 -- the same before the first
-abbrev pub none_delivered : Seen → Delivered
+abbrev pub none_delivered : DeskView → Delivered
 none_delivered d = record { desk = d; count = 0; stop = None }

@@ -7,7 +7,7 @@ use Rattle.stm_events.specs.SlowDesk.{Slow}
 use Rattle.stm_history.specs.HistoryText.{event_lines}
 use Rattle.stm_desk.specs.declared.reason.Change.{Change}
 use Rattle.stm_desk.specs.Reasons.{WaitReason, NotEvaluated, IsStale, Waits, CanFinish, reason_of}
-use Rattle.stm_desk.specs.Seen.{now}
+use Rattle.stm_desk.specs.DeskView.{state_of}
 use Rattle.stm_lines.specs.NumberArgument.{number_argument}
 use Rattle.stm_commands.specs.Arguments.{with_number, with_nothing, argument_refused}
 use Rattle.stm_commands.specs.Endings.{tickets_text}
@@ -29,7 +29,7 @@ ready_text s = codes "ready " ++ tickets_text (ready_tickets s) ++ 10 ∷ []
 
 -- `ready`: the tickets of the blocks that could finish now
 unfoldable pub ready_answer : OpenDesk → List ℕ → List ℕ
-ready_answer d argument = with_nothing (ready_text (now d.desk)) argument_refused argument
+ready_answer d argument = with_nothing (ready_text (state_of d.desk)) argument_refused argument
 
 -- ---- why
 -- a variable with the value that a block read and the one that it was left with, as `#0=1->2`

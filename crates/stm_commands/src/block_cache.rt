@@ -1,12 +1,12 @@
 //! Blocks that were checked before, kept by their texts.
 
-ghost use Rattle.std.specs.Prelude.{◌≡◌, ◌<◌, ◌↔◌, List, None, IsTrue, IfOk, IfErr, IfSome};
+ghost use Rattle.std.specs.Prelude.{◌≡◌, ◌<◌, ◌↔◌, List, IsTrue, IfOk, IfErr, IfSome};
 ghost use Rattle.std.specs.Option.{option_copied};
-ghost use Rattle.stm_terms.specs.UnlessNoMemory.{AnswersAs};
+ghost use Rattle.stm_terms.specs.UnlessNoMemory.{AnswersExcept};
 ghost use Rattle.stm_store.specs.Cells.{Covers, plains};
 ghost use Rattle.stm_store.specs.Tables.{Declared, opened};
 ghost use Rattle.stm_blocks.specs.CompiledBlock.{compiled_block};
-ghost use Rattle.stm_blocks.specs.ToldRefusal.{told_refusal};
+ghost use Rattle.stm_blocks.specs.OutOfMemory.{IsOutOfMemory};
 ghost use Rattle.stm_commands.specs.BlockCache.{IsBlockOf, ArePrepared};
 
 use std::alloc::Global;
@@ -108,7 +108,7 @@ fn keep(blocks: &mut [Option<SharedBlock>], place: usize, block: &SharedBlock, a
 /// One more hold on a block.
 fn share_block(block: &SharedBlock) -> Result<SharedBlock, Refusal>
     ensures same { IfOk result (λ b. b ≡ block.now) }
-    ensures memory { IfErr result (λ e. told_refusal e ≡ None) }
+    ensures memory { IfErr result IsOutOfMemory }
 {
     match block.share() {
         Ok(block) => Ok(block),
@@ -126,7 +126,7 @@ fn prepared_block(
 ) -> Result<SharedBlock, Refusal>
     requires { ArePrepared table.now blocks.old }
     ensures kept { ArePrepared table.now blocks.new }
-    ensures block { AnswersAs told_refusal (λ b. b) result
+    ensures block { AnswersExcept IsOutOfMemory (λ b. b) result
         (compiled_block table.now text.now) }
     ensures covered { IfOk result (λ b. Covers (plains (opened table.now)) b.uses) }
 {
@@ -193,7 +193,7 @@ impl BlockCache {
     ) -> Result<SharedBlock, Refusal>
         requires { self.old ≡ table.now }
         ensures same { self.new ≡ self.old }
-        ensures block { AnswersAs told_refusal (λ b. b) result
+        ensures block { AnswersExcept IsOutOfMemory (λ b. b) result
             (compiled_block table.now text.now) }
         ensures covered { IfOk result (λ b. Covers (plains (opened table.now)) b.uses) }
     {

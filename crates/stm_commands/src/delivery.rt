@@ -1,13 +1,10 @@
 //! Deliveries of what the blocks of jobs do.
 
-ghost use Rattle.std.specs.Prelude.{◌≡◌, Some, IfOk, OnOk};
-ghost use Rattle.stm_eval.specs.EvaluatedFields.{message_ticket, message_block, message_reads};
-ghost use Rattle.stm_events.specs.Refusals.{deliver_error};
+ghost use Rattle.std.specs.Prelude.{◌≡◌, ◌≢◌, Some, IfOk, OnOk};
 ghost use Rattle.stm_events.specs.SlowDesk.{IsLegal, find_waiter};
-ghost use Rattle.stm_desk.specs.Refusals.{TellsDeskDelivery};
-ghost use Rattle.stm_desk.specs.Seen.{now};
+ghost use Rattle.stm_desk.specs.DeskView.{state_of};
 ghost use Rattle.stm_commands.specs.Jobs.{delivery_refusal, deliver_job_step};
-ghost use Rattle.stm_commands.specs.OpenInvariant.{refusal_unevaluated, handed_out, JobStands, HasGrown, after_message};
+ghost use Rattle.stm_commands.specs.OpenInvariant.{refusal_unevaluated, handed_out, JobStands, HasGrown, after_message, IsRefusedFor};
 
 use std::alloc::{AllocError, Global};
 use stm_desk::{DeliverError, Desk, Status};
@@ -18,7 +15,7 @@ use stm_terms::NoMemory;
 
 /// Why a delivery to a ticket is refused whatever is delivered: no block waits under it, or the block is current.
 pub fn refused_unevaluated(desk: &Desk, ticket: u32) -> Option<DeliverError>
-    ensures { result ≡ refusal_unevaluated (find_waiter ticket (now desk.now).waiters) }
+    ensures { result ≡ refusal_unevaluated (find_waiter ticket (state_of desk.now).waiters) }
 {
     match desk.status(ticket) {
         None => Some(DeliverError::Gone),
@@ -29,7 +26,7 @@ pub fn refused_unevaluated(desk: &Desk, ticket: u32) -> Option<DeliverError>
 
 /// A refusal, unless memory ran out.
 fn reported(refusal: DeliverError) -> Result<Option<DeliverError>, NoMemory>
-    ensures { IfOk result (λ r. (r ≡ Some refusal) × (r ≡ deliver_error refusal)) }
+    ensures { IfOk result (λ r. (r ≡ Some refusal) × (refusal ≢ DeliverError.NoMemory)) }
 {
     match refusal {
         DeliverError::Gone => Ok(Some(DeliverError::Gone)),
@@ -46,13 +43,15 @@ pub fn deliver_message(
     desk: &mut Desk,
     message: Evaluated,
 ) -> Result<Option<DeliverError>, NoMemory>
-    ensures told { IfOk result (λ r. TellsDeskDelivery r desk.old
-        (message_ticket message) (message_block message) (message_reads message)) }
+    ensures refused { IfOk result (λ r. IsRefusedFor desk.old message r) }
     ensures done { IfOk result (λ r. desk.new ≡ after_message desk.old message r) }
     ensures grown { HasGrown desk.old desk.new }
-    ensures store { (now desk.new).store ≡ (now desk.old).store }
+    ensures store { (state_of desk.new).store ≡ (state_of desk.old).store }
 {
-    match desk.deliver(0, message) {
+    let answer = desk.deliver(0, message);
+    // The history is known to be legal by this.
+    let _events = desk.history();
+    match answer {
         Ok(()) => Ok(None),
         Err((_, refusal)) => reported(refusal),
     }
@@ -71,7 +70,7 @@ pub fn deliver_job(
     ensures done { OnOk result
         (desk.new ≡ (deliver_job_step desk.old (Some (handed_out store.now job))).0) }
     ensures grown { HasGrown desk.old desk.new }
-    ensures store { (now desk.new).store ≡ (now desk.old).store }
+    ensures store { (state_of desk.new).store ≡ (state_of desk.old).store }
 {
     blocks_stay();
     match evaluate(alloc, job, store) {

@@ -7,7 +7,7 @@ ghost use Rattle.stm_eval.specs.declared.job.Job.{Job};
 ghost use Rattle.stm_pool.specs.Answers.{IsMessageOf, AnswersJob};
 ghost use Rattle.stm_machine.specs.JobsHandedOut.{AreCovered};
 ghost use Rattle.stm_events.specs.SlowDesk.{IsLegal, max_waiting};
-ghost use Rattle.stm_desk.specs.Seen.{now};
+ghost use Rattle.stm_desk.specs.DeskView.{state_of};
 ghost use Rattle.stm_options.specs.declared.options.TheConstants.Options.{MAX_WORKERS};
 ghost use Rattle.stm_commands.specs.Evaluation.{delivered_next, delivered_all, evaluated};
 ghost use Rattle.stm_commands.specs.OpenInvariant.{handed_out, JobStands, JobsStand, HasGrown, AnswerJobs, delivered_so_far, none_delivered};
@@ -40,7 +40,7 @@ fn deliver_next(desk: &mut Desk, message: Evaluated, so_far: Progress) -> Result
         ≡ delivered_next (delivered_so_far desk.old so_far) (handed_out cells job) so_far.stop) }
     ensures few { IfOk result (λ p. p.count ≤ so_far.count + 1) }
     ensures grown { HasGrown desk.old desk.new }
-    ensures store { (now desk.new).store ≡ (now desk.old).store }
+    ensures store { (state_of desk.new).store ≡ (state_of desk.old).store }
 {
     blocks_stay();
     let ticket = message.ticket();
@@ -71,7 +71,7 @@ fn deliver_answer(desk: &mut Desk, answer: Answer, so_far: Progress) -> Result<P
         ≡ delivered_next (delivered_so_far desk.old so_far) (handed_out cells job) so_far.stop) }
     ensures few { IfOk result (λ p. p.count ≤ so_far.count + 1) }
     ensures grown { HasGrown desk.old desk.new }
-    ensures store { (now desk.new).store ≡ (now desk.old).store }
+    ensures store { (state_of desk.new).store ≡ (state_of desk.old).store }
 {
     match answer {
         Ok(message) => deliver_next(desk, message, so_far),
@@ -94,7 +94,7 @@ fn deliver_answers(
         ≡ delivered_all (delivered_so_far desk.old before) (map (handed_out cells) jobs)) }
     ensures few { IfOk result (λ p. p.count ≤ before.count + vec_len answers) }
     ensures grown { HasGrown desk.old desk.new }
-    ensures store { (now desk.new).store ≡ (now desk.old).store }
+    ensures store { (state_of desk.new).store ≡ (state_of desk.old).store }
 {
     let mut so_far = before;
     for answer in answers {
@@ -139,7 +139,7 @@ fn evaluate_batch<T: Threads + Sync>(
         ≡ delivered_all (delivered_so_far desk.old before) (map (handed_out store.now) jobs.items)) }
     ensures few { IfOk result (λ p. p.count ≤ before.count + vec_len jobs) }
     ensures grown { HasGrown desk.old desk.new }
-    ensures store { (now desk.new).store ≡ (now desk.old).store }
+    ensures store { (state_of desk.new).store ≡ (state_of desk.old).store }
 {
     let workers = threads_for(threading, jobs.as_slice());
     match evaluate_all(rt, alloc, store, jobs, workers, threading.levels()) {
@@ -168,7 +168,7 @@ fn evaluate_jobs<T: Threads + Sync>(
     ensures done { IfOk result (λ p. delivered_so_far desk.new p
         ≡ delivered_all (none_delivered desk.old) (map (handed_out store.now) jobs.items)) }
     ensures grown { HasGrown desk.old desk.new }
-    ensures store { (now desk.new).store ≡ (now desk.old).store }
+    ensures store { (state_of desk.new).store ≡ (state_of desk.old).store }
 {
     let mut so_far = Progress {
         count: 0,
@@ -199,7 +199,7 @@ fn evaluate_by_threads<T: Threads + Sync>(
     requires { IsLegal desk.old.table desk.old.history }
     ensures done { IfOk result (λ p. delivered_so_far desk.new p ≡ evaluated desk.old) }
     ensures grown { HasGrown desk.old desk.new }
-    ensures store { (now desk.new).store ≡ (now desk.old).store }
+    ensures store { (state_of desk.new).store ≡ (state_of desk.old).store }
 {
     match desk.take(Desk::MAX_WAITING) {
         Ok((store, jobs)) => evaluate_jobs(desk, rt, alloc, threading, &store, jobs),
@@ -211,11 +211,14 @@ fn evaluate_by_threads<T: Threads + Sync>(
 fn evaluate_here(desk: &mut Desk) -> Result<Progress, NoMemory>
     ensures done { IfOk result (λ p. delivered_so_far desk.new p ≡ evaluated desk.old) }
     ensures grown { HasGrown desk.old desk.new }
-    ensures store { (now desk.new).store ≡ (now desk.old).store }
+    ensures store { (state_of desk.new).store ≡ (state_of desk.old).store }
 {
     // The queue is known to be right by this.
     let _events = desk.history();
-    match desk.evaluate_queued(0, Desk::MAX_WAITING as u32) {
+    let answer = desk.evaluate_queued(0, Desk::MAX_WAITING as u32);
+    // The history is known to be legal by this.
+    let _after = desk.history();
+    match answer {
         Ok(evaluation) => Ok(Progress {
             count: evaluation.count,
             stop: evaluation.stop,
@@ -267,7 +270,7 @@ pub fn evaluate_queued<T: Threads + Sync>(
     requires { IsLegal desk.old.table desk.old.history }
     ensures done { IfOk result (λ p. delivered_so_far desk.new p ≡ evaluated desk.old) }
     ensures grown { HasGrown desk.old desk.new }
-    ensures store { (now desk.new).store ≡ (now desk.old).store }
+    ensures store { (state_of desk.new).store ≡ (state_of desk.old).store }
 {
     if is_work_for_one(desk, threading) {
         evaluate_here(desk)

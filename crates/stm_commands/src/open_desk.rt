@@ -1,12 +1,12 @@
 //! The desk of a console that has opened.
 
-ghost use Rattle.std.specs.Prelude.{◌≡◌, ◌≤◌, IfOk};
-ghost use Rattle.stm_terms.specs.UnlessNoMemory.{AnswersAs};
+ghost use Rattle.std.specs.Prelude.{◌≡◌, ◌≤◌, [], IfOk};
+ghost use Rattle.stm_terms.specs.UnlessNoMemory.{AnswersExcept};
 ghost use Rattle.stm_store.specs.Cells.{Covers, plains};
 ghost use Rattle.stm_store.specs.Tables.{opened};
 ghost use Rattle.stm_events.specs.SlowDesk.{IsLegal, max_events};
 ghost use Rattle.stm_blocks.specs.CompiledBlock.{compiled_block};
-ghost use Rattle.stm_blocks.specs.ToldRefusal.{told_refusal};
+ghost use Rattle.stm_blocks.specs.OutOfMemory.{IsOutOfMemory};
 ghost use Rattle.stm_commands.specs.OpenDesk.{opened_desk, present};
 
 use crate::block_cache::BlockCache;
@@ -17,6 +17,7 @@ use std::marker::Model;
 use stm_blocks::Refusal;
 use stm_check::SharedBlock;
 use stm_desk::Desk;
+use stm_events::Event;
 use stm_store::{Frozen, Table};
 use stm_terms::NoMemory;
 
@@ -75,6 +76,37 @@ impl OpenDesk {
         })
     }
 
+    /// An open desk that goes on from a history, on which no job is out.
+    pub fn resume(alloc: Global, desk: Desk) -> Result<OpenDesk, NoMemory>
+        ensures { IfOk result (λ d. d ≡ record { desk = desk; jobs = [] }) }
+    {
+        // The history is known to be legal by this.
+        let _history = desk.history();
+        let cache = BlockCache::new(alloc, desk.table())?;
+        Ok(OpenDesk {
+            desk,
+            copy: None,
+            jobs: Vec::new(alloc),
+            stores: Stores::new(alloc),
+            cache,
+        })
+    }
+
+    /// The variables that the desk was opened on.
+    pub fn table(&self) -> &Table
+        ensures { result.now ≡ self.now.desk.table }
+    {
+        self.desk.table()
+    }
+
+    /// The events so far.
+    pub fn history(&self) -> &[Event]
+        ensures history { result.now ≡ self.now.desk.history }
+        ensures legal { IsLegal self.now.desk.table self.now.desk.history }
+    {
+        self.desk.history()
+    }
+
     /// The copy of the present store, as blocks are run on it: the one that is kept, or a new one.
     pub fn take_copy(&mut self) -> Result<Frozen, NoMemory>
         ensures same { self.new ≡ self.old }
@@ -98,7 +130,7 @@ impl OpenDesk {
     /// The block of a text.
     pub fn block(&mut self, alloc: Global, text: &str) -> Result<SharedBlock, Refusal>
         ensures same { self.new ≡ self.old }
-        ensures block { AnswersAs told_refusal (λ b. b) result
+        ensures block { AnswersExcept IsOutOfMemory (λ b. b) result
             (compiled_block self.old.desk.table text.now) }
         ensures covered { IfOk result (λ b.
             Covers (plains (opened self.old.desk.table)) b.uses) }

@@ -1,9 +1,7 @@
 //! What is printed where a command is refused.
 
-ghost use Rattle.std.specs.Prelude.{◌≡◌, ◌++◌, ℕ, Some, Err, string_bytes, OnOk};
-ghost use Rattle.stm_events.specs.Refusals.{submit_told, deliver_error, finish_told, cancel_told};
-ghost use Rattle.stm_desk.specs.declared.finish.Finish.{Finish};
-ghost use Rattle.stm_blocks.specs.ToldRefusal.{told_refusal};
+ghost use Rattle.std.specs.Prelude.{◌≡◌, ◌≢◌, ◌++◌, Some, string_bytes, OnOk};
+ghost use Rattle.stm_blocks.specs.OutOfMemory.{IsOutOfMemory};
 ghost use Rattle.stm_commands.specs.Arguments.{argument_refused};
 ghost use Rattle.stm_commands.specs.Refusals.{refused, refused_at, refused_variable, parse_fault_text, type_fault_text, declare_error_text, submit_error_text, deliver_error_text, finish_error_text, cancel_error_text, refusal_text};
 
@@ -53,8 +51,7 @@ fn refuse_variable(name: &str, number: u32, out: &mut String) -> Result<(), NoMe
 fn refuse_parse(fault: ParseFault, out: &mut String) -> Result<(), NoMemory>
     ensures text { OnOk result
         (string_bytes out.new ≡ string_bytes out.old ++ parse_fault_text fault) }
-    ensures told { OnOk result
-        (told_refusal (Refusal.Parsing fault) ≡ Some (Refusal.Parsing fault)) }
+    ensures memory { OnOk result (fault ≢ ParseFault.NoMemory) }
 {
     match fault {
         ParseFault::BadByte(place) => refuse_at("BadByte", place, out),
@@ -71,8 +68,7 @@ fn refuse_parse(fault: ParseFault, out: &mut String) -> Result<(), NoMemory>
 fn refuse_type(fault: TypeFault, out: &mut String) -> Result<(), NoMemory>
     ensures text { OnOk result
         (string_bytes out.new ≡ string_bytes out.old ++ type_fault_text fault) }
-    ensures told { OnOk result
-        (told_refusal (Refusal.Typing fault) ≡ Some (Refusal.Typing fault)) }
+    ensures memory { OnOk result (fault ≢ TypeFault.NoMemory) }
 {
     match fault {
         TypeFault::Unknown(place) => refuse_at("Unknown", place, out),
@@ -87,8 +83,7 @@ fn refuse_type(fault: TypeFault, out: &mut String) -> Result<(), NoMemory>
 fn refuse_declaration(error: DeclareError, out: &mut String) -> Result<(), NoMemory>
     ensures text { OnOk result
         (string_bytes out.new ≡ string_bytes out.old ++ declare_error_text error) }
-    ensures told { OnOk result
-        (told_refusal (Refusal.Declaring error) ≡ Some (Refusal.Declaring error)) }
+    ensures memory { OnOk result (error ≢ DeclareError.NoMemory) }
 {
     match error {
         DeclareError::Twice => refuse("Twice", out),
@@ -102,7 +97,7 @@ fn refuse_declaration(error: DeclareError, out: &mut String) -> Result<(), NoMem
 pub fn write_refusal(refusal: Refusal, out: &mut String) -> Result<(), NoMemory>
     ensures text { OnOk result
         (string_bytes out.new ≡ string_bytes out.old ++ refusal_text refusal) }
-    ensures told { OnOk result (told_refusal refusal ≡ Some refusal) }
+    ensures memory { OnOk result (¬ IsOutOfMemory refusal) }
 {
     match refusal {
         Refusal::Parsing(fault) => refuse_parse(fault, out),
@@ -116,7 +111,7 @@ pub fn write_refusal(refusal: Refusal, out: &mut String) -> Result<(), NoMemory>
 pub fn refuse_submit(error: SubmitError, out: &mut String) -> Result<(), NoMemory>
     ensures text { OnOk result
         (string_bytes out.new ≡ string_bytes out.old ++ submit_error_text error) }
-    ensures told { OnOk result (submit_told {A = ℕ} (Err error) ≡ Some error) }
+    ensures memory { OnOk result (error ≢ SubmitError.NoMemory) }
 {
     match error {
         SubmitError::Foreign(number) => refuse_variable("Foreign", number, out),
@@ -130,7 +125,7 @@ pub fn refuse_submit(error: SubmitError, out: &mut String) -> Result<(), NoMemor
 pub fn refuse_delivery(error: DeliverError, out: &mut String) -> Result<(), NoMemory>
     ensures text { OnOk result
         (string_bytes out.new ≡ string_bytes out.old ++ deliver_error_text error) }
-    ensures told { OnOk result (deliver_error error ≡ Some error) }
+    ensures memory { OnOk result (error ≢ DeliverError.NoMemory) }
 {
     match error {
         DeliverError::Gone => refuse("Gone", out),
@@ -146,7 +141,7 @@ pub fn refuse_delivery(error: DeliverError, out: &mut String) -> Result<(), NoMe
 pub fn refuse_finish(error: FinishError, out: &mut String) -> Result<(), NoMemory>
     ensures text { OnOk result
         (string_bytes out.new ≡ string_bytes out.old ++ finish_error_text error) }
-    ensures told { OnOk result (finish_told {A = Finish} (Err error) ≡ Some error) }
+    ensures memory { OnOk result (error ≢ FinishError.NoMemory) }
 {
     match error {
         FinishError::NoTicket => refuse("NoTicket", out),
@@ -163,7 +158,7 @@ pub fn refuse_finish(error: FinishError, out: &mut String) -> Result<(), NoMemor
 pub fn refuse_cancel(error: CancelError, out: &mut String) -> Result<(), NoMemory>
     ensures text { OnOk result
         (string_bytes out.new ≡ string_bytes out.old ++ cancel_error_text error) }
-    ensures told { OnOk result (cancel_told {A = Unit {0}} (Err error) ≡ Some error) }
+    ensures memory { OnOk result (error ≢ CancelError.NoMemory) }
 {
     match error {
         CancelError::NoTicket => refuse("NoTicket", out),

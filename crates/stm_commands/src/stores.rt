@@ -2,7 +2,7 @@
 
 ghost use Rattle.std.specs.Prelude.{◌≡◌, ◌≤◌, ◌++◌, map, length, is_some, OnOk, OnErr};
 ghost use Rattle.stm_events.specs.SlowDesk.{find_waiter};
-ghost use Rattle.stm_desk.specs.Seen.{now};
+ghost use Rattle.stm_desk.specs.DeskView.{state_of};
 ghost use Rattle.stm_commands.specs.OpenInvariant.{job_kept, AreStored, HaveStores};
 
 use crate::jobs::KeptJob;
@@ -13,16 +13,16 @@ use stm_terms::NoMemory;
 /// Whether a block waits under a ticket.
 #[tactic(auto, using(crate::proofs::KeptStores::is_some_of_waiter))]
 fn waits(desk: &Desk, ticket: u32) -> bool
-    ensures { result ≡ is_some (find_waiter ticket (now desk.now).waiters) }
+    ensures { result ≡ is_some (find_waiter ticket (state_of desk.now).waiters) }
 {
     desk.block(ticket).is_some()
 }
 
 /// Drops the store of the job at a place if its ticket waits no more. The answer is whether the ticket waits.
 fn keeps_store(desk: &Desk, jobs: &mut [KeptJob], at: usize) -> bool
-    requires { HaveStores (now desk.now).waiters jobs.old }
+    requires { HaveStores (state_of desk.now).waiters jobs.old }
     ensures same { map job_kept jobs.new ≡ map job_kept jobs.old }
-    ensures stored { HaveStores (now desk.now).waiters jobs.new }
+    ensures stored { HaveStores (state_of desk.now).waiters jobs.new }
 {
     if at >= jobs.len() {
         return false;
@@ -37,9 +37,9 @@ fn keeps_store(desk: &Desk, jobs: &mut [KeptJob], at: usize) -> bool
 /// Drops the stores of the jobs at these places whose tickets wait no more. The places of the others come first, and the answer
 /// is how many they are.
 fn drop_stores(desk: &Desk, jobs: &mut [KeptJob], places: &mut [usize]) -> usize
-    requires { HaveStores (now desk.now).waiters jobs.old }
+    requires { HaveStores (state_of desk.now).waiters jobs.old }
     ensures same { map job_kept jobs.new ≡ map job_kept jobs.old }
-    ensures stored { HaveStores (now desk.now).waiters jobs.new }
+    ensures stored { HaveStores (state_of desk.now).waiters jobs.new }
     ensures few { result ≤ length places.old }
 {
     let mut left: usize = 0;
@@ -72,9 +72,9 @@ impl Stores {
 
     /// Drops the stores of the jobs whose tickets wait no more, if it is due.
     fn look(&mut self, desk: &Desk, jobs: &mut [KeptJob])
-        requires { HaveStores (now desk.now).waiters jobs.old }
+        requires { HaveStores (state_of desk.now).waiters jobs.old }
         ensures same { map job_kept jobs.new ≡ map job_kept jobs.old }
-        ensures stored { HaveStores (now desk.now).waiters jobs.new }
+        ensures stored { HaveStores (state_of desk.now).waiters jobs.new }
     {
         let clock = desk.history().len().saturating_add(jobs.len());
         if clock >= self.due {
@@ -99,12 +99,12 @@ impl Stores {
         jobs: &mut Vec<KeptJob>,
         made: Vec<KeptJob>,
     ) -> Result<(), NoMemory>
-        requires kept { HaveStores (now desk.now).waiters jobs.old.items }
+        requires kept { HaveStores (state_of desk.now).waiters jobs.old.items }
         requires made { AreStored made.items }
         ensures ok { OnOk result (map job_kept jobs.new.items
             ≡ map job_kept jobs.old.items ++ map job_kept made.items) }
         ensures err { OnErr result (map job_kept jobs.new.items ≡ map job_kept jobs.old.items) }
-        ensures stored { HaveStores (now desk.now).waiters jobs.new.items }
+        ensures stored { HaveStores (state_of desk.now).waiters jobs.new.items }
     {
         let mut made = made;
         self.look(desk, jobs);

@@ -19,8 +19,8 @@ use Rattle.stm_exploration.specs.declared.exploring.ExploreFault.{ExploreFault}
 use Rattle.stm_exploration.specs.declared.exploring.ExploreFault.TheVariants as explore_fault
 use Rattle.stm_words.specs.CommandLine.{answers_of, are_mistakes, is_help, is_mistake, is_version, request_of, version_line}
 use Rattle.stm_words.specs.declared.command_line.Request.{Request}
-use Rattle.stm_words.specs.declared.command_line.Request.TheVariants.{Run, Storm, Explore, Check, CheckWhy}
-use Rattle.stm_words.proofs.WordAnswers.{told_help, told_mistake, told_nothing, told_version}
+use Rattle.stm_words.specs.declared.command_line.Request.TheVariants.{Run, RunOn, Storm, Explore, Check, CheckWhy}
+use Rattle.stm_words.proofs.WordAnswers.{help_kind, mistake_kind, memory_kind, version_kind}
 use Rattle.stm_console.specs.Checking.{BeginsFindingText}
 use Rattle.stm_console.specs.ExitStatus.{IsFailure, storm_status}
 use Rattle.stm_console.specs.Program.{Asked, Do, Help, Mistake, Several, Version, asked_by, asked_of, ProgramDoes, ReadsNothing, Streams, Writes, WritesNothing, WritesPartOf}
@@ -75,12 +75,13 @@ why_unwritten : (remaining : Option (List ℕ)) (s : Streams) → WritesNothing 
 why_unwritten None s k = tt
 why_unwritten (Some bytes) s k = ([], inl refl, appends_nothing s.before s.after k)
 
-unperformed : (request : Request) (s : Streams) (n : ℕ) → n ≡ NO_MEMORY → WritesNothing s → ProgramDoes (Do request) s n
-unperformed (Run options) s n m k = inr (inr m, run_unwritten s.input s options.max_events k)
-unperformed (Storm options) s n m k = inr (inr (inr m))
-unperformed (Explore options) s n m k = inr (inr (inr m))
-unperformed Check s n m k = inr (inr m, check_unwritten s.input s k)
-unperformed CheckWhy s n m k = inr (inr m, why_unwritten s.input s k)
+unperformed : (request : Request) (s : Streams) (n : ℕ) → n ≡ NO_MEMORY → ReadsNothing s → WritesNothing s → ProgramDoes (Do request) s n
+unperformed (Run options) s n m unread k = inr (inr m, run_unwritten s.input s options.max_events k)
+unperformed (RunOn options sync file) s n m unread k = inr (unread, k, inr (inr m))
+unperformed (Storm options) s n m unread k = inr (inr (inr m))
+unperformed (Explore options) s n m unread k = inr (inr (inr m))
+unperformed Check s n m unread k = inr (inr m, check_unwritten s.input s k)
+unperformed CheckWhy s n m unread k = inr (inr m, why_unwritten s.input s k)
 
 -- ---- what clap prints
 
@@ -92,23 +93,23 @@ told : (kinds : Kinds) (request : Request) (e : Error) (s : Streams) (n : ℕ) �
     → ((n ≡ REFUSED) × WritesNothing s) ⊎ ((n ≡ DONE) ⊎ IsFailure n)
     → ProgramDoes (asked_of kinds request) s n
 told [] request e s n has unread memory version help mistake any =
-    let m = memory (told_nothing [] e has refl) in unperformed request s n m.0 m.1
+    let m = memory (memory_kind [] e has refl) in unperformed request s n m.0 unread m.1
 told (k ∷ ks) request e s n has unread memory version help mistake any =
     go (are_mistakes (k ∷ ks)) (is_help (k ∷ ks)) (is_version (k ∷ ks)) refl refl refl
   where
     go : (a b c : Bool) → a ≡ are_mistakes (k ∷ ks) → b ≡ is_help (k ∷ ks) → c ≡ is_version (k ∷ ks)
         → ProgramDoes (cond a Mistake (cond b Help (cond c Version Several))) s n
-    go true b c is_a is_b is_c = let h = mistake (told_mistake (k ∷ ks) e has (sym is_a)) in (unread, h.1, h.0)
+    go true b c is_a is_b is_c = let h = mistake (mistake_kind (k ∷ ks) e has (sym is_a)) in (unread, h.1, h.0)
     go false true c is_a is_b is_c = (
       unread,
-      elim (told_help (k ∷ ks) e has (sym is_b)) [
+      elim (help_kind (k ∷ ks) e has (sym is_b)) [
         | inl m ↦ inr (inr (memory m).0)
         | inr h ↦ help h
       ],
     )
     go false false true is_a is_b is_c = (
       unread,
-      elim (told_version (k ∷ ks) e has (sym is_c)) [
+      elim (version_kind (k ∷ ks) e has (sym is_c)) [
         | inl m ↦ inr (inr (memory m).0, nothing_written s version_line (memory m).1)
         | inr v ↦ version v
       ],

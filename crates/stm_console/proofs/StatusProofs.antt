@@ -1,17 +1,17 @@
 -- What the exit statuses say follows from what the program does.
-use Rattle.std.proofs.Common.{◌≡◌, ◌++◌, ℕ, List, [], ◌∷◌, inl, inr, refl, sym, ap, arith, Option, Some, None, true}
+use Rattle.std.proofs.Common.{◌≡◌, ◌++◌, ℕ, List, [], ◌∷◌, inl, inr, refl, sym, ap, subst, arith, Option, Some, None, true}
 use Rattle.std.specs.Prelude.{◌⊎◌, IfSome}
 use Rattle.std.proofs.lemmas.List.{append-nil}
 use Rattle.clap.specs.Words.{Kinds}
 use Rattle.stm_terms.specs.Texts.{IsPrefixOf}
 use Rattle.stm_words.specs.CommandLine.{answers_of, are_mistakes, request_of}
 use Rattle.stm_words.specs.declared.command_line.Request.{Request}
-use Rattle.stm_words.specs.declared.command_line.Request.TheVariants.{Run, Storm, Explore, Check, CheckWhy}
+use Rattle.stm_words.specs.declared.command_line.Request.TheVariants.{Run, RunOn, Storm, Explore, Check, CheckWhy}
 use Rattle.stm_words.proofs.WordAnswers.{help_alone, version_alone}
 use Rattle.stm_console.specs.Checking.{BeginsFindingText, IsFinding, finding_text}
 use Rattle.stm_console.specs.ExitStatus.{IsFailure, finding_status}
 use Rattle.stm_console.specs.Program.{Asked, Do, Help, Mistake, Several, Version, asked_of, ProgramDoes, Streams, Writes}
-use Rattle.stm_console.specs.StatusLaws.{WordsAskForThis, StatusesAreFew, RefusedDoNothing, RequestsAreTaken, Judges, OnlyJudgesFindWrong, DoneRunsAnswer, DoneStormsReport, DoneExplorationsAreRight, DoneVersionsAreWritten, OtherRunsWriteAPart, OtherChecksWriteAPart, OtherVersionsWriteAPart}
+use Rattle.stm_console.specs.StatusLaws.{WordsAskForThis, StatusesAreFew, RefusedDoNothing, RequestsAreTaken, Judges, OnlyJudgesFindWrong, WrongFilesDoNothing, DoneRunsAnswer, DoneFilesAnswer, DoneStormsReport, DoneExplorationsAreRight, DoneVersionsAreWritten, OtherRunsWriteAPart, OtherFilesWriteAPart, OtherChecksWriteAPart, OtherVersionsWriteAPart}
 use Rattle.stm_console.specs.declared.checking.Finding.{Finding}
 use Rattle.stm_console.specs.declared.checking.Finding.TheVariants.{Legal, BadHeader, BadLine, NotLegal}
 use Rattle.stm_console.specs.declared.status.TheConstants.{DONE, NOT_RIGHT, REFUSED}
@@ -82,6 +82,11 @@ zero_isnt_three e = omega arith
 
 few_request : (request : Request) (s : Streams) (n : ℕ) → ProgramDoes (Do request) s n → IsFew n
 few_request (Run options) s n h = few_ends n (ends n _ _ h)
+few_request (RunOn options sync file) s n (inl h) = few_ends n (ends n _ _ h.2)
+few_request (RunOn options sync file) s n (inr h) = elim h.2 [
+  | inl wrong ↦ inr (inr (inr (inl wrong.0)))
+  | inr f ↦ few_ends n (inr f)
+]
 few_request (Storm options) s n (inl done) = inl done.0
 few_request (Storm options) s n (inr (inl wrong)) = inr (inr (inr (inl wrong.0)))
 few_request (Storm options) s n (inr (inr f)) = few_ends n (inr f)
@@ -112,6 +117,11 @@ few (Do request) s n h = few_request request s n h
 
 pub taken : RequestsAreTaken
 taken (Run options) s h = end_isnt_2 (ends REFUSED _ _ h)
+taken (RunOn options sync file) s (inl h) = end_isnt_2 (ends REFUSED _ _ h.2)
+taken (RunOn options sync file) s (inr h) = elim h.2 [
+  | inl wrong ↦ two_isnt_three wrong.0
+  | inr f ↦ end_isnt_2 (inr f)
+]
 taken (Storm options) s (inl done) = end_isnt_2 (inl done.0)
 taken (Storm options) s (inr (inl wrong)) = two_isnt_three wrong.0
 taken (Storm options) s (inr (inr f)) = end_isnt_2 (inr f)
@@ -137,6 +147,7 @@ refused_kept (Do request) s h = absurd (taken request s h)
 
 judging : (request : Request) (s : Streams) → ProgramDoes (Do request) s NOT_RIGHT → Judges request
 judging (Run options) s h = end_isnt_3 (ends NOT_RIGHT _ _ h)
+judging (RunOn options sync file) s h = tt
 judging (Storm options) s h = tt
 judging (Explore options) s h = tt
 judging Check s h = tt
@@ -157,11 +168,29 @@ judged Mistake s h = absurd (mistake_isnt_3 h.2)
 judged Several s h = absurd (several_isnt_3 _ h.1)
 judged (Do request) s h = (request, refl, judging request s h)
 
+pub wrong_file : WrongFilesDoNothing
+wrong_file options sync file s (inl h) = absurd (end_isnt_3 (ends NOT_RIGHT _ _ h.2))
+wrong_file options sync file s (inr h) = elim h.2 [
+  | inl wrong ↦ (h.0, h.1, wrong.1)
+  | inr f ↦ absurd (end_isnt_3 (inr f))
+]
+
 -- ---- success, and what is left without it
 
 pub done_run : DoneRunsAnswer
 done_run options s (inl done) = done.1
 done_run options s (inr f) = absurd (failure_isnt_0 f.0)
+
+done_from : (n : ℕ) (A B : Type 0) → n ≡ DONE → ((n ≡ DONE) × A) ⊎ (IsFailure n × B) → A
+done_from n A B is (inl done) = done.1
+done_from n A B is (inr f) = absurd (failure_isnt_0 (subst IsFailure is f.0))
+
+pub done_file : DoneFilesAnswer
+done_file options sync file s (inl h) = (h.0, h.1, done_from DONE _ _ refl h.2)
+done_file options sync file s (inr h) = elim h.2 [
+  | inl wrong ↦ absurd (zero_isnt_three wrong.0)
+  | inr f ↦ absurd (failure_isnt_0 f)
+]
 
 pub done_storm : DoneStormsReport
 done_storm options s (inl done) = done.1
@@ -182,6 +211,14 @@ done_version s h = elim h.1 [
 pub other_run : OtherRunsWriteAPart
 other_run options s n (inl done) other = absurd (other done.0)
 other_run options s n (inr f) other = f.1
+
+other_from : (n : ℕ) (A B : Type 0) → (n ≡ DONE → ⊥) → ((n ≡ DONE) × A) ⊎ (IsFailure n × B) → B
+other_from n A B other (inl done) = absurd (other done.0)
+other_from n A B other (inr f) = f.1
+
+pub other_file : OtherFilesWriteAPart
+other_file options sync file s n (inl h) other = inr (h.0, h.1, other_from n _ _ other h.2)
+other_file options sync file s n (inr h) other = inl h.1
 
 whole : (text : List ℕ) → IsPrefixOf text text
 whole text = ([], sym (append-nil text))

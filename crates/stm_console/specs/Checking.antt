@@ -3,16 +3,16 @@ use Rattle.std.specs.Prelude.{◌≡◌, ◌⊎◌, ℕ, List, [], ◌++◌, cod
 use Rattle.stm_terms.specs.Texts.{IsPrefixOf}
 use Rattle.stm_history.specs.declared.files.fault.HistoryFault.TheVariants as fault
 use Rattle.stm_history.specs.declared.files.fault.Legal.{Legal}
-use Rattle.stm_history.specs.Judgement.{IsHistory, TellsFault}
+use Rattle.stm_history.specs.Judgement.{IsHistory, ReportsFault}
 use Rattle.stm_console.specs.declared.checking.Finding.{Finding}
 use Rattle.stm_console.specs.declared.checking.Finding.TheVariants.{Legal as LegalFound, BadHeader, BadLine, NotLegal}
 
 -- the bytes are the text of a legal history of so many events, or this is their first fault
 abbrev pub IsFinding : List ℕ → Finding → Type 0
 IsFinding bytes (LegalFound events) = (n : Legal) × IsHistory bytes n × (events ≡ n.events)
-IsFinding bytes BadHeader = TellsFault fault.BadHeader bytes
-IsFinding bytes (BadLine n) = TellsFault (fault.BadLine n) bytes
-IsFinding bytes (NotLegal n) = TellsFault (fault.NotLegal n) bytes
+IsFinding bytes BadHeader = ReportsFault fault.BadHeader bytes
+IsFinding bytes (BadLine n) = ReportsFault (fault.BadLine n) bytes
+IsFinding bytes (NotLegal n) = ReportsFault (fault.NotLegal n) bytes
 
 -- the line that is printed of a finding
 abbrev pub finding_text : Finding → List ℕ

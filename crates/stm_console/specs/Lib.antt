@@ -2,6 +2,7 @@
 pub mod Program
 pub mod Checking
 pub mod ExitStatus
+pub mod Journal
 pub mod Why
 -- what follows: the laws of the exit statuses
 pub mod StatusLaws

@@ -1,17 +1,24 @@
 -- What the program does, by what its words ask for: how it ends, and what it reads and writes.
-use Rattle.std.specs.Prelude.{◌≡◌, ◌⊎◌, ℕ, List, [], ◌∷◌, Option, if◌then◌else◌, IfSome}
+use Rattle.std.specs.Prelude.{◌≡◌, ◌⊎◌, ℕ, List, [], ◌∷◌, Option, None, if◌then◌else◌, IfSome}
 use Rattle.std.specs.Io.KnownBytes.{Appends, Keeps}
 use Rattle.clap.specs.Words.{Kinds}
 use Rattle.stm_terms.specs.Texts.{IsPrefixOf}
-use Rattle.stm_run.specs.Console.{console_text}
+use Rattle.stm_lines.specs.Lines.{lines_of}
+use Rattle.stm_history.specs.declared.files.loading.Loaded.{Loaded}
+use Rattle.stm_journal.specs.Text.{recovered}
+use Rattle.stm_durable.specs.Durable.{LoadsFront}
+use Rattle.stm_run.specs.declared.console.Console.{Console}
+use Rattle.stm_run.specs.Console.{answers_to, console_text}
+use Rattle.stm_durable_run.specs.DurableRun.{resumed_console}
 use Rattle.stm_storm.specs.StormText.{IsFailedStormText, IsStormText}
 use Rattle.stm_exploration.specs.ExploreEnd.{WritesRight}
 use Rattle.stm_words.specs.CommandLine.{answers_of, are_mistakes, is_help, is_version, request_of, version_line}
 use Rattle.stm_words.specs.declared.command_line.Request.{Request}
-use Rattle.stm_words.specs.declared.command_line.Request.TheVariants.{Run, Storm, Explore, Check, CheckWhy}
+use Rattle.stm_words.specs.declared.command_line.Request.TheVariants.{Run, RunOn, Storm, Explore, Check, CheckWhy}
 use Rattle.stm_console.specs.Checking.{BeginsFindingText, IsFinding, finding_text}
 use Rattle.stm_console.specs.ExitStatus.{IsFailure, finding_status}
 use Rattle.stm_console.specs.declared.checking.Finding.{Finding}
+use Rattle.stm_console.specs.Journal.{HasNoHistory}
 use Rattle.stm_console.specs.Why.{BeginsAnswerWhy, IsAnswerWhy}
 use Rattle.stm_console.specs.declared.status.TheConstants.{DONE, NOT_RIGHT, NO_MEMORY, REFUSED}
 
@@ -42,15 +49,23 @@ asked_by words = asked_of (answers_of words) (request_of words)
 
 -- ---- what is read and written
 
--- the bytes that the reader has left, before the program and after it, and those that the writer has got; none if they aren't known
+-- The bytes that the reader has left, before the program and after it, those that the writer has got, and those of each file by
+-- its name before the program; none if they aren't known.
 pub record Streams : Type 0 where
   pub input : Option (List ℕ)
   pub rest : Option (List ℕ)
   pub before : Option (List ℕ)
   pub after : Option (List ℕ)
+  pub files : List ℕ → Option (List ℕ)
 
+-- the streams of what uses no file
 abbrev pub streams : Option (List ℕ) → Option (List ℕ) → Option (List ℕ) → Option (List ℕ) → Streams
-streams input rest before after = record { input = input; rest = rest; before = before; after = after }
+streams input rest before after =
+    record { input = input; rest = rest; before = before; after = after; files = λ name. None }
+
+-- the same with files
+abbrev pub with_files : (List ℕ → Option (List ℕ)) → Streams → Streams
+with_files files s = record s { files = files }
 
 abbrev pub ReadsNothing : Streams → Type 0
 ReadsNothing s = Keeps s.input s.rest
@@ -68,6 +83,22 @@ AppendsPartOf before after text = (front : List ℕ) × IsPrefixOf front text ×
 
 abbrev pub WritesPartOf : Streams → List ℕ → Type 0
 WritesPartOf s text = AppendsPartOf s.before s.after text
+
+-- ---- a run on a file
+
+-- a run that begins as this console writes the whole text of its input, or a part of it
+abbrev pub RunsFrom : Console → Streams → ℕ → Type 0
+RunsFrom console s status =
+    ((status ≡ DONE) × IfSome s.input (λ input. Writes s (answers_to console (lines_of input))))
+    ⊎ (IsFailure status × IfSome s.input (λ input. WritesPartOf s (answers_to console (lines_of input))))
+
+-- It goes on from the history that was loaded of the file, of which these are the bytes if they are known; or it ends before
+-- anything is read or written: the file has no history, or it can't be opened.
+abbrev pub RunsOn : ℕ → Option (List ℕ) → Streams → ℕ → Type 0
+RunsOn max_events contents s status =
+    ((loaded : Option Loaded) × IfSome contents (λ bytes. LoadsFront (recovered bytes) loaded)
+    × RunsFrom (resumed_console max_events loaded) s status)
+    ⊎ (ReadsNothing s × WritesNothing s × (((status ≡ NOT_RIGHT) × IfSome contents HasNoHistory) ⊎ IsFailure status))
 
 -- ---- what the program does
 
@@ -89,6 +120,8 @@ ProgramDoes Several s status = ReadsNothing s
 ProgramDoes (Do (Run options)) s status =
     ((status ≡ DONE) × IfSome s.input (λ input. Writes s (console_text options.max_events input)))
     ⊎ (IsFailure status × IfSome s.input (λ input. WritesPartOf s (console_text options.max_events input)))
+-- a run on a file goes on from the history that the file has
+ProgramDoes (Do (RunOn options sync file)) s status = RunsOn options.max_events (s.files file) s status
 -- a storm writes a text of its script; a failed one if the history that its clients left isn't found legal
 ProgramDoes (Do (Storm options)) s status =
     ((status ≡ DONE) × IfSome s.input (λ input. (text : List ℕ) × IsStormText input text × Writes s text))

@@ -1,14 +1,21 @@
 -- What each exit status says.
-use Rattle.std.specs.Prelude.{◌≡◌, ◌≢◌, ◌⊎◌, ℕ, List, [], IfSome, IsTrue, ⊤}
-use Rattle.stm_run.specs.Console.{console_text}
+use Rattle.std.specs.Prelude.{◌≡◌, ◌≢◌, ◌⊎◌, ℕ, List, [], Option, IfSome, IsTrue, ⊤}
+use Rattle.stm_lines.specs.Lines.{lines_of}
+use Rattle.stm_history.specs.declared.files.loading.Loaded.{Loaded}
+use Rattle.stm_journal.specs.declared.sync_mode.SyncMode.{SyncMode}
+use Rattle.stm_journal.specs.Text.{recovered}
+use Rattle.stm_durable.specs.Durable.{LoadsFront}
+use Rattle.stm_run.specs.Console.{answers_to, console_text}
+use Rattle.stm_durable_run.specs.DurableRun.{resumed_console}
 use Rattle.stm_storm.specs.StormText.{IsStormText}
 use Rattle.stm_exploration.specs.ExploreEnd.{WritesRight}
 use Rattle.stm_options.specs.declared.explore_options.ExploreOptions.{ExploreOptions}
 use Rattle.stm_options.specs.declared.options.Options.{Options}
 use Rattle.stm_words.specs.CommandLine.{answers_of, asks_for_help, asks_for_version, has_mistake, request_of, version_line}
 use Rattle.stm_words.specs.declared.command_line.Request.{Request}
-use Rattle.stm_words.specs.declared.command_line.Request.TheVariants.{Run, Storm, Explore, Check, CheckWhy}
+use Rattle.stm_words.specs.declared.command_line.Request.TheVariants.{Run, RunOn, Storm, Explore, Check, CheckWhy}
 use Rattle.stm_console.specs.Checking.{BeginsFindingText}
+use Rattle.stm_console.specs.Journal.{HasNoHistory}
 use Rattle.stm_console.specs.Program.{Asked, Do, Help, Mistake, Version, asked_by, ProgramDoes, ReadsNothing, Streams, Writes, WritesNothing, WritesPartOf}
 use Rattle.stm_console.specs.declared.status.TheConstants.{DONE, NOT_RIGHT, REFUSED}
 
@@ -41,9 +48,11 @@ RequestsAreTaken = (request : Request) (s : Streams) → ProgramDoes (Do request
 
 -- ---- something isn't right
 
--- it judges: a check the history of the reader, a storm that of its clients, and an exploration all that its clients can do
+-- it judges: a run on a file the history of the file, a check that of the reader, a storm that of its clients, and an exploration
+-- all that its clients can do
 abbrev pub Judges : Request → Type 0
 Judges (Run options) = ⊥
+Judges (RunOn options sync file) = ⊤
 Judges (Storm options) = ⊤
 Judges (Explore options) = ⊤
 Judges Check = ⊤
@@ -54,12 +63,25 @@ abbrev pub OnlyJudgesFindWrong : Type 0
 OnlyJudgesFindWrong = (asked : Asked) (s : Streams) → ProgramDoes asked s NOT_RIGHT
     → (request : Request) × (asked ≡ Do request) × Judges request
 
+-- a run on a file doesn't begin if the file has no history to go on from
+abbrev pub WrongFilesDoNothing : Type 0
+WrongFilesDoNothing = (options : Options) (sync : SyncMode) (file : List ℕ) (s : Streams)
+    → ProgramDoes (Do (RunOn options sync file)) s NOT_RIGHT
+    → ReadsNothing s × WritesNothing s × IfSome (s.files file) HasNoHistory
+
 -- ---- success
 
 -- the whole text of a run was written
 abbrev pub DoneRunsAnswer : Type 0
 DoneRunsAnswer = (options : Options) (s : Streams) → ProgramDoes (Do (Run options)) s DONE
     → IfSome s.input (λ input. Writes s (console_text options.max_events input))
+
+-- the whole text of a run on a file was written, for the history that the file had
+abbrev pub DoneFilesAnswer : Type 0
+DoneFilesAnswer = (options : Options) (sync : SyncMode) (file : List ℕ) (s : Streams)
+    → ProgramDoes (Do (RunOn options sync file)) s DONE
+    → (loaded : Option Loaded) × IfSome (s.files file) (λ bytes. LoadsFront (recovered bytes) loaded)
+    × IfSome s.input (λ input. Writes s (answers_to (resumed_console options.max_events loaded) (lines_of input)))
 
 -- a storm's script is right, and a text of it was written
 abbrev pub DoneStormsReport : Type 0
@@ -81,6 +103,14 @@ DoneVersionsAreWritten = (s : Streams) → ProgramDoes Version s DONE → Writes
 abbrev pub OtherRunsWriteAPart : Type 0
 OtherRunsWriteAPart = (options : Options) (s : Streams) (status : ℕ) → ProgramDoes (Do (Run options)) s status → status ≢ DONE
     → IfSome s.input (λ input. WritesPartOf s (console_text options.max_events input))
+
+-- a part of the text of a run on a file was written, or nothing
+abbrev pub OtherFilesWriteAPart : Type 0
+OtherFilesWriteAPart = (options : Options) (sync : SyncMode) (file : List ℕ) (s : Streams) (status : ℕ)
+    → ProgramDoes (Do (RunOn options sync file)) s status → status ≢ DONE
+    → WritesNothing s
+    ⊎ ((loaded : Option Loaded) × IfSome (s.files file) (λ bytes. LoadsFront (recovered bytes) loaded)
+    × IfSome s.input (λ input. WritesPartOf s (answers_to (resumed_console options.max_events loaded) (lines_of input))))
 
 -- a part of what a check prints of the bytes was written, if not all of it
 abbrev pub OtherChecksWriteAPart : Type 0

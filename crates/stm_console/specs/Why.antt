@@ -6,7 +6,7 @@ use Rattle.stm_history.specs.declared.files.explanation.CallRefusal.TheVariants.
 use Rattle.stm_history.specs.declared.files.explanation.Explanation.{Explanation}
 use Rattle.stm_history.specs.declared.files.explanation.Explanation.TheVariants.{Expected, Refused, Unreadable}
 use Rattle.stm_history.specs.declared.files.fault.HistoryFault.TheVariants as fault
-use Rattle.stm_history.specs.Explanation.{TellsWhy}
+use Rattle.stm_history.specs.Explanation.{ReportsWhy}
 use Rattle.stm_commands.specs.Refusals.{submit_error_text, deliver_error_text, finish_error_text, cancel_error_text}
 use Rattle.stm_console.specs.declared.checking.Finding.{Finding}
 use Rattle.stm_console.specs.declared.checking.Finding.TheVariants.{Legal, BadHeader, BadLine, NotLegal}
@@ -30,12 +30,12 @@ explanation_text Unreadable = codes "unreadable\n"
 abbrev pub IsWhyText : List ℕ → Finding → List ℕ → Type 0
 IsWhyText bytes (Legal events) text = text ≡ []
 IsWhyText bytes BadHeader text =
-    (line : ℕ) × (x : Explanation) × TellsWhy bytes fault.BadHeader line x
+    (line : ℕ) × (x : Explanation) × ReportsWhy bytes fault.BadHeader line x
     × (text ≡ codes "line " ++ decimal line ++ codes " " ++ explanation_text x)
 IsWhyText bytes (BadLine n) text =
-    (line : ℕ) × (x : Explanation) × TellsWhy bytes (fault.BadLine n) line x × (text ≡ explanation_text x)
+    (line : ℕ) × (x : Explanation) × ReportsWhy bytes (fault.BadLine n) line x × (text ≡ explanation_text x)
 IsWhyText bytes (NotLegal n) text =
-    (line : ℕ) × (x : Explanation) × TellsWhy bytes (fault.NotLegal n) line x × (text ≡ explanation_text x)
+    (line : ℕ) × (x : Explanation) × ReportsWhy bytes (fault.NotLegal n) line x × (text ≡ explanation_text x)
 
 -- what is printed of the bytes with this finding: the finding, and why
 abbrev pub IsAnswerWhy : List ℕ → Finding → List ℕ → Type 0

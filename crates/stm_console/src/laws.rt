@@ -1,6 +1,6 @@
 //! What holds of the exit statuses, and the laws of `stm_run` and `stm_words`: what holds of the console's text and of the words.
 
-ghost use Rattle.stm_console.specs.StatusLaws.{WordsAskForThis, StatusesAreFew, RefusedDoNothing, RequestsAreTaken, OnlyJudgesFindWrong, DoneRunsAnswer, DoneStormsReport, DoneExplorationsAreRight, DoneVersionsAreWritten, OtherRunsWriteAPart, OtherChecksWriteAPart, OtherVersionsWriteAPart};
+ghost use Rattle.stm_console.specs.StatusLaws.{WordsAskForThis, StatusesAreFew, RefusedDoNothing, RequestsAreTaken, OnlyJudgesFindWrong, WrongFilesDoNothing, DoneRunsAnswer, DoneFilesAnswer, DoneStormsReport, DoneExplorationsAreRight, DoneVersionsAreWritten, OtherRunsWriteAPart, OtherFilesWriteAPart, OtherChecksWriteAPart, OtherVersionsWriteAPart};
 
 pub use stm_run::laws::{each_line_is_answered, queue_is_a_set_of_tickets, verdicts_are_shown};
 pub use stm_words::laws::{
@@ -15,21 +15,24 @@ pub fn words_ask_for_this()
 {}
 
 /// The exit statuses are 0 to 4. After 2 nothing was read and nothing written, and words that clap takes never end with it; 3 comes
-/// only from a check, a storm or an exploration.
+/// only from a check, a storm, an exploration, or a run on a file that has no history to go on from.
 pub fn exit_statuses()
     ensures few { StatusesAreFew }
     ensures refused { RefusedDoNothing }
     ensures taken { RequestsAreTaken }
     ensures judged { OnlyJudgesFindWrong }
+    ensures wrong_file { WrongFilesDoNothing }
 {}
 
 /// What was written, if the exit status is 0, and if it isn't.
 pub fn output_by_status()
     ensures run { DoneRunsAnswer }
+    ensures run_on { DoneFilesAnswer }
     ensures storm { DoneStormsReport }
     ensures exploration { DoneExplorationsAreRight }
     ensures version { DoneVersionsAreWritten }
     ensures run_part { OtherRunsWriteAPart }
+    ensures run_on_part { OtherFilesWriteAPart }
     ensures check_part { OtherChecksWriteAPart }
     ensures version_part { OtherVersionsWriteAPart }
 {}

@@ -5,7 +5,7 @@ ghost use Rattle.std.specs.Io.KnownBytes.{Appends, Keeps};
 ghost use Rattle.clap.specs.Values.{kind_of};
 ghost use Rattle.stm_terms.specs.Texts.{IsPrefixOf};
 ghost use Rattle.stm_console.specs.ExitStatus.{IsFailure, storm_status};
-ghost use Rattle.stm_console.specs.Program.{AppendsPartOf, Do, ProgramDoes, asked_by, streams};
+ghost use Rattle.stm_console.specs.Program.{AppendsPartOf, Do, ProgramDoes, asked_by, streams, with_files};
 ghost use Rattle.stm_console.specs.declared.status.TheConstants.{DONE, NO_MEMORY, REFUSED};
 ghost use Rattle.stm_exploration.specs.ExploreStatus.{explore_status};
 ghost use Rattle.stm_lines.specs.RunStatus.{status_of};
@@ -13,6 +13,8 @@ ghost use Rattle.stm_options.specs.Options.{AreRunOptions};
 ghost use Rattle.stm_words.specs.CommandLine.{is_mistake, version_line, AreExploreOptions, HasOptionsInRange};
 
 use crate::checking::check_with;
+use crate::files::JournalFiles;
+use crate::journal::run_on_file;
 use crate::status::{DONE, FAILED, NO_MEMORY, NOT_RIGHT, REFUSED};
 use crate::why::check_why;
 use clap::Error;
@@ -252,20 +254,32 @@ fn do_check_why<R: Read, W: Write, E: Write>(
 }
 
 /// Does what is requested.
-fn perform<T: Threads + Wait + RandomSource + Sync, R: Read, W: Write, E: Write>(
+fn perform<T: Threads + Wait + RandomSource + Sync, F: JournalFiles, R: Read, W: Write, E: Write>(
     rt: &T,
     alloc: Global,
     request: Request,
+    files: &F,
     reader: &mut R,
     writer: &mut W,
     errors: &mut E,
 ) -> u8
     requires { HasOptionsInRange request }
-    ensures { ProgramDoes (Do request) (streams (R.remaining reader.old) (R.remaining reader.new)
-        (W.contents writer.old) (W.contents writer.new)) result }
+    ensures { ProgramDoes (Do request.entry) (with_files (F.contents files.now)
+        (streams (R.remaining reader.old) (R.remaining reader.new) (W.contents writer.old) (W.contents writer.new))) result }
 {
     match request {
         Request::Run(options) => do_run(rt, alloc, options, reader, writer, errors),
+        Request::RunOn(options, sync, file) => run_on_file(
+            rt,
+            alloc,
+            files,
+            options,
+            sync,
+            file.as_str(),
+            reader,
+            writer,
+            errors,
+        ),
         Request::Storm(options) => do_storm(rt, alloc, options, reader, writer, errors),
         Request::Explore(options) => {
             do_exploration(alloc, Seed::random(rt), options, reader, writer, errors)
@@ -276,28 +290,37 @@ fn perform<T: Threads + Wait + RandomSource + Sync, R: Read, W: Write, E: Write>
 }
 
 /// The whole program: reads its words, of which the first is the program's name, does what they ask for, from the reader to the
-/// writer, reports errors on `errors`, and returns the exit status:
+/// writer, perhaps with one of the files, reports errors on `errors`, and returns the exit status:
 ///
 /// - 0: the input was read to its end, and nothing wrong was found; or help or the version was printed.
-/// - 1: a read or a write failed, or a line of a script is wrong.
+/// - 1: a read or a write failed, a line of a script is wrong, or the file of a run can't be opened or its history is full.
 /// - 2: the words were refused.
-/// - 3: a history isn't legal, or an exploration found a fault or didn't end.
+/// - 3: a history isn't legal, also that of the file of a run, or an exploration found a fault or didn't end.
 /// - 4: memory ran out, or a thread didn't start.
 ///
 /// If `errors` fails, that changes nothing.
-pub fn start<'a, T: Threads + Wait + RandomSource + Sync, S: AsStr, R: Read, W: Write, E: Write>(
+pub fn start<
+    'a,
+    T: Threads + Wait + RandomSource + Sync,
+    S: AsStr,
+    F: JournalFiles,
+    R: Read,
+    W: Write,
+    E: Write,
+>(
     rt: &T,
     alloc: Global,
     words: &'a [S],
+    files: &F,
     reader: &mut R,
     writer: &mut W,
     errors: &mut E,
 ) -> u8
-    ensures { ProgramDoes (asked_by (map S.text words.now)) (streams (R.remaining reader.old) (R.remaining reader.new)
-        (W.contents writer.old) (W.contents writer.new)) result }
+    ensures { ProgramDoes (asked_by (map S.text words.now)) (with_files (F.contents files.now)
+        (streams (R.remaining reader.old) (R.remaining reader.new) (W.contents writer.old) (W.contents writer.new))) result }
 {
     match read_words(alloc, words) {
-        Ok(request) => perform(rt, alloc, request, reader, writer, errors),
+        Ok(request) => perform(rt, alloc, request, files, reader, writer, errors),
         Err(error) => print_words(alloc, &error, writer, errors),
     }
 }

@@ -4,8 +4,8 @@ ghost use Rattle.std.specs.Prelude.{◌≡◌, ◌≢◌, ◌++◌, [], ℕ, Lis
 ghost use Rattle.std.specs.Io.KnownBytes.{Appends, Keeps};
 ghost use Rattle.stm_console.specs.Checking.{IsFinding, finding_text};
 ghost use Rattle.stm_console.specs.Why.{BeginsAnswerWhy, IsAnswerWhy, IsWhyText, call_refusal_text, explanation_text};
-ghost use Rattle.stm_history.specs.Explanation.{TellsWhy};
-ghost use Rattle.stm_history.specs.Judgement.{TellsFault};
+ghost use Rattle.stm_history.specs.Explanation.{ReportsWhy};
+ghost use Rattle.stm_history.specs.Judgement.{ReportsFault};
 
 use crate::checking::{Finding, write_finding};
 use std::alloc::Global;
@@ -112,8 +112,8 @@ fn write_explained(
 
 /// Appends what is printed of bytes that are no legal history, and returns what was found.
 fn write_reason(reason: &Reason, out: &mut String) -> Result<Finding, NoMemory>
-    ensures { IfOk result (λ f. (bytes : List ℕ) → string_bytes out.old ≡ [] → TellsFault reason.now.fault bytes
-        → TellsWhy bytes reason.now.fault reason.now.line reason.now.explanation
+    ensures { IfOk result (λ f. (bytes : List ℕ) → string_bytes out.old ≡ [] → ReportsFault reason.now.fault bytes
+        → ReportsWhy bytes reason.now.fault reason.now.line reason.now.explanation
         → IsAnswerWhy bytes f (string_bytes out.new)) }
 {
     let explanation = &reason.explanation;

@@ -24,7 +24,7 @@ use Rattle.stm_events.specs.declared.staleness.StalenessRule.TheVariants.{Change
 use Rattle.stm_events.specs.Headline.{waking_at, waking_from}
 use Rattle.stm_events.specs.Laws.{SubmittedAreWellTyped}
 use Rattle.stm_events.specs.SlowDesk.{Since, Waiter, Slow, MayFinish, AllowsEvent, under, looked_on, intersects, is_stale_since, find_waiter, after, initial_state, state_from, state, LegalFrom, IsLegal, max_events}
-use Rattle.stm_events.proofs.Folds.{state-push, is_legal-push}
+use Rattle.stm_events.proofs.Folds.{state-push, is_legal-push, after-rule, state-rule}
 use Rattle.stm_events.proofs.Since.{IsSince}
 use Rattle.stm_events.proofs.TypedStores.{submitted-append, waiting_are_well_typed, stores_are_typed, blocks_have_verdicts}
 use Rattle.stm_desk.specs.declared.reason.Change.{Change}
@@ -72,7 +72,7 @@ fit_from table h s (e ∷ es) r legal l typed more cells few =
     let allowed : AllowsEvent (state table h) e = subst (λ (x : Slow). AllowsEvent x e) r l.0 in
     let len : length (h ++ e ∷ []) ≡ length h + 1 = length-append h (e ∷ []) in (
       subst (λ (x : Slow). FitsHere x e.what) (sym r) (fits_here table h e legal typed cells e.what refl allowed),
-      fit_from table (h ++ e ∷ []) (after s e.what) es (ap (λ (x : Slow). after x e.what) r ∙ sym (state-push Changed (initial_state table) h e))
+      fit_from table (h ++ e ∷ []) (after s e.what) es (ap (λ (x : Slow). after x e.what) r ∙ sym (state-push (initial_state Changed table) h e))
           (is_legal-push Changed table h e legal (omega arith) allowed) l.1 (submitted-append h (e ∷ []) typed (more.0, tt)) more.1 cells (omega (arith, len)),
     )
 
@@ -81,9 +81,9 @@ pub record IsTypedHistory (table : List Declared) (history : List Event) : Type 
   pub typed : SubmittedAreWellTyped history
   pub cells : StoreIsTyped (declared_cells table)
 
-fit_all : (table : List Declared) (history : List Event) → IsTypedHistory table history → FitFrom (initial_state table) history
+fit_all : (table : List Declared) (history : List Event) → IsTypedHistory table history → FitFrom (initial_state Changed table) history
 fit_all table history k =
-    fit_from table [] (initial_state table) history refl (record { each = tt; few = omega arith }) k.legal.each tt k.typed k.cells (omega (arith, k.legal.few))
+    fit_from table [] (initial_state Changed table) history refl (record { each = tt; few = omega arith }) k.legal.each tt k.typed k.cells (omega (arith, k.legal.few))
 
 fit_rest : (s : Slow) (before more : List Event) → FitFrom s (before ++ more) → FitFrom (state_from s before) more
 fit_rest s [] more f = f
@@ -109,7 +109,7 @@ writable_from s [] f = tt
 writable_from s (e ∷ es) f = (writable_what s e.what f.0, writable_from (after s e.what) es f.1)
 
 pub each_is_writable : (table : List Declared) (history : List Event) → IsTypedHistory table history → EachIsWritable history
-each_is_writable table history k = writable_from (initial_state table) history (fit_all table history k)
+each_is_writable table history k = writable_from (initial_state Changed table) history (fit_all table history k)
 
 -- ---- the changes of an event are told by what it writes
 told_here : (reads : List (ℕ × Value)) (s : Slow) (what : What) → FitsHere s what → AreRead reads (under s.store)
@@ -142,25 +142,25 @@ unchanged_by : (b : Bool) (cells : List Cell) (v : Verdict) (i : ℕ) (x : Value
 unchanged_by true cells v i x p f e g = absurd ((changed_differ cells v i f (is_within cells i x e)).0 p (g ∙ sym e))
 unchanged_by false cells v i x p f e g = refl
 
-not_woken : (s : Slow) (what : What) (i : ℕ) (x : Value) → FitsHere s what → under s.store i ≡ Some x → under (after s what).store i ≡ Some x → list_any (nat_eq i) (waking_at Changed s what) ≡ false
-not_woken s (Submitted t block) i x f e g = refl
-not_woken s (Installed t v) i x f e g = refl
-not_woken s (Finished t v n l) i x f e g = unchanged_by (list_any (nat_eq i) (changed_by s.store v)) s.store v i x refl f.fits e g
-not_woken s (Cancelled t) i x f e g = refl
+not_woken : (s : Slow) (what : What) (i : ℕ) (x : Value) → s.rule ≡ Changed → FitsHere s what → under s.store i ≡ Some x → under (after s what).store i ≡ Some x → list_any (nat_eq i) (waking_at s what) ≡ false
+not_woken s (Submitted t block) i x r f e g = refl
+not_woken s (Installed t v) i x r f e g = refl
+not_woken s (Finished t v n l) i x r f e g = rw r (unchanged_by (list_any (nat_eq i) (changed_by s.store v)) s.store v i x refl f.fits e g)
+not_woken s (Cancelled t) i x r f e g = refl
 
 neither : (a b : Bool) → a ≡ false → b ≡ false → (a || b) ≡ false
 neither a b g h = rw (g, h) refl
 
-never_woken : (reads : List (ℕ × Value)) (s : Slow) (es : List Event) (i : ℕ) (x : Value) → FitFrom s es → AreRead reads (under s.store) → find i reads ≡ Some x → cause_told reads es ≡ None → list_any (nat_eq i) (waking_from Changed s es) ≡ false
-never_woken reads s [] i x f h there none = refl
-never_woken reads s (e ∷ es) i x f h there none =
+never_woken : (reads : List (ℕ × Value)) (s : Slow) (es : List Event) (i : ℕ) (x : Value) → s.rule ≡ Changed → FitFrom s es → AreRead reads (under s.store) → find i reads ≡ Some x → cause_told reads es ≡ None → list_any (nat_eq i) (waking_from s es) ≡ false
+never_woken reads s [] i x r f h there none = refl
+never_woken reads s (e ∷ es) i x r f h there none =
     let p = told_here reads s e.what f.0 h in
     let q = none_told (ticket_of e.what) (changes_told reads e.what) (cause_told reads es) none in
     let now = p.1 q.0 in
-    list_any-append (nat_eq i) (waking_at Changed s e.what) (waking_from Changed (after s e.what) es)
-    ∙ neither (list_any (nat_eq i) (waking_at Changed s e.what)) (list_any (nat_eq i) (waking_from Changed (after s e.what) es))
-    (not_woken s e.what i x f.0 (found_read i x reads (under s.store) h there) (found_read i x reads (under (after s e.what).store) now there))
-    (never_woken reads (after s e.what) es i x f.1 now there q.1)
+    list_any-append (nat_eq i) (waking_at s e.what) (waking_from (after s e.what) es)
+    ∙ neither (list_any (nat_eq i) (waking_at s e.what)) (list_any (nat_eq i) (waking_from (after s e.what) es))
+    (not_woken s e.what i x r f.0 (found_read i x reads (under s.store) h there) (found_read i x reads (under (after s e.what).store) now there))
+    (never_woken reads (after s e.what) es i x (after-rule s e.what ∙ r) f.1 now there q.1)
 
 none_met : (woken is : List ℕ) → ((j : ℕ) → In j is → list_any (nat_eq j) woken ≡ false) → intersects woken is ≡ false
 none_met woken [] h = refl
@@ -172,7 +172,7 @@ itself t = grind (arith, nat_tests)
 
 -- what is known of the cause of a block whose last delivery was made on this store
 pub record IsCaused (table : List Declared) (history : List Event) (t : ℕ) (w : Waiter) (s : Since) : Type 0 where
-  pub told : cause_since_delivery t (reads_of (under s.store_then) w.block.tree) (initial_state table) history ≡ cause_told (reads_of (under s.store_then) w.block.tree) (events_since t history)
+  pub told : cause_since_delivery t (reads_of (under s.store_then) w.block.tree) (initial_state Changed table) history ≡ cause_told (reads_of (under s.store_then) w.block.tree) (events_since t history)
   pub caused : is_stale_since w.block s ≡ true → is_some (cause_told (reads_of (under s.store_then) w.block.tree) (events_since t history)) ≡ true
 
 some_by : (o : Option Cause) → (o ≡ None → true ≡ false) → is_some o ≡ true
@@ -190,13 +190,13 @@ is_caused table history t w s k since =
     let reads = reads_of (under s.store_then) w.block.tree in
     let then : Slow = state table d.before in
     let fit : FitFrom (after then e.what) d.later =
-    (fit_rest (initial_state table) d.before (e ∷ d.later) (subst (FitFrom (initial_state table)) d.whole (fit_all table history k))).1 in
+    (fit_rest (initial_state Changed table) d.before (e ∷ d.later) (subst (FitFrom (initial_state Changed table)) d.whole (fit_all table history k))).1 in
     let read : AreRead reads (under then.store) = subst (λ (cells : List Cell). AreRead reads (under cells)) since.store (reads_are (under s.store_then) w.block.tree) in
     let rest : events_since t history ≡ d.later = ap (events_since t) d.whole ∙ since_delivery t d.before e d.later (itself t) d.last in
     record {
       told =
-          ap (cause_since_delivery t reads (initial_state table)) d.whole
-          ∙ cause_after t reads (initial_state table) d.before e d.later (itself t) d.last
+          ap (cause_since_delivery t reads (initial_state Changed table)) d.whole
+          ∙ cause_after t reads (initial_state Changed table) d.before e d.later (itself t) d.last
           ∙ causes_agree reads (after then e.what) d.later fit read
           ∙ ap (cause_told reads) (sym rest);
       caused = λ stale. some_by (cause_told reads (events_since t history)) (λ none.
@@ -204,7 +204,7 @@ is_caused table history t w s k since =
           let quiet : intersects s.woken (looked_on s.store_then w.block) ≡ false =
           none_met s.woken (looked_on s.store_then w.block) (λ j m.
           found_by j reads (find j reads) true s.woken refl ((looked w.block.tree (under s.store_then) d.verdict since.verdict j).0 m)
-          (λ x there. subst (λ (woken : List ℕ). list_any (nat_eq j) woken ≡ false) (sym since.woken) (never_woken reads (after then e.what) d.later j x fit read there none_later)))
+          (λ x there. subst (λ (woken : List ℕ). list_any (nat_eq j) woken ≡ false) (sym since.woken) (never_woken reads (after then e.what) d.later j x (after-rule then e.what ∙ state-rule (initial_state Changed table) d.before) fit read there none_later)))
           in
           sym stale ∙ quiet);
     }

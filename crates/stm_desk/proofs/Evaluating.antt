@@ -4,22 +4,18 @@ use Rattle.std.specs.Prelude.{nat_eq, slice_get, IsSome, Result, Ok, Err, IfOk, 
 use Rattle.std.proofs.lemmas.Bool.Decides.{nat_tests}
 use Rattle.stm_terms.specs.declared.values.Value.{Value}
 use Rattle.stm_terms.specs.declared.verdicts.Verdict.{Verdict}
-use Rattle.stm_store.specs.Tables.{Declared}
 use Rattle.stm_queue.specs.Queue.{Entry, tickets, has_ticket, queued, without_ticket}
 use Rattle.stm_queue.specs.SortedTickets.{RisesAbove, IsRising}
 use Rattle.stm_queue.proofs.Membership.{in_queue}
 use Rattle.stm_events.specs.declared.errors.DeliverError.{DeliverError}
 use Rattle.stm_events.specs.declared.errors.DeliverError.TheVariants.{HistoryFull}
-use Rattle.stm_events.specs.declared.event.Event.{Event}
 use Rattle.stm_events.specs.declared.event.What.TheVariants.{Installed}
-use Rattle.stm_events.specs.declared.staleness.StalenessRule.{StalenessRule}
-use Rattle.stm_events.specs.declared.staleness.StalenessRule.TheVariants.{Changed}
 use Rattle.stm_machine.specs.Keeping.{IsVerdictUnder}
-use Rattle.stm_machine.specs.Machine.{Parts, StandsFor, StandsForBy, event}
+use Rattle.stm_machine.specs.Machine.{Parts, IsAt}
 use Rattle.stm_machine.specs.QueueAndIndex.{due_of}
-use Rattle.stm_events.specs.SlowDesk.{Waiter, state_by}
+use Rattle.stm_events.specs.SlowDesk.{Waiter, Slow}
 use Rattle.stm_machine.proofs.Taking.{take_more}
-use Rattle.stm_desk.specs.Seen.{Seen, now, is_full, with_event}
+use Rattle.stm_desk.specs.DeskView.{DeskView, state_of, is_full, with_event}
 use Rattle.stm_desk.proofs.Turns.{store_install}
 use Rattle.stm_desk.specs.Evaluating.{EvaluatedSoFar, with_evaluated, evaluate_unless, evaluate_each, none_evaluated, evaluate_lowest}
 
@@ -71,14 +67,14 @@ queued_rest t [] r h = cc
 queued_rest t (e ∷ es) r h = rest_step e.1 t e es refl r (queued_rest t es (rises e.0 es r)) h
 
 -- ---- one block
-pub kept_rest : {A E : Type 0} (d new : Seen) (client t : ℕ) (v : Verdict) (r : Result A E) → OnOk r (new ≡ with_event d (event client (Installed t v)))
+pub kept_rest : {A E : Type 0} (d new : DeskView) (client t : ℕ) (v : Verdict) (r : Result A E) → OnOk r (new ≡ with_event d client (Installed t v))
     → IsRising (tickets d.pending) → slice_get (queued d.pending) 0 ≡ Some t → OnOk r (queued new.pending ≡ drop 1 (queued d.pending))
-kept_rest d new client t v (Ok x) e r h = ap (λ (x : Seen). queued x.pending) e ∙ queued_rest t d.pending r h
+kept_rest d new client t v (Ok x) e r h = ap (λ (x : DeskView). queued x.pending) e ∙ queued_rest t d.pending r h
 kept_rest d new client t v (Err x) e r h = tt
 
-pub kept_store : {A E : Type 0} (d new : Seen) (client t : ℕ) (v : Verdict) (r : Result A E) → OnOk r (new ≡ with_event d (event client (Installed t v))) → OnErr r (new ≡ d) → (now new).store ≡ (now d).store
+pub kept_store : {A E : Type 0} (d new : DeskView) (client t : ℕ) (v : Verdict) (r : Result A E) → OnOk r (new ≡ with_event d client (Installed t v)) → OnErr r (new ≡ d) → (state_of new).store ≡ (state_of d).store
 kept_store d new client t v (Ok x) e f = store_install d new client t v e
-kept_store d new client t v (Err x) e f = ap (λ (x : Seen). (now x).store) f
+kept_store d new client t v (Err x) e f = ap (λ (x : DeskView). (state_of x).store) f
 
 -- ---- one block after another
 drop_suc : (xs : List ℕ) (i : ℕ) → drop 1 (drop i xs) ≡ drop (suc i) xs
@@ -100,21 +96,21 @@ each_append : (client : ℕ) (p : EvaluatedSoFar) (xs ys : List ℕ) → evaluat
 each_append client p [] ys = refl
 each_append client p (x ∷ xs) ys = each_append client (evaluate_unless client p x p.stop) xs ys
 
-stopped : (client : ℕ) (d : Seen) (n : ℕ) (e : DeliverError) (ts : List ℕ) → evaluate_each client (record { desk = d; count = n; stop = Some e }) ts ≡ record { desk = d; count = n; stop = Some e }
+stopped : (client : ℕ) (d : DeskView) (n : ℕ) (e : DeliverError) (ts : List ℕ) → evaluate_each client (record { desk = d; count = n; stop = Some e }) ts ≡ record { desk = d; count = n; stop = Some e }
 stopped client d n e [] = refl
 stopped client d n e (t ∷ ts) = stopped client d n e ts
 
-abbrev at : Seen → ℕ → Option DeliverError → EvaluatedSoFar
+abbrev at : DeskView → ℕ → Option DeliverError → EvaluatedSoFar
 at d n stop = record { desk = d; count = n; stop = stop }
 
-module _ (client : ℕ) (old mid : Seen) (count : ℕ) (so_far : evaluate_lowest old client count ≡ at mid count None) where
-  pub one_more : (new : Seen) (t : ℕ) → slice_get (queued old.pending) count ≡ Some t → is_full mid ≡ false → new ≡ with_evaluated mid client t
+module _ (client : ℕ) (old mid : DeskView) (count : ℕ) (so_far : evaluate_lowest old client count ≡ at mid count None) where
+  pub one_more : (new : DeskView) (t : ℕ) → slice_get (queued old.pending) count ≡ Some t → is_full mid ≡ false → new ≡ with_evaluated mid client t
       → evaluate_lowest old client (count + 1) ≡ at new (count + 1) None
   one_more new t h f e =
       ap (evaluate_each client (none_evaluated old)) (take_more (queued old.pending) count t h)
       ∙ each_append client (none_evaluated old) (take count (queued old.pending)) (t ∷ [])
       ∙ ap (λ (p : EvaluatedSoFar). evaluate_unless client p t p.stop) so_far
-      ∙ rw f (ap (λ (d : Seen). at d (count + 1) None) (sym e))
+      ∙ rw f (ap (λ (d : DeskView). at d (count + 1) None) (sym e))
 
   pub no_room : (n t : ℕ) → slice_get (queued old.pending) count ≡ Some t → count < n → is_full mid ≡ true → at mid count (Some HistoryFull) ≡ evaluate_lowest old client n
   no_room n t h l f =
@@ -131,11 +127,22 @@ module _ (client : ℕ) (old mid : Seen) (count : ℕ) (so_far : evaluate_lowest
         split (x ∷ xs) zero (suc n) t h l = let q : x ≡ t = cc in (take n xs, ap (λ (y : ℕ). y ∷ take n xs) q)
         split (x ∷ xs) (suc i) (suc n) t h l = let s = split xs i n t h (omega arith) in (s.0, ap (λ (ys : List ℕ). x ∷ ys) s.1)
 
--- what the machine says of a verdict, at the history that it stands for
-pub if_told : {E : Type 0} (d : Seen) (parts : Parts) (t : ℕ) (reads : List (ℕ × Value)) (r : Result Verdict E) → StandsFor d.table d.history parts
-    → IfOk r (λ v. (R : StalenessRule) (T : List Declared) (H : List Event) → StandsForBy R T H parts → IsVerdictUnder (state_by R T H) t v reads) → IfOk r (λ v. IsVerdictUnder (now d) t v reads)
-if_told d parts t reads (Ok v) k p = p Changed d.table d.history k
-if_told d parts t reads (Err e) k p = tt
+  pub none_left : (n : ℕ) → slice_get (drop count (queued old.pending)) 0 ≡ None → count ≤ n → evaluate_lowest old client n ≡ at mid count None
+  none_left n e l = ap (evaluate_each client (none_evaluated old)) (all (queued old.pending) count n e l) ∙ so_far where
+    all : (xs : List ℕ) (i n : ℕ) → slice_get (drop i xs) 0 ≡ None → i ≤ n → take n xs ≡ take i xs
+    all [] zero zero e l = refl
+    all [] zero (suc n) e l = refl
+    all [] (suc i) zero e l = refl
+    all [] (suc i) (suc n) e l = refl
+    all (x ∷ xs) zero n e l = cc
+    all (x ∷ xs) (suc i) zero e l = absurd (omega arith)
+    all (x ∷ xs) (suc i) (suc n) e l = ap (λ (ys : List ℕ). x ∷ ys) (all xs i n e (omega arith))
+
+-- what the machine says of a verdict, at the state that it is at
+pub if_told : {E : Type 0} (s : Slow) (parts : Parts) (t : ℕ) (reads : List (ℕ × Value)) (r : Result Verdict E) → IsAt parts s
+    → IfOk r (λ v. (s : Slow) → IsAt parts s → IsVerdictUnder s t v reads) → IfOk r (λ v. IsVerdictUnder s t v reads)
+if_told s parts t reads (Ok v) k p = p s k
+if_told s parts t reads (Err e) k p = tt
 
 pub due_is_there : (o : Option Waiter) → due_of o ≡ true → IsSome o
 due_is_there None h = cc

@@ -3,6 +3,7 @@ pub mod Causes
 pub mod Evaluating
 pub mod EventsSince
 pub mod FoundWrites
+pub mod Limit
 pub mod ReadValues
 pub mod ReasonsTold
 pub mod Runs

@@ -10,7 +10,7 @@ use Rattle.stm_events.specs.BlockStatus.{read_since_then, read_then, read_now}
 use Rattle.stm_events.specs.SlowDesk.{Since, Waiter, Standing, New, Stale, Current, under, verdict_on, is_blocks, is_stale_since, current_since, is_current, find_waiter, standing_since, standing, initial_state}
 use Rattle.stm_events.specs.SlowSettle.{ends}
 use Rattle.stm_events.proofs.Since.{Tracks, tracked_state}
-use Rattle.stm_desk.specs.Seen.{Seen, now}
+use Rattle.stm_desk.specs.DeskView.{DeskView, state_of}
 use Rattle.stm_desk.specs.Reasons.{Cause, cause_since_delivery, WaitReason, NotEvaluated, IsStale, Waits, CanFinish, current_reason, reason_since, reason_of_waiter, reason_of}
 use Rattle.stm_desk.specs.ReasonsTold.{cause_told, events_since}
 use Rattle.stm_desk.proofs.Causes.{IsTypedHistory, is_caused}
@@ -20,40 +20,40 @@ none_by : (store : List Cell) (o : Option Waiter) → None ≡ option_map (stand
 none_by store None e = refl
 none_by store (Some w) e = absurd (cc)
 
-pub no_waiter : (d : Seen) (t : ℕ) → None ≡ option_map (standing (now d).store) (find_waiter t (now d).waiters) → find_waiter t (now d).waiters ≡ None
-no_waiter d t e = none_by (now d).store (find_waiter t (now d).waiters) e
+pub no_waiter : (d : DeskView) (t : ℕ) → None ≡ option_map (standing (state_of d).store) (find_waiter t (state_of d).waiters) → find_waiter t (state_of d).waiters ≡ None
+no_waiter d t e = none_by (state_of d).store (find_waiter t (state_of d).waiters) e
 
-pub no_reason : (d : Seen) (t : ℕ) → find_waiter t (now d).waiters ≡ None → None ≡ reason_of d t
+pub no_reason : (d : DeskView) (t : ℕ) → find_waiter t (state_of d).waiters ≡ None → None ≡ reason_of d t
 unfolding reason_of
 no_reason d t e = rw e refl
 
-new_since : (d : Seen) (w : Waiter) (o : Option Since) → w.since ≡ o → None ≡ read_since_then w.block o → Some NotEvaluated ≡ reason_since d w w.since
+new_since : (d : DeskView) (w : Waiter) (o : Option Since) → w.since ≡ o → None ≡ read_since_then w.block o → Some NotEvaluated ≡ reason_since d w w.since
 new_since d w None e n = rw e refl
 new_since d w (Some s) e n = absurd (cc)
 
-new_by : (d : Seen) (o : Option Waiter) (x : Standing) → Some x ≡ option_map (standing (now d).store) o → None ≡ read_then o → Some NotEvaluated ≡ reason_of_waiter d o
+new_by : (d : DeskView) (o : Option Waiter) (x : Standing) → Some x ≡ option_map (standing (state_of d).store) o → None ≡ read_then o → Some NotEvaluated ≡ reason_of_waiter d o
 new_by d None x e n = absurd (cc)
 new_by d (Some w) x e n = new_since d w w.since refl n
 
-pub unread : (d : Seen) (t : ℕ) (x : Standing) → Some x ≡ option_map (standing (now d).store) (find_waiter t (now d).waiters) → None ≡ read_then (find_waiter t (now d).waiters) → Some NotEvaluated ≡ reason_of d t
+pub unread : (d : DeskView) (t : ℕ) (x : Standing) → Some x ≡ option_map (standing (state_of d).store) (find_waiter t (state_of d).waiters) → None ≡ read_then (find_waiter t (state_of d).waiters) → Some NotEvaluated ≡ reason_of d t
 unfolding reason_of
-unread d t x e n = new_by d (find_waiter t (now d).waiters) x e n
+unread d t x e n = new_by d (find_waiter t (state_of d).waiters) x e n
 
 is_new_by : (b : Bool) (v u : Option Verdict) → New ≡ cond b (Stale v) (Current u) → ⊥
 is_new_by true v u e = cc
 is_new_by false v u e = cc
 
-standing_new : (d : Seen) (w : Waiter) (o : Option Since) → w.since ≡ o → New ≡ standing_since (now d).store w.block o → Some NotEvaluated ≡ reason_since d w w.since
+standing_new : (d : DeskView) (w : Waiter) (o : Option Since) → w.since ≡ o → New ≡ standing_since (state_of d).store w.block o → Some NotEvaluated ≡ reason_since d w w.since
 standing_new d w None e n = rw e refl
-standing_new d w (Some s) e n = absurd (is_new_by (is_stale_since w.block s) (verdict_on s.store_then w.block) (verdict_on (now d).store w.block) n)
+standing_new d w (Some s) e n = absurd (is_new_by (is_stale_since w.block s) (verdict_on s.store_then w.block) (verdict_on (state_of d).store w.block) n)
 
-stands_new_by : (d : Seen) (o : Option Waiter) → Some New ≡ option_map (standing (now d).store) o → Some NotEvaluated ≡ reason_of_waiter d o
+stands_new_by : (d : DeskView) (o : Option Waiter) → Some New ≡ option_map (standing (state_of d).store) o → Some NotEvaluated ≡ reason_of_waiter d o
 stands_new_by d None e = absurd (cc)
-stands_new_by d (Some w) e = let n : New ≡ standing (now d).store w = cc in standing_new d w w.since refl n
+stands_new_by d (Some w) e = let n : New ≡ standing (state_of d).store w = cc in standing_new d w w.since refl n
 
-pub stands_new : (d : Seen) (t : ℕ) → Some New ≡ option_map (standing (now d).store) (find_waiter t (now d).waiters) → Some NotEvaluated ≡ reason_of d t
+pub stands_new : (d : DeskView) (t : ℕ) → Some New ≡ option_map (standing (state_of d).store) (find_waiter t (state_of d).waiters) → Some NotEvaluated ≡ reason_of d t
 unfolding reason_of
-stands_new d t e = stands_new_by d (find_waiter t (now d).waiters) e
+stands_new d t e = stands_new_by d (find_waiter t (state_of d).waiters) e
 
 -- ---- a stale block
 ticket_by : (b : Bool) (t : ℕ) (v w : Waiter) (o : Option Waiter) → nat_eq t v.ticket ≡ b → (o ≡ Some w → w.ticket ≡ t) → cond b (Some v) o ≡ Some w → w.ticket ≡ t
@@ -69,41 +69,41 @@ stale_if true v x u e = refl
 stale_if false v x u e = cc
 
 -- what the events write tells the reason of a stale block
-abbrev pub IsStaleReason : Seen → ℕ → List (ℕ × Value) → Type 0
+abbrev pub IsStaleReason : DeskView → ℕ → List (ℕ × Value) → Type 0
 IsStaleReason d t reads = option_map IsStale (cause_told reads (events_since t d.history)) ≡ reason_of d t
 
-stale_reason_if : (b : Bool) (d : Seen) (w : Waiter) (s : Since) → b ≡ true
-    → cond b (option_map IsStale (cause_since_delivery w.ticket (reads_of (under s.store_then) w.block.tree) (initial_state d.table) d.history)) (Some (current_reason (now d).store w))
-    ≡ option_map IsStale (cause_since_delivery w.ticket (reads_of (under s.store_then) w.block.tree) (initial_state d.table) d.history)
+stale_reason_if : (b : Bool) (d : DeskView) (w : Waiter) (s : Since) → b ≡ true
+    → cond b (option_map IsStale (cause_since_delivery w.ticket (reads_of (under s.store_then) w.block.tree) (initial_state Changed d.table) d.history)) (Some (current_reason (state_of d).store w))
+    ≡ option_map IsStale (cause_since_delivery w.ticket (reads_of (under s.store_then) w.block.tree) (initial_state Changed d.table) d.history)
 stale_reason_if true d w s e = refl
 stale_reason_if false d w s e = cc
 
-stale_since : (d : Seen) (t : ℕ) (w : Waiter) (o : Option Since) (v : Option Verdict) (reads : List (ℕ × Value)) → IsTypedHistory d.table d.history → find_waiter t (now d).waiters ≡ Some w → w.since ≡ o
-    → Stale v ≡ standing_since (now d).store w.block o → Some reads ≡ read_since_then w.block o → Tracks Changed d.table d.history t w.block o → IsStaleReason d t reads
+stale_since : (d : DeskView) (t : ℕ) (w : Waiter) (o : Option Since) (v : Option Verdict) (reads : List (ℕ × Value)) → IsTypedHistory d.table d.history → find_waiter t (state_of d).waiters ≡ Some w → w.since ≡ o
+    → Stale v ≡ standing_since (state_of d).store w.block o → Some reads ≡ read_since_then w.block o → Tracks Changed d.table d.history t w.block o → IsStaleReason d t reads
 unfolding reason_of
 stale_since d t w None v reads k f e n r tracks = absurd (cc)
 stale_since d t w (Some s) v reads k f e n r tracks =
-    let stale : is_stale_since w.block s ≡ true = stale_if (is_stale_since w.block s) v (verdict_on s.store_then w.block) (verdict_on (now d).store w.block) n in
+    let stale : is_stale_since w.block s ≡ true = stale_if (is_stale_since w.block s) v (verdict_on s.store_then w.block) (verdict_on (state_of d).store w.block) n in
     let same : reads_of (under s.store_then) w.block.tree ≡ reads = cc in
     let p = is_caused d.table d.history t w s k tracks in
     let cause = cause_told (reads_of (under s.store_then) w.block.tree) (events_since t d.history) in
     let whole : reason_of d t ≡ option_map IsStale cause =
     ap (reason_of_waiter d) f ∙ ap (reason_since d w) e ∙ stale_reason_if (is_stale_since w.block s) d w s stale
-    ∙ ap (λ (u : ℕ). option_map IsStale (cause_since_delivery u (reads_of (under s.store_then) w.block.tree) (initial_state d.table) d.history)) (found_ticket t (now d).waiters w f)
+    ∙ ap (λ (u : ℕ). option_map IsStale (cause_since_delivery u (reads_of (under s.store_then) w.block.tree) (initial_state Changed d.table) d.history)) (found_ticket t (state_of d).waiters w f)
     ∙ ap (option_map IsStale) p.told
     in
     subst (λ (rs : List (ℕ × Value)). IsStaleReason d t rs) same (sym whole)
 
-stale_by : (d : Seen) (t : ℕ) (v : Option Verdict) (reads : List (ℕ × Value)) (o : Option Waiter) → IsTypedHistory d.table d.history → find_waiter t (now d).waiters ≡ o → Some (Stale v) ≡ option_map (standing (now d).store) o
+stale_by : (d : DeskView) (t : ℕ) (v : Option Verdict) (reads : List (ℕ × Value)) (o : Option Waiter) → IsTypedHistory d.table d.history → find_waiter t (state_of d).waiters ≡ o → Some (Stale v) ≡ option_map (standing (state_of d).store) o
     → Some reads ≡ read_then o → IsStaleReason d t reads
 stale_by d t v reads None k f e r = absurd (cc)
 stale_by d t v reads (Some w) k f e r =
-    let n : Stale v ≡ standing (now d).store w = cc in
+    let n : Stale v ≡ standing (state_of d).store w = cc in
     stale_since d t w w.since v reads k f refl n r ((tracked_state Changed d.table d.history k.legal).each t w f)
 
-pub stands_stale : (d : Seen) (t : ℕ) (v : Option Verdict) (reads : List (ℕ × Value)) → IsTypedHistory d.table d.history → Some (Stale v) ≡ option_map (standing (now d).store) (find_waiter t (now d).waiters)
-    → Some reads ≡ read_then (find_waiter t (now d).waiters) → IsStaleReason d t reads
-stands_stale d t v reads k e r = stale_by d t v reads (find_waiter t (now d).waiters) k refl e r
+pub stands_stale : (d : DeskView) (t : ℕ) (v : Option Verdict) (reads : List (ℕ × Value)) → IsTypedHistory d.table d.history → Some (Stale v) ≡ option_map (standing (state_of d).store) (find_waiter t (state_of d).waiters)
+    → Some reads ≡ read_then (find_waiter t (state_of d).waiters) → IsStaleReason d t reads
+stands_stale d t v reads k e r = stale_by d t v reads (find_waiter t (state_of d).waiters) k refl e r
 
 -- ---- a current block
 current_if : (b : Bool) (v : Verdict) (x u : Option Verdict) → Current (Some v) ≡ cond b (Stale x) (Current u) → (b ≡ false) × (u ≡ Some v)
@@ -116,32 +116,32 @@ current_told v store w reads e r = by (is_blocks v) ∙ ap (λ (b : Bool). cond 
   by true = ap Waits r
   by false = refl
 
-current_reason_if : (b : Bool) (d : Seen) (w : Waiter) (o : Option WaitReason) → b ≡ false → cond b o (Some (current_reason (now d).store w)) ≡ Some (current_reason (now d).store w)
+current_reason_if : (b : Bool) (d : DeskView) (w : Waiter) (o : Option WaitReason) → b ≡ false → cond b o (Some (current_reason (state_of d).store w)) ≡ Some (current_reason (state_of d).store w)
 current_reason_if true d w o e = cc
 current_reason_if false d w o e = refl
 
-current_of : (d : Seen) (t : ℕ) (w : Waiter) (o : Option Since) (v : Verdict) (reads : List (ℕ × Value)) → find_waiter t (now d).waiters ≡ Some w → w.since ≡ o → Current (Some v) ≡ standing_since (now d).store w.block o
-    → (is_current w ≡ true → Some reads ≡ Some (read_now (now d).store w)) → Some (if is_blocks v then Waits reads else CanFinish) ≡ reason_of d t
+current_of : (d : DeskView) (t : ℕ) (w : Waiter) (o : Option Since) (v : Verdict) (reads : List (ℕ × Value)) → find_waiter t (state_of d).waiters ≡ Some w → w.since ≡ o → Current (Some v) ≡ standing_since (state_of d).store w.block o
+    → (is_current w ≡ true → Some reads ≡ Some (read_now (state_of d).store w)) → Some (if is_blocks v then Waits reads else CanFinish) ≡ reason_of d t
 unfolding reason_of
 current_of d t w None v reads f e n r = absurd (cc)
 current_of d t w (Some s) v reads f e n r =
-    let p = current_if (is_stale_since w.block s) v (verdict_on s.store_then w.block) (verdict_on (now d).store w.block) n in
+    let p = current_if (is_stale_since w.block s) v (verdict_on s.store_then w.block) (verdict_on (state_of d).store w.block) n in
     let c : is_current w ≡ true = ap (current_since w.block) e ∙ ap not p.0 in
-    let same : reads ≡ read_now (now d).store w = (let g = r c in cc) in
-    ap Some (current_told v (now d).store w reads p.1 same)
+    let same : reads ≡ read_now (state_of d).store w = (let g = r c in cc) in
+    ap Some (current_told v (state_of d).store w reads p.1 same)
     ∙ sym (ap (reason_of_waiter d) f ∙ ap (reason_since d w) e
-    ∙ current_reason_if (is_stale_since w.block s) d w (option_map IsStale (cause_since_delivery w.ticket (reads_of (under s.store_then) w.block.tree) (initial_state d.table) d.history)) p.0)
+    ∙ current_reason_if (is_stale_since w.block s) d w (option_map IsStale (cause_since_delivery w.ticket (reads_of (under s.store_then) w.block.tree) (initial_state Changed d.table) d.history)) p.0)
 
-current_by : (d : Seen) (t : ℕ) (v : Verdict) (reads : List (ℕ × Value)) (o : Option Waiter) → find_waiter t (now d).waiters ≡ o → Some (Current (Some v)) ≡ option_map (standing (now d).store) o
-    → ((w : Waiter) → o ≡ Some w → is_current w ≡ true → Some reads ≡ Some (read_now (now d).store w)) → Some (if is_blocks v then Waits reads else CanFinish) ≡ reason_of d t
+current_by : (d : DeskView) (t : ℕ) (v : Verdict) (reads : List (ℕ × Value)) (o : Option Waiter) → find_waiter t (state_of d).waiters ≡ o → Some (Current (Some v)) ≡ option_map (standing (state_of d).store) o
+    → ((w : Waiter) → o ≡ Some w → is_current w ≡ true → Some reads ≡ Some (read_now (state_of d).store w)) → Some (if is_blocks v then Waits reads else CanFinish) ≡ reason_of d t
 current_by d t v reads None f e r = absurd (cc)
 current_by d t v reads (Some w) f e r =
-    let n : Current (Some v) ≡ standing (now d).store w = cc in
+    let n : Current (Some v) ≡ standing (state_of d).store w = cc in
     current_of d t w w.since v reads f refl n (r w refl)
 
-pub stands_current : (d : Seen) (t : ℕ) (v : Verdict) (reads : List (ℕ × Value)) → Some (Current (Some v)) ≡ option_map (standing (now d).store) (find_waiter t (now d).waiters)
-    → ((w : Waiter) → find_waiter t (now d).waiters ≡ Some w → is_current w ≡ true → Some reads ≡ Some (read_now (now d).store w)) → Some (if is_blocks v then Waits reads else CanFinish) ≡ reason_of d t
-stands_current d t v reads e r = current_by d t v reads (find_waiter t (now d).waiters) refl e r
+pub stands_current : (d : DeskView) (t : ℕ) (v : Verdict) (reads : List (ℕ × Value)) → Some (Current (Some v)) ≡ option_map (standing (state_of d).store) (find_waiter t (state_of d).waiters)
+    → ((w : Waiter) → find_waiter t (state_of d).waiters ≡ Some w → is_current w ≡ true → Some reads ≡ Some (read_now (state_of d).store w)) → Some (if is_blocks v then Waits reads else CanFinish) ≡ reason_of d t
+stands_current d t v reads e r = current_by d t v reads (find_waiter t (state_of d).waiters) refl e r
 
 -- ---- a block that waits has a reason
 some_mapped : (o : Option Cause) → is_some o ≡ true → is_some (option_map IsStale o) ≡ true
@@ -152,20 +152,20 @@ reason_if : (b : Bool) (o : Option WaitReason) (r : WaitReason) → (b ≡ true 
 reason_if true o r h = h refl
 reason_if false o r h = refl
 
-has_reason_since : (d : Seen) (t : ℕ) (w : Waiter) (o : Option Since) → IsTypedHistory d.table d.history → find_waiter t (now d).waiters ≡ Some w → Tracks Changed d.table d.history t w.block o → is_some (reason_since d w o) ≡ true
+has_reason_since : (d : DeskView) (t : ℕ) (w : Waiter) (o : Option Since) → IsTypedHistory d.table d.history → find_waiter t (state_of d).waiters ≡ Some w → Tracks Changed d.table d.history t w.block o → is_some (reason_since d w o) ≡ true
 has_reason_since d t w None k f tracks = refl
 has_reason_since d t w (Some s) k f tracks =
     let p = is_caused d.table d.history t w s k tracks in
     let reads = reads_of (under s.store_then) w.block.tree in
-    reason_if (is_stale_since w.block s) (option_map IsStale (cause_since_delivery w.ticket reads (initial_state d.table) d.history)) (current_reason (now d).store w)
+    reason_if (is_stale_since w.block s) (option_map IsStale (cause_since_delivery w.ticket reads (initial_state Changed d.table) d.history)) (current_reason (state_of d).store w)
     (λ stale.
-    ap (λ (u : ℕ). is_some (option_map IsStale (cause_since_delivery u reads (initial_state d.table) d.history))) (found_ticket t (now d).waiters w f)
+    ap (λ (u : ℕ). is_some (option_map IsStale (cause_since_delivery u reads (initial_state Changed d.table) d.history))) (found_ticket t (state_of d).waiters w f)
     ∙ ap (λ (c : Option Cause). is_some (option_map IsStale c)) p.told ∙ some_mapped (cause_told reads (events_since t d.history)) (p.caused stale))
 
-has_reason_by : (d : Seen) (t : ℕ) (o : Option Waiter) → IsTypedHistory d.table d.history → find_waiter t (now d).waiters ≡ o → is_some (reason_of_waiter d o) ≡ is_some o
+has_reason_by : (d : DeskView) (t : ℕ) (o : Option Waiter) → IsTypedHistory d.table d.history → find_waiter t (state_of d).waiters ≡ o → is_some (reason_of_waiter d o) ≡ is_some o
 has_reason_by d t None k f = refl
 has_reason_by d t (Some w) k f = has_reason_since d t w w.since k f ((tracked_state Changed d.table d.history k.legal).each t w f)
 
-pub has_reason : (d : Seen) (t : ℕ) → IsTypedHistory d.table d.history → is_some (reason_of d t) ≡ is_some (find_waiter t (now d).waiters)
+pub has_reason : (d : DeskView) (t : ℕ) → IsTypedHistory d.table d.history → is_some (reason_of d t) ≡ is_some (find_waiter t (state_of d).waiters)
 unfolding reason_of
-has_reason d t k = has_reason_by d t (find_waiter t (now d).waiters) k refl
+has_reason d t k = has_reason_by d t (find_waiter t (state_of d).waiters) k refl

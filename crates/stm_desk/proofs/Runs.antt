@@ -14,9 +14,9 @@ use Rattle.stm_desk.specs.declared.errors.SettleWhy.{SettleWhy}
 use Rattle.stm_desk.specs.declared.errors.SettleWhy.TheVariants.{HistoryFull, CellsFull, NoMemory}
 use Rattle.stm_machine.specs.SettleChoices.{some_out}
 use Rattle.stm_machine.specs.Machine.{event}
-use Rattle.stm_desk.specs.Seen.{Seen, now, with_event, AllHaveVerdicts}
-use Rattle.stm_desk.specs.Settling.{slow_settle, slow_stop, with_whats, called_back, HasSettled, HasBegun, StopTold, IsSettled, AllBlock}
-use Rattle.stm_desk.specs.Steps.{IsNextEvent, WhyTold}
+use Rattle.stm_desk.specs.DeskView.{DeskView, state_of, with_event, AllHaveVerdicts}
+use Rattle.stm_desk.specs.Settling.{slow_settle, slow_stop, with_whats, requeued_all, HasSettled, HasBegun, HasStopped, AllBlock}
+use Rattle.stm_desk.specs.Steps.{IsNextEvent, StopsFor}
 use Rattle.stm_desk.proofs.Settles.{out_after, out_recalled}
 
 -- ---- all events
@@ -52,33 +52,33 @@ append_nil : {A : Type 0} (xs : List A) → xs ++ [] ≡ xs
 append_nil [] = refl
 append_nil {A = A} (x ∷ xs) = ap (λ (ys : List A). x ∷ ys) (append_nil xs)
 
-pub begun_here : (client : ℕ) (d : Seen) → HasBegun client d d 0 0
+pub begun_here : (client : ℕ) (d : DeskView) → HasBegun client d d 0 0
 begun_here client d = record { done = []; grown = refl; rest = refl; same_stop = refl; finished = refl; evaluated = refl }
 
-with_more : (client : ℕ) (d : Seen) (xs ys : List What) → with_whats d client (xs ++ ys) ≡ with_whats (with_whats d client xs) client ys
+with_more : (client : ℕ) (d : DeskView) (xs ys : List What) → with_whats d client (xs ++ ys) ≡ with_whats (with_whats d client xs) client ys
 with_more client d [] ys = refl
-with_more client d (x ∷ xs) ys = with_more client (with_event d (event client x)) xs ys
+with_more client d (x ∷ xs) ys = with_more client (with_event d client x) xs ys
 
-with_length : (client : ℕ) (d : Seen) (xs : List What) → length (with_whats d client xs).history ≡ length d.history + length xs
+with_length : (client : ℕ) (d : DeskView) (xs : List What) → length (with_whats d client xs).history ≡ length d.history + length xs
 with_length client d [] = omega arith
-with_length client d (x ∷ xs) = omega (arith, with_length client (with_event d (event client x)) xs, length-append d.history (event client x ∷ []))
+with_length client d (x ∷ xs) = omega (arith, with_length client (with_event d client x) xs, length-append d.history (event client x ∷ []))
 
 count_more : (p : What → Bool) (xs ys : List What) → length (filter p (xs ++ ys)) ≡ length (filter p xs) + length (filter p ys)
 count_more p xs ys = rw filter-append (length-append (filter p xs) (filter p ys))
 
-next_left : (client : ℕ) (d new : Seen) (x : What) → next_what (now d) ≡ Some x → has_cells (now d) x ≡ true → length d.history < d.limit → new ≡ with_event d (event client x) → x ∷ slow_settle new ≡ slow_settle d
+next_left : (client : ℕ) (d new : DeskView) (x : What) → next_what (state_of d) ≡ Some x → has_cells (state_of d) x ≡ true → length d.history < d.limit → new ≡ with_event d client x → x ∷ slow_settle new ≡ slow_settle d
 next_left client d new x n h room e =
-    let p : state_from (initial_state d.table) (d.history ++ event client x ∷ []) ≡ after (now d) x = state-push Changed (initial_state d.table) d.history (event client x) in
+    let p : state_from (initial_state Changed d.table) (d.history ++ event client x ∷ []) ≡ after (state_of d) x = state-push (initial_state Changed d.table) d.history (event client x) in
     let left : d.limit - length d.history ≡ suc (d.limit - length (d.history ++ event client x ∷ [])) = omega (arith, length-append d.history (event client x ∷ [])) in
-    sym (rw e (settling_more _ _ (now d) x left n h ∙ ap (λ (s : Slow). x ∷ settling (d.limit - length (d.history ++ event client x ∷ [])) s) (sym p)))
+    sym (rw e (settling_more _ _ (state_of d) x left n h ∙ ap (λ (s : Slow). x ∷ settling (d.limit - length (d.history ++ event client x ∷ [])) s) (sym p)))
 
-stop_left : (client : ℕ) (d new : Seen) (x : What) → next_what (now d) ≡ Some x → has_cells (now d) x ≡ true → length d.history < d.limit → new ≡ with_event d (event client x) → slow_stop new ≡ slow_stop d
+stop_left : (client : ℕ) (d new : DeskView) (x : What) → next_what (state_of d) ≡ Some x → has_cells (state_of d) x ≡ true → length d.history < d.limit → new ≡ with_event d client x → slow_stop new ≡ slow_stop d
 stop_left client d new x n h room e =
-    let p : state_from (initial_state d.table) (d.history ++ event client x ∷ []) ≡ after (now d) x = state-push Changed (initial_state d.table) d.history (event client x) in
+    let p : state_from (initial_state Changed d.table) (d.history ++ event client x ∷ []) ≡ after (state_of d) x = state-push (initial_state Changed d.table) d.history (event client x) in
     let left : d.limit - length d.history ≡ suc (d.limit - length (d.history ++ event client x ∷ [])) = omega (arith, length-append d.history (event client x ∷ [])) in
-    rw e (ap (settle_stop (d.limit - length (d.history ++ event client x ∷ []))) p ∙ sym (stopping_more _ _ (now d) x left n h))
+    rw e (ap (settle_stop (d.limit - length (d.history ++ event client x ∷ []))) p ∙ sym (stopping_more _ _ (state_of d) x left n h))
 
-pub begun_one : (client f e : ℕ) (d new : Seen) → IsNextEvent client f e d new → HasBegun client d new f e
+pub begun_one : (client f e : ℕ) (d new : DeskView) → IsNextEvent client f e d new → HasBegun client d new f e
 begun_one client f e d new n = record {
   done = n.what ∷ [];
   grown = n.grown;
@@ -88,17 +88,17 @@ begun_one client f e d new n = record {
   evaluated = sym n.evaluating;
 }
 
-pub begun_then : (client f e g h : ℕ) (old mid new : Seen) → HasBegun client old mid f e → HasBegun client mid new g h → HasBegun client old new (f + g) (e + h)
+pub begun_then : (client f e g h : ℕ) (old mid new : DeskView) → HasBegun client old mid f e → HasBegun client mid new g h → HasBegun client old new (f + g) (e + h)
 begun_then client f e g h old mid new b c = record {
   done = b.done ++ c.done;
-  grown = c.grown ∙ ap (λ (d : Seen). with_whats d client c.done) b.grown ∙ sym (with_more client old b.done c.done);
+  grown = c.grown ∙ ap (λ (d : DeskView). with_whats d client c.done) b.grown ∙ sym (with_more client old b.done c.done);
   same_stop = c.same_stop ∙ b.same_stop;
   rest = append_assoc b.done c.done (slow_settle new) ∙ ap (λ (xs : List What). b.done ++ xs) c.rest ∙ b.rest;
   finished = rw (b.finished, c.finished) (sym (count_more is_finish b.done c.done));
   evaluated = rw (b.evaluated, c.evaluated) (sym (count_more is_install b.done c.done));
 }
 
-all_done : (client f e : ℕ) (old new : Seen) (stop : Option Stop) → HasBegun client old new f e → slow_settle new ≡ [] → slow_stop new ≡ stop → HasSettled client old new f e stop
+all_done : (client f e : ℕ) (old new : DeskView) (stop : Option Stop) → HasBegun client old new f e → slow_settle new ≡ [] → slow_stop new ≡ stop → HasSettled client old new f e stop
 all_done client f e old new stop b h g =
     let k : b.done ≡ slow_settle old = sym (append_nil b.done) ∙ ap (λ (xs : List What). b.done ++ xs) (sym h) ∙ b.rest in
     record {
@@ -108,22 +108,22 @@ all_done client f e old new stop b h g =
       stopped = sym b.same_stop ∙ g;
     }
 
-pub settled_end : (client f e : ℕ) (old new : Seen) → HasBegun client old new f e → next_what (now new) ≡ None → HasSettled client old new f e None
+pub settled_end : (client f e : ℕ) (old new : DeskView) → HasBegun client old new f e → next_what (state_of new) ≡ None → HasSettled client old new f e None
 settled_end client f e old new b n =
-    all_done client f e old new None b (settling_ends (new.limit - length new.history) (now new) n) (stopping_ends (new.limit - length new.history) (now new) n)
+    all_done client f e old new None b (settling_ends (new.limit - length new.history) (state_of new) n) (stopping_ends (new.limit - length new.history) (state_of new) n)
 
-pub stop_told : (client f e : ℕ) (old new : Seen) (why : SettleWhy) → HasBegun client old new f e → WhyTold why new → StopTold why client old new f e
-stop_told client f e old new HistoryFull b w =
+pub has_stopped : (client f e : ℕ) (old new : DeskView) (why : SettleWhy) → HasBegun client old new f e → StopsFor why new → HasStopped why client old new f e
+has_stopped client f e old new HistoryFull b w =
     let full : length new.history ≡ new.limit = w.full in
     let none : new.limit - length new.history ≡ 0 = omega arith in
-    (all_done client f e old new (Some NoRoom) b (settling_full (new.limit - length new.history) (now new) none) (stopping_full (new.limit - length new.history) (now new) none w.left), w)
-stop_told client f e old new CellsFull b w =
+    (all_done client f e old new (Some NoRoom) b (settling_full (new.limit - length new.history) (state_of new) none) (stopping_full (new.limit - length new.history) (state_of new) none w.left), w)
+has_stopped client f e old new CellsFull b w =
     let some : 0 < new.limit - length new.history = (let r = w.room in omega arith) in (
-      all_done client f e old new (Some NoCells) b (settling_crowded (new.limit - length new.history) (now new) w.what w.left w.crowded)
-          (stopping_crowded (new.limit - length new.history) (now new) w.what some w.left w.crowded),
+      all_done client f e old new (Some NoCells) b (settling_crowded (new.limit - length new.history) (state_of new) w.what w.left w.crowded)
+          (stopping_crowded (new.limit - length new.history) (state_of new) w.what some w.left w.crowded),
       w,
     )
-stop_told client f e old new NoMemory b w = b
+has_stopped client f e old new NoMemory b w = b
 
 -- the counts fit
 filter_cons : {A : Type 0} (b : Bool) (x : A) (xs ys : List A) → length xs ≤ length ys → length (cond b (x ∷ xs) xs) ≤ length (x ∷ ys)
@@ -134,44 +134,44 @@ filter_le : {A : Type 0} (p : A → Bool) (xs : List A) → length (filter p xs)
 filter_le p [] = omega arith
 filter_le p (x ∷ xs) = filter_cons (p x) x (filter p xs) xs (filter_le p xs)
 
-done_fits : (client : ℕ) (old new : Seen) (xs : List What) → new ≡ with_whats old client xs → length xs ≤ length new.history
+done_fits : (client : ℕ) (old new : DeskView) (xs : List What) → new ≡ with_whats old client xs → length xs ≤ length new.history
 done_fits client old new xs e = rw e (omega (arith, with_length client old xs))
 
-pub finished_fits : (client f e : ℕ) (old new : Seen) → HasBegun client old new f e → f ≤ length new.history
+pub finished_fits : (client f e : ℕ) (old new : DeskView) → HasBegun client old new f e → f ≤ length new.history
 finished_fits client f e old new b = omega (arith, done_fits client old new b.done b.grown, filter_le is_finish b.done, b.finished)
 
-pub evaluated_fits : (client f e : ℕ) (old new : Seen) → HasBegun client old new f e → e ≤ length new.history
+pub evaluated_fits : (client f e : ℕ) (old new : DeskView) → HasBegun client old new f e → e ≤ length new.history
 evaluated_fits client f e old new b = omega (arith, done_fits client old new b.done b.grown, filter_le is_install b.done, b.evaluated)
 
 -- the room gets less
-pub less_room : (client f e : ℕ) (old new : Seen) → IsNextEvent client f e old new → new.limit - length new.history < old.limit - length old.history
+pub less_room : (client f e : ℕ) (old new : DeskView) → IsNextEvent client f e old new → new.limit - length new.history < old.limit - length old.history
 less_room client f e old new n = rw n.grown (omega (arith, length-append old.history (event client n.what ∷ []), n.room))
 
-with_limit : (client : ℕ) (d : Seen) (xs : List What) → (with_whats d client xs).limit ≡ d.limit
+with_limit : (client : ℕ) (d : DeskView) (xs : List What) → (with_whats d client xs).limit ≡ d.limit
 with_limit client d [] = refl
-with_limit client d (x ∷ xs) = with_limit client (with_event d (event client x)) xs
+with_limit client d (x ∷ xs) = with_limit client (with_event d client x) xs
 
-pub no_more_room : (client f e : ℕ) (old new : Seen) → HasBegun client old new f e → new.limit - length new.history ≤ old.limit - length old.history
+pub no_more_room : (client f e : ℕ) (old new : DeskView) → HasBegun client old new f e → new.limit - length new.history ≤ old.limit - length old.history
 no_more_room client f e old new b = rw b.grown (omega (arith, with_length client old b.done, with_limit client old b.done))
 
 -- none is out
-pub out_one : (client f e : ℕ) (d new : Seen) → IsNextEvent client f e d new → some_out d.pending ≡ false → some_out new.pending ≡ false
-out_one client f e d new n h = ap (λ (x : Seen). some_out x.pending) n.grown ∙ out_after n.what d.pending h
+pub out_one : (client f e : ℕ) (d new : DeskView) → IsNextEvent client f e d new → some_out d.pending ≡ false → some_out new.pending ≡ false
+out_one client f e d new n h = ap (λ (x : DeskView). some_out x.pending) n.grown ∙ out_after n.what d.pending h
 
-pub out_back : (d : Seen) → some_out (called_back d).pending ≡ false
+pub out_back : (d : DeskView) → some_out (requeued_all d).pending ≡ false
 out_back d = out_recalled d.pending
 
 -- what each part of the call adds
-pub begun_install : (client e : ℕ) (old mid new : Seen) → HasBegun client old mid 0 e → IsNextEvent client 0 1 mid new → HasBegun client old new 0 (e + 1)
+pub begun_install : (client e : ℕ) (old mid new : DeskView) → HasBegun client old mid 0 e → IsNextEvent client 0 1 mid new → HasBegun client old new 0 (e + 1)
 begun_install client e old mid new b n = begun_then client 0 e 0 1 old mid new b (begun_one client 0 1 mid new n)
 
-pub begun_round : (client f e n : ℕ) (old mid new : Seen) → HasBegun client old mid f e → HasBegun client mid new 0 n → HasBegun client old new f (e + n)
+pub begun_round : (client f e n : ℕ) (old mid new : DeskView) → HasBegun client old mid f e → HasBegun client mid new 0 n → HasBegun client old new f (e + n)
 begun_round client f e n old mid new b c = subst (λ (k : ℕ). HasBegun client old new k (e + n)) (add-zero f) (begun_then client f e 0 n old mid new b c)
 
-pub begun_finish : (client f e : ℕ) (old mid new : Seen) → HasBegun client old mid f e → IsNextEvent client 1 0 mid new → HasBegun client old new (f + 1) e
+pub begun_finish : (client f e : ℕ) (old mid new : DeskView) → HasBegun client old mid f e → IsNextEvent client 1 0 mid new → HasBegun client old new (f + 1) e
 begun_finish client f e old mid new b n = subst (λ (k : ℕ). HasBegun client old new (f + 1) k) (add-zero e) (begun_then client f e 1 0 old mid new b (begun_one client 1 0 mid new n))
 
-pub less_after : (client n f e : ℕ) (old mid new : Seen) → HasBegun client old mid 0 n → IsNextEvent client f e mid new → new.limit - length new.history < old.limit - length old.history
+pub less_after : (client n f e : ℕ) (old mid new : DeskView) → HasBegun client old mid 0 n → IsNextEvent client f e mid new → new.limit - length new.history < old.limit - length old.history
 less_after client n f e old mid new b x =
     let a : mid.limit - length mid.history ≤ old.limit - length old.history = no_more_room client 0 n old mid b in
     let c : new.limit - length new.history < mid.limit - length mid.history = less_room client f e mid new x in
@@ -216,6 +216,3 @@ all_block s v d e = λ t w f.
 
 pub nothing_next : (s : Slow) → lowest is_due s.waiters ≡ None → lowest (can_end s.store) s.waiters ≡ None → next_what s ≡ None
 nothing_next s d e = rw (d, e) refl
-
-pub is_settled : (d : Seen) → lowest is_due (now d).waiters ≡ None → lowest (can_end (now d).store) (now d).waiters ≡ None → IsSettled d
-is_settled d e f = record { none_due = e; none_ends = f; nothing_next = nothing_next (now d) e f }

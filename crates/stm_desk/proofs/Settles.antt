@@ -6,7 +6,7 @@ use Rattle.stm_events.specs.declared.event.What.{What}
 use Rattle.stm_events.specs.declared.event.What.TheVariants.{Submitted, Installed, Finished, Cancelled}
 use Rattle.stm_machine.specs.SettleChoices.{some_out}
 use Rattle.stm_machine.specs.QueueAndIndex.{with_tickets}
-use Rattle.stm_desk.specs.Seen.{pending_after}
+use Rattle.stm_desk.specs.DeskView.{pending_after}
 
 -- ---- no ticket is out
 with_step : (b : Bool) (t : ℕ) (e : Entry) (es fs : List Entry) → some_out fs ≡ some_out es → some_out (cond b ((t, false) ∷ e ∷ es) (e ∷ fs)) ≡ some_out (e ∷ es)

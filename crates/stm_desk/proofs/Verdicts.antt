@@ -10,11 +10,11 @@ use Rattle.stm_events.specs.Laws.{AreRising, SubmittedAreWellTyped}
 use Rattle.stm_events.specs.Rounds as rounds
 use Rattle.stm_events.proofs.Rounds.{settling_is_rounds}
 use Rattle.stm_events.proofs.TypedStores.{waiting_are_well_typed, blocks_have_verdicts}
-use Rattle.stm_desk.specs.Seen.{Seen, now, AllHaveVerdicts, SettlesInRounds}
+use Rattle.stm_desk.specs.DeskView.{DeskView, state_of, AllHaveVerdicts, SettlesInRounds}
 use Rattle.stm_machine.proofs.Ready.{waits_above}
 use Rattle.stm_desk.proofs.Turns.{rising_now}
 
-pub have_verdicts : (d : Seen) → IsLegal d.table d.history → SubmittedAreWellTyped d.history → StoreIsTyped (plains (now d).store) → AllHaveVerdicts (now d)
+pub have_verdicts : (d : DeskView) → IsLegal d.table d.history → SubmittedAreWellTyped d.history → StoreIsTyped (plains (state_of d).store) → AllHaveVerdicts (state_of d)
 have_verdicts d legal typed store = λ t w f.
     let b = waiting_are_well_typed Changed d.table d.history t w typed f in
     let v = blocks_have_verdicts Changed d.table d.history t w b.0 legal store f b.1 in
@@ -35,6 +35,6 @@ listed n k store (w ∷ ws) r each = (
   listed n w.ticket store ws r.2 (λ t x f. each t x (rw (unlike t w.ticket (waits_above n w.ticket t ws x r.2 f)) f)),
 )
 
-pub settles_in_rounds : (d : Seen) → IsLegal d.table d.history → AllHaveVerdicts (now d) → SettlesInRounds (now d)
+pub settles_in_rounds : (d : DeskView) → IsLegal d.table d.history → AllHaveVerdicts (state_of d) → SettlesInRounds (state_of d)
 settles_in_rounds d legal have = λ room.
-    let r = rising_now d legal in settling_is_rounds room (now d) r (listed (now d).next 0 (now d).store (now d).waiters r have)
+    let r = rising_now d legal in settling_is_rounds room (state_of d) r (listed (state_of d).next 0 (state_of d).store (state_of d).waiters r have)

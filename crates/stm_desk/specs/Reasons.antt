@@ -9,12 +9,13 @@ use Rattle.stm_store.specs.declared.cell.Cell.{Cell}
 use Rattle.stm_events.specs.declared.event.Event.{Event}
 use Rattle.stm_events.specs.declared.event.What.{What}
 use Rattle.stm_events.specs.declared.event.What.TheVariants.{Submitted, Installed, Finished, Cancelled}
+use Rattle.stm_events.specs.declared.staleness.StalenessRule.TheVariants.{Changed}
 use Rattle.stm_events.specs.BlockStatus.{read_now}
 use Rattle.stm_events.specs.Headline.{installs_to, is_installed}
 use Rattle.stm_events.specs.SlowDesk.{Since, Slow, Waiter, after, find_waiter, initial_state, is_stale_since, under}
 use Rattle.stm_events.specs.SlowSettle.{can_end}
 use Rattle.stm_desk.specs.declared.reason.Change.{Change}
-use Rattle.stm_desk.specs.Seen.{Seen, now}
+use Rattle.stm_desk.specs.DeskView.{DeskView, state_of}
 
 -- the change of a variable from the value that was read to the one that it has, if that is another one
 abbrev pub change_to : ℕ → Value → Option Value → List Change
@@ -73,18 +74,18 @@ abbrev pub current_reason : List Cell → Waiter → WaitReason
 current_reason store w = if can_end store w then CanFinish else Waits (read_now store w)
 
 -- what a block waits for, by its last delivery
-abbrev pub reason_since : Seen → Waiter → Option Since → Option WaitReason
+abbrev pub reason_since : DeskView → Waiter → Option Since → Option WaitReason
 reason_since d w None = Some NotEvaluated
 reason_since d w (Some s) =
     if is_stale_since w.block s
-    then option_map IsStale (cause_since_delivery w.ticket (reads_of (under s.store_then) w.block.tree) (initial_state d.table) d.history)
-    else Some (current_reason (now d).store w)
+    then option_map IsStale (cause_since_delivery w.ticket (reads_of (under s.store_then) w.block.tree) (initial_state Changed d.table) d.history)
+    else Some (current_reason (state_of d).store w)
 
 -- what a waiting block waits for, if there is one
-abbrev pub reason_of_waiter : Seen → Option Waiter → Option WaitReason
+abbrev pub reason_of_waiter : DeskView → Option Waiter → Option WaitReason
 reason_of_waiter d None = None
 reason_of_waiter d (Some w) = reason_since d w w.since
 
 -- what the block under a ticket waits for
-unfoldable pub reason_of : Seen → ℕ → Option WaitReason
-reason_of d t = reason_of_waiter d (find_waiter t (now d).waiters)
+unfoldable pub reason_of : DeskView → ℕ → Option WaitReason
+reason_of d t = reason_of_waiter d (find_waiter t (state_of d).waiters)

@@ -1,39 +1,29 @@
 -- One step of settling, and why it can't be made.
 use Rattle.std.specs.Prelude.{◌≡◌, ℕ, ◌<◌, true, [], ◌∷◌, length, Some}
-use Rattle.stm_terms.specs.declared.verdicts.Verdict.{Verdict}
 use Rattle.stm_events.specs.declared.event.What.{What}
-use Rattle.stm_events.specs.SlowDesk.{Waiter, Slow, verdict_on}
-use Rattle.stm_events.specs.SlowSettle.{lowest, is_due, next_what, has_cells, finishes, installs}
-use Rattle.stm_machine.specs.Machine.{event}
+use Rattle.stm_events.specs.SlowSettle.{next_what, has_cells, finishes, installs}
 use Rattle.stm_events.specs.declared.errors.FinishError.{FinishError}
 use Rattle.stm_events.specs.declared.errors.FinishError.TheVariants as finish
 use Rattle.stm_desk.specs.declared.errors.SettleWhy.{SettleWhy}
 use Rattle.stm_desk.specs.declared.errors.SettleWhy.TheVariants.{HistoryFull, CellsFull, NoMemory}
-use Rattle.stm_desk.specs.Seen.{Seen, now, with_event}
+use Rattle.stm_desk.specs.DeskView.{DeskView, state_of, with_event}
 use Rattle.stm_desk.specs.Settling.{IsFull, IsCrowded}
 
--- the verdict on the present store of the lowest block that is new or stale
-pub record IsDueVerdict (s : Slow) (t : ℕ) (v : Verdict) : Type 0 where
-  pub one : Waiter
-  pub first : lowest is_due s.waiters ≡ Some one
-  pub same : t ≡ one.ticket
-  pub verdict : verdict_on s.store one.block ≡ Some v
-
 -- one event more, the next one of settling
-pub record IsNextEvent (client f e : ℕ) (old new : Seen) : Type 0 where
+pub record IsNextEvent (client f e : ℕ) (old new : DeskView) : Type 0 where
   pub what : What
-  pub next : next_what (now old) ≡ Some what
-  pub fits : has_cells (now old) what ≡ true
-  pub grown : new ≡ with_event old (event client what)
+  pub next : next_what (state_of old) ≡ Some what
+  pub fits : has_cells (state_of old) what ≡ true
+  pub grown : new ≡ with_event old client what
   pub room : length old.history < old.limit
   pub finishing : finishes (what ∷ []) ≡ f
   pub evaluating : installs (what ∷ []) ≡ e
 
 -- why settling can't go on
-abbrev pub WhyTold : SettleWhy → Seen → Type 0
-WhyTold HistoryFull d = IsFull d
-WhyTold CellsFull d = IsCrowded d
-WhyTold NoMemory d = Unit {0}
+abbrev pub StopsFor : SettleWhy → DeskView → Type 0
+StopsFor HistoryFull d = IsFull d
+StopsFor CellsFull d = IsCrowded d
+StopsFor NoMemory d = Unit {0}
 
 -- the refusals of a finish that settling can meet
 abbrev pub StopsFinish : FinishError → Type 0

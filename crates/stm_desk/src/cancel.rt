@@ -1,39 +1,55 @@
 //! A block that is to wait no more.
 
-ghost use Rattle.std.specs.Prelude.{◌≡◌, ◌<◌, OnOk, OnErr};
-ghost use Rattle.stm_events.specs.SlowDesk.{IsLegal, max_clients};
-ghost use Rattle.stm_events.specs.declared.event.What.{What as AnyWhat};
-ghost use Rattle.stm_machine.specs.Machine.{event};
-ghost use Rattle.stm_events.specs.Refusals.{cancel_told};
-ghost use Rattle.stm_desk.specs.Seen.{with_event};
+ghost use Rattle.std.specs.Prelude.{◌≡◌, ◌<◌, false, OnOk, OnErr};
+ghost use Rattle.stm_terms.specs.UnlessNoMemory.{RefusedAs};
+ghost use Rattle.stm_events.specs.SlowDesk.{max_clients};
+ghost use Rattle.stm_events.specs.declared.event.What.TheVariants.{Cancelled};
+ghost use Rattle.stm_desk.specs.DeskView.{is_full, with_event};
+ghost use Rattle.stm_desk.specs.Limit.{limited_cancel};
 ghost use Rattle.stm_desk.specs.Refusals.{cancel_refusal};
 
 use crate::desk::Desk;
 use stm_events::{CancelError, Event, What};
 
+/// The desk's answer by the machine's, which knows no limit of events.
+fn limit_cancel(full: bool, answer: Result<(), CancelError>) -> Result<(), CancelError>
+    ensures { result ≡ limited_cancel full answer }
+{
+    if !full {
+        return answer;
+    }
+    match answer {
+        Ok(()) | Err(CancelError::HistoryFull | CancelError::NoMemory) => {
+            Err(CancelError::HistoryFull)
+        }
+        Err(CancelError::NoTicket) => Err(CancelError::NoTicket),
+    }
+}
+
 impl Desk {
-    /// Why the block can't be cancelled, an out-of-memory error aside.
+    /// Why the block can't be cancelled.
     fn may_cancel(&self, ticket: u32) -> Result<(), CancelError>
-        ensures { cancel_told result ≡ cancel_refusal self.now ticket }
+        ensures refused { RefusedAs CancelError.NoMemory (cancel_refusal self.now ticket) result }
+        ensures room { OnOk result (is_full self.now ≡ false) }
     {
-        self.machine.may_leave(ticket, self.is_full())
+        limit_cancel(self.is_full(), self.machine.may_cancel(ticket))
     }
 
     /// The block waits no more. The caller's number is below 128.
     pub fn cancel(&mut self, client: u32, ticket: u32) -> Result<(), CancelError>
         requires { client < max_clients }
-        ensures done { OnOk result (self.new
-            ≡ with_event self.old (event client (AnyWhat.Cancelled ticket))) }
-        ensures told { cancel_told result ≡ cancel_refusal self.old ticket }
-        ensures err { OnErr result (self.new ≡ self.old) }
-        ensures legal { IsLegal self.new.table self.new.history }
+        // Accepted: one more event, the cancellation of this ticket.
+        ensures accepted { OnOk result (self.new ≡ with_event self.old client (Cancelled ticket)) }
+        // Refused for the first reason that holds, or for lack of memory if none does.
+        ensures refused { RefusedAs CancelError.NoMemory (cancel_refusal self.old ticket) result }
+        ensures unchanged { OnErr result (self.new ≡ self.old) }
     {
         match self.may_cancel(ticket) {
             Ok(()) => {}
             Err(refusal) => return Err(refusal),
         }
         self.history.reserve(1)?;
-        self.machine.leave(ticket);
+        self.machine.cancel(ticket);
         self.history.push_reserved(Event {
             client,
             what: What::Cancelled { ticket },

@@ -1,57 +1,70 @@
 //! A message of an evaluator.
 
-ghost use Rattle.std.specs.Prelude.{◌≡◌, ◌<◌, None, IfOk, OnOk, IfErr, OnErr, IsSomeAnd};
-ghost use Rattle.stm_events.specs.SlowDesk.{IsLegal, find_waiter, max_clients};
-ghost use Rattle.stm_events.specs.declared.event.What.{What as AnyWhat};
-ghost use Rattle.stm_machine.specs.Machine.{event};
-ghost use Rattle.stm_events.specs.Refusals.{install_told, deliver_told};
-ghost use Rattle.stm_eval.specs.EvaluatedFields.{message_ticket, message_block, message_reads, message_verdict};
-ghost use Rattle.stm_desk.specs.Seen.{now, with_event};
-ghost use Rattle.stm_desk.specs.Refusals.{TellsDeskDelivery, left_by};
+ghost use Rattle.std.specs.Prelude.{◌≡◌, ◌<◌, false, OnOk, IfErr, OnErr};
+ghost use Rattle.stm_events.specs.SlowDesk.{max_clients};
+ghost use Rattle.stm_eval.specs.EvaluatedFields.{message_ticket};
+ghost use Rattle.stm_events.specs.Refusals.{without_message};
+ghost use Rattle.stm_machine.specs.Machine.{MayDeliver};
+ghost use Rattle.stm_desk.specs.DeskView.{state_of, is_full, with_event};
+ghost use Rattle.stm_desk.specs.Events.{installation_of};
+ghost use Rattle.stm_desk.specs.Limit.{limited_delivery};
+ghost use Rattle.stm_desk.specs.Refusals.{RefusesDelivery, requeued_if_overtaken};
 
 use crate::desk::Desk;
 use stm_eval::Evaluated;
 use stm_events::{DeliverError, Event, What};
 use stm_terms::NoMemory;
 
+/// The desk's answer by the machine's, which knows no limit of events.
+fn limit_delivery(full: bool, answer: Result<(), DeliverError>) -> Result<(), DeliverError>
+    ensures { result ≡ limited_delivery full answer }
+{
+    if !full {
+        return answer;
+    }
+    match answer {
+        Ok(()) | Err(DeliverError::HistoryFull | DeliverError::NoMemory) => {
+            Err(DeliverError::HistoryFull)
+        }
+        Err(DeliverError::Gone) => Err(DeliverError::Gone),
+        Err(DeliverError::OtherBlock) => Err(DeliverError::OtherBlock),
+        Err(DeliverError::Already) => Err(DeliverError::Already),
+        Err(DeliverError::Overtaken(number)) => Err(DeliverError::Overtaken(number)),
+    }
+}
+
 impl Desk {
-    /// Why the message can't be installed, an out-of-memory error aside.
-    fn may_install(&self, message: &Evaluated) -> Result<(), DeliverError>
-        ensures told { TellsDeskDelivery (install_told result) self.now (message_ticket message.now)
-            (message_block message.now) (message_reads message.now) }
-        ensures same { OnOk result
-            (IsSomeAnd (find_waiter (message_ticket message.now) (now self.now).waiters)
-            (λ w. w.block.tree ≡ (message_block message.now).tree)) }
+    /// Why the message can't be delivered.
+    fn may_deliver(&self, message: &Evaluated) -> Result<(), DeliverError>
+        ensures refused { RefusesDelivery result self.now message.now }
+        ensures allowed { OnOk result (MayDeliver (state_of self.now) message.now) }
+        ensures room { OnOk result (is_full self.now ≡ false) }
     {
-        self.machine.may_install(message, self.is_full())
+        limit_delivery(self.is_full(), self.machine.may_deliver(message))
     }
 
-    /// Installs a message that nothing refuses. An out-of-memory error hands the message back.
+    /// Delivers a message that nothing refuses. An out-of-memory error hands the message back.
     // A message is moved by value; a call that isn't inlined copies it.
     #[inline(always)]
-    pub(crate) fn install_allowed(
+    fn deliver_allowed(
         &mut self,
         client: u32,
         message: Evaluated,
     ) -> Result<(), (Evaluated, NoMemory)>
         requires client { client < max_clients }
-        requires allowed { TellsDeskDelivery None self.old (message_ticket message)
-            (message_block message) (message_reads message) }
-        requires same { IsSomeAnd (find_waiter (message_ticket message) (now self.old).waiters)
-            (λ w. w.block.tree ≡ (message_block message).tree) }
-        ensures done { OnOk result (self.new
-            ≡ with_event self.old (event client
-            (AnyWhat.Installed (message_ticket message) (message_verdict message)))) }
+        requires allowed { MayDeliver (state_of self.old) message }
+        requires room { is_full self.old ≡ false }
+        ensures accepted { OnOk result
+            (self.new ≡ with_event self.old client (installation_of message)) }
         ensures back { IfErr result (λ e. e.0 ≡ message) }
-        ensures err { OnErr result (self.new ≡ self.old) }
-        ensures legal { IsLegal self.new.table self.new.history }
+        ensures unchanged { OnErr result (self.new ≡ self.old) }
     {
         match self.history.reserve(1) {
             Ok(()) => {}
             Err(refused) => return Err((message, refused)),
         }
         let ticket = message.ticket();
-        match self.machine.install(message) {
+        match self.machine.deliver(message) {
             Ok(verdict) => {
                 self.history.push_reserved(Event {
                     client,
@@ -63,31 +76,31 @@ impl Desk {
         }
     }
 
-    /// Installs a message, wherever and whenever it was made: its block is current from then on. The caller's number is
-    /// below 128. A refusal hands the message back; after `Overtaken` the ticket is queued.
+    /// Installs the verdict of a message, wherever and whenever it was made: its block is current from then on. The caller's
+    /// number is below 128. A refusal hands the message back; after `Overtaken` the ticket is queued.
     pub fn deliver(
         &mut self,
         client: u32,
         message: Evaluated,
     ) -> Result<(), (Evaluated, DeliverError)>
         requires { client < max_clients }
-        ensures done { OnOk result (self.new
-            ≡ with_event self.old (event client
-            (AnyWhat.Installed (message_ticket message) (message_verdict message)))) }
-        ensures told { TellsDeskDelivery (deliver_told result) self.old (message_ticket message)
-            (message_block message) (message_reads message) }
+        // Accepted: one more event, the installation of the message's verdict.
+        ensures accepted { OnOk result
+            (self.new ≡ with_event self.old client (installation_of message)) }
+        // Refused for the first reason that holds, or for lack of memory if none does; the message comes back.
+        ensures refused { RefusesDelivery (without_message result) self.old message }
         ensures back { IfErr result (λ e. e.0 ≡ message) }
-        ensures err { IfErr result (λ e. self.new ≡ left_by e.1 (message_ticket message) self.old) }
-        ensures legal { IsLegal self.new.table self.new.history }
+        ensures unchanged { IfErr result (λ e.
+            self.new ≡ requeued_if_overtaken e.1 (message_ticket message) self.old) }
     {
-        match self.may_install(&message) {
+        match self.may_deliver(&message) {
             Ok(()) => {}
             Err(refusal) => {
                 self.machine.after_refusal(refusal, message.ticket());
                 return Err((message, refusal));
             }
         }
-        match self.install_allowed(client, message) {
+        match self.deliver_allowed(client, message) {
             Ok(()) => Ok(()),
             Err((message, _)) => Err((message, DeliverError::NoMemory)),
         }

@@ -2,11 +2,11 @@
 
 ghost use Rattle.std.specs.Prelude.{◌≡◌, ◌≤◌, [], IfOk};
 ghost use Rattle.stm_events.specs.SlowDesk.{max_events as most_events};
-ghost use Rattle.stm_desk.specs.Seen.{is_full};
+ghost use Rattle.stm_desk.specs.DeskView.{is_full};
 
 use std::alloc::Global;
 use std::marker::Model;
-use stm_events::Event;
+use stm_events::{Event, StalenessRule};
 use stm_machine::Machine;
 use stm_store::Table;
 use stm_terms::NoMemory;
@@ -35,10 +35,10 @@ impl Drop for Desk {
 impl Model for Desk {
     ghost use Rattle.std.specs.Coded.{codes};
     ghost use Rattle.stm_terms.specs.TreeEncoding.{act_code};
-    ghost use Rattle.stm_desk.specs.Seen.{Seen};
+    ghost use Rattle.stm_desk.specs.DeskView.{DeskView};
     ghost use Rattle.stm_desk.specs.Kept.{DeskInvariant};
 
-    ghost Value = { Seen };
+    ghost Value = { DeskView };
 
     ghost coded = { Prim.hlevel (codes, act_code) };
 
@@ -67,7 +67,7 @@ impl Desk {
         ensures history { IfOk result (λ d. d.history ≡ []) }
         ensures pending { IfOk result (λ d. d.pending ≡ []) }
     {
-        let machine = Machine::open(alloc, table)?;
+        let machine = Machine::open(alloc, StalenessRule::Changed, table)?;
         let table = table.copy(alloc)?;
         Ok(Desk {
             table,

@@ -4,12 +4,11 @@ ghost use Rattle.std.specs.Prelude.{◌≡◌, ◌<◌, ◌≤◌, true, false, 
 ghost use Rattle.stm_store.specs.Cells.{plains};
 ghost use Rattle.stm_queue.specs.Queue.{queued, tickets};
 ghost use Rattle.stm_queue.specs.SortedTickets.{IsRising};
-ghost use Rattle.stm_events.specs.SlowDesk.{IsLegal, find_waiter, max_clients};
-ghost use Rattle.stm_events.specs.declared.event.What.{What as AnyWhat};
+ghost use Rattle.stm_events.specs.SlowDesk.{find_waiter, max_clients};
+ghost use Rattle.stm_events.specs.declared.event.What.TheVariants.{Installed};
 ghost use Rattle.stm_machine.specs.Keeping.{IsVerdictUnder};
-ghost use Rattle.stm_machine.specs.Machine.{event};
 ghost use Rattle.stm_machine.specs.QueueAndIndex.{due_of};
-ghost use Rattle.stm_desk.specs.Seen.{now, is_full, with_event};
+ghost use Rattle.stm_desk.specs.DeskView.{state_of, is_full, with_event};
 
 use crate::desk::Desk;
 use stm_eval::Scratch;
@@ -31,9 +30,8 @@ impl Desk {
     /// The lowest queued ticket, whether or not others are out. Its block is new or stale.
     fn next_queued(&self) -> Option<u32>
         ensures first { result ≡ slice_get (queued self.now.pending) 0 }
-        ensures due { IfSome result (λ t. due_of (find_waiter t (now self.now).waiters) ≡ true) }
+        ensures due { IfSome result (λ t. due_of (find_waiter t (state_of self.now).waiters) ≡ true) }
         ensures rising { IsRising (tickets self.now.pending) }
-        ensures legal { IsLegal self.now.table self.now.history }
     {
         self.machine.next_queued()
     }
@@ -45,10 +43,9 @@ impl Desk {
         frozen: &Frozen,
         ticket: u32,
     ) -> Result<Verdict, NoMemory>
-        requires due { due_of (find_waiter ticket (now self.now).waiters) ≡ true }
-        requires store { frozen.now ≡ plains (now self.now).store }
-        ensures verdict { IfOk result (λ v. IsVerdictUnder (now self.now) ticket v scratch.new) }
-        ensures legal { IsLegal self.now.table self.now.history }
+        requires due { due_of (find_waiter ticket (state_of self.now).waiters) ≡ true }
+        requires store { frozen.now ≡ plains (state_of self.now).store }
+        ensures verdict { IfOk result (λ v. IsVerdictUnder (state_of self.now) ticket v scratch.new) }
         ensures few { length self.now.history ≤ self.now.limit }
     {
         self.machine.verdict_in(scratch, frozen, ticket)
@@ -64,12 +61,11 @@ impl Desk {
     ) -> Result<(), NoMemory>
         requires client { client < max_clients }
         requires room { is_full self.old ≡ false }
-        requires due { due_of (find_waiter ticket (now self.old).waiters) ≡ true }
-        requires verdict { IsVerdictUnder (now self.old) ticket verdict scratch.now }
-        ensures done { OnOk result (self.new
-            ≡ with_event self.old (event client (AnyWhat.Installed ticket verdict))) }
-        ensures err { OnErr result (self.new ≡ self.old) }
-        ensures legal { IsLegal self.new.table self.new.history }
+        requires due { due_of (find_waiter ticket (state_of self.old).waiters) ≡ true }
+        requires verdict { IsVerdictUnder (state_of self.old) ticket verdict scratch.now }
+        ensures accepted { OnOk result
+            (self.new ≡ with_event self.old client (Installed ticket verdict)) }
+        ensures unchanged { OnErr result (self.new ≡ self.old) }
     {
         self.history.reserve(1)?;
         let verdict = self.machine.keep(ticket, verdict, scratch)?;
@@ -92,13 +88,12 @@ impl Desk {
         requires room { is_full self.old ≡ false }
         requires first { slice_get (queued self.old.pending) 0 ≡ Some ticket }
         requires rising { IsRising (tickets self.old.pending) }
-        requires due { due_of (find_waiter ticket (now self.old).waiters) ≡ true }
-        requires store { frozen.now ≡ plains (now self.old).store }
+        requires due { due_of (find_waiter ticket (state_of self.old).waiters) ≡ true }
+        requires store { frozen.now ≡ plains (state_of self.old).store }
         ensures done { OnOk result (self.new ≡ with_evaluated self.old client ticket) }
         ensures rest { OnOk result (queued self.new.pending ≡ drop 1 (queued self.old.pending)) }
-        ensures store { (now self.new).store ≡ (now self.old).store }
-        ensures err { OnErr result (self.new ≡ self.old) }
-        ensures legal { IsLegal self.new.table self.new.history }
+        ensures store { (state_of self.new).store ≡ (state_of self.old).store }
+        ensures unchanged { OnErr result (self.new ≡ self.old) }
     {
         match self.verdict_due(scratch, frozen, ticket) {
             Ok(verdict) => self.keep_verdict(client, ticket, verdict, scratch),
@@ -115,14 +110,12 @@ impl Desk {
         n: u32,
     ) -> Result<Evaluation, NoMemory>
         requires client { client < max_clients }
-        requires store { frozen.now ≡ plains (now self.old).store }
-        requires legal { IsLegal self.old.table self.old.history }
+        requires store { frozen.now ≡ plains (state_of self.old).store }
         ensures done { IfOk result (λ e.
             evaluated_by_call self.new e ≡ evaluate_lowest self.old client n) }
         ensures few { IfOk result (λ e. e.count ≤ n) }
-        ensures err { OnErr result (HasEvaluatedSome client n self.old self.new) }
-        ensures store { (now self.new).store ≡ (now self.old).store }
-        ensures legal { IsLegal self.new.table self.new.history }
+        ensures stopped { OnErr result (HasEvaluatedSome client n self.old self.new) }
+        ensures store { (state_of self.new).store ≡ (state_of self.old).store }
     {
         for count in 0..n {
             let ticket = match self.next_queued() {
@@ -151,9 +144,8 @@ impl Desk {
         ensures done { IfOk result (λ e.
             evaluated_by_call self.new e ≡ evaluate_lowest self.old client n) }
         ensures few { IfOk result (λ e. e.count ≤ n) }
-        ensures err { OnErr result (HasEvaluatedSome client n self.old self.new) }
-        ensures store { (now self.new).store ≡ (now self.old).store }
-        ensures legal { IsLegal self.new.table self.new.history }
+        ensures stopped { OnErr result (HasEvaluatedSome client n self.old self.new) }
+        ensures store { (state_of self.new).store ≡ (state_of self.old).store }
     {
         if self.next_queued().is_none() {
             return Ok(Evaluation {

@@ -1,17 +1,19 @@
 //! A block that is to take effect.
 
-ghost use Rattle.std.specs.Prelude.{◌≡◌, ◌++◌, ◌∷◌, [], ◌<◌, IfOk, OnOk, OnErr, vec_len, vec_capacity};
+ghost use Rattle.std.specs.Prelude.{◌≡◌, ◌++◌, ◌∷◌, [], ◌<◌, false, IfOk, OnOk, OnErr, vec_len, vec_capacity};
+ghost use Rattle.stm_terms.specs.UnlessNoMemory.{RefusedAs};
 ghost use Rattle.stm_store.specs.Cells.{applied_answer as told_of};
-ghost use Rattle.stm_events.specs.SlowDesk.{IsLegal, max_clients};
-ghost use Rattle.stm_events.specs.declared.event.What.{What as AnyWhat};
+ghost use Rattle.stm_events.specs.SlowDesk.{max_clients};
+ghost use Rattle.stm_events.specs.declared.event.What.TheVariants.{Finished};
 ghost use Rattle.stm_machine.specs.Machine.{event};
 ghost use Rattle.stm_machine.specs.Plans.{IsPlan};
-ghost use Rattle.stm_events.specs.Refusals.{finish_told};
-ghost use Rattle.stm_desk.specs.Seen.{now, with_event};
+ghost use Rattle.stm_desk.specs.DeskView.{state_of, is_full, with_event};
+ghost use Rattle.stm_desk.specs.Events.{finish_of};
+ghost use Rattle.stm_desk.specs.Limit.{limited_plan};
 ghost use Rattle.stm_desk.specs.Refusals.{finish_refusal};
 
 use crate::desk::Desk;
-use stm_events::{Event, FinishError, SharedVerdict, StalenessRule, Tickets, What};
+use stm_events::{Event, FinishError, SharedVerdict, Tickets, What};
 use stm_machine::Plan;
 use stm_store::Applied;
 use stm_terms::NoMemory;
@@ -25,6 +27,24 @@ pub struct Finish {
     pub stale: Tickets,
 }
 
+/// The desk's answer by the machine's, which knows no limit of events. A full history comes before a full store.
+fn limit_plan(full: bool, answer: Result<Plan, FinishError>) -> Result<Plan, FinishError>
+    ensures { result ≡ limited_plan full answer }
+{
+    if !full {
+        return answer;
+    }
+    match answer {
+        Ok(_) | Err(FinishError::HistoryFull | FinishError::CellsFull | FinishError::NoMemory) => {
+            Err(FinishError::HistoryFull)
+        }
+        Err(FinishError::NoTicket) => Err(FinishError::NoTicket),
+        Err(FinishError::NotEvaluated) => Err(FinishError::NotEvaluated),
+        Err(FinishError::Stale) => Err(FinishError::Stale),
+        Err(FinishError::Blocks) => Err(FinishError::Blocks),
+    }
+}
+
 /// The event of a finish by its plan, and room for it in a list of events.
 fn finished_event(
     events: &mut Vec<Event>,
@@ -33,7 +53,7 @@ fn finished_event(
     plan: &Plan,
 ) -> Result<Event, NoMemory>
     ensures event { IfOk result (λ e. e ≡ event client
-        (AnyWhat.Finished ticket plan.now.verdict plan.now.first_new plan.now.stale)) }
+        (Finished ticket plan.now.verdict plan.now.first_new plan.now.stale)) }
     ensures items { events.new.items ≡ events.old.items }
     ensures room { OnOk result (vec_len events.new < vec_capacity events.new) }
 {
@@ -50,7 +70,7 @@ fn finished_event(
 }
 
 /// What a finish did by its plan.
-fn finish_of(plan: Plan, applied: Applied) -> Finish
+fn finish_by(plan: Plan, applied: Applied) -> Finish
     ensures verdict { result.verdict ≡ plan.verdict }
     ensures applied { result.applied ≡ applied }
     ensures stale { result.stale ≡ plan.stale }
@@ -70,28 +90,25 @@ fn finish_of(plan: Plan, applied: Applied) -> Finish
 impl Desk {
     /// Why the block can't be finished, or what its finish is to do.
     fn plan(&self, ticket: u32) -> Result<Plan, FinishError>
-        ensures told { finish_told result ≡ finish_refusal self.now ticket }
+        ensures refused { RefusedAs FinishError.NoMemory (finish_refusal self.now ticket) result }
         ensures plan { IfOk result (λ p.
-            IsPlan (now self.now) ticket p.verdict p.first_new p.stale) }
-        ensures legal { IsLegal self.now.table self.now.history }
+            IsPlan (state_of self.now) ticket p.verdict p.first_new p.stale) }
+        ensures room { OnOk result (is_full self.now ≡ false) }
     {
-        self.machine
-            .plan(ticket, self.is_full(), StalenessRule::Changed)
+        limit_plan(self.is_full(), self.machine.plan(ticket))
     }
 
-    /// The finish by its plan: its event joins the history. The answer is what applying the verdict did. All memory is taken
+    /// The finish by its plan: its event joins the history. The result is what applying the verdict did. All memory is taken
     /// before the first change.
     fn apply_plan(&mut self, client: u32, ticket: u32, plan: &Plan) -> Result<Applied, NoMemory>
         requires client { client < max_clients }
-        requires allowed { finish_refusal self.old ticket ≡ None }
-        requires plan { IsPlan (now self.old) ticket
+        requires room { is_full self.old ≡ false }
+        requires plan { IsPlan (state_of self.old) ticket
             plan.now.verdict plan.now.first_new plan.now.stale }
-        ensures done { OnOk result (self.new
-            ≡ with_event self.old (event client
-            (AnyWhat.Finished ticket plan.now.verdict plan.now.first_new plan.now.stale))) }
-        ensures applied { IfOk result (λ a. a ≡ told_of (now self.old).store plan.now.verdict) }
-        ensures err { OnErr result (self.new ≡ self.old) }
-        ensures legal { IsLegal self.new.table self.new.history }
+        ensures accepted { OnOk result (self.new ≡ with_event self.old client
+            (Finished ticket plan.now.verdict plan.now.first_new plan.now.stale)) }
+        ensures applied { IfOk result (λ a. a ≡ told_of (state_of self.old).store plan.now.verdict) }
+        ensures unchanged { OnErr result (self.new ≡ self.old) }
     {
         let event = finished_event(&mut self.history, client, ticket, plan)?;
         let applied = self.machine.finish(ticket, plan)?;
@@ -108,19 +125,16 @@ impl Desk {
         own: &mut Vec<Event>,
     ) -> Result<Applied, NoMemory>
         requires client { client < max_clients }
-        requires allowed { finish_refusal self.old ticket ≡ None }
-        requires plan { IsPlan (now self.old) ticket
+        requires room { is_full self.old ≡ false }
+        requires plan { IsPlan (state_of self.old) ticket
             plan.now.verdict plan.now.first_new plan.now.stale }
-        requires legal { IsLegal self.old.table self.old.history }
-        ensures done { OnOk result (self.new
-            ≡ with_event self.old (event client
-            (AnyWhat.Finished ticket plan.now.verdict plan.now.first_new plan.now.stale))) }
+        ensures accepted { OnOk result (self.new ≡ with_event self.old client
+            (Finished ticket plan.now.verdict plan.now.first_new plan.now.stale)) }
         ensures noted { OnOk result (own.new.items
             ≡ own.old.items ++ event client
-            (AnyWhat.Finished ticket plan.now.verdict plan.now.first_new plan.now.stale) ∷ []) }
-        ensures applied { IfOk result (λ a. a ≡ told_of (now self.old).store plan.now.verdict) }
-        ensures err { OnErr result ((self.new ≡ self.old) × (own.new.items ≡ own.old.items)) }
-        ensures legal { IsLegal self.new.table self.new.history }
+            (Finished ticket plan.now.verdict plan.now.first_new plan.now.stale) ∷ []) }
+        ensures applied { IfOk result (λ a. a ≡ told_of (state_of self.old).store plan.now.verdict) }
+        ensures unchanged { OnErr result ((self.new ≡ self.old) × (own.new.items ≡ own.old.items)) }
     {
         let noted = finished_event(own, client, ticket, plan)?;
         let applied = self.apply_plan(client, ticket, plan)?;
@@ -137,25 +151,23 @@ impl Desk {
         own: &mut Vec<Event>,
     ) -> Result<Finish, FinishError>
         requires { client < max_clients }
-        ensures done { IfOk result (λ f. self.new
-            ≡ with_event self.old
-            (event client (AnyWhat.Finished ticket f.verdict f.applied.first_new f.stale))) }
+        // Accepted: one more event, the finish of this ticket, here and in the client's list.
+        ensures accepted { IfOk result (λ f. self.new ≡ with_event self.old client (finish_of ticket f)) }
         ensures noted { IfOk result (λ f. own.new.items
-            ≡ own.old.items
-            ++ event client (AnyWhat.Finished ticket f.verdict f.applied.first_new f.stale) ∷ []) }
+            ≡ own.old.items ++ event client (finish_of ticket f) ∷ []) }
         ensures plan { IfOk result (λ f.
-            IsPlan (now self.old) ticket f.verdict f.applied.first_new f.stale) }
-        ensures applied { IfOk result (λ f. f.applied ≡ told_of (now self.old).store f.verdict) }
-        ensures told { finish_told result ≡ finish_refusal self.old ticket }
-        ensures err { OnErr result ((self.new ≡ self.old) × (own.new.items ≡ own.old.items)) }
-        ensures legal { IsLegal self.new.table self.new.history }
+            IsPlan (state_of self.old) ticket f.verdict f.applied.first_new f.stale) }
+        ensures applied { IfOk result (λ f. f.applied ≡ told_of (state_of self.old).store f.verdict) }
+        // Refused for the first reason that holds, or for lack of memory if none does.
+        ensures refused { RefusedAs FinishError.NoMemory (finish_refusal self.old ticket) result }
+        ensures unchanged { OnErr result ((self.new ≡ self.old) × (own.new.items ≡ own.old.items)) }
     {
         let plan = match self.plan(ticket) {
             Ok(plan) => plan,
             Err(refusal) => return Err(refusal),
         };
         match self.apply_noted(client, ticket, &plan, own) {
-            Ok(applied) => Ok(finish_of(plan, applied)),
+            Ok(applied) => Ok(finish_by(plan, applied)),
             Err(_) => Err(FinishError::NoMemory),
         }
     }
@@ -163,22 +175,21 @@ impl Desk {
     /// The block takes effect and waits no more; the tickets that become stale are queued. The caller's number is below 128.
     pub fn finish(&mut self, client: u32, ticket: u32) -> Result<Finish, FinishError>
         requires { client < max_clients }
-        ensures done { IfOk result (λ f. self.new
-            ≡ with_event self.old
-            (event client (AnyWhat.Finished ticket f.verdict f.applied.first_new f.stale))) }
+        // Accepted: one more event, the finish of this ticket.
+        ensures accepted { IfOk result (λ f. self.new ≡ with_event self.old client (finish_of ticket f)) }
         ensures plan { IfOk result (λ f.
-            IsPlan (now self.old) ticket f.verdict f.applied.first_new f.stale) }
-        ensures applied { IfOk result (λ f. f.applied ≡ told_of (now self.old).store f.verdict) }
-        ensures told { finish_told result ≡ finish_refusal self.old ticket }
-        ensures err { OnErr result (self.new ≡ self.old) }
-        ensures legal { IsLegal self.new.table self.new.history }
+            IsPlan (state_of self.old) ticket f.verdict f.applied.first_new f.stale) }
+        ensures applied { IfOk result (λ f. f.applied ≡ told_of (state_of self.old).store f.verdict) }
+        // Refused for the first reason that holds, or for lack of memory if none does.
+        ensures refused { RefusedAs FinishError.NoMemory (finish_refusal self.old ticket) result }
+        ensures unchanged { OnErr result (self.new ≡ self.old) }
     {
         let plan = match self.plan(ticket) {
             Ok(plan) => plan,
             Err(refusal) => return Err(refusal),
         };
         match self.apply_plan(client, ticket, &plan) {
-            Ok(applied) => Ok(finish_of(plan, applied)),
+            Ok(applied) => Ok(finish_by(plan, applied)),
             Err(_) => Err(FinishError::NoMemory),
         }
     }

@@ -1,7 +1,7 @@
 //! The desk: the store, the blocks that wait under tickets, and the history.
 //!
 //! A desk is a machine of `stm_machine` with the table that it was opened on, how many events it takes, and the list of its
-//! events. Contracts see the table, the limit, the history and the tickets that are queued or out (`specs/Seen`); all else is
+//! events. Contracts see the table, the limit, the history and the tickets that are queued or out (`specs/DeskView`); all else is
 //! what the slow desk makes of the history (`stm_events/specs/SlowDesk`). `specs/Refusals` says what each call is refused for,
 //! `specs/Evaluating` what evaluating the queued blocks does, `specs/Settling` what settling does and why it stops, and
 //! `specs/Reasons` what a waiting block waits for. Each accepted call adds exactly its event. Only `evaluate_queued` and

@@ -2,10 +2,10 @@
 
 ghost use Rattle.std.specs.Prelude.{◌≡◌, ◌≤◌, ◌↔◌, false, length, IsOk, IfOk};
 ghost use Rattle.stm_events.specs.Laws.{SubmittedAreWellTyped};
-ghost use Rattle.stm_events.specs.SlowDesk.{max_events as most_events};
-ghost use Rattle.stm_machine.specs.Machine.{StandsFor};
+ghost use Rattle.stm_events.specs.SlowDesk.{IsLegal, state, max_events as most_events};
+ghost use Rattle.stm_machine.specs.Machine.{IsAt};
 ghost use Rattle.stm_machine.specs.SettleChoices.{some_out};
-ghost use Rattle.stm_desk.specs.Seen.{DeskQueueIsRight};
+ghost use Rattle.stm_desk.specs.DeskView.{DeskQueueIsRight};
 
 use crate::desk::Desk;
 use stm_events::Event;
@@ -29,8 +29,9 @@ impl Desk {
         mut machine: Machine,
         max_events: u32,
     ) -> Result<Desk, TooManyEvents>
-        // The history is legal, and the machine is what it leads to.
-        requires stands { StandsFor table events.items machine }
+        // The history is legal, and the machine is at the state that it leads to.
+        requires legal { IsLegal table events.items }
+        requires at { IsAt machine (state table events.items) }
         requires typed { SubmittedAreWellTyped events.items }
         requires small { max_events ≤ most_events }
         ensures fits { IsOk result ↔ (length events.items ≤ max_events) }

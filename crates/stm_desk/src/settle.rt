@@ -4,9 +4,9 @@ ghost use Rattle.std.specs.Prelude.{◌≡◌, ◌<◌, ◌≤◌, false, None, 
 ghost use Rattle.stm_store.specs.Cells.{plains};
 ghost use Rattle.stm_events.specs.SlowDesk.{IsLegal, max_clients};
 ghost use Rattle.stm_machine.specs.SettleChoices.{some_out, next_due, next_end};
-ghost use Rattle.stm_desk.specs.Seen.{now};
-ghost use Rattle.stm_desk.specs.Settling.{called_back, HasBegun, HasSettled, IsSettled, AllBlock, StopTold};
-ghost use Rattle.stm_desk.specs.Steps.{IsNextEvent, WhyTold, StopsFinish, finish_why};
+ghost use Rattle.stm_desk.specs.DeskView.{state_of};
+ghost use Rattle.stm_desk.specs.Settling.{requeued_all, HasBegun, SettlesAs, AllBlock};
+ghost use Rattle.stm_desk.specs.Steps.{IsNextEvent, StopsFor, StopsFinish, finish_why};
 
 use crate::desk::Desk;
 use crate::errors::{SettleStop, SettleWhy};
@@ -41,7 +41,7 @@ fn why_of_finish(refusal: FinishError) -> SettleWhy
 impl Desk {
     /// Every ticket that is out is queued again.
     fn call_back(&mut self)
-        ensures { self.new ≡ called_back self.old }
+        ensures { self.new ≡ requeued_all self.old }
     {
         self.machine.recall();
     }
@@ -49,7 +49,7 @@ impl Desk {
     /// The lowest ticket of a block that is new or stale.
     fn next_due(&self) -> Option<u32>
         requires { some_out self.now.pending ≡ false }
-        ensures first { result ≡ next_due (now self.now) }
+        ensures first { result ≡ next_due (state_of self.now) }
         ensures legal { IsLegal self.now.table self.now.history }
         ensures few { length self.now.history ≤ self.now.limit }
     {
@@ -65,14 +65,13 @@ impl Desk {
         ticket: u32,
     ) -> Result<(), SettleWhy>
         requires client { client < max_clients }
-        requires next { next_due (now self.old) ≡ Some ticket }
-        requires store { frozen.now ≡ plains (now self.old).store }
+        requires next { next_due (state_of self.old) ≡ Some ticket }
+        requires store { frozen.now ≡ plains (state_of self.old).store }
         requires legal { IsLegal self.old.table self.old.history }
         ensures done { OnOk result (IsNextEvent client 0 1 self.old self.new) }
-        ensures why { IfErr result (λ why. WhyTold why self.old) }
+        ensures why { IfErr result (λ why. StopsFor why self.old) }
         ensures unchanged { OnErr result (self.new ≡ self.old) }
-        ensures store { (now self.new).store ≡ (now self.old).store }
-        ensures legal { IsLegal self.new.table self.new.history }
+        ensures store { (state_of self.new).store ≡ (state_of self.old).store }
     {
         let verdict = match self.verdict_due(scratch, frozen, ticket) {
             Ok(verdict) => verdict,
@@ -92,9 +91,9 @@ impl Desk {
         requires client { client < max_clients }
         requires none_out { some_out self.old.pending ≡ false }
         ensures begun { IfOk result (λ n. HasBegun client self.old self.new 0 n) }
-        ensures none_due { OnOk result (next_due (now self.new) ≡ None) }
+        ensures none_due { OnOk result (next_due (state_of self.new) ≡ None) }
         ensures stopped { IfErr result (λ e. HasBegun client self.old self.new 0 e.0) }
-        ensures why { IfErr result (λ e. WhyTold e.1 self.new) }
+        ensures why { IfErr result (λ e. StopsFor e.1 self.new) }
         ensures none_out { some_out self.new.pending ≡ false }
         ensures legal { IsLegal self.new.table self.new.history }
         ensures few { OnOk result (length self.new.history ≤ self.new.limit) }
@@ -123,8 +122,8 @@ impl Desk {
     /// The lowest ticket of a block that doesn't block, where none is new or stale.
     fn next_end(&self) -> Option<u32>
         requires legal { IsLegal self.now.table self.now.history }
-        requires none_due { next_due (now self.now) ≡ None }
-        ensures { result ≡ next_end (now self.now) }
+        requires none_due { next_due (state_of self.now) ≡ None }
+        ensures { result ≡ next_end (state_of self.now) }
     {
         self.next_ready(0)
     }
@@ -132,14 +131,13 @@ impl Desk {
     /// The block of that ticket is finished.
     fn finish_next(&mut self, client: u32, ticket: u32) -> Result<(), SettleWhy>
         requires client { client < max_clients }
-        requires none_due { next_due (now self.old) ≡ None }
-        requires next { next_end (now self.old) ≡ Some ticket }
+        requires none_due { next_due (state_of self.old) ≡ None }
+        requires next { next_end (state_of self.old) ≡ Some ticket }
         requires legal { IsLegal self.old.table self.old.history }
         requires few { length self.old.history ≤ self.old.limit }
         ensures done { OnOk result (IsNextEvent client 1 0 self.old self.new) }
-        ensures why { IfErr result (λ why. WhyTold why self.old) }
+        ensures why { IfErr result (λ why. StopsFor why self.old) }
         ensures unchanged { OnErr result (self.new ≡ self.old) }
-        ensures legal { IsLegal self.new.table self.new.history }
     {
         match self.finish(client, ticket) {
             Ok(_) => Ok(()),
@@ -151,14 +149,12 @@ impl Desk {
     /// to do or something can't be done. The caller's number is below 128. First each ticket that is out is queued.
     pub fn settle(&mut self, client: u32) -> Result<Settled, SettleStop>
         requires { client < max_clients }
-        ensures done { IfOk result (λ r.
-            HasSettled client (called_back self.old) self.new r.finished r.evaluations None) }
-        ensures settled { OnOk result (IsSettled self.new) }
-        ensures blocks { OnOk result (AllBlock (now self.new)) }
-        ensures stopped { IfErr result (λ e.
-            StopTold e.why client (called_back self.old) self.new e.finished e.evaluations) }
+        // It did what the definition of settling does, and returns its counts or why it stopped.
+        ensures done { SettlesAs client (requeued_all self.old) self.new result }
+        // After `Ok` each waiting block is current and blocks.
+        ensures settled { OnOk result (AllBlock (state_of self.new)) }
+        // No ticket is out, whatever the result.
         ensures none_out { some_out self.new.pending ≡ false }
-        ensures legal { IsLegal self.new.table self.new.history }
     {
         self.call_back();
         let mut finished = 0;

@@ -3,7 +3,7 @@
 ghost use Rattle.std.specs.Prelude.{◌≡◌, ◌≤◌, nat_lt, true, Some, length, option_map, slice_get};
 ghost use Rattle.std.specs.Option.{option_copied};
 ghost use Rattle.stm_store.specs.Tables.{opened};
-ghost use Rattle.stm_events.specs.SlowDesk.{Waiter, IsLegal, is_current, find_waiter, standing, initial_state, serial, finished_from};
+ghost use Rattle.stm_events.specs.SlowDesk.{Waiter, IsLegal, is_current, find_waiter, initial_state, serial, finished_from};
 ghost use Rattle.stm_events.specs.Ready.{next_ready};
 ghost use Rattle.stm_events.specs.SlowSettle.{lowest};
 ghost use Rattle.stm_events.specs.BlockStatus.{shown, read_then, read_now};
@@ -11,7 +11,7 @@ ghost use Rattle.stm_machine.specs.JobsHandedOut.{block_at};
 ghost use Rattle.stm_events.specs.Headline.{HeadlineHoldsBy};
 ghost use Rattle.stm_queue.specs.Queue.{queued, tickets};
 ghost use Rattle.stm_queue.specs.SortedTickets.{IsRising};
-ghost use Rattle.stm_desk.specs.Seen.{now, DeskQueueIsRight, AllHaveVerdicts, SettlesInRounds};
+ghost use Rattle.stm_desk.specs.DeskView.{state_of, standing_of, DeskQueueIsRight, AllHaveVerdicts, SettlesInRounds};
 
 use crate::desk::Desk;
 use stm_check::SharedBlock;
@@ -23,9 +23,7 @@ impl Desk {
     /// How the block under a ticket stands; none where no block waits. A stale verdict is the one that the block had at its
     /// last delivery, and a current one is the one that running the block from scratch on the present store gives.
     pub fn status(&self, ticket: u32) -> Option<Status<'_>>
-        ensures { option_map shown result
-            ≡ option_map (standing (now self.now).store)
-            (find_waiter ticket (now self.now).waiters) }
+        ensures { option_map shown result ≡ standing_of (state_of self.now) ticket }
     {
         self.machine.status(ticket)
     }
@@ -34,16 +32,16 @@ impl Desk {
     /// current block have their values on the present store.
     pub fn reads(&self, ticket: u32) -> Option<&[(u32, Value)]>
         ensures then { option_copied result
-            ≡ read_then (find_waiter ticket (now self.now).waiters) }
-        ensures present { (w : Waiter) → find_waiter ticket (now self.now).waiters ≡ Some w
-            → is_current w ≡ true → option_copied result ≡ Some (read_now (now self.now).store w) }
+            ≡ read_then (find_waiter ticket (state_of self.now).waiters) }
+        ensures present { (w : Waiter) → find_waiter ticket (state_of self.now).waiters ≡ Some w
+            → is_current w ≡ true → option_copied result ≡ Some (read_now (state_of self.now).store w) }
     {
         self.machine.reads(ticket)
     }
 
     /// The block that waits under a ticket.
     pub fn block(&self, ticket: u32) -> Option<&SharedBlock>
-        ensures { option_copied result ≡ block_at (now self.now) ticket }
+        ensures { option_copied result ≡ block_at (state_of self.now) ticket }
     {
         self.machine.block(ticket)
     }
@@ -57,10 +55,10 @@ impl Desk {
 
     /// The present store: that of running the finished blocks alone, one after another.
     pub fn store(&self) -> &Store
-        ensures store { result.now ≡ (now self.now).store }
+        ensures store { result.now ≡ (state_of self.now).store }
         ensures serial { result.now
             ≡ serial (opened self.now.table)
-            (finished_from (initial_state self.now.table) self.now.history) }
+            (finished_from (initial_state StalenessRule.Changed self.now.table) self.now.history) }
     {
         self.machine.store()
     }
@@ -79,8 +77,8 @@ impl Desk {
         ensures few { length self.now.history ≤ self.now.limit }
         ensures queue { DeskQueueIsRight self.now }
         ensures rising { IsRising (tickets self.now.pending) }
-        ensures verdicts { AllHaveVerdicts (now self.now) }
-        ensures rounds { SettlesInRounds (now self.now) }
+        ensures verdicts { AllHaveVerdicts (state_of self.now) }
+        ensures rounds { SettlesInRounds (state_of self.now) }
         ensures headline { HeadlineHoldsBy StalenessRule.Changed self.now.table self.now.history }
     {
         // The queue is known to be right by this, and the store to be well typed by the next call.
@@ -91,7 +89,7 @@ impl Desk {
 
     /// How many blocks wait.
     pub fn waiting(&self) -> usize
-        ensures { result ≡ length (now self.now).waiters }
+        ensures { result ≡ length (state_of self.now).waiters }
     {
         self.machine.waiting()
     }
@@ -99,7 +97,7 @@ impl Desk {
     /// The least waiting ticket above this one.
     pub fn next_waiting(&self, after: u32) -> Option<u32>
         ensures { result ≡ option_map (λ w. w.ticket)
-            (lowest (λ w. nat_lt after w.ticket) (now self.now).waiters) }
+            (lowest (λ w. nat_lt after w.ticket) (state_of self.now).waiters) }
     {
         self.machine.next_waiting(after)
     }
@@ -107,7 +105,7 @@ impl Desk {
     /// The lowest ticket above this one of a block that could finish now: it is current, and its verdict isn't `Blocks`. The others
     /// cost nothing, however many wait.
     pub fn next_ready(&self, after: u32) -> Option<u32>
-        ensures { result ≡ next_ready after (now self.now) }
+        ensures { result ≡ next_ready after (state_of self.now) }
     {
         self.machine.next_ready(after)
     }

@@ -1,12 +1,12 @@
 //! A block that is to wait.
 
-ghost use Rattle.std.specs.Prelude.{◌≡◌, ◌<◌, IfOk, OnErr};
-ghost use Rattle.stm_events.specs.SlowDesk.{IsLegal, max_clients};
-ghost use Rattle.stm_events.specs.declared.event.What.{What as AnyWhat};
+ghost use Rattle.std.specs.Prelude.{◌≡◌, ◌<◌, false, IfOk, OnOk, OnErr};
+ghost use Rattle.stm_terms.specs.UnlessNoMemory.{RefusedAs};
+ghost use Rattle.stm_events.specs.SlowDesk.{max_clients};
+ghost use Rattle.stm_events.specs.declared.event.What.TheVariants.{Submitted};
 ghost use Rattle.stm_events.specs.Laws.{IsWellTyped};
-ghost use Rattle.stm_machine.specs.Machine.{event};
-ghost use Rattle.stm_events.specs.Refusals.{submit_told};
-ghost use Rattle.stm_desk.specs.Seen.{now, with_event};
+ghost use Rattle.stm_desk.specs.DeskView.{state_of, is_full, with_event};
+ghost use Rattle.stm_desk.specs.Limit.{limited_submit};
 ghost use Rattle.stm_desk.specs.Refusals.{submit_refusal};
 
 use crate::desk::Desk;
@@ -20,23 +20,40 @@ fn say_typed(block: &SharedBlock)
     let _action = block.block().action();
 }
 
+/// The desk's answer by the machine's, which knows no limit of events.
+fn limit_submit(full: bool, answer: Result<(), SubmitError>) -> Result<(), SubmitError>
+    ensures { result ≡ limited_submit full answer }
+{
+    if !full {
+        return answer;
+    }
+    match answer {
+        Ok(()) | Err(SubmitError::HistoryFull | SubmitError::NoMemory) => {
+            Err(SubmitError::HistoryFull)
+        }
+        Err(SubmitError::Foreign(number)) => Err(SubmitError::Foreign(number)),
+        Err(SubmitError::WaitingFull) => Err(SubmitError::WaitingFull),
+    }
+}
+
 impl Desk {
-    /// Why the block can't be submitted, an out-of-memory error aside.
+    /// Why the block can't be submitted.
     fn may_submit(&self, block: &SharedBlock) -> Result<(), SubmitError>
-        ensures { submit_told result ≡ submit_refusal self.now block.now }
+        ensures refused { RefusedAs SubmitError.NoMemory (submit_refusal self.now block.now) result }
+        ensures room { OnOk result (is_full self.now ≡ false) }
     {
-        self.machine.may_wait(block, self.is_full())
+        limit_submit(self.is_full(), self.machine.may_submit(block))
     }
 
-    /// The block waits from now on, under the ticket that is answered, and is queued. The caller's number is below 128.
+    /// The block waits from now on, under the ticket that is returned, and is queued. The caller's number is below 128.
     pub fn submit(&mut self, client: u32, block: SharedBlock) -> Result<u32, SubmitError>
         requires { client < max_clients }
-        ensures done { IfOk result (λ t. self.new
-            ≡ with_event self.old (event client (AnyWhat.Submitted t block))) }
-        ensures ticket { IfOk result (λ t. t ≡ (now self.old).next) }
-        ensures told { submit_told result ≡ submit_refusal self.old block }
-        ensures err { OnErr result (self.new ≡ self.old) }
-        ensures legal { IsLegal self.new.table self.new.history }
+        // Accepted: one more event, the submission of the block under the ticket that is returned.
+        ensures accepted { IfOk result (λ t. self.new ≡ with_event self.old client (Submitted t block)) }
+        ensures ticket { IfOk result (λ t. t ≡ (state_of self.old).next) }
+        // Refused for the first reason that holds, or for lack of memory if none does.
+        ensures refused { RefusedAs SubmitError.NoMemory (submit_refusal self.old block) result }
+        ensures unchanged { OnErr result (self.new ≡ self.old) }
     {
         match self.may_submit(&block) {
             Ok(()) => {}
@@ -45,7 +62,7 @@ impl Desk {
         say_typed(&block);
         let told = block.share()?;
         self.history.reserve(1)?;
-        let ticket = self.machine.wait(block)?;
+        let ticket = self.machine.submit(block)?;
         self.history.push_reserved(Event {
             client,
             what: What::Submitted {

@@ -4,7 +4,7 @@ ghost use Rattle.std.specs.Prelude.{◌≡◌, ◌≤◌, false, map, take, leng
 ghost use Rattle.stm_store.specs.Cells.{plains};
 ghost use Rattle.stm_queue.specs.Queue.{queued, is_out, marked, first_queued};
 ghost use Rattle.stm_machine.specs.JobsHandedOut.{sent, AreJobs, AreCovered};
-ghost use Rattle.stm_desk.specs.Seen.{now};
+ghost use Rattle.stm_desk.specs.DeskView.{state_of};
 
 use crate::desk::Desk;
 use stm_eval::Job;
@@ -17,13 +17,13 @@ impl Desk {
     pub fn take(&mut self, n: usize) -> Result<(Frozen, Vec<Job>), NoMemory>
         ensures tickets { IfOk result (λ r. map (λ j. j.ticket) r.1.items
             ≡ take n (queued self.old.pending)) }
-        ensures blocks { IfOk result (λ r. AreJobs (now self.old) r.1.items) }
-        ensures store { IfOk result (λ r. r.0 ≡ plains (now self.old).store) }
+        ensures blocks { IfOk result (λ r. AreJobs (state_of self.old) r.1.items) }
+        ensures store { IfOk result (λ r. r.0 ≡ plains (state_of self.old).store) }
         ensures covered { IfOk result (λ r. AreCovered r.0 r.1.items) }
         ensures few { IfOk result (λ r. vec_len r.1 ≤ n) }
         ensures out { IfOk result (λ r. self.new
             ≡ record self.old { pending = sent (length r.1.items) self.old.pending }) }
-        ensures err { OnErr result (self.new ≡ self.old) }
+        ensures unchanged { OnErr result (self.new ≡ self.old) }
     {
         self.machine.take(n)
     }

@@ -8,7 +8,7 @@ ghost use Rattle.stm_store.specs.Cells.{renumbered};
 ghost use Rattle.stm_store.specs.FreshReferences.{HasNumber, AreWritable};
 ghost use Rattle.stm_events.specs.Headline.{installs_to as is_delivery_to};
 ghost use Rattle.stm_events.specs.SlowDesk.{find_waiter, is_blocks};
-ghost use Rattle.stm_desk.specs.Seen.{now};
+ghost use Rattle.stm_desk.specs.DeskView.{state_of};
 ghost use Rattle.stm_desk.specs.Reasons.{change_to, changes_from, ticket_of as ticket_in, IsStale, Waits as WaitsFor, CanFinish, reason_of};
 ghost use Rattle.stm_desk.specs.ReasonsTold.{left_by_writes, left_by_verdict, HasWritable, IsWritable, EachIsWritable, events_since as events_after, changes_told as changes_of, cause_told, cause_of, told_reason};
 
@@ -28,7 +28,7 @@ impl Desk {
         ensures reason { IfOk result (λ r. option_map told_reason r ≡ reason_of self.now ticket) }
         // A block that waits has a reason; so a stale one has a cause.
         ensures waits { is_some (reason_of self.now ticket)
-            ≡ is_some (find_waiter ticket (now self.now).waiters) }
+            ≡ is_some (find_waiter ticket (state_of self.now).waiters) }
     {
         // The store is known to be well typed by this.
         let _variables = self.table.len();

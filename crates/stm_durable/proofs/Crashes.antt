@@ -15,7 +15,7 @@ use Rattle.stm_journal.specs.Text.{dropped_count, IsWhole}
 use Rattle.stm_journal.proofs.Moments.{started, weaker}
 use Rattle.stm_journal.proofs.Wholes.{recovered_whole}
 use Rattle.stm_durable.specs.Durable.{file_text, batch_text, batch_sync, AreFit, KeepsHistory, HasAllEventsOrNone, LeavesHistory}
-use Rattle.stm_durable.proofs.Fronts.{first_of}
+use Rattle.stm_durable.proofs.FirstEvents.{first_of}
 use Rattle.stm_durable.proofs.Texts.{file_text-batch, longer_text}
 
 -- a journal at rest is so for each way to sync that syncs no more

@@ -1,5 +1,5 @@
 pub mod Texts
-pub mod Fronts
+pub mod FirstEvents
 pub mod Crashes
-pub mod Loaded
-pub mod Resumed
+pub mod RepairedFiles
+pub mod LeftIsLoaded

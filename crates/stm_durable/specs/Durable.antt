@@ -7,7 +7,7 @@ use Rattle.stm_event_lines.specs.Fits.{FitsTable}
 use Rattle.stm_history.specs.HistoryText.{event_lines, history_text}
 use Rattle.stm_history.specs.Judgement.{AreVariables, AreEvents}
 use Rattle.stm_event_lines.specs.Lines.{latest_format}
-use Rattle.stm_history.specs.Loading.{IsWholeHistory, TellsLoadFault}
+use Rattle.stm_history.specs.Loading.{IsWholeHistory, ReportsLoadFault}
 use Rattle.stm_history.specs.declared.files.loading.Loaded.{Loaded}
 use Rattle.stm_journal.specs.declared.sync_mode.SyncMode.{SyncMode}
 use Rattle.stm_journal.specs.declared.sync_mode.SyncMode.TheVariants.{Full, Append, Never}
@@ -108,10 +108,10 @@ pub record IsForeign (file : List ℕ) : Type 0 where
   pub first : get_or file 0 0 ≢ 0
 
 -- why a file isn't opened
-abbrev pub TellsOpenFault : OpenFault → List ℕ → Type 0
-TellsOpenFault (Journal e) file = ⊤
-TellsOpenFault (History f) file = TellsLoadFault f (recovered file)
-TellsOpenFault Foreign file = IsForeign file
+abbrev pub ReportsOpenFault : OpenFault → List ℕ → Type 0
+ReportsOpenFault (Journal e) file = ⊤
+ReportsOpenFault (History f) file = ReportsLoadFault f (recovered file)
+ReportsOpenFault Foreign file = IsForeign file
 
 -- the file was judged, and is left as it was
 abbrev pub IsOfFile : OpenFault → Type 0

@@ -2,12 +2,13 @@
 
 ghost use Rattle.std.specs.Prelude.{◌≡◌, ◌⊎◌, ◌≤◌, ◌<◌, ◌≢◌, ◌^◌, ℕ, List, IsTrue, IfOk, IfErr, IfSome, MatchResult, length, take, get_or};
 ghost use Rattle.stm_events.specs.Laws.{SubmittedAreWellTyped};
-ghost use Rattle.stm_history.specs.Loading.{HasText, TellsLoadFault};
+ghost use Rattle.stm_events.specs.SlowDesk.{IsLegal, state};
+ghost use Rattle.stm_history.specs.Loading.{HasText, ReportsLoadFault};
 ghost use Rattle.stm_journal.specs.Device.{LeavesOnly, HasReadCause};
 ghost use Rattle.stm_journal.specs.Journal.{HasSameLines, most_batch};
 ghost use Rattle.stm_journal.specs.Text.{whole_count, recovered, dropped_count};
-ghost use Rattle.stm_machine.specs.Machine.{StandsFor};
-ghost use Rattle.stm_durable.specs.Durable.{HasLoaded, LoadsFront, TellsOpenFault, IsOfFile, IsForeign};
+ghost use Rattle.stm_machine.specs.Machine.{IsAt};
+ghost use Rattle.stm_durable.specs.Durable.{HasLoaded, LoadsFront, ReportsOpenFault, IsOfFile, IsForeign};
 
 use crate::recording::HistoryFile;
 use std::alloc::Global;
@@ -42,12 +43,13 @@ fn load_front<D: Device>(
     len: usize,
 ) -> Result<Option<Loaded>, LoadFault>
     requires { IsTrue D.is_honest → len ≤ length (D.seen device.now) }
-    ensures stands { IfOk result (λ o. IfSome o (λ h. StandsFor h.table h.events.items h.machine)) }
+    ensures legal { IfOk result (λ o. IfSome o (λ h. IsLegal h.table h.events.items)) }
+    ensures at { IfOk result (λ o. IfSome o (λ h. IsAt h.machine (state h.table h.events.items))) }
     ensures lines { IfOk result (λ o. IfSome o (λ h. HasText h.table h.events.items)) }
     ensures typed { IfOk result (λ o. IfSome o (λ h. SubmittedAreWellTyped h.events.items)) }
     ensures text { IsTrue D.is_honest → IfOk result (λ o. LoadsFront (take len (D.seen device.now)) o) }
     ensures fault { IsTrue D.is_honest
-        → IfErr result (λ e. TellsLoadFault e (take len (D.seen device.now))) }
+        → IfErr result (λ e. ReportsLoadFault e (take len (D.seen device.now))) }
 {
     if len == 0 {
         return Ok(None);
@@ -83,12 +85,13 @@ fn judge<D: Device>(
 ) -> Result<(Found, Option<Loaded>), OpenFault>
     ensures kept { IsTrue D.is_honest → IfOk result (λ r. r.0.kept ≡ whole_count 0 (D.seen device.now)) }
     ensures dropped { IsTrue D.is_honest → IfOk result (λ r. r.0.dropped ≡ dropped_count (D.seen device.now)) }
-    ensures stands { IfOk result (λ r. IfSome r.1 (λ h. StandsFor h.table h.events.items h.machine)) }
+    ensures legal { IfOk result (λ r. IfSome r.1 (λ h. IsLegal h.table h.events.items)) }
+    ensures at { IfOk result (λ r. IfSome r.1 (λ h. IsAt h.machine (state h.table h.events.items))) }
     ensures lines { IfOk result (λ r. IfSome r.1 (λ h. HasText h.table h.events.items)) }
     ensures typed { IfOk result (λ r. IfSome r.1 (λ h. SubmittedAreWellTyped h.events.items)) }
     ensures text { IsTrue D.is_honest → IfOk result (λ r. LoadsFront (recovered (D.seen device.now)) r.1) }
     ensures own { IsTrue D.is_honest → IfOk result (λ _. IsForeign (D.seen device.now) → ⊥) }
-    ensures told { IsTrue D.is_honest → IfErr result (λ e. TellsOpenFault e (D.seen device.now)) }
+    ensures reported { IsTrue D.is_honest → IfErr result (λ e. ReportsOpenFault e (D.seen device.now)) }
     ensures failed { IsTrue D.is_honest → IfErr result (λ e. e ≡ OpenFault.Journal JournalError.Failed
         → D.reads_fail device.now) }
     ensures no_space { IsTrue D.is_honest → IfErr result (λ e. e ≢ OpenFault.Journal JournalError.NoSpace) }
@@ -125,7 +128,7 @@ fn repaired<D: Device>(
     ensures loaded { IfOk result (λ r. r.loaded ≡ loaded) }
     ensures found { IfOk result (λ r. r.found ≡ found) }
     ensures sync { IfOk result (λ r. r.file.journal.sync ≡ sync) }
-    ensures told { IfErr result (λ e. TellsOpenFault e.1 (D.seen device)) }
+    ensures reported { IfErr result (λ e. ReportsOpenFault e.1 (D.seen device)) }
     ensures repair { IfErr result (λ e. IsOfFile e.1 → ⊥) }
     ensures kept { IsTrue D.is_honest → IfOk result (λ r. HasLoaded D.seen D.may_leave
         r.file.journal.device r.file.journal.sync r.file.journal.len r.file.begun loaded) }
@@ -177,8 +180,9 @@ pub fn open_history<D: Device>(
     device: D,
     sync: SyncMode,
 ) -> Result<Opened<D>, (D, OpenFault)>
-    // The history is legal, whatever the device is, and the machine is what it leads to.
-    ensures stands { IfOk result (λ r. IfSome r.loaded (λ h. StandsFor h.table h.events.items h.machine)) }
+    // The history is legal, whatever the device is, and the machine is at the state that it leads to.
+    ensures legal { IfOk result (λ r. IfSome r.loaded (λ h. IsLegal h.table h.events.items)) }
+    ensures at { IfOk result (λ r. IfSome r.loaded (λ h. IsAt h.machine (state h.table h.events.items))) }
     ensures lines { IfOk result (λ r. IfSome r.loaded (λ h. HasText h.table h.events.items)) }
     ensures typed { IfOk result (λ r. IfSome r.loaded (λ h. SubmittedAreWellTyped h.events.items)) }
     // Its text is the file's whole lines, and the file then has exactly this text.
@@ -188,7 +192,7 @@ pub fn open_history<D: Device>(
     ensures sync { IfOk result (λ r. r.file.journal.sync ≡ sync) }
     ensures dropped { IsTrue D.is_honest → IfOk result (λ r. r.found.dropped ≡ dropped_count (D.seen device)) }
     // Otherwise the first error is reported.
-    ensures told { IsTrue D.is_honest → IfErr result (λ e. TellsOpenFault e.1 (D.seen device)) }
+    ensures reported { IsTrue D.is_honest → IfErr result (λ e. ReportsOpenFault e.1 (D.seen device)) }
     // Another file is never opened, and what was judged is left as it was.
     ensures foreign { IsTrue D.is_honest → IsForeign (D.seen device) → MatchResult result (λ _. ⊥) (λ e. e.0 ≡ device) }
     ensures unchanged { IfErr result (λ e. IsOfFile e.1 → e.0 ≡ device) }

@@ -1,6 +1,6 @@
 -- The laws of `catch`.
 use Rattle.std.proofs.Common.{◌≡◌, ℕ, Bool, true, false, refl, ap, Option, Some, None, Ok, Err, List, [], ◌∷◌, ◌++◌}
-use Rattle.std.specs.Prelude.{ℤ, ◌+ℤ◌, ◌-ℤ◌, ◌*ℤ◌, slice_get, option_map, if◌then◌else◌}
+use Rattle.std.specs.Prelude.{ℤ, ◌+ℤ◌, ◌-ℤ◌, ◌*ℤ◌, slice_get, option_map, if◌then◌else◌, ⊤}
 use Rattle.stm_terms.specs.declared.values.Value.{Value}
 use Rattle.stm_terms.specs.declared.values.Value.TheVariants.{Int, Bool as Truth}
 use Rattle.stm_terms.specs.declared.values.Fault.TheVariants.{Thrown, Overflow}
@@ -15,10 +15,10 @@ use Rattle.stm_eval.specs.Laws.{CatchOfThrow, CatchOfReturn, CatchOfRetry, Handl
 
 -- ---- the value of an expression fails by an overflow alone
 abbrev NeverThrows : Answer → Type 0
-NeverThrows (Some (Ok v)) = Unit {0}
+NeverThrows (Some (Ok v)) = ⊤
 NeverThrows (Some (Err (Thrown n))) = ⊥
-NeverThrows (Some (Err Overflow)) = Unit {0}
-NeverThrows None = Unit {0}
+NeverThrows (Some (Err Overflow)) = ⊤
+NeverThrows None = ⊤
 
 of_local : (o : Option Value) → NeverThrows (option_map Ok o)
 of_local (Some v) = tt

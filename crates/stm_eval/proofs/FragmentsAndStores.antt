@@ -14,11 +14,11 @@ use Rattle.stm_eval.proofs.ReadSetIndependence.{independent}
 use Rattle.stm_eval.proofs.ReadsArePresent.{IsDefined, present}
 use Rattle.stm_eval.proofs.ReadsLookedUp.{noted_at, noted_only, part_all, noted_same, inserted_reads_rise}
 
-defined_from : (o : Outcome) (told : Verdict) → verdict_from o ≡ Some told → IsDefined o
-defined_from (Returned v h) told e = tt
-defined_from (Threw f) told e = tt
-defined_from Retried told e = tt
-defined_from Stuck told e = cc
+defined_from : (o : Outcome) (found : Verdict) → verdict_from o ≡ Some found → IsDefined o
+defined_from (Returned v h) found e = tt
+defined_from (Threw f) found e = tt
+defined_from Retried found e = tt
+defined_from Stuck found e = cc
 
 some_agrees : (o p : Option Value) → ((v : Value) → o ≡ Some v → p ≡ Some v) → IsSome o → p ≡ o
 some_agrees (Some v) p h d = h v refl
@@ -36,8 +36,8 @@ module _ (block : Act) (S : Variables) where
   pub reads_agree : Agrees (reads_of S block) S
   reads_agree i v e = part_agrees _ (S i) v (part_all S (looks_of S block) [] (λ j. inl refl) i) e
 
-  pub from_store : (told : Verdict) → verdict S block ≡ Some told → MessageIsValid block (reads_of S block) told
-  from_store told e =
+  pub from_store : (found : Verdict) → verdict S block ≡ Some found → MessageIsValid block (reads_of S block) found
+  from_store found e =
       let T : Variables = of_fragment (reads_of S block) in
       let p : SameRun block [] S T no_changes = independent block [] S T no_changes fragment_agrees in
       record {
@@ -46,9 +46,9 @@ module _ (block : Act) (S : Variables) where
       }
 
   -- the reads are of the variables looked at, each of them
-  pub looked : (told : Verdict) → verdict S block ≡ Some told → (i : ℕ) → In i (looks_of S block) ↔ IsSome (find i (reads_of S block))
-  looked told e i = (
-    (λ m. subst (λ o. IsSome o) (sym (fragment_agrees i m)) (present S block [] no_changes (defined_from (run S block [] no_changes) told e) i m)),
+  pub looked : (found : Verdict) → verdict S block ≡ Some found → (i : ℕ) → In i (looks_of S block) ↔ IsSome (find i (reads_of S block))
+  looked found e i = (
+    (λ m. subst (λ o. IsSome o) (sym (fragment_agrees i m)) (present S block [] no_changes (defined_from (run S block [] no_changes) found e) i m)),
     (λ h. ⊎_elim (λ m. m) (λ n. cc) (noted_only S i (looks_of S block) [] h)),
   )
 
@@ -56,13 +56,13 @@ pub of_the_store : ReadsAgreeWithStore
 of_the_store block S = (inserted_reads_rise S (looks_of S block) [] tt, reads_agree block S)
 
 pub are_looks : ReadSetIsExact
-are_looks block S told e i = looked block S told e i
+are_looks block S found e i = looked block S found e i
 
 -- from the fragment to a store that agrees with it
-pub to_store : (block : Act) (reads : List (ℕ × Value)) (told : Verdict) (S : Variables) → MessageIsValid block reads told → Agrees reads S → Holds block S reads told
-to_store block reads told S message agrees =
+pub to_store : (block : Act) (reads : List (ℕ × Value)) (found : Verdict) (S : Variables) → MessageIsValid block reads found → Agrees reads S → Holds block S reads found
+to_store block reads found S message agrees =
     let P : Variables = of_fragment reads in
-    let agree : AgreeOn (looks_of P block) P S = λ i m. some_agrees (P i) (S i) (agrees i) (present P block [] no_changes (defined_from (run P block [] no_changes) told message.defined) i m) in
+    let agree : AgreeOn (looks_of P block) P S = λ i m. some_agrees (P i) (S i) (agrees i) (present P block [] no_changes (defined_from (run P block [] no_changes) found message.defined) i m) in
     let p : SameRun block [] P S no_changes = independent block [] P S no_changes agree in
     record {
       verdict_is = ap verdict_from p.ends ∙ message.defined;
@@ -70,14 +70,14 @@ to_store block reads told S message agrees =
     }
 
 -- the same, for reads that are those of the store
-pub told_at : (block : Act) (S : Variables) (reads : List (ℕ × Value)) (told : Verdict) → verdict S block ≡ Some told → reads ≡ reads_of S block → MessageIsValid block reads told
-told_at block S reads told e r = subst (λ x. MessageIsValid block x told) (sym r) (from_store block S told e)
+pub valid_from_store : (block : Act) (S : Variables) (reads : List (ℕ × Value)) (found : Verdict) → verdict S block ≡ Some found → reads ≡ reads_of S block → MessageIsValid block reads found
+valid_from_store block S reads found e r = subst (λ x. MessageIsValid block x found) (sym r) (from_store block S found e)
 
 -- on a store where it holds, the values that were read are the store's
-pub holds_agrees : (block : Act) (S : Variables) (reads : List (ℕ × Value)) (told : Verdict) → Holds block S reads told → Agrees reads S
-holds_agrees block S reads told holds = subst (λ x. Agrees x S) holds.reads_are (reads_agree block S)
+pub holds_agrees : (block : Act) (S : Variables) (reads : List (ℕ × Value)) (found : Verdict) → Holds block S reads found → Agrees reads S
+holds_agrees block S reads found holds = subst (λ x. Agrees x S) holds.reads_are (reads_agree block S)
 
 -- from a store to another one that has the values which were read
 pub holds_again : VerdictIsStable
-holds_again block reads told S T holds agrees =
-    to_store block reads told T (told_at block S reads told holds.verdict_is (sym holds.reads_are)) agrees
+holds_again block reads found S T holds agrees =
+    to_store block reads found T (valid_from_store block S reads found holds.verdict_is (sym holds.reads_are)) agrees

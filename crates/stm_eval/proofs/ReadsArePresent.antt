@@ -1,5 +1,6 @@
 -- A run that isn't stuck found each variable that it read.
 use Rattle.std.proofs.Common.{ℕ, refl, subst, Option, Some, None, Ok, Err, IsSome, List, [], ◌∷◌, ◌++◌, true, false, inl, inr}
+use Rattle.std.specs.Prelude.{⊤}
 use Rattle.stm_terms.specs.declared.values.Ref.TheVariants.{Old, New}
 use Rattle.stm_terms.specs.declared.values.Value.{Value}
 use Rattle.stm_terms.specs.declared.values.Value.TheVariants.{Int, Bool as Truth, Unit as Nil, Var}
@@ -12,9 +13,9 @@ use Rattle.stm_terms.specs.ReadSet.{unless_marked, look_read, look_answer, look_
 use Rattle.stm_eval.specs.Laws.{In}
 
 abbrev pub IsDefined : Outcome → Type 0
-IsDefined (Returned v h) = Unit {0}
-IsDefined (Threw f) = Unit {0}
-IsDefined Retried = Unit {0}
+IsDefined (Returned v h) = ⊤
+IsDefined (Threw f) = ⊤
+IsDefined Retried = ⊤
 IsDefined Stuck = ⊥
 
 module _ (S : Variables) where

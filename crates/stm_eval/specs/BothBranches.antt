@@ -1,5 +1,5 @@
--- What the branches of an `orElse` rest on where both are run, and what an action that was run has done to its log.
-use Rattle.std.specs.Prelude.{◌≡◌, ◌≢◌, ◌⊎◌, ℕ, ◌+◌, ◌≤◌, ◌^◌, true, false, List, [], ◌∷◌, ◌++◌, length, Some, None, Ok, Err}
+-- What the branches of an `orElse` rest on if both are run, and what an action that was run has done to its log.
+use Rattle.std.specs.Prelude.{◌≡◌, ◌≢◌, ◌⊎◌, ℕ, ◌+◌, ◌≤◌, ◌^◌, true, false, List, [], ◌∷◌, ◌++◌, length, Some, None, Ok, Err, ⊤}
 use Rattle.stm_terms.specs.declared.values.Value.{Value}
 use Rattle.stm_terms.specs.declared.values.Value.TheVariants.{Int, Bool as Truth}
 use Rattle.stm_terms.specs.declared.values.Fault.TheVariants.{Thrown, Overflow}
@@ -16,40 +16,40 @@ use Rattle.stm_eval.specs.declared.outcome.Step.{Step}
 use Rattle.stm_eval.specs.declared.outcome.Step.TheVariants.{On, Ended}
 use Rattle.stm_eval.specs.InterpreterSteps.{outcome}
 
--- it holds of the value, where there is one; an expression that is undefined is none
+-- it holds of the value, if there is one; an expression that is undefined is none
 abbrev pub OnAnswer : Answer → (Value → Type 0) → Type 0
 OnAnswer (Some (Ok v)) go = go v
-OnAnswer (Some (Err f)) go = Unit {0}
+OnAnswer (Some (Err f)) go = ⊤
 OnAnswer None go = ⊥
 
--- the first where the condition is true, the second where it is false
+-- the first if the condition is true, the second if it is false
 abbrev pub OnCondition : Value → Type 0 → Type 0 → Type 0
 OnCondition (Truth true) first second = first
 OnCondition (Truth false) first second = second
 OnCondition v first second = ⊥
 
--- it holds of what was returned, where the run returned
+-- it holds of what was returned, if the run returned
 abbrev pub OnReturn : meaning.Outcome → (Value → Changes → Type 0) → Type 0
 OnReturn (Returned v h) go = go v h
-OnReturn (Threw f) go = Unit {0}
-OnReturn Retried go = Unit {0}
+OnReturn (Threw f) go = ⊤
+OnReturn Retried go = ⊤
 OnReturn Stuck go = ⊥
 
--- it holds of the number, where the run threw one
+-- it holds of the number, if the run threw one
 abbrev pub OnThrow : meaning.Outcome → (Value → Type 0) → Type 0
-OnThrow (Returned v h) go = Unit {0}
+OnThrow (Returned v h) go = ⊤
 OnThrow (Threw (Thrown n)) go = go (Int n)
-OnThrow (Threw Overflow) go = Unit {0}
-OnThrow Retried go = Unit {0}
+OnThrow (Threw Overflow) go = ⊤
+OnThrow Retried go = ⊤
 OnThrow Stuck go = ⊥
 
--- no part of the action that is run is stuck; of an `orElse` both branches count, also where the left one doesn't retry
+-- no part of the action that is run is stuck; of an `orElse` both branches count, also if the left one doesn't retry
 abbrev pub AllBranchesDefined : Variables → Act → List Value → Changes → Type 0
 AllBranchesDefined under (return e) locals h = run under (return e) locals h ≢ Stuck
 AllBranchesDefined under (read e) locals h = run under (read e) locals h ≢ Stuck
 AllBranchesDefined under (write r e) locals h = run under (write r e) locals h ≢ Stuck
 AllBranchesDefined under (make t e) locals h = run under (make t e) locals h ≢ Stuck
-AllBranchesDefined under retry locals h = Unit {0}
+AllBranchesDefined under retry locals h = ⊤
 AllBranchesDefined under (throw e) locals h = run under (throw e) locals h ≢ Stuck
 AllBranchesDefined under (if_else e a b) locals h =
     OnAnswer (value e locals) (λ v. OnCondition v (AllBranchesDefined under a locals h) (AllBranchesDefined under b locals h))
@@ -65,7 +65,7 @@ AllBranchesDefined under (catch a b) locals h =
 -- the same of what a step leaves
 abbrev pub DefinedLeft : Variables → Step → List Value → Changes → Type 0
 DefinedLeft under (On rest) locals h = AllBranchesDefined under (act_of rest.now) locals h
-DefinedLeft under (Ended e) locals h = Unit {0}
+DefinedLeft under (Ended e) locals h = ⊤
 
 -- the reads rise, and each variable among them has the value that is underneath
 pub record IsReadSetOf (under : Variables) (reads : List (ℕ × Value)) : Type 0 where

@@ -13,7 +13,7 @@ message_ticket m = m.ticket
 abbrev pub message_block : Evaluated → Block
 message_block m = m.block
 
--- the variables that it read, rising, with their values
+-- the variables that it read, ascending, with their values
 abbrev pub message_reads : Evaluated → List (ℕ × Value)
 message_reads m = m.reads
 

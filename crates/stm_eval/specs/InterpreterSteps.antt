@@ -1,4 +1,4 @@
--- The evaluator's answers by the definitions.
+-- What the evaluator returns, by the definitions.
 use Rattle.std.specs.Prelude.{◌≡◌, ℕ, ◌+◌, ◌≤◌, suc, List, [], length}
 use Rattle.stm_terms.specs.declared.values.Value.{Value}
 use Rattle.stm_terms.specs.Ast.{Act, if_else, or_else, bind, let_in, seq, catch, act_of}

@@ -41,20 +41,20 @@ ReadSetIndependence =
 -- what a block does on a store, it does on the fragment of what it read there, and it reads all of that fragment
 abbrev pub StoreToFragment : Type 0
 StoreToFragment =
-    (block : Act) (S : Variables) (told : Verdict) →
-    verdict S block ≡ Some told → MessageIsValid block (reads_of S block) told
+    (block : Act) (S : Variables) (found : Verdict) →
+    verdict S block ≡ Some found → MessageIsValid block (reads_of S block) found
 
 -- what a block does on the fragment of what it read, it does on each store with these values
 abbrev pub FragmentToStore : Type 0
 FragmentToStore =
-    (block : Act) (reads : List (ℕ × Value)) (told : Verdict) (S : Variables) →
-    MessageIsValid block reads told → Agrees reads S → Holds block S reads told
+    (block : Act) (reads : List (ℕ × Value)) (found : Verdict) (S : Variables) →
+    MessageIsValid block reads found → Agrees reads S → Holds block S reads found
 
 -- what holds of a block on one store holds on each other one that has the values which it read
 abbrev pub VerdictIsStable : Type 0
 VerdictIsStable =
-    (block : Act) (reads : List (ℕ × Value)) (told : Verdict) (S T : Variables) →
-    Holds block S reads told → Agrees reads T → Holds block T reads told
+    (block : Act) (reads : List (ℕ × Value)) (found : Verdict) (S T : Variables) →
+    Holds block S reads found → Agrees reads T → Holds block T reads found
 
 -- the reads of a block rise, and have the values of the store
 abbrev pub ReadsAgreeWithStore : Type 0
@@ -63,7 +63,7 @@ ReadsAgreeWithStore = (block : Act) (S : Variables) → Rising (reads_of S block
 -- the reads of a block that has a verdict are of exactly the variables that it looks at
 abbrev pub ReadSetIsExact : Type 0
 ReadSetIsExact =
-    (block : Act) (S : Variables) (told : Verdict) → verdict S block ≡ Some told →
+    (block : Act) (S : Variables) (found : Verdict) → verdict S block ≡ Some found →
     (i : ℕ) → In i (looks_of S block) ↔ IsSome (find i (reads_of S block))
 
 -- of three branches it makes no difference which two are taken together
@@ -86,7 +86,7 @@ CatchOfThrow =
     (n : ℤ) (b : Act) (locals : List Value) (S : Variables) (h : Changes) →
     Equivalent (catch (throw (lit (Int n))) b) (let_in (lit (Int n)) b) locals S h
 
--- a `return` has no use for a handler, even where its value overflows
+-- a `return` has no use for a handler, even if its value overflows
 abbrev pub CatchOfReturn : Type 0
 CatchOfReturn =
     (e : Term) (b : Act) (locals : List Value) (S : Variables) (h : Changes) →

@@ -10,7 +10,7 @@ use Rattle.stm_eval.specs.declared.outcome.Outcome.TheVariants.{Returned, Threw,
 use Rattle.stm_eval.specs.declared.outcome.Step.{Step}
 use Rattle.stm_eval.specs.declared.outcome.Step.TheVariants.{On, Ended}
 
--- the top frame stands in place of the one below it
+-- the top frame replaces the one below it
 abbrev pub IsFrameKept : Logged → Logged → Type 0
 IsFrameKept old new = new ≡ record old { below = drop 1 old.below }
 

@@ -37,17 +37,17 @@ pub fn evaluate(alloc: Global, job: Job, frozen: &Frozen) -> Result<Evaluated, (
 
 impl Evaluated {
     /// The message of a job whose block was evaluated.
-    pub(crate) fn of(job: Job, reads: Reads, told: Verdict) -> Evaluated
-        requires { MessageIsValid job.block.tree reads told }
+    pub(crate) fn of(job: Job, reads: Reads, found: Verdict) -> Evaluated
+        requires { MessageIsValid job.block.tree reads found }
         ensures job { (message_ticket result ≡ job.ticket) × (message_block result ≡ job.block) }
-        ensures told { (message_reads result ≡ reads) × (message_verdict result ≡ told) }
+        ensures parts { (message_reads result ≡ reads) × (message_verdict result ≡ found) }
     {
         let Job { ticket, block } = job;
         Evaluated {
             ticket,
             block,
             reads,
-            verdict: told,
+            verdict: found,
         }
     }
 
@@ -65,7 +65,7 @@ impl Evaluated {
         &self.block
     }
 
-    /// The variables that the block read, rising, with the values that they had. On variables with these values the block
+    /// The variables that the block read, ascending, with the values that they had. On variables with these values the block
     /// reads the same, and its verdict is the message's.
     pub fn reads(&self) -> &Reads
         ensures value { result.now ≡ message_reads self.now }

@@ -76,7 +76,7 @@ fn walk<R: Threads + Sync>(
     }
 }
 
-/// One step of an action. Locals are added where the rest has more of them.
+/// One step of an action. Locals are added if the rest has more of them.
 #[cycle(walk)]
 #[tactic(auto, using(crate::proofs::InsertedReads::reads_in_turn))]
 fn step<'a, R: Threads + Sync>(
@@ -113,7 +113,7 @@ fn step<'a, R: Threads + Sync>(
     }
 }
 
-/// A statement that binds a name, with `levels` at once within it. The rest is left to be run, with one more local, where the
+/// A statement that binds a name, with `levels` at once within it. The rest is left to be run, with one more local, if the
 /// statement returned.
 #[cycle(walk)]
 #[tactic(auto, using(crate::proofs::InsertedReads::reads_in_turn))]
@@ -148,7 +148,7 @@ fn walk_bound<'a, R: Threads + Sync>(
     }
 }
 
-/// A statement whose result is dropped, with `levels` at once within it. The rest is left to be run where it returned.
+/// A statement whose result is dropped, with `levels` at once within it. The rest is left to be run if it returned.
 #[cycle(walk)]
 #[tactic(auto, using(crate::proofs::InsertedReads::reads_in_turn))]
 fn walk_first<'a, R: Threads + Sync>(
@@ -179,7 +179,7 @@ fn walk_first<'a, R: Threads + Sync>(
     }
 }
 
-/// The action of a `catch`, in a frame of its own, with `levels` at once within it. The handler is left to be run where the
+/// The action of a `catch`, in a frame of its own, with `levels` at once within it. The handler is left to be run if the
 /// action threw a number, with that as one more local, from the view before it; what the action read stays.
 #[cycle(walk)]
 fn walk_caught<'a, R: Threads + Sync>(
@@ -371,7 +371,7 @@ fn run_branch<R: Threads + Sync>(
     (end, state)
 }
 
-/// What an `orElse` comes to once both branches have run, the left one in a frame: the left one's end, or, where that
+/// What an `orElse` comes to once both branches have run, the left one in a frame: the left one's end, or, if that
 /// retried, the right one's, with the left one's reads joined to its own.
 fn choose(
     left_end: Result<Outcome, NoMemory>,
@@ -460,8 +460,8 @@ fn try_forked<R: Threads + Sync>(
 }
 
 /// As `evaluate`, with both branches of an `orElse` at once, by threads, `levels` deep. The right branch's verdict, reads
-/// and want of memory count only where the left one retried. Where the log and the locals can't be copied, or a thread
-/// can't be started, one branch runs after the other. With no levels no thread is started.
+/// and lack of memory count only if the left one retried. If the log and the locals can't be copied, or a thread can't be
+/// started, one branch runs after the other. With no levels no thread is started.
 pub fn evaluate_forked<R: Threads + Sync>(
     rt: &R,
     alloc: Global,

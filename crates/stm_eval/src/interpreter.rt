@@ -60,7 +60,7 @@ pub(crate) fn evaluate(
     }
 }
 
-/// One step of an action. Locals are added where the rest has more of them.
+/// One step of an action. Locals are added if the rest has more of them.
 #[cycle(evaluate)]
 fn step<'a>(
     frozen: &Frozen,
@@ -164,7 +164,7 @@ pub(crate) fn run_let<'a>(
     }
 }
 
-/// A statement that binds a name: the rest is left to be run, with one more local, where the statement returned.
+/// A statement that binds a name: the rest is left to be run, with one more local, if the statement returned.
 #[cycle(evaluate)]
 fn run_bound<'a>(
     frozen: &Frozen,
@@ -192,7 +192,7 @@ fn run_bound<'a>(
     }
 }
 
-/// A statement whose result is dropped: the rest is left to be run where the statement returned.
+/// A statement whose result is dropped: the rest is left to be run if the statement returned.
 #[cycle(evaluate)]
 fn run_first<'a>(
     frozen: &Frozen,
@@ -216,7 +216,7 @@ fn run_first<'a>(
     }
 }
 
-/// The left branch of `orElse`, in a frame of its own. The right branch is left to be run where it retried, from the view
+/// The left branch of `orElse`, in a frame of its own. The right branch is left to be run if it retried, from the view
 /// before it; what it read stays.
 #[cycle(evaluate)]
 fn run_left<'a>(
@@ -262,7 +262,7 @@ fn after_left<'a>(end: Outcome, right: &'a Action, log: &mut Log) -> Result<Step
     }
 }
 
-/// The action of a `catch`, in a frame of its own. The handler is left to be run where the action threw a number, with that
+/// The action of a `catch`, in a frame of its own. The handler is left to be run if the action threw a number, with that
 /// as one more local, from the view before it; what the action read stays.
 #[cycle(evaluate)]
 fn run_caught<'a>(

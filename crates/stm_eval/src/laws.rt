@@ -51,7 +51,7 @@ pub fn catch_of_return()
     ensures { CatchOfReturn }
 {}
 
-/// The `catch` of a `retry` is the `retry`: a handler doesn't run where the action blocks.
+/// The `catch` of a `retry` is the `retry`: a handler doesn't run if the action blocks.
 pub fn catch_of_retry()
     ensures { CatchOfRetry }
 {}

@@ -1,11 +1,11 @@
 //! Evaluation of a block on an unchanging copy of a store.
 //!
-//! `block` gives a block's verdict and what it read, on the nested log of `stm_log`. `message` is what an evaluation
-//! tells: its type keeps that the verdict holds wherever the values that were read are found again. `forked` gives the
-//! same message with both branches of an `orElse` at once, by threads. `laws` states why a message holds: what a block
-//! does depends on what it reads alone, left branches and actions that were rolled back included.
+//! `block` returns a block's verdict and what it read, on the nested log of `stm_log`. `message` is what an evaluation
+//! returns: its type keeps that the verdict holds on each store in which the values that were read are found again. `forked`
+//! returns the same message, and runs both branches of an `orElse` at once, by threads. `laws` states why a message holds: what
+//! a block does depends only on what it reads, also in left branches and in actions that were rolled back.
 //!
-//! What a reader has to believe stands in `specs/`: `Messages` (when a message is true, and what holds of a block on a store),
+//! What a reader has to believe is in `specs/`: `Messages` (when a message is true, and what holds of a block on a store),
 //! `EvaluatedFields` (the parts of a message), `Limits` (how many levels of `orElse` may be evaluated with both branches at
 //! once) and `Laws`.
 #![tactic(auto)]

@@ -1,4 +1,4 @@
-//! What an evaluation tells, and what may be relied on wherever it came from.
+//! What an evaluation returns, and what may be relied on wherever it came from.
 
 ghost use Rattle.std.specs.Prelude.{◌≡◌, Some};
 ghost use Rattle.std.proofs.Props.{props};

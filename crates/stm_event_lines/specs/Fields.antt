@@ -108,7 +108,7 @@ abbrev pub unless_faulty : Result Block BlockFault → Option Block
 unless_faulty (Ok b) = Some b
 unless_faulty (Err e) = None
 
--- the block that a text is over a table; none where it has a fault
+-- the block that a text is over a table; none if it has a fault
 abbrev pub block_of_text : List Declared → List ℕ → Option Block
 block_of_text table text = unless_faulty (checked_block table text)
 

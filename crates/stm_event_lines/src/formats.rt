@@ -1,4 +1,4 @@
-//! The formats of histories: which are read, which is written, and what may stand in each.
+//! The formats of histories: which are read, which is written, and what may be in each.
 
 ghost use Rattle.std.specs.Prelude.{◌≡◌, ◌↔◌, IsTrue};
 ghost use Rattle.stm_event_lines.specs.Fits.{FitsFormat};
@@ -34,7 +34,7 @@ pub fn staleness_rule(format: u32) -> StalenessRule
     }
 }
 
-/// Whether the event may stand in a history of the format.
+/// Whether the event may be in a history of the format.
 pub fn fits_format(format: u32, event: &Event) -> bool
     ensures { IsTrue result ↔ FitsFormat format event.now }
 {

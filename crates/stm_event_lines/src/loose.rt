@@ -30,7 +30,7 @@ pub fn loose_event(alloc: Global, table: &Table, line: &[u8]) -> Result<Option<E
     }
 }
 
-/// The first line that a value stands for, if it is one of a format that is read.
+/// The first line that a value represents, if it is one of a format that is read.
 fn header_read(json: &Json) -> Option<Header>
     ensures { IfSome result (λ h. IsFormat h.format) }
 {
@@ -69,7 +69,7 @@ fn named(variable: Variable) -> Option<Variable>
     }
 }
 
-/// The variable that a value stands for, if it has a name.
+/// The variable that a value represents, if it has a name.
 fn variable_read(alloc: Global, json: &Json) -> Result<Option<Variable>, NoMemory>
     ensures { IfOk result (λ o. IfSome o (λ v. FitsVariable (declared v))) }
 {

@@ -146,7 +146,7 @@ fn what_of(
     }
 }
 
-/// The event that the value stands for, if it does.
+/// The event that the value represents, if it does.
 pub fn event_of(alloc: Global, table: &Table, json: &Json) -> Result<Option<Event>, NoMemory>
     ensures value { IfOk result (λ o. o ≡ event_meant table.now (view json.now)) }
     ensures fits { IfOk result (λ o. IfSome o (λ e. FitsTable table.now e)) }
@@ -166,7 +166,7 @@ pub fn event_of(alloc: Global, table: &Table, json: &Json) -> Result<Option<Even
     }
 }
 
-/// The event that the value stands for, where the line is that event's.
+/// The event that the value represents, if the line is that event's.
 fn event_in(alloc: Global, table: &Table, json: &Json, line: &[u8]) -> Result<Event, LineError>
     ensures ok { IfOk result (λ e. event_line e ≡ line.now) }
     ensures fits { IfOk result (λ e. FitsTable table.now e) }
@@ -249,7 +249,7 @@ pub fn read_header(alloc: Global, line: &[u8]) -> Result<Header, LineError>
     }
 }
 
-/// The declared variable that the value stands for, if it does.
+/// The declared variable that the value represents, if it does.
 pub fn variable_of(alloc: Global, json: &Json) -> Result<Option<Variable>, NoMemory>
     ensures value { IfOk result (λ o. option_map declared o ≡ variable_meant (view json.now)) }
     ensures fits { IfOk result (λ o.
@@ -282,7 +282,7 @@ fn kind_at(alloc: Global, json: &Json) -> Result<Option<Ty>, NoMemory>
     }
 }
 
-/// The variable that the value stands for, where it has a name and the line is that variable's.
+/// The variable that the value represents, if it has a name and the line is that variable's.
 fn variable_in(alloc: Global, json: &Json, line: &[u8]) -> Result<Variable, LineError>
     ensures ok { IfOk result (λ v. variable_line (declared v) ≡ line.now) }
     ensures fits { IfOk result (λ v. FitsVariable (declared v)) }

@@ -1,4 +1,4 @@
-//! The verdict that a JSON value stands for.
+//! The verdict that a JSON value represents.
 
 ghost use Rattle.std.specs.Prelude.{◌≡◌, Some, None, IfOk, IfSome, option_and_then};
 ghost use Rattle.serde_json.specs.View.{view};

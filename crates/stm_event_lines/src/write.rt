@@ -174,7 +174,7 @@ fn header_json(alloc: Global, format: u32, vars: u32) -> Result<Json, NoMemory>
     json!(in alloc; {"format": format, "vars": vars})
 }
 
-/// The first line, of this format and for so many variables.
+/// The first line, of this format and for this many variables.
 #[tactic(auto, unfolding(crate::specs::Lines::header_line))]
 pub fn header_text(alloc: Global, format: u32, vars: u32) -> Result<String, NoMemory>
     ensures { IfOk result (λ s. string_bytes s ≡ header_line format vars) }

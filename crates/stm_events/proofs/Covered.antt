@@ -10,7 +10,7 @@ use Rattle.stm_events.specs.declared.event.Event.{Event}
 use Rattle.stm_events.specs.declared.event.What.{What}
 use Rattle.stm_events.specs.declared.event.What.TheVariants.{Submitted, Installed, Finished, Cancelled}
 use Rattle.stm_events.specs.declared.staleness.StalenessRule.{StalenessRule}
-use Rattle.stm_events.specs.SlowDesk.{Waiter, Slow, waking, find_waiter, without_waiter, with_delivery, delivered, after_writes, after_by, AllowsBy, initial_state, state_from_by, state_by, LegalFromBy, IsLegalBy}
+use Rattle.stm_events.specs.SlowDesk.{Waiter, Slow, waking, find_waiter, without_waiter, with_delivery, delivered, after_writes, after, Allows, initial_state, state_from, state_by, LegalFrom, IsLegalBy}
 use Rattle.stm_events.specs.Laws.{BlocksAreCovered}
 
 abbrev pub AreCovered : List Cell → List Waiter → Type 0
@@ -45,19 +45,19 @@ covered_push : (s : List Cell) (w : Waiter) (ws : List Waiter) → AreCovered s 
 covered_push s w [] c d = (d, tt)
 covered_push s w (v ∷ ws) c d = (c.0, covered_push s w ws c.1 d)
 
-pub covered_after : (rule : StalenessRule) (s : Slow) (d : What) → AreCovered s.store s.waiters → AllowsBy rule s d → AreCovered (after_by rule s d).store (after_by rule s d).waiters
-covered_after rule s (Submitted t b) c a = covered_push s.store _ s.waiters c a.1
-covered_after rule s (Installed t v) c a = covered_delivered t s.store s.waiters c
-covered_after rule s (Finished t v n l) c a =
-    covered_marks (waking rule s.store v) (applied s.store v) (without_waiter t s.waiters) (covered_more s.store v (without_waiter t s.waiters) (covered_without t s.store s.waiters c))
-covered_after rule s (Cancelled t) c a = covered_without t s.store s.waiters c
+pub covered_after : (s : Slow) (d : What) → AreCovered s.store s.waiters → Allows s d → AreCovered (after s d).store (after s d).waiters
+covered_after s (Submitted t b) c a = covered_push s.store _ s.waiters c a.1
+covered_after s (Installed t v) c a = covered_delivered t s.store s.waiters c
+covered_after s (Finished t v n l) c a =
+    covered_marks (waking s.rule s.store v) (applied s.store v) (without_waiter t s.waiters) (covered_more s.store v (without_waiter t s.waiters) (covered_without t s.store s.waiters c))
+covered_after s (Cancelled t) c a = covered_without t s.store s.waiters c
 
-covered_from : (rule : StalenessRule) (s : Slow) (es : List Event) → LegalFromBy rule s es → AreCovered s.store s.waiters → AreCovered (state_from_by rule s es).store (state_from_by rule s es).waiters
-covered_from rule s [] l c = c
-covered_from rule s (e ∷ es) l c = covered_from rule (after_by rule s e.what) es l.1 (covered_after rule s e.what c l.0.what)
+pub covered_from : (s : Slow) (es : List Event) → LegalFrom s es → AreCovered s.store s.waiters → AreCovered (state_from s es).store (state_from s es).waiters
+covered_from s [] l c = c
+covered_from s (e ∷ es) l c = covered_from (after s e.what) es l.1 (covered_after s e.what c l.0.what)
 
 pub covered_state : (rule : StalenessRule) (table : List Declared) (es : List Event) → IsLegalBy rule table es → AreCovered (state_by rule table es).store (state_by rule table es).waiters
-covered_state rule table es l = covered_from rule (initial_state table) es l.each tt
+covered_state rule table es l = covered_from (initial_state rule table) es l.each tt
 
 found_cons : (b : Bool) (s : List Cell) (w one : Waiter) (o : Option Waiter) → Covers (plains s) w.block.uses → (o ≡ Some one → Covers (plains s) one.block.uses) → cond b (Some w) o ≡ Some one → Covers (plains s) one.block.uses
 found_cons true s w one o c more e = let h : w ≡ one = cc in subst (λ (x : Waiter). Covers (plains s) x.block.uses) h c

@@ -18,7 +18,7 @@ use Rattle.stm_events.specs.declared.event.Event.{Event}
 use Rattle.stm_events.specs.declared.event.What.{What}
 use Rattle.stm_events.specs.declared.event.What.TheVariants.{Submitted, Installed, Finished, Cancelled}
 use Rattle.stm_events.specs.declared.staleness.StalenessRule.{StalenessRule}
-use Rattle.stm_events.specs.SlowDesk.{Since, Waiter, Slow, under, looked_on, waking, intersects, is_stale_since, find_waiter, without_waiter, with_delivery, delivered, woken_more, after_writes, after_by, initial_state, state_from_by, state_by}
+use Rattle.stm_events.specs.SlowDesk.{Since, Waiter, Slow, under, looked_on, waking, intersects, is_stale_since, find_waiter, without_waiter, with_delivery, delivered, woken_more, after_writes, after, initial_state, state_from, state_by}
 use Rattle.stm_events.specs.Laws.{CurrentHolds}
 use Rattle.stm_events.proofs.Stores.{or_left, or_right, value_stays}
 
@@ -62,18 +62,18 @@ fresh_marks : (rule : StalenessRule) (v : Verdict) (store : List Cell) (ws : Lis
 fresh_marks rule v store [] c = tt
 fresh_marks rule v store (w ∷ ws) c = (unwoken_more rule v store w.since c.0, fresh_marks rule v store ws c.1)
 
-fresh_after : (rule : StalenessRule) (s : Slow) (d : What) → AreFresh s.store s.waiters → AreFresh (after_by rule s d).store (after_by rule s d).waiters
-fresh_after rule s (Submitted t b) c = fresh_push s.store _ s.waiters c refl
-fresh_after rule s (Installed t v) c = fresh_delivered t s.store s.waiters c
-fresh_after rule s (Finished t v n l) c = fresh_marks rule v s.store (without_waiter t s.waiters) (fresh_without t s.store s.waiters c)
-fresh_after rule s (Cancelled t) c = fresh_without t s.store s.waiters c
+fresh_after : (s : Slow) (d : What) → AreFresh s.store s.waiters → AreFresh (after s d).store (after s d).waiters
+fresh_after s (Submitted t b) c = fresh_push s.store _ s.waiters c refl
+fresh_after s (Installed t v) c = fresh_delivered t s.store s.waiters c
+fresh_after s (Finished t v n l) c = fresh_marks s.rule v s.store (without_waiter t s.waiters) (fresh_without t s.store s.waiters c)
+fresh_after s (Cancelled t) c = fresh_without t s.store s.waiters c
 
-fresh_from : (rule : StalenessRule) (s : Slow) (es : List Event) → AreFresh s.store s.waiters → AreFresh (state_from_by rule s es).store (state_from_by rule s es).waiters
-fresh_from rule s [] c = c
-fresh_from rule s (e ∷ es) c = fresh_from rule (after_by rule s e.what) es (fresh_after rule s e.what c)
+pub fresh_from : (s : Slow) (es : List Event) → AreFresh s.store s.waiters → AreFresh (state_from s es).store (state_from s es).waiters
+fresh_from s [] c = c
+fresh_from s (e ∷ es) c = fresh_from (after s e.what) es (fresh_after s e.what c)
 
 pub fresh_state : (rule : StalenessRule) (table : List Declared) (es : List Event) → AreFresh (state_by rule table es).store (state_by rule table es).waiters
-fresh_state rule table es = fresh_from rule (initial_state table) es tt
+fresh_state rule table es = fresh_from (initial_state rule table) es tt
 
 found_cons : (b : Bool) (s : List Cell) (w one : Waiter) (o : Option Waiter) → Unwoken s w.since → (o ≡ Some one → Unwoken s one.since) → cond b (Some w) o ≡ Some one → Unwoken s one.since
 found_cons true s w one o c more e = let h : w ≡ one = cc in subst (λ (x : Waiter). Unwoken s x.since) h c
@@ -100,7 +100,10 @@ stays block store s reads v u n holds =
     (holds_agrees block.tree (under s.store_then) reads v holds i x e) in
     holds_again block.tree reads v (under s.store_then) (under store) holds agrees
 
+-- so a block that waits and isn't stale does on the present store what it did then
+pub still_holds : (t : ℕ) (store : List Cell) (ws : List Waiter) (w : Waiter) (s : Since) (reads : List (ℕ × Value)) (v : Verdict) → AreFresh store ws → find_waiter t ws ≡ Some w → w.since ≡ Some s
+    → is_stale_since w.block s ≡ false → Holds w.block.tree (under s.store_then) reads v → Holds w.block.tree (under store) reads v
+still_holds t store ws w s reads v f e since n holds = stays w.block store s reads v (subst (Unwoken store) since (fresh_waiter t store ws w f e)) n holds
+
 pub current_holds : CurrentHolds
-current_holds rule table history t w s reads v l e since n holds =
-    let u : Unwoken (state_by rule table history).store w.since = fresh_waiter t (state_by rule table history).store (state_by rule table history).waiters w (fresh_state rule table history) e in
-    stays w.block (state_by rule table history).store s reads v (subst (Unwoken (state_by rule table history).store) since u) n holds
+current_holds rule table history t w s reads v l = still_holds t (state_by rule table history).store (state_by rule table history).waiters w s reads v (fresh_state rule table history)

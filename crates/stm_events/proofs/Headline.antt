@@ -30,7 +30,7 @@ marked_by rule table history t w s l f e k =
       marked =
           ap not c ∙ twice (is_stale_since w.block s)
           ∙ ap (λ (x : List ℕ). intersects x (looked_on s.store_then w.block)) k.woken
-          ∙ ap (λ (x : List Cell). intersects (waking_from rule (state_then_by rule table history t k.delivery) k.delivery.later) (looked_on x w.block)) k.store;
+          ∙ ap (λ (x : List Cell). intersects (waking_from (state_then_by rule table history t k.delivery) k.delivery.later) (looked_on x w.block)) k.store;
       present = λ p.
           (current_holds rule table history t w s (reads_of (under s.store_then) w.block.tree) k.delivery.verdict l f e (from_current (is_stale_since w.block s) (sym c ∙ p))
           (record { verdict_is = k.verdict; reads_are = refl })).verdict_is;

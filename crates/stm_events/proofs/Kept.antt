@@ -10,36 +10,35 @@ use Rattle.stm_check.specs.TypedBlock.{Block}
 use Rattle.stm_events.specs.declared.event.Event.{Event}
 use Rattle.stm_events.specs.declared.event.What.{What}
 use Rattle.stm_events.specs.declared.event.What.TheVariants.{Submitted, Installed, Finished, Cancelled}
-use Rattle.stm_events.specs.declared.staleness.StalenessRule.{StalenessRule}
-use Rattle.stm_events.specs.SlowDesk.{Waiter, Slow, waking, find_waiter, without_waiter, with_delivery, after_writes, after_by, AllowsBy, initial_state, state_from_by, state_by, LegalFromBy, IsLegalBy}
+use Rattle.stm_events.specs.SlowDesk.{Waiter, Slow, waking, find_waiter, without_waiter, with_delivery, after_writes, after, Allows, initial_state, state_from, state_by, LegalFrom, IsLegalBy}
 use Rattle.stm_events.specs.Laws.{AreRising, DeclaredAreCovered, BlocksStay}
 use Rattle.stm_events.proofs.Folds.{state-append}
 use Rattle.stm_events.proofs.Rising.{rising_after, rising_state, waiter_without, waiter_delivered, waiter_marks, waiter_push}
 use Rattle.stm_events.proofs.Since.{low}
 
 -- ---- what is covered
-covered_after : (rule : StalenessRule) (s : Slow) (d : What) (us : List (ℕ × Ty)) → Covers (plains s.store) us → Covers (plains (after_by rule s d).store) us
-covered_after rule s (Submitted t b) us c = c
-covered_after rule s (Installed t v) us c = c
-covered_after rule s (Finished t v n l) us c = covered_stay s.store v us c
-covered_after rule s (Cancelled t) us c = c
+covered_after : (s : Slow) (d : What) (us : List (ℕ × Ty)) → Covers (plains s.store) us → Covers (plains (after s d).store) us
+covered_after s (Submitted t b) us c = c
+covered_after s (Installed t v) us c = c
+covered_after s (Finished t v n l) us c = covered_stay s.store v us c
+covered_after s (Cancelled t) us c = c
 
-covered_from : (rule : StalenessRule) (s : Slow) (es : List Event) (us : List (ℕ × Ty)) → Covers (plains s.store) us → Covers (plains (state_from_by rule s es).store) us
-covered_from rule s [] us c = c
-covered_from rule s (e ∷ es) us c = covered_from rule (after_by rule s e.what) es us (covered_after rule s e.what us c)
+covered_from : (s : Slow) (es : List Event) (us : List (ℕ × Ty)) → Covers (plains s.store) us → Covers (plains (state_from s es).store) us
+covered_from s [] us c = c
+covered_from s (e ∷ es) us c = covered_from (after s e.what) es us (covered_after s e.what us c)
 
 pub declared_are_covered : DeclaredAreCovered
-declared_are_covered rule table history us l c = covered_from rule (initial_state table) history us c
+declared_are_covered rule table history us l c = covered_from (initial_state rule table) history us c
 
 -- ---- a history after another
 -- the first part of a legal history is legal, and so is the rest after it
-pub record IsLegalAppend (rule : StalenessRule) (s : Slow) (before more : List Event) : Type 0 where
-  pub first : LegalFromBy rule s before
-  pub rest : LegalFromBy rule (state_from_by rule s before) more
+pub record IsLegalAppend (s : Slow) (before more : List Event) : Type 0 where
+  pub first : LegalFrom s before
+  pub rest : LegalFrom (state_from s before) more
 
-pub legal-append : (rule : StalenessRule) (s : Slow) (before more : List Event) → LegalFromBy rule s (before ++ more) → IsLegalAppend rule s before more
-legal-append rule s [] more l = record { first = tt; rest = l }
-legal-append rule s (e ∷ before) more l = let r = legal-append rule (after_by rule s e.what) before more l.1 in record { first = (l.0, r.first); rest = r.rest }
+pub legal-append : (s : Slow) (before more : List Event) → LegalFrom s (before ++ more) → IsLegalAppend s before more
+legal-append s [] more l = record { first = tt; rest = l }
+legal-append s (e ∷ before) more l = let r = legal-append (after s e.what) before more l.1 in record { first = (l.0, r.first); rest = r.rest }
 
 -- ---- the block under a ticket that was given
 abbrev IsBlock : Block → Option Waiter → Type 0
@@ -69,43 +68,43 @@ record IsKept (t : ℕ) (b : Block) (s : Slow) : Type 0 where
 unlike : (t u n : ℕ) → t < n → u ≡ n → nat_eq t u ≡ false
 unlike t u n l e = grind (arith, nat_tests)
 
-kept_after : (rule : StalenessRule) (t : ℕ) (b : Block) (s : Slow) (d : What) → AllowsBy rule s d → IsKept t b s → IsKept t b (after_by rule s d)
-kept_after rule t b s (Submitted u block) a k =
+kept_after : (t : ℕ) (b : Block) (s : Slow) (d : What) → Allows s d → IsKept t b s → IsKept t b (after s d)
+kept_after t b s (Submitted u block) a k =
     let v : Waiter = record { ticket = u; block = block; since = None } in
     record {
-      rising = rising_after rule s (Submitted u block) (let g = k.given in omega arith) k.rising a;
+      rising = rising_after s (Submitted u block) (let g = k.given in omega arith) k.rising a;
       given = let g = k.given in omega arith;
       block = subst (IsBlock b) (sym (waiter_push t s.next 0 v s.waiters a.0 k.rising)) (block_given (nat_eq t u) b v (find_waiter t s.waiters) (unlike t u s.next k.given a.0) k.block);
     }
-kept_after rule t b s (Installed u v) a k = record {
-  rising = rising_after rule s (Installed u v) (let g = k.given in omega arith) k.rising a;
+kept_after t b s (Installed u v) a k = record {
+  rising = rising_after s (Installed u v) (let g = k.given in omega arith) k.rising a;
   given = k.given;
   block = subst (IsBlock b) (sym (waiter_delivered u t s.store s.waiters)) (block_delivered (nat_eq t u) b s.store (find_waiter t s.waiters) k.block);
 }
-kept_after rule t b s (Finished u v n l) a k = record {
-  rising = rising_after rule s (Finished u v n l) (let g = k.given in omega arith) k.rising a;
+kept_after t b s (Finished u v n l) a k = record {
+  rising = rising_after s (Finished u v n l) (let g = k.given in omega arith) k.rising a;
   given = k.given;
   block =
-      subst (IsBlock b) (sym (waiter_marks t (waking rule s.store v) (without_waiter u s.waiters)))
-      (block_kept b (after_writes (waking rule s.store v)) (find_waiter t (without_waiter u s.waiters)) (λ w. refl)
+      subst (IsBlock b) (sym (waiter_marks t (waking s.rule s.store v) (without_waiter u s.waiters)))
+      (block_kept b (after_writes (waking s.rule s.store v)) (find_waiter t (without_waiter u s.waiters)) (λ w. refl)
       (subst (IsBlock b) (sym (waiter_without u t s.next 0 s.waiters k.rising)) (block_gone (nat_eq t u) b (find_waiter t s.waiters) k.block)));
 }
-kept_after rule t b s (Cancelled u) a k = record {
-  rising = rising_after rule s (Cancelled u) (let g = k.given in omega arith) k.rising a;
+kept_after t b s (Cancelled u) a k = record {
+  rising = rising_after s (Cancelled u) (let g = k.given in omega arith) k.rising a;
   given = k.given;
   block = subst (IsBlock b) (sym (waiter_without u t s.next 0 s.waiters k.rising)) (block_gone (nat_eq t u) b (find_waiter t s.waiters) k.block);
 }
 
-kept_from : (rule : StalenessRule) (t : ℕ) (b : Block) (s : Slow) (es : List Event) → LegalFromBy rule s es → IsKept t b s → IsKept t b (state_from_by rule s es)
-kept_from rule t b s [] l k = k
-kept_from rule t b s (e ∷ es) l k = kept_from rule t b (after_by rule s e.what) es l.1 (kept_after rule t b s e.what l.0.what k)
+kept_from : (t : ℕ) (b : Block) (s : Slow) (es : List Event) → LegalFrom s es → IsKept t b s → IsKept t b (state_from s es)
+kept_from t b s [] l k = k
+kept_from t b s (e ∷ es) l k = kept_from t b (after s e.what) es l.1 (kept_after t b s e.what l.0.what k)
 
 pub blocks_stay : BlocksStay
 blocks_stay rule table before more t v w l e f =
     let s = state_by rule table before in
-    let p = legal-append rule (initial_state table) before more l.each in
+    let p = legal-append (initial_state rule table) before more l.each in
     let legal : IsLegalBy rule table before = record { each = p.first; few = let few = l.few in omega (arith, length-append before more, few) } in
     let rising : AreRising s.next 0 s.waiters = rising_state rule table before legal in
     let begin : IsKept t v.block s = record { rising = rising; given = low t s.next 0 s.waiters v rising e; block = λ x g. let q : v ≡ x = cc in subst (λ (y : Waiter). y.block ≡ v.block) q refl } in
-    let there : find_waiter t (state_from_by rule s more).waiters ≡ Some w = subst (λ (x : Slow). find_waiter t x.waiters ≡ Some w) (state-append rule (initial_state table) before more) f in
-    (kept_from rule t v.block s more p.rest begin).block w there
+    let there : find_waiter t (state_from s more).waiters ≡ Some w = subst (λ (x : Slow). find_waiter t x.waiters ≡ Some w) (state-append (initial_state rule table) before more) f in
+    (kept_from t v.block s more p.rest begin).block w there

@@ -8,7 +8,7 @@ use Rattle.stm_events.specs.declared.event.Event.{Event}
 use Rattle.stm_events.specs.declared.event.What.{What}
 use Rattle.stm_events.specs.declared.event.What.TheVariants.{Submitted, Installed, Finished, Cancelled}
 use Rattle.stm_events.specs.declared.staleness.StalenessRule.{StalenessRule}
-use Rattle.stm_events.specs.SlowDesk.{Waiter, Slow, waking, find_waiter, without_waiter, with_delivery, delivered, after_writes, after_by, AllowsBy, initial_state, state_from_by, state_by, LegalFromBy, IsLegalBy}
+use Rattle.stm_events.specs.SlowDesk.{Waiter, Slow, waking, find_waiter, without_waiter, with_delivery, delivered, after_writes, after, Allows, initial_state, state_from, state_by, LegalFrom, IsLegalBy}
 use Rattle.stm_events.specs.Laws.{AreRising, TicketsRise}
 
 rising_from : (n k j : ℕ) (ws : List Waiter) → j ≤ k → AreRising n k ws → AreRising n j ws
@@ -39,38 +39,38 @@ rising_push : (n k : ℕ) (w : Waiter) (ws : List Waiter) → k < n → w.ticket
 rising_push n k w [] h e r = (omega arith, omega arith, tt)
 rising_push n k w (v ∷ ws) h e r = let b : v.ticket < n = r.1 in (r.0, omega arith, rising_push n v.ticket w ws r.1 e r.2)
 
-pub rising_after : (rule : StalenessRule) (s : Slow) (d : What) → 0 < s.next → AreRising s.next 0 s.waiters → AllowsBy rule s d → AreRising (after_by rule s d).next 0 (after_by rule s d).waiters
-rising_after rule s (Submitted t b) p r a = rising_push s.next 0 _ s.waiters p a.0 r
-rising_after rule s (Installed t v) p r a = rising_delivered t s.next 0 s.store s.waiters r
-rising_after rule s (Finished t v n l) p r a = rising_marks (waking rule s.store v) s.next 0 (without_waiter t s.waiters) (rising_without t s.next 0 s.waiters r)
-rising_after rule s (Cancelled t) p r a = rising_without t s.next 0 s.waiters r
+pub rising_after : (s : Slow) (d : What) → 0 < s.next → AreRising s.next 0 s.waiters → Allows s d → AreRising (after s d).next 0 (after s d).waiters
+rising_after s (Submitted t b) p r a = rising_push s.next 0 _ s.waiters p a.0 r
+rising_after s (Installed t v) p r a = rising_delivered t s.next 0 s.store s.waiters r
+rising_after s (Finished t v n l) p r a = rising_marks (waking s.rule s.store v) s.next 0 (without_waiter t s.waiters) (rising_without t s.next 0 s.waiters r)
+rising_after s (Cancelled t) p r a = rising_without t s.next 0 s.waiters r
 
-pub next_after : (rule : StalenessRule) (s : Slow) (d : What) → 0 < s.next → 0 < (after_by rule s d).next
-next_after rule s (Submitted t b) p = omega arith
-next_after rule s (Installed t v) p = p
-next_after rule s (Finished t v n l) p = p
-next_after rule s (Cancelled t) p = p
+pub next_after : (s : Slow) (d : What) → 0 < s.next → 0 < (after s d).next
+next_after s (Submitted t b) p = omega arith
+next_after s (Installed t v) p = p
+next_after s (Finished t v n l) p = p
+next_after s (Cancelled t) p = p
 
-rising_all : (rule : StalenessRule) (s : Slow) (es : List Event) → LegalFromBy rule s es → 0 < s.next → AreRising s.next 0 s.waiters → AreRising (state_from_by rule s es).next 0 (state_from_by rule s es).waiters
-rising_all rule s [] l p r = r
-rising_all rule s (e ∷ es) l p r = rising_all rule (after_by rule s e.what) es l.1 (next_after rule s e.what p) (rising_after rule s e.what p r l.0.what)
+pub rising_all : (s : Slow) (es : List Event) → LegalFrom s es → 0 < s.next → AreRising s.next 0 s.waiters → AreRising (state_from s es).next 0 (state_from s es).waiters
+rising_all s [] l p r = r
+rising_all s (e ∷ es) l p r = rising_all (after s e.what) es l.1 (next_after s e.what p) (rising_after s e.what p r l.0.what)
 
 pub rising_state : (rule : StalenessRule) (table : List Declared) (es : List Event) → IsLegalBy rule table es → AreRising (state_by rule table es).next 0 (state_by rule table es).waiters
-rising_state rule table es l = rising_all rule (initial_state table) es l.each (omega arith) tt
+rising_state rule table es l = rising_all (initial_state rule table) es l.each (omega arith) tt
 
 -- tickets don't run out before the history
-after_next : (rule : StalenessRule) (s : Slow) (d : What) → (after_by rule s d).next ≤ s.next + 1
-after_next rule s (Submitted t b) = omega arith
-after_next rule s (Installed t v) = omega arith
-after_next rule s (Finished t v n l) = omega arith
-after_next rule s (Cancelled t) = omega arith
+after_next : (s : Slow) (d : What) → (after s d).next ≤ s.next + 1
+after_next s (Submitted t b) = omega arith
+after_next s (Installed t v) = omega arith
+after_next s (Finished t v n l) = omega arith
+after_next s (Cancelled t) = omega arith
 
-pub next_le : (rule : StalenessRule) (s : Slow) (es : List Event) → (state_from_by rule s es).next ≤ s.next + length es
-next_le rule s [] = omega arith
-next_le rule s (e ∷ es) = omega (arith, next_le rule (after_by rule s e.what) es, after_next rule s e.what)
+pub next_le : (s : Slow) (es : List Event) → (state_from s es).next ≤ s.next + length es
+next_le s [] = omega arith
+next_le s (e ∷ es) = omega (arith, next_le (after s e.what) es, after_next s e.what)
 
 pub tickets_rise : TicketsRise
-tickets_rise rule table history l = record { rising = rising_state rule table history l; few = next_le rule (initial_state table) history }
+tickets_rise rule table history l = record { rising = rising_state rule table history l; few = next_le (initial_state rule table) history }
 
 -- ---- who waits under a ticket, after each change of the list
 absent_above : (t n k : ℕ) (ws : List Waiter) → t ≤ k → AreRising n k ws → find_waiter t ws ≡ None

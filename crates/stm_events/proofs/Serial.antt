@@ -7,24 +7,23 @@ use Rattle.stm_check.specs.TypedBlock.{Block}
 use Rattle.stm_events.specs.declared.event.Event.{Event}
 use Rattle.stm_events.specs.declared.event.What.{What}
 use Rattle.stm_events.specs.declared.event.What.TheVariants.{Submitted, Installed, Finished, Cancelled}
-use Rattle.stm_events.specs.declared.staleness.StalenessRule.{StalenessRule}
-use Rattle.stm_events.specs.SlowDesk.{Waiter, Slow, MayFinishBy, find_waiter, after_by, AllowsBy, initial_state, state_from_by, LegalFromBy, applied_or, serial, blocks_of_waiter, finishing, finished_from_by}
+use Rattle.stm_events.specs.SlowDesk.{Waiter, Slow, MayFinish, find_waiter, after, Allows, initial_state, state_from, LegalFrom, applied_or, serial, blocks_of_waiter, finishing, finished_from}
 use Rattle.stm_events.specs.Laws.{StoreIsSerial}
 
-serial_finish : (rule : StalenessRule) (s : Slow) (t : ℕ) (v : Verdict) (n : ℕ) (l : List ℕ) (o : Option Waiter) (bs : List Block) → IsSomeAnd o (λ w. MayFinishBy rule s t w v n l)
+serial_finish : (s : Slow) (t : ℕ) (v : Verdict) (n : ℕ) (l : List ℕ) (o : Option Waiter) (bs : List Block) → IsSomeAnd o (λ w. MayFinish s t w v n l)
     → serial (applied s.store v) bs ≡ serial s.store (blocks_of_waiter o ++ bs)
-serial_finish rule s t v n l (Some w) bs m = sym (ap (λ (x : Option Verdict). serial (applied_or s.store x) bs) m.verdict_is)
-serial_finish rule s t v n l None bs m = absurd m
+serial_finish s t v n l (Some w) bs m = sym (ap (λ (x : Option Verdict). serial (applied_or s.store x) bs) m.verdict_is)
+serial_finish s t v n l None bs m = absurd m
 
-serial_step : (rule : StalenessRule) (s : Slow) (d : What) (bs : List Block) → AllowsBy rule s d → serial (after_by rule s d).store bs ≡ serial s.store (finishing s d ++ bs)
-serial_step rule s (Submitted t b) bs a = refl
-serial_step rule s (Installed t v) bs a = refl
-serial_step rule s (Finished t v n l) bs a = serial_finish rule s t v n l (find_waiter t s.waiters) bs a
-serial_step rule s (Cancelled t) bs a = refl
+serial_step : (s : Slow) (d : What) (bs : List Block) → Allows s d → serial (after s d).store bs ≡ serial s.store (finishing s d ++ bs)
+serial_step s (Submitted t b) bs a = refl
+serial_step s (Installed t v) bs a = refl
+serial_step s (Finished t v n l) bs a = serial_finish s t v n l (find_waiter t s.waiters) bs a
+serial_step s (Cancelled t) bs a = refl
 
-serial_from : (rule : StalenessRule) (s : Slow) (es : List Event) → LegalFromBy rule s es → (state_from_by rule s es).store ≡ serial s.store (finished_from_by rule s es)
-serial_from rule s [] l = refl
-serial_from rule s (e ∷ es) l = serial_from rule (after_by rule s e.what) es l.1 ∙ serial_step rule s e.what (finished_from_by rule (after_by rule s e.what) es) l.0.what
+serial_from : (s : Slow) (es : List Event) → LegalFrom s es → (state_from s es).store ≡ serial s.store (finished_from s es)
+serial_from s [] l = refl
+serial_from s (e ∷ es) l = serial_from (after s e.what) es l.1 ∙ serial_step s e.what (finished_from (after s e.what) es) l.0.what
 
 pub store_is_serial : StoreIsSerial
-store_is_serial rule table history l = serial_from rule (initial_state table) history l.each
+store_is_serial rule table history l = serial_from (initial_state rule table) history l.each

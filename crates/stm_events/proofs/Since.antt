@@ -11,7 +11,7 @@ use Rattle.stm_events.specs.declared.event.Event.{Event}
 use Rattle.stm_events.specs.declared.event.What.{What}
 use Rattle.stm_events.specs.declared.event.What.TheVariants.{Submitted, Installed, Finished, Cancelled}
 use Rattle.stm_events.specs.declared.staleness.StalenessRule.{StalenessRule}
-use Rattle.stm_events.specs.SlowDesk.{Since, Waiter, Slow, verdict_on, waking, MayInstall, find_waiter, without_waiter, with_delivery, woken_more, after_writes, after_by, AllowsBy, initial_state, state_from_by, state_by, LegalFromBy, IsLegalBy}
+use Rattle.stm_events.specs.SlowDesk.{Since, Waiter, Slow, verdict_on, waking, MayInstall, find_waiter, without_waiter, with_delivery, woken_more, after_writes, after, Allows, initial_state, state_from, state_by, LegalFrom, IsLegalBy}
 use Rattle.stm_events.specs.Laws.{AreRising}
 use Rattle.stm_events.specs.Headline.{installs_to, is_installed, waking_at, waking_from, LastDelivery, state_then_by}
 use Rattle.stm_events.proofs.Folds.{state-push, state-append}
@@ -21,7 +21,7 @@ use Rattle.stm_events.proofs.Rising.{rising_after, next_after, waiter_without, w
 pub record IsSince (rule : StalenessRule) (table : List Declared) (history : List Event) (t : ℕ) (b : Block) (s : Since) : Type 0 where
   pub delivery : LastDelivery history t
   pub store : s.store_then ≡ (state_by rule table delivery.before).store
-  pub woken : s.woken ≡ waking_from rule (state_then_by rule table history t delivery) delivery.later
+  pub woken : s.woken ≡ waking_from (state_then_by rule table history t delivery) delivery.later
   pub verdict : verdict_on s.store_then b ≡ Some delivery.verdict
 
 abbrev pub Tracks : (rule : StalenessRule) → List Declared → List Event → ℕ → Block → Option Since → Type 0
@@ -39,11 +39,11 @@ installed-push t (d ∷ es) e = ap (λ (b : Bool). installs_to t d.what || b) (i
   turn true b c = refl
   turn false b c = refl
 
-waking-push : (rule : StalenessRule) (s : Slow) (es : List Event) (e : Event) → waking_from rule s (es ++ e ∷ []) ≡ waking_from rule s es ++ waking_at rule (state_from_by rule s es) e.what
-waking-push rule s [] e = append-nil (waking_at rule s e.what)
-waking-push rule s (d ∷ es) e =
-    ap (λ (xs : List ℕ). waking_at rule s d.what ++ xs) (waking-push rule (after_by rule s d.what) es e)
-    ∙ sym (append_assoc (waking_at rule s d.what) (waking_from rule (after_by rule s d.what) es) (waking_at rule (state_from_by rule (after_by rule s d.what) es) e.what))
+waking-push : (s : Slow) (es : List Event) (e : Event) → waking_from s (es ++ e ∷ []) ≡ waking_from s es ++ waking_at (state_from s es) e.what
+waking-push s [] e = append-nil (waking_at s e.what)
+waking-push s (d ∷ es) e =
+    ap (λ (xs : List ℕ). waking_at s d.what ++ xs) (waking-push (after s d.what) es e)
+    ∙ sym (append_assoc (waking_at s d.what) (waking_from (after s d.what) es) (waking_at (state_from (after s d.what) es) e.what))
 
 neither : (a b : Bool) → a ≡ false → b ≡ false → (a || b) ≡ false
 neither a b g h = rw (g, h)
@@ -60,22 +60,22 @@ delivery-push h e t n d = record {
 }
 
 -- the state that the history leads to is that after the delivery, and then the later events
-then_now : (rule : StalenessRule) (table : List Declared) (h : List Event) (t : ℕ) (d : LastDelivery h t) → state_from_by rule (state_then_by rule table h t d) d.later ≡ state_by rule table h
+then_now : (rule : StalenessRule) (table : List Declared) (h : List Event) (t : ℕ) (d : LastDelivery h t) → state_from (state_then_by rule table h t d) d.later ≡ state_by rule table h
 then_now rule table h t d =
-    sym (ap (state_by rule table) d.whole ∙ state-append rule (initial_state table) d.before (record { client = d.client; what = Installed t d.verdict } ∷ d.later))
+    sym (ap (state_by rule table) d.whole ∙ state-append (initial_state rule table) d.before (record { client = d.client; what = Installed t d.verdict } ∷ d.later))
 
 -- the variables by which the event makes blocks stale join the others
 tracks-push : (rule : StalenessRule) (table : List Declared) (h : List Event) (e : Event) (t : ℕ) (b : Block) (o : Option Since) (now : Slow) → now ≡ state_by rule table h → installs_to t e.what ≡ false → Tracks rule table h t b o
-    → Tracks rule table (h ++ e ∷ []) t b (woken_more (waking_at rule now e.what) o)
+    → Tracks rule table (h ++ e ∷ []) t b (woken_more (waking_at now e.what) o)
 tracks-push rule table h e t b None now r n k = installed-push t h e ∙ neither (is_installed t h) (installs_to t e.what) k n
 tracks-push rule table h e t b (Some s) now r n k = record {
   delivery = delivery-push h e t n k.delivery;
   store = k.store;
   woken =
       let then = state_then_by rule table h t k.delivery in
-      ap (λ (xs : List ℕ). xs ++ waking_at rule now e.what) k.woken
-      ∙ ap (λ (x : Slow). waking_from rule then k.delivery.later ++ waking_at rule x e.what) (r ∙ sym (then_now rule table h t k.delivery))
-      ∙ sym (waking-push rule then k.delivery.later e);
+      ap (λ (xs : List ℕ). xs ++ waking_at now e.what) k.woken
+      ∙ ap (λ (x : Slow). waking_from then k.delivery.later ++ waking_at x e.what) (r ∙ sym (then_now rule table h t k.delivery))
+      ∙ sym (waking-push then k.delivery.later e);
   verdict = k.verdict;
 }
 
@@ -84,7 +84,7 @@ woken-nothing : (o : Option Since) → woken_more [] o ≡ o
 woken-nothing None = refl
 woken-nothing (Some s) = ap (λ (xs : List ℕ). Some (record s { woken = xs })) (append-nil s.woken)
 
-tracks-quiet : (rule : StalenessRule) (table : List Declared) (h : List Event) (e : Event) (t : ℕ) (b : Block) (o : Option Since) → installs_to t e.what ≡ false → waking_at rule (state_by rule table h) e.what ≡ [] → Tracks rule table h t b o → Tracks rule table (h ++ e ∷ []) t b o
+tracks-quiet : (rule : StalenessRule) (table : List Declared) (h : List Event) (e : Event) (t : ℕ) (b : Block) (o : Option Since) → installs_to t e.what ≡ false → waking_at (state_by rule table h) e.what ≡ [] → Tracks rule table h t b o → Tracks rule table (h ++ e ∷ []) t b o
 tracks-quiet rule table h e t b o n q k =
     subst (λ (x : Option Since). Tracks rule table (h ++ e ∷ []) t b x) (ap (λ (xs : List ℕ). woken_more xs o) q ∙ woken-nothing o) (tracks-push rule table h e t b o (state_by rule table h) refl n k)
 
@@ -173,11 +173,11 @@ some_of : (o : Option Waiter) (P : Waiter → Type 0) → IsSomeAnd o P → (w :
 some_of None P i = absurd i
 some_of (Some w) P i = (w, refl, i)
 
-tracked_after : (rule : StalenessRule) (table : List Declared) (h : List Event) (s : Slow) (c : ℕ) (d : What) → AreTracked rule table h s → AllowsBy rule s d → AreTracked rule table (Pushed h c d) (after_by rule s d)
+tracked_after : (rule : StalenessRule) (table : List Declared) (h : List Event) (s : Slow) (c : ℕ) (d : What) → AreTracked rule table h s → Allows s d → AreTracked rule table (Pushed h c d) (after s d)
 tracked_after rule table h s c (Submitted t block) k a = record {
-  rising = rising_after rule s (Submitted t block) k.begun k.rising a;
-  begun = next_after rule s (Submitted t block) k.begun;
-  reached = ap (λ (x : Slow). after_by rule x (Submitted t block)) k.reached ∙ sym (state-push rule (initial_state table) h (by_client c (Submitted t block)));
+  rising = rising_after s (Submitted t block) k.begun k.rising a;
+  begun = next_after s (Submitted t block) k.begun;
+  reached = ap (λ (x : Slow). after x (Submitted t block)) k.reached ∙ sym (state-push (initial_state rule table) h (by_client c (Submitted t block)));
   each = λ u w e.
       let there = waiter_push u s.next 0 (record { ticket = t; block = block; since = None }) s.waiters a.0 k.rising in
       submit_by rule (nat_eq u t) table h c t u block w (find_waiter u s.waiters) refl (k.none_yet t (let q = a.0 in omega arith)) (k.each u w) (sym there ∙ e);
@@ -186,36 +186,36 @@ tracked_after rule table h s c (Submitted t block) k a = record {
 tracked_after rule table h s c (Installed t v) k a =
     let p = some_of (find_waiter t s.waiters) (λ w. MayInstall s w v) a in
     record {
-      rising = rising_after rule s (Installed t v) k.begun k.rising a;
+      rising = rising_after s (Installed t v) k.begun k.rising a;
       begun = k.begun;
-      reached = ap (λ (x : Slow). after_by rule x (Installed t v)) k.reached ∙ sym (state-push rule (initial_state table) h (by_client c (Installed t v)));
+      reached = ap (λ (x : Slow). after x (Installed t v)) k.reached ∙ sym (state-push (initial_state rule table) h (by_client c (Installed t v)));
       each = λ u w e. deliver_by rule (nat_eq u t) table h c t u v s w p.0 refl k.reached p.1 p.2 (k.each u) (sym (waiter_delivered t u s.store s.waiters) ∙ e);
       none_yet = λ u l. later_none h (by_client c (Installed t v)) u (other_ticket t u s.next (low t s.next 0 s.waiters p.0 k.rising p.1) l) (k.none_yet u l);
     }
 tracked_after rule table h s c (Finished t v n stale) k a = record {
-  rising = rising_after rule s (Finished t v n stale) k.begun k.rising a;
+  rising = rising_after s (Finished t v n stale) k.begun k.rising a;
   begun = k.begun;
-  reached = ap (λ (x : Slow). after_by rule x (Finished t v n stale)) k.reached ∙ sym (state-push rule (initial_state table) h (by_client c (Finished t v n stale)));
+  reached = ap (λ (x : Slow). after x (Finished t v n stale)) k.reached ∙ sym (state-push (initial_state rule table) h (by_client c (Finished t v n stale)));
   each = λ u w e.
-      marked_one rule (waking rule s.store v) table (Pushed h c (Finished t v n stale)) u (find_waiter u (without_waiter t s.waiters)) w (sym (waiter_marks u (waking rule s.store v) (without_waiter t s.waiters)) ∙ e)
+      marked_one rule (waking s.rule s.store v) table (Pushed h c (Finished t v n stale)) u (find_waiter u (without_waiter t s.waiters)) w (sym (waiter_marks u (waking s.rule s.store v) (without_waiter t s.waiters)) ∙ e)
       (λ x f. tracks-push rule table h (by_client c (Finished t v n stale)) u x.block x.since s k.reached refl (k.each u x (gone_by (nat_eq u t) (find_waiter u s.waiters) x (sym (waiter_without t u s.next 0 s.waiters k.rising) ∙ f))));
   none_yet = λ u l. later_none h (by_client c (Finished t v n stale)) u refl (k.none_yet u l);
 }
 tracked_after rule table h s c (Cancelled t) k a = record {
-  rising = rising_after rule s (Cancelled t) k.begun k.rising a;
+  rising = rising_after s (Cancelled t) k.begun k.rising a;
   begun = k.begun;
-  reached = ap (λ (x : Slow). after_by rule x (Cancelled t)) k.reached ∙ sym (state-push rule (initial_state table) h (by_client c (Cancelled t)));
+  reached = ap (λ (x : Slow). after x (Cancelled t)) k.reached ∙ sym (state-push (initial_state rule table) h (by_client c (Cancelled t)));
   each = λ u w e.
       tracks-quiet rule table h (by_client c (Cancelled t)) u w.block w.since refl refl (k.each u w (gone_by (nat_eq u t) (find_waiter u s.waiters) w (sym (waiter_without t u s.next 0 s.waiters k.rising) ∙ e)));
   none_yet = λ u l. later_none h (by_client c (Cancelled t)) u refl (k.none_yet u l);
 }
 
-tracked_all : (rule : StalenessRule) (table : List Declared) (h : List Event) (s : Slow) (es : List Event) → AreTracked rule table h s → LegalFromBy rule s es → AreTracked rule table (h ++ es) (state_from_by rule s es)
+tracked_all : (rule : StalenessRule) (table : List Declared) (h : List Event) (s : Slow) (es : List Event) → AreTracked rule table h s → LegalFrom s es → AreTracked rule table (h ++ es) (state_from s es)
 tracked_all rule table h s [] k l = subst (λ (x : List Event). AreTracked rule table x s) (sym (append-nil h)) k
 tracked_all rule table h s (e ∷ es) k l =
-    subst (λ (x : List Event). AreTracked rule table x (state_from_by rule (after_by rule s e.what) es)) (append_assoc h (e ∷ []) es)
-    (tracked_all rule table (h ++ e ∷ []) (after_by rule s e.what) es (tracked_after rule table h s e.client e.what k l.0.what) l.1)
+    subst (λ (x : List Event). AreTracked rule table x (state_from (after s e.what) es)) (append_assoc h (e ∷ []) es)
+    (tracked_all rule table (h ++ e ∷ []) (after s e.what) es (tracked_after rule table h s e.client e.what k l.0.what) l.1)
 
 pub tracked_state : (rule : StalenessRule) (table : List Declared) (history : List Event) → IsLegalBy rule table history → AreTracked rule table history (state_by rule table history)
 tracked_state rule table history l =
-    tracked_all rule table [] (initial_state table) history (record { rising = tt; begun = omega arith; reached = refl; each = λ t w e. cc; none_yet = λ t l. refl }) l.each
+    tracked_all rule table [] (initial_state rule table) history (record { rising = tt; begun = omega arith; reached = refl; each = λ t w e. cc; none_yet = λ t l. refl }) l.each

@@ -11,8 +11,7 @@ use Rattle.stm_check.proofs.Weakening.{verdict_fits}
 use Rattle.stm_events.specs.declared.event.Event.{Event}
 use Rattle.stm_events.specs.declared.event.What.{What}
 use Rattle.stm_events.specs.declared.event.What.TheVariants.{Submitted, Installed, Finished, Cancelled}
-use Rattle.stm_events.specs.declared.staleness.StalenessRule.{StalenessRule}
-use Rattle.stm_events.specs.SlowDesk.{Waiter, Slow, waking, MayFinishBy, find_waiter, without_waiter, with_delivery, delivered, after_writes, after_by, AllowsBy, initial_state, state_from_by, state_by, LegalFromBy}
+use Rattle.stm_events.specs.SlowDesk.{Waiter, Slow, waking, MayFinish, find_waiter, without_waiter, with_delivery, delivered, after_writes, after, Allows, initial_state, state_from, state_by, LegalFrom}
 use Rattle.stm_events.specs.Laws.{IsWellTyped, SubmitsWellTyped, SubmittedAreWellTyped, WaitingAreWellTyped, StoresAreTyped, BlocksHaveVerdicts}
 use Rattle.stm_events.proofs.Covered.{AreCovered, covered_after, covered_waiter, blocks_are_covered}
 
@@ -45,11 +44,11 @@ typed_push : (w : Waiter) (ws : List Waiter) → AreWellTyped ws → IsWellTyped
 typed_push w [] c d = (d, tt)
 typed_push w (v ∷ ws) c d = (c.0, typed_push w ws c.1 d)
 
-blocks_after : (rule : StalenessRule) (s : Slow) (d : What) → AreWellTyped s.waiters → SubmitsWellTyped d → AreWellTyped (after_by rule s d).waiters
-blocks_after rule s (Submitted t b) c a = typed_push _ s.waiters c a
-blocks_after rule s (Installed t v) c a = typed_delivered t s.store s.waiters c
-blocks_after rule s (Finished t v n l) c a = typed_marks (waking rule s.store v) (without_waiter t s.waiters) (typed_without t s.waiters c)
-blocks_after rule s (Cancelled t) c a = typed_without t s.waiters c
+blocks_after : (s : Slow) (d : What) → AreWellTyped s.waiters → SubmitsWellTyped d → AreWellTyped (after s d).waiters
+blocks_after s (Submitted t b) c a = typed_push _ s.waiters c a
+blocks_after s (Installed t v) c a = typed_delivered t s.store s.waiters c
+blocks_after s (Finished t v n l) c a = typed_marks (waking s.rule s.store v) (without_waiter t s.waiters) (typed_without t s.waiters c)
+blocks_after s (Cancelled t) c a = typed_without t s.waiters c
 
 found_cons : (b : Bool) (w one : Waiter) (o : Option Waiter) → IsWellTyped w.block → (o ≡ Some one → IsWellTyped one.block) → cond b (Some w) o ≡ Some one → IsWellTyped one.block
 found_cons true w one o c more e = let h : w ≡ one = cc in subst (λ (x : Waiter). IsWellTyped x.block) h c
@@ -59,9 +58,9 @@ typed_waiter : (t : ℕ) (ws : List Waiter) (one : Waiter) → AreWellTyped ws �
 typed_waiter t [] one c e = cc
 typed_waiter t (w ∷ ws) one c e = found_cons (nat_eq t w.ticket) w one (find_waiter t ws) c.0 (typed_waiter t ws one c.1) e
 
-blocks_from : (rule : StalenessRule) (s : Slow) (es : List Event) → SubmittedAreWellTyped es → AreWellTyped s.waiters → AreWellTyped (state_from_by rule s es).waiters
-blocks_from rule s [] w c = c
-blocks_from rule s (e ∷ es) w c = blocks_from rule (after_by rule s e.what) es w.1 (blocks_after rule s e.what c w.0)
+blocks_from : (s : Slow) (es : List Event) → SubmittedAreWellTyped es → AreWellTyped s.waiters → AreWellTyped (state_from s es).waiters
+blocks_from s [] w c = c
+blocks_from s (e ∷ es) w c = blocks_from (after s e.what) es w.1 (blocks_after s e.what c w.0)
 
 -- of histories one after the other
 pub submitted-append : (before more : List Event) → SubmittedAreWellTyped before → SubmittedAreWellTyped more → SubmittedAreWellTyped (before ++ more)
@@ -69,7 +68,7 @@ submitted-append [] more w u = u
 submitted-append (e ∷ before) more w u = (w.0, submitted-append before more w.1 u)
 
 pub waiting_are_well_typed : WaitingAreWellTyped
-waiting_are_well_typed rule table history t w typed e = typed_waiter t (state_by rule table history).waiters w (blocks_from rule (initial_state table) history typed tt) e
+waiting_are_well_typed rule table history t w typed e = typed_waiter t (state_by rule table history).waiters w (blocks_from (initial_state rule table) history typed tt) e
 
 -- ---- the store
 record IsSound (s : Slow) : Type 0 where
@@ -77,28 +76,28 @@ record IsSound (s : Slow) : Type 0 where
   pub blocks : AreWellTyped s.waiters
   pub covered : AreCovered s.store s.waiters
 
-finished_typed : (rule : StalenessRule) (s : Slow) (t : ℕ) (v : Verdict) (n : ℕ) (l : List ℕ) (o : Option Waiter) → IsSound s → find_waiter t s.waiters ≡ o → IsSomeAnd o (λ w. MayFinishBy rule s t w v n l) → StoreIsTyped (plains (applied s.store v))
-finished_typed rule s t v n l None k e m = absurd m
-finished_typed rule s t v n l (Some w) k e m =
+finished_typed : (s : Slow) (t : ℕ) (v : Verdict) (n : ℕ) (l : List ℕ) (o : Option Waiter) → IsSound s → find_waiter t s.waiters ≡ o → IsSomeAnd o (λ w. MayFinish s t w v n l) → StoreIsTyped (plains (applied s.store v))
+finished_typed s t v n l None k e m = absurd m
+finished_typed s t v n l (Some w) k e m =
     let b = typed_waiter t s.waiters w k.blocks e in
     let c = covered_waiter t s.store s.waiters w k.covered e in
     applied_typed s.store v (verdict_fits (plains s.store) w.block.uses w.block.tree b.0 v k.typed c b.1 m.verdict_is) k.typed
 
-typed_after : (rule : StalenessRule) (s : Slow) (d : What) → IsSound s → AllowsBy rule s d → StoreIsTyped (plains (after_by rule s d).store)
-typed_after rule s (Submitted t b) k a = k.typed
-typed_after rule s (Installed t v) k a = k.typed
-typed_after rule s (Finished t v n l) k a = finished_typed rule s t v n l (find_waiter t s.waiters) k refl a
-typed_after rule s (Cancelled t) k a = k.typed
+typed_after : (s : Slow) (d : What) → IsSound s → Allows s d → StoreIsTyped (plains (after s d).store)
+typed_after s (Submitted t b) k a = k.typed
+typed_after s (Installed t v) k a = k.typed
+typed_after s (Finished t v n l) k a = finished_typed s t v n l (find_waiter t s.waiters) k refl a
+typed_after s (Cancelled t) k a = k.typed
 
-sound_from : (rule : StalenessRule) (s : Slow) (es : List Event) → LegalFromBy rule s es → SubmittedAreWellTyped es → IsSound s → IsSound (state_from_by rule s es)
-sound_from rule s [] l w k = k
-sound_from rule s (e ∷ es) l w k =
-    sound_from rule (after_by rule s e.what) es l.1 w.1
-    (record { typed = typed_after rule s e.what k l.0.what; blocks = blocks_after rule s e.what k.blocks w.0; covered = covered_after rule s e.what k.covered l.0.what })
+sound_from : (s : Slow) (es : List Event) → LegalFrom s es → SubmittedAreWellTyped es → IsSound s → IsSound (state_from s es)
+sound_from s [] l w k = k
+sound_from s (e ∷ es) l w k =
+    sound_from (after s e.what) es l.1 w.1
+    (record { typed = typed_after s e.what k l.0.what; blocks = blocks_after s e.what k.blocks w.0; covered = covered_after s e.what k.covered l.0.what })
 
 pub stores_are_typed : StoresAreTyped
 stores_are_typed rule table history typed blocks legal =
-    (sound_from rule (initial_state table) history legal.each blocks
+    (sound_from (initial_state rule table) history legal.each blocks
     (record { typed = subst StoreIsTyped (sym (plains-opened table)) typed; blocks = tt; covered = tt })).typed
 
 pub blocks_have_verdicts : BlocksHaveVerdicts

@@ -9,7 +9,7 @@ use Rattle.stm_events.specs.SlowDesk as slow
 use Rattle.stm_events.specs.declared.status.Status.{Status}
 use Rattle.stm_events.specs.declared.status.Status.TheVariants.{New, Stale, Current}
 
--- how a block stands, as the machine's status tells it
+-- the status of a block, as the machine returns it
 abbrev pub shown : Status → Standing
 shown New = slow.New
 shown (Stale v) = slow.Stale (Some v.now)

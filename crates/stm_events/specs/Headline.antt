@@ -8,7 +8,7 @@ use Rattle.stm_events.specs.declared.event.What.{What}
 use Rattle.stm_events.specs.declared.event.What.TheVariants.{Submitted, Installed, Finished, Cancelled}
 use Rattle.stm_events.specs.declared.staleness.StalenessRule.{StalenessRule}
 use Rattle.stm_events.specs.declared.staleness.StalenessRule.TheVariants.{Changed}
-use Rattle.stm_events.specs.SlowDesk.{Slow, Waiter, looked_on, verdict_on, waking, intersects, is_new, is_current, find_waiter, after_by, initial_state, state_by, serial, finished_from_by, IsLegalBy}
+use Rattle.stm_events.specs.SlowDesk.{Slow, Waiter, looked_on, verdict_on, waking, intersects, is_new, is_current, find_waiter, after, initial_state, state_by, serial, finished_from, IsLegalBy}
 
 -- the event is an accepted delivery to the ticket
 abbrev pub installs_to : ℕ → What → Bool
@@ -23,16 +23,16 @@ is_installed t [] = false
 is_installed t (e ∷ es) = installs_to t e.what || is_installed t es
 
 -- the variables by which an event on a state makes their readers stale: those of the verdict of a block that finishes
-abbrev pub waking_at : StalenessRule → Slow → What → List ℕ
-waking_at rule s (Submitted t block) = []
-waking_at rule s (Installed t v) = []
-waking_at rule s (Finished t v n stale) = waking rule s.store v
-waking_at rule s (Cancelled t) = []
+abbrev pub waking_at : Slow → What → List ℕ
+waking_at s (Submitted t block) = []
+waking_at s (Installed t v) = []
+waking_at s (Finished t v n stale) = waking s.rule s.store v
+waking_at s (Cancelled t) = []
 
 -- the same of these events, which begin on a state
-abbrev pub waking_from : StalenessRule → Slow → List Event → List ℕ
-waking_from rule s [] = []
-waking_from rule s (e ∷ es) = waking_at rule s e.what ++ waking_from rule (after_by rule s e.what) es
+abbrev pub waking_from : Slow → List Event → List ℕ
+waking_from s [] = []
+waking_from s (e ∷ es) = waking_at s e.what ++ waking_from (after s e.what) es
 
 -- the last delivery to a ticket, with the verdict that it brought, the events before it and those after it
 pub record LastDelivery (history : List Event) (t : ℕ) : Type 0 where
@@ -45,11 +45,11 @@ pub record LastDelivery (history : List Event) (t : ℕ) : Type 0 where
 
 -- the state that the delivery left
 abbrev pub state_then_by : StalenessRule → List Declared → (history : List Event) (t : ℕ) → LastDelivery history t → Slow
-state_then_by rule table history t d = after_by rule (state_by rule table d.before) (Installed t d.verdict)
+state_then_by rule table history t d = after (state_by rule table d.before) (Installed t d.verdict)
 
 -- What a delivery to a waiting block means: its verdict is that of the store at the delivery; the block is marked stale
--- exactly where a block that finished since then changed (under the earlier rule: wrote) a variable that its evaluation read,
--- reads of discarded branches included; and where it isn't marked so, running the block from scratch on the present store
+-- exactly if a block that finished since then changed (under the earlier rule: wrote) a variable that its evaluation read,
+-- reads of discarded branches included; and if it isn't marked so, running the block from scratch on the present store
 -- gives that verdict. Under the present rule `waking_from` are the variables that the verdicts of these blocks change, by
 -- `changed_by`, each on the store on which it took effect.
 pub record IsMarkedRightlyBy
@@ -57,7 +57,7 @@ pub record IsMarkedRightlyBy
     : Type 0 where
   pub evaluated : verdict_on (state_by rule table d.before).store w.block ≡ Some d.verdict
   pub marked : not (is_current w)
-      ≡ intersects (waking_from rule (state_then_by rule table history t d) d.later)
+      ≡ intersects (waking_from (state_then_by rule table history t d) d.later)
       (looked_on (state_by rule table d.before).store w.block)
   pub present : is_current w ≡ true → verdict_on (state_by rule table history).store w.block ≡ Some d.verdict
 
@@ -71,7 +71,7 @@ pub data IsKnownBy (rule : StalenessRule) (table : List Declared) (history : Lis
 pub record HeadlineHoldsBy (rule : StalenessRule) (table : List Declared) (history : List Event) : Type 0 where
   pub blocks : (t : ℕ) (w : Waiter) → find_waiter t (state_by rule table history).waiters ≡ Some w
       → IsKnownBy rule table history t w
-  pub store : (state_by rule table history).store ≡ serial (opened table) (finished_from_by rule (initial_state table) history)
+  pub store : (state_by rule table history).store ≡ serial (opened table) (finished_from (initial_state rule table) history)
 
 -- so it is after every legal history, by a rule of what makes blocks stale
 abbrev pub HeadlineBy : StalenessRule → Type 0

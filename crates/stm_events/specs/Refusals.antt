@@ -1,10 +1,11 @@
--- Which refusal a call tells: the first one whose condition holds; an out-of-memory error is reported only where none holds.
+-- Why each call is refused: the first reason that holds. An out-of-memory error is reported only if none holds.
 -- `full` says that the history has no room for an event.
 use Rattle.std.specs.Prelude.{◌≡◌, ◌≢◌, ℕ, ◌+◌, Bool, false, not, nat_le, if◌then◌else◌, List, [], ◌∷◌, length, Option, Some, None, Result, Ok, Err}
 use Rattle.stm_terms.specs.declared.kinds.Ty.{Ty}
 use Rattle.stm_terms.specs.declared.values.Value.{Value}
 use Rattle.stm_terms.specs.declared.verdicts.Verdict.{Verdict}
 use Rattle.stm_terms.specs.Value.{same_value}
+use Rattle.stm_terms.specs.UnlessNoMemory.{RefusedAs}
 use Rattle.stm_terms.specs.Changes.{Variables}
 use Rattle.stm_store.specs.declared.cell.Cell.{Cell}
 use Rattle.stm_store.specs.Cells.{plains, kinds_of, made_by}
@@ -36,14 +37,6 @@ submit_first None many full = if many then Some submit.WaitingFull else if full 
 abbrev pub submit_refused : Slow → Bool → Block → Option SubmitError
 submit_refused s full block = submit_first (missing (plains s.store) block.uses) (nat_le max_waiting (length s.waiters)) full
 
--- the refusal that an answer to a submission tells; an out-of-memory error is none
-abbrev pub submit_told : {A : Type 0} → Result A SubmitError → Option SubmitError
-submit_told (Ok x) = None
-submit_told (Err submit.NoMemory) = None
-submit_told (Err (submit.Foreign i)) = Some (submit.Foreign i)
-submit_told (Err submit.WaitingFull) = Some submit.WaitingFull
-submit_told (Err submit.HistoryFull) = Some submit.HistoryFull
-
 -- ---- cancel
 -- the first that holds: no block waits under the ticket, the history is full
 abbrev pub cancel_first : Option Waiter → Bool → Option CancelError
@@ -53,13 +46,6 @@ cancel_first (Some w) full = if full then Some cancel.HistoryFull else None
 -- why a ticket can't be cancelled, if it can't
 abbrev pub cancel_refused : Slow → Bool → ℕ → Option CancelError
 cancel_refused s full t = cancel_first (find_waiter t s.waiters) full
-
--- the refusal that an answer to a cancellation tells; an out-of-memory error is none
-abbrev pub cancel_told : {A : Type 0} → Result A CancelError → Option CancelError
-cancel_told (Ok x) = None
-cancel_told (Err cancel.NoMemory) = None
-cancel_told (Err cancel.NoTicket) = Some cancel.NoTicket
-cancel_told (Err cancel.HistoryFull) = Some cancel.HistoryFull
 
 -- ---- deliver
 -- the variable is there with this value
@@ -77,40 +63,27 @@ abbrev pub overtaken_first : Option ℕ → Bool → Option DeliverError
 overtaken_first (Some i) full = Some (deliver.Overtaken i)
 overtaken_first None full = if full then Some deliver.HistoryFull else None
 
--- where the message is of the block that waits
+-- if the message is of the block that waits
 abbrev pub install_first : List Cell → Bool → Waiter → List (ℕ × Value) → Option DeliverError
 install_first store full w reads =
     if is_current w then Some deliver.Already else overtaken_first (differing (under store) reads) full
 
--- what a delivery tells, where this block waits under the ticket or none does; the message must be of a block with its tree
-abbrev pub DeliverTold : Option DeliverError → List Cell → Bool → Option Waiter → Block → List (ℕ × Value) → Type 0
-DeliverTold told store full None block reads = told ≡ Some deliver.Gone
-DeliverTold told store full (Some w) block reads =
-    (w.block.tree ≢ block.tree → told ≡ Some deliver.OtherBlock)
-    × (w.block.tree ≡ block.tree → told ≡ install_first store full w reads)
+-- where this block waits under the ticket or none does: the message must be of a block with its tree
+abbrev pub DeliveryRefusedAt : {A : Type 0}
+    → List Cell → Bool → Option Waiter → Block → List (ℕ × Value) → Result A DeliverError → Type 0
+DeliveryRefusedAt store full None block reads result = RefusedAs deliver.NoMemory (Some deliver.Gone) result
+DeliveryRefusedAt store full (Some w) block reads result =
+    (w.block.tree ≢ block.tree → RefusedAs deliver.NoMemory (Some deliver.OtherBlock) result)
+    × (w.block.tree ≡ block.tree → RefusedAs deliver.NoMemory (install_first store full w reads) result)
 
--- what the delivery of a message to a ticket tells
-abbrev pub TellsDelivery : Option DeliverError → Slow → Bool → ℕ → Block → List (ℕ × Value) → Type 0
-TellsDelivery told s full t block reads = DeliverTold told s.store full (find_waiter t s.waiters) block reads
+-- the delivery of a message to a ticket is refused for the first reason that holds; where none holds, for lack of memory at most
+abbrev pub DeliveryRefusedAs : {A : Type 0} → Slow → Bool → ℕ → Block → List (ℕ × Value) → Result A DeliverError → Type 0
+DeliveryRefusedAs s full t block reads result = DeliveryRefusedAt s.store full (find_waiter t s.waiters) block reads result
 
--- the refusal that an error of a delivery tells; an out-of-memory error is none
-abbrev pub deliver_error : DeliverError → Option DeliverError
-deliver_error deliver.NoMemory = None
-deliver_error deliver.Gone = Some deliver.Gone
-deliver_error deliver.OtherBlock = Some deliver.OtherBlock
-deliver_error deliver.Already = Some deliver.Already
-deliver_error (deliver.Overtaken i) = Some (deliver.Overtaken i)
-deliver_error deliver.HistoryFull = Some deliver.HistoryFull
-
--- the refusal that an answer to a delivery tells
-abbrev pub install_told : {A : Type 0} → Result A DeliverError → Option DeliverError
-install_told (Ok x) = None
-install_told (Err e) = deliver_error e
-
--- the same, where the message is handed back beside the error
-abbrev pub deliver_told : {A B : Type 0} → Result A (B × DeliverError) → Option DeliverError
-deliver_told (Ok x) = None
-deliver_told (Err e) = deliver_error e.1
+-- a result without the message that is handed back beside the error
+abbrev pub without_message : {A B : Type 0} → Result A (B × DeliverError) → Result A DeliverError
+without_message (Ok x) = Ok x
+without_message (Err e) = Err e.1
 
 -- after a refused message: a ticket that was overtaken is queued
 abbrev pub pending_left : DeliverError → ℕ → List Entry → List Entry
@@ -145,14 +118,3 @@ finish_first store full (Some w) =
 -- why the block under a ticket can't finish, if it can't
 abbrev pub finish_refused : Slow → Bool → ℕ → Option FinishError
 finish_refused s full t = finish_first s.store full (find_waiter t s.waiters)
-
--- the refusal that an answer to a finish tells; an out-of-memory error is none
-abbrev pub finish_told : {A : Type 0} → Result A FinishError → Option FinishError
-finish_told (Ok x) = None
-finish_told (Err finish.NoMemory) = None
-finish_told (Err finish.NoTicket) = Some finish.NoTicket
-finish_told (Err finish.NotEvaluated) = Some finish.NotEvaluated
-finish_told (Err finish.Stale) = Some finish.Stale
-finish_told (Err finish.Blocks) = Some finish.Blocks
-finish_told (Err finish.HistoryFull) = Some finish.HistoryFull
-finish_told (Err finish.CellsFull) = Some finish.CellsFull

@@ -27,12 +27,12 @@ delivered_if_due store w = if is_due w then with_delivery store w else w
 abbrev pub after_installs : Slow → Slow
 after_installs s = record s { waiters = map (delivered_if_due s.store) s.waiters }
 
--- the finish that ends a round, where the history has room, and what is done after it
+-- the finish that ends a round, if the history has room, and what is done after it
 abbrev pub from_finish : ℕ → Slow → List What
 from_finish zero s = []
 from_finish (suc room) s = settle_on (settling room) s (next_of s None (lowest (can_end s.store) s.waiters))
 
--- a round, where the history has room for so many events, and what is done after it
+-- a round, if the history has room for this many events, and what is done after it
 abbrev pub a_round : ℕ → Slow → List What
 a_round room s =
     take room (round_installs s.store s.waiters)

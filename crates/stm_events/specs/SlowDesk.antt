@@ -1,7 +1,6 @@
 -- The slow desk: which events it allows, and how each acts. It runs each block from scratch on a plain store, and keeps no
--- reads, no verdicts and no index. A rule says which variables of a block that finishes make their readers stale: those
--- whose values it changed, and under the rule of earlier histories all that it wrote. What ends in `by` takes the rule; the
--- same name without that is for the present rule, `Changed`.
+-- reads, no verdicts and no index. Its rule says which variables of a block that finishes make their readers stale: those
+-- whose values it changed (`Changed`, the present rule), or all that it wrote (`Written`, the rule of earlier histories).
 use Rattle.std.specs.Prelude.{◌≡◌, ℕ, ◌+◌, ◌<◌, ◌≤◌, Bool, true, false, not, ◌&&◌, nat_eq, if◌then◌else◌, List, [], ◌∷◌, ◌++◌, map, filter, length, Option, Some, None, IsSomeAnd}
 use Rattle.std.specs.List.{list_any}
 use Rattle.stm_terms.specs.declared.verdicts.Verdict.{Verdict}
@@ -59,8 +58,10 @@ pub record Waiter : Type 0 where
   pub block : Block
   pub since : Option Since
 
--- the slow desk: its store, the next ticket, and the waiting blocks, the first submitted first
+-- the slow desk: its rule, which no event changes, its store, the next ticket, and the waiting blocks, the first submitted
+-- first
 pub record Slow : Type 0 where
+  pub rule : StalenessRule
   pub store : List Cell
   pub next : ℕ
   pub waiters : List Waiter
@@ -144,17 +145,13 @@ abbrev pub max_clients : ℕ
 max_clients = 128
 
 -- how an event acts
-abbrev pub after_by : StalenessRule → Slow → What → Slow
-after_by rule s (Submitted t block) =
-    record s { next = s.next + 1; waiters = s.waiters ++ record { ticket = t; block = block; since = None } ∷ [] }
-after_by rule s (Installed t v) = record s { waiters = delivered t s.store s.waiters }
-after_by rule s (Finished t v n stale) =
-    record s { store = applied s.store v; waiters = map (after_writes (waking rule s.store v)) (without_waiter t s.waiters) }
-after_by rule s (Cancelled t) = record s { waiters = without_waiter t s.waiters }
-
--- the same under the present rule
 abbrev pub after : Slow → What → Slow
-after = after_by Changed
+after s (Submitted t block) =
+    record s { next = s.next + 1; waiters = s.waiters ++ record { ticket = t; block = block; since = None } ∷ [] }
+after s (Installed t v) = record s { waiters = delivered t s.store s.waiters }
+after s (Finished t v n stale) =
+    record s { store = applied s.store v; waiters = map (after_writes (waking s.rule s.store v)) (without_waiter t s.waiters) }
+after s (Cancelled t) = record s { waiters = without_waiter t s.waiters }
 
 -- a block may be installed: it isn't current, and the verdict is the one that it has on the present store
 pub record MayInstall (s : Slow) (w : Waiter) (v : Verdict) : Type 0 where
@@ -162,80 +159,59 @@ pub record MayInstall (s : Slow) (w : Waiter) (v : Verdict) : Type 0 where
   pub verdict_is : verdict_on s.store w.block ≡ Some v
 
 -- a block may finish with these fields
-pub record MayFinishBy
-    (rule : StalenessRule) (s : Slow) (t : ℕ) (w : Waiter) (v : Verdict) (n : ℕ) (stale : List ℕ) : Type 0 where
+pub record MayFinish (s : Slow) (t : ℕ) (w : Waiter) (v : Verdict) (n : ℕ) (stale : List ℕ) : Type 0 where
   pub current : is_current w ≡ true
   pub verdict_is : verdict_on s.store w.block ≡ Some v
   pub ends : is_blocks v ≡ false
   pub first_new : n ≡ length s.store
   pub room : length s.store + length (made_by v) ≤ max_cells
-  pub listed : stale ≡ stale_after (waking rule s.store v) (without_waiter t s.waiters)
-
--- the same under the present rule
-abbrev pub MayFinish : Slow → ℕ → Waiter → Verdict → ℕ → List ℕ → Type 0
-MayFinish = MayFinishBy Changed
+  pub listed : stale ≡ stale_after (waking s.rule s.store v) (without_waiter t s.waiters)
 
 -- the slow desk allows what happens
-abbrev pub AllowsBy : StalenessRule → Slow → What → Type 0
-AllowsBy rule s (Submitted t block) = (t ≡ s.next) × Covers (plains s.store) block.uses × (length s.waiters < max_waiting)
-AllowsBy rule s (Installed t v) = IsSomeAnd (find_waiter t s.waiters) (λ w. MayInstall s w v)
-AllowsBy rule s (Finished t v n stale) = IsSomeAnd (find_waiter t s.waiters) (λ w. MayFinishBy rule s t w v n stale)
-AllowsBy rule s (Cancelled t) = IsSomeAnd (find_waiter t s.waiters) (λ w. Unit {0})
-
--- the same under the present rule
 abbrev pub Allows : Slow → What → Type 0
-Allows = AllowsBy Changed
+Allows s (Submitted t block) = (t ≡ s.next) × Covers (plains s.store) block.uses × (length s.waiters < max_waiting)
+Allows s (Installed t v) = IsSomeAnd (find_waiter t s.waiters) (λ w. MayInstall s w v)
+Allows s (Finished t v n stale) = IsSomeAnd (find_waiter t s.waiters) (λ w. MayFinish s t w v n stale)
+Allows s (Cancelled t) = IsSomeAnd (find_waiter t s.waiters) (λ w. Unit {0})
 
 -- it allows the event, of a client
-pub record AllowsEventBy (rule : StalenessRule) (s : Slow) (e : Event) : Type 0 where
+pub record AllowsEvent (s : Slow) (e : Event) : Type 0 where
   pub client : e.client < max_clients
-  pub what : AllowsBy rule s e.what
-
--- the same under the present rule
-abbrev pub AllowsEvent : Slow → Event → Type 0
-AllowsEvent = AllowsEventBy Changed
+  pub what : Allows s e.what
 
 -- the declared variables, and nothing waits
-abbrev pub initial_state : List Declared → Slow
-initial_state table = record { store = opened table; next = 1; waiters = [] }
+abbrev pub initial_state : StalenessRule → List Declared → Slow
+initial_state rule table = record { rule = rule; store = opened table; next = 1; waiters = [] }
 
 -- the state after these events, which begin on a state
-abbrev pub state_from_by : StalenessRule → Slow → List Event → Slow
-state_from_by rule s [] = s
-state_from_by rule s (e ∷ es) = state_from_by rule (after_by rule s e.what) es
-
--- the same under the present rule
 abbrev pub state_from : Slow → List Event → Slow
-state_from = state_from_by Changed
+state_from s [] = s
+state_from s (e ∷ es) = state_from (after s e.what) es
 
--- what a history makes of a table
+-- what a history makes of a table, by a rule
 abbrev pub state_by : StalenessRule → List Declared → List Event → Slow
-state_by rule table history = state_from_by rule (initial_state table) history
+state_by rule table history = state_from (initial_state rule table) history
 
--- the same under the present rule
+-- the same by the present rule
 abbrev pub state : List Declared → List Event → Slow
 state = state_by Changed
 
--- each of these events, which begin on a state, is allowed where it stands
-abbrev pub LegalFromBy : StalenessRule → Slow → List Event → Type 0
-LegalFromBy rule s [] = Unit {0}
-LegalFromBy rule s (e ∷ es) = AllowsEventBy rule s e × LegalFromBy rule (after_by rule s e.what) es
-
--- the same under the present rule
+-- each of these events is allowed in its turn, from a state on
 abbrev pub LegalFrom : Slow → List Event → Type 0
-LegalFrom = LegalFromBy Changed
+LegalFrom s [] = Unit {0}
+LegalFrom s (e ∷ es) = AllowsEvent s e × LegalFrom (after s e.what) es
 
--- each event in turn is allowed, and there are no more than there may be
+-- each event in turn is allowed, by a rule, and there are no more than there may be
 pub record IsLegalBy (rule : StalenessRule) (table : List Declared) (history : List Event) : Type 0 where
-  pub each : LegalFromBy rule (initial_state table) history
+  pub each : LegalFrom (initial_state rule table) history
   pub few : length history ≤ max_events
 
--- the same under the present rule
+-- the same by the present rule
 abbrev pub IsLegal : List Declared → List Event → Type 0
 IsLegal = IsLegalBy Changed
 
--- how a waiting block stands: new, or stale or current with a verdict, that of its delivery where it is stale and that on
--- the present store where it is current
+-- the status of a waiting block: new, or stale or current with a verdict, that of its delivery if it is stale and that on
+-- the present store if it is current
 pub data Standing : Type 0 where
   New : Standing
   Stale : Option Verdict → Standing
@@ -284,10 +260,6 @@ finishing s (Finished t v n stale) = blocks_of_waiter (find_waiter t s.waiters)
 finishing s (Cancelled t) = []
 
 -- the blocks that finish in these events, in order
-abbrev pub finished_from_by : StalenessRule → Slow → List Event → List Block
-finished_from_by rule s [] = []
-finished_from_by rule s (e ∷ es) = finishing s e.what ++ finished_from_by rule (after_by rule s e.what) es
-
--- the same under the present rule
 abbrev pub finished_from : Slow → List Event → List Block
-finished_from = finished_from_by Changed
+finished_from s [] = []
+finished_from s (e ∷ es) = finishing s e.what ++ finished_from (after s e.what) es

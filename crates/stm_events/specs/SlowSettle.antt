@@ -1,14 +1,14 @@
--- Settling on the slow desk: the lowest waiting block that is new or stale is run and installed; where there is none, the
+-- Settling on the slow desk: the lowest waiting block that is new or stale is run and installed; if there is none, the
 -- lowest one that doesn't block on the present store is finished; and so on, while the history has room. An installed block
 -- changes no other block's mark: so these are rounds, each of which installs all that are new or stale, rising, and then
 -- finishes one.
 use Rattle.std.specs.Prelude.{ℕ, zero, suc, ◌+◌, Bool, true, false, not, nat_le, if◌then◌else◌, List, [], ◌∷◌, filter, length, Option, Some, None, is_some}
 use Rattle.stm_terms.specs.declared.verdicts.Verdict.{Verdict}
 use Rattle.stm_store.specs.declared.cell.Cell.{Cell}
-use Rattle.stm_store.specs.Cells.{changed_by, made_by}
+use Rattle.stm_store.specs.Cells.{made_by}
 use Rattle.stm_events.specs.declared.event.What.{What}
 use Rattle.stm_events.specs.declared.event.What.TheVariants.{Submitted, Installed, Finished, Cancelled}
-use Rattle.stm_events.specs.SlowDesk.{Slow, Waiter, verdict_on, is_blocks, is_current, without_waiter, stale_after, max_cells, after}
+use Rattle.stm_events.specs.SlowDesk.{Slow, Waiter, verdict_on, waking, is_blocks, is_current, without_waiter, stale_after, max_cells, after}
 
 -- the first waiting block of the test; tickets rise, so it is the one of the lowest ticket
 abbrev pub lowest : (Waiter → Bool) → List Waiter → Option Waiter
@@ -35,7 +35,7 @@ installing t None = None
 
 -- the finish by a verdict, if there is one
 abbrev pub ending : Slow → ℕ → Option Verdict → Option What
-ending s t (Some v) = Some (Finished t v (length s.store) (stale_after (changed_by s.store v) (without_waiter t s.waiters)))
+ending s t (Some v) = Some (Finished t v (length s.store) (stale_after (waking s.rule s.store v) (without_waiter t s.waiters)))
 ending s t None = None
 
 -- what is done with the lowest block that is new or stale, or else with the lowest one that doesn't block
@@ -60,7 +60,7 @@ abbrev pub settle_on : (Slow → List What) → Slow → Option What → List Wh
 settle_on more s None = []
 settle_on more s (Some what) = if has_cells s what then what ∷ more (after s what) else []
 
--- what settling does, where the history has room for so many events
+-- what settling does, if the history has room for this many events
 abbrev pub settling : ℕ → Slow → List What
 settling zero s = []
 settling (suc room) s = settle_on (settling room) s (next_what s)
@@ -75,7 +75,7 @@ abbrev pub stop_on : (Slow → Option Stop) → Slow → Option What → Option 
 stop_on more s None = None
 stop_on more s (Some what) = if has_cells s what then more (after s what) else Some NoCells
 
--- whether it stops so, where the history has room for so many events
+-- whether it stops so, if the history has room for this many events
 abbrev pub settle_stop : ℕ → Slow → Option Stop
 settle_stop zero s = if is_some (next_what s) then Some NoRoom else None
 settle_stop (suc room) s = stop_on (settle_stop room) s (next_what s)

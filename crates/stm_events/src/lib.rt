@@ -1,9 +1,10 @@
 //! The events of a desk and what they mean.
 //!
-//! What a reader has to believe is here. The slow desk stands in `specs/SlowDesk`: which events it allows, and how each acts. It
-//! runs blocks from scratch and keeps no reads, no verdicts and no index. `specs/SlowSettle` says what settling does on it and
-//! `specs/Rounds` the same in rounds, `specs/Ready` which blocks could finish now, `specs/Refusals` what each call is refused for, `specs/Headline` which blocks are marked
-//! stale and what the verdicts of the others are worth, and `specs/Laws` what else holds after every legal history (`laws`).
+//! What a reader has to believe is here. The slow desk is in `specs/SlowDesk`: which events it allows, and how each acts. It runs
+//! blocks from scratch and keeps no reads, no verdicts and no index. `specs/SlowSettle` says what settling does on it and
+//! `specs/Rounds` the same in rounds, `specs/Ready` which blocks could finish now, `specs/Refusals` why each call is refused,
+//! `specs/Headline` which blocks are marked stale and what the verdicts of the others are worth, and `specs/Laws` what else
+//! holds after every legal history (`laws`).
 //! `same` returns whether two events are equal.
 #![tactic(auto)]
 

@@ -20,7 +20,7 @@ pub fn blocks(verdict: &Verdict) -> bool
     }
 }
 
-/// A verdict that many may hold: it stands in memory once, and `Blocks`, which most waiting blocks have, takes none.
+/// A verdict that many may hold: it is in memory once, and `Blocks`, which most waiting blocks have, takes none.
 /// Contracts see the verdict.
 #[derive(Drop)]
 pub struct SharedVerdict {

@@ -1,4 +1,4 @@
-//! How a waiting block stands.
+//! The status of a waiting block.
 
 use stm_terms::verdicts::Verdict;
 

@@ -7,7 +7,7 @@ use std::marker::Model;
 use std::sync::Arc;
 use stm_terms::{NoMemory, PlainList};
 
-/// Tickets, in their order. Many may hold one list: it stands in memory once, and one of no ticket takes none. Contracts see
+/// Tickets, in their order. Many may hold one list: it is in memory once, and one of no ticket takes none. Contracts see
 /// the list.
 #[derive(Drop)]
 pub struct Tickets {

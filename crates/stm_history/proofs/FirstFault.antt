@@ -7,9 +7,9 @@ use Rattle.stm_history.specs.declared.files.fault.HistoryFault.TheVariants.{Read
 use Rattle.stm_events.specs.SlowDesk.{IsLegalBy}
 use Rattle.stm_event_lines.specs.Fits.{FitsTable, FitsFormat}
 use Rattle.stm_event_lines.specs.Lines.{IsFormat, rule_of, event_line}
-use Rattle.stm_history.specs.Judgement.{IsShort, BeginsWithHistory, NoEventNext, IsIllegalBy, TellsFault, next_line}
+use Rattle.stm_history.specs.Judgement.{IsShort, BeginsWithHistory, NoEventNext, IsIllegalBy, ReportsFault, next_line}
 use Rattle.stm_history.specs.FileLaws.{HistoriesAreTaken, FaultsAreFixed}
-use Rattle.stm_history.proofs.Unique.{IsNext, Compared, same, more, fewer, at_same, both, nothing_next, never_next, legal_next, header_by}
+use Rattle.stm_history.proofs.OneReading.{IsNext, Compared, same, more, fewer, at_same, both, nothing_next, never_next, legal_next, header_by}
 
 -- the line after these events is bad: something is left, and no line of an event
 pub record IsBadNext (q : ℕ) (U : List Declared) (H : List Event) (a : List ℕ) (n : ℕ) : Type 0 where
@@ -43,11 +43,11 @@ record IsLaterFault (bytes : List ℕ) (f : HistoryFault) : Type 0 where
   pub begins : BeginsWithHistory format bytes table history rest
   pub fault : IsNextFault format table history rest f
 
-later_bad : (bytes : List ℕ) (n : ℕ) → TellsFault (BadLine n) bytes → IsLaterFault bytes (BadLine n)
+later_bad : (bytes : List ℕ) (n : ℕ) → ReportsFault (BadLine n) bytes → IsLaterFault bytes (BadLine n)
 later_bad bytes n t =
     record { format = t.0; known = t.1; table = t.2; history = t.3; rest = t.4; begins = t.5; fault = bad_line n refl (record { number = t.6; some = t.7; never = t.8 }) }
 
-later_illegal : (bytes : List ℕ) (n : ℕ) → TellsFault (NotLegal n) bytes → IsLaterFault bytes (NotLegal n)
+later_illegal : (bytes : List ℕ) (n : ℕ) → ReportsFault (NotLegal n) bytes → IsLaterFault bytes (NotLegal n)
 later_illegal bytes n t = record {
   format = t.0;
   known = t.1;
@@ -92,7 +92,7 @@ later_fixed bytes f g h k =
     k.fault
 
 -- ---- all bytes
-not_in_header : (bytes : List ℕ) (f : HistoryFault) → IsLaterFault bytes f → TellsFault BadHeader bytes → ⊥
+not_in_header : (bytes : List ℕ) (f : HistoryFault) → IsLaterFault bytes f → ReportsFault BadHeader bytes → ⊥
 not_in_header bytes f h t = header_by bytes h.format h.table h.history h.rest h.known h.begins t
 
 pub faults_are_fixed : FaultsAreFixed

@@ -7,10 +7,10 @@ use Rattle.stm_event_lines.specs.Lines.{IsFormat, header_line, variable_line, ev
 use Rattle.stm_history.specs.HistoryText.{head_text, history_text, variable_lines, event_lines}
 use Rattle.stm_history.specs.Judgement.{AreVariables}
 use Rattle.stm_history.specs.Checking.{CheckerState, at_header, at_variables, at_events, LinesUpTo}
-use Rattle.stm_history.proofs.Cuts.{IsCut, cut_unique}
+use Rattle.stm_history.proofs.CutsAtLineFeeds.{IsCut, cut_unique}
 use Rattle.stm_event_lines.proofs.ReadsBack.{header_same}
-use Rattle.stm_history.proofs.Telling.{following, header_no_feed}
-use Rattle.stm_history.proofs.Unique.{tables, texts_are_of_one_history}
+use Rattle.stm_history.proofs.RefusedLines.{following, header_no_feed}
+use Rattle.stm_history.proofs.OneReading.{tables, texts_are_of_one_history}
 
 -- a text that begins with a header is not empty
 head_there : (format n : ℕ) (rest : List ℕ) → header_line format n ++ 10 ∷ rest ≡ [] → ⊥

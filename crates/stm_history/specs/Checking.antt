@@ -15,7 +15,7 @@ abbrev pub NoFeed : List ℕ → Type 0
 NoFeed [] = Unit {0}
 NoFeed (x ∷ xs) = (x ≢ 10) × NoFeed xs
 
--- how far the lines have come: before the first; in a format, among those of the variables, of which so many were promised; in
+-- how far the lines have come: before the first; in a format, among those of the variables, of which this many were announced; in
 -- a format, among those of the events
 pub data CheckerState : Type 0 where
   at_header : CheckerState

@@ -1,15 +1,13 @@
 -- What a machine expects in place of an event.
-use Rattle.std.specs.Prelude.{◌≡◌, ℕ, Bool, List, ◌∷◌, [], ◌++◌, Option, Some, Ok, string_bytes}
+use Rattle.std.specs.Prelude.{◌≡◌, ℕ, Bool, false, List, ◌∷◌, [], ◌++◌, Option, Some, Ok, string_bytes}
 use Rattle.stm_store.specs.Tables.{Declared}
 use Rattle.stm_events.specs.declared.event.Event.{Event}
 use Rattle.stm_events.specs.declared.event.What.{What}
 use Rattle.stm_events.specs.declared.event.What.TheVariants.{Submitted, Installed, Finished, Cancelled}
 use Rattle.stm_events.specs.declared.staleness.StalenessRule.{StalenessRule}
-use Rattle.stm_events.specs.SlowDesk.{state_by}
-use Rattle.stm_machine.specs.Machine.{Parts, StandsForBy, MovesToBy, event}
+use Rattle.stm_events.specs.SlowDesk.{Slow, Allows, state_by}
 use Rattle.stm_history.specs.declared.files.expecting.Expectation.{Expectation}
 use Rattle.stm_history.specs.declared.files.expecting.Expectation.TheVariants.{Due, Refuses}
-use Rattle.stm_history.specs.declared.files.explanation.CallRefusal.{CallRefusal}
 use Rattle.stm_history.specs.declared.files.explanation.Explanation.{Explanation}
 use Rattle.stm_history.specs.declared.files.explanation.Explanation.TheVariants.{Expected, Refused, Unreadable}
 use Rattle.stm_history.specs.Explanation.{CanStand, IsCallDue, IsSameCall, is_history_full, call_refusal}
@@ -17,25 +15,15 @@ use Rattle.stm_history.specs.Judgement.{IsShort}
 use Rattle.stm_event_lines.specs.Lines.{event_line}
 use Rattle.stm_event_lines.specs.WholeBlocks.{checked_block}
 
--- the machine stands for the history, which is full or not
-pub record IsAt (rule : StalenessRule) (table : List Declared) (history : List Event) (full : Bool) (m : Parts) : Type 0 where
-  pub stands : StandsForBy rule table history m
-  pub fullness : full ≡ is_history_full history
+-- on a state and with a history that is full or not: the same call as it has to be, which is allowed, or why a desk refuses it
+abbrev pub IsDueOn : Slow → Bool → What → Expectation → Type 0
+IsDueOn s full call (Due what) = (full ≡ false) × IsSameCall call what × Allows s what
+IsDueOn s full call (Refuses r) = call_refusal s full call ≡ Some r
 
--- the refusal is told
-abbrev pub TellsRefusal : Option CallRefusal → Expectation → Type 0
-TellsRefusal told (Due what) = ⊥
-TellsRefusal told (Refuses r) = told ≡ Some r
-
--- the machine moved by the same call as it has to be, or a desk refuses it
-abbrev pub Moves : StalenessRule → List Declared → List Event → What → Parts → Expectation → Type 0
-Moves rule table history call m (Due what) = IsSameCall call what × MovesToBy rule table history what m
-Moves rule table history call m (Refuses r) = call_refusal (state_by rule table history) (is_history_full history) call ≡ Some r
-
--- the same call as it has to be, or why a desk refuses it
-abbrev pub TellsDue : StalenessRule → List Declared → List Event → Event → Expectation → Type 0
-TellsDue rule table history e (Due what) = IsCallDue rule table history e what
-TellsDue rule table history e (Refuses r) = call_refusal (state_by rule table history) (is_history_full history) e.what ≡ Some r
+-- after a history: the same call as it has to be, or why a desk refuses it
+abbrev pub IsDueAfter : StalenessRule → List Declared → List Event → Event → Expectation → Type 0
+IsDueAfter rule table history e (Due what) = IsCallDue rule table history e what
+IsDueAfter rule table history e (Refuses r) = call_refusal (state_by rule table history) (is_history_full history) e.what ≡ Some r
 
 -- a block that is submitted is what its text checks to over the table
 abbrev pub HasCheckedBlock : List Declared → What → Type 0
@@ -44,13 +32,13 @@ HasCheckedBlock table (Installed t v) = Unit {0}
 HasCheckedBlock table (Finished t v n stale) = Unit {0}
 HasCheckedBlock table (Cancelled t) = Unit {0}
 
--- a line of these bytes is told, or nothing if it is too long
+-- a line of these bytes is reported, or nothing if it is too long
 abbrev pub IsShortOr : List ℕ → Explanation → Type 0
 IsShortOr bytes (Expected text) = (string_bytes text ≡ bytes) × IsShort bytes
 IsShortOr bytes (Refused r) = ⊥
 IsShortOr bytes Unreadable = IsShort bytes → ⊥
 
--- the line of the event is told, or nothing if it can't stand in the format
+-- the line of the event is reported, or nothing if it can't stand in the format
 abbrev pub IsLineOf : ℕ → List Declared → Event → Explanation → Type 0
 IsLineOf format table e (Expected text) = CanStand format table e × (string_bytes text ≡ event_line e)
 IsLineOf format table e (Refused r) = ⊥

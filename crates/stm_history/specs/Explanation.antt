@@ -1,4 +1,4 @@
--- What is told of the line at which a checker stopped: the line that would be accepted there for the same call, or why a desk
+-- What is reported of the line at which a checker stopped: the line that would be accepted there for the same call, or why a desk
 -- refuses the call.
 use Rattle.std.specs.Prelude.{◌≡◌, ◌⊎◌, ℕ, ◌<◌, Bool, nat_le, if◌then◌else◌, List, [], ◌∷◌, ◌++◌, length, Option, Some, None, option_map, option_and_then, string_bytes}
 use Rattle.stm_terms.specs.declared.verdicts.Verdict.{Verdict}
@@ -10,7 +10,7 @@ use Rattle.stm_events.specs.declared.event.What.{What}
 use Rattle.stm_events.specs.declared.event.What.TheVariants.{Submitted, Installed, Finished, Cancelled}
 use Rattle.stm_events.specs.declared.staleness.StalenessRule.{StalenessRule}
 use Rattle.stm_events.specs.Refusals.{submit_refused, cancel_refused, finish_refused}
-use Rattle.stm_events.specs.SlowDesk.{Waiter, Slow, AllowsBy, IsLegalBy, find_waiter, is_current, max_clients, max_events, stale_after, state_by, verdict_on, waking, without_waiter}
+use Rattle.stm_events.specs.SlowDesk.{Waiter, Slow, Allows, IsLegalBy, find_waiter, is_current, max_clients, max_events, stale_after, state_by, verdict_on, waking, without_waiter}
 use Rattle.stm_machine.specs.Machine.{event}
 use Rattle.stm_history.specs.declared.files.explanation.CallRefusal.{CallRefusal}
 use Rattle.stm_history.specs.declared.files.explanation.CallRefusal.TheVariants.{Submission, Delivery, Finish, Cancellation}
@@ -47,15 +47,15 @@ abbrev pub present_verdict : Slow → Option Waiter → Option Verdict
 present_verdict s o = option_and_then (λ w. verdict_on s.store w.block) o
 
 -- the finish of a ticket by this verdict, with the tickets that it makes stale
-abbrev pub finish_with : StalenessRule → Slow → ℕ → Verdict → What
-finish_with rule s t v = Finished t v (length s.store) (stale_after (waking rule s.store v) (without_waiter t s.waiters))
+abbrev pub finish_with : Slow → ℕ → Verdict → What
+finish_with s t v = Finished t v (length s.store) (stale_after (waking s.rule s.store v) (without_waiter t s.waiters))
 
 -- the same call as it has to be on this state, if there is a verdict for it
-abbrev pub expected_what : StalenessRule → Slow → What → Option What
-expected_what rule s (Submitted t b) = Some (Submitted s.next b)
-expected_what rule s (Installed t v) = option_map (Installed t) (present_verdict s (find_waiter t s.waiters))
-expected_what rule s (Finished t v n stale) = option_map (finish_with rule s t) (present_verdict s (find_waiter t s.waiters))
-expected_what rule s (Cancelled t) = Some (Cancelled t)
+abbrev pub expected_what : Slow → What → Option What
+expected_what s (Submitted t b) = Some (Submitted s.next b)
+expected_what s (Installed t v) = option_map (Installed t) (present_verdict s (find_waiter t s.waiters))
+expected_what s (Finished t v n stale) = option_map (finish_with s t) (present_verdict s (find_waiter t s.waiters))
+expected_what s (Cancelled t) = Some (Cancelled t)
 
 -- the first that holds: no block waits under the ticket, it is current, the history is full. A delivery of what a block does on
 -- the present store is never overtaken.
@@ -86,11 +86,11 @@ CanStand format table e = FitsTable table e × FitsFormat format e × IsShort (e
 -- this is what the call of the event has to be after the history, and then it is legal
 pub record IsCallDue (rule : StalenessRule) (table : List Declared) (history : List Event) (e : Event) (what : What) : Type 0 where
   pub same : IsSameCall e.what what
-  pub expected : expected_what rule (state_by rule table history) e.what ≡ Some what
+  pub expected : expected_what (state_by rule table history) e.what ≡ Some what
   pub legal : IsLegalBy rule table (history ++ event e.client what ∷ [])
 
--- what is told of a line that was read as this event: the line of what is due; why a desk refuses the call; nothing if what is
--- due has no line in the format
+-- what is reported of a line that was read as this event: the line of what is due; why a desk refuses the call; nothing if what
+-- is due has no line in the format
 abbrev pub ExplainsEvent : ℕ → List Declared → List Event → Event → Explanation → Type 0
 ExplainsEvent format table history e (Expected text) =
     (what : What) × IsCallDue (rule_of format) table history e what × CanStand format table (event e.client what)
@@ -108,19 +108,19 @@ IsReadAs table line e = FitsTable table e × ((d : Event) → FitsTable table d 
 abbrev pub IsOfNoEvent : List Declared → List ℕ → Type 0
 IsOfNoEvent table line = (d : Event) → FitsTable table d → event_line d ≡ line → ⊥
 
--- what is told of a line at which it was not read as an event
+-- what is reported of a line at which it was not read as an event
 abbrev pub IsUnread : List Declared → List ℕ → Explanation → Type 0
 IsUnread table line (Expected text) = ⊥
 IsUnread table line (Refused r) = ⊥
 IsUnread table line Unreadable = IsOfNoEvent table line
 
--- what is told of a header or of a variable: a line that leads on from here; no desk refuses one
+-- what is reported of a header or of a variable: a line that leads on from here; no desk refuses one
 abbrev pub ExplainsHead : CheckerState → Explanation → Type 0
 ExplainsHead p (Expected text) = ((q : CheckerState) × LeadsTo p (string_bytes text) q) × IsShort (string_bytes text)
 ExplainsHead p (Refused r) = ⊥
 ExplainsHead p Unreadable = Unit {0}
 
--- what is told of the line that is not accepted here
+-- what is reported of the line that is not accepted here
 abbrev pub Explains : CheckerState → List ℕ → Explanation → Type 0
 Explains at_header line x = ExplainsHead at_header x
 Explains (at_variables format n table) line x = ExplainsHead (at_variables format n table) x
@@ -138,8 +138,8 @@ abbrev pub IsAfterLine : List ℕ → Type 0
 IsAfterLine rest = (rest ≡ []) ⊎ ((more : List ℕ) × (rest ≡ 10 ∷ more))
 
 -- Why the bytes are no legal history: whole lines of them led to this progress; then comes the line of this number, which has
--- this fault; and this is told of it.
-pub record TellsWhy (bytes : List ℕ) (f : HistoryFault) (number : ℕ) (x : Explanation) : Type 0 where
+-- this fault; and this is reported of it.
+pub record ReportsWhy (bytes : List ℕ) (f : HistoryFault) (number : ℕ) (x : Explanation) : Type 0 where
   pub progress : CheckerState
   pub accepted : List ℕ
   pub line : List ℕ
@@ -156,8 +156,7 @@ pub record TellsWhy (bytes : List ℕ) (f : HistoryFault) (number : ℕ) (x : Ex
 -- two allowed events of the same call are equal, and the allowed one is what is expected
 abbrev pub OneEventOfACall : Type 0
 OneEventOfACall =
-    (rule : StalenessRule) (s : Slow) (a b : What) → AllowsBy rule s b → IsSameCall a b →
-    (expected_what rule s a ≡ Some b) × (AllowsBy rule s a → a ≡ b)
+    (s : Slow) (a b : What) → Allows s b → IsSameCall a b → (expected_what s a ≡ Some b) × (Allows s a → a ≡ b)
 
 -- a call that a desk refuses is no event that may follow
 abbrev pub RefusedAreIllegal : Type 0

@@ -1,5 +1,5 @@
 -- Laws of histories as text. The clauses of the checker fix its answer: bytes are the text of one history at most, and then no
--- fault can be told of them; otherwise they have one first fault. What is written is taken.
+-- fault can be reported of them; otherwise they have one first fault. What is written is taken.
 use Rattle.std.specs.Prelude.{◌≡◌, ℕ, List, ⊤}
 use Rattle.stm_store.specs.Tables.{Declared, AreDeclared}
 use Rattle.stm_events.specs.declared.event.Event.{Event}
@@ -8,7 +8,7 @@ use Rattle.stm_history.specs.declared.files.fault.HistoryFault.TheVariants.{Read
 use Rattle.stm_history.specs.declared.files.fault.Legal.{Legal}
 use Rattle.stm_event_lines.specs.Fits.{FitsTable, AreInRange, IsOneLine, BeginsWithBrace}
 use Rattle.stm_history.specs.HistoryText.{history_text}
-use Rattle.stm_history.specs.Judgement.{IsHistory, TellsFault, AreVariables, AreEvents, numbers_by}
+use Rattle.stm_history.specs.Judgement.{IsHistory, ReportsFault, AreVariables, AreEvents, numbers_by}
 use Rattle.stm_event_lines.specs.Lines.{IsFormat, rule_of, event_line, header_line, variable_line}
 use Rattle.stm_events.specs.SlowDesk.{IsLegalBy}
 
@@ -40,11 +40,11 @@ TextsAreOfOneHistory =
     → history_text format table history ≡ history_text format' table' history'
     → (format ≡ format') × (table ≡ table') × (history ≡ history')
 
--- no fault can be told of the text of a legal history
+-- no fault can be reported of the text of a legal history
 abbrev pub HistoriesAreTaken : Type 0
 HistoriesAreTaken =
     (bytes : List ℕ) (n : Legal) (k : ℕ) → IsHistory bytes n
-    → (TellsFault BadHeader bytes → ⊥) × (TellsFault (BadLine k) bytes → ⊥) × (TellsFault (NotLegal k) bytes → ⊥)
+    → (ReportsFault BadHeader bytes → ⊥) × (ReportsFault (BadLine k) bytes → ⊥) × (ReportsFault (NotLegal k) bytes → ⊥)
 
 -- the fault is one of the bytes, and not of the reader or of memory
 abbrev pub IsOfBytes : HistoryFault → Type 0
@@ -57,7 +57,7 @@ IsOfBytes NoMemory = ⊥
 -- the first fault is fixed: two faults that are reported of the same bytes are equal
 abbrev pub FaultsAreFixed : Type 0
 FaultsAreFixed =
-    (bytes : List ℕ) (f g : HistoryFault) → IsOfBytes f → IsOfBytes g → TellsFault f bytes → TellsFault g bytes → f ≡ g
+    (bytes : List ℕ) (f g : HistoryFault) → IsOfBytes f → IsOfBytes g → ReportsFault f bytes → ReportsFault g bytes → f ≡ g
 
 -- The text of a history in a format that is read, legal by the rule of the format, is one of its numbers. The table is one that
 -- declarations make, and its values are in the range of the program's types; each event fits the table and the format, and its

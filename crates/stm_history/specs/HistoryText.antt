@@ -17,7 +17,7 @@ abbrev pub event_lines : List Event → List ℕ
 event_lines [] = []
 event_lines (e ∷ es) = event_line e ++ 10 ∷ event_lines es
 
--- the first line, which promises so many variables, and the lines of those that are there
+-- the first line, which announces this many variables, and the lines of those that were read
 abbrev pub head_text : ℕ → ℕ → List Declared → List ℕ
 head_text format n table = header_line format n ++ 10 ∷ variable_lines table
 

@@ -1,4 +1,4 @@
--- What a checker of any bytes, or of a list of events, has to tell.
+-- What a checker of any bytes, or of a list of events, has to report.
 use Rattle.std.specs.Prelude.{◌≡◌, ◌≢◌, ℕ, ◌+◌, ◌≤◌, ◌<◌, List, [], ◌∷◌, ◌++◌, length, None, ⊤}
 use Rattle.stm_store.specs.Tables.{Declared, declare_refusal}
 use Rattle.stm_events.specs.declared.event.Event.{Event}
@@ -89,22 +89,22 @@ IsIllegal = IsIllegalBy Changed
 -- at fault if the bytes begin with the first lines of no table in any format that is read. A later line is at fault if a legal
 -- history precedes it: it is bad if it is not a short line of an event of the format, and not legal if it is the short line of an
 -- event that cannot follow.
-abbrev pub TellsFault : HistoryFault → List ℕ → Type 0
-TellsFault ReadFault bytes = ⊤
-TellsFault NoMemory bytes = ⊤
-TellsFault BadHeader bytes =
+abbrev pub ReportsFault : HistoryFault → List ℕ → Type 0
+ReportsFault ReadFault bytes = ⊤
+ReportsFault NoMemory bytes = ⊤
+ReportsFault BadHeader bytes =
     (format : ℕ) → IsFormat format → (table : List Declared) → length table ≤ max_cells → AreVariables table → (more : List ℕ)
     → bytes ≢ head_text format (length table) table ++ more
-TellsFault (BadLine n) bytes =
+ReportsFault (BadLine n) bytes =
     (format : ℕ) × IsFormat format × (table : List Declared) × (history : List Event) × (rest : List ℕ)
     × BeginsWithHistory format bytes table history rest × (n ≡ next_line table history)
     × (0 < length rest) × NoEventNext format table rest
-TellsFault (NotLegal n) bytes =
+ReportsFault (NotLegal n) bytes =
     (format : ℕ) × IsFormat format × (table : List Declared) × (history : List Event) × (e : Event) × (more : List ℕ)
     × BeginsWithHistory format bytes table history (event_line e ++ 10 ∷ more) × (n ≡ next_line table history) × FitsTable table e
     × FitsFormat format e × IsShort (event_line e) × IsIllegalBy (rule_of format) table history e
 
--- what replaying tells of a list that isn't legal: the first event, counted from 1, that can't follow those before it
+-- what replaying reports of a list that isn't legal: the first event, counted from 1, that can't follow those before it
 abbrev pub Refuses : HistoryFault → List Declared → List Event → Type 0
 Refuses ReadFault table history = ⊥
 Refuses BadHeader table history = ⊥

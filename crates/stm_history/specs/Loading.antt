@@ -4,7 +4,7 @@ use Rattle.stm_store.specs.Tables.{Declared}
 use Rattle.stm_events.specs.declared.event.Event.{Event}
 use Rattle.stm_history.specs.declared.files.loading.LoadFault.{LoadFault}
 use Rattle.stm_history.specs.declared.files.loading.LoadFault.TheVariants.{Fault, OldFormat}
-use Rattle.stm_history.specs.Judgement.{BeginsWithHistory, TellsFault}
+use Rattle.stm_history.specs.Judgement.{BeginsWithHistory, ReportsFault}
 use Rattle.stm_event_lines.specs.Lines.{IsFormat, latest_format}
 
 -- the bytes are the text of this legal history in the format, and nothing else
@@ -13,9 +13,9 @@ IsWholeHistory format bytes table history = BeginsWithHistory format bytes table
 
 -- what is reported of bytes that are no legal history in the latest format: the first error, or that their format is an earlier
 -- one
-abbrev pub TellsLoadFault : LoadFault → List ℕ → Type 0
-TellsLoadFault (Fault f) bytes = TellsFault f bytes
-TellsLoadFault (OldFormat format) bytes =
+abbrev pub ReportsLoadFault : LoadFault → List ℕ → Type 0
+ReportsLoadFault (Fault f) bytes = ReportsFault f bytes
+ReportsLoadFault (OldFormat format) bytes =
     IsFormat format × (format ≢ latest_format) × (table : List Declared) × (history : List Event)
     × IsWholeHistory format bytes table history
 

@@ -5,7 +5,7 @@ use Rattle.stm_history.specs.declared.files.check.Stage.{Stage}
 use Rattle.stm_history.specs.declared.files.fault.HistoryFault.{HistoryFault}
 use Rattle.stm_history.specs.declared.files.fault.HistoryFault.TheVariants as fault
 use Rattle.stm_history.specs.Checking.{StopsAt}
-use Rattle.stm_history.specs.Judgement.{TellsFault}
+use Rattle.stm_history.specs.Judgement.{ReportsFault}
 use Rattle.stm_history.specs.Stages.{Reached}
 
 -- a fault of the reader or of memory
@@ -32,4 +32,4 @@ TakesRest s t m n line old =
 -- the fault is that of the bytes that were left, after what was taken
 abbrev pub FailsIn : HistoryFault → Stage → ℕ → ℕ → Option (List ℕ) → Type 0
 FailsIn e s m n old =
-    IfSome old (λ bytes. (taken : List ℕ) → Reached s m [] taken → TellsFault e (taken ++ bytes) × StopsAt e n (taken ++ bytes))
+    IfSome old (λ bytes. (taken : List ℕ) → Reached s m [] taken → ReportsFault e (taken ++ bytes) × StopsAt e n (taken ++ bytes))

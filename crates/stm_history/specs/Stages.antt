@@ -7,8 +7,8 @@ use Rattle.stm_history.specs.declared.files.check.Stage.TheVariants.{Before, Dec
 use Rattle.stm_history.specs.declared.files.fault.HistoryFault.{HistoryFault}
 use Rattle.stm_history.specs.declared.files.fault.HistoryFault.TheVariants.{BadHeader, NoMemory}
 use Rattle.stm_history.specs.Checking.{CheckerState, at_header, at_variables, at_events, LeadsTo, HasTaken}
-use Rattle.stm_history.specs.Following.{FollowsIn}
-use Rattle.stm_event_lines.specs.Lines.{latest_format}
+use Rattle.stm_history.specs.Following.{Follows}
+use Rattle.stm_event_lines.specs.Lines.{latest_format, rule_of}
 use Rattle.stm_events.specs.SlowDesk.{max_cells}
 
 -- the stage stands for the progress
@@ -21,7 +21,8 @@ IsStage (Declaring keep format vars names) (at_variables f n table) = (format �
 IsStage (Declaring keep format vars names) (at_events f table history) = ⊥
 IsStage (Running format names r) at_header = ⊥
 IsStage (Running format names r) (at_variables f n table) = ⊥
-IsStage (Running format names r) (at_events f table history) = (format ≡ f) × (names ≡ table) × FollowsIn f table history r
+IsStage (Running format names r) (at_events f table history) =
+    (format ≡ f) × (names ≡ table) × Follows (rule_of f) table history r
 
 -- whether the events of the stage are kept
 abbrev pub keeps : Stage → Bool

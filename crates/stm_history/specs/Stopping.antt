@@ -1,4 +1,4 @@
--- What is told of the line after whole lines.
+-- What is reported of the line after whole lines.
 use Rattle.std.specs.Prelude.{◌≡◌, ℕ, List}
 use Rattle.stm_history.specs.declared.files.check.Stage.{Stage}
 use Rattle.stm_history.specs.declared.files.explanation.Explanation.{Explanation}
@@ -12,8 +12,8 @@ pub record IsAfter (front : List ℕ) (s : Stage) : Type 0 where
   pub stage : IsStage s progress
   pub lines : LinesUpTo progress front
 
--- these are whole lines, after which this is told of a line of this number
-pub record IsToldAfter (front line : List ℕ) (number : ℕ) (x : Explanation) : Type 0 where
+-- these are whole lines, after which this is reported of a line of this number
+pub record IsReportedAfter (front line : List ℕ) (number : ℕ) (x : Explanation) : Type 0 where
   pub progress : CheckerState
   pub lines : LinesUpTo progress front
   pub counted : number ≡ line_after progress

@@ -16,7 +16,7 @@ length-drop_return line = elim (ends_with_byte 13 line) as (λ t. length line �
   | false ↦ omega arith
 ]
 
--- so many bytes that no carriage return can make them a line
+-- too many bytes for a line, even if the last is a carriage return
 abbrev pub IsLong : List ℕ → Type 0
 IsLong line = longest_line + 2 ≤ length line
 

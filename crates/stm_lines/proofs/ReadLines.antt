@@ -1,9 +1,9 @@
 -- The lines of an input are those that are taken of it, one after another.
-use Rattle.std.proofs.Common.{◌≡◌, ◌≢◌, ℕ, ◌<◌, false, List, [], ◌∷◌, ◌++◌, length, sym, ap, ◌∙◌, append_assoc, append-nil, refl, arith, cond}
+use Rattle.std.proofs.Common.{◌≡◌, ◌≢◌, ℕ, ◌<◌, false, List, [], ◌∷◌, ◌++◌, length, sym, ap, ◌∙◌, append_assoc, append-nil, arith, cond}
 use Rattle.std.proofs.lemmas.Bool.Decides.{nat_tests}
 use Rattle.std.proofs.lemmas.List.Elements.{All-head, All-tail}
 use Rattle.std.specs.Prelude.{nat_eq}
-use Rattle.stm_lines.specs.Lines.{drop_return, last_lines, lines_from, whole_lines_from, NoLineFeed}
+use Rattle.stm_lines.specs.Lines.{drop_return, lines_from, whole_lines_from, NoLineFeed}
 
 same_test : (b : ℕ) → (b ≡ 10 → ⊥) → nat_eq b 10 ≡ false
 same_test b h = grind (arith, nat_tests)

@@ -1,9 +1,9 @@
 -- A line is taken part by part.
 use Rattle.std.proofs.Common.{◌≡◌, ◌≢◌, ℕ, ◌+◌, ◌-◌, ◌≤◌, true, false, List, [], ◌∷◌, ◌++◌, length, take, drop, refl, sym, ap, subst, ◌∙◌, append_assoc, append-nil, arith, length-append, Option, Some, None}
-use Rattle.std.proofs.KnownBytes.{Consumes-nil, Consumes-trans}
+use Rattle.std.proofs.KnownBytes.{Consumes-trans}
 use Rattle.std.proofs.Math.Seq.{drop-length}
 use Rattle.std.proofs.lemmas.List.{length-take-le, take-append-drop}
-use Rattle.std.proofs.lemmas.List.Elements.{All-append, All-nil}
+use Rattle.std.proofs.lemmas.List.Elements.{All-append}
 use Rattle.std.specs.Io.KnownBytes.{Consumes, IsAtEnd, Keeps, prepend_known}
 use Rattle.memchr.specs.Find.{IsFirstByte, is_byte}
 use Rattle.stm_lines.proofs.LineFeeds.{NoLineFeed-all, NoLineFeed-take, split-at}
@@ -45,9 +45,6 @@ IsPart-too_long limit n begun line chunk rest h k s e r = (
 Consumes-front : (b : Option (List ℕ)) (chunk bytes rest : List ℕ) → chunk ≡ bytes ++ rest → Consumes (prepend_known chunk b) (prepend_known rest b) bytes
 Consumes-front None chunk bytes rest e = tt
 Consumes-front (Some x) chunk bytes rest e = ap (λ l. l ++ x) e ∙ append_assoc bytes rest x
-
-pub TakesPartOfLine-nil : (a : Option (List ℕ)) → TakesPartOfLine a a []
-TakesPartOfLine-nil a = record { plain = All-nil (λ b. b ≢ 10); taken = Consumes-nil a }
 
 -- bytes more
 pub TakesPartOfLine-more : (a b : Option (List ℕ)) (begun line chunk bytes rest : List ℕ) → TakesPartOfLine a (prepend_known chunk b) begun → NoLineFeed bytes → line ≡ begun ++ bytes

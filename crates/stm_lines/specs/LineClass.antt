@@ -1,20 +1,17 @@
 -- How a line is judged before a command sees it.
-use Rattle.std.specs.Prelude.{ℕ, Bool, List, [], ◌∷◌, ◌==◌, ◌||◌, nat_lt, nat_eq, if◌then◌else◌, codes, length, take, drop, ◌+◌}
+use Rattle.std.specs.Prelude.{ℕ, Bool, List, [], ◌∷◌, ◌==◌, nat_lt, nat_eq, if◌then◌else◌, codes, length, take, drop, ◌+◌}
 use Rattle.std.specs.List.{list_any, starts_with}
-
--- tab, line feed, carriage return and space
-abbrev pub is_line_blank : ℕ → Bool
-is_line_blank b = nat_eq b 32 || nat_eq b 9 || nat_eq b 10 || nat_eq b 13
+use Rattle.stm_parse.specs.Bytes.{is_blank}
 
 -- how many blanks a text begins with
 abbrev pub blanks_len : List ℕ → ℕ
 blanks_len [] = 0
-blanks_len (b ∷ bs) = if is_line_blank b then blanks_len bs + 1 else 0
+blanks_len (b ∷ bs) = if is_blank b then blanks_len bs + 1 else 0
 
--- how many bytes stand before the first blank
+-- how many bytes are before the first blank
 abbrev pub command_len : List ℕ → ℕ
 command_len [] = 0
-command_len (b ∷ bs) = if is_line_blank b then 0 else command_len bs + 1
+command_len (b ∷ bs) = if is_blank b then 0 else command_len bs + 1
 
 -- the text after the blanks that it begins with
 unfoldable pub skip_blanks : List ℕ → List ℕ

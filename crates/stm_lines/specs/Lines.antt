@@ -12,7 +12,7 @@ abbrev pub last_lines : List ℕ → List (List ℕ)
 last_lines [] = []
 last_lines (b ∷ bs) = (b ∷ bs) ∷ []
 
--- the lines of what follows, where the first of them has begun
+-- the lines of what follows, of which the first has begun
 abbrev pub lines_from : List ℕ → List ℕ → List (List ℕ)
 lines_from begun [] = last_lines begun
 lines_from begun (b ∷ bs) = if b == 10 then drop_return begun ∷ lines_from [] bs else lines_from (begun ++ b ∷ []) bs

@@ -27,7 +27,7 @@ pub record TakesLastLine (old new : Option (List ℕ)) (bytes : List ℕ) : Type
   pub taken : Consumes old new bytes
   pub at_end : IsAtEnd new
 
--- the line that was read, of at most so many bytes; of a line that is too long one byte more was taken
+-- the line that was read, of at most `limit` bytes; of a line that is too long one byte more was taken
 abbrev pub IsRead : Line → ℕ → Option (List ℕ) → Option (List ℕ) → List ℕ → Type 0
 IsRead line.Whole limit old new bytes = TakesWholeLine old new bytes × (length bytes ≤ limit)
 IsRead line.Last limit old new bytes = TakesLastLine old new bytes × (0 < length bytes) × (length bytes ≤ limit)
@@ -40,7 +40,7 @@ IsSkipped true old new = (bytes : List ℕ) × TakesWholeLine old new bytes
 IsSkipped false old new = (bytes : List ℕ) × TakesLastLine old new bytes
 
 -- ---- inside the reader
--- at most so many bytes are still to come, with these calls of the reader left and these bytes in the chunk
+-- at most this many bytes are still to come, with these calls of the reader left and these bytes in the chunk
 abbrev pub bytes_to_come : ℕ → List ℕ → ℕ
 bytes_to_come left chunk = left * 8192 + length chunk
 

@@ -1,8 +1,10 @@
 //! The judgement of a line before a command sees it.
 
 ghost use Rattle.std.specs.Prelude.{◌≡◌, ◌≤◌, drop, length};
-ghost use Rattle.stm_lines.specs.LineClass.{is_line_blank as blank, blanks_len as blank_count, command_len as word_count, skip_blanks as skipped, class_of_words as words_judged, has_high_byte as high_byte, line_class};
+ghost use Rattle.stm_lines.specs.LineClass.{blanks_len, command_len, skip_blanks, class_of_words, has_high_byte, line_class};
 ghost use Rattle.stm_lines.specs.Judged.{line_class_of};
+
+use stm_parse::bytes::is_blank;
 
 /// The most bytes that a line may have.
 const LONGEST_LINE: usize = 65_536;
@@ -16,15 +18,9 @@ pub enum Judgement<'a> {
     Words(&'a [u8], &'a [u8]),
 }
 
-pub fn is_blank(byte: u8) -> bool
-    ensures { result ≡ blank byte }
-{
-    byte == 32 || byte == 9 || byte == 10 || byte == 13
-}
-
 /// How many blanks a text begins with.
 fn blanks_len(text: &[u8]) -> usize
-    ensures count { result ≡ blank_count text.now }
+    ensures count { result ≡ blanks_len text.now }
     ensures within { result ≤ length text.now }
 {
     for (at, byte) in text.iter().enumerate() {
@@ -35,9 +31,9 @@ fn blanks_len(text: &[u8]) -> usize
     text.len()
 }
 
-/// How many bytes stand before the first blank.
-fn word_len(text: &[u8]) -> usize
-    ensures count { result ≡ word_count text.now }
+/// How many bytes are before the first blank.
+fn command_len(text: &[u8]) -> usize
+    ensures count { result ≡ command_len text.now }
     ensures within { result ≤ length text.now }
 {
     for (at, byte) in text.iter().enumerate() {
@@ -58,13 +54,13 @@ pub fn after(text: &[u8], count: usize) -> &[u8]
 
 #[tactic(auto, unfolding(crate::specs::LineClass::skip_blanks))]
 fn skip_blanks(text: &[u8]) -> &[u8]
-    ensures { result.now ≡ skipped text.now }
+    ensures { result.now ≡ skip_blanks text.now }
 {
     after(text, blanks_len(text))
 }
 
 fn has_high_byte(line: &[u8]) -> bool
-    ensures { result ≡ high_byte line.now }
+    ensures { result ≡ has_high_byte line.now }
 {
     !line.is_ascii()
 }
@@ -72,9 +68,9 @@ fn has_high_byte(line: &[u8]) -> bool
 /// The command word of a text and its argument.
 #[tactic(auto, unfolding(crate::specs::LineClass::class_of_words))]
 fn words_of(text: &[u8]) -> Judgement<'_>
-    ensures { line_class_of result ≡ words_judged text.now }
+    ensures { line_class_of result ≡ class_of_words text.now }
 {
-    let len = word_len(text);
+    let len = command_len(text);
     Judgement::Words(&text[..len], skip_blanks(after(text, len)))
 }
 

@@ -202,7 +202,7 @@ impl LineReader {
         self.chunk.feed().is_some()
     }
 
-    /// Reads the next line, of at most so many bytes. If it has more, one more is taken, as soon as that many were read;
+    /// Reads the next line, of at most `limit` bytes. If it has more, one more is taken, as soon as that many were read;
     /// `skip_line` takes the rest.
     pub fn next_line<R: Read, L: Ledger>(
         &mut self,

@@ -1,4 +1,4 @@
 -- What a reader has to believe: what a log keeps.
 pub mod LogModel
--- The words inside, for where a key belongs among pairs.
+-- The words inside, for the place of a key among pairs.
 pub mod LowerBound

@@ -3,7 +3,7 @@ use Rattle.std.specs.Prelude.{ℕ, List, [], ◌∷◌}
 use Rattle.stm_terms.specs.declared.values.Value.{Value}
 use Rattle.stm_terms.specs.Changes.{Changes, put}
 
--- the changes in the top frame and in those below it, and the variables read, rising, with their values
+-- the changes in the top frame and in those below it, and the variables read, ascending, with their values
 pub record Logged : Type 0 where
   pub top : Changes
   pub below : List Changes

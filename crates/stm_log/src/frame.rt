@@ -10,7 +10,7 @@ use stm_terms::NoMemory;
 use stm_terms::kinds::Ty;
 use stm_terms::values::{Ref, Value};
 
-/// All that the block has changed, as its branch sees it: the variables written, rising, and the cells made, in order.
+/// All that the block has changed, as its branch sees it: the variables written, ascending, and the cells made, in order.
 #[derive(Drop)]
 pub(crate) struct Frame {
     pub(crate) writes: ValueMap,

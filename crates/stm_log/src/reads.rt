@@ -9,7 +9,7 @@ use std::marker::Model;
 use stm_terms::NoMemory;
 use stm_terms::values::Value;
 
-/// The variables of the store that a block read, each once and rising, with the values that it found.
+/// The variables of the store that a block read, each once and ascending, with the values that it found.
 #[derive(Drop)]
 pub struct Reads {
     pairs: ValueMap,
@@ -40,7 +40,7 @@ impl Reads {
         self.pairs.as_slice()
     }
 
-    /// The value that was read of a variable, none where it wasn't read. Found by binary search.
+    /// The value that was read of a variable, none if it wasn't read. Found by binary search.
     pub fn find(&self, variable: u32) -> Option<Value>
         ensures { result ≡ find variable self.now }
     {

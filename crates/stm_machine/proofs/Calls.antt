@@ -1,29 +1,27 @@
--- What is kept and who waits; a block that begins to wait, and one that leaves.
+-- What is kept and who waits; a block that is submitted, and one that is cancelled.
 use Rattle.std.proofs.Common.{◌≡◌, ℕ, ◌+◌, ◌<◌, ◌^◌, Bool, true, false, cond, List, [], ◌∷◌, ◌++◌, length, Option, Some, None, refl, sym, ap, subst, ◌∙◌, arith}
 use Rattle.std.specs.Prelude.{nat_le}
 use Rattle.std.proofs.lemmas.Bool.Decides.{nat_tests}
 use Rattle.stm_terms.specs.declared.kinds.Ty.{Ty}
 use Rattle.stm_store.specs.Cells.{plains, kinds_of, Covers}
-use Rattle.stm_store.specs.Tables.{Declared, is_type}
+use Rattle.stm_store.specs.Tables.{is_type}
 use Rattle.stm_check.specs.TypedBlock.{Block}
 use Rattle.stm_check.proofs.ExpressionsSound.{same_ty_equal}
 use Rattle.stm_watch.specs.Pairs.{Pairs, WithoutReads}
 use Rattle.stm_queue.specs.Queue.{has_ticket, with_ticket, without_ticket}
-use Rattle.stm_events.specs.declared.event.Event.{Event}
 use Rattle.stm_events.specs.declared.event.What.TheVariants.{Submitted, Cancelled}
-use Rattle.stm_events.specs.declared.staleness.StalenessRule.{StalenessRule}
-use Rattle.stm_events.specs.SlowDesk.{Waiter, Slow, find_waiter, initial_state, state_by, AllowsBy, max_waiting}
+use Rattle.stm_events.specs.SlowDesk.{Waiter, Slow, find_waiter, after, Allows, max_waiting}
 use Rattle.stm_events.specs.Laws.{AreRising}
-use Rattle.stm_events.proofs.Rising.{rising_state, next_le}
 use Rattle.stm_waiting.specs.declared.waiting.Waiting.{Waiting}
 use Rattle.stm_waiting.specs.Entries.{kept_at, lose, AllBelow}
 use Rattle.stm_machine.specs.Entries.{AreDue, kept_reads}
-use Rattle.stm_machine.specs.Machine.{Parts, StandsForBy, CanWaitBy, CanLeaveBy, MovesToBy}
+use Rattle.stm_machine.specs.Machine.{Parts, IsAt, HasTicketLeft}
 use Rattle.stm_machine.specs.QueueAndIndex.{due_of}
-use Rattle.stm_events.specs.Refusals.{missing, submit_first, cancel_first}
+use Rattle.stm_events.specs.Refusals.{missing, submit_first, submit_refused, cancel_first, cancel_refused}
 use Rattle.stm_machine.proofs.Due.{IsSame, IsFound, found, below_due}
 use Rattle.stm_machine.proofs.Points.{not_yet}
-use Rattle.stm_machine.proofs.Moves.{moves_to, stands_submit, stands_cancel}
+use Rattle.stm_machine.proofs.Moves.{stands_submit, stands_cancel}
+use Rattle.stm_machine.proofs.States.{IsLike, rising_at, moves_to, like_at, same_store, same_length}
 
 -- ---- what is kept under a ticket, and who waits under it
 pub record Waits (t : ℕ) (x : Waiting) (ws : List Waiter) : Type 0 where
@@ -47,21 +45,15 @@ lost_by (Some x) p f e = cc
 pub lost : (t : ℕ) (es : List (ℕ × Waiting)) (ws : List Waiter) → AreDue es ws → kept_at t es ≡ None → find_waiter t ws ≡ None
 lost t es ws d e = lost_by (kept_at t es) (find_waiter t ws) (found t es ws d) e
 
-module _ (rule : StalenessRule) (table : List Declared) (history : List Event) (m : Parts) (k : StandsForBy rule table history m) where
-  abbrev pub s : Slow
-  s = state_by rule table history
-
-  pub kept_rising : AreRising s.next 0 s.waiters
-  kept_rising = rising_state rule table history k.legal
-
+module _ (m : Parts) (s : Slow) (k : IsAt m s) where
   rising_next : AreRising m.next 0 s.waiters
-  rising_next = subst (λ (n : ℕ). AreRising n 0 s.waiters) (sym k.stands.next_is) kept_rising
+  rising_next = subst (λ (n : ℕ). AreRising n 0 s.waiters) (sym k.stands.next_is) (rising_at m s k)
 
   pub below_next : AllBelow m.next m.entries
   below_next = below_due m.next 0 m.entries s.waiters k.stands.entries_are rising_next
 
-  pub ticket_small : m.next + 1 < 2 ^ 32
-  ticket_small = let a = k.legal.few in let c = k.stands.next_is in omega (arith, next_le rule (initial_state table) history)
+  pub ticket_small : HasTicketLeft s → m.next + 1 < 2 ^ 32
+  ticket_small l = let c = k.stands.next_is in omega arith
 
   pub next_absent : has_ticket m.next m.pending ≡ false
   next_absent = k.stands.queue m.next ∙ ap due_of (not_yet m.next m.next 0 s.waiters (omega arith) rising_next)
@@ -79,47 +71,38 @@ pub none_missing : (cells : List (Ty × _)) (uses : List (ℕ × Ty)) → missin
 none_missing cells [] h = tt
 none_missing cells (u ∷ us) h = missing_step (is_type (kinds_of cells u.0) u.1) cells u us refl (none_missing cells us) h
 
-pub record MaySubmit (m : Option ℕ) (many full : Bool) : Type 0 where
+pub record MaySubmit (m : Option ℕ) (many : Bool) : Type 0 where
   pub covers : m ≡ None
   pub few : many ≡ false
-  pub room : full ≡ false
 
-pub may_submit : (m : Option ℕ) (many full : Bool) → None ≡ submit_first m many full → MaySubmit m many full
-may_submit (Some i) many full e = cc
-may_submit None true full e = cc
-may_submit None false true e = cc
-may_submit None false false e = record { covers = refl; few = refl; room = refl }
+pub may_submit : (m : Option ℕ) (many : Bool) → submit_first m many false ≡ None → MaySubmit m many
+may_submit (Some i) many e = cc
+may_submit None true e = cc
+may_submit None false e = record { covers = refl; few = refl }
 
 pub below_limit : (limit n : ℕ) → nat_le limit n ≡ false → n < limit
 below_limit limit n e = grind (arith, nat_tests)
 
-pub moves_wait : (rule : StalenessRule) (table : List Declared) (history : List Event) (m : Parts) (b : Block) → CanWaitBy rule table history m b
-    → MovesToBy rule table history (Submitted m.next b) (record { store = m.store; next = m.next + 1; entries = m.entries ++ (m.next, record { block = b; held = None }) ∷ []; pending = with_ticket m.next m.pending; watch = m.watch })
-moves_wait rule table history m b c =
-    let s = state_by rule table history in
-    let k = c.stands in
-    let p : MaySubmit (missing (plains s.store) b.uses) (nat_le max_waiting (length s.waiters)) false = may_submit _ _ _ (sym c.allowed) in
-    moves_to rule table history m _ (Submitted m.next b) k c.room
-    (k.stands.next_is, none_missing (plains s.store) b.uses p.covers, below_limit max_waiting (length s.waiters) p.few)
-    (stands_submit rule s m.store m.next m.entries m.pending m.watch b (kept_rising rule table history m k) k.stands)
+-- another state of the machine refuses it no more than this one
+pub submit_refused_alike : (m : Parts) (s s' : Slow) → IsAt m s → IsAt m s' → (b : Block) → submit_refused s false b ≡ None → submit_refused s' false b ≡ None
+submit_refused_alike m s s' k k' b e = rw (same_store m s s' k k', same_length m s s' k k') e
+
+pub moves_submit : (m : Parts) (s s' : Slow) (b : Block) → IsAt m s → submit_refused s false b ≡ None → IsAt m s'
+    → (Allows s' (Submitted m.next b) × IsAt (record m { next = m.next + 1; entries = m.entries ++ (m.next, record { block = b; held = None }) ∷ []; pending = with_ticket m.next m.pending }) (after s' (Submitted m.next b)))
+moves_submit m s s' b k e k' =
+    let p : MaySubmit (missing (plains s'.store) b.uses) (nat_le max_waiting (length s'.waiters)) = may_submit _ _ (submit_refused_alike m s s' k k' b e) in
+    moves_to m _ s' (Submitted m.next b) k' (k'.stands.next_is, none_missing (plains s'.store) b.uses p.covers, below_limit max_waiting (length s'.waiters) p.few)
+    (stands_submit s' m b (rising_at m s' k') k'.stands)
 
 -- ---- cancel
-pub record MayCancel (o : Option Waiter) (full : Bool) : Type 0 where
-  pub one : Waiter
-  pub found : o ≡ Some one
-  pub room : full ≡ false
+waits_there : (o : Option Waiter) → cancel_first o false ≡ None → (w : Waiter) × (o ≡ Some w)
+waits_there None e = cc
+waits_there (Some w) e = (w, refl)
 
-pub may_cancel : (o : Option Waiter) (full : Bool) → None ≡ cancel_first o full → MayCancel o full
-may_cancel None full e = cc
-may_cancel (Some w) true e = cc
-may_cancel (Some w) false e = record { one = w; found = refl; room = refl }
-
-pub moves_leave : (rule : StalenessRule) (table : List Declared) (history : List Event) (m : Parts) (watch' : Pairs) (t : ℕ) → CanLeaveBy rule table history m t → WithoutReads m.watch t (kept_reads (kept_at t m.entries)) watch'
-    → MovesToBy rule table history (Cancelled t) (record { store = m.store; next = m.next; entries = lose t m.entries; pending = without_ticket t m.pending; watch = watch' })
-moves_leave rule table history m watch' t c q =
-    let s = state_by rule table history in
-    let k = c.stands in
-    let p : MayCancel (find_waiter t s.waiters) false = may_cancel _ _ (sym c.allowed) in
-    let a : AllowsBy rule s (Cancelled t) = rw p.found tt in
-    moves_to rule table history m _ (Cancelled t) k c.room a
-    (stands_cancel rule s m.store m.next m.entries m.pending m.watch watch' t (kept_rising rule table history m k) k.stands q)
+pub moves_cancel : (m : Parts) (s s' : Slow) (watch' : Pairs) (t : ℕ) → IsAt m s → cancel_refused s false t ≡ None → IsAt m s' → WithoutReads m.watch t (kept_reads (kept_at t m.entries)) watch'
+    → (Allows s' (Cancelled t) × IsAt (record m { entries = lose t m.entries; pending = without_ticket t m.pending; watch = watch' }) (after s' (Cancelled t)))
+moves_cancel m s s' watch' t k e k' q =
+    let p = waits_there (find_waiter t s.waiters) e in
+    let l : IsLike p.0 (find_waiter t s'.waiters) = like_at m s s' k k' t p.0 p.1 in
+    let a : Allows s' (Cancelled t) = rw l.found tt in
+    moves_to m _ s' (Cancelled t) k' a (stands_cancel s' m watch' t (rising_at m s' k') k'.stands q)

@@ -1,16 +1,16 @@
 -- A message that is not refused says what its block does on the present store.
 use Rattle.std.proofs.Common.{◌≡◌, ◌≢◌, ℕ, ℤ, Bool, true, false, not, cond, List, [], ◌∷◌, Option, Some, None, refl, sym, ap, subst, ◌∙◌, arith, eqb-true}
-use Rattle.std.specs.Prelude.{nat_eq, IsSomeAnd}
+use Rattle.std.specs.Prelude.{nat_eq, Result, Err}
 use Rattle.std.specs.Ordering.{int_eq}
 use Rattle.std.proofs.lemmas.Bool.Decides.{Decides-int_eq}
 use Rattle.stm_terms.specs.declared.values.Ref.{Ref}
 use Rattle.stm_terms.specs.declared.values.Ref.TheVariants.{Old, New}
 use Rattle.stm_terms.specs.declared.values.Value.{Value}
 use Rattle.stm_terms.specs.declared.values.Value.TheVariants.{Int, Bool as Truth, Unit as Nil, Var}
+use Rattle.stm_terms.specs.UnlessNoMemory.{RefusedAs}
 use Rattle.stm_terms.specs.Value.{same_value, same_ref}
 use Rattle.stm_terms.specs.Changes.{Variables, find}
 use Rattle.stm_store.specs.declared.cell.Cell.{Cell}
-use Rattle.stm_store.specs.Tables.{Declared}
 use Rattle.stm_check.specs.TypedBlock.{Block}
 use Rattle.stm_eval.specs.declared.message.Evaluated.{Evaluated}
 use Rattle.stm_eval.specs.Messages.{Agrees, Holds}
@@ -18,18 +18,17 @@ use Rattle.stm_eval.specs.EvaluatedFields.{message_ticket, message_block, messag
 use Rattle.stm_watch.specs.Pairs.{Pairs, WithReads}
 use Rattle.stm_queue.specs.Queue.{Entry, has_ticket, without_ticket}
 use Rattle.stm_queue.proofs.Membership.{has_marked}
-use Rattle.stm_events.specs.declared.event.Event.{Event}
 use Rattle.stm_events.specs.declared.event.What.TheVariants.{Installed}
-use Rattle.stm_events.specs.declared.staleness.StalenessRule.{StalenessRule}
-use Rattle.stm_events.specs.SlowDesk.{Waiter, Slow, under, is_current, find_waiter, state_by, AllowsBy}
+use Rattle.stm_events.specs.SlowDesk.{Waiter, Slow, under, is_current, find_waiter, after, Allows}
 use Rattle.stm_waiting.specs.declared.waiting.Held.{Held}
 use Rattle.stm_events.specs.declared.errors.DeliverError.{DeliverError}
 use Rattle.stm_events.specs.declared.errors.DeliverError.TheVariants as deliver
 use Rattle.stm_waiting.specs.Entries.{with_held}
-use Rattle.stm_machine.specs.Machine.{Parts, StandsForBy, CanInstallBy, MovesToBy}
+use Rattle.stm_machine.specs.Machine.{Parts, IsAt, MayDeliver}
 use Rattle.stm_machine.specs.QueueAndIndex.{due_of}
-use Rattle.stm_events.specs.Refusals.{has_value, differing, overtaken_first, install_first, DeliverTold, pending_left}
-use Rattle.stm_machine.proofs.Moves.{moves_to, stands_install}
+use Rattle.stm_events.specs.Refusals.{has_value, differing, overtaken_first, install_first, DeliveryRefusedAt, pending_left}
+use Rattle.stm_machine.proofs.Moves.{stands_install}
+use Rattle.stm_machine.proofs.States.{IsLike, moves_to, like_at, same_store}
 
 -- ---- values found equal are equal
 ref_equal : (r q : Ref) → same_ref r q ≡ true → r ≡ q
@@ -80,28 +79,26 @@ pub none_differs : (S : Variables) (reads : List (ℕ × Value)) → differing S
 none_differs S [] d i v e = cc
 none_differs S (r ∷ rs) d i v e = agrees_step (has_value (S r.0) r.1) (nat_eq r.0 i) S r rs i v refl refl (λ g. none_differs S rs g i v) d e
 
--- ---- what is reported
-pub told_gone : (store : List Cell) (full : Bool) (o : Option Waiter) (block : Block) (reads : List (ℕ × Value)) → o ≡ None → DeliverTold (Some deliver.Gone) store full o block reads
-told_gone store full o block reads e = rw e refl
+-- ---- what it is refused for
+pub refused_gone : (A : Type 0) (store : List Cell) (o : Option Waiter) (block : Block) (reads : List (ℕ × Value)) → o ≡ None → DeliveryRefusedAt {A = A} store false o block reads (Err deliver.Gone)
+refused_gone A store o block reads e = rw e refl
 
-pub told_other : (store : List Cell) (full : Bool) (o : Option Waiter) (w : Waiter) (block : Block) (reads : List (ℕ × Value)) → o ≡ Some w → w.block.tree ≢ block.tree → DeliverTold (Some deliver.OtherBlock) store full o block reads
-told_other store full o w block reads e n = rw e (λ m. refl, λ m. absurd (n m))
+pub refused_other : (A : Type 0) (store : List Cell) (o : Option Waiter) (w : Waiter) (block : Block) (reads : List (ℕ × Value)) → o ≡ Some w → w.block.tree ≢ block.tree
+    → DeliveryRefusedAt {A = A} store false o block reads (Err deliver.OtherBlock)
+refused_other A store o w block reads e n = rw e (λ m. refl, λ m. absurd (n m))
 
-pub told_same : (told : Option DeliverError) (store : List Cell) (full : Bool) (o : Option Waiter) (w : Waiter) (block : Block) (reads : List (ℕ × Value)) → o ≡ Some w → w.block.tree ≡ block.tree
-    → told ≡ install_first store full w reads → DeliverTold told store full o block reads
-told_same told store full o w block reads e s t = rw e (λ m. absurd (m s), λ m. t)
+pub refused_same : {A : Type 0} (store : List Cell) (o : Option Waiter) (w : Waiter) (block : Block) (reads : List (ℕ × Value)) (r : Option DeliverError) (result : Result A DeliverError) → o ≡ Some w → w.block.tree ≡ block.tree
+    → install_first store false w reads ≡ r → RefusedAs deliver.NoMemory r result → DeliveryRefusedAt store false o block reads result
+refused_same store o w block reads r result e s i f = rw e (λ m. absurd (m s), λ m. rw i f)
 
-pub told_already : (store : List Cell) (full : Bool) (w : Waiter) (reads : List (ℕ × Value)) → is_current w ≡ true → Some deliver.Already ≡ install_first store full w reads
-told_already store full w reads c = rw c refl
+pub first_already : (store : List Cell) (w : Waiter) (reads : List (ℕ × Value)) → is_current w ≡ true → install_first store false w reads ≡ Some deliver.Already
+first_already store w reads c = rw c refl
 
-pub told_overtaken : (store : List Cell) (full : Bool) (w : Waiter) (reads : List (ℕ × Value)) (i : ℕ) → is_current w ≡ false → differing (under store) reads ≡ Some i → Some (deliver.Overtaken i) ≡ install_first store full w reads
-told_overtaken store full w reads i c d = rw (c, d) refl
+pub first_overtaken : (store : List Cell) (w : Waiter) (reads : List (ℕ × Value)) (i : ℕ) → is_current w ≡ false → differing (under store) reads ≡ Some i → install_first store false w reads ≡ Some (deliver.Overtaken i)
+first_overtaken store w reads i c d = rw (c, d) refl
 
-pub told_full : (store : List Cell) (full : Bool) (w : Waiter) (reads : List (ℕ × Value)) → is_current w ≡ false → differing (under store) reads ≡ None → full ≡ true → Some deliver.HistoryFull ≡ install_first store full w reads
-told_full store full w reads c d f = rw (c, d, f) refl
-
-pub told_none : (store : List Cell) (full : Bool) (w : Waiter) (reads : List (ℕ × Value)) → is_current w ≡ false → differing (under store) reads ≡ None → full ≡ false → None ≡ install_first store full w reads
-told_none store full w reads c d f = rw (c, d, f) refl
+pub first_none : (store : List Cell) (w : Waiter) (reads : List (ℕ × Value)) → is_current w ≡ false → differing (under store) reads ≡ None → install_first store false w reads ≡ None
+first_none store w reads c d = rw (c, d) refl
 
 flip_true : (a b : Bool) → b ≡ not a → b ≡ true → a ≡ false
 flip_true true b e h = cc
@@ -117,58 +114,52 @@ not_current o w b f e h = flip_true (is_current w) b (e ∙ ap due_of f) h
 pub current : (o : Option Waiter) (w : Waiter) (b : Bool) → o ≡ Some w → b ≡ due_of o → b ≡ false → is_current w ≡ true
 current o w b f e h = flip_false (is_current w) b (e ∙ ap due_of f) h
 
--- ---- a message that is accepted
-pub record MayInstall (store : List Cell) (full : Bool) (w : Waiter) (reads : List (ℕ × Value)) : Type 0 where
+-- ---- a message that may be delivered
+pub record IsDue (store : List Cell) (w : Waiter) (reads : List (ℕ × Value)) : Type 0 where
   pub stale : is_current w ≡ false
   pub agrees : differing (under store) reads ≡ None
-  pub room : full ≡ false
 
-accepted_by : (c : Bool) (d : Option ℕ) (full : Bool) → None ≡ cond c (Some deliver.Already) (overtaken_first d full) → (c ≡ false) × (d ≡ None) × (full ≡ false)
-accepted_by true d full e = cc
-accepted_by false (Some i) full e = cc
-accepted_by false None true e = cc
-accepted_by false None false e = (refl, refl, refl)
+due_by : (c : Bool) (d : Option ℕ) → cond c (Some deliver.Already) (overtaken_first d false) ≡ None → (c ≡ false) × (d ≡ None)
+due_by true d e = cc
+due_by false (Some i) e = cc
+due_by false None e = (refl, refl)
 
-pub record Accepted (s : Slow) (full : Bool) (t : ℕ) (block : Block) (reads : List (ℕ × Value)) : Type 0 where
-  pub one : Waiter
-  pub found : find_waiter t s.waiters ≡ Some one
-  pub same : one.block.tree ≡ block.tree
-  pub may : MayInstall s.store full one reads
+is_due : (store : List Cell) (w : Waiter) (reads : List (ℕ × Value)) → install_first store false w reads ≡ None → IsDue store w reads
+is_due store w reads e = let p = due_by (is_current w) (differing (under store) reads) e in record { stale = p.0; agrees = p.1 }
 
-accepted_at : (s : Slow) (full : Bool) (t : ℕ) (block : Block) (reads : List (ℕ × Value)) (o : Option Waiter) → find_waiter t s.waiters ≡ o → DeliverTold None s.store full o block reads → IsSomeAnd o (λ w. w.block.tree ≡ block.tree) → Accepted s full t block reads
-accepted_at s full t block reads None e d q = absurd q
-accepted_at s full t block reads (Some w) e d q =
-    let a = accepted_by (is_current w) (differing (under s.store) reads) full (d.1 q) in
-    record { one = w; found = e; same = q; may = record { stale = a.0; agrees = a.1; room = a.2 } }
+-- then it may be delivered at each state of the machine
+deliver_alike : (m : Parts) (s s' : Slow) (message : Evaluated) → IsAt m s → MayDeliver s message → IsAt m s' → MayDeliver s' message
+deliver_alike m s s' message k d k' =
+    let l : IsLike d.one (find_waiter (message_ticket message) s'.waiters) = like_at m s s' k k' (message_ticket message) d.one d.found in
+    let p : IsDue s.store d.one (message_reads message) = is_due s.store d.one (message_reads message) d.allowed in
+    record {
+      one = l.other;
+      found = l.found;
+      same = ap (λ b. b.tree) l.block ∙ d.same;
+      allowed = first_none s'.store l.other (message_reads message) (l.current ∙ p.stale) (rw (same_store m s s' k k') p.agrees);
+    }
 
-pub accepted : (s : Slow) (full : Bool) (t : ℕ) (block : Block) (reads : List (ℕ × Value)) → DeliverTold None s.store full (find_waiter t s.waiters) block reads → IsSomeAnd (find_waiter t s.waiters) (λ w. w.block.tree ≡ block.tree) → Accepted s full t block reads
-accepted s full t block reads d q = accepted_at s full t block reads (find_waiter t s.waiters) refl d q
-
-pub moves_install : (rule : StalenessRule) (table : List Declared) (history : List Event) (m : Parts) (watch' : Pairs) (message : Evaluated) → CanInstallBy rule table history m message
+pub moves_deliver : (m : Parts) (s s' : Slow) (watch' : Pairs) (message : Evaluated) → IsAt m s → MayDeliver s message → IsAt m s'
     → ((S : Variables) → Agrees (message_reads message) S → Holds (message_block message).tree S (message_reads message) (message_verdict message))
     → WithReads m.watch (message_ticket message) (message_reads message) watch'
-    → MovesToBy rule table history (Installed (message_ticket message) (message_verdict message))
-    (record { store = m.store; next = m.next; entries = with_held (message_ticket message) (record { reads = message_reads message; verdict = message_verdict message }) m.entries; pending = without_ticket (message_ticket message) m.pending; watch = watch' })
-moves_install rule table history m watch' message c truth q =
-    let s = state_by rule table history in
-    let k = c.stands in
+    → (Allows s' (Installed (message_ticket message) (message_verdict message))
+    × IsAt (record m { entries = with_held (message_ticket message) (record { reads = message_reads message; verdict = message_verdict message }) m.entries; pending = without_ticket (message_ticket message) m.pending; watch = watch' })
+    (after s' (Installed (message_ticket message) (message_verdict message))))
+moves_deliver m s s' watch' message k d k' truth q =
     let t = message_ticket message in
     let block = message_block message in
     let h : Held = record { reads = message_reads message; verdict = message_verdict message } in
-    let a : Accepted s false t block h.reads = accepted s false t block h.reads c.allowed c.same in
-    let there : Holds block.tree (under s.store) h.reads h.verdict = truth (under s.store) (none_differs (under s.store) h.reads a.may.agrees) in
-    let holds : Holds a.one.block.tree (under s.store) h.reads h.verdict = subst (λ x. Holds x (under s.store) h.reads h.verdict) (sym a.same) there in
-    let may : AllowsBy rule s (Installed t h.verdict) = rw a.found (record { not_current = a.may.stale; verdict_is = holds.verdict_is }) in
-    moves_to rule table history m _ (Installed t h.verdict) k c.room may
-    (stands_install rule s m.store m.next m.entries m.pending m.watch watch' t a.one h k.stands a.found a.may.stale holds q)
+    let a : MayDeliver s' message = deliver_alike m s s' message k d k' in
+    let p : IsDue s'.store a.one h.reads = is_due s'.store a.one h.reads a.allowed in
+    let there : Holds block.tree (under s'.store) h.reads h.verdict = truth (under s'.store) (none_differs (under s'.store) h.reads p.agrees) in
+    let holds : Holds a.one.block.tree (under s'.store) h.reads h.verdict = subst (λ x. Holds x (under s'.store) h.reads h.verdict) (sym a.same) there in
+    let may : Allows s' (Installed t h.verdict) = rw a.found (record { not_current = p.stale; verdict_is = holds.verdict_is }) in
+    moves_to m _ s' (Installed t h.verdict) k' may (stands_install s' m watch' t a.one h k'.stands a.found p.stale holds q)
 
 -- its ticket is queued or out
-pub install_queued : (rule : StalenessRule) (table : List Declared) (history : List Event) (m : Parts) (message : Evaluated) → CanInstallBy rule table history m message → has_ticket (message_ticket message) m.pending ≡ true
-install_queued rule table history m message c =
-    let s = state_by rule table history in
-    let t = message_ticket message in
-    let a : Accepted s false t (message_block message) (message_reads message) = accepted s false t (message_block message) (message_reads message) c.allowed c.same in
-    c.stands.stands.queue t ∙ ap due_of a.found ∙ ap not a.may.stale
+pub deliver_queued : (m : Parts) (s : Slow) (message : Evaluated) → IsAt m s → MayDeliver s message → has_ticket (message_ticket message) m.pending ≡ true
+deliver_queued m s message k d =
+    k.stands.queue (message_ticket message) ∙ ap due_of d.found ∙ ap not (is_due s.store d.one (message_reads message) d.allowed).stale
 
 -- ---- the queue after a message that was overtaken
 pub has_left : (u t : ℕ) (e : DeliverError) (es : List Entry) → has_ticket u (pending_left e t es) ≡ has_ticket u es
@@ -178,17 +169,3 @@ has_left u t deliver.OtherBlock es = refl
 has_left u t deliver.Already es = refl
 has_left u t deliver.HistoryFull es = refl
 has_left u t deliver.NoMemory es = refl
-
--- what has the same tickets queued or out stands for the same history
-pub requeued : (rule : StalenessRule) (table : List Declared) (history : List Event) (m : Parts) (ps : List Entry) → ((u : ℕ) → has_ticket u ps ≡ has_ticket u m.pending) → StandsForBy rule table history m
-    → StandsForBy rule table history (record m { pending = ps })
-requeued rule table history m ps same k = record {
-  legal = k.legal;
-  stands = record {
-    store_is = k.stands.store_is;
-    next_is = k.stands.next_is;
-    entries_are = k.stands.entries_are;
-    queue = λ u. same u ∙ k.stands.queue u;
-    index = k.stands.index;
-  };
-}

@@ -1,14 +1,12 @@
--- How many blocks wait after a legal history.
+-- How many blocks wait after legal events.
 use Rattle.std.proofs.Common.{◌≡◌, ℕ, suc, ◌≤◌, Bool, true, false, cond, List, [], ◌∷◌, length, refl, ap, arith, length-append, None}
 use Rattle.std.specs.Prelude.{nat_eq}
 use Rattle.std.proofs.lemmas.List.{length-map}
 use Rattle.stm_store.specs.declared.cell.Cell.{Cell}
-use Rattle.stm_store.specs.Tables.{Declared}
 use Rattle.stm_events.specs.declared.event.Event.{Event}
 use Rattle.stm_events.specs.declared.event.What.{What}
 use Rattle.stm_events.specs.declared.event.What.TheVariants.{Submitted, Installed, Finished, Cancelled}
-use Rattle.stm_events.specs.declared.staleness.StalenessRule.{StalenessRule}
-use Rattle.stm_events.specs.SlowDesk.{Waiter, Slow, waking, without_waiter, delivered, with_delivery, after_writes, after_by, AllowsBy, initial_state, state_by, state_from_by, LegalFromBy, IsLegalBy, max_waiting}
+use Rattle.stm_events.specs.SlowDesk.{Waiter, Slow, waking, without_waiter, delivered, with_delivery, after_writes, after, Allows, state_from, LegalFrom, max_waiting}
 
 less_by : (b : Bool) (w : Waiter) (ws vs : List Waiter) → length vs ≤ length ws → length (cond b ws (w ∷ vs)) ≤ suc (length ws)
 less_by true w ws vs h = omega arith
@@ -26,15 +24,12 @@ length_delivered : (t : ℕ) (store : List Cell) (ws : List Waiter) → length (
 length_delivered t store [] = refl
 length_delivered t store (w ∷ ws) = same_by (nat_eq t w.ticket) (with_delivery store w) w ws (delivered t store ws) (length_delivered t store ws)
 
-few_after : (rule : StalenessRule) (s : Slow) (d : What) → AllowsBy rule s d → length s.waiters ≤ max_waiting → length (after_by rule s d).waiters ≤ max_waiting
-few_after rule s (Submitted t b) a h = let w : Waiter = record { ticket = t; block = b; since = None } in let l = length-append s.waiters (w ∷ []) in omega (arith, a.2, l)
-few_after rule s (Installed t v) a h = let l = length_delivered t s.store s.waiters in omega (arith, h, l)
-few_after rule s (Finished t v n k) a h = let l = length-map (without_waiter t s.waiters) (after_writes (waking rule s.store v)) in let m = length_without t s.waiters in omega (arith, h, l, m)
-few_after rule s (Cancelled t) a h = let m = length_without t s.waiters in omega (arith, h, m)
+few_after : (s : Slow) (d : What) → Allows s d → length s.waiters ≤ max_waiting → length (after s d).waiters ≤ max_waiting
+few_after s (Submitted t b) a h = let w : Waiter = record { ticket = t; block = b; since = None } in let l = length-append s.waiters (w ∷ []) in omega (arith, a.2, l)
+few_after s (Installed t v) a h = let l = length_delivered t s.store s.waiters in omega (arith, h, l)
+few_after s (Finished t v n k) a h = let l = length-map (without_waiter t s.waiters) (after_writes (waking s.rule s.store v)) in let m = length_without t s.waiters in omega (arith, h, l, m)
+few_after s (Cancelled t) a h = let m = length_without t s.waiters in omega (arith, h, m)
 
-few_from : (rule : StalenessRule) (s : Slow) (es : List Event) → LegalFromBy rule s es → length s.waiters ≤ max_waiting → length (state_from_by rule s es).waiters ≤ max_waiting
-few_from rule s [] l h = h
-few_from rule s (e ∷ es) l h = few_from rule (after_by rule s e.what) es l.1 (few_after rule s e.what l.0.what h)
-
-pub few_waiters : (rule : StalenessRule) (table : List Declared) (history : List Event) → IsLegalBy rule table history → length (state_by rule table history).waiters ≤ max_waiting
-few_waiters rule table history l = few_from rule (initial_state table) history l.each (omega arith)
+pub few_from : (s : Slow) (es : List Event) → LegalFrom s es → length s.waiters ≤ max_waiting → length (state_from s es).waiters ≤ max_waiting
+few_from s [] l h = h
+few_from s (e ∷ es) l h = few_from (after s e.what) es l.1 (few_after s e.what l.0.what h)

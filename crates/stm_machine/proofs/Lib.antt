@@ -5,7 +5,7 @@ pub mod Keeping
 pub mod Points
 pub mod Rises
 pub mod Stales
--- Its moves, and its questions.
+-- The states that it is at, its moves, and its questions.
 pub mod Agreeing
 pub mod Calls
 pub mod Delivery
@@ -14,4 +14,5 @@ pub mod Heads
 pub mod Moves
 pub mod Reading
 pub mod Ready
+pub mod States
 pub mod Taking

@@ -150,10 +150,6 @@ index_written r v woken (Some w) same =
     let s : r ≡ is_read (read_since w.block w.since) v = same w refl in
     rw (s, read_more woken w.block w.since) (index_bools (is_current w) (is_current (after_writes woken w)) (is_read (read_since w.block w.since) v) (still_current woken w.block w.since))
 
-and_false : (a : Bool) → (a && false) ≡ false
-and_false true = refl
-and_false false = refl
-
 -- x: what the index had; then the pairs of what becomes stale were taken away, then those of the block that finished
 pub index_finished : (d x q r : Bool) (v : ℕ) (woken : List ℕ) (o : Option Waiter) → x ≡ watches_of o v
     → (d ≡ true → (w : Waiter) → o ≡ Some w → q ≡ is_read (read_since w.block w.since) v) → (d ≡ false → (w : Waiter) → o ≡ Some w → r ≡ is_read (read_since w.block w.since) v)

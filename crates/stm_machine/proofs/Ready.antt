@@ -4,28 +4,24 @@ use Rattle.std.specs.Prelude.{nat_eq, nat_lt, option_map}
 use Rattle.std.specs.List.{list_any}
 use Rattle.std.proofs.lemmas.Bool.Decides.{nat_tests}
 use Rattle.stm_store.specs.declared.cell.Cell.{Cell}
-use Rattle.stm_store.specs.Tables.{Declared}
 use Rattle.stm_check.specs.TypedBlock.{Block}
 use Rattle.stm_queue.specs.Queue.{Entry, has_ticket, with_ticket, without_ticket}
 use Rattle.stm_queue.specs.SortedTickets.{RisesAbove, IsRising, member, next_after}
 use Rattle.stm_queue.proofs.Membership.{has_without}
 use Rattle.stm_queue.proofs.Merging.{has_with}
-use Rattle.stm_events.specs.declared.event.Event.{Event}
-use Rattle.stm_events.specs.declared.staleness.StalenessRule.{StalenessRule}
-use Rattle.stm_events.specs.SlowDesk.{Since, Waiter, Slow, verdict_on, is_stale_since, current_since, is_current, find_waiter, without_waiter, state_by}
+use Rattle.stm_events.specs.SlowDesk.{Since, Waiter, Slow, is_stale_since, current_since, is_current, find_waiter, without_waiter}
 use Rattle.stm_events.specs.SlowSettle.{lowest, ends, can_end}
 use Rattle.stm_events.specs.Ready.{is_ready, next_ready}
 use Rattle.stm_events.specs.Laws.{AreRising}
-use Rattle.stm_events.proofs.Fresh.{current_holds}
 use Rattle.stm_events.proofs.Rising.{not_above, waiter_without}
 use Rattle.stm_waiting.specs.declared.waiting.Held.{Held}
 use Rattle.stm_waiting.specs.declared.waiting.Waiting.{Waiting}
 use Rattle.stm_waiting.specs.Entries.{kept_at, kept, lose, with_held, AllBelow}
-use Rattle.stm_machine.specs.Entries.{AreDue, IsHeld, held_ends, kept_ends}
-use Rattle.stm_machine.specs.Machine.{Parts, StandsForBy}
+use Rattle.stm_machine.specs.Entries.{IsHeld, held_ends, kept_ends}
+use Rattle.stm_machine.specs.Machine.{Parts, IsAt}
 use Rattle.stm_machine.specs.QueueAndIndex.{with_tickets, due_of}
-use Rattle.stm_machine.specs.ReadySet.{could_finish, AreReady}
-use Rattle.stm_machine.proofs.Calls.{kept_rising}
+use Rattle.stm_machine.specs.ReadySet.{AreReady}
+use Rattle.stm_machine.proofs.States.{rising_at, holds_at}
 use Rattle.stm_machine.proofs.Due.{IsFound, found, due_lose}
 use Rattle.stm_machine.proofs.Heads.{lowest_waits, lowest_holds}
 use Rattle.stm_machine.proofs.Points.{has_with_tickets}
@@ -178,30 +174,16 @@ pub ready_same : (rs : List ℕ) (es : List (ℕ × Waiting)) (ps qs : List Entr
 ready_same rs es ps qs h a = λ u. a u ∙ ap (λ (g : Bool). kept_ends (kept_at u es) && not g) (sym (h u))
 
 -- ---- what is kept, and what the slow desk has
--- a block had a verdict at its last delivery that doesn't block
-abbrev ended_since : Block → Option Since → Bool
-ended_since block None = false
-ended_since block (Some s) = ends (verdict_on s.store_then block)
-
-held_is : (b : Block) (h : Option Held) (o : Option Since) → IsHeld b h o → held_ends h ≡ ended_since b o
-held_is b None None i = refl
-held_is b None (Some s) i = absurd i
-held_is b (Some h) None i = absurd i
-held_is b (Some h) (Some s) i = ap ends (sym i.verdict_is)
-
 -- the block that waits, if one does, could finish now
 abbrev ready_of : List Cell → Option Waiter → Bool
 ready_of store None = false
 ready_of store (Some w) = is_ready store w
 
-module _ (rule : StalenessRule) (table : List Declared) (history : List Event) (m : Parts) (k : StandsForBy rule table history m) where
-  abbrev s : Slow
-  s = state_by rule table history
-
+module _ (m : Parts) (s : Slow) (k : IsAt m s) where
   -- a block that waits no more isn't kept
   pub lost_none : (t : ℕ) → kept_at t (lose t m.entries) ≡ None
   lost_none t =
-      none (kept_at t (lose t m.entries)) (subst (IsFound (kept_at t (lose t m.entries))) (waiter_without t t s.next 0 s.waiters (kept_rising rule table history m k) ∙ itself t)
+      none (kept_at t (lose t m.entries)) (subst (IsFound (kept_at t (lose t m.entries))) (waiter_without t t s.next 0 s.waiters (rising_at m s k) ∙ itself t)
       (found t (lose t m.entries) (without_waiter t s.waiters) (due_lose t m.entries s.waiters k.stands.entries_are))) where
         none : (o : Option Waiting) → IsFound o None → o ≡ None
         none None f = refl
@@ -227,7 +209,7 @@ module _ (rule : StalenessRule) (table : List Declared) (history : List Event) (
   ends_by t w e c None (Some z) q i = absurd i
   ends_by t w e c (Some h) None q i = absurd i
   ends_by t w e c (Some h) (Some z) q i =
-      let p = current_holds rule table history t w z h.reads h.verdict k.legal e q (not_stale w.block w.since z q c) i in
+      let p = holds_at m s k t w z h.reads h.verdict e q (not_stale w.block w.since z q c) i in
       ap ends (sym p.verdict_is)
 
   test : (c : Bool) (h e : Bool) → (c ≡ true → h ≡ e) → (h && not (not c)) ≡ (c && e)
@@ -412,5 +394,5 @@ module _ (s : Slow) (t : ℕ) (rs : List ℕ) (low : IsRising rs) (r : AreRising
   pub next_set : next_after t rs ≡ next_ready t s
   next_set = next_by (next_after t rs) (lowest wanted s.waiters) refl refl
 
-pub next_is_ready : (rule : StalenessRule) (table : List Declared) (history : List Event) (m : Parts) → StandsForBy rule table history m → (rs : List ℕ) → IsRising rs → AreReady rs m.entries m.pending → (t : ℕ) → next_after t rs ≡ next_ready t (state_by rule table history)
-next_is_ready rule table history m k rs low a t = next_set (state_by rule table history) t rs low (kept_rising rule table history m k) (ready_is rule table history m k rs a)
+pub next_is_ready : (m : Parts) (s : Slow) → IsAt m s → (rs : List ℕ) → IsRising rs → AreReady rs m.entries m.pending → (t : ℕ) → next_after t rs ≡ next_ready t s
+next_is_ready m s k rs low a t = next_set s t rs low (rising_at m s k) (ready_is m s k rs a)

@@ -14,7 +14,7 @@ use Rattle.stm_events.specs.Laws.{AreRising}
 use Rattle.stm_events.proofs.Rising.{rising_without, waiter_without}
 use Rattle.stm_waiting.specs.declared.waiting.Waiting.{Waiting}
 use Rattle.stm_machine.specs.Entries.{AreDue}
-use Rattle.stm_machine.specs.MachineInvariant.{AreWatched}
+use Rattle.stm_machine.specs.Machine.{AreWatched}
 use Rattle.stm_machine.proofs.Points.{stale_of, has_stale}
 use Rattle.stm_machine.proofs.Stales.{watches_stale}
 
@@ -85,13 +85,18 @@ without_bools : (d : Bool) (woken : List ℕ) (o : Option Waiter) → (not d && 
 without_bools true woken o = refl
 without_bools false woken o = refl
 
+pub watched_stale : (watch : Pairs) (es : List (ℕ × Waiting)) (ws : List Waiter) (woken : List ℕ) (n t u : ℕ) → AreDue es ws → AreWatched watch ws → AreRising n 0 ws
+    → list_any (nat_eq u) (stale_after woken (without_waiter t ws)) ≡ (not (nat_eq u t) && watches watch woken u)
+watched_stale watch es ws woken n t u d i r =
+    has_stale u n 0 woken (without_waiter t ws) (rising_without t n 0 ws r) ∙ ap (stale_of woken) (waiter_without t u n 0 ws r)
+    ∙ sym (ap (λ (b : Bool). not (nat_eq u t) && b) (watches_stale watch es ws woken u d i) ∙ without_bools (nat_eq u t) woken (find_waiter u ws))
+
 pub stale_is : (watch : Pairs) (es : List (ℕ × Waiting)) (ws : List Waiter) (woken ts : List ℕ) (n t : ℕ) → AreDue es ws → AreWatched watch ws → AreRising n 0 ws
     → IsRising ts → ((u : ℕ) → list_any (nat_eq u) ts ≡ (not (nat_eq u t) && watches watch woken u))
     → ts ≡ stale_after woken (without_waiter t ws)
 stale_is watch es ws woken ts n t d i r inc h =
     rising_same ts (stale_after woken (without_waiter t ws)) inc (stale_rising n 0 woken (without_waiter t ws) (rising_without t n 0 ws r))
-    (λ u. h u ∙ ap (λ (b : Bool). not (nat_eq u t) && b) (watches_stale watch es ws woken u d i) ∙ without_bools (nat_eq u t) woken (find_waiter u ws)
-    ∙ sym (has_stale u n 0 woken (without_waiter t ws) (rising_without t n 0 ws r) ∙ ap (stale_of woken) (waiter_without t u n 0 ws r)))
+    (λ u. h u ∙ sym (watched_stale watch es ws woken n t u d i r))
 
 -- ---- a ticket of a rising list is queued: the others are still to be queued
 above_other : (u x : ℕ) (rest : List ℕ) (b : Bool) → nat_eq u x ≡ b → RisesAbove x rest → list_any (nat_eq u) rest ≡ true → b ≡ false

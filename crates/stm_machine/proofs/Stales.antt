@@ -17,7 +17,7 @@ use Rattle.stm_waiting.specs.declared.waiting.Waiting.{Waiting}
 use Rattle.stm_waiting.specs.Entries.{kept_at}
 use Rattle.stm_machine.specs.Entries.{AreDue, IsHeld}
 use Rattle.stm_machine.specs.QueueAndIndex.{read_since, watches_of}
-use Rattle.stm_machine.specs.MachineInvariant.{AreWatched}
+use Rattle.stm_machine.specs.Machine.{AreWatched}
 use Rattle.stm_machine.proofs.Due.{IsSame, IsFound, found}
 use Rattle.stm_machine.proofs.Points.{meets-append, stale_of}
 

@@ -7,25 +7,22 @@ use Rattle.stm_terms.specs.Changes.{cell_value}
 use Rattle.stm_terms.specs.ReadSet.{reads_of}
 use Rattle.stm_terms.specs.Verdict.{verdict}
 use Rattle.stm_store.specs.Cells.{plains, Covers}
-use Rattle.stm_store.specs.Tables.{Declared}
 use Rattle.stm_check.specs.TypedBlock.{Block}
 use Rattle.stm_eval.specs.declared.job.Job.{Job}
 use Rattle.stm_eval.specs.declared.message.Evaluated.{Evaluated}
 use Rattle.stm_eval.specs.EvaluatedFields.{message_ticket, message_block, message_reads, message_verdict}
 use Rattle.stm_queue.specs.Queue.{Entry, has_ticket, first_queued, sent_out}
 use Rattle.stm_queue.proofs.Membership.{has_sent_out}
-use Rattle.stm_events.specs.declared.event.Event.{Event}
-use Rattle.stm_events.specs.declared.staleness.StalenessRule.{StalenessRule}
-use Rattle.stm_events.specs.SlowDesk.{Waiter, Slow, under, find_waiter, state_by}
+use Rattle.stm_events.specs.SlowDesk.{Waiter, Slow, under, find_waiter}
 use Rattle.stm_waiting.specs.declared.waiting.Waiting.{Waiting}
 use Rattle.stm_waiting.specs.Entries.{kept_at}
 use Rattle.stm_machine.specs.Entries.{AreDue}
-use Rattle.stm_machine.specs.Machine.{Parts, StandsForBy}
+use Rattle.stm_machine.specs.Machine.{Parts, IsAt}
 use Rattle.stm_machine.specs.QueueAndIndex.{due_of}
 use Rattle.stm_machine.specs.JobsHandedOut.{sent, block_at, AreJobs, IsKeptJob, AreKept, AreCovered, IsPresent}
 use Rattle.stm_events.specs.Refusals.{differing}
 use Rattle.stm_machine.proofs.Agreeing.{reads_differ_nowhere}
-use Rattle.stm_events.proofs.Covered.{blocks_are_covered}
+use Rattle.stm_machine.proofs.States.{covered_at}
 use Rattle.stm_machine.proofs.Due.{IsFound, found}
 
 -- ---- one more of a list
@@ -64,9 +61,9 @@ due_waits o None f d e = cc
 due_waits None (Some w) f d e = f
 due_waits (Some x) (Some w) f d e = cc
 
-pub queued_wait : (rule : StalenessRule) (table : List Declared) (history : List Event) (m : Parts) → StandsForBy rule table history m → (t : ℕ) → has_ticket t m.pending ≡ true → kept_at t m.entries ≢ None
-queued_wait rule table history m k t h =
-    let ws = (state_by rule table history).waiters in
+pub queued_wait : (m : Parts) (s : Slow) → IsAt m s → (t : ℕ) → has_ticket t m.pending ≡ true → kept_at t m.entries ≢ None
+queued_wait m s k t h =
+    let ws = s.waiters in
     due_waits (kept_at t m.entries) (find_waiter t ws) (found t m.entries ws k.stands.entries_are) (sym (k.stands.queue t) ∙ h)
 
 job_step : (o : Option Waiting) (p : Option Waiter) (b : Block) → IsFound o p → option_map (λ w. w.block) o ≡ Some b → option_map (λ w. w.block) p ≡ Some b
@@ -93,23 +90,21 @@ some_kept None None f s e = cc
 some_kept None (Some w) f s e = f
 some_kept (Some x) p f s e = cc
 
-pub kept_waits : (rule : StalenessRule) (table : List Declared) (history : List Event) (m : Parts) → StandsForBy rule table history m → (t : ℕ) → IsSome (find_waiter t (state_by rule table history).waiters) → kept_at t m.entries ≢ None
-kept_waits rule table history m k t s = let ws = (state_by rule table history).waiters in some_kept (kept_at t m.entries) (find_waiter t ws) (found t m.entries ws k.stands.entries_are) s
+pub kept_waits : (m : Parts) (s : Slow) → IsAt m s → (t : ℕ) → IsSome (find_waiter t s.waiters) → kept_at t m.entries ≢ None
+kept_waits m s k t w = some_kept (kept_at t m.entries) (find_waiter t s.waiters) (found t m.entries s.waiters k.stands.entries_are) w
 
-pub job_covered : (rule : StalenessRule) (table : List Declared) (history : List Event) (m : Parts) → StandsForBy rule table history m → (j : Job) → IsKeptJob m.entries j → Covers (plains (state_by rule table history).store) j.block.uses
-job_covered rule table history m k j a =
-    let s = state_by rule table history in
-    (are_covered s (j ∷ []) (λ t w e. blocks_are_covered rule table history t w k.legal e) (are_jobs s m.entries (j ∷ []) k.stands.entries_are (a, tt))).0
+pub job_covered : (m : Parts) (s : Slow) → IsAt m s → (j : Job) → IsKeptJob m.entries j → Covers (plains s.store) j.block.uses
+job_covered m s k j a =
+    (are_covered s (j ∷ []) (covered_at m s k) (are_jobs s m.entries (j ∷ []) k.stands.entries_are (a, tt))).0
 
 waits_at : (s : Slow) (t : ℕ) (b : Block) (o : Option Waiter) → find_waiter t s.waiters ≡ o → option_map (λ w. w.block) o ≡ Some b → (one : Waiter) × (find_waiter t s.waiters ≡ Some one) × (one.block ≡ b)
 waits_at s t b None e h = cc
 waits_at s t b (Some w) e h = let q : w.block ≡ b = cc in (w, e, q)
 
-pub is_present : (rule : StalenessRule) (table : List Declared) (history : List Event) (m : Parts) → StandsForBy rule table history m → (t : ℕ) (j : Job) (message : Evaluated) (cells : List (Ty × Value))
+pub is_present : (m : Parts) (s : Slow) → IsAt m s → (t : ℕ) (j : Job) (message : Evaluated) (cells : List (Ty × Value))
     → cells ≡ plains m.store → j.ticket ≡ t → IsKeptJob m.entries j → message_ticket message ≡ j.ticket → message_block message ≡ j.block
-    → verdict (cell_value cells) j.block.tree ≡ Some (message_verdict message) → message_reads message ≡ reads_of (cell_value cells) j.block.tree → IsPresent (state_by rule table history) t message
-is_present rule table history m k t j message cells c i a mt mb mv mr =
-    let s = state_by rule table history in
+    → verdict (cell_value cells) j.block.tree ≡ Some (message_verdict message) → message_reads message ≡ reads_of (cell_value cells) j.block.tree → IsPresent s t message
+is_present m s k t j message cells c i a mt mb mv mr =
     let there : block_at s t ≡ Some j.block = subst (λ (u : ℕ). block_at s u ≡ Some j.block) i (are_jobs s m.entries (j ∷ []) k.stands.entries_are (a, tt)).0 in
     let one = waits_at s t j.block (find_waiter t s.waiters) refl there in
     let same : cells ≡ plains s.store = c ∙ ap plains k.stands.store_is in

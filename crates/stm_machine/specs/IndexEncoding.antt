@@ -1,4 +1,4 @@
--- A code for the pairs of the index, by which a proof tells them apart.
+-- A code for the pairs of the index, by which a proof distinguishes them.
 use Rattle.std.specs.FinSet as set
 use Rattle.std.specs.Coded.{Coded, coded_ℕ, coded×}
 use Rattle.stm_watch.specs.Pairs.{Pairs}

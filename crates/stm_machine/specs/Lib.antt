@@ -1,10 +1,9 @@
--- The words inside, for what the machine holds and hands out.
+-- What the machine holds and hands out.
 pub mod Entries
 pub mod IndexEncoding
 pub mod JobsHandedOut
 pub mod Keeping
 pub mod Machine
-pub mod MachineInvariant
 pub mod Plans
 pub mod QueueAndIndex
 pub mod ReadySet

@@ -1,11 +1,9 @@
 -- What settling chooses next, by the queue and by what is kept of the deliveries.
-use Rattle.std.specs.Prelude.{◌≡◌, ℕ, ◌&&◌, Bool, true, false, List, Option, Some, None, option_map}
+use Rattle.std.specs.Prelude.{ℕ, Bool, List, Option, option_map}
 use Rattle.std.specs.List.{list_any}
-use Rattle.stm_check.specs.TypedBlock.{Block}
 use Rattle.stm_queue.specs.Queue.{Entry}
-use Rattle.stm_queue.specs.SortedTickets.{member}
-use Rattle.stm_events.specs.SlowDesk.{Since, Waiter, Slow, is_current, verdict_on, find_waiter}
-use Rattle.stm_events.specs.SlowSettle.{lowest, is_due, can_end, ends}
+use Rattle.stm_events.specs.SlowDesk.{Slow}
+use Rattle.stm_events.specs.SlowSettle.{lowest, is_due, can_end}
 
 -- some ticket is out
 abbrev pub some_out : List Entry → Bool

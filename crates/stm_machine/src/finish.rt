@@ -1,19 +1,17 @@
-//! A block that is to take effect.
+//! A block that finishes.
 
-ghost use Rattle.std.specs.Prelude.{◌≡◌, ℕ, List, ◌≤◌, not, ◌&&◌, nat_eq, Some, IfOk, OnOk, OnErr, length};
+ghost use Rattle.std.specs.Prelude.{◌≡◌, ℕ, ◌≤◌, false, not, ◌&&◌, nat_eq, Some, IfOk, OnOk, OnErr, length};
 ghost use Rattle.std.specs.List.{list_any};
+ghost use Rattle.stm_terms.specs.UnlessNoMemory.{RefusedAs};
 ghost use Rattle.stm_store.specs.Cells.{plains, Fits, applied, made_by, applied_answer as told_of};
-ghost use Rattle.stm_store.specs.Tables.{Declared};
 ghost use Rattle.stm_watch.specs.Pairs.{watches};
 ghost use Rattle.stm_queue.specs.SortedTickets.{IsRising};
-ghost use Rattle.stm_events.specs.declared.event.Event.{Event};
 ghost use Rattle.stm_events.specs.declared.event.What.{What as AnyWhat};
-ghost use Rattle.stm_events.specs.declared.staleness.StalenessRule.{StalenessRule as AnyRule};
-ghost use Rattle.stm_events.specs.SlowDesk.{state_by, is_blocks, waking};
-ghost use Rattle.stm_machine.specs.Machine.{StandsForBy, CanFinishBy, MovesToBy};
+ghost use Rattle.stm_events.specs.SlowDesk.{Slow, waking};
+ghost use Rattle.stm_events.specs.Refusals.{overflows, finish_refused};
+ghost use Rattle.stm_machine.specs.Machine.{IsAt, MovesBy};
+ghost use Rattle.stm_machine.specs.Plans.{IsPlan};
 ghost use Rattle.stm_machine.specs.QueueAndIndex.{with_tickets};
-ghost use Rattle.stm_machine.specs.Plans.{IsPlanBy};
-ghost use Rattle.stm_events.specs.Refusals.{overflows, finish_refused, finish_told};
 
 use crate::index::{forget, queue_all, stale_tickets, unwatch_all};
 use crate::machine::Machine;
@@ -29,7 +27,7 @@ use stm_terms::verdicts::Verdict;
 use stm_watch::Watch;
 
 /// What a finish is to do: the verdict, with its new variables before they are numbered; the number that the first of them
-/// gets; and the tickets that become stale, rising.
+/// gets; and the tickets that become stale, in ascending order.
 #[derive(Drop)]
 pub struct Plan {
     pub verdict: SharedVerdict,
@@ -101,14 +99,12 @@ fn take_effect(
 }
 
 impl Machine {
-    /// Why the block can't be finished, or what its finish is to do, by the rule that the history goes by. `full` says that the
-    /// history has no room for an event.
-    pub fn plan(&self, ticket: u32, full: bool, rule: StalenessRule) -> Result<Plan, FinishError>
-        ensures told { (T : List Declared) (H : List Event) → StandsForBy rule T H self.now
-            → finish_told result ≡ finish_refused (state_by rule T H) full ticket }
-        ensures plan { IfOk result (λ p. (T : List Declared) (H : List Event)
-            → StandsForBy rule T H self.now
-            → IsPlanBy rule (state_by rule T H) ticket p.verdict p.first_new p.stale) }
+    /// Why the block under a ticket can't finish, or what its finish is to do.
+    pub fn plan(&self, ticket: u32) -> Result<Plan, FinishError>
+        ensures refused { (s : Slow) → IsAt self.now s
+            → RefusedAs FinishError.NoMemory (finish_refused s false ticket) result }
+        ensures plan { IfOk result (λ p. (s : Slow) → IsAt self.now s
+            → IsPlan s ticket p.verdict p.first_new p.stale) }
     {
         let waiting = match self.waiting.get(ticket) {
             Some(waiting) => waiting,
@@ -128,15 +124,12 @@ impl Machine {
         if blocks(verdict) {
             return Err(FinishError::Blocks);
         }
-        if full {
-            return Err(FinishError::HistoryFull);
-        }
         if overflows_store(&self.store, verdict) {
             return Err(FinishError::CellsFull);
         }
         match make_plan(
             self.alloc,
-            rule,
+            self.rule,
             &self.store,
             &self.watch,
             &held.verdict,
@@ -149,13 +142,11 @@ impl Machine {
 
     /// The block takes effect by its plan and waits no more. Its stale tickets are queued.
     pub fn finish(&mut self, ticket: u32, plan: &Plan) -> Result<Applied, NoMemory>
-        requires { (R : AnyRule) × (T : List Declared) × (H : List Event)
-            × CanFinishBy R T H self.old ticket plan.now.verdict plan.now.first_new plan.now.stale }
-        ensures moved { OnOk result ((R : AnyRule) (T : List Declared) (H : List Event)
-            → CanFinishBy R T H self.old ticket plan.now.verdict plan.now.first_new plan.now.stale
-            → MovesToBy R T H
+        requires { (s : Slow) × IsAt self.old s
+            × IsPlan s ticket plan.now.verdict plan.now.first_new plan.now.stale }
+        ensures moved { OnOk result (MovesBy
             (AnyWhat.Finished ticket plan.now.verdict plan.now.first_new plan.now.stale)
-            self.new) }
+            self.old self.new) }
         ensures applied { IfOk result (λ a. a ≡ told_of self.old.store plan.now.verdict) }
         ensures pending { OnOk result (self.new.pending
             ≡ with_tickets plan.now.stale self.old.pending) }

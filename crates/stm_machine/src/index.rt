@@ -63,7 +63,8 @@ fn waking_variables(
     }
 }
 
-/// The tickets that watch a variable by which the verdict makes its readers stale, rising, but for the one that finishes.
+/// The tickets, in ascending order, that watch a variable by which the verdict makes its readers stale, without the one that
+/// finishes.
 pub(crate) fn stale_tickets(
     alloc: Global,
     rule: StalenessRule,
@@ -95,8 +96,10 @@ pub(crate) fn unwatch_all(watch: &mut Watch, waiting: &WaitingBlocks, tickets: &
     }
 }
 
+/// The ticket watches nothing more.
 fn unwatch(watch: &mut Watch, waiting: &WaitingBlocks, ticket: u32)
-    ensures { (v u : ℕ) → has_pair watch.new v u
+    ensures of { WithoutReads watch.old ticket (kept_reads (kept_at ticket waiting.now)) watch.new }
+    ensures pairs { (v u : ℕ) → has_pair watch.new v u
         ≡ (has_pair watch.old v u
         && not (nat_eq u ticket && is_read (kept_reads (kept_at u waiting.now)) v)) }
 {
@@ -126,15 +129,6 @@ pub(crate) fn forget(waiting: &mut WaitingBlocks, watch: &mut Watch, ticket: u32
     ensures unwatched { WithoutReads watch.old ticket
         (kept_reads (kept_at ticket waiting.old)) watch.new }
 {
-    unwatch_one(watch, waiting, ticket);
+    unwatch(watch, waiting, ticket);
     waiting.remove(ticket)
-}
-
-fn unwatch_one(watch: &mut Watch, waiting: &WaitingBlocks, ticket: u32)
-    ensures { WithoutReads watch.old ticket (kept_reads (kept_at ticket waiting.now)) watch.new }
-{
-    match waiting.get(ticket) {
-        Some(block) => watch.remove(ticket, block.reads()),
-        None => {}
-    }
 }

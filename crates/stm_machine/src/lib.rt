@@ -1,18 +1,18 @@
-//! The machine: what a history leads to, with kept reads and verdicts, a queue and an index.
+//! The machine: a state of the slow desk, with kept reads and verdicts, a queue and an index.
 //!
-//! No call of `Machine` goes over all waiting blocks. Its contracts range over every table and history that it stands for
-//! (`specs/Machine`). A desk is a machine with a list of its events; a checker is a machine alone.
+//! No call of `Machine` goes over all waiting blocks. Its contracts range over every state that it is at (`specs/Machine`). A
+//! desk is a machine with a list of its events; a checker is a machine alone.
 #![tactic(auto)]
 
+pub mod cancel;
+pub mod deliver;
+pub mod evaluation;
 pub mod finish;
 mod index;
-pub mod install;
-pub mod leave;
 pub mod machine;
-pub mod queue_moves;
-pub mod shown;
-pub mod turns;
-pub mod wait;
+pub mod queries;
+pub mod queue;
+pub mod submit;
 
 pub use finish::Plan;
 pub use machine::Machine;

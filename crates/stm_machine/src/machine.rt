@@ -1,21 +1,24 @@
 //! The machine, and how it opens.
 
-ghost use Rattle.std.specs.Prelude.{◌≡◌, List, [], IfOk};
-ghost use Rattle.stm_events.specs.declared.staleness.StalenessRule.{StalenessRule as AnyRule};
-ghost use Rattle.stm_machine.specs.Machine.{StandsForBy};
+ghost use Rattle.std.specs.Prelude.{◌≡◌, [], IfOk};
+ghost use Rattle.stm_events.specs.SlowDesk.{initial_state};
+ghost use Rattle.stm_machine.specs.Machine.{IsAt};
 
 use std::alloc::Global;
 use std::marker::Model;
+use stm_events::staleness::StalenessRule;
 use stm_queue::Pending;
 use stm_store::{Store, Table};
 use stm_terms::NoMemory;
 use stm_waiting::{TicketSet, WaitingBlocks};
 use stm_watch::Watch;
 
-/// What a history leads to: the store, the next ticket, the waiting blocks with what their last deliveries brought, the
-/// tickets that are queued or out, which tickets watch which variables, and which blocks could finish now. It keeps no events.
+/// A state of the slow desk: its rule, its store, the next ticket, the waiting blocks with what their last deliveries brought,
+/// the tickets that are queued or out, which tickets watch which variables, and which blocks could finish now. It keeps no
+/// events.
 pub struct Machine {
     pub(crate) alloc: Global,
+    pub(crate) rule: StalenessRule,
     pub(crate) store: Store,
     pub(crate) next: u32,
     pub(crate) waiting: WaitingBlocks,
@@ -30,6 +33,7 @@ impl Drop for Machine {
     fn drop(self) {
         let Machine {
             alloc: _,
+            rule: _,
             store: _,
             next: _,
             waiting: _,
@@ -52,6 +56,7 @@ impl Model for Machine {
     ghost coded = { Prim.hlevel (codes, act_code, pairs_code) };
 
     ghost view = { λ m. record {
+      rule = m.rule;
       store = m.store;
       next = m.next;
       entries = m.waiting;
@@ -66,13 +71,14 @@ impl Machine {
     /// How many blocks may wait.
     pub const MAX_WAITING: usize = 65_536;
 
-    /// A machine with the variables of a table, on which no block waits.
-    pub fn open(alloc: Global, table: &Table) -> Result<Machine, NoMemory>
-        ensures stands { IfOk result (λ m. (R : AnyRule) → StandsForBy R table.now [] m) }
+    /// A machine with the variables of a table, on which no block waits. The rule is that of the history that it is led through.
+    pub fn open(alloc: Global, rule: StalenessRule, table: &Table) -> Result<Machine, NoMemory>
+        ensures at { IfOk result (λ m. IsAt m (initial_state rule table.now)) }
         ensures pending { IfOk result (λ m. m.pending ≡ []) }
     {
         Ok(Machine {
             alloc,
+            rule,
             store: Store::open(alloc, table)?,
             next: 1,
             waiting: WaitingBlocks::empty(alloc),

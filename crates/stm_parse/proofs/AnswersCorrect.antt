@@ -1,5 +1,5 @@
 -- What a good reader answers for a text is right.
-use Rattle.std.proofs.Common.{◌≡◌, ◌≢◌, ℕ, zero, suc, ◌+◌, ◌-◌, ◌<◌, ◌≤◌, List, [], ◌∷◌, length, slice_get, refl, sym, ap, ◌∙◌, subst, arith, Bool, true, false, cond, nat_lt, Option, Some, None, Result, Ok, Err, inl, inr, IfSome}
+use Rattle.std.proofs.Common.{◌≡◌, ◌≢◌, ℕ, zero, suc, ◌+◌, ◌-◌, ◌<◌, ◌≤◌, List, [], ◌∷◌, length, slice_get, refl, sym, ap, ◌∙◌, subst, arith, Bool, true, false, cond, nat_lt, Option, Some, None, Result, Ok, Err, inl, inr}
 use Rattle.std.proofs.lemmas.Bool.Decides.{nat_tests}
 use Rattle.stm_parse.specs.declared.token.Lexeme.{Lexeme}
 use Rattle.stm_parse.specs.declared.token.ErrorKind.{ErrorKind}
@@ -15,12 +15,12 @@ use Rattle.stm_parse.specs.declared.fault.ParseFault.TheVariants as fault
 use Rattle.stm_parse.specs.Tokenizer.{cut, front_of, next, with_front, tokens_of, IsOfTokens}
 use Rattle.stm_parse.specs.Lexing.{lexemes_of}
 use Rattle.stm_parse.specs.Faults.{Language}
-use Rattle.stm_parse.specs.ParseResult.{most_bytes, most_tokens, LexesWithinLimits, IsEarly, fault_of_cause, fault_of_failure, told_parse_fault}
-use Rattle.stm_parse.specs.Descent.{Reader, told_failure, whole}
+use Rattle.stm_parse.specs.ParseResult.{most_bytes, most_tokens, LexesWithinLimits, IsEarly, fault_of_cause, fault_of_failure}
+use Rattle.stm_parse.specs.Descent.{Reader, StopsAs, whole}
 use Rattle.stm_parse.specs.ParseFunction.{IsAnswer, located, of_tokens, answered}
 use Rattle.stm_parse.proofs.ReaderCorrect.{Good, Any}
 use Rattle.stm_parse.proofs.TokenizationUnique.{rules_cut}
-use Rattle.stm_parse.proofs.FaultReported.{tells_early, early_told, lexemes_count, too_many, they_fit, ok_text, stop_told}
+use Rattle.stm_parse.proofs.FaultReported.{tokens_early, early_reported, lexemes_count, too_many, they_fit, ok_text, stop_reported}
 
 more : (m n : ℕ) → nat_lt m n ≡ true → m < n
 more m n e = grind (arith, nat_tests)
@@ -66,23 +66,13 @@ cut_fault zero place (b ∷ bytes) e q = of (λ k q. cut_fault k (place + 1) byt
     of rec front.LongName q = is (fault.NameTooLong place) q (tt, λ p. cc)
     of rec front.BadNumber q = is (fault.BadNumber place) q (tt, λ p. cc)
 
-told_some : (c : ErrorKind) (o : Option Lexeme) → fault_of_cause c o ≢ fault.NoMemory
-told_some cause.Unexpected None e = cc
-told_some cause.TooDeep None e = cc
-told_some cause.BadNumber None e = cc
-told_some cause.Unexpected (Some x) e = cc
-told_some cause.TooDeep (Some x) e = cc
-told_some cause.BadNumber (Some x) e = cc
-
-tells_own : (text : List ℕ) (e : ParseFault) → tokens_of text ≡ Err e → IfSome (told_parse_fault e) (λ f. tokens_of text ≡ Err f)
-tells_own text (fault.BadByte n) q = q
-tells_own text (fault.BadNumber n) q = q
-tells_own text (fault.NameTooLong n) q = q
-tells_own text (fault.Unexpected n) q = q
-tells_own text fault.EndOfText q = q
-tells_own text fault.TooDeep q = q
-tells_own text fault.TooLarge q = q
-tells_own text fault.NoMemory q = tt
+cause_is_no_memory : (c : ErrorKind) (o : Option Lexeme) → fault_of_cause c o ≢ fault.NoMemory
+cause_is_no_memory cause.Unexpected None e = cc
+cause_is_no_memory cause.TooDeep None e = cc
+cause_is_no_memory cause.BadNumber None e = cc
+cause_is_no_memory cause.Unexpected (Some x) e = cc
+cause_is_no_memory cause.TooDeep (Some x) e = cc
+cause_is_no_memory cause.BadNumber (Some x) e = cc
 
 module _ {A : Type 0} (r : Reader A) (L : Language A) (good : (n : ℕ) → Good n r L Any) (text : List ℕ) where
   of_lexemes : (ls : List Lexeme) → LexesWithinLimits text ls → IsAnswer L text (located ls (whole r ls))
@@ -90,10 +80,10 @@ module _ {A : Type 0} (r : Reader A) (L : Language A) (good : (n : ℕ) → Good
     where
       by : (y : Result A Fault) → whole r ls ≡ y → IsAnswer L text (located ls y)
       by (Ok t) e = ok_text r L good text ls f t e
-      by (Err x) e = (told_some x.cause (slice_get ls (length ls - x.left)), stop_told r L good text ls f (stop.At x) e)
+      by (Err x) e = (cause_is_no_memory x.cause (slice_get ls (length ls - x.left)), stop_reported r L good text ls f (stop.At x) e)
 
   of_cut : length text ≤ most_bytes → (y : Result (List Token) ParseFault) → tokens_of text ≡ y → IsAnswer L text (of_tokens r text y)
-  of_cut l (Err e) q = let k = cut_fault 0 0 text e q in (k.1, early_told L text e (tells_early text e l (tells_own text e q) k.0))
+  of_cut l (Err e) q = let k = cut_fault 0 0 text e q in (k.1, early_reported L text e (tokens_early text e l (λ n. q) k.0))
   of_cut l (Ok ts) q = by (nat_lt most_tokens (length ts)) refl
     where
       by : (b : Bool) → nat_lt most_tokens (length ts) ≡ b → IsAnswer L text (cond b (Err fault.TooLarge) (located (lexemes_of text ts) (whole r (lexemes_of text ts))))
@@ -125,34 +115,24 @@ module _ {A : Type 0} (r : Reader A) (text : List ℕ) where
   pub ok_answer : (ls : List Lexeme) → LexesWithinLimits text ls → (t : A) → whole r ls ≡ Ok t → answered r text ≡ Ok t
   ok_answer ls f t e = fits_answer ls f ∙ ap (located ls) e
 
-  tells_same : (e : ParseFault) → answered r text ≡ Err e → IfSome (told_parse_fault e) (λ f. answered r text ≡ Err f)
-  tells_same (fault.BadByte n) q = q
-  tells_same (fault.BadNumber n) q = q
-  tells_same (fault.NameTooLong n) q = q
-  tells_same (fault.Unexpected n) q = q
-  tells_same fault.EndOfText q = q
-  tells_same fault.TooDeep q = q
-  tells_same fault.TooLarge q = q
-  tells_same fault.NoMemory q = tt
+  pub stop_answer : (ls : List Lexeme) → LexesWithinLimits text ls → (e : Failure) → StopsAs e (whole r ls) → fault_of_failure ls e ≢ fault.NoMemory → answered r text ≡ Err (fault_of_failure ls e)
+  stop_answer ls f stop.Memory h n = absurd (n refl)
+  stop_answer ls f (stop.At x) h n = fits_answer ls f ∙ ap (located ls) h
 
-  pub stop_answer : (ls : List Lexeme) → LexesWithinLimits text ls → (e : Failure) → IfSome (told_failure e) (λ f. whole r ls ≡ Err f) → IfSome (told_parse_fault (fault_of_failure ls e)) (λ f. answered r text ≡ Err f)
-  stop_answer ls f stop.Memory h = tt
-  stop_answer ls f (stop.At x) h = tells_same (fault_of_cause x.cause (slice_get ls (length ls - x.left))) (fits_answer ls f ∙ ap (located ls) h)
-
-  pub early_answer : (e : ParseFault) → IsEarly text e → IfSome (told_parse_fault e) (λ f. answered r text ≡ Err f)
+  pub early_answer : (e : ParseFault) → IsEarly text e → e ≢ fault.NoMemory → answered r text ≡ Err e
   unfolding answered
-  early_answer fault.TooLarge (inl l) = ap (λ b. cond b (Err fault.TooLarge) (of_tokens r text (tokens_of text))) (is_more most_bytes (length text) l)
-  early_answer fault.TooLarge (inr h) =
+  early_answer fault.TooLarge (inl l) q = ap (λ b. cond b (Err fault.TooLarge) (of_tokens r text (tokens_of text))) (is_more most_bytes (length text) l)
+  early_answer fault.TooLarge (inr h) q =
       let ts = h.2.0 in
       let e = ap length h.2.2 in
       let k = lexemes_count text ts in
       let m = h.3 in
       let n : most_tokens < length ts = omega arith in
       small h.1 ∙ ap (of_tokens r text) (rules_cut text (Ok ts) h.2.1) ∙ ap (λ b. cond b (Err fault.TooLarge) (located (lexemes_of text ts) (whole r (lexemes_of text ts)))) (is_more most_tokens (length ts) n)
-  early_answer (fault.BadByte n) h = small h.0 ∙ ap (of_tokens r text) (rules_cut text (Err (fault.BadByte n)) h.1)
-  early_answer (fault.BadNumber n) h = small h.0 ∙ ap (of_tokens r text) (rules_cut text (Err (fault.BadNumber n)) h.1)
-  early_answer (fault.NameTooLong n) h = small h.0 ∙ ap (of_tokens r text) (rules_cut text (Err (fault.NameTooLong n)) h.1)
-  early_answer (fault.Unexpected n) h = absurd h
-  early_answer fault.EndOfText h = absurd h
-  early_answer fault.TooDeep h = absurd h
-  early_answer fault.NoMemory h = tt
+  early_answer (fault.BadByte n) h q = small h.0 ∙ ap (of_tokens r text) (rules_cut text (Err (fault.BadByte n)) h.1)
+  early_answer (fault.BadNumber n) h q = small h.0 ∙ ap (of_tokens r text) (rules_cut text (Err (fault.BadNumber n)) h.1)
+  early_answer (fault.NameTooLong n) h q = small h.0 ∙ ap (of_tokens r text) (rules_cut text (Err (fault.NameTooLong n)) h.1)
+  early_answer (fault.Unexpected n) h q = absurd h
+  early_answer fault.EndOfText h q = absurd h
+  early_answer fault.TooDeep h q = absurd h
+  early_answer fault.NoMemory h q = absurd (q refl)

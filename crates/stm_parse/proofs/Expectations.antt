@@ -1,17 +1,18 @@
 -- The reader of expectations is good, the names of their trees are names of the text, and the call is exact.
-use Rattle.std.proofs.Common.{◌≡◌, ℕ, List, [], ◌∷◌, refl, ap, subst, arith, length, Ok, Err, IfSome}
+use Rattle.std.proofs.Common.{◌≡◌, ℕ, List, [], ◌∷◌, refl, ap, subst, arith, length, Ok, Err, ◌≢◌}
 use Rattle.stm_terms.specs.ParsedAst.{IsSpan, NamesWithin}
 use Rattle.stm_parse.specs.declared.token.Lexeme.{Lexeme}
 use Rattle.stm_parse.specs.declared.token.Failure.{Failure}
 use Rattle.stm_parse.specs.declared.fault.ParseFault.{ParseFault}
-use Rattle.stm_parse.specs.Descent.{◌>>=◌, told_failure, expect_name, init, whole}
+use Rattle.stm_parse.specs.declared.fault.ParseFault.TheVariants as fault
+use Rattle.stm_parse.specs.Descent.{◌>>=◌, StopsAs, expect_name, init, whole}
 use Rattle.stm_parse.specs.ExpectationFunction.{expectation_reader, expected_tree, expectation_result, parsed_expectation, ExpectationAnswersAreRight}
 use Rattle.stm_parse.specs.Expectations.{ExpectationTree, IsExpectation, is_expectation, expectation_in}
 use Rattle.stm_parse.specs.Faults.{Language, IsText}
 use Rattle.stm_parse.specs.Grammar.{At, at, span_of, IsInit}
 use Rattle.stm_terms.specs.ParsedBlock.{IsNameOf}
 use Rattle.stm_parse.specs.NameTokens.{NamesOf}
-use Rattle.stm_parse.specs.ParseResult.{LexesWithinLimits, IsEarly, fault_of_failure, told_parse_fault}
+use Rattle.stm_parse.specs.ParseResult.{LexesWithinLimits, IsEarly, fault_of_failure}
 use Rattle.stm_parse.proofs.AnswersCorrect.{answer_right, ok_answer, stop_answer, early_answer}
 use Rattle.stm_parse.proofs.CallsExact.{fails_through}
 use Rattle.stm_parse.proofs.ReaderCorrect.{Good, good_same, good_chain, good_map, good_name, IsName, Any, Token, token}
@@ -44,7 +45,7 @@ kept_expectation text ls t h n = of h.0 t h.1 (named text h.0 (subst (NamesOf te
         let m = k.0 p in
         (m.0, m.1, kept_init text vs _ i k.1)
 
-pub early_expectation : (text : List ℕ) (e : ParseFault) → IsEarly text e → IfSome (told_parse_fault e) (λ f. parsed_expectation text ≡ Err f)
+pub early_expectation : (text : List ℕ) (e : ParseFault) → IsEarly text e → e ≢ fault.NoMemory → parsed_expectation text ≡ Err e
 unfolding parsed_expectation expected_tree
 early_expectation text e h = fails_through (expectation_result text) (λ e. refl) e _ (early_answer expectation_reader text e h)
 
@@ -52,7 +53,7 @@ pub ok_expectation : (text : List ℕ) (ls : List Lexeme) → LexesWithinLimits 
 unfolding parsed_expectation expected_tree
 ok_expectation text ls f t e = ap (expectation_result text) (ok_answer expectation_reader text ls f t e)
 
-pub stop_expectation : (text : List ℕ) (ls : List Lexeme) → LexesWithinLimits text ls → (e : Failure) → IfSome (told_failure e) (λ f. whole expectation_reader ls ≡ Err f) → IfSome (told_parse_fault (fault_of_failure ls e)) (λ f. parsed_expectation text ≡ Err f)
+pub stop_expectation : (text : List ℕ) (ls : List Lexeme) → LexesWithinLimits text ls → (e : Failure) → StopsAs e (whole expectation_reader ls) → fault_of_failure ls e ≢ fault.NoMemory → parsed_expectation text ≡ Err (fault_of_failure ls e)
 unfolding parsed_expectation expected_tree
 stop_expectation text ls f e h = fails_through (expectation_result text) (λ e. refl) (fault_of_failure ls e) _ (stop_answer expectation_reader text ls f e h)
 

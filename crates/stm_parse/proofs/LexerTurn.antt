@@ -32,9 +32,6 @@ tokens_more : (ls : List Lexeme) (x : Lexeme) → map token_of (ls ++ x ∷ []) 
 tokens_more [] x = refl
 tokens_more (y ∷ ls) x = ap (λ ts. token_of y ∷ ts) (tokens_more ls x)
 
-pub seen_none : (bytes : List ℕ) → AreSeen bytes 0 []
-seen_none bytes = record { cut_here = with_none (cut 0 0 bytes); rise = omega arith; seen = refl }
-
 module _ (bytes : List ℕ) (place : ℕ) (ls : List Lexeme) (h : AreSeen bytes place ls) where
   pub seen_classes : length bytes ≤ place → tokens_of bytes ≡ Ok (map token_of ls)
   seen_classes l = sym h.cut_here ∙ cut_end bytes (map token_of ls) place l

@@ -160,15 +160,15 @@ right_number b rest n h = by long great refl refl
     great : Bool
     great = nat_lt 9223372036854775808 (decimal 0 (take n (b ∷ rest)))
 
-    told : (s t : Bool) → long ≡ s → great ≡ t → (place : ℕ)
+    fault_by : (s t : Bool) → long ≡ s → great ≡ t → (place : ℕ)
         → token_fault place kind.Number (take n (b ∷ rest)) ≡ cond (s || t) (Some (fault.BadNumber place)) None
-    told s t e f place = ap₂ (λ s t. cond (s || t) (Some (fault.BadNumber place)) None) e f
+    fault_by s t e f place = ap₂ (λ s t. cond (s || t) (Some (fault.BadNumber place)) None) e f
 
     by : (s t : Bool) → long ≡ s → great ≡ t
         → IsRightFront b rest (number_front n (cond s None (cond t None (Some (decimal 0 (take n (b ∷ rest)))))))
-    by true t e f = (n, (h, told true t e f))
-    by false true e f = (n, (h, told false true e f))
-    by false false e f = (h, told false false e f)
+    by true t e f = (n, (h, fault_by true t e f))
+    by false true e f = (n, (h, fault_by false true e f))
+    by false false e f = (h, fault_by false false e f)
 
 -- no symbol of more than n bytes stands at the front
 abbrev pub NoLongerSymbol : ℕ → List ℕ → Type 0

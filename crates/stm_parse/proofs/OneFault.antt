@@ -188,35 +188,35 @@ module _ {A : Type 0} (r : Reader A) (L : Language A) (good : (n : ℕ) → Good
               ap₂ (λ c n. record { cause = c; left = n }) d n
 
   module _ (text : List ℕ) where
-    fault_told : (ls q s : List Lexeme) (c : ErrorKind) → ls ≡ q ++ s → Begins L q → AtFault L c q s → located ls (whole r ls) ≡ Err (fault_of_cause c (slice_get (q ++ s) (length q)))
-    fault_told ls q s c e b a =
+    fault_located : (ls q s : List Lexeme) (c : ErrorKind) → ls ≡ q ++ s → Begins L q → AtFault L c q s → located ls (whole r ls) ≡ Err (fault_of_cause c (slice_get (q ++ s) (length q)))
+    fault_located ls q s c e b a =
         ap (located ls) (ap (whole r) e ∙ fault_read q s c b a) ∙ ap (λ o. Err (fault_of_cause c o)) (place_is ls q s (length s) e refl)
 
     first_answered : (c : ErrorKind) (n : ℕ) → FirstAtFault L text c n → (x : Lexeme) × (x.start ≡ n) × (answered r text ≡ Err (fault_of_cause c (Some x)))
-    first_answered c n h = (h.3, h.6, fits_answer r text h.0 h.4 ∙ fault_told h.0 h.1 (h.3 ∷ h.2) c h.5 h.7 h.8 ∙ ap (λ o. Err (fault_of_cause c o)) (get_next h.1 h.2 h.3))
+    first_answered c n h = (h.3, h.6, fits_answer r text h.0 h.4 ∙ fault_located h.0 h.1 (h.3 ∷ h.2) c h.5 h.7 h.8 ∙ ap (λ o. Err (fault_of_cause c o)) (get_next h.1 h.2 h.3))
 
     -- what is reported is what is answered
-    told_answered : (e : ParseFault) → e ≢ fault.NoMemory → IsReported L text e → answered r text ≡ Err e
-    told_answered fault.TooLarge n h = early_answer r text fault.TooLarge h
-    told_answered (fault.BadByte k) n h = early_answer r text (fault.BadByte k) h
-    told_answered (fault.BadNumber k) n (inl h) = early_answer r text (fault.BadNumber k) h
-    told_answered (fault.BadNumber k) n (inr h) = let a = first_answered cause.BadNumber k h in a.2 ∙ ap (λ k. Err (fault.BadNumber k)) a.1
-    told_answered (fault.NameTooLong k) n h = early_answer r text (fault.NameTooLong k) h
-    told_answered (fault.Unexpected k) n h = let a = first_answered cause.Unexpected k h in a.2 ∙ ap (λ k. Err (fault.Unexpected k)) a.1
-    told_answered fault.EndOfText n h =
-        fits_answer r text h.0 h.1 ∙ fault_told h.0 h.0 [] cause.Unexpected (sym (append-nil h.0)) h.2 h.3 ∙ ap (λ o. Err (fault_of_cause cause.Unexpected o)) (get_end h.0)
-    told_answered fault.TooDeep n h = (first_answered cause.TooDeep h.0 h.1).2
-    told_answered fault.NoMemory n h = absurd (n refl)
+    reported_answered : (e : ParseFault) → e ≢ fault.NoMemory → IsReported L text e → answered r text ≡ Err e
+    reported_answered fault.TooLarge n h = early_answer r text fault.TooLarge h n
+    reported_answered (fault.BadByte k) n h = early_answer r text (fault.BadByte k) h n
+    reported_answered (fault.BadNumber k) n (inl h) = early_answer r text (fault.BadNumber k) h n
+    reported_answered (fault.BadNumber k) n (inr h) = let a = first_answered cause.BadNumber k h in a.2 ∙ ap (λ k. Err (fault.BadNumber k)) a.1
+    reported_answered (fault.NameTooLong k) n h = early_answer r text (fault.NameTooLong k) h n
+    reported_answered (fault.Unexpected k) n h = let a = first_answered cause.Unexpected k h in a.2 ∙ ap (λ k. Err (fault.Unexpected k)) a.1
+    reported_answered fault.EndOfText n h =
+        fits_answer r text h.0 h.1 ∙ fault_located h.0 h.0 [] cause.Unexpected (sym (append-nil h.0)) h.2 h.3 ∙ ap (λ o. Err (fault_of_cause cause.Unexpected o)) (get_end h.0)
+    reported_answered fault.TooDeep n h = (first_answered cause.TooDeep h.0 h.1).2
+    reported_answered fault.NoMemory n h = absurd (n refl)
 
     -- so is a tree
     text_answered : (t : A) → IsTextOf L text t → answered r text ≡ Ok t
     text_answered t h = ok_answer r text h.0 h.1 t (only r L good h.0 t h.2)
 
   pub one_fault : OneFault L
-  one_fault text e f n m h k = let p = told_answered text e n h in let q = told_answered text f m k in cc
+  one_fault text e f n m h k = let p = reported_answered text e n h in let q = reported_answered text f m k in cc
 
   pub text_or_fault : TextOrFault L
-  text_or_fault text t e h k = by e (told_answered text e) k
+  text_or_fault text t e h k = by e (reported_answered text e) k
     where
       by : (e : ParseFault) → (e ≢ fault.NoMemory → IsReported L text e → answered r text ≡ Err e) → IsReported L text e → e ≡ fault.NoMemory
       by fault.NoMemory f k = refl

@@ -1,5 +1,6 @@
 -- A reader that reads each text of its language and reports the first fault of all else, and how such readers are put together.
 use Rattle.std.proofs.Common.{◌≡◌, ℕ, zero, suc, ◌+◌, ◌<◌, ◌≤◌, List, [], ◌∷◌, ◌++◌, length, refl, sym, ap, ◌∙◌, subst, arith, length-append, append_assoc, Ok, Err, Bool, true, false, cond, ◌⊎◌, inl, inr, get_or}
+use Rattle.std.specs.Prelude.{⊤}
 use Rattle.std.proofs.lemmas.Bool.{eqb-true, eq-eqb}
 use Rattle.stm_parse.specs.declared.token.Mark.{Mark}
 use Rattle.stm_parse.specs.declared.token.Mark.TheVariants as mark
@@ -105,10 +106,7 @@ pub record Good {A : Type 0} (n : ℕ) (r : Reader A) (L : Language A) (F : List
   pub some : Some_text L
 
 abbrev pub Any : List Lexeme → Type 0
-Any rest = Unit {0}
-
-pub good_less : {A : Type 0} (m n : ℕ) (r : Reader A) (L : Language A) (F : List Lexeme → Type 0) → m ≤ n → Good n r L F → Good m r L F
-good_less m n r L F le g = record { says = λ toks l. g.says toks (omega arith); reads = λ us a rest l h f. g.reads us a rest (omega arith) h f; some = g.some }
+Any rest = ⊤
 
 -- the same language in other words
 pub good_same : {A : Type 0} (n : ℕ) (r : Reader A) (L M : Language A) (F : List Lexeme → Type 0) → ((us : List At) (a : A) → L us a → M us a) → ((us : List At) (a : A) → M us a → L us a) → Good n r L F → Good n r M F

@@ -1,5 +1,6 @@
 -- What a reader of a grammar promises for a list of tokens, and that it is kept by what readers are made of.
 use Rattle.std.proofs.Common.{◌≡◌, suc, ◌≤◌, List, [], ◌∷◌, ◌++◌, length, refl, sym, ap, ◌∙◌, subst, arith, append_assoc, length-append, Ok, Err}
+use Rattle.std.specs.Prelude.{⊤}
 use Rattle.stm_parse.specs.declared.token.Lexeme.{Lexeme}
 use Rattle.stm_parse.specs.declared.token.ErrorKind.{ErrorKind}
 use Rattle.stm_parse.specs.declared.token.ErrorKind.TheVariants as cause
@@ -31,7 +32,7 @@ PointsAt c (w ∷ ws) [] = ⊥
 PointsAt c (w ∷ ws) (x ∷ s) = (w.lexeme ≡ x) × IsBeyond c w
 
 abbrev pub Points : ErrorKind → List At → List Lexeme → Type 0
-Points cause.Unexpected ws s = Unit {0}
+Points cause.Unexpected ws s = ⊤
 Points cause.TooDeep ws s = PointsAt cause.TooDeep ws s
 Points cause.BadNumber ws s = PointsAt cause.BadNumber ws s
 
@@ -74,14 +75,6 @@ pub data Then {A B : Type 0} (L : Language A) (M : A → Language B) : List At �
 -- another tree
 pub data Mapped {A B : Type 0} (f : A → B) (L : Language A) : List At → B → Type 0 where
   mapped : (us : List At) (a : A) → L us a → Mapped f L us (f a)
-
--- readers that agree
-pub says_same : {A : Type 0} (r r' : Reader A) (L : Language A) (toks : List Lexeme) → ((s : List Lexeme) → r s ≡ r' s) → Says r' L toks → Says r L toks
-says_same r r' L toks e h = subst (SaysOf r L toks) (sym (e toks)) (of (r' toks) h)
-  where
-    of : (x : Reading _) → SaysOf r' L toks x → SaysOf r L toks x
-    of (Ok x) t = record { us = t.us; text = t.text; cut = t.cut; within = t.within; again = λ x s s' q. e _ ∙ t.again x s s' q }
-    of (Err f) t = record { us = t.us; ws = t.ws; tree = t.tree; s = t.s; text = t.text; cut = t.cut; within = t.within; left = t.left; points = t.points; again = λ x s s' q. e _ ∙ t.again x s s' q }
 
 -- a greater language
 pub says_more : {A : Type 0} (r : Reader A) (L M : Language A) (toks : List Lexeme) → ((us : List At) (a : A) → L us a → M us a) → Says r L toks → Says r M toks
@@ -191,8 +184,8 @@ fault c toks = record { cause = c; left = length toks }
 -- the fault is of a limit
 abbrev pub IsOfLimit : ErrorKind → Type 0
 IsOfLimit cause.Unexpected = ⊥
-IsOfLimit cause.TooDeep = Unit {0}
-IsOfLimit cause.BadNumber = Unit {0}
+IsOfLimit cause.TooDeep = ⊤
+IsOfLimit cause.BadNumber = ⊤
 
 points-first : (c : ErrorKind) (u : At) (ws : List At) (s : List Lexeme) → IsOfLimit c → IsBeyond c u → Points c (u ∷ ws) (u.lexeme ∷ s)
 points-first cause.Unexpected u ws s l b = tt

@@ -120,7 +120,7 @@ one_cut (at_blank g q) (at_fault h e) = absurd (no_token_is_longest (blank_begin
 one_cut (at_blank g q) (at_bad_byte h n) = absurd cc
 one_cut (at_token g d q) at_end = absurd (no_token_is_longest none_at_end g)
 one_cut (at_token g d q) (at_blank h r) = absurd (no_token_is_longest (blank_begins_none _ _ h) g)
-one_cut {place = place} {bytes = bytes} (at_token {told = a} g d q) (at_token {told = b} h e r) =
+one_cut {place = place} {bytes = bytes} (at_token {cut = a} g d q) (at_token {cut = b} h e r) =
     let s = one_longest g h in
     let t : a ≡ b = one_cut q (subst (λ i. IsTokenization (place + i) (drop i bytes) b) (sym s.1) r) in
     cc
@@ -140,9 +140,9 @@ pub one_by_rules : TokenizationIsUnique
 one_by_rules text a b g h = one_cut g h
 
 -- what is cut is what is reported by the rules
-pub cut_by_rules : (text : List ℕ) (told : Tokenization) → tokens_of text ≡ told → IsTokenization 0 text told
-cut_by_rules text told e = subst (IsTokenization 0 text) e (each_by_rules text)
+pub cut_by_rules : (text : List ℕ) (cut : Tokenization) → tokens_of text ≡ cut → IsTokenization 0 text cut
+cut_by_rules text cut e = subst (IsTokenization 0 text) e (each_by_rules text)
 
 -- what is reported by the rules is what is cut
-pub rules_cut : (text : List ℕ) (told : Tokenization) → IsTokenization 0 text told → tokens_of text ≡ told
-rules_cut text told h = one_by_rules text (tokens_of text) told (each_by_rules text) h
+pub rules_cut : (text : List ℕ) (cut : Tokenization) → IsTokenization 0 text cut → tokens_of text ≡ cut
+rules_cut text cut h = one_by_rules text (tokens_of text) cut (each_by_rules text) h

@@ -1,5 +1,6 @@
 -- A text that is cut has no byte over 127.
 use Rattle.std.proofs.Common.{◌≡◌, ℕ, zero, suc, ◌+◌, ◌-◌, ◌<◌, ◌≤◌, List, [], ◌∷◌, length, take, length-take, refl, sym, subst, arith, Bool, true, false, cond, Result, Ok, Err, Option, Some, None, nat_eq, ◌&&◌}
+use Rattle.std.specs.Prelude.{⊤}
 use Rattle.std.specs.Str.{IsAscii}
 use Rattle.std.specs.List.{take_while, prefix_len}
 use Rattle.std.proofs.lemmas.Bool.{eqb-true}
@@ -59,12 +60,12 @@ single_low a m =
 
 -- the first bytes are below 128
 abbrev pub Low : ℕ → List ℕ → Type 0
-Low zero bytes = Unit {0}
-Low (suc k) [] = Unit {0}
+Low zero bytes = ⊤
+Low (suc k) [] = ⊤
 Low (suc k) (b ∷ bytes) = (b < 128) × Low k bytes
 
 abbrev pub AllLow : List ℕ → Type 0
-AllLow [] = Unit {0}
+AllLow [] = ⊤
 AllLow (b ∷ bytes) = (b < 128) × AllLow bytes
 
 low_less : (m n : ℕ) (bytes : List ℕ) → m ≤ n → Low n bytes → Low m bytes
@@ -88,9 +89,9 @@ low_while p h bytes = low_less _ (prefix_len p bytes) bytes (omega (arith, lengt
 FrontLow : Front → List ℕ → Type 0
 FrontLow front.Blank bytes = Low 1 bytes
 FrontLow (front.Found kind n) bytes = Low 1 bytes × Low n bytes
-FrontLow front.BadByte bytes = Unit {0}
-FrontLow front.LongName bytes = Unit {0}
-FrontLow front.BadNumber bytes = Unit {0}
+FrontLow front.BadByte bytes = ⊤
+FrontLow front.LongName bytes = ⊤
+FrontLow front.BadNumber bytes = ⊤
 
 one_low : (a : ℕ) (rest : List ℕ) (o : Option Mark) → single_mark a ≡ o → FrontLow (one_symbol o) (a ∷ rest)
 unfolding FrontLow

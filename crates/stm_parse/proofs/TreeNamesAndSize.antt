@@ -1,5 +1,6 @@
 -- In the tree of a text each name is a name of the text, and there are no more actions than tokens.
 use Rattle.std.proofs.Common.{◌≡◌, ℕ, suc, ◌≤◌, ◌^◌, List, [], ◌∷◌, ◌++◌, length, length-append, refl, ap, subst, arith, slice_range, Option, Some, None, Bool, true, false, cond}
+use Rattle.std.specs.Prelude.{⊤}
 use Rattle.stm_terms.specs.Names.{is_name_text}
 use Rattle.stm_terms.specs.ParsedAst.{RawTerm, RawAct, IsSpan, NamesWithin, SpansWithin, actions}
 use Rattle.stm_terms.specs.ParsedBlock.{IsNameOf, TermNamesAre, NamesAre}
@@ -20,7 +21,7 @@ use Rattle.stm_parse.specs.Grammar.{At, at, erase, Placed, IsAtom, is_number, is
 
 -- each name is one of the text
 abbrev pub Named : List ℕ → List At → Type 0
-Named text [] = Unit {0}
+Named text [] = ⊤
 Named text (u ∷ us) = NameSpanIsName text u.lexeme × Named text us
 
 named_front : (text : List ℕ) (us vs : List At) → Named text (us ++ vs) → Named text us

@@ -46,11 +46,11 @@ symbol_mark (a ∷ []) = single_mark a
 symbol_mark (a ∷ b ∷ []) = pair_mark a b
 symbol_mark (a ∷ b ∷ c ∷ rest) = None
 
--- how many bytes of a word stand at the front
+-- how many bytes of a word are at the front
 abbrev pub word_len : List ℕ → ℕ
 word_len bytes = length (take_while is_word_byte bytes)
 
--- how many digits stand at the front
+-- how many digits are at the front
 abbrev pub number_len : List ℕ → ℕ
 number_len bytes = length (take_while is_digit bytes)
 
@@ -71,7 +71,7 @@ longest_word = 32
 abbrev pub most_digits : ℕ
 most_digits = 19
 
--- the greatest number that is written, 2 ^ 63: behind a minus it is an Int
+-- the greatest number that is written, 2 ^ 63: after a minus it is an Int
 abbrev pub greatest_written : ℕ
 greatest_written = 9223372036854775808
 

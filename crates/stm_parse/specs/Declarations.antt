@@ -1,4 +1,4 @@
--- Declarations without where they lie in memory.
+-- Declarations without addresses.
 use Rattle.std.specs.Prelude.{ℕ, List, string_bytes}
 use Rattle.stm_terms.specs.declared.kinds.Ty.{Ty}
 use Rattle.stm_terms.specs.declared.values.Value.{Value}
@@ -10,11 +10,11 @@ use Rattle.stm_parse.specs.declared.declaration.Declaration.{Declaration}
 use Rattle.stm_parse.specs.declared.types.RawDeclaration.{RawDeclaration}
 use Rattle.stm_parse.specs.Grammar.{DeclarationTree}
 
--- a tree of the descent without where it lies in memory
+-- a tree of the descent without addresses
 abbrev pub declaration_tree_of : RawDeclaration → DeclarationTree
 declaration_tree_of d = record { name = d.name; ty = d.ty; init = raw_term_of d.init }
 
--- what a variable holds at first: a value, or the variable of a name that stands at a place
+-- what a variable holds at first: a value, or the variable of a name, with the place of the name
 pub data ParsedInit : Type 0 where
   literal : Value → ParsedInit
   named : List ℕ → ℕ → ParsedInit
@@ -25,12 +25,12 @@ pub record ParsedDeclaration : Type 0 where
   pub kind : Ty
   pub init : ParsedInit
 
--- a first value without where it lies in memory
+-- a first value without addresses
 abbrev pub parsed_initial : Init → ParsedInit
 parsed_initial (I.Literal v) = literal v
 parsed_initial (I.Name n at) = named (string_bytes n) at
 
--- a declaration without where it lies in memory
+-- a declaration without addresses
 abbrev pub declaration_of : Declaration → ParsedDeclaration
 declaration_of d = record { name = string_bytes d.name; kind = d.ty; init = parsed_initial d.init }
 

@@ -1,5 +1,5 @@
--- What the descent answers for a list of tokens: a tree and the tokens after it, or the fault.
-use Rattle.std.specs.Prelude.{◌≡◌, ℕ, zero, suc, ◌+◌, ◌-◌, List, [], ◌∷◌, length, Bool, true, false, nat_eq, nat_le, nat_lt, Option, Some, None, Result, Ok, Err, if◌then◌else◌, pos, neg_ℤ}
+-- What the descent returns for a list of tokens: a tree and the tokens after it, or the fault.
+use Rattle.std.specs.Prelude.{◌≡◌, ℕ, zero, suc, ◌+◌, ◌-◌, List, [], ◌∷◌, length, Bool, true, false, nat_eq, nat_le, nat_lt, Option, Some, None, Result, Ok, Err, if◌then◌else◌, pos, neg_ℤ, ⊤}
 use Rattle.stm_terms.specs.declared.raw.Span.{Span}
 use Rattle.stm_terms.specs.declared.expr.Op.{Op}
 use Rattle.stm_terms.specs.declared.kinds.Ty.{Ty}
@@ -24,7 +24,7 @@ use Rattle.stm_parse.specs.Grammar.{operator_of, grouping_of, widest, Placed, De
 abbrev pub Reading : Type 0 → Type 0
 Reading A = Result (A × List Lexeme) Fault
 
--- what a part of the descent answers for the tokens from its place on
+-- what a part of the descent returns for the tokens from its place on
 abbrev pub Reader : Type 0 → Type 0
 Reader A = List Lexeme → Reading A
 
@@ -34,10 +34,10 @@ abbrev pub ◌>>=◌ : {A B : Type 0} → Result A Fault → (A → Result B Fau
 (Ok x) >>= f = f x
 (Err e) >>= f = Err e
 
--- the fault that is told; a stop for memory tells none
-abbrev pub told_failure : Failure → Option Fault
-told_failure stop.Memory = None
-told_failure (stop.At f) = Some f
+-- the code stops at the fault of a reading, or for lack of memory
+abbrev pub StopsAs : {A : Type 0} → Failure → Result A Fault → Type 0
+StopsAs stop.Memory reading = ⊤
+StopsAs (stop.At f) reading = reading ≡ Err f
 
 -- these tokens are left of a reading
 abbrev pub Leaves : {A : Type 0} → List Lexeme → Reading A → Type 0
@@ -60,7 +60,7 @@ abbrev pub expect : Mark → Reader Lexeme
 expect m [] = Err (unexpected [])
 expect m (x ∷ rest) = if is_mark m x.sym then Ok (x, rest) else Err (unexpected (x ∷ rest))
 
--- the tokens after this mark, where it is the next
+-- the tokens after this mark, if it is the next
 abbrev pub accept : Mark → List Lexeme → Option (List Lexeme)
 accept m [] = None
 accept m (x ∷ rest) = if is_mark m x.sym then Some rest else None
@@ -130,12 +130,12 @@ short_of sym.Name x rest = Ok (name (span_of x), rest)
 short_of sym.Other x rest = Err (unexpected (x ∷ rest))
 short_of (sym.Mark m) x rest = short_marked m x rest
 
--- one level deeper, where there is such a level
+-- one level deeper, if there is such a level
 abbrev pub deeper : {L A : Type 0} → Option L → (L → Reading A) → List Lexeme → Reading A
 deeper None go here = Err (too_deep here)
 deeper (Some l) go here = go l
 
--- inner reads an expression one level deeper, where there is such a level
+-- inner reads an expression one level deeper, if there is such a level
 abbrev pub atom_with : Option (Reader RawTerm) → Reader RawTerm
 atom_with inner [] = Err (unexpected [])
 atom_with inner (x ∷ rest) =
@@ -155,7 +155,7 @@ abbrev pub op_pick : ℕ → Option (ℕ × Op) → List Lexeme → Option (Op �
 op_pick k None rest = None
 op_pick k (Some p) rest = if nat_eq p.0 k then Some (p.1, rest) else None
 
--- an operator of tier k and the tokens after it, where it is the next
+-- an operator of tier k and the tokens after it, if it is the next
 abbrev pub op_next : ℕ → List Lexeme → Option (Op × List Lexeme)
 op_next k [] = None
 op_next k (x ∷ rest) = op_pick k (operator_of x.sym) rest
@@ -172,7 +172,7 @@ tail_by grouping.ToRight next self go left o rest = do
   b ← self rest
   Ok (bin o left b.0, b.1)
 
--- after an operand: an operator of the tier and what comes after it, where one is the next
+-- after an operand: an operator of the tier and what comes after it, if one is the next
 abbrev pub tail_turn : Grouping → Reader RawTerm → Reader RawTerm → (RawTerm → Reader RawTerm)
     → RawTerm → List Lexeme → Option (Op × List Lexeme) → Reading RawTerm
 tail_turn g next self go left toks None = Ok (left, toks)
@@ -305,7 +305,7 @@ let_bound expression next toks = do
   b ← next semicolon.1
   Ok (let_in (span_of x.0) e.0 b.0, b.1)
 
--- after an action of a body: the rest, where a semicolon was accepted, else the body ends
+-- after an action of a body: the rest, if a semicolon was accepted, else the body ends
 abbrev pub after_action : Reader RawAct → RawAct → List Lexeme → Option (List Lexeme) → Reading RawAct
 after_action next a toks None = Ok (a, toks)
 after_action next a toks (Some rest) = do
@@ -387,7 +387,7 @@ action_of atom one (sym.Number n) x rest = Err (unexpected (x ∷ rest))
 action_of atom one sym.Name x rest = Err (unexpected (x ∷ rest))
 action_of atom one sym.Other x rest = Err (unexpected (x ∷ rest))
 
--- an action, where one reads a level deeper and atom an operand
+-- an action, if inner reads a level deeper and atom an operand
 abbrev pub action_with : Reader RawTerm → Option Level → Reader Placed
 action_with atom one [] = Err (unexpected [])
 action_with atom one (x ∷ rest) = action_of atom one x.sym x rest
@@ -453,7 +453,7 @@ abbrev pub bare_with : Option (Reader Ty) → Reader Ty
 bare_with inner [] = Err (unexpected [])
 bare_with inner (x ∷ rest) = bare_of inner x.sym x rest
 
--- after "TVar", where bare reads what stands inside
+-- after "TVar", where bare reads what is inside
 abbrev pub var_of : Bool → Reader Ty → List Lexeme → List Lexeme → Reading Ty
 var_of false bare here rest = Err (too_deep here)
 var_of true bare here rest = do

@@ -1,17 +1,21 @@
--- What the functions of the descent return, without where it lies in memory.
-use Rattle.std.specs.Prelude.{ℕ, List, Result}
+-- What the functions of the descent return, without addresses.
+use Rattle.std.specs.Prelude.{◌≡◌, ℕ, List, Result, Ok, MatchResult}
 use Rattle.std.proofs.Common.{Bor, Box, Global}
 use Rattle.stm_terms.specs.declared.raw.RawAction.{RawAction}
 use Rattle.stm_terms.specs.ParsedAst.{RawAct, raw_act_of}
-use Rattle.stm_terms.specs.UnlessNoMemory.{AnswersAs}
 use Rattle.stm_parse.specs.declared.token.Lexeme.{Lexeme}
 use Rattle.stm_parse.specs.declared.token.Failure.{Failure}
+use Rattle.stm_parse.specs.declared.token.Fault.{Fault}
 use Rattle.stm_parse.specs.Grammar.{Placed}
-use Rattle.stm_parse.specs.Descent.{Reading, told_failure}
+use Rattle.stm_parse.specs.Descent.{Reading, StopsAs}
 
--- what was read, seen by view, with the tokens that are left, is what a reading gives, unless memory ran out
+-- what was read, seen by view, is what the definition reads, unless memory ran out
+abbrev pub GivesResult : {X Y : Type 0} → (X → Y) → Result X Failure → Result Y Fault → Type 0
+GivesResult view result reading = MatchResult result (λ x. reading ≡ Ok (view x)) (λ e. StopsAs e reading)
+
+-- so too with the tokens that are left
 abbrev pub GivesReading : {X Y : Type 0} → (X → Y) → Result (X × Bor (List Lexeme)) Failure → Reading Y → Type 0
-GivesReading view result reading = AnswersAs told_failure (λ r. (view r.0, r.1.now)) result reading
+GivesReading view result reading = GivesResult (λ r. (view r.0, r.1.now)) result reading
 
 -- an action in a box
 abbrev pub boxed_tree : Box RawAction Global → RawAct

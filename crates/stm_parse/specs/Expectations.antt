@@ -20,7 +20,7 @@ pub data IsExpectation : List At → ExpectationTree → Type 0 where
       → x.sym ≡ sym.Name → IsInit us e
       → IsExpectation (at 0 x ∷ us) (record { name = span_of x; init = e })
 
--- a tree of the descent without where it lies in memory
+-- a tree of the descent without addresses
 abbrev pub expectation_tree_of : RawExpectation → ExpectationTree
 expectation_tree_of d = record { name = d.name; init = raw_term_of d.init }
 
@@ -29,7 +29,7 @@ pub record ParsedExpectation : Type 0 where
   pub name : List ℕ
   pub value : ParsedInit
 
--- an expectation without where it lies in memory
+-- an expectation without addresses
 abbrev pub expectation_of : Expectation → ParsedExpectation
 expectation_of d = record { name = string_bytes d.name; value = parsed_initial d.value }
 

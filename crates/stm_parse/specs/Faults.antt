@@ -44,6 +44,6 @@ AtFault L cause.TooDeep q (x ∷ s) = IsPast L cause.TooDeep q x
 AtFault L cause.BadNumber q [] = ⊥
 AtFault L cause.BadNumber q (x ∷ s) = IsPast L cause.BadNumber q x
 
--- the first token at fault, given by how many are left from it on; none, where the tokens end too soon
+-- the first token at fault, given by how many are left from it on; none, if the tokens end too soon
 abbrev pub IsFault : {A : Type 0} → Language A → List Lexeme → Fault → Type 0
 IsFault L toks f = (q s : List Lexeme) × (toks ≡ q ++ s) × (f.left ≡ length s) × Begins L q × AtFault L f.cause q s

@@ -1,5 +1,5 @@
 -- The grammar, by cases on its productions.
-use Rattle.std.specs.Prelude.{◌≡◌, ℕ, zero, suc, ◌+◌, ◌-◌, ◌≤◌, List, [], ◌∷◌, ◌++◌, true, false, Option, Some, None, pos, neg_ℤ}
+use Rattle.std.specs.Prelude.{◌≡◌, ℕ, zero, suc, ◌+◌, ◌-◌, ◌≤◌, List, [], ◌∷◌, ◌++◌, true, false, Option, Some, None, pos, neg_ℤ, ⊤}
 use Rattle.stm_terms.specs.declared.expr.Op.{Op}
 use Rattle.stm_terms.specs.declared.expr.Op.TheVariants as op
 use Rattle.stm_terms.specs.declared.kinds.Ty.{Ty}
@@ -36,7 +36,7 @@ at_ref d k x = record { depth = d; refs = k; reach = 0; lexeme = x }
 abbrev pub at_number : ℕ → ℕ → Lexeme → At
 at_number d n x = record { depth = d; refs = 0; reach = n; lexeme = x }
 
--- where a token stands in the text
+-- where a token is in the text
 abbrev pub span_of : Lexeme → Span
 span_of x = record { start = x.start; end = x.end }
 
@@ -259,5 +259,5 @@ IsAllowed u = (u.depth ≤ deepest) × (u.refs ≤ most_refs) × (u.reach ≤ gr
 
 -- each token is within the limits
 abbrev pub WithinLimits : List At → Type 0
-WithinLimits [] = Unit {0}
+WithinLimits [] = ⊤
 WithinLimits (u ∷ us) = IsAllowed u × WithinLimits us

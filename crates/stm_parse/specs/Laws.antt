@@ -109,7 +109,7 @@ EachPair P xs ys = All (λ x. All (P x) ys) xs
 abbrev pub lexeme : TokenKind → ℕ → ℕ → Lexeme
 lexeme s from to = record { sym = s; start = from; end = to }
 
--- a name, by where it begins and ends
+-- a name, by its first and its last byte
 abbrev pub name_at : ℕ → ℕ → RawTerm
 name_at from to = name (record { start = from; end = to })
 

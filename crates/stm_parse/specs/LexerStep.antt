@@ -1,5 +1,5 @@
--- What stands at the front of some bytes, with what the grammar sees in it.
-use Rattle.std.specs.Prelude.{◌≡◌, ℕ, List, take}
+-- What is at the front of some bytes, with what the grammar sees in it.
+use Rattle.std.specs.Prelude.{◌≡◌, ℕ, List, take, ⊤}
 use Rattle.stm_parse.specs.Front.{Front}
 use Rattle.stm_parse.specs.Front as front
 use Rattle.stm_parse.specs.declared.lexer.Piece.{Piece}
@@ -16,8 +16,8 @@ front_seen piece.BadNumber = front.BadNumber
 
 -- the grammar sees what these bytes are
 abbrev pub IsSeen : List ℕ → Piece → Type 0
-IsSeen bytes piece.Blank = Unit {0}
+IsSeen bytes piece.Blank = ⊤
 IsSeen bytes (piece.Found sym n) = sym ≡ token_kind_of (class_of sym) (take n bytes)
-IsSeen bytes piece.BadByte = Unit {0}
-IsSeen bytes piece.LongName = Unit {0}
-IsSeen bytes piece.BadNumber = Unit {0}
+IsSeen bytes piece.BadByte = ⊤
+IsSeen bytes piece.LongName = ⊤
+IsSeen bytes piece.BadNumber = ⊤

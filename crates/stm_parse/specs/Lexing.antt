@@ -32,7 +32,7 @@ action_mark word =
     else (if bytes_eq word (codes "newTVar") then Some mark.NewTVar
     else None)))
 
--- the words that end a branch, or say what runs where one ended so
+-- the words that end a branch, or say what runs after one that ended so
 unfoldable pub choice_mark : List ℕ → Option Mark
 choice_mark word =
     if bytes_eq word (codes "retry") then Some mark.Retry

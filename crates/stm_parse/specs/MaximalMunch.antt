@@ -64,12 +64,12 @@ pub data IsTokenization : ℕ → List ℕ → Tokenization → Type 0 where
   -- nothing is left: no tokens
   at_end : {place : ℕ} → IsTokenization place [] (Ok [])
   -- a blank: what is reported of the bytes after it
-  at_blank : {place b : ℕ} {bytes : List ℕ} {told : Tokenization}
-      → is_blank b ≡ true → IsTokenization (place + 1) bytes told → IsTokenization place (b ∷ bytes) told
+  at_blank : {place b : ℕ} {bytes : List ℕ} {cut : Tokenization}
+      → is_blank b ≡ true → IsTokenization (place + 1) bytes cut → IsTokenization place (b ∷ bytes) cut
   -- the longest token here is in order: it, and then what is reported of the bytes after it
-  at_token : {place n : ℕ} {k : TokenClass} {bytes : List ℕ} {told : Tokenization}
-      → IsLongest bytes k n → token_fault place k (take n bytes) ≡ None → IsTokenization (place + n) (drop n bytes) told
-      → IsTokenization place bytes (token_before (record { kind = k; start = place; end = place + n }) told)
+  at_token : {place n : ℕ} {k : TokenClass} {bytes : List ℕ} {cut : Tokenization}
+      → IsLongest bytes k n → token_fault place k (take n bytes) ≡ None → IsTokenization (place + n) (drop n bytes) cut
+      → IsTokenization place bytes (token_before (record { kind = k; start = place; end = place + n }) cut)
   -- the longest token here is at fault: its fault
   at_fault : {place n : ℕ} {k : TokenClass} {bytes : List ℕ} {e : ParseFault}
       → IsLongest bytes k n → token_fault place k (take n bytes) ≡ Some e → IsTokenization place bytes (Err e)

@@ -1,5 +1,5 @@
 -- The tokens that are names, in the text that they are cut from.
-use Rattle.std.specs.Prelude.{◌≡◌, ℕ, List, [], ◌∷◌, length}
+use Rattle.std.specs.Prelude.{◌≡◌, ℕ, List, [], ◌∷◌, length, ⊤}
 use Rattle.stm_terms.specs.ParsedAst.{IsSpan}
 use Rattle.stm_terms.specs.ParsedBlock.{IsNameOf}
 use Rattle.stm_parse.specs.declared.token.TokenKind.TheVariants as tok
@@ -11,5 +11,5 @@ NameSpanIsName text x = x.sym ≡ tok.Name → IsSpan (length text) x.start x.en
 
 -- so is each
 abbrev pub NamesOf : List ℕ → List Lexeme → Type 0
-NamesOf text [] = Unit {0}
+NamesOf text [] = ⊤
 NamesOf text (x ∷ ls) = NameSpanIsName text x × NamesOf text ls

@@ -19,7 +19,7 @@ abbrev pub IsAnswer : {A : Type 0} → Language A → List ℕ → Result A Pars
 IsAnswer L text (Ok t) = IsTextOf L text t
 IsAnswer L text (Err e) = (e ≢ fault.NoMemory) × IsReported L text e
 
--- what was read of these tokens, with a fault told by its place in the text
+-- what was read of these tokens, with a fault at its place in the text
 abbrev pub located : {A : Type 0} → List Lexeme → Result A Fault → Result A ParseFault
 located ls (Ok t) = Ok t
 located ls (Err f) = Err (fault_of_cause f.cause (slice_get ls (length ls - f.left)))

@@ -1,5 +1,5 @@
 -- A text of the grammar, and which fault is reported of any other text.
-use Rattle.std.specs.Prelude.{◌≡◌, ℕ, ◌-◌, ◌<◌, ◌≤◌, ◌⊎◌, List, ◌∷◌, ◌++◌, length, slice_get, Option, Some, None, Result, Ok, Err}
+use Rattle.std.specs.Prelude.{◌≡◌, ℕ, ◌-◌, ◌<◌, ◌≤◌, ◌⊎◌, List, ◌∷◌, ◌++◌, length, slice_get, Option, Some, None, Ok, Err, ⊤}
 use Rattle.stm_parse.specs.declared.token.Lexeme.{Lexeme}
 use Rattle.stm_parse.specs.declared.token.ErrorKind.{ErrorKind}
 use Rattle.stm_parse.specs.declared.token.ErrorKind.TheVariants as cause
@@ -53,7 +53,7 @@ IsEarly text (fault.NameTooLong n) = (length text ≤ most_bytes) × IsTokenizat
 IsEarly text (fault.Unexpected n) = ⊥
 IsEarly text fault.EndOfText = ⊥
 IsEarly text fault.TooDeep = ⊥
-IsEarly text fault.NoMemory = Unit {0}
+IsEarly text fault.NoMemory = ⊤
 
 -- the fault that is reported: too many bytes; the first fault of the tokens; too many tokens; the first token at fault; an
 -- early end
@@ -65,7 +65,7 @@ IsReported L text (fault.NameTooLong n) = IsEarly text (fault.NameTooLong n)
 IsReported L text (fault.Unexpected n) = FirstAtFault L text cause.Unexpected n
 IsReported L text fault.EndOfText = EndsTooSoon L text
 IsReported L text fault.TooDeep = (n : ℕ) × FirstAtFault L text cause.TooDeep n
-IsReported L text fault.NoMemory = Unit {0}
+IsReported L text fault.NoMemory = ⊤
 
 -- what is reported of a fault that is left so far from the end
 abbrev pub fault_of_cause : ErrorKind → Option Lexeme → ParseFault
@@ -76,24 +76,7 @@ fault_of_cause cause.Unexpected (Some x) = fault.Unexpected x.start
 fault_of_cause cause.TooDeep (Some x) = fault.TooDeep
 fault_of_cause cause.BadNumber (Some x) = fault.BadNumber x.start
 
--- what is reported of the place where the descent stopped
+-- what is reported of the place at which the descent stopped
 abbrev pub fault_of_failure : List Lexeme → Failure → ParseFault
 fault_of_failure ls stop.Memory = fault.NoMemory
 fault_of_failure ls (stop.At f) = fault_of_cause f.cause (slice_get ls (length ls - f.left))
-
--- the fault that is told; an out-of-memory error tells none
-abbrev pub told_parse_fault : ParseFault → Option ParseFault
-told_parse_fault fault.NoMemory = None
-told_parse_fault f = Some f
-
--- an answer of which this holds, or an out-of-memory error
-abbrev pub OrNoMemory : {A : Type 0} → Result A ParseFault → (A → Type 0) → Type 0
-OrNoMemory (Ok a) P = P a
-OrNoMemory (Err fault.NoMemory) P = Unit {0}
-OrNoMemory (Err (fault.BadByte n)) P = ⊥
-OrNoMemory (Err (fault.BadNumber n)) P = ⊥
-OrNoMemory (Err (fault.NameTooLong n)) P = ⊥
-OrNoMemory (Err (fault.Unexpected n)) P = ⊥
-OrNoMemory (Err fault.EndOfText) P = ⊥
-OrNoMemory (Err fault.TooDeep) P = ⊥
-OrNoMemory (Err fault.TooLarge) P = ⊥

@@ -1,5 +1,5 @@
 -- How a text is cut: at each place that is no blank the longest token.
-use Rattle.std.specs.Prelude.{ℕ, zero, suc, ◌+◌, ◌-◌, ◌<◌, ◌≤◌, List, [], ◌∷◌, ◌++◌, take, Result, Ok, Err, nat_lt, if◌then◌else◌, Option, Some, None}
+use Rattle.std.specs.Prelude.{ℕ, zero, suc, ◌+◌, ◌-◌, ◌<◌, ◌≤◌, List, [], ◌∷◌, ◌++◌, take, Result, Ok, Err, nat_lt, if◌then◌else◌, Option, Some, None, ⊤}
 use Rattle.stm_terms.specs.Names.{is_digit}
 use Rattle.stm_parse.specs.Bytes.{is_letter, is_blank, symbol_mark, word_len, longest_word, number_len, number_of_digits}
 use Rattle.stm_parse.specs.declared.token.Mark.{Mark}
@@ -35,7 +35,7 @@ abbrev pub number_front : ℕ → Option ℕ → Front
 number_front n None = front.BadNumber
 number_front n (Some v) = front.Found kind.Number n
 
--- what stands at the front of bytes that begin with b
+-- what is at the front of bytes that begin with b
 abbrev pub front_by : ℕ → List ℕ → Front
 front_by b bytes =
     if is_blank b then front.Blank
@@ -43,7 +43,7 @@ front_by b bytes =
     else (if is_digit b then number_front (number_len bytes) (number_of_digits (take (number_len bytes) bytes))
     else symbol_front bytes))
 
--- what stands at the front of some bytes
+-- what is at the front of some bytes
 unfoldable pub front_of : List ℕ → Front
 front_of [] = front.BadByte
 front_of (b ∷ rest) = front_by b (b ∷ rest)
@@ -53,7 +53,7 @@ abbrev pub with_front : List Token → Result (List Token) ParseFault → Result
 with_front before (Ok ts) = Ok (before ++ ts)
 with_front before (Err e) = Err e
 
--- what is reported from a place on: what stands at the front there, and then what go gives
+-- what is reported from a place on: what is at the front there, and then what go gives
 abbrev pub next : Front → ℕ → (ℕ → Result (List Token) ParseFault) → Result (List Token) ParseFault
 next front.Blank place go = go 0
 next (front.Found kind n) place go = with_front (record { kind = kind; start = place; end = place + n } ∷ []) (go (n - 1))
@@ -61,7 +61,7 @@ next front.BadByte place go = Err (fault.BadByte place)
 next front.LongName place go = Err (fault.NameTooLong place)
 next front.BadNumber place go = Err (fault.BadNumber place)
 
--- the tokens of bytes that begin at the place; so many bytes at the front belong to a token that is cut already
+-- the tokens of bytes that begin at the place; the first `skip` bytes belong to a token that is cut already
 unfoldable pub cut : ℕ → ℕ → List ℕ → Result (List Token) ParseFault
 cut skip place [] = Ok []
 cut (suc k) place (b ∷ bytes) = cut k (place + 1) bytes
@@ -80,17 +80,17 @@ SpansRise p n (t ∷ ts) = (p ≤ t.start) × (t.start < t.end) × (t.end ≤ n)
 abbrev pub IsWithin : Front → ℕ → Type 0
 IsWithin front.Blank size = 0 < size
 IsWithin (front.Found kind n) size = (0 < n) × (n ≤ size)
-IsWithin front.BadByte size = Unit {0}
-IsWithin front.LongName size = Unit {0}
-IsWithin front.BadNumber size = Unit {0}
+IsWithin front.BadByte size = ⊤
+IsWithin front.LongName size = ⊤
+IsWithin front.BadNumber size = ⊤
 
 -- a fault of tokens, or an out-of-memory error
 abbrev pub IsOfTokens : ParseFault → Type 0
-IsOfTokens (fault.BadByte n) = Unit {0}
-IsOfTokens (fault.BadNumber n) = Unit {0}
-IsOfTokens (fault.NameTooLong n) = Unit {0}
+IsOfTokens (fault.BadByte n) = ⊤
+IsOfTokens (fault.BadNumber n) = ⊤
+IsOfTokens (fault.NameTooLong n) = ⊤
 IsOfTokens (fault.Unexpected n) = ⊥
 IsOfTokens fault.EndOfText = ⊥
 IsOfTokens fault.TooDeep = ⊥
 IsOfTokens fault.TooLarge = ⊥
-IsOfTokens fault.NoMemory = Unit {0}
+IsOfTokens fault.NoMemory = ⊤

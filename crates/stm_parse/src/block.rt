@@ -1,14 +1,15 @@
 //! A text as a block.
 
-ghost use Rattle.std.specs.Prelude.{◌≡◌, MatchResult, IfOk, IfErr, IfSome, Err};
+ghost use Rattle.std.specs.Prelude.{◌≡◌, ◌≢◌, MatchResult, IfOk, IfErr, Err};
 ghost use Rattle.std.specs.Str.{IsAscii};
 ghost use Rattle.stm_terms.specs.ParsedAst.{RawAct, raw_act_of};
-ghost use Rattle.stm_terms.specs.UnlessNoMemory.{AnswersAs};
+ghost use Rattle.stm_terms.specs.UnlessNoMemory.{AnswersUnless};
 ghost use Rattle.stm_parse.specs.Grammar.{IsBlock};
 ghost use Rattle.stm_parse.specs.NameTokens.{NamesOf};
 ghost use Rattle.stm_parse.specs.ParseFunction.{parsed_block, parsed_declaration};
-ghost use Rattle.stm_parse.specs.ParseResult.{LexesWithinLimits, IsTextOf, IsEarly, IsReported, OrNoMemory, fault_of_failure, told_parse_fault};
-ghost use Rattle.stm_parse.specs.Descent.{told_failure, block_reader, whole};
+ghost use Rattle.stm_parse.specs.ParseResult.{LexesWithinLimits, IsTextOf, IsEarly, IsReported, fault_of_failure};
+ghost use Rattle.stm_parse.specs.Descent.{block_reader, whole};
+ghost use Rattle.stm_parse.specs.DescentResults.{GivesResult};
 
 use crate::action::action;
 use crate::cursor::unexpected;
@@ -27,9 +28,9 @@ pub(crate) fn lexed(alloc: Global, text: &str) -> Result<Vec<Lexeme>, ParseFault
     ensures ascii { IfOk result (λ v. IsAscii text.now) }
     ensures names { IfOk result (λ v. NamesOf text.now v.items) }
     ensures block { IfErr result
-        (λ e. IfSome (told_parse_fault e) (λ f. parsed_block text.now ≡ Err f)) }
+        (λ e. e ≢ ParseFault.NoMemory → parsed_block text.now ≡ Err e) }
     ensures declaration { IfErr result
-        (λ e. IfSome (told_parse_fault e) (λ f. parsed_declaration text.now ≡ Err f)) }
+        (λ e. e ≢ ParseFault.NoMemory → parsed_declaration text.now ≡ Err e) }
 {
     if text.len() > MOST_BYTES {
         return Err(ParseFault::TooLarge);
@@ -63,7 +64,7 @@ pub(crate) fn fault_of_failure(toks: &[Lexeme], stop: Failure) -> ParseFault
 }
 
 fn whole_block(alloc: Global, toks: &[Lexeme]) -> Result<RawAction, Failure>
-    ensures { AnswersAs told_failure raw_act_of result (whole block_reader toks.now) }
+    ensures { GivesResult raw_act_of result (whole block_reader toks.now) }
 {
     let ((tree, _), rest) = action(alloc, DEEPEST, toks)?;
     if rest.is_empty() {
@@ -75,17 +76,17 @@ fn whole_block(alloc: Global, toks: &[Lexeme]) -> Result<RawAction, Failure>
 
 /// The block that a text writes.
 ///
-/// docs/LANGUAGE.md, "Grammar", has the productions, and "Which fault of the grammar is told" the order of the faults.
+/// docs/LANGUAGE.md, "Grammar", has the productions, and "Which grammar error is reported" the order of the faults.
 pub fn parse_block(alloc: Global, text: &str) -> Result<Raw, ParseFault>
     // What is read is a text of the tree, and a fault is the one to be reported.
     ensures right { MatchResult result (λ r. IsTextOf IsBlock text.now r.tree)
         (λ e. IsReported IsBlock text.now e) }
     // Each text is read, with its one tree, unless memory runs out.
     ensures only { (t : RawAct) → IsTextOf IsBlock text.now t
-        → OrNoMemory result (λ r. r.tree ≡ t) }
+        → MatchResult result (λ r. r.tree ≡ t) (λ e. e ≡ ParseFault.NoMemory) }
     ensures text { IfOk result (λ r. r.text ≡ text.now) }
     // The answer is a function of the text.
-    ensures answer { AnswersAs told_parse_fault (λ r. r.tree) result (parsed_block text.now) }
+    ensures answer { AnswersUnless ParseFault.NoMemory (λ r. r.tree) result (parsed_block text.now) }
 {
     let toks = lexed(alloc, text)?;
     match whole_block(alloc, &toks) {

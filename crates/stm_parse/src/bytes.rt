@@ -28,7 +28,8 @@ fn is_word_byte(byte: u8) -> bool
     is_letter(byte) || is_digit(byte) || byte == b'_' || byte == b'\''
 }
 
-pub(crate) fn is_blank(byte: u8) -> bool
+/// Whether a byte is a tab, a line feed, a carriage return or a space.
+pub fn is_blank(byte: u8) -> bool
     ensures { result ≡ is_blank byte }
 {
     byte == b'\t' || byte == b'\n' || byte == b'\r' || byte == b' '
@@ -79,7 +80,8 @@ pub(crate) fn word_len(bytes: &[u8]) -> usize
     bytes.iter().take_while(|byte| is_word_byte(**byte)).count()
 }
 
-pub(crate) fn number_len(bytes: &[u8]) -> usize
+/// How many digits are at the front.
+pub fn number_len(bytes: &[u8]) -> usize
     ensures { result ≡ number_len bytes.now }
 {
     bytes.iter().take_while(|byte| is_digit(**byte)).count()
@@ -108,7 +110,8 @@ pub fn number_of(digits: &[u8]) -> Option<u64>
     }
 }
 
-fn decimal(digits: &[u8]) -> u64
+/// The number that digits write.
+pub fn decimal(digits: &[u8]) -> u64
     requires { length digits.now ≤ most_digits }
     ensures { result ≡ decimal 0 digits.now }
 {

@@ -1,9 +1,9 @@
 //! What the descent is made of: one token of lookahead, and what is asked of the next token.
 
-ghost use Rattle.std.specs.Prelude.{◌≡◌, ◌-◌, ◌<◌, ◌≤◌, length, IfOk, IfErr, IfSome, MatchOption, MatchResult, None, Some, Err};
+ghost use Rattle.std.specs.Prelude.{◌≡◌, ◌-◌, ◌<◌, ◌≤◌, length, IfOk, IfErr, IfSome, MatchOption, MatchResult, None, Some};
 ghost use Rattle.stm_parse.specs.Grammar.{operator_of, operator_mark, grouping_of};
 ghost use Rattle.stm_parse.specs.DescentResults.{GivesReading};
-ghost use Rattle.stm_parse.specs.Descent.{told_failure, Leaves, accept, expect, expect_name, is_name_kind, op_ahead, unexpected, too_deep, bad_number};
+ghost use Rattle.stm_parse.specs.Descent.{StopsAs, Leaves, accept, expect, expect_name, is_name_kind, op_ahead, unexpected, too_deep, bad_number};
 
 use crate::token::{ErrorKind, Failure, Fault, Lexeme, Mark, TokenKind};
 use stm_terms::Op;
@@ -61,7 +61,7 @@ pub fn one_level_deeper(levels: u8, toks: &[Lexeme]) -> Result<u8, Failure>
     }
 }
 
-/// The tokens after this mark, where it is the next.
+/// The tokens after this mark, if it is the next.
 pub fn accept(mark: Mark, toks: &[Lexeme]) -> Option<&[Lexeme]>
     ensures value { MatchOption result (accept mark toks.now ≡ None)
         (λ rest. accept mark toks.now ≡ Some rest.now) }
@@ -76,7 +76,7 @@ pub fn accept(mark: Mark, toks: &[Lexeme]) -> Option<&[Lexeme]>
 /// The tokens after this mark, which must be the next.
 pub fn expect(mark: Mark, toks: &[Lexeme]) -> Result<&[Lexeme], Failure>
     ensures gives { MatchResult result (λ rest. Leaves rest.now (expect mark toks.now))
-        (λ e. IfSome (told_failure e) (λ f. expect mark toks.now ≡ Err f)) }
+        (λ e. StopsAs e (expect mark toks.now)) }
     ensures shorter { IfOk result (λ rest. length rest.now ≤ length toks.now) }
 {
     match toks.split_first() {

@@ -6,11 +6,12 @@ ghost use Rattle.stm_terms.specs.Names.{is_name_text};
 ghost use Rattle.stm_terms.specs.ParsedAst.{IsSpan, NamesWithin, raw_term_of};
 ghost use Rattle.stm_parse.specs.Declarations.{declaration_tree_of, init_of, declaration_in, declaration_of, parsed_initial};
 ghost use Rattle.stm_terms.specs.Limits.{most_refs};
-ghost use Rattle.stm_terms.specs.UnlessNoMemory.{AnswersAs};
+ghost use Rattle.stm_terms.specs.UnlessNoMemory.{AnswersUnless};
 ghost use Rattle.stm_parse.specs.Grammar.{DeclarationTree, IsDeclaration};
 ghost use Rattle.stm_parse.specs.ParseFunction.{parsed_declaration};
-ghost use Rattle.stm_parse.specs.ParseResult.{IsTextOf, IsReported, OrNoMemory, told_parse_fault};
-ghost use Rattle.stm_parse.specs.Descent.{told_failure, declaration_reader, whole};
+ghost use Rattle.stm_parse.specs.ParseResult.{IsTextOf, IsReported};
+ghost use Rattle.stm_parse.specs.Descent.{declaration_reader, whole};
+ghost use Rattle.stm_parse.specs.DescentResults.{GivesResult};
 
 use crate::block::{fault_of_failure, lexed};
 use crate::cursor::unexpected;
@@ -70,7 +71,7 @@ fn owned(alloc: Global, text: &str, raw: RawDeclaration) -> Result<Declaration, 
 }
 
 fn whole_declaration(toks: &[Lexeme]) -> Result<RawDeclaration, Failure>
-    ensures gives { AnswersAs told_failure declaration_tree_of result
+    ensures gives { GivesResult declaration_tree_of result
         (whole declaration_reader toks.now) }
     ensures few { IfOk result (λ d. d.ty.refs ≤ most_refs) }
 {
@@ -84,7 +85,7 @@ fn whole_declaration(toks: &[Lexeme]) -> Result<RawDeclaration, Failure>
 
 /// The declaration that a text writes.
 ///
-/// docs/LANGUAGE.md, "Grammar", has the productions, and "Which fault of the grammar is told" the order of the faults.
+/// docs/LANGUAGE.md, "Grammar", has the productions, and "Which grammar error is reported" the order of the faults.
 pub fn parse_declare(alloc: Global, text: &str) -> Result<Declaration, ParseFault>
     // What is read is a text of the declaration, and a fault is the one to be reported.
     ensures right { MatchResult result
@@ -93,9 +94,10 @@ pub fn parse_declare(alloc: Global, text: &str) -> Result<Declaration, ParseFaul
         (λ e. IsReported IsDeclaration text.now e) }
     // Each text is read, with its one tree, unless memory runs out.
     ensures only { (t : DeclarationTree) → IsTextOf IsDeclaration text.now t
-        → OrNoMemory result (λ d. declaration_of d ≡ declaration_in text.now t) }
+        → MatchResult result (λ d. declaration_of d ≡ declaration_in text.now t)
+        (λ e. e ≡ ParseFault.NoMemory) }
     // The answer is a function of the text.
-    ensures answer { AnswersAs told_parse_fault declaration_of result
+    ensures answer { AnswersUnless ParseFault.NoMemory declaration_of result
         (parsed_declaration text.now) }
     ensures name { IfOk result (λ d. is_name_text (string_bytes d.name) ≡ true) }
     ensures few { IfOk result (λ d. d.ty.refs ≤ most_refs) }

@@ -4,11 +4,12 @@ ghost use Rattle.std.specs.Prelude.{◌≡◌, length, true, MatchResult, IfOk, 
 ghost use Rattle.std.specs.Str.{IsAscii};
 ghost use Rattle.stm_terms.specs.Names.{is_name_text};
 ghost use Rattle.stm_terms.specs.ParsedAst.{IsSpan, NamesWithin, raw_term_of};
-ghost use Rattle.stm_terms.specs.UnlessNoMemory.{AnswersAs};
-ghost use Rattle.stm_parse.specs.Descent.{told_failure, whole};
+ghost use Rattle.stm_terms.specs.UnlessNoMemory.{AnswersUnless};
+ghost use Rattle.stm_parse.specs.Descent.{whole};
+ghost use Rattle.stm_parse.specs.DescentResults.{GivesResult};
 ghost use Rattle.stm_parse.specs.ExpectationFunction.{expectation_reader, parsed_expectation};
 ghost use Rattle.stm_parse.specs.Expectations.{ExpectationTree, IsExpectation, expectation_tree_of, expectation_in, expectation_of};
-ghost use Rattle.stm_parse.specs.ParseResult.{IsTextOf, IsReported, OrNoMemory, told_parse_fault};
+ghost use Rattle.stm_parse.specs.ParseResult.{IsTextOf, IsReported};
 
 use crate::block::{fault_of_failure, lexed};
 use crate::cursor::{expect_name, unexpected};
@@ -46,7 +47,7 @@ fn owned(alloc: Global, text: &str, raw: RawExpectation) -> Result<Expectation, 
 }
 
 fn whole_expectation(toks: &[Lexeme]) -> Result<RawExpectation, Failure>
-    ensures { AnswersAs told_failure expectation_tree_of result
+    ensures { GivesResult expectation_tree_of result
         (whole expectation_reader toks.now) }
 {
     let (name, rest) = expect_name(toks)?;
@@ -63,7 +64,7 @@ fn whole_expectation(toks: &[Lexeme]) -> Result<RawExpectation, Failure>
 
 /// What a text expects of a variable.
 ///
-/// docs/LANGUAGE.md, "Grammar", has the productions, and "Which fault of the grammar is told" the order of the faults.
+/// docs/LANGUAGE.md, "Grammar", has the productions, and "Which grammar error is reported" the order of the faults.
 pub fn parse_expectation(alloc: Global, text: &str) -> Result<Expectation, ParseFault>
     // What is read is a text of the expectation, and a fault is the one to be reported.
     ensures right { MatchResult result
@@ -72,9 +73,10 @@ pub fn parse_expectation(alloc: Global, text: &str) -> Result<Expectation, Parse
         (λ e. IsReported IsExpectation text.now e) }
     // Each text is read, with its one tree, unless memory runs out.
     ensures only { (t : ExpectationTree) → IsTextOf IsExpectation text.now t
-        → OrNoMemory result (λ d. expectation_of d ≡ expectation_in text.now t) }
+        → MatchResult result (λ d. expectation_of d ≡ expectation_in text.now t)
+        (λ e. e ≡ ParseFault.NoMemory) }
     // The answer is a function of the text.
-    ensures answer { AnswersAs told_parse_fault expectation_of result
+    ensures answer { AnswersUnless ParseFault.NoMemory expectation_of result
         (parsed_expectation text.now) }
     ensures name { IfOk result (λ d. is_name_text (string_bytes d.name) ≡ true) }
 {

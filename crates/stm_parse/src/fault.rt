@@ -4,7 +4,7 @@ use std::alloc::{AllocError, AllocFailed};
 
 /// Why a text is no block, no declaration, no expectation, or has no tokens. Places are byte offsets from 0.
 ///
-/// docs/LANGUAGE.md, "Which fault of the grammar is told", says which one is reported first.
+/// docs/LANGUAGE.md, "Which grammar error is reported", says which one is reported first.
 #[derive(Clone, Copy, PartialEq, Eq, Debug)]
 pub enum ParseFault {
     /// A byte that begins no token.

@@ -1,6 +1,6 @@
 //! The tokens of a text as the grammar sees them, in one pass over its bytes.
 
-ghost use Rattle.std.specs.Prelude.{◌≡◌, ◌-◌, ◌<◌, ◌≤◌, ◌∷◌, length, take, drop, map, true, MatchResult, IfOk, IfErr, IfSome, Ok, Err};
+ghost use Rattle.std.specs.Prelude.{◌≡◌, ◌≢◌, ◌-◌, ◌<◌, ◌≤◌, ◌∷◌, length, take, drop, map, true, MatchResult, IfOk, IfErr, IfSome, Ok, Err};
 ghost use Rattle.std.specs.List.{list_all};
 ghost use Rattle.std.specs.Str.{IsAscii};
 ghost use Rattle.stm_terms.specs.Names.{is_word_byte, starts_lower};
@@ -8,7 +8,7 @@ ghost use Rattle.stm_parse.specs.declared.token.TokenKind.TheVariants as tok;
 ghost use Rattle.stm_parse.specs.declared.tokenizer.TokenClass.TheVariants as kind;
 ghost use Rattle.stm_parse.specs.Bytes.{is_letter, longest_word, word_len, number_len, number_of_digits};
 ghost use Rattle.stm_parse.specs.Lexing.{control_mark, action_mark, choice_mark, value_mark, word_mark, token_kind_of, class_of, token_of};
-ghost use Rattle.stm_parse.specs.ParseResult.{Lexes, told_parse_fault};
+ghost use Rattle.stm_parse.specs.ParseResult.{Lexes};
 ghost use Rattle.stm_parse.specs.LexerStep.{front_seen, IsSeen};
 ghost use Rattle.stm_parse.specs.NameTokens.{NamesOf};
 ghost use Rattle.stm_parse.specs.Tokenizer.{symbol_front, word_front, number_front, front_of, tokens_of, SpansRise, IsOfTokens, IsWithin};
@@ -24,7 +24,7 @@ use std::alloc::Global;
 // The most tokens that room is made for before the first is found.
 const FIRST_ROOM: usize = 32;
 
-/// What stands at the front of some bytes, a token with what the grammar sees in it and its length.
+/// What is at the front of some bytes, a token with what the grammar sees in it and its length.
 #[derive(Clone, Copy)]
 pub enum Piece {
     Blank,
@@ -65,7 +65,7 @@ fn action_mark(word: &[u8]) -> Option<Mark>
     }
 }
 
-// A word that ends a branch, or says what runs where one ended so.
+// A word that ends a branch, or says what runs after one that ended so.
 #[tactic(auto, unfolding(crate::specs::Lexing::choice_mark, crate::specs::Lexing::class_of))]
 fn choice_mark(word: &[u8]) -> Option<Mark>
     ensures mark { result ≡ choice_mark word.now }
@@ -196,7 +196,7 @@ fn number_piece(bytes: &[u8]) -> Piece
     }
 }
 
-/// What stands at the front of some bytes.
+/// What is at the front of some bytes.
 #[tactic(auto, unfolding(crate::specs::Tokenizer::front_of), using(crate::proofs::Words::letter_not_blank))]
 pub(crate) fn first_piece(bytes: &[u8]) -> Piece
     ensures front { front_seen result ≡ front_of bytes.now }
@@ -231,7 +231,7 @@ fn piece_at(bytes: &[u8], place: usize) -> Piece
 /// The faults are `BadByte`, `BadNumber` and `NameTooLong`.
 pub fn lexemes(alloc: Global, text: &str) -> Result<Vec<Lexeme>, ParseFault>
     ensures cuts { MatchResult result (λ v. Lexes text.now v.items)
-        (λ e. IfSome (told_parse_fault e) (λ f. tokens_of text.now ≡ Err f)) }
+        (λ e. e ≢ ParseFault.NoMemory → tokens_of text.now ≡ Err e) }
     ensures classes { IfOk result (λ v. tokens_of text.now ≡ Ok (map token_of v.items)) }
     ensures rise { IfOk result (λ v. SpansRise 0 (length text.now) (map token_of v.items)) }
     // So each place of the text is between characters.
@@ -244,7 +244,7 @@ pub fn lexemes(alloc: Global, text: &str) -> Result<Vec<Lexeme>, ParseFault>
 
 fn cut_lexemes(alloc: Global, bytes: &[u8]) -> Result<Vec<Lexeme>, ParseFault>
     ensures cuts { MatchResult result (λ v. Lexes bytes.now v.items)
-        (λ e. IfSome (told_parse_fault e) (λ f. tokens_of bytes.now ≡ Err f)) }
+        (λ e. e ≢ ParseFault.NoMemory → tokens_of bytes.now ≡ Err e) }
     ensures classes { IfOk result (λ v. tokens_of bytes.now ≡ Ok (map token_of v.items)) }
     ensures rise { IfOk result (λ v. SpansRise 0 (length bytes.now) (map token_of v.items)) }
     ensures names { IfOk result (λ v. NamesOf bytes.now v.items) }

@@ -1,13 +1,12 @@
 //! Texts: their tokens, the grammar, and the trees that blocks, declarations, expectations and types write.
 //!
-//! What a reader must believe stands in `specs/`: `Bytes` (letters, blanks, the number that digits write) and
+//! What a reader must believe is in `specs/`: `Bytes` (letters, blanks, the number that digits write) and
 //! `MaximalMunch` (which tokens a text has, or which fault first, as a relation), `Terminals` (reserved words and symbols
 //! as tokens), `Lexing` (reserved words, names and numbers), `Grammar` (the productions, as a relation between tokens and
-//! trees), `Faults` (which token is the first at fault), `ParseResult` (a text of the grammar, which fault is reported of
-//! any other text, and that an out-of-memory error tells none), `Declarations` (what callers see of a declaration), and
-//! `Expectations` (the production of an expectation, and what callers see of it). What they see of a parsed block stands with
-//! its trees in stm_terms (`specs/ParsedBlock`). The contracts of blocks, declarations and expectations rest on these relations
-//! alone. `Laws` says that a text has one tree or one fault and how operators group, and `TypeTexts` that the text of a type is
+//! trees), `Faults` (which token is the first at fault), `ParseResult` (a text of the grammar, and which fault is reported of
+//! any other text), `Declarations` (what callers see of a declaration), and `Expectations` (the production of an expectation,
+//! and what callers see of it). What they see of a parsed block is with its trees in stm_terms (`specs/ParsedBlock`). The
+//! contracts of blocks, declarations and expectations rest on these relations alone. `Laws` says that a text has one tree or one fault and how operators group, and `TypeTexts` that the text of a type is
 //! read back.
 //!
 //! Contracts also cite two functions that say this in another way, and laws say that they are right. `tokens_of` in

@@ -15,5 +15,5 @@ pub const LONGEST_WORD: usize = 32;
 /// The most digits of a number.
 pub const MOST_DIGITS: usize = 19;
 
-/// The greatest number that is written: behind a minus it is an `Int`.
+/// The greatest number that is written: after a minus it is an `Int`.
 pub const GREATEST_WRITTEN: u64 = 9_223_372_036_854_775_808;

@@ -2,9 +2,8 @@
 
 ghost use Rattle.std.specs.Prelude.{◌≡◌, length, map, IfOk, IfErr, Ok};
 ghost use Rattle.std.specs.Str.{IsAscii};
-ghost use Rattle.stm_terms.specs.UnlessNoMemory.{AnswersAs};
+ghost use Rattle.stm_terms.specs.UnlessNoMemory.{AnswersUnless};
 ghost use Rattle.stm_parse.specs.Lexing.{class_of, token_of};
-ghost use Rattle.stm_parse.specs.ParseResult.{told_parse_fault};
 ghost use Rattle.stm_parse.specs.Tokenizer.{tokens_of, SpansRise, IsOfTokens};
 
 use crate::fault::ParseFault;
@@ -49,7 +48,7 @@ fn class_of(sym: TokenKind) -> TokenClass
 
 // The tokens as callers see them.
 fn with_classes(alloc: Global, toks: &[Lexeme]) -> Result<Vec<Token>, ParseFault>
-    ensures { AnswersAs told_parse_fault (λ v. v.items) result (Ok (map token_of toks.now)) }
+    ensures { AnswersUnless ParseFault.NoMemory (λ v. v.items) result (Ok (map token_of toks.now)) }
 {
     let mut out = Vec::with_capacity(alloc, toks.len())?;
     for tok in toks {
@@ -66,7 +65,7 @@ fn with_classes(alloc: Global, toks: &[Lexeme]) -> Result<Vec<Token>, ParseFault
 ///
 /// The faults are `BadByte`, `BadNumber` and `NameTooLong`.
 pub fn tokens(alloc: Global, text: &str) -> Result<Vec<Token>, ParseFault>
-    ensures cuts { AnswersAs told_parse_fault (λ v. v.items) result (tokens_of text.now) }
+    ensures cuts { AnswersUnless ParseFault.NoMemory (λ v. v.items) result (tokens_of text.now) }
     // So each place of the text is between characters.
     ensures ascii { IfOk result (λ v. IsAscii text.now) }
     ensures rise { IfOk result (λ v. SpansRise 0 (length text.now) v.items) }

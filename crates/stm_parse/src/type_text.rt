@@ -2,10 +2,11 @@
 
 ghost use Rattle.std.specs.Prelude.{◌≡◌, ◌≤◌, MatchResult, IfOk};
 ghost use Rattle.stm_terms.specs.Limits.{most_refs};
-ghost use Rattle.stm_terms.specs.UnlessNoMemory.{AnswersAs};
+ghost use Rattle.stm_terms.specs.UnlessNoMemory.{AnswersUnless};
 ghost use Rattle.stm_terms.specs.declared.kinds.Ty.{Ty as AnyType};
-ghost use Rattle.stm_parse.specs.Descent.{told_failure, whole};
-ghost use Rattle.stm_parse.specs.ParseResult.{IsTextOf, IsReported, OrNoMemory, told_parse_fault};
+ghost use Rattle.stm_parse.specs.Descent.{whole};
+ghost use Rattle.stm_parse.specs.DescentResults.{GivesResult};
+ghost use Rattle.stm_parse.specs.ParseResult.{IsTextOf, IsReported};
 ghost use Rattle.stm_parse.specs.TypeFunction.{IsWholeType, type_reader, parsed_type};
 
 use crate::block::{fault_of_failure, lexed};
@@ -18,7 +19,7 @@ use std::alloc::Global;
 use stm_terms::Ty;
 
 fn whole_type(toks: &[Lexeme]) -> Result<Ty, Failure>
-    ensures gives { AnswersAs told_failure (λ t. t) result (whole type_reader toks.now) }
+    ensures gives { GivesResult (λ t. t) result (whole type_reader toks.now) }
     ensures few { IfOk result (λ t. t.refs ≤ most_refs) }
 {
     let (ty, rest) = type_within(DEEPEST, 0, toks)?;
@@ -31,16 +32,16 @@ fn whole_type(toks: &[Lexeme]) -> Result<Ty, Failure>
 
 /// The type that a text writes, read as after the colon of a declaration.
 ///
-/// docs/LANGUAGE.md, "Grammar", has the productions, and "Which fault of the grammar is told" the order of the faults.
+/// docs/LANGUAGE.md, "Grammar", has the productions, and "Which grammar error is reported" the order of the faults.
 pub fn parse_type(alloc: Global, text: &str) -> Result<Ty, ParseFault>
     // What is read is a text of the type, and a fault is the one to be reported.
     ensures right { MatchResult result (λ t. IsTextOf IsWholeType text.now t)
         (λ e. IsReported IsWholeType text.now e) }
     // Each text is read, with its one type, unless memory runs out.
     ensures only { (t : AnyType) → IsTextOf IsWholeType text.now t
-        → OrNoMemory result (λ u. u ≡ t) }
+        → MatchResult result (λ u. u ≡ t) (λ e. e ≡ ParseFault.NoMemory) }
     // The answer is a function of the text.
-    ensures answer { AnswersAs told_parse_fault (λ t. t) result (parsed_type text.now) }
+    ensures answer { AnswersUnless ParseFault.NoMemory (λ t. t) result (parsed_type text.now) }
     ensures few { IfOk result (λ t. t.refs ≤ most_refs) }
 {
     let toks = lexed(alloc, text)?;

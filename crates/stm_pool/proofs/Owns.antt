@@ -1,7 +1,7 @@
 -- A client's list one event longer.
-use Rattle.std.proofs.Common.{◌≡◌, ℕ, ◌+◌, List, [], ◌∷◌, ◌++◌, length, Bool, true, false, ◌&&◌, refl, ap, ◌∙◌, arith, eq-eqb, length-append}
+use Rattle.std.proofs.Common.{◌≡◌, ℕ, ◌+◌, List, [], ◌∷◌, ◌++◌, length, Bool, true, false, ◌&&◌, refl, ap, ◌∙◌, eq-eqb, length-append}
 use Rattle.stm_events.specs.declared.event.Event.{Event}
-use Rattle.stm_pool.specs.Own.{Known, are_of, events_in_passes}
+use Rattle.stm_pool.specs.Own.{are_of}
 
 and_true : (a b : Bool) → (a && b) ≡ true → (a ≡ true) × (b ≡ true)
 and_true true b e = (refl, e)
@@ -21,7 +21,3 @@ more_of client own now e is all by = (
   ap length is ∙ length-append own (e ∷ []),
   ap (are_of client) is ∙ are_of-push client own e all by,
 )
-
-pub events-push : (ps : List Known) (p : Known) → events_in_passes (ps ++ p ∷ []) ≡ events_in_passes ps + length p.own
-events-push [] p = omega arith
-events-push (x ∷ ps) p = omega (arith, events-push ps p)

@@ -1,10 +1,7 @@
 -- Work upon work.
-use Rattle.std.proofs.Common.{◌≡◌, ℕ, Bool, true, false, ◌&&◌, List, [], ◌∷◌, ◌++◌, refl, sym, ap, ◌∙◌, append_assoc, append-nil}
+use Rattle.std.proofs.Common.{◌≡◌, Bool, true, false, ◌&&◌, List, [], ◌∷◌, ◌++◌, refl, ap, ◌∙◌, append_assoc}
 use Rattle.stm_events.specs.declared.event.Event.{Event}
-use Rattle.stm_terms.specs.declared.verdicts.Verdict.{Verdict}
-use Rattle.stm_events.specs.declared.event.What.TheVariants.{Installed}
-use Rattle.stm_machine.specs.Machine.{event}
-use Rattle.stm_pool.specs.Own.{Known, with_own}
+use Rattle.stm_pool.specs.Own.{Known}
 use Rattle.stm_pool.specs.Worked.{Worked, are_installed}
 
 and_true : (a b : Bool) → (a && b) ≡ true → (a ≡ true) × (b ≡ true)
@@ -18,22 +15,6 @@ are_installed-append : (xs ys : List Event) → are_installed xs ≡ true → ar
 are_installed-append [] ys p q = q
 are_installed-append (x ∷ xs) ys p q =
     let t = and_true _ _ p in both_true _ _ t.0 (are_installed-append xs ys t.1 q)
-
-pub worked_same : (k new : Known) → new ≡ k → Worked k new
-worked_same k new is = record {
-  client = ap (λ (x : Known). x.client) is;
-  added = [];
-  own = ap (λ (x : Known). x.own) is ∙ sym (append-nil k.own);
-  installed = refl;
-}
-
-pub worked_once : (k new : Known) (by t : ℕ) (v : Verdict) → new ≡ with_own k (event by (Installed t v)) → Worked k new
-worked_once k new by t v is = record {
-  client = ap (λ (x : Known). x.client) is;
-  added = event by (Installed t v) ∷ [];
-  own = ap (λ (x : Known). x.own) is;
-  installed = refl;
-}
 
 pub worked_on : (a b c : Known) → Worked a b → Worked b c → Worked a c
 worked_on a b c p q = record {

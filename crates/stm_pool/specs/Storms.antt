@@ -3,6 +3,7 @@ use Rattle.std.specs.Prelude.{◌≡◌, ℕ, ◌+◌, Bool, true, false, List, 
 use Rattle.stm_events.specs.declared.event.Event.{Event}
 use Rattle.stm_events.specs.declared.event.What.{What}
 use Rattle.stm_events.specs.declared.event.What.TheVariants.{Submitted, Installed, Finished, Cancelled}
+use Rattle.stm_events.specs.SlowSettle.{is_finish}
 use Rattle.stm_pool.specs.declared.storm.Counts.{Counts}
 use Rattle.stm_pool.specs.declared.close.Report.{Report}
 use Rattle.stm_pool.specs.Own.{own_of}
@@ -14,14 +15,7 @@ is_submission (Installed t v) = false
 is_submission (Finished t v n stale) = false
 is_submission (Cancelled t) = false
 
--- a waiting block left with its verdict
-abbrev pub is_finished : What → Bool
-is_finished (Submitted t block) = false
-is_finished (Installed t v) = false
-is_finished (Finished t v n stale) = true
-is_finished (Cancelled t) = false
-
--- a waiting block left without one
+-- a waiting block was cancelled
 abbrev pub is_cancelled : What → Bool
 is_cancelled (Submitted t block) = false
 is_cancelled (Installed t v) = false
@@ -36,7 +30,7 @@ how_many kind (e ∷ es) = if kind e.what then how_many kind es + 1 else how_man
 -- a client's counts are those of its events
 pub record CountsEvents (own : List Event) (c : Counts) : Type 0 where
   pub submitted : c.submitted ≡ how_many is_submission own
-  pub finished : c.finished ≡ how_many is_finished own
+  pub finished : c.finished ≡ how_many is_finish own
   pub cancelled : c.cancelled ≡ how_many is_cancelled own
 
 -- the same of the clients from this one on, one after another

@@ -4,10 +4,10 @@
 
 ghost use Rattle.std.specs.Prelude.{◌≡◌, ◌<◌, List, IfOk, OnOk, IfErr, OnErr, IfSome};
 ghost use Rattle.stm_store.specs.Tables.{Declared};
-ghost use Rattle.stm_eval.specs.EvaluatedFields.{message_ticket, message_verdict};
 ghost use Rattle.stm_machine.specs.Machine.{event};
 ghost use Rattle.stm_events.specs.declared.event.Event.{Event as AnyEvent};
-ghost use Rattle.stm_events.specs.declared.event.What.{What as AnyWhat};
+ghost use Rattle.stm_events.specs.declared.event.What.TheVariants.{Submitted, Cancelled};
+ghost use Rattle.stm_desk.specs.Events.{installation_of, finish_of};
 ghost use Rattle.stm_pool.specs.Own.{with_own};
 ghost use Rattle.stm_pool.specs.Found.{IsFound};
 ghost use Rattle.stm_pool.specs.Shown.{IsShown, IsPresentView};
@@ -41,7 +41,7 @@ impl<L: Ledger> SharedDesk<L> {
         block: SharedBlock,
     ) -> Result<u32, SubmitError>
         ensures ok { IfOk result (λ t. pass.new
-            ≡ with_own pass.old (event pass.old.client (AnyWhat.Submitted t block))) }
+            ≡ with_own pass.old (event pass.old.client (Submitted t block))) }
         ensures err { OnErr result (pass.new ≡ pass.old) }
     {
         let answer = self.lock.lock(rt).submit(pass, block);
@@ -60,7 +60,7 @@ impl<L: Ledger> SharedDesk<L> {
         ticket: u32,
     ) -> Result<Finish, FinishError>
         ensures ok { IfOk result (λ f. pass.new ≡ with_own pass.old (event pass.old.client
-            (AnyWhat.Finished ticket f.verdict f.applied.first_new f.stale))) }
+            (finish_of ticket f))) }
         ensures err { OnErr result (pass.new ≡ pass.old) }
     {
         let answer = self.lock.lock(rt).finish(pass, ticket);
@@ -79,7 +79,7 @@ impl<L: Ledger> SharedDesk<L> {
         ticket: u32,
     ) -> Result<(), CancelError>
         ensures ok { OnOk result (pass.new
-            ≡ with_own pass.old (event pass.old.client (AnyWhat.Cancelled ticket))) }
+            ≡ with_own pass.old (event pass.old.client (Cancelled ticket))) }
         ensures err { OnErr result (pass.new ≡ pass.old) }
     {
         let answer = self.lock.lock(rt).cancel(pass, ticket);
@@ -97,7 +97,7 @@ impl<L: Ledger> SharedDesk<L> {
         message: Evaluated,
     ) -> Result<(), (Evaluated, DeliverError)>
         ensures ok { OnOk result (pass.new ≡ with_own pass.old (event pass.old.client
-            (AnyWhat.Installed (message_ticket message) (message_verdict message)))) }
+            (installation_of message))) }
         ensures err { OnErr result (pass.new ≡ pass.old) }
         ensures back { IfErr result (λ e. e.0 ≡ message) }
     {

@@ -1,15 +1,17 @@
 //! The desk under its lock: what each call does that is lent the desk and a pass.
 
-ghost use Rattle.std.specs.Prelude.{◌≡◌, ◌≢◌, ◌<◌, ◌⊎◌, ℕ, false, Some, None, length, option_map, is_some, IfOk, OnOk, IfErr, OnErr, IfSome};
+ghost use Rattle.std.specs.Prelude.{◌≡◌, ◌≢◌, ◌<◌, ◌⊎◌, false, Some, length, option_map, is_some, IfOk, OnOk, IfErr, OnErr, IfSome};
+ghost use Rattle.stm_terms.specs.UnlessNoMemory.{RefusedAs};
 ghost use Rattle.stm_store.specs.Cells.{plains, Covers, applied_answer as told_of};
-ghost use Rattle.stm_eval.specs.EvaluatedFields.{message_ticket, message_block, message_reads, message_verdict};
-ghost use Rattle.stm_events.specs.declared.event.What.{What as AnyWhat};
+ghost use Rattle.stm_eval.specs.EvaluatedFields.{message_ticket};
+ghost use Rattle.stm_events.specs.declared.event.What.TheVariants.{Submitted, Cancelled};
 ghost use Rattle.stm_machine.specs.JobsHandedOut.{block_at};
 ghost use Rattle.stm_machine.specs.Machine.{event};
-ghost use Rattle.stm_events.specs.Refusals.{submit_told, cancel_told, finish_told, deliver_told};
+ghost use Rattle.stm_events.specs.Refusals.{without_message};
 ghost use Rattle.stm_queue.specs.Queue.{is_out, marked, first_queued, sent_out};
-ghost use Rattle.stm_desk.specs.Seen.{now, with_event};
-ghost use Rattle.stm_desk.specs.Refusals.{submit_refusal, cancel_refusal, finish_refusal, TellsDeskDelivery, left_by};
+ghost use Rattle.stm_desk.specs.DeskView.{state_of, with_event};
+ghost use Rattle.stm_desk.specs.Events.{installation_of, finish_of};
+ghost use Rattle.stm_desk.specs.Refusals.{submit_refusal, cancel_refusal, finish_refusal, RefusesDelivery, requeued_if_overtaken};
 ghost use Rattle.stm_pool.specs.Own.{own_of, with_own, events_in_passes};
 ghost use Rattle.stm_pool.specs.Shown.{IsShown, IsPresentView};
 ghost use Rattle.stm_pool.specs.Closing.{close_told, TellsClose, MayClose, ClosingTells};
@@ -51,12 +53,12 @@ impl<L: Ledger> Guarded<L> {
     /// `NoMemory` can stand before the desk's own refusals.
     pub fn submit(&mut self, pass: &mut Pass<L>, block: SharedBlock) -> Result<u32, SubmitError>
         ensures desk { IfOk result (λ t. self.new.desk
-            ≡ with_event self.old.desk (event pass.old.client (AnyWhat.Submitted t block))) }
+            ≡ with_event self.old.desk pass.old.client (Submitted t block)) }
         ensures pass { IfOk result (λ t. pass.new
-            ≡ with_own pass.old (event pass.old.client (AnyWhat.Submitted t block))) }
-        ensures allowed { OnOk result (submit_refusal self.old.desk block ≡ None) }
-        ensures refused { (e : SubmitError) → submit_told result ≡ Some e
-            → submit_refusal self.old.desk block ≡ Some e }
+            ≡ with_own pass.old (event pass.old.client (Submitted t block))) }
+        // Unless memory runs out first, it is refused as the desk's own call is.
+        ensures refused { result ≢ Err SubmitError.NoMemory
+            → RefusedAs SubmitError.NoMemory (submit_refusal self.old.desk block) result }
         ensures err { OnErr result ((self.new.desk ≡ self.old.desk) × (pass.new ≡ pass.old)) }
         ensures stopped { self.new.stopped ≡ self.old.stopped }
     {
@@ -80,12 +82,12 @@ impl<L: Ledger> Guarded<L> {
     /// desk's own refusals.
     pub fn cancel(&mut self, pass: &mut Pass<L>, ticket: u32) -> Result<(), CancelError>
         ensures desk { OnOk result (self.new.desk
-            ≡ with_event self.old.desk (event pass.old.client (AnyWhat.Cancelled ticket))) }
+            ≡ with_event self.old.desk pass.old.client (Cancelled ticket)) }
         ensures pass { OnOk result (pass.new
-            ≡ with_own pass.old (event pass.old.client (AnyWhat.Cancelled ticket))) }
-        ensures allowed { OnOk result (cancel_refusal self.old.desk ticket ≡ None) }
-        ensures refused { (e : CancelError) → cancel_told result ≡ Some e
-            → cancel_refusal self.old.desk ticket ≡ Some e }
+            ≡ with_own pass.old (event pass.old.client (Cancelled ticket))) }
+        // Unless memory runs out first, it is refused as the desk's own call is.
+        ensures refused { result ≢ Err CancelError.NoMemory
+            → RefusedAs CancelError.NoMemory (cancel_refusal self.old.desk ticket) result }
         ensures err { OnErr result ((self.new.desk ≡ self.old.desk) × (pass.new ≡ pass.old)) }
         ensures stopped { self.new.stopped ≡ self.old.stopped }
     {
@@ -104,13 +106,13 @@ impl<L: Ledger> Guarded<L> {
     /// `Desk::finish`; the event joins the pass's list too.
     pub fn finish(&mut self, pass: &mut Pass<L>, ticket: u32) -> Result<Finish, FinishError>
         ensures desk { IfOk result (λ f. self.new.desk
-            ≡ with_event self.old.desk (event pass.old.client
-            (AnyWhat.Finished ticket f.verdict f.applied.first_new f.stale))) }
+            ≡ with_event self.old.desk pass.old.client
+            (finish_of ticket f)) }
         ensures pass { IfOk result (λ f. pass.new ≡ with_own pass.old (event pass.old.client
-            (AnyWhat.Finished ticket f.verdict f.applied.first_new f.stale))) }
+            (finish_of ticket f))) }
         ensures applied { IfOk result (λ f.
-            f.applied ≡ told_of (now self.old.desk).store f.verdict) }
-        ensures told { finish_told result ≡ finish_refusal self.old.desk ticket }
+            f.applied ≡ told_of (state_of self.old.desk).store f.verdict) }
+        ensures refused { RefusedAs FinishError.NoMemory (finish_refusal self.old.desk ticket) result }
         ensures err { OnErr result ((self.new.desk ≡ self.old.desk) × (pass.new ≡ pass.old)) }
         ensures stopped { self.new.stopped ≡ self.old.stopped }
     {
@@ -129,18 +131,16 @@ impl<L: Ledger> Guarded<L> {
         message: Evaluated,
     ) -> Result<(), (Evaluated, DeliverError)>
         ensures desk { OnOk result (self.new.desk
-            ≡ with_event self.old.desk (event pass.old.client
-            (AnyWhat.Installed (message_ticket message) (message_verdict message)))) }
+            ≡ with_event self.old.desk pass.old.client
+            (installation_of message)) }
         ensures pass { OnOk result (pass.new ≡ with_own pass.old (event pass.old.client
-            (AnyWhat.Installed (message_ticket message) (message_verdict message)))) }
-        ensures allowed { OnOk result (TellsDeskDelivery None self.old.desk
-            (message_ticket message) (message_block message) (message_reads message)) }
-        ensures refused { (e : DeliverError) → deliver_told result ≡ Some e
-            → TellsDeskDelivery (Some e) self.old.desk
-            (message_ticket message) (message_block message) (message_reads message) }
+            (installation_of message))) }
+        // Unless memory runs out first, it is refused as the desk's own call is.
+        ensures refused { without_message result ≢ Err DeliverError.NoMemory
+            → RefusesDelivery (without_message result) self.old.desk message }
         ensures back { IfErr result (λ e. e.0 ≡ message) }
         ensures left { IfErr result (λ e. self.new.desk
-            ≡ left_by e.1 (message_ticket message) self.old.desk) }
+            ≡ requeued_if_overtaken e.1 (message_ticket message) self.old.desk) }
         ensures err { OnErr result (pass.new ≡ pass.old) }
         ensures stopped { self.new.stopped ≡ self.old.stopped }
     {
@@ -169,8 +169,8 @@ impl<L: Ledger> Guarded<L> {
         ensures ticket { IfOk result (λ r.
             option_map (λ j. j.1.ticket) r ≡ first_queued self.old.desk.pending) }
         ensures block { IfOk result (λ r. IfSome r (λ j.
-            block_at (now self.old.desk) j.1.ticket ≡ Some j.1.block)) }
-        ensures store { IfOk result (λ r. IfSome r (λ j. j.0 ≡ plains (now self.old.desk).store)) }
+            block_at (state_of self.old.desk) j.1.ticket ≡ Some j.1.block)) }
+        ensures store { IfOk result (λ r. IfSome r (λ j. j.0 ≡ plains (state_of self.old.desk).store)) }
         ensures covered { IfOk result (λ r. IfSome r (λ j. Covers j.0 j.1.block.uses)) }
         ensures out { OnOk result (self.new.desk
             ≡ record self.old.desk {

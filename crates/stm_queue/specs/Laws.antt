@@ -1,4 +1,4 @@
--- What each change of the list does to who is there: queued or out.
+-- Which tickets are in the list, queued or out, after each change of it.
 use Rattle.std.specs.Prelude.{◌≡◌, ℕ, Bool, true, not, ◌&&◌, ◌||◌, nat_eq, List, Option, Some, slice_get}
 use Rattle.stm_queue.specs.Queue.{Entry, has_ticket, with_entry, without_ticket, marked, sent_out, recalled, queued}
 
@@ -10,18 +10,18 @@ AddedAreThere = (u : ℕ) (e : Entry) (es : List Entry) → has_ticket u (with_e
 abbrev pub RemovedAreGone : Type 0
 RemovedAreGone = (u t : ℕ) (es : List Entry) → has_ticket u (without_ticket t es) ≡ (not (nat_eq u t) && has_ticket u es)
 
--- who is queued and who is out may change while nobody comes or goes
+-- a mark changes whether a ticket is out, and not which tickets are in the list
 abbrev pub MarksKeepTickets : Type 0
 MarksKeepTickets = (u t : ℕ) (out : Bool) (es : List Entry) → has_ticket u (marked t out es) ≡ has_ticket u es
 
--- who is there stays so where a queued ticket is taken
+-- the same if a queued ticket is taken
 abbrev pub SendingKeepsTickets : Type 0
 SendingKeepsTickets = (u : ℕ) (sent : Option ℕ) (es : List Entry) → has_ticket u (sent_out sent es) ≡ has_ticket u es
 
--- and where all tickets are called back
+-- and if all tickets are called back
 abbrev pub RecallKeepsTickets : Type 0
 RecallKeepsTickets = (u : ℕ) (es : List Entry) → has_ticket u (recalled es) ≡ has_ticket u es
 
--- a queued ticket is there
+-- a queued ticket is in the list
 abbrev pub QueuedAreThere : Type 0
 QueuedAreThere = (t i : ℕ) (es : List Entry) → slice_get (queued es) i ≡ Some t → has_ticket t es ≡ true

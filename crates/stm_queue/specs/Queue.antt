@@ -6,7 +6,7 @@ use Rattle.std.specs.List.{list_any, filter}
 abbrev pub Entry : Type 0
 Entry = ℕ × Bool
 
--- the tickets, rising, and the number of tickets that can be added with no memory taken
+-- the tickets in ascending order, and how many more can be added without taking memory
 pub record Queue : Type 0 where
   pub entries : List (ℕ × Bool)
   pub room : ℕ
@@ -36,7 +36,7 @@ with_ticket t es = with_entry (t, false) es
 abbrev pub without_ticket : ℕ → List Entry → List Entry
 without_ticket t es = filter (λ e. not (nat_eq t e.0)) es
 
--- the ticket, where it is there, is now out, or now queued
+-- the ticket, if it is in the list, is now out, or now queued
 abbrev pub marked : ℕ → Bool → List Entry → List Entry
 marked t out es = map (λ e. if nat_eq t e.0 then (e.0, out) else e) es
 
@@ -54,6 +54,6 @@ sent_out (Some t) es = marked t true es
 abbrev pub recalled : List Entry → List Entry
 recalled es = map (λ e. (e.0, false)) es
 
--- the queued tickets, rising
+-- the queued tickets in ascending order
 abbrev pub queued : List Entry → List ℕ
 queued es = map (λ e. e.0) (filter (λ e. not e.1) es)

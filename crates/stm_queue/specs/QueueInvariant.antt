@@ -1,6 +1,6 @@
--- The queued tickets and those that are out, each held in a list of its own, as one list.
+-- The queued tickets and those that are out, each kept in a list of its own, as one list.
 use Rattle.std.specs.Prelude.{◌≡◌, ◌+◌, ◌≤◌, ℕ, true, false, ◌&&◌, List, [], ◌∷◌, map}
-use Rattle.stm_queue.specs.Queue.{Queue, Entry, with_ticket, recalled}
+use Rattle.stm_queue.specs.Queue.{Entry, with_ticket}
 use Rattle.stm_queue.specs.SortedTickets.{IsRising, member}
 
 -- the tickets that are out
@@ -12,17 +12,10 @@ abbrev pub merged : List ℕ → List ℕ → List Entry
 merged [] out = outs out
 merged (t ∷ ts) out = with_ticket t (merged ts out)
 
--- both lists rise and share no ticket, and each has room for the tickets of both and those that may be added
+-- both lists ascend and share no ticket, and each has room for the tickets of both and those that may be added
 pub record IsKept (queued out : List ℕ) (room queued_len out_len queued_capacity out_capacity : ℕ) : Type 0 where
   pub queued_rises : IsRising queued
   pub out_rises : IsRising out
   pub apart : (t : ℕ) → (member t queued && member t out) ≡ false
   pub queued_room : queued_len + out_len + room ≤ queued_capacity
   pub out_room : queued_len + out_len + room ≤ out_capacity
-
--- while tickets are called back, the queue is kept, and calling all of them back gives what it gave at first
-pub record IsCalledBack (first : Queue) (queued out : List ℕ)
-    (room queued_len out_len queued_capacity out_capacity : ℕ) : Type 0 where
-  pub kept : IsKept queued out room queued_len out_len queued_capacity out_capacity
-  pub same : recalled (merged queued out) ≡ recalled first.entries
-  pub same_room : room ≡ first.room

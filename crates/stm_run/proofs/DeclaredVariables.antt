@@ -49,7 +49,7 @@ has_bytes bytes k (suc n) l = omega arith
 rises : (place : ℕ) (bytes : List ℕ) (told : Tokenization) → IsTokenization place bytes told → (n : ℕ) → n ≡ place + length bytes → Rises place n told
 rises place bytes told at_end n e = omega (arith, e)
 rises place bytes told (at_blank {bytes = rest} w h) n e = lower place (place + 1) n told (omega arith) (rises (place + 1) rest told h n (omega (arith, e)))
-rises place bytes told (at_token {n = m} {k = k} {told = r} l f h) n e =
+rises place bytes told (at_token {n = m} {k = k} {cut = r} l f h) n e =
     let within = l.within in
     one_before place (place + m) n k r (omega (arith, has_bytes bytes k m l)) (omega (arith, e, within)) (rises (place + m) (drop m bytes) r h n (omega (arith, e, length-drop m bytes, within)))
 rises place bytes told (at_fault l f) n e = tt

@@ -21,8 +21,8 @@ use Rattle.stm_machine.specs.JobsHandedOut.{block_at, sent}
 use Rattle.stm_events.specs.Laws.{BlocksStay}
 use Rattle.stm_events.specs.Refusals.{differing, overtaken_first, pending_left}
 use Rattle.stm_events.specs.SlowDesk.{Waiter, under, is_current, find_waiter, state, MayInstall, IsLegal}
-use Rattle.stm_desk.specs.Refusals.{left_by}
-use Rattle.stm_desk.specs.Seen.{Seen, now, is_full}
+use Rattle.stm_desk.specs.Refusals.{requeued_if_overtaken}
+use Rattle.stm_desk.specs.DeskView.{DeskView, state_of, is_full}
 use Rattle.stm_commands.specs.Evaluation.{Delivered, delivered_by, delivered_next, delivered_all, all_queued, evaluated}
 use Rattle.stm_commands.specs.Jobs.{max_jobs, job_of, jobs_of, taken, with_jobs, delivery_first, delivery_refusal, installed, job_at, jobs_line, take_jobs_step, delivery_step, deliver_job_step}
 use Rattle.stm_commands.specs.OpenDesk.{HandedOut, OpenDesk}
@@ -51,12 +51,12 @@ told_first false None true e = cc
 told_first false None false e = cc
 
 -- what a delivery is refused for is printed
-deliver_told : (store : List Cell) (o : Option Waiter) (reads : List (ℕ × Value)) (d : Seen) → delivery_first store o reads d ≡ Some deliver.NoMemory → ⊥
+deliver_told : (store : List Cell) (o : Option Waiter) (reads : List (ℕ × Value)) (d : DeskView) → delivery_first store o reads d ≡ Some deliver.NoMemory → ⊥
 deliver_told store None reads d e = cc
 deliver_told store (Some w) reads d e = told_first (is_current w) (differing (under store) reads) (is_full d) e
 
-pub refusal_told : (d : Seen) (j : HandedOut) → delivery_refusal d j ≡ Some deliver.NoMemory → ⊥
-refusal_told d j e = deliver_told (now d).store (find_waiter j.ticket (now d).waiters) (reads_of (cell_value j.store) j.block.tree) d e
+pub refusal_told : (d : DeskView) (j : HandedOut) → delivery_refusal d j ≡ Some deliver.NoMemory → ⊥
+refusal_told d j e = deliver_told (state_of d).store (find_waiter j.ticket (state_of d).waiters) (reads_of (cell_value j.store) j.block.tree) d e
 
 -- ---- jobs
 job_taken : (table : List Declared) (history : List Event) (t : ℕ) (o : Option Waiter) → find_waiter t (state table history).waiters ≡ o
@@ -73,7 +73,7 @@ jobs_taken table history (t ∷ ts) =
 pub take_stands : (d : OpenDesk) (n : ℕ) → Stands d.desk d.jobs → Stands (take_jobs_step d n).0.desk (take_jobs_step d n).0.jobs
 take_stands d n k =
     let tickets = taken d.desk n in
-    let js = jobs_of (now d.desk) tickets in
+    let js = jobs_of (state_of d.desk) tickets in
     let pending = sent (length tickets) d.desk.pending in
     either_has (λ (p : OpenDesk × List ℕ). Stands p.0.desk p.0.jobs) (nat_lt max_jobs (n + length d.jobs)) (d, refused (codes "JobsFull")) (with_jobs d tickets, jobs_line (length d.jobs + 1) tickets) k
     (stands_with (record d.desk { pending = pending }) d.jobs (d.jobs ++ js) (taken_append d.desk.table d.desk.history d.jobs js k.taken (jobs_taken d.desk.table d.desk.history tickets))
@@ -81,17 +81,17 @@ take_stands d n k =
 
 module _ (stay : BlocksStay) (stable : VerdictIsStable) where
   -- ---- a delivery
-  same_block : (d : Seen) (jobs : List HandedOut) (j : HandedOut) (w : Waiter) → WasTaken d.table d.history j → find_waiter j.ticket (now d).waiters ≡ Some w → Stands d jobs → w.block ≡ j.block
+  same_block : (d : DeskView) (jobs : List HandedOut) (j : HandedOut) (w : Waiter) → WasTaken d.table d.history j → find_waiter j.ticket (state_of d).waiters ≡ Some w → Stands d jobs → w.block ≡ j.block
   same_block d jobs j w t f k =
       stay Changed d.table t.before t.more j.ticket t.one w (subst (IsLegal d.table) t.whole k.legal) t.found
       (subst (λ (h : List Event). find_waiter j.ticket (state d.table h).waiters ≡ Some w) t.whole f) ∙ t.block
 
-  installs_by : (d : Seen) (jobs : List HandedOut) (j : HandedOut) (w : Waiter) (v : Option Verdict) → WasTaken d.table d.history j → find_waiter j.ticket (now d).waiters ≡ Some w
+  installs_by : (d : DeskView) (jobs : List HandedOut) (j : HandedOut) (w : Waiter) (v : Option Verdict) → WasTaken d.table d.history j → find_waiter j.ticket (state_of d).waiters ≡ Some w
       → verdict (cell_value j.store) j.block.tree ≡ v
-      → MayCome (is_current w) (differing (under (now d).store) (reads_of (cell_value j.store) j.block.tree)) (is_full d) → Stands d jobs → Stands (installed d j.ticket v) jobs
+      → MayCome (is_current w) (differing (under (state_of d).store) (reads_of (cell_value j.store) j.block.tree)) (is_full d) → Stands d jobs → Stands (installed d j.ticket v) jobs
   installs_by d jobs j w None t f e m k = k
   installs_by d jobs j w (Some v) t f e m k =
-      let s = now d in
+      let s = state_of d in
       let reads = reads_of (cell_value j.store) j.block.tree in
       let there : verdict (under s.store) j.block.tree ≡ Some v =
       (stable j.block.tree reads v (cell_value j.store) (under s.store) (record { verdict_is = e; reads_are = refl }) (agrees_there (under s.store) reads m.same)).verdict_is in
@@ -101,18 +101,18 @@ module _ (stay : BlocksStay) (stable : VerdictIsStable) where
       } in
       stands_event d jobs (Installed j.ticket v) m.room (subst (λ (o : Option Waiter). IsSomeAnd o (λ x. MayInstall s x v)) (sym f) may) tt k
 
-  installs_of : (d : Seen) (jobs : List HandedOut) (j : HandedOut) (o : Option Waiter) → WasTaken d.table d.history j → find_waiter j.ticket (now d).waiters ≡ o
-      → delivery_first (now d).store o (reads_of (cell_value j.store) j.block.tree) d ≡ None → Stands d jobs → Stands (installed d j.ticket (verdict (cell_value j.store) j.block.tree)) jobs
+  installs_of : (d : DeskView) (jobs : List HandedOut) (j : HandedOut) (o : Option Waiter) → WasTaken d.table d.history j → find_waiter j.ticket (state_of d).waiters ≡ o
+      → delivery_first (state_of d).store o (reads_of (cell_value j.store) j.block.tree) d ≡ None → Stands d jobs → Stands (installed d j.ticket (verdict (cell_value j.store) j.block.tree)) jobs
   installs_of d jobs j None t f e k = absurd cc
   installs_of d jobs j (Some w) t f e k =
-      let differs = differing (under (now d).store) (reads_of (cell_value j.store) j.block.tree) in
+      let differs = differing (under (state_of d).store) (reads_of (cell_value j.store) j.block.tree) in
       installs_by d jobs j w (verdict (cell_value j.store) j.block.tree) t f refl (may_come (is_current w) differs (is_full d) e) k
 
-  after_stands : (d : Seen) (jobs : List HandedOut) (j : HandedOut) (o : Option DeliverError) → WasTaken d.table d.history j → delivery_refusal d j ≡ o → Stands d jobs → Stands (delivery_step d j o).0 jobs
+  after_stands : (d : DeskView) (jobs : List HandedOut) (j : HandedOut) (o : Option DeliverError) → WasTaken d.table d.history j → delivery_refusal d j ≡ o → Stands d jobs → Stands (delivery_step d j o).0 jobs
   after_stands d jobs j (Some x) t e k = stands_marked d (pending_left x j.ticket d.pending) jobs (tickets_left x j.ticket d.pending) k
-  after_stands d jobs j None t e k = installs_of d jobs j (find_waiter j.ticket (now d).waiters) t refl e k
+  after_stands d jobs j None t e k = installs_of d jobs j (find_waiter j.ticket (state_of d).waiters) t refl e k
 
-  pub delivered_stands : (d : Seen) (jobs : List HandedOut) (n : ℕ) → Stands d jobs → Stands (deliver_job_step d (job_at n jobs)).0 jobs
+  pub delivered_stands : (d : DeskView) (jobs : List HandedOut) (n : ℕ) → Stands d jobs → Stands (deliver_job_step d (job_at n jobs)).0 jobs
   delivered_stands d jobs n k = of n (job_at n jobs) refl
     where
       of : (n : ℕ) (o : Option HandedOut) → job_at n jobs ≡ o → Stands (deliver_job_step d o).0 jobs
@@ -125,7 +125,7 @@ module _ (stay : BlocksStay) (stable : VerdictIsStable) where
       → Stands (delivered_by d j o).desk rest
   by_stands d j rest None e t k = after_stands d.desk rest j None t e k
   by_stands d j rest (Some x) e t k =
-      let left = left_by x j.ticket d.desk in
+      let left = requeued_if_overtaken x j.ticket d.desk in
       stands_marked left (marked j.ticket false left.pending) rest (tickets_marked j.ticket false left.pending) (after_stands d.desk rest j (Some x) t e k)
 
   next_stands : (d : Delivered) (j : HandedOut) (rest : List HandedOut) (o : Option DeliverError) → Stands d.desk (j ∷ rest) → Stands (delivered_next d j o).desk rest
@@ -137,9 +137,9 @@ module _ (stay : BlocksStay) (stable : VerdictIsStable) where
   all_stand [] kept d k = k
   all_stand (j ∷ js) kept d k = all_stand js kept (delivered_next d j d.stop) (next_stands d j (js ++ kept) d.stop k)
 
-  pub evaluated_stands : (d : Seen) (jobs : List HandedOut) → Stands d jobs → Stands (evaluated d).desk jobs
+  pub evaluated_stands : (d : DeskView) (jobs : List HandedOut) → Stands d jobs → Stands (evaluated d).desk jobs
   evaluated_stands d jobs k =
-      let js = jobs_of (now d) (all_queued d) in
+      let js = jobs_of (state_of d) (all_queued d) in
       let pending = sent (length (all_queued d)) d.pending in
       all_stand js jobs _ (stands_with (record d { pending = pending }) jobs (js ++ jobs) (taken_append d.table d.history js jobs (jobs_taken d.table d.history (all_queued d)) k.taken)
       (stands_marked d pending jobs (tickets_sent (length (all_queued d)) d.pending) k))
@@ -160,5 +160,5 @@ all_told : (js : List HandedOut) (d : Delivered) → IsTold d.stop → IsTold (d
 all_told [] d h = h
 all_told (j ∷ js) d h = all_told js (delivered_next d j d.stop) (next_told d j d.stop refl h)
 
-pub evaluated_told : (d : Seen) → (evaluated d).stop ≡ Some deliver.NoMemory → ⊥
-evaluated_told d = all_told (jobs_of (now d) (all_queued d)) _ (λ e. cc)
+pub evaluated_told : (d : DeskView) → (evaluated d).stop ≡ Some deliver.NoMemory → ⊥
+evaluated_told d = all_told (jobs_of (state_of d) (all_queued d)) _ (λ e. cc)

@@ -24,8 +24,8 @@ use Rattle.stm_events.specs.SlowDesk.{Since, Waiter, Slow, under, verdict_on, is
 use Rattle.stm_events.specs.SlowSettle.{Stop, NoRoom, NoCells, finishes, installs}
 use Rattle.stm_desk.specs.Refusals.{submit_refusal, finish_refusal, cancel_refusal}
 use Rattle.stm_desk.specs.Reasons.{WaitReason, reason_of}
-use Rattle.stm_desk.specs.Seen.{Seen, now, is_full}
-use Rattle.stm_desk.specs.Settling.{slow_settle, slow_stop, called_back}
+use Rattle.stm_desk.specs.DeskView.{DeskView, state_of, is_full}
+use Rattle.stm_desk.specs.Settling.{slow_settle, slow_stop, requeued_all}
 use Rattle.stm_run.specs.declared.command.Command.{Command}
 use Rattle.stm_run.specs.declared.command.Command.TheVariants.{Tvar, Try, Looks, Submit, Take, Deliver, Handback, Eval, Finish, Cancel, Show, Reads, Store, Settle, History, Ready, Why, Events}
 use Rattle.stm_blocks.specs.declared.refusal.Refusal.{Refusal}
@@ -67,13 +67,13 @@ unfolding reads_line
 looked_ends table cells (Ok b) h = (codes "reads " ++ list_text write_text (reads_of (under cells) b.tree), refl)
 looked_ends table cells (Err x) h = refusal_ends x h
 
-submitted_ends : (d : Seen) (block : Block) (o : Option SubmitError) → submit_refusal d block ≡ o → EndsALine (submit_block_step d block o).1
+submitted_ends : (d : DeskView) (block : Block) (o : Option SubmitError) → submit_refusal d block ≡ o → EndsALine (submit_block_step d block o).1
 unfolding ticket_line
-submitted_ends d block None e = (codes "ticket " ++ decimal (now d).next, refl)
+submitted_ends d block None e = (codes "ticket " ++ decimal (state_of d).next, refl)
 submitted_ends d block (Some x) e =
-    submit_error_ends x (λ m. submit_told (missing (plains (now d).store) block.uses) (nat_le max_waiting (length (now d).waiters)) (is_full d) (e ∙ ap Some m))
+    submit_error_ends x (λ m. submit_told (missing (plains (state_of d).store) block.uses) (nat_le max_waiting (length (state_of d).waiters)) (is_full d) (e ∙ ap Some m))
 
-submit_ends : (d : Seen) (r : Result Block Refusal) → BlockOrTold d.table r → EndsALine (submit_text_step d r).1
+submit_ends : (d : DeskView) (r : Result Block Refusal) → BlockOrTold d.table r → EndsALine (submit_text_step d r).1
 submit_ends d (Ok b) h = submitted_ends d b (submit_refusal d b) refl
 submit_ends d (Err x) h = refusal_ends x h
 
@@ -84,21 +84,21 @@ take_ends d n =
     either_has Ends (nat_lt max_jobs (n + length d.jobs)) (d, refused (codes "JobsFull")) (with_jobs d (taken d.desk n), jobs_line (length d.jobs + 1) (taken d.desk n)) (refused_ends (codes "JobsFull"))
     (codes "jobs " ++ list_text job_text (numbered (length d.jobs + 1) (taken d.desk n)), refl)
 
-delivery_ends : (d : Seen) (j : HandedOut) (o : Option DeliverError) → delivery_refusal d j ≡ o → EndsALine (delivery_step d j o).1
+delivery_ends : (d : DeskView) (j : HandedOut) (o : Option DeliverError) → delivery_refusal d j ≡ o → EndsALine (delivery_step d j o).1
 unfolding delivered_line
 delivery_ends d j None e = (codes "delivered " ++ decimal j.ticket, refl)
 delivery_ends d j (Some x) e = deliver_error_ends x (λ m. refusal_told d j (e ∙ ap Some m))
 
-deliver_ends : (d : Seen) (o : Option HandedOut) → EndsALine (deliver_job_step d o).1
+deliver_ends : (d : DeskView) (o : Option HandedOut) → EndsALine (deliver_job_step d o).1
 deliver_ends d None = refused_ends (codes "NoJob")
 deliver_ends d (Some j) = delivery_ends d j (delivery_refusal d j) refl
 
-handback_ends : (d : Seen) (t : ℕ) → EndsALine (handback_ticket_step d t).1
+handback_ends : (d : DeskView) (t : ℕ) → EndsALine (handback_ticket_step d t).1
 unfolding queued_line
 handback_ends d t =
-    either_has (λ (p : Seen × List ℕ). EndsALine p.1) (is_out t d.pending) (handed_back d t, queued_line t) (d, refused (codes "NotOut")) (codes "queued " ++ decimal t, refl) (refused_ends (codes "NotOut"))
+    either_has (λ (p : DeskView × List ℕ). EndsALine p.1) (is_out t d.pending) (handed_back d t, queued_line t) (d, refused (codes "NotOut")) (codes "queued " ++ decimal t, refl) (refused_ends (codes "NotOut"))
 
-eval_ends : (d : Seen) (n : ℕ) (o : Option DeliverError) → (evaluated d).stop ≡ o → EndsALine (evaluation_text n o)
+eval_ends : (d : DeskView) (n : ℕ) (o : Option DeliverError) → (evaluated d).stop ≡ o → EndsALine (evaluation_text n o)
 unfolding evaluated_line
 eval_ends d n None e = (codes "evaluated " ++ decimal n, refl)
 eval_ends d n (Some x) e = deliver_error_ends x (λ m. evaluated_told d (e ∙ ap Some m))
@@ -111,10 +111,10 @@ effect_ends t n (Commits writes news result) stale h =
 effect_ends t n (Throws fault) stale h = (codes "finished " ++ decimal t ++ 32 ∷ verdict_text (Throws fault), refl)
 effect_ends t n Blocks stale h = absurd cc
 
-cancel_ends : (d : Seen) (t : ℕ) (o : Option CancelError) → cancel_refusal d t ≡ o → EndsALine (cancel_ticket_step d t o).1
+cancel_ends : (d : DeskView) (t : ℕ) (o : Option CancelError) → cancel_refusal d t ≡ o → EndsALine (cancel_ticket_step d t o).1
 unfolding cancelled_line
 cancel_ends d t None e = (codes "cancelled " ++ decimal t, refl)
-cancel_ends d t (Some x) e = cancel_error_ends x (λ m. cancel_told (find_waiter t (now d).waiters) (is_full d) (e ∙ ap Some m))
+cancel_ends d t (Some x) e = cancel_error_ends x (λ m. cancel_told (find_waiter t (state_of d).waiters) (is_full d) (e ∙ ap Some m))
 
 settle_ends : (whats : List What) (o : Option Stop) → EndsALine (settle_text whats o)
 unfolding settled_line
@@ -153,7 +153,7 @@ later_events_end : (d : OpenDesk) (n : ℕ) → EndsALine (later_events_text d n
 later_events_end d n = counted_end (drop (n - 1) d.desk.history) (codes "events " ++ decimal (length d.desk.history))
 
 module _ (judged : (table : List Declared) (text : List ℕ) → BlockOrTold table (compiled_block table text)) (fits : VerdictFits) (cover : DeclaredAreCovered) (wait : WaitingAreWellTyped) (stay_typed : StoresAreTyped) (verdicts : BlocksHaveVerdicts) where
-  store_typed : (d : Seen) (jobs : List HandedOut) → Stands d jobs → StoreIsTyped (plains (now d).store)
+  store_typed : (d : DeskView) (jobs : List HandedOut) → Stands d jobs → StoreIsTyped (plains (state_of d).store)
   store_typed d jobs k = stay_typed Changed d.table d.history k.table_typed k.typed k.legal
 
   -- a well typed block whose variables are declared has a verdict on the present store
@@ -164,22 +164,22 @@ module _ (judged : (table : List Declared) (text : List ℕ) → BlockOrTold tab
   tried_ends d k (Err x) h = refusal_ends x h
 
   -- and so has a block that waits
-  ending_ends : (d : Seen) (t : ℕ) (w : Waiter) (v : Verdict) (o : Option Verdict) → o ≡ Some v → blocks_there o ≡ false → EndsALine (finish_verdict_step d t o).1
+  ending_ends : (d : DeskView) (t : ℕ) (w : Waiter) (v : Verdict) (o : Option Verdict) → o ≡ Some v → blocks_there o ≡ false → EndsALine (finish_verdict_step d t o).1
   ending_ends d t w v None e h = absurd cc
-  ending_ends d t w v (Some x) e h = let s = now d in effect_ends t (length s.store) x (stale_after (changed_by s.store x) (without_waiter t s.waiters)) h
+  ending_ends d t w v (Some x) e h = let s = state_of d in effect_ends t (length s.store) x (stale_after (changed_by s.store x) (without_waiter t s.waiters)) h
 
-  finishing_ends : (d : Seen) (jobs : List HandedOut) (t : ℕ) (o : Option Waiter) → find_waiter t (now d).waiters ≡ o → finish_first (now d).store (is_full d) o ≡ None → Stands d jobs → EndsALine (finish_waiter_step d t o).1
+  finishing_ends : (d : DeskView) (jobs : List HandedOut) (t : ℕ) (o : Option Waiter) → find_waiter t (state_of d).waiters ≡ o → finish_first (state_of d).store (is_full d) o ≡ None → Stands d jobs → EndsALine (finish_waiter_step d t o).1
   finishing_ends d jobs t None f e k = absurd cc
   finishing_ends d jobs t (Some w) f e k =
-      let o = verdict_on (now d).store w.block in
+      let o = verdict_on (state_of d).store w.block in
       let typed = wait Changed d.table d.history t w k.typed f in
       let v = verdicts Changed d.table d.history t w typed.0 k.legal (store_typed d jobs k) f typed.1 in
-      let may = may_end (is_new w) (is_current w) (blocks_there o) (is_full d) (overflows (now d).store o) e in
+      let may = may_end (is_new w) (is_current w) (blocks_there o) (is_full d) (overflows (state_of d).store o) e in
       ending_ends d t w v.0 o v.1 may.ends
 
-  finish_ends : (d : Seen) (jobs : List HandedOut) (t : ℕ) (o : Option FinishError) → finish_refusal d t ≡ o → Stands d jobs → EndsALine (finish_ticket_step d t o).1
-  finish_ends d jobs t None e k = finishing_ends d jobs t (find_waiter t (now d).waiters) refl e k
-  finish_ends d jobs t (Some x) e k = finish_error_ends x (λ m. finish_told (now d).store (is_full d) (find_waiter t (now d).waiters) (e ∙ ap Some m))
+  finish_ends : (d : DeskView) (jobs : List HandedOut) (t : ℕ) (o : Option FinishError) → finish_refusal d t ≡ o → Stands d jobs → EndsALine (finish_ticket_step d t o).1
+  finish_ends d jobs t None e k = finishing_ends d jobs t (find_waiter t (state_of d).waiters) refl e k
+  finish_ends d jobs t (Some x) e k = finish_error_ends x (λ m. finish_told (state_of d).store (is_full d) (find_waiter t (state_of d).waiters) (e ∙ ap Some m))
 
   pub desk_ends : (d : OpenDesk) → Stands d.desk d.jobs → (c : Command) (argument : List ℕ) → Ends (desk_step d c argument)
   unfolding try_answer looks_answer submit_step take_step deliver_step handback_step eval_step finish_step cancel_step show_answer reads_answer store_answer settle_step history_answer ready_answer why_answer events_answer
@@ -198,14 +198,14 @@ module _ (judged : (table : List Declared) (text : List ℕ) → BlockOrTold tab
       (λ t. finish_ends d.desk d.jobs t (finish_refusal d.desk t) refl k) bad_ends
   desk_ends d k Cancel argument =
       number_has Ends (λ t. on_desk d (cancel_ticket_step d.desk t (cancel_refusal d.desk t))) (d, argument_refused) (number_argument argument) (λ t. cancel_ends d.desk t (cancel_refusal d.desk t) refl) bad_ends
-  desk_ends d k Show argument = nothing_has EndsALine (show_text (now d.desk)) argument_refused argument (show_ends (now d.desk)) bad_ends
+  desk_ends d k Show argument = nothing_has EndsALine (show_text (state_of d.desk)) argument_refused argument (show_ends (state_of d.desk)) bad_ends
   desk_ends d k Reads argument =
-      number_has EndsALine (λ t. waiter_reads_text (find_waiter t (now d.desk).waiters)) argument_refused (number_argument argument) (λ t. waiter_ends (find_waiter t (now d.desk).waiters)) bad_ends
+      number_has EndsALine (λ t. waiter_reads_text (find_waiter t (state_of d.desk).waiters)) argument_refused (number_argument argument) (λ t. waiter_ends (find_waiter t (state_of d.desk).waiters)) bad_ends
   desk_ends d k Store argument = nothing_has EndsALine (store_text d.desk.table (present d)) argument_refused argument (cells_end d.desk.table (present d)) bad_ends
   desk_ends d k Settle argument =
-      let e = called_back d.desk in
+      let e = requeued_all d.desk in
       nothing_has Ends (on_desk d (settle_desk_step e)) (d, argument_refused) argument (settle_ends (slow_settle e) (slow_stop e)) bad_ends
   desk_ends d k History argument = nothing_has EndsALine (events_text d) argument_refused argument (history_ends latest_format d.desk.table d.desk.history) bad_ends
-  desk_ends d k Ready argument = nothing_has EndsALine (ready_text (now d.desk)) argument_refused argument (ready_ends (now d.desk)) bad_ends
+  desk_ends d k Ready argument = nothing_has EndsALine (ready_text (state_of d.desk)) argument_refused argument (ready_ends (state_of d.desk)) bad_ends
   desk_ends d k Why argument = number_has EndsALine (λ t. why_line t (reason_of d.desk t)) argument_refused (number_argument argument) (λ t. why_ends t (reason_of d.desk t)) bad_ends
   desk_ends d k Events argument = number_has EndsALine (later_events_text d) argument_refused (number_argument argument) (later_events_end d) bad_ends

@@ -1,5 +1,5 @@
 -- What `submit`, `finish` and `cancel` do is allowed where they aren't refused, so the desk goes on standing.
-use Rattle.std.proofs.Common.{◌≡◌, ℕ, ◌+◌, ◌<◌, ◌≤◌, Bool, true, false, cond, not, List, [], ◌∷◌, length, Option, Some, None, refl, sym, subst, arith}
+use Rattle.std.proofs.Common.{◌≡◌, ℕ, ◌+◌, ◌<◌, ◌≤◌, Bool, true, false, cond, not, List, [], ◌∷◌, length, Option, Some, None, refl, sym, subst, ap, arith}
 use Rattle.std.specs.Prelude.{nat_le, IsSomeAnd}
 use Rattle.std.proofs.lemmas.Bool.Decides.{nat_tests}
 use Rattle.stm_terms.specs.declared.kinds.Ty.{Ty}
@@ -18,9 +18,12 @@ use Rattle.stm_events.specs.declared.errors.CancelError.{CancelError}
 use Rattle.stm_events.specs.declared.errors.CancelError.TheVariants as cancel
 use Rattle.stm_events.specs.Laws.{IsWellTyped}
 use Rattle.stm_events.specs.Refusals.{missing, submit_first, blocks_there, overflows, finish_first, cancel_first}
-use Rattle.stm_events.specs.SlowDesk.{Waiter, verdict_on, is_new, is_current, find_waiter, without_waiter, stale_after, max_cells, max_waiting, MayFinish}
+use Rattle.stm_events.specs.SlowDesk.{Waiter, verdict_on, is_new, is_current, find_waiter, without_waiter, stale_after, waking, initial_state, max_cells, max_waiting, MayFinish}
+use Rattle.stm_events.proofs.Folds.{state-rule}
+use Rattle.stm_events.specs.declared.staleness.StalenessRule.{StalenessRule}
+use Rattle.stm_events.specs.declared.staleness.StalenessRule.TheVariants.{Changed}
 use Rattle.stm_desk.specs.Refusals.{submit_refusal, finish_refusal, cancel_refusal}
-use Rattle.stm_desk.specs.Seen.{Seen, now, is_full}
+use Rattle.stm_desk.specs.DeskView.{DeskView, state_of, is_full}
 use Rattle.stm_commands.specs.Blocks.{submit_block_step}
 use Rattle.stm_commands.specs.Endings.{finish_ticket_step, cancel_ticket_step, finish_verdict_step, finish_waiter_step}
 use Rattle.stm_commands.specs.OpenDesk.{HandedOut}
@@ -51,10 +54,10 @@ none_missing cells (u ∷ us) e = covered_first cells u us (is_type (kinds_of ce
 few_wait : (n : ℕ) → nat_le max_waiting n ≡ false → n < max_waiting
 few_wait n e = grind (arith, nat_tests)
 
-pub submitted_stands : (d : Seen) (jobs : List HandedOut) (block : Block) → IsWellTyped block → (o : Option SubmitError) → submit_refusal d block ≡ o → Stands d jobs → Stands (submit_block_step d block o).0 jobs
+pub submitted_stands : (d : DeskView) (jobs : List HandedOut) (block : Block) → IsWellTyped block → (o : Option SubmitError) → submit_refusal d block ≡ o → Stands d jobs → Stands (submit_block_step d block o).0 jobs
 submitted_stands d jobs block w (Some x) e k = k
 submitted_stands d jobs block w None e k =
-    let s = now d in
+    let s = state_of d in
     let m = may_wait (missing (plains s.store) block.uses) (nat_le max_waiting (length s.waiters)) (is_full d) e in
     stands_event d jobs (Submitted s.next block) m.room (refl, none_missing (plains s.store) block.uses m.there, few_wait (length s.waiters) m.few) w k
 
@@ -66,11 +69,11 @@ submit_told None false true e = cc
 submit_told None false false e = cc
 
 -- ---- cancel
-pub cancelled_stands : (d : Seen) (jobs : List HandedOut) (t : ℕ) (o : Option CancelError) → cancel_refusal d t ≡ o → Stands d jobs → Stands (cancel_ticket_step d t o).0 jobs
+pub cancelled_stands : (d : DeskView) (jobs : List HandedOut) (t : ℕ) (o : Option CancelError) → cancel_refusal d t ≡ o → Stands d jobs → Stands (cancel_ticket_step d t o).0 jobs
 cancelled_stands d jobs t (Some x) e k = k
-cancelled_stands d jobs t None e k = by (find_waiter t (now d).waiters) refl (is_full d) refl e
+cancelled_stands d jobs t None e k = by (find_waiter t (state_of d).waiters) refl (is_full d) refl e
   where
-    by : (o : Option Waiter) → find_waiter t (now d).waiters ≡ o → (full : Bool) → is_full d ≡ full → cancel_first o full ≡ None → Stands (cancel_ticket_step d t None).0 jobs
+    by : (o : Option Waiter) → find_waiter t (state_of d).waiters ≡ o → (full : Bool) → is_full d ≡ full → cancel_first o full ≡ None → Stands (cancel_ticket_step d t None).0 jobs
     by None f full r q = absurd cc
     by (Some w) f true r q = absurd cc
     by (Some w) f false r q = stands_event d jobs (Cancelled t) r (subst (λ (o : Option Waiter). IsSomeAnd o (λ w. Unit {0})) (sym f) tt) tt k
@@ -119,11 +122,11 @@ room_for store v e = of (nat_le (length store + length (made_by v)) max_cells) r
     of true h q = grind (arith, nat_tests)
     of false h q = absurd cc
 
-finishes_by : (d : Seen) (jobs : List HandedOut) (t : ℕ) (w : Waiter) (v : Option Verdict) → find_waiter t (now d).waiters ≡ Some w → verdict_on (now d).store w.block ≡ v
-    → MayEnd (is_new w) (is_current w) (blocks_there v) (is_full d) (overflows (now d).store v) → Stands d jobs → Stands (finish_verdict_step d t v).0 jobs
+finishes_by : (d : DeskView) (jobs : List HandedOut) (t : ℕ) (w : Waiter) (v : Option Verdict) → find_waiter t (state_of d).waiters ≡ Some w → verdict_on (state_of d).store w.block ≡ v
+    → MayEnd (is_new w) (is_current w) (blocks_there v) (is_full d) (overflows (state_of d).store v) → Stands d jobs → Stands (finish_verdict_step d t v).0 jobs
 finishes_by d jobs t w None f e m k = k
 finishes_by d jobs t w (Some v) f e m k =
-    let s = now d in
+    let s = state_of d in
     let stale = stale_after (changed_by s.store v) (without_waiter t s.waiters) in
     let may : MayFinish s t w v (length s.store) stale = record {
       current = m.is;
@@ -131,17 +134,17 @@ finishes_by d jobs t w (Some v) f e m k =
       ends = m.ends;
       first_new = refl;
       room = room_for s.store v m.fits;
-      listed = refl;
+      listed = ap (λ (r : StalenessRule). stale_after (waking r s.store v) (without_waiter t s.waiters)) (sym (state-rule (initial_state Changed d.table) d.history));
     } in
     stands_event d jobs (Finished t v (length s.store) stale) m.room
     (subst (λ (o : Option Waiter). IsSomeAnd o (λ x. MayFinish s t x v (length s.store) stale)) (sym f) may) tt k
 
-finishes_of : (d : Seen) (jobs : List HandedOut) (t : ℕ) (o : Option Waiter) → find_waiter t (now d).waiters ≡ o → finish_first (now d).store (is_full d) o ≡ None → Stands d jobs → Stands (finish_waiter_step d t o).0 jobs
+finishes_of : (d : DeskView) (jobs : List HandedOut) (t : ℕ) (o : Option Waiter) → find_waiter t (state_of d).waiters ≡ o → finish_first (state_of d).store (is_full d) o ≡ None → Stands d jobs → Stands (finish_waiter_step d t o).0 jobs
 finishes_of d jobs t None f e k = absurd cc
 finishes_of d jobs t (Some w) f e k =
-    let v = verdict_on (now d).store w.block in
-    finishes_by d jobs t w v f refl (may_end (is_new w) (is_current w) (blocks_there v) (is_full d) (overflows (now d).store v) e) k
+    let v = verdict_on (state_of d).store w.block in
+    finishes_by d jobs t w v f refl (may_end (is_new w) (is_current w) (blocks_there v) (is_full d) (overflows (state_of d).store v) e) k
 
-pub finished_stands : (d : Seen) (jobs : List HandedOut) (t : ℕ) (o : Option FinishError) → finish_refusal d t ≡ o → Stands d jobs → Stands (finish_ticket_step d t o).0 jobs
+pub finished_stands : (d : DeskView) (jobs : List HandedOut) (t : ℕ) (o : Option FinishError) → finish_refusal d t ≡ o → Stands d jobs → Stands (finish_ticket_step d t o).0 jobs
 finished_stands d jobs t (Some x) e k = k
-finished_stands d jobs t None e k = finishes_of d jobs t (find_waiter t (now d).waiters) refl e k
+finished_stands d jobs t None e k = finishes_of d jobs t (find_waiter t (state_of d).waiters) refl e k

@@ -16,7 +16,7 @@ use Rattle.stm_event_lines.specs.WholeBlocks.{CheckedAreWellTyped}
 use Rattle.stm_machine.specs.QueueAndIndex.{due_of}
 use Rattle.stm_events.specs.SlowDesk.{Waiter, is_current, find_waiter}
 use Rattle.stm_events.proofs.Rising.{not_above}
-use Rattle.stm_desk.specs.Seen.{now}
+use Rattle.stm_desk.specs.DeskView.{state_of}
 use Rattle.stm_run.specs.Console.{initial_console}
 use Rattle.stm_run.specs.ConsoleState.{present_desk}
 use Rattle.stm_commands.specs.DueTickets.{due_tickets, tickets_out}
@@ -81,11 +81,11 @@ member_due t n k (w ∷ ws) r = due_step (nat_eq t w.ticket) (not (is_current w)
 due_rising : (n : ℕ) (ws : List Waiter) → AreRising n 0 ws → IsRising (due_tickets ws)
 due_rising n ws r = from_above 0 (due_tickets ws) (filtered_above (λ w. not (is_current w)) n 0 ws r)
 
-tickets_are_due : (n : ℕ) (ws : List Waiter) (es : List Entry) → AreRising n 0 ws → QueueKept ws es → tickets es ≡ due_tickets ws
+pub tickets_are_due : (n : ℕ) (ws : List Waiter) (es : List Entry) → AreRising n 0 ws → QueueKept ws es → tickets es ≡ due_tickets ws
 tickets_are_due n ws es r k = same_rising (tickets es) (due_tickets ws) k.rising (due_rising n ws r) (λ t. member_tickets t es ∙ k.right t ∙ sym (member_due t n 0 ws r))
 
 -- ---- the list is that of its tickets and of those that are out
-abbrev entries : List ℕ → List ℕ → List Entry
+abbrev pub entries : List ℕ → List ℕ → List Entry
 entries out ts = map (λ t. (t, member t out)) ts
 
 out_pick : (b : Bool) (e : Entry) (es : List Entry) → map (λ x. x.0) (cond b (e ∷ es) es) ≡ cond b (e.0 ∷ map (λ x. x.0) es) (map (λ x. x.0) es)
@@ -134,7 +134,7 @@ entries_above : (k : ℕ) (es : List Entry) → RisesAbove k (tickets es) → es
 entries_above k [] r = refl
 entries_above k (e ∷ es) r = entries_first e es r.1 (entries_above e.0 es r.1)
 
-entries_are : (es : List Entry) → IsRising (tickets es) → es ≡ entries (tickets_out es) (tickets es)
+pub entries_are : (es : List Entry) → IsRising (tickets es) → es ≡ entries (tickets_out es) (tickets es)
 entries_are [] r = refl
 entries_are (e ∷ es) r = entries_first e es r (entries_above e.0 es r)
 
@@ -145,6 +145,6 @@ module _ (blocks : BlockAnswersAreRight) (declarations : DeclarationAnswersAreRi
       let k = present_stands s (reached blocks declarations faults stable rise stay checked max_events low before) in
       let d = (present_desk s).desk in
       let r = (rise Changed d.table d.history k.legal).rising in (
-        entries_are d.pending k.queue.rising ∙ ap (entries (tickets_out d.pending)) (tickets_are_due (now d).next (now d).waiters d.pending r k.queue),
-        due_rising (now d).next (now d).waiters r,
+        entries_are d.pending k.queue.rising ∙ ap (entries (tickets_out d.pending)) (tickets_are_due (state_of d).next (state_of d).waiters d.pending r k.queue),
+        due_rising (state_of d).next (state_of d).waiters r,
       )

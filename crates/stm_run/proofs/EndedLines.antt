@@ -1,9 +1,7 @@
 -- Texts that end with a line feed: each refusal that is printed, and the text of a history.
-use Rattle.std.proofs.Common.{◌≡◌, ◌≢◌, ℕ, Some, List, [], ◌∷◌, ◌++◌, length, refl, sym, subst, append_assoc}
+use Rattle.std.proofs.Common.{◌≡◌, ◌≢◌, ℕ, List, [], ◌∷◌, ◌++◌, length, refl, sym, subst, append_assoc}
 use Rattle.std.specs.Prelude.{codes, decimal}
-use Rattle.stm_parse.specs.declared.fault.ParseFault.{ParseFault}
 use Rattle.stm_parse.specs.declared.fault.ParseFault.TheVariants as parse
-use Rattle.stm_check.specs.declared.fault.TypeFault.{TypeFault}
 use Rattle.stm_check.specs.declared.fault.TypeFault.TheVariants as typed
 use Rattle.stm_store.specs.declared.table.DeclareError.TheVariants as declare
 use Rattle.stm_store.specs.Tables.{Declared}
@@ -21,7 +19,7 @@ use Rattle.stm_event_lines.specs.Lines.{event_line, header_line, variable_line}
 use Rattle.stm_blocks.specs.declared.refusal.Refusal.{Refusal}
 use Rattle.stm_blocks.specs.declared.refusal.Refusal.TheVariants.{Parsing, Typing, Unknown, Declaring}
 use Rattle.stm_commands.specs.Refusals.{refused, refused_at, refused_variable, refusal_text, submit_error_text, deliver_error_text, finish_error_text, cancel_error_text}
-use Rattle.stm_blocks.specs.ToldRefusal.{told_refusal}
+use Rattle.stm_blocks.specs.OutOfMemory.{IsOutOfMemory}
 use Rattle.stm_run.specs.Laws.{EndsALine}
 
 -- ---- refusals
@@ -37,7 +35,7 @@ refused_variable_ends : (name : List ℕ) (number : ℕ) → EndsALine (refused_
 unfolding refused_variable
 refused_variable_ends name number = (codes "refused " ++ name ++ codes " #" ++ decimal number, refl)
 
-pub refusal_ends : (e : Refusal) → told_refusal e ≡ Some e → EndsALine (refusal_text e)
+pub refusal_ends : (e : Refusal) → ¬ IsOutOfMemory e → EndsALine (refusal_text e)
 refusal_ends (Parsing (parse.BadByte n)) t = refused_at_ends (codes "BadByte") n
 refusal_ends (Parsing (parse.BadNumber n)) t = refused_at_ends (codes "BadNumber") n
 refusal_ends (Parsing (parse.NameTooLong n)) t = refused_at_ends (codes "NameTooLong") n
@@ -45,36 +43,18 @@ refusal_ends (Parsing (parse.Unexpected n)) t = refused_at_ends (codes "Unexpect
 refusal_ends (Parsing parse.EndOfText) t = refused_ends (codes "EndOfText")
 refusal_ends (Parsing parse.TooDeep) t = refused_ends (codes "TooDeep")
 refusal_ends (Parsing parse.TooLarge) t = refused_ends (codes "TooLarge")
-refusal_ends (Parsing parse.NoMemory) t = absurd cc
+refusal_ends (Parsing parse.NoMemory) t = absurd (t refl)
 refusal_ends (Typing (typed.Unknown n)) t = refused_at_ends (codes "Unknown") n
 refusal_ends (Typing (typed.Mismatch n)) t = refused_at_ends (codes "Mismatch") n
 refusal_ends (Typing (typed.NotAVariable n)) t = refused_at_ends (codes "NotAVariable") n
 refusal_ends (Typing (typed.Untyped n)) t = refused_at_ends (codes "Untyped") n
 refusal_ends (Typing (typed.TypeTooDeep n)) t = refused_at_ends (codes "TypeTooDeep") n
-refusal_ends (Typing typed.NoMemory) t = absurd cc
+refusal_ends (Typing typed.NoMemory) t = absurd (t refl)
 refusal_ends (Unknown n) t = refused_at_ends (codes "Unknown") n
 refusal_ends (Declaring declare.Twice) t = refused_ends (codes "Twice")
 refusal_ends (Declaring declare.TypeOfValue) t = refused_ends (codes "TypeOfValue")
 refusal_ends (Declaring declare.TableFull) t = refused_ends (codes "TableFull")
-refusal_ends (Declaring declare.NoMemory) t = absurd cc
-
-pub parsing_told : (f : ParseFault) → f ≢ parse.NoMemory → told_refusal (Parsing f) ≡ Some (Parsing f)
-parsing_told (parse.BadByte n) h = refl
-parsing_told (parse.BadNumber n) h = refl
-parsing_told (parse.NameTooLong n) h = refl
-parsing_told (parse.Unexpected n) h = refl
-parsing_told parse.EndOfText h = refl
-parsing_told parse.TooDeep h = refl
-parsing_told parse.TooLarge h = refl
-parsing_told parse.NoMemory h = absurd (h refl)
-
-pub typing_told : (f : TypeFault) → f ≢ typed.NoMemory → told_refusal (Typing f) ≡ Some (Typing f)
-typing_told (typed.Unknown n) h = refl
-typing_told (typed.Mismatch n) h = refl
-typing_told (typed.NotAVariable n) h = refl
-typing_told (typed.Untyped n) h = refl
-typing_told (typed.TypeTooDeep n) h = refl
-typing_told typed.NoMemory h = absurd (h refl)
+refusal_ends (Declaring declare.NoMemory) t = absurd (t refl)
 
 pub submit_error_ends : (e : SubmitError) → e ≢ submit.NoMemory → EndsALine (submit_error_text e)
 submit_error_ends (submit.Foreign i) h = refused_variable_ends (codes "Foreign") i

@@ -1,6 +1,6 @@
 -- Each event of a console's desk is of client 0, each block that was submitted is what its text checks to, and the declared
 -- variables can be in lines.
-use Rattle.std.proofs.Common.{◌≡◌, ℕ, zero, suc, ◌+◌, ◌-◌, List, [], ◌∷◌, ◌++◌, length, Option, Some, None, IfSome, Result, Ok, Err, refl, ap, sym, subst, arith, length-append, append_assoc, append-nil}
+use Rattle.std.proofs.Common.{◌≡◌, ℕ, zero, suc, ◌+◌, ◌-◌, List, [], ◌∷◌, ◌++◌, length, Option, Some, None, IfSome, Result, Ok, Err, refl, ap, sym, ◌∙◌, subst, arith, length-append, append_assoc, append-nil}
 use Rattle.std.specs.Prelude.{nat_lt}
 use Rattle.stm_terms.specs.Ast.{Act}
 use Rattle.stm_terms.specs.ParsedAst as raw
@@ -28,8 +28,8 @@ use Rattle.stm_machine.specs.Machine.{event}
 use Rattle.stm_machine.specs.JobsHandedOut.{sent}
 use Rattle.stm_event_lines.specs.WholeBlocks.{BlockFault, NotParsed, NotTyped, given_type, block_if_typed, block_if_parsed, checked_block}
 use Rattle.stm_desk.specs.Refusals.{submit_refusal, finish_refusal, cancel_refusal}
-use Rattle.stm_desk.specs.Seen.{Seen, now, with_event}
-use Rattle.stm_desk.specs.Settling.{slow_settle, called_back, with_whats}
+use Rattle.stm_desk.specs.DeskView.{DeskView, state_of, with_event}
+use Rattle.stm_desk.specs.Settling.{slow_settle, requeued_all, with_whats}
 use Rattle.stm_blocks.specs.declared.refusal.Refusal.{Refusal}
 use Rattle.stm_blocks.specs.CompiledBlock.{block_or_refusal, compiled_block}
 use Rattle.stm_blocks.specs.DeclaredVariable.{variable_of}
@@ -47,9 +47,10 @@ use Rattle.stm_run.specs.declared.command.Command.TheVariants.{Tvar, Submit, Tak
 use Rattle.stm_run.specs.declared.console.Console.{Console}
 use Rattle.stm_run.specs.declared.console.Console.TheVariants.{Declaring, Open}
 use Rattle.stm_run.specs.Console.{command_named, state_after, initial_console, desk_step, command_step, word_step, class_step, step}
-use Rattle.stm_run.specs.ConsoleState.{present_desk}
+use Rattle.stm_run.specs.ConsoleState.{present_desk, table_of, events_of}
 use Rattle.stm_run.specs.Declaring.{declare_step, tvar_step}
-use Rattle.stm_run.specs.Fitting.{IsOfText, AreOfConsole, IsOfConsole, EventsAreOfConsole, VariablesFit, VariablesFitLines}
+use Rattle.stm_run.specs.Fitting.{IsOfText, AreOfConsole, EventsAreOfConsole, VariablesFit, VariablesFitLines, VariablesStayFit}
+use Rattle.stm_run.specs.Growing.{Grows, ConsolesGrow}
 use Rattle.stm_run.specs.Laws.{state_after_lines}
 use Rattle.stm_run.proofs.DeclaredVariables.{MayBeNext, may_be_next}
 use Rattle.stm_parse.specs.ParseFunction.{DeclarationAnswersAreRight}
@@ -95,73 +96,12 @@ event_more : (table : List Declared) (es : List Event) (what : What) → AreOfCo
 event_more table [] what h k = (refl, k, tt)
 event_more table (e ∷ es) what h k = (h.0, h.1, event_more table es what h.2 k)
 
--- the events are of the console, and the variables can be in lines
-abbrev Holds : Seen → Type 0
-Holds d = IsOfConsole d × VariablesFit d.table
-
-more : (d : Seen) (what : What) → Holds d → IsOfText d.table what → Holds (with_event d (event 0 what))
-more d what k f = (event_more d.table d.history what k.0 f, k.1)
-
-submitted : (d : Seen) (block : Block) (o : Option SubmitError) → checked_block d.table block.text ≡ Ok block → Holds d → Holds (submit_block_step d block o).0
-submitted d block None f k = more d (Submitted (now d).next block) k f
-submitted d block (Some e) f k = k
-
-submits : (d : Seen) (r : Result Block Refusal) → ((b : Block) → r ≡ Ok b → checked_block d.table b.text ≡ Ok b) → Holds d → Holds (submit_text_step d r).0
-submits d (Ok b) h k = submitted d b (submit_refusal d b) (h b refl) k
-submits d (Err e) h k = k
-
-installs : (d : Seen) (t : ℕ) (o : Option Verdict) → Holds d → Holds (installed d t o)
-installs d t None k = k
-installs d t (Some v) k = more d (Installed t v) k tt
-
-delivered : (d : Seen) (j : HandedOut) (o : Option DeliverError) → Holds d → Holds (delivery_step d j o).0
-delivered d j None k = installs d j.ticket (verdict (cell_value j.store) j.block.tree) k
-delivered d j (Some e) k = k
-
-delivers : (d : Seen) (o : Option HandedOut) → Holds d → Holds (deliver_job_step d o).0
-delivers d None k = k
-delivers d (Some j) k = delivered d j (delivery_refusal d j) k
-
-hands_back : (d : Seen) (t : ℕ) → Holds d → Holds (handback_ticket_step d t).0
-hands_back d t k =
-    either_has (λ (p : Seen × List ℕ). Holds p.0) (is_out t d.pending) (handed_back d t, queued_line t) (d, refused (codes "NotOut")) k k
-
-takes : (d : OpenDesk) (n : ℕ) → Holds d.desk → Holds (take_jobs_step d n).0.desk
-takes d n k =
-    either_has (λ (p : OpenDesk × List ℕ). Holds p.0.desk) (nat_lt max_jobs (n + length d.jobs)) (d, refused (codes "JobsFull"))
-    (with_jobs d (taken d.desk n), jobs_line (length d.jobs + 1) (taken d.desk n)) k k
-
-evaluates_one : (d : Delivered) (j : HandedOut) (o : Option DeliverError) → Holds d.desk → Holds (delivered_by d j o).desk
-evaluates_one d j None k = installs d.desk j.ticket (verdict (cell_value j.store) j.block.tree) k
-evaluates_one d j (Some e) k = k
-
-evaluates_next : (d : Delivered) (j : HandedOut) (o : Option DeliverError) → Holds d.desk → Holds (delivered_next d j o).desk
-evaluates_next d j None k = evaluates_one d j (delivery_refusal d.desk j) k
-evaluates_next d j (Some e) k = k
-
-evaluates_all : (d : Delivered) (js : List HandedOut) → Holds d.desk → Holds (delivered_all d js).desk
-evaluates_all d [] k = k
-evaluates_all d (j ∷ js) k = evaluates_all (delivered_next d j d.stop) js (evaluates_next d j d.stop k)
-
-evaluates : (d : Seen) → Holds d → Holds (eval_desk_step d).0
-evaluates d k =
-    evaluates_all (record { desk = record d { pending = sent (length (all_queued d)) d.pending }; count = 0; stop = None }) (jobs_of (now d) (all_queued d)) k
-
-finished_by : (d : Seen) (t : ℕ) (o : Option Verdict) → Holds d → Holds (finish_verdict_step d t o).0
-finished_by d t None k = k
-finished_by d t (Some v) k = more d _ k tt
-
-finished_of : (d : Seen) (t : ℕ) (o : Option Waiter) → Holds d → Holds (finish_waiter_step d t o).0
-finished_of d t None k = k
-finished_of d t (Some w) k = finished_by d t (verdict_on (now d).store w.block) k
-
-finishes : (d : Seen) (t : ℕ) (o : Option FinishError) → Holds d → Holds (finish_ticket_step d t o).0
-finishes d t None k = finished_of d t (find_waiter t (now d).waiters) k
-finishes d t (Some e) k = k
-
-cancels : (d : Seen) (t : ℕ) (o : Option CancelError) → Holds d → Holds (cancel_ticket_step d t o).0
-cancels d t None k = more d (Cancelled t) k tt
-cancels d t (Some e) k = k
+-- The table is this one, and the events came after these, each of the console.
+pub record Added (table : List Declared) (before : List Event) (same : List Declared) (history : List Event) : Type 0 where
+  pub same_table : same ≡ table
+  pub added : List Event
+  pub events : history ≡ before ++ added
+  pub of_console : AreOfConsole table added
 
 -- ---- settling
 -- nothing is submitted
@@ -203,92 +143,224 @@ settling_quiet zero s = tt
 settling_quiet (suc room) s =
     settles_quiet room s (next_what s) (settling_quiet room) (next_quiet s (lowest is_due s.waiters) (lowest (can_end s.store) s.waiters))
 
-whats_more : (d : Seen) (xs : List What) → AreQuiet xs → Holds d → Holds (with_whats d 0 xs)
-whats_more d [] q k = k
-whats_more d (x ∷ xs) q k = whats_more (with_event d (event 0 x)) xs q.1 (more d x k (quiet_text d.table x q.0))
+module _ (table : List Declared) (before : List Event) where
+  abbrev Holds : DeskView → Type 0
+  Holds d = Added table before d.table d.history
 
-settles : (d : Seen) → Holds d → Holds (settle_desk_step d).0
-settles d k = whats_more d (slow_settle d) (settling_quiet (d.limit - length d.history) (now d)) k
+  more : (d : DeskView) (what : What) → Holds d → IsOfText d.table what → Holds (with_event d 0 what)
+  more d what k f = record {
+    same_table = k.same_table;
+    added = k.added ++ event 0 what ∷ [];
+    events = ap (λ (es : List Event). es ++ event 0 what ∷ []) k.events ∙ append_assoc before k.added (event 0 what ∷ []);
+    of_console = event_more table k.added what k.of_console (subst (λ (t : List Declared). IsOfText t what) k.same_table f);
+  }
 
--- ---- commands and lines
-abbrev After : OpenDesk × List ℕ → Type 0
-After p = Holds p.0.desk
+  submitted : (d : DeskView) (block : Block) (o : Option SubmitError) → checked_block d.table block.text ≡ Ok block → Holds d → Holds (submit_block_step d block o).0
+  submitted d block None f k = more d (Submitted (state_of d).next block) k f
+  submitted d block (Some e) f k = k
 
-desk_after : (d : OpenDesk) → Holds d.desk → (c : Command) (argument : List ℕ) → After (desk_step d c argument)
-unfolding submit_step take_step deliver_step handback_step eval_step finish_step cancel_step settle_step
-desk_after d k Submit argument = submits d.desk (compiled_block d.desk.table argument) (λ b e. of_text d.desk.table argument b e) k
-desk_after d k Take argument = number_has After (take_jobs_step d) (d, argument_refused) (number_argument argument) (λ n. takes d n k) k
-desk_after d k Deliver argument =
-    number_has After (λ n. on_desk d (deliver_job_step d.desk (job_at n d.jobs))) (d, argument_refused) (number_argument argument) (λ n. delivers d.desk (job_at n d.jobs) k) k
-desk_after d k Handback argument =
-    number_has After (λ t. on_desk d (handback_ticket_step d.desk t)) (d, argument_refused) (number_argument argument) (λ t. hands_back d.desk t k) k
-desk_after d k Eval argument = nothing_has After (on_desk d (eval_desk_step d.desk)) (d, argument_refused) argument (evaluates d.desk k) k
-desk_after d k Finish argument =
-    number_has After (λ t. on_desk d (finish_ticket_step d.desk t (finish_refusal d.desk t))) (d, argument_refused) (number_argument argument) (λ t. finishes d.desk t (finish_refusal d.desk t) k) k
-desk_after d k Cancel argument =
-    number_has After (λ t. on_desk d (cancel_ticket_step d.desk t (cancel_refusal d.desk t))) (d, argument_refused) (number_argument argument) (λ t. cancels d.desk t (cancel_refusal d.desk t) k) k
-desk_after d k Settle argument =
-    nothing_has After (on_desk d (settle_desk_step (called_back d.desk))) (d, argument_refused) argument (settles (called_back d.desk) k) k
-desk_after d k c argument = k
+  submits : (d : DeskView) (r : Result Block Refusal) → ((b : Block) → r ≡ Ok b → checked_block d.table b.text ≡ Ok b) → Holds d → Holds (submit_text_step d r).0
+  submits d (Ok b) h k = submitted d b (submit_refusal d b) (h b refl) k
+  submits d (Err e) h k = k
 
--- before the desk is open there is no event
-abbrev IsKept : Console → Type 0
-IsKept (Declaring table limit) = VariablesFit table
-IsKept (Open d) = Holds d.desk
+  installs : (d : DeskView) (t : ℕ) (o : Option Verdict) → Holds d → Holds (installed d t o)
+  installs d t None k = k
+  installs d t (Some v) k = more d (Installed t v) k tt
 
-present_kept : (s : Console) → IsKept s → Holds (present_desk s).desk
-present_kept (Declaring table limit) h = (tt, h)
-present_kept (Open d) h = h
+  delivered : (d : DeskView) (j : HandedOut) (o : Option DeliverError) → Holds d → Holds (delivery_step d j o).0
+  delivered d j None k = installs d j.ticket (verdict (cell_value j.store) j.block.tree) k
+  delivered d j (Some e) k = k
 
+  delivers : (d : DeskView) (o : Option HandedOut) → Holds d → Holds (deliver_job_step d o).0
+  delivers d None k = k
+  delivers d (Some j) k = delivered d j (delivery_refusal d j) k
+
+  hands_back : (d : DeskView) (t : ℕ) → Holds d → Holds (handback_ticket_step d t).0
+  hands_back d t k =
+      either_has (λ (p : DeskView × List ℕ). Holds p.0) (is_out t d.pending) (handed_back d t, queued_line t) (d, refused (codes "NotOut")) k k
+
+  takes : (d : OpenDesk) (n : ℕ) → Holds d.desk → Holds (take_jobs_step d n).0.desk
+  takes d n k =
+      either_has (λ (p : OpenDesk × List ℕ). Holds p.0.desk) (nat_lt max_jobs (n + length d.jobs)) (d, refused (codes "JobsFull"))
+      (with_jobs d (taken d.desk n), jobs_line (length d.jobs + 1) (taken d.desk n)) k k
+
+  evaluates_one : (d : Delivered) (j : HandedOut) (o : Option DeliverError) → Holds d.desk → Holds (delivered_by d j o).desk
+  evaluates_one d j None k = installs d.desk j.ticket (verdict (cell_value j.store) j.block.tree) k
+  evaluates_one d j (Some e) k = k
+
+  evaluates_next : (d : Delivered) (j : HandedOut) (o : Option DeliverError) → Holds d.desk → Holds (delivered_next d j o).desk
+  evaluates_next d j None k = evaluates_one d j (delivery_refusal d.desk j) k
+  evaluates_next d j (Some e) k = k
+
+  evaluates_all : (d : Delivered) (js : List HandedOut) → Holds d.desk → Holds (delivered_all d js).desk
+  evaluates_all d [] k = k
+  evaluates_all d (j ∷ js) k = evaluates_all (delivered_next d j d.stop) js (evaluates_next d j d.stop k)
+
+  evaluates : (d : DeskView) → Holds d → Holds (eval_desk_step d).0
+  evaluates d k =
+      evaluates_all (record { desk = record d { pending = sent (length (all_queued d)) d.pending }; count = 0; stop = None }) (jobs_of (state_of d) (all_queued d)) k
+
+  finished_by : (d : DeskView) (t : ℕ) (o : Option Verdict) → Holds d → Holds (finish_verdict_step d t o).0
+  finished_by d t None k = k
+  finished_by d t (Some v) k = more d _ k tt
+
+  finished_of : (d : DeskView) (t : ℕ) (o : Option Waiter) → Holds d → Holds (finish_waiter_step d t o).0
+  finished_of d t None k = k
+  finished_of d t (Some w) k = finished_by d t (verdict_on (state_of d).store w.block) k
+
+  finishes : (d : DeskView) (t : ℕ) (o : Option FinishError) → Holds d → Holds (finish_ticket_step d t o).0
+  finishes d t None k = finished_of d t (find_waiter t (state_of d).waiters) k
+  finishes d t (Some e) k = k
+
+  cancels : (d : DeskView) (t : ℕ) (o : Option CancelError) → Holds d → Holds (cancel_ticket_step d t o).0
+  cancels d t None k = more d (Cancelled t) k tt
+  cancels d t (Some e) k = k
+
+  whats_more : (d : DeskView) (xs : List What) → AreQuiet xs → Holds d → Holds (with_whats d 0 xs)
+  whats_more d [] q k = k
+  whats_more d (x ∷ xs) q k = whats_more (with_event d 0 x) xs q.1 (more d x k (quiet_text d.table x q.0))
+
+  settles : (d : DeskView) → Holds d → Holds (settle_desk_step d).0
+  settles d k = whats_more d (slow_settle d) (settling_quiet (d.limit - length d.history) (state_of d)) k
+
+  -- ---- commands and lines
+  abbrev After : OpenDesk × List ℕ → Type 0
+  After p = Holds p.0.desk
+
+  desk_after : (d : OpenDesk) → Holds d.desk → (c : Command) (argument : List ℕ) → After (desk_step d c argument)
+  unfolding submit_step take_step deliver_step handback_step eval_step finish_step cancel_step settle_step
+  desk_after d k Submit argument = submits d.desk (compiled_block d.desk.table argument) (λ b e. of_text d.desk.table argument b e) k
+  desk_after d k Take argument = number_has After (take_jobs_step d) (d, argument_refused) (number_argument argument) (λ n. takes d n k) k
+  desk_after d k Deliver argument =
+      number_has After (λ n. on_desk d (deliver_job_step d.desk (job_at n d.jobs))) (d, argument_refused) (number_argument argument) (λ n. delivers d.desk (job_at n d.jobs) k) k
+  desk_after d k Handback argument =
+      number_has After (λ t. on_desk d (handback_ticket_step d.desk t)) (d, argument_refused) (number_argument argument) (λ t. hands_back d.desk t k) k
+  desk_after d k Eval argument = nothing_has After (on_desk d (eval_desk_step d.desk)) (d, argument_refused) argument (evaluates d.desk k) k
+  desk_after d k Finish argument =
+      number_has After (λ t. on_desk d (finish_ticket_step d.desk t (finish_refusal d.desk t))) (d, argument_refused) (number_argument argument) (λ t. finishes d.desk t (finish_refusal d.desk t) k) k
+  desk_after d k Cancel argument =
+      number_has After (λ t. on_desk d (cancel_ticket_step d.desk t (cancel_refusal d.desk t))) (d, argument_refused) (number_argument argument) (λ t. cancels d.desk t (cancel_refusal d.desk t) k) k
+  desk_after d k Settle argument =
+      nothing_has After (on_desk d (settle_desk_step (requeued_all d.desk))) (d, argument_refused) argument (settles (requeued_all d.desk) k) k
+  desk_after d k c argument = k
+
+-- ---- a console only adds events
+kept_here : (d : DeskView) → Added d.table d.history d.table d.history
+kept_here d = record { same_table = refl; added = []; events = sym (append-nil d.history); of_console = tt }
+
+pub grows_not : (s : Console) → Grows s s
+grows_not s = record { added = []; events = sym (append-nil (events_of s)); of_console = tt; opened = λ e. (e, refl) }
+
+opens : (s : Console) (d : OpenDesk) → Added (table_of s) (events_of s) d.desk.table d.desk.history → Grows s (Open d)
+opens s d a = record {
+  added = a.added;
+  events = a.events;
+  of_console = subst (λ (t : List Declared). AreOfConsole t a.added) (sym a.same_table) a.of_console;
+  opened = λ e. (refl, a.same_table);
+}
+
+of_append : (table : List Declared) (xs ys : List Event) → AreOfConsole table xs → AreOfConsole table ys → AreOfConsole table (xs ++ ys)
+of_append table [] ys h k = k
+of_append table (x ∷ xs) ys h k = (h.0, h.1, of_append table xs ys h.2 k)
+
+of_none : (table : List Declared) (xs ys : List Event) → [] ≡ xs ++ ys → AreOfConsole table ys
+of_none table [] [] e = tt
+of_none table [] (y ∷ ys) e = absurd (cc e)
+of_none table (x ∷ xs) ys e = absurd (cc e)
+
+-- what was added first is of the console over the last table, too: before the desk is open there is no event
+added_first : (s t u : Console) (g : Grows s t) → Grows t u → AreOfConsole (table_of u) g.added
+added_first s (Open d) u g h = subst (λ (x : List Declared). AreOfConsole x g.added) (sym (h.opened refl).1) g.of_console
+added_first s (Declaring table limit) u g h = of_none (table_of u) (events_of s) g.added g.events
+
+pub grows_trans : (s t u : Console) → Grows s t → Grows t u → Grows s u
+grows_trans s t u g h = record {
+  added = g.added ++ h.added;
+  events = h.events ∙ ap (λ (es : List Event). es ++ h.added) g.events ∙ append_assoc (events_of s) g.added h.added;
+  of_console = of_append (table_of u) g.added h.added (added_first s t u g h) h.of_console;
+  opened = λ e. let a = g.opened e in let b = h.opened a.0 in (b.0, b.1 ∙ a.1);
+}
+
+declare_grows : (table : List Declared) (limit : ℕ) (r : Result Declared Refusal) → Grows (Declaring table limit) (declare_step table limit r).0
+declare_grows table limit (Ok d) = record { added = []; events = refl; of_console = tt; opened = λ e. absurd (cc e) }
+declare_grows table limit (Err e) = grows_not (Declaring table limit)
+
+tvar_grows : (s : Console) (argument : List ℕ) → Grows s (tvar_step s argument).0
+tvar_grows (Declaring table limit) argument = declare_grows table limit (variable_of table argument)
+tvar_grows (Open d) argument = grows_not (Open d)
+
+desk_added : (s : Console) (c : Command) (argument : List ℕ) → Added (table_of s) (events_of s) (desk_step (present_desk s) c argument).0.desk.table (desk_step (present_desk s) c argument).0.desk.history
+desk_added s c argument = desk_after (table_of s) (events_of s) (present_desk s) (kept_here (present_desk s).desk) c argument
+
+command_grows : (s : Console) (c : Command) (argument : List ℕ) → Grows s (command_step s c argument).0
+command_grows s Tvar argument = tvar_grows s argument
+command_grows s c argument = opens s (desk_step (present_desk s) c argument).0 (desk_added s c argument)
+
+word_grows : (s : Console) (o : Option Command) (argument : List ℕ) → Grows s (word_step s o argument).0
+word_grows s (Some c) argument = command_grows s c argument
+word_grows s None argument = grows_not s
+
+class_grows : (s : Console) (j : LineClass) → Grows s (class_step s j).0
+class_grows s TooLong = grows_not s
+class_grows s Silent = grows_not s
+class_grows s NotAscii = grows_not s
+class_grows s (Words word argument) = word_grows s (command_named word) argument
+
+line_grows : (s : Console) (line : List ℕ) → Grows s (state_after s line)
+unfolding step
+line_grows s line = class_grows s (line_class line)
+
+pub consoles_grow : ConsolesGrow
+consoles_grow s [] = grows_not s
+consoles_grow s (line ∷ rest) = grows_trans s (state_after s line) (state_after_lines (state_after s line) rest) (line_grows s line) (consoles_grow (state_after s line) rest)
+
+pub events_are_of_console : EventsAreOfConsole
+unfolding initial_console
+events_are_of_console max_events before =
+    let g = consoles_grow (initial_console max_events) before in
+    subst (AreOfConsole (table_of (state_after_lines (initial_console max_events) before))) (sym g.events) g.of_console
+
+-- ---- the declared variables
 variables_push : (prior ds : List Declared) (d : Declared) → AreVariablesFrom prior ds → MayDeclare (prior ++ ds) d → AreVariablesFrom prior (ds ++ d ∷ [])
 variables_push prior [] d a m = (subst (λ (x : List Declared). MayDeclare x d) (append-nil prior) m, tt)
 variables_push prior (c ∷ ds) d a m =
     (a.0, variables_push (prior ++ c ∷ []) ds d a.1 (subst (λ (x : List Declared). MayDeclare x d) (sym (append_assoc prior (c ∷ []) ds)) m))
 
 module _ (declarations : DeclarationAnswersAreRight) where
-  declare_kept : (table : List Declared) (limit : ℕ) (r : Result Declared Refusal) → VariablesFit table → ((d : Declared) → r ≡ Ok d → MayBeNext table d) → IsKept (declare_step table limit r).0
-  declare_kept table limit (Ok d) v next =
+  declare_fits : (table : List Declared) (limit : ℕ) (r : Result Declared Refusal) → VariablesFit table → ((d : Declared) → r ≡ Ok d → MayBeNext table d)
+      → VariablesFit (table_of (declare_step table limit r).0)
+  declare_fits table limit (Ok d) v next =
       let n = next d refl in
       let low = n.room in
       (omega (arith, low, length-append table (d ∷ [])), variables_push [] table d v.1 n.may)
-  declare_kept table limit (Err e) v next = v
+  declare_fits table limit (Err e) v next = v
 
-  tvar_kept : (s : Console) → IsKept s → (argument : List ℕ) → IsKept (tvar_step s argument).0
-  tvar_kept (Declaring table limit) h argument = declare_kept table limit (variable_of table argument) h (λ d e. may_be_next declarations table argument d h.0 e)
-  tvar_kept (Open d) h argument = h
+  tvar_fits : (s : Console) (argument : List ℕ) → VariablesFit (table_of s) → VariablesFit (table_of (tvar_step s argument).0)
+  tvar_fits (Declaring table limit) argument h = declare_fits table limit (variable_of table argument) h (λ d e. may_be_next declarations table argument d h.0 e)
+  tvar_fits (Open d) argument h = h
 
-  command_kept : (s : Console) → IsKept s → (c : Command) (argument : List ℕ) → IsKept (command_step s c argument).0
-  command_kept s h Tvar argument = tvar_kept s h argument
-  command_kept s h c argument = desk_after (present_desk s) (present_kept s h) c argument
+  command_fits : (s : Console) (c : Command) (argument : List ℕ) → VariablesFit (table_of s) → VariablesFit (table_of (command_step s c argument).0)
+  command_fits s Tvar argument h = tvar_fits s argument h
+  command_fits s c argument h = subst VariablesFit (sym (desk_added s c argument).same_table) h
 
-  word_kept : (s : Console) → IsKept s → (o : Option Command) (argument : List ℕ) → IsKept (word_step s o argument).0
-  word_kept s h (Some c) argument = command_kept s h c argument
-  word_kept s h None argument = h
+  word_fits : (s : Console) (o : Option Command) (argument : List ℕ) → VariablesFit (table_of s) → VariablesFit (table_of (word_step s o argument).0)
+  word_fits s (Some c) argument h = command_fits s c argument h
+  word_fits s None argument h = h
 
-  class_kept : (s : Console) → IsKept s → (j : LineClass) → IsKept (class_step s j).0
-  class_kept s h TooLong = h
-  class_kept s h Silent = h
-  class_kept s h NotAscii = h
-  class_kept s h (Words word argument) = word_kept s h (command_named word) argument
+  class_fits : (s : Console) (j : LineClass) → VariablesFit (table_of s) → VariablesFit (table_of (class_step s j).0)
+  class_fits s TooLong h = h
+  class_fits s Silent h = h
+  class_fits s NotAscii h = h
+  class_fits s (Words word argument) h = word_fits s (command_named word) argument h
 
-  line_kept : (s : Console) → IsKept s → (line : List ℕ) → IsKept (state_after s line)
+  line_fits : (s : Console) (line : List ℕ) → VariablesFit (table_of s) → VariablesFit (table_of (state_after s line))
   unfolding step
-  line_kept s h line = class_kept s h (line_class line)
+  line_fits s line h = class_fits s (line_class line) h
 
-  lines_kept : (s : Console) → IsKept s → (lines : List (List ℕ)) → IsKept (state_after_lines s lines)
-  lines_kept s h [] = h
-  lines_kept s h (line ∷ rest) = lines_kept (state_after s line) (line_kept s h line) rest
-
-  start_kept : (max_events : ℕ) → IsKept (initial_console max_events)
-  unfolding initial_console
-  start_kept max_events = (omega arith, tt)
-
-  all_kept : (max_events : ℕ) (before : List (List ℕ)) → Holds (present_desk (state_after_lines (initial_console max_events) before)).desk
-  all_kept max_events before =
-      present_kept (state_after_lines (initial_console max_events) before) (lines_kept (initial_console max_events) (start_kept max_events) before)
-
-  pub events_are_of_console : EventsAreOfConsole
-  events_are_of_console max_events before = (all_kept max_events before).0
+  pub variables_stay_fit : VariablesStayFit
+  variables_stay_fit s [] h = h
+  variables_stay_fit s (line ∷ rest) h = variables_stay_fit (state_after s line) rest (line_fits s line h)
 
   pub variables_fit : VariablesFitLines
-  variables_fit max_events before = (all_kept max_events before).1
+  unfolding initial_console
+  variables_fit max_events before = variables_stay_fit (initial_console max_events) before (omega arith, tt)

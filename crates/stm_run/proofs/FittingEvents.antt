@@ -16,7 +16,7 @@ what_fits table (Installed ticket w) t n v = (n, v)
 what_fits table (Finished ticket w first_new stale) t n v = (n.0, v, n.1, n.2)
 what_fits table (Cancelled ticket) t n v = n
 
-all_fit : (table : List Declared) (es : List Event) → AreOfConsole table es → HaveSmallNumbers es → AreVerdictsInRange es → EventsFitTable table es
+pub all_fit : (table : List Declared) (es : List Event) → AreOfConsole table es → HaveSmallNumbers es → AreVerdictsInRange es → EventsFitTable table es
 all_fit table [] t n v = tt
 all_fit table (e ∷ es) t n v = ((omega (arith, t.0), what_fits table e.what t.1 n.0 v.0), all_fit table es t.2 n.1 v.1)
 

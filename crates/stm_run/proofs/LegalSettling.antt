@@ -3,15 +3,15 @@ use Rattle.std.proofs.Common.{◌≡◌, ℕ, zero, suc, ◌+◌, ◌-◌, ◌<�
 use Rattle.std.specs.Prelude.{nat_eq, nat_le, IsSomeAnd}
 use Rattle.std.proofs.lemmas.Bool.Decides.{nat_tests}
 use Rattle.stm_terms.specs.declared.verdicts.Verdict.{Verdict}
-use Rattle.stm_store.specs.Cells.{made_by, changed_by}
+use Rattle.stm_store.specs.Cells.{made_by}
 use Rattle.stm_events.specs.declared.staleness.StalenessRule.TheVariants.{Changed}
 use Rattle.stm_events.specs.declared.event.What.{What}
 use Rattle.stm_events.specs.declared.event.What.TheVariants.{Finished}
 use Rattle.stm_events.specs.Laws.{AreRising, TicketsRise, SubmitsWellTyped}
 use Rattle.stm_machine.specs.Machine.{event}
-use Rattle.stm_events.specs.SlowDesk.{Waiter, Slow, verdict_on, is_blocks, is_current, find_waiter, without_waiter, stale_after, max_cells, after, Allows, MayInstall, MayFinish, initial_state}
+use Rattle.stm_events.specs.SlowDesk.{Waiter, Slow, verdict_on, is_blocks, is_current, find_waiter, without_waiter, stale_after, waking, max_cells, after, Allows, MayInstall, MayFinish, initial_state}
 use Rattle.stm_events.specs.SlowSettle.{lowest, is_due, ends, can_end, installing, ending, next_of, next_what, has_cells, settle_on, settling}
-use Rattle.stm_desk.specs.Seen.{Seen, now, with_event}
+use Rattle.stm_desk.specs.DeskView.{DeskView, state_of, with_event}
 use Rattle.stm_desk.specs.Settling.{with_whats}
 use Rattle.stm_commands.specs.OpenDesk.{HandedOut}
 use Rattle.stm_run.proofs.StandingDesk.{Stands, stands_event, state_later}
@@ -80,7 +80,7 @@ room_by s t v stale e = grind (arith, nat_tests)
 ends_next : (s : Slow) (w : Waiter) (v : Option Verdict) → find_waiter w.ticket s.waiters ≡ Some w → is_due w ≡ false → ends v ≡ true → verdict_on s.store w.block ≡ v → IsAllowed s (ending s w.ticket v)
 ends_next s w None f h g e = tt
 ends_next s w (Some v) f h g e = λ room.
-    let stale = stale_after (changed_by s.store v) (without_waiter w.ticket s.waiters) in
+    let stale = stale_after (waking s.rule s.store v) (without_waiter w.ticket s.waiters) in
     let may : MayFinish s w.ticket w v (length s.store) stale = record {
       current = not_false (is_current w) h;
       verdict_is = e;
@@ -108,23 +108,23 @@ not_full : (limit n room : ℕ) → suc room ≤ limit - n → nat_le limit n �
 not_full limit n room h = let l : n < limit = omega arith in grind (arith, nat_tests)
 
 abbrev StandsAfter : ℕ → List HandedOut → Type 0
-StandsAfter room jobs = (d : Seen) → room ≤ d.limit - length d.history → Stands d jobs → Stands (with_whats d 0 (settling room (now d))) jobs
+StandsAfter room jobs = (d : DeskView) → room ≤ d.limit - length d.history → Stands d jobs → Stands (with_whats d 0 (settling room (state_of d))) jobs
 
-settles_on : (room : ℕ) (d : Seen) (jobs : List HandedOut) (o : Option What) → StandsAfter room jobs → suc room ≤ d.limit - length d.history → IsAllowed (now d) o → Stands d jobs
-    → Stands (with_whats d 0 (settle_on (settling room) (now d) o)) jobs
+settles_on : (room : ℕ) (d : DeskView) (jobs : List HandedOut) (o : Option What) → StandsAfter room jobs → suc room ≤ d.limit - length d.history → IsAllowed (state_of d) o → Stands d jobs
+    → Stands (with_whats d 0 (settle_on (settling room) (state_of d) o)) jobs
 settles_on room d jobs None more h a k = k
-settles_on room d jobs (Some what) more h a k = by (has_cells (now d) what) refl
+settles_on room d jobs (Some what) more h a k = by (has_cells (state_of d) what) refl
   where
-    by : (b : Bool) → has_cells (now d) what ≡ b → Stands (with_whats d 0 (cond b (what ∷ settling room (after (now d) what)) [])) jobs
+    by : (b : Bool) → has_cells (state_of d) what ≡ b → Stands (with_whats d 0 (cond b (what ∷ settling room (after (state_of d) what)) [])) jobs
     by false e = k
     by true e =
-        let next = with_event d (event 0 what) in
+        let next = with_event d 0 what in
         let stood : Stands next jobs = stands_event d jobs what (not_full d.limit (length d.history) room h) (a e).0 (a e).1 k in
         let low : room ≤ next.limit - length next.history = omega (arith, length-append d.history (event 0 what ∷ []), h) in
-        subst (λ (s : Slow). Stands (with_whats next 0 (settling room s)) jobs) (state_later (initial_state d.table) d.history (event 0 what)) (more next low stood)
+        subst (λ (s : Slow). Stands (with_whats next 0 (settling room s)) jobs) (state_later (initial_state Changed d.table) d.history (event 0 what)) (more next low stood)
 
 module _ (rise : TicketsRise) where
   pub settled_stands : (room : ℕ) (jobs : List HandedOut) → StandsAfter room jobs
   settled_stands zero jobs d h k = k
   settled_stands (suc room) jobs d h k =
-      settles_on room d jobs (next_what (now d)) (settled_stands room jobs) h (next_allowed (now d) (rise Changed d.table d.history k.legal).rising) k
+      settles_on room d jobs (next_what (state_of d)) (settled_stands room jobs) h (next_allowed (state_of d) (rise Changed d.table d.history k.legal).rising) k

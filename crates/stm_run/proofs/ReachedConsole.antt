@@ -12,8 +12,8 @@ use Rattle.stm_events.specs.Laws.{TicketsRise, BlocksStay}
 use Rattle.stm_event_lines.specs.WholeBlocks.{CheckedAreWellTyped}
 use Rattle.stm_events.specs.SlowDesk as slow
 use Rattle.stm_desk.specs.Refusals.{submit_refusal, finish_refusal, cancel_refusal}
-use Rattle.stm_desk.specs.Seen.{Seen}
-use Rattle.stm_desk.specs.Settling.{called_back}
+use Rattle.stm_desk.specs.DeskView.{DeskView}
+use Rattle.stm_desk.specs.Settling.{requeued_all}
 use Rattle.stm_run.specs.declared.command.Command.{Command}
 use Rattle.stm_run.specs.declared.command.Command.TheVariants.{Tvar, Submit, Take, Deliver, Handback, Eval, Finish, Cancel, Settle}
 use Rattle.stm_run.specs.declared.console.Console.{Console}
@@ -68,13 +68,13 @@ declare_reached table limit (Err e) t low h = (t, low)
 abbrev StandsAfter : OpenDesk × List ℕ → Type 0
 StandsAfter p = Stands p.0.desk p.0.jobs
 
-submit_stands : (d : Seen) (jobs : List HandedOut) (r : Result Block Refusal) → BlockOrTold d.table r → Stands d jobs → Stands (submit_text_step d r).0 jobs
+submit_stands : (d : DeskView) (jobs : List HandedOut) (r : Result Block Refusal) → BlockOrTold d.table r → Stands d jobs → Stands (submit_text_step d r).0 jobs
 submit_stands d jobs (Ok b) h k = submitted_stands d jobs b h.0 (submit_refusal d b) refl k
 submit_stands d jobs (Err e) h k = k
 
-handback_stands : (d : Seen) (jobs : List HandedOut) (t : ℕ) → Stands d jobs → Stands (handback_ticket_step d t).0 jobs
+handback_stands : (d : DeskView) (jobs : List HandedOut) (t : ℕ) → Stands d jobs → Stands (handback_ticket_step d t).0 jobs
 handback_stands d jobs t k =
-    either_has (λ (p : Seen × List ℕ). Stands p.0 jobs) (is_out t d.pending) (handed_back d t, queued_line t) (d, refused (codes "NotOut"))
+    either_has (λ (p : DeskView × List ℕ). Stands p.0 jobs) (is_out t d.pending) (handed_back d t, queued_line t) (d, refused (codes "NotOut"))
     (stands_marked d (marked t false d.pending) jobs (tickets_marked t false d.pending) k) k
 
 module _ (blocks : BlockAnswersAreRight) (declarations : DeclarationAnswersAreRight) (faults : CheckNeverSaysNoMemory) (stable : VerdictIsStable) (rise : TicketsRise) (stay : BlocksStay) (checked : CheckedAreWellTyped) where
@@ -99,7 +99,7 @@ module _ (blocks : BlockAnswersAreRight) (declarations : DeclarationAnswersAreRi
   desk_stands d k Cancel argument =
       number_has StandsAfter (λ t. on_desk d (cancel_ticket_step d.desk t (cancel_refusal d.desk t))) (d, argument_refused) (number_argument argument) (λ t. cancelled_stands d.desk d.jobs t (cancel_refusal d.desk t) refl k) k
   desk_stands d k Settle argument =
-      nothing_has StandsAfter (on_desk d (settle_desk_step (called_back d.desk))) (d, argument_refused) argument (settled_stands rise (d.desk.limit - length d.desk.history) d.jobs (called_back d.desk) (omega arith)
+      nothing_has StandsAfter (on_desk d (settle_desk_step (requeued_all d.desk))) (d, argument_refused) argument (settled_stands rise (d.desk.limit - length d.desk.history) d.jobs (requeued_all d.desk) (omega arith)
       (stands_marked d.desk (recalled d.desk.pending) d.jobs (tickets_recalled d.desk.pending) k)) k
   desk_stands d k c argument = k
 

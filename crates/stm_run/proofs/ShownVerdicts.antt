@@ -7,7 +7,6 @@ use Rattle.stm_check.specs.Laws.{CheckNeverSaysNoMemory}
 use Rattle.stm_check.specs.TypedBlock.{Block}
 use Rattle.stm_eval.specs.Laws.{VerdictIsStable}
 use Rattle.stm_parse.specs.ParseFunction.{BlockAnswersAreRight, DeclarationAnswersAreRight}
-use Rattle.stm_store.specs.Cells.{changed_by}
 use Rattle.stm_store.specs.declared.cell.Cell.{Cell}
 use Rattle.stm_store.specs.Tables.{Declared}
 use Rattle.stm_events.specs.declared.staleness.StalenessRule.TheVariants.{Changed}
@@ -72,7 +71,7 @@ has_one s v (Some w) a = a.verdict_is
 evaluated_after : (s : Slow) (d : What) → Allows s d → AllEvaluated s.waiters → AllEvaluated (after s d).waiters
 evaluated_after s (Submitted t block) a h = with_one s.waiters _ h tt
 evaluated_after s (Installed t v) a h = delivered_all t s.store v s.waiters h (has_one s v (find_waiter t s.waiters) a)
-evaluated_after s (Finished t v n stale) a h = marked (changed_by s.store v) (without_waiter t s.waiters) (without t s.waiters h)
+evaluated_after s (Finished t v n stale) a h = marked (slow.waking s.rule s.store v) (without_waiter t s.waiters) (without t s.waiters h)
 evaluated_after s (Cancelled t) a h = without t s.waiters h
 
 evaluated_from : (s : Slow) (es : List Event) → LegalFrom s es → AllEvaluated s.waiters → AllEvaluated (state_from s es).waiters
@@ -114,7 +113,7 @@ module _ (rise : TicketsRise) (weak : WeakIsPresent) where
   stands_with_verdict table history l i w e =
       let s = state table history in
       let found : find_waiter w.ticket s.waiters ≡ Some w = (there s.next 0 s.waiters i w (rise Changed table history l).rising e).found in
-      let evaluated : IsEvaluated w.block w.since = evaluated_at s.waiters i w (evaluated_from (initial_state table) history l.each tt) e in
+      let evaluated : IsEvaluated w.block w.since = evaluated_at s.waiters i w (evaluated_from (initial_state Changed table) history l.each tt) e in
       subst HasVerdict (sym (weak Changed table history w.ticket w l found)) (weak_has w.block w.since evaluated)
 
   module _ (blocks : BlockAnswersAreRight) (declarations : DeclarationAnswersAreRight) (faults : CheckNeverSaysNoMemory) (stable : VerdictIsStable) (stay : BlocksStay) (checked : CheckedAreWellTyped) where

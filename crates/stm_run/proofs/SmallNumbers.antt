@@ -79,11 +79,11 @@ legal_front : (s : Slow) (xs ys : List Event) → LegalFrom s (xs ++ ys) → Leg
 legal_front s [] ys l = tt
 legal_front s (x ∷ xs) ys l = (l.0, legal_front (after s x.what) xs ys l.1)
 
-front_is_legal : (table : List Declared) (xs ys : List Event) → IsLegal table (xs ++ ys) → IsLegal table xs
-front_is_legal table xs ys l = record { each = legal_front (initial_state table) xs ys l.each; few = omega (arith, l.few, length-append xs ys) }
+pub front_is_legal : (table : List Declared) (xs ys : List Event) → IsLegal table (xs ++ ys) → IsLegal table xs
+front_is_legal table xs ys l = record { each = legal_front (initial_state Changed table) xs ys l.each; few = omega (arith, l.few, length-append xs ys) }
 
 module _ (rise : TicketsRise) where
-  rest_small : (table : List Declared) (front rest : List Event) → IsLegal table (front ++ rest) → HaveSmallNumbers rest
+  pub rest_small : (table : List Declared) (front rest : List Event) → IsLegal table (front ++ rest) → HaveSmallNumbers rest
   rest_small table front [] l = tt
   rest_small table front (e ∷ es) l =
       let parts : front ++ e ∷ es ≡ (front ++ e ∷ []) ++ es = sym (append_assoc front (e ∷ []) es) in
@@ -91,7 +91,7 @@ module _ (rise : TicketsRise) where
       let one : IsLegal table (front ++ e ∷ []) = front_is_legal table (front ++ e ∷ []) es whole in
       let before : IsLegal table front = front_is_legal table front (e ∷ es) l in
       let tickets : TicketsAreRight (state table front) (length front) = rise Changed table front before in
-      let split = legal_split Changed (initial_state table) front e one.each in
+      let split = legal_split (initial_state Changed table) front e one.each in
       let allowed : Allows (state table front) e.what = (split.allowed).what in
       let few = before.few in
       let small : (state table front).next ≤ 2 ^ 21 = omega (arith, tickets.few, few) in

@@ -14,7 +14,7 @@ use Rattle.stm_events.specs.Laws.{SubmitsWellTyped, SubmittedAreWellTyped}
 use Rattle.stm_machine.specs.Machine.{event}
 use Rattle.stm_events.specs.SlowDesk.{Waiter, Slow, find_waiter, after, Allows, AllowsEvent, initial_state, state_from, state, LegalFrom, IsLegal, max_events}
 use Rattle.stm_events.proofs.Rising.{tickets_rise}
-use Rattle.stm_desk.specs.Seen.{Seen, now, is_full, pending_after, with_event}
+use Rattle.stm_desk.specs.DeskView.{DeskView, state_of, is_full, pending_after, with_event}
 use Rattle.stm_commands.specs.OpenDesk.{HandedOut}
 use Rattle.stm_commands.proofs.KeptQueue.{QueueKept, kept_event, kept_marks}
 
@@ -39,7 +39,7 @@ pub record StandsOn (table : List Declared) (limit : ℕ) (history : List Event)
   pub taken : AllTaken table history jobs
   pub queue : QueueKept (state table history).waiters pending
 
-abbrev pub Stands : Seen → List HandedOut → Type 0
+abbrev pub Stands : DeskView → List HandedOut → Type 0
 Stands d jobs = StandsOn d.table d.limit d.history d.pending jobs
 
 -- ---- one event more
@@ -73,7 +73,7 @@ has_room : (limit n : ℕ) → nat_le limit n ≡ false → n < limit
 has_room limit n e = grind (arith, nat_tests)
 
 -- an event that is allowed keeps it, where there is room for it
-pub stands_event : (d : Seen) (jobs : List HandedOut) (what : What) → is_full d ≡ false → Allows (now d) what → SubmitsWellTyped what → Stands d jobs → Stands (with_event d (event 0 what)) jobs
+pub stands_event : (d : DeskView) (jobs : List HandedOut) (what : What) → is_full d ≡ false → Allows (state_of d) what → SubmitsWellTyped what → Stands d jobs → Stands (with_event d 0 what) jobs
 stands_event d jobs what room a w k = record {
   table_typed = k.table_typed;
   legal = record {
@@ -83,19 +83,19 @@ stands_event d jobs what room a w k = record {
   typed = typed_later d.history (event 0 what) k.typed w;
   limit_low = k.limit_low;
   taken = taken_later d.table d.history (event 0 what) jobs k.taken;
-  queue = subst (λ (s : Slow). QueueKept s.waiters (pending_after what d.pending)) (sym (state_later (initial_state d.table) d.history (event 0 what)))
-      (kept_event (now d) what d.pending (tickets_rise Changed d.table d.history k.legal).rising a k.queue);
+  queue = subst (λ (s : Slow). QueueKept s.waiters (pending_after what d.pending)) (sym (state_later (initial_state Changed d.table) d.history (event 0 what)))
+      (kept_event (state_of d) what d.pending (tickets_rise Changed d.table d.history k.legal).rising a k.queue);
 }
 
 -- which of the tickets are queued and which are out doesn't matter
-pub stands_marked : (d : Seen) (pending : List Entry) (jobs : List HandedOut) → tickets pending ≡ tickets d.pending → Stands d jobs → Stands (record d { pending = pending }) jobs
+pub stands_marked : (d : DeskView) (pending : List Entry) (jobs : List HandedOut) → tickets pending ≡ tickets d.pending → Stands d jobs → Stands (record d { pending = pending }) jobs
 stands_marked d pending jobs e k = record {
   table_typed = k.table_typed;
   legal = k.legal;
   typed = k.typed;
   limit_low = k.limit_low;
   taken = k.taken;
-  queue = kept_marks (now d).waiters d.pending pending e k.queue;
+  queue = kept_marks (state_of d).waiters d.pending pending e k.queue;
 }
 
 -- ---- jobs
@@ -109,5 +109,5 @@ taken_at table history (x ∷ xs) zero j k e = let q : x ≡ j = cc in subst (Wa
 taken_at table history (x ∷ xs) (suc n) j k e = taken_at table history xs n j k.1 e
 
 -- the same desk, with other jobs
-pub stands_with : (d : Seen) (old new : List HandedOut) → AllTaken d.table d.history new → Stands d old → Stands d new
+pub stands_with : (d : DeskView) (old new : List HandedOut) → AllTaken d.table d.history new → Stands d old → Stands d new
 stands_with d old new t k = record { table_typed = k.table_typed; legal = k.legal; typed = k.typed; limit_low = k.limit_low; taken = t; queue = k.queue }

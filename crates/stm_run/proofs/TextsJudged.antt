@@ -1,5 +1,5 @@
--- What texts declare and which blocks they are: a value of its type, a well typed block over the table, or a refusal that is
--- told.
+-- What texts declare and which blocks they are: a value of its type, a well typed block over the table, or a refusal other than
+-- for lack of memory.
 use Rattle.std.proofs.Common.{◌≡◌, ◌≢◌, ℕ, Bool, true, false, cond, List, [], length, Option, Some, None, Result, Ok, Err, refl, ap, ◌∙◌, subst}
 use Rattle.std.specs.Prelude.{is_some, not, nat_lt}
 use Rattle.stm_terms.specs.declared.values.Value.{Value}
@@ -27,15 +27,14 @@ use Rattle.stm_blocks.specs.declared.refusal.Refusal.{Refusal}
 use Rattle.stm_blocks.specs.declared.refusal.Refusal.TheVariants.{Unknown}
 use Rattle.stm_blocks.specs.CompiledBlock.{block_or_refusal, compiled_block}
 use Rattle.stm_blocks.specs.DeclaredVariable.{reference_to, initial, unless_refused, with_initial_value, on_declaration, variable_of}
-use Rattle.stm_blocks.specs.ToldRefusal.{told_refusal}
-use Rattle.stm_run.proofs.EndedLines.{parsing_told, typing_told}
+use Rattle.stm_blocks.specs.OutOfMemory.{IsOutOfMemory}
 use Rattle.stm_blocks.proofs.UsesAreCovered.{opened_covers}
 
 -- ---- declarations
--- where a variable is declared, its value is of its type; where it is refused, the refusal is told
+-- a variable that is declared has a value of its type; a refusal isn't for lack of memory
 abbrev pub MayHoldOrTold : List Declared → Result Declared Refusal → Type 0
 MayHoldOrTold table (Ok d) = may_hold (declared_cells table) d.kind d.value ≡ true
-MayHoldOrTold table (Err e) = told_refusal e ≡ Some e
+MayHoldOrTold table (Err e) = ¬ IsOutOfMemory e
 
 abbrev judged_by : Bool → Bool → Bool → Option DeclareError
 judged_by twice holds room = cond twice (Some declare.Twice) (cond (not holds) (Some declare.TypeOfValue) (cond room None (Some declare.TableFull)))
@@ -44,28 +43,28 @@ declares_value : (table : List Declared) (name : List ℕ) (d : Declared) → Ma
 declares_value table name d = by (is_some (number_of name table)) (may_hold (declared_cells table) d.kind d.value) refl (nat_lt (length table) 1000000)
   where
     by : (twice holds : Bool) → may_hold (declared_cells table) d.kind d.value ≡ holds → (room : Bool) → MayHoldOrTold table (unless_refused d (judged_by twice holds room))
-    by true holds e room = refl
-    by false false e room = refl
+    by true holds e room = λ p. cc
+    by false false e room = λ p. cc
     by false true e true = e
-    by false true e false = refl
+    by false true e false = λ p. cc
 
 declares_initial : (table : List Declared) (d : ParsedDeclaration) (r : Result Value Refusal) → initial table d.init ≡ r → MayHoldOrTold table (with_initial_value table d.name d.kind r)
 declares_initial table d (Ok v) e = declares_value table d.name (record { name = d.name; kind = d.kind; value = v })
 declares_initial table d (Err x) e = of d.init e
   where
-    referred : (place : ℕ) (o : Option ℕ) → reference_to place o ≡ Err x → told_refusal x ≡ Some x
+    referred : (place : ℕ) (o : Option ℕ) → reference_to place o ≡ Err x → ¬ IsOutOfMemory x
     referred place (Some i) q = absurd cc
-    referred place None q = let p : Unknown place ≡ x = cc in subst (λ x. told_refusal x ≡ Some x) p refl
+    referred place None q = let p : Unknown place ≡ x = cc in subst (λ x. ¬ IsOutOfMemory x) p (λ k. k)
 
-    of : (i : ParsedInit) → initial table i ≡ Err x → told_refusal x ≡ Some x
+    of : (i : ParsedInit) → initial table i ≡ Err x → ¬ IsOutOfMemory x
     of (literal v) q = absurd cc
     of (named name place) q = referred place (number_of name table) q
 
 -- ---- blocks
--- a block of a text is well typed, and its variables are declared; where there is none, the refusal is told
+-- a block of a text is well typed, and its variables are declared; a refusal isn't for lack of memory
 abbrev pub BlockOrTold : List Declared → Result Block Refusal → Type 0
 BlockOrTold table (Ok b) = IsWellTyped b × Covers (plains (opened table)) b.uses
-BlockOrTold table (Err e) = told_refusal e ≡ Some e
+BlockOrTold table (Err e) = ¬ IsOutOfMemory e
 
 abbrev Judged : List Declared → Result Block BlockFault → Type 0
 Judged table (Ok b) = Covers (plains (opened table)) b.uses
@@ -75,7 +74,7 @@ Judged table (Err (NotTyped e)) = e ≢ typed.NoMemory
 module _ (blocks : BlockAnswersAreRight) (declarations : DeclarationAnswersAreRight) (faults : CheckNeverSaysNoMemory) (well_typed : CheckedAreWellTyped) where
   declares_tree : (table : List Declared) (text : List ℕ) (r : Result Tree ParseFault) → IsAnswer IsDeclaration text r → MayHoldOrTold table (on_declaration table (declaration_result text r))
   declares_tree table text (Ok t) h = declares_initial table _ _ refl
-  declares_tree table text (Err f) h = parsing_told f h.0
+  declares_tree table text (Err f) h = h.0
 
   pub declares : (table : List Declared) (text : List ℕ) → MayHoldOrTold table (variable_of table text)
   unfolding variable_of parsed_declaration
@@ -93,11 +92,11 @@ module _ (blocks : BlockAnswersAreRight) (declarations : DeclarationAnswersAreRi
   unfolding checked_block
   text_judged table text = parsed_judged table text (parsed_block text) (blocks text)
 
-  judged_told : (table : List Declared) (text : List ℕ) (r : Result Block BlockFault) → checked_block table text ≡ r → Judged table r → BlockOrTold table (block_or_refusal r)
-  judged_told table text (Ok b) e h = (well_typed table text b e, h)
-  judged_told table text (Err (NotParsed f)) e h = parsing_told f h
-  judged_told table text (Err (NotTyped f)) e h = typing_told f h
+  judged_block : (table : List Declared) (text : List ℕ) (r : Result Block BlockFault) → checked_block table text ≡ r → Judged table r → BlockOrTold table (block_or_refusal r)
+  judged_block table text (Ok b) e h = (well_typed table text b e, h)
+  judged_block table text (Err (NotParsed f)) e h = h
+  judged_block table text (Err (NotTyped f)) e h = h
 
   pub compiled : (table : List Declared) (text : List ℕ) → BlockOrTold table (compiled_block table text)
   unfolding compiled_block
-  compiled table text = judged_told table text (checked_block table text) refl (text_judged table text)
+  compiled table text = judged_block table text (checked_block table text) refl (text_judged table text)

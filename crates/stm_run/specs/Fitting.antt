@@ -8,9 +8,10 @@ use Rattle.stm_events.specs.SlowDesk as slow
 use Rattle.stm_event_lines.specs.Fits.{Is32Bit, FitNumbers, FitsVerdict, FitsTable}
 use Rattle.stm_history.specs.Judgement.{AreVariables}
 use Rattle.stm_event_lines.specs.WholeBlocks.{checked_block}
-use Rattle.stm_desk.specs.Seen.{Seen}
+use Rattle.stm_desk.specs.DeskView.{DeskView}
 use Rattle.stm_run.specs.Console.{initial_console}
-use Rattle.stm_run.specs.ConsoleState.{present_desk}
+use Rattle.stm_run.specs.ConsoleState.{present_desk, table_of}
+use Rattle.stm_run.specs.declared.console.Console.{Console}
 use Rattle.stm_run.specs.Laws.{state_after_lines}
 
 -- ---- what they are of
@@ -27,7 +28,7 @@ AreOfConsole table [] = ⊤
 AreOfConsole table (e ∷ es) = (e.client ≡ 0) × IsOfText table e.what × AreOfConsole table es
 
 -- the events of a desk are
-abbrev pub IsOfConsole : Seen → Type 0
+abbrev pub IsOfConsole : DeskView → Type 0
 IsOfConsole d = AreOfConsole d.table d.history
 
 -- whatever lines came before, and however many events the history may have
@@ -91,3 +92,8 @@ abbrev pub VariablesFitLines : Type 0
 VariablesFitLines =
     (max_events : ℕ) (before : List (List ℕ))
     → VariablesFit (present_desk (state_after_lines (initial_console max_events) before)).desk.table
+
+-- variables that can be in lines stay so with those that are declared later
+abbrev pub VariablesStayFit : Type 0
+VariablesStayFit =
+    (s : Console) (lines : List (List ℕ)) → VariablesFit (table_of s) → VariablesFit (table_of (state_after_lines s lines))

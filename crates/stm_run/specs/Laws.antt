@@ -4,7 +4,7 @@ use Rattle.std.specs.Prelude.{◌≡◌, ◌≢◌, ◌≤◌, ℕ, List, [], �
 use Rattle.stm_queue.specs.Queue.{Entry}
 use Rattle.stm_queue.specs.SortedTickets.{IsRising}
 use Rattle.stm_events.specs.SlowDesk as slow
-use Rattle.stm_desk.specs.Seen.{now}
+use Rattle.stm_desk.specs.DeskView.{state_of}
 use Rattle.stm_run.specs.declared.console.Console.{Console}
 use Rattle.stm_run.specs.Console.{initial_console, answer_to, state_after}
 use Rattle.stm_run.specs.ConsoleState.{present_desk}
@@ -29,7 +29,7 @@ EachLineIsAnswered =
 
 -- what the slow desk makes of the events after some lines
 abbrev pub desk_after_lines : ℕ → List (List ℕ) → slow.Slow
-desk_after_lines max_events lines = now (present_desk (state_after_lines (initial_console max_events) lines)).desk
+desk_after_lines max_events lines = state_of (present_desk (state_after_lines (initial_console max_events) lines)).desk
 
 -- the tickets that are queued or out after some lines
 abbrev pub pending_after_lines : ℕ → List (List ℕ) → List Entry

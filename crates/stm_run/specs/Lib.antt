@@ -3,6 +3,7 @@ pub mod Console
 pub mod ConsoleState
 pub mod Declaring
 pub mod Fitting
+pub mod Growing
 pub mod Laws
 -- The words inside, for what the code keeps between two steps, and for inputs that it takes in parts.
 pub mod Abstraction

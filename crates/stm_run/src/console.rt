@@ -1,6 +1,6 @@
 //! What the console knows, and its answer to a line.
 
-ghost use Rattle.std.specs.Prelude.{◌≡◌, ◌++◌, Some, string_bytes, OnOk, OnErr, IfOk};
+ghost use Rattle.std.specs.Prelude.{◌≡◌, ◌++◌, [], Some, string_bytes, OnOk, OnErr, IfOk};
 ghost use Rattle.stm_history.specs.HistoryText.{WritesText};
 ghost use Rattle.stm_commands.specs.Contents.{history_answer};
 ghost use Rattle.stm_commands.specs.OpenDesk.{Steps};
@@ -21,6 +21,7 @@ use std::thread::Threads;
 use stm_blocks::declaring::declare;
 use stm_commands::refusals::{refuse, refuse_argument, write_refusal};
 use stm_commands::{OpenDesk, Threading};
+use stm_desk::Desk;
 use stm_history::WriteFault;
 use stm_lines::arguments::number_of;
 use stm_lines::judging::{Judgement, judge};
@@ -116,6 +117,13 @@ impl Console {
             table: Table::with_seed(alloc, seed),
             limit,
         }
+    }
+
+    /// A console whose desk goes on from a history, with no job out.
+    pub fn resume(alloc: Global, desk: Desk) -> Result<Console, NoMemory>
+        ensures { IfOk result (λ c. c ≡ IsOpen (record { desk = desk; jobs = [] })) }
+    {
+        Ok(Console::Open(OpenDesk::resume(alloc, desk)?))
     }
 
     /// Opens the desk, unless it is open.

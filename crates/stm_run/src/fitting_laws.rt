@@ -1,14 +1,13 @@
 //! What holds of the events of a console's desk, so that they can be in lines of a history: each function's contract is a law.
 
-ghost use Rattle.stm_run.specs.Fitting.{EventsAreOfConsole, EventsFitLines, NumbersAreSmall, VariablesFitLines};
+ghost use Rattle.stm_run.specs.Fitting.{EventsAreOfConsole, EventsFitLines, NumbersAreSmall, VariablesFitLines, VariablesStayFit};
+ghost use Rattle.stm_run.specs.Growing.{ConsolesGrow};
 
 /// Each event of the desk is of client 0, and each block that was submitted is what its text checks to over the declared
 /// variables, whatever lines came before. So when a history is read again, its blocks are the same.
 pub fn events_are_of_console()
     ensures { EventsAreOfConsole }
-{
-    stm_parse::laws::answers_are_right();
-}
+{}
 
 /// The declared variables can be in lines of a history, in their order, whatever lines came before.
 pub fn variables_fit_lines()
@@ -16,6 +15,19 @@ pub fn variables_fit_lines()
 {
     stm_parse::laws::answers_are_right();
 }
+
+/// Declared variables that can be in lines of a history stay so, whatever lines come and whatever they declare.
+pub fn variables_stay_fit()
+    ensures { VariablesStayFit }
+{
+    stm_parse::laws::answers_are_right();
+}
+
+/// A console only adds events, each of client 0 and of a block of its text, and a desk that is open stays open on its table,
+/// whatever lines come.
+pub fn consoles_grow()
+    ensures { ConsolesGrow }
+{}
 
 /// The tickets of the events, the numbers of their first new variables and the tickets that they make stale have at most 32
 /// bits, whatever lines came before.

@@ -1,6 +1,6 @@
 -- Applying a verdict that fits keeps a store sound.
 use Rattle.std.proofs.Common.{◌≡◌, ℕ, zero, suc, ◌+◌, ◌≤◌, List, [], ◌∷◌, ◌++◌, map, Option, Some, None, length, set, refl, sym, ap, subst, ◌∙◌, arith, length-set, length-append}
-use Rattle.std.specs.Prelude.{slice_get, option_map}
+use Rattle.std.specs.Prelude.{⊤, slice_get, option_map}
 use Rattle.std.proofs.lemmas.List.{length-map, map-append}
 use Rattle.stm_terms.specs.declared.kinds.Ty.{Ty}
 use Rattle.stm_terms.specs.declared.values.Ref.TheVariants.{Old, New}
@@ -10,14 +10,14 @@ use Rattle.stm_terms.specs.declared.verdicts.Verdict.TheVariants.{Commits, Throw
 use Rattle.stm_terms.specs.Changes.{Changes, no_changes}
 use Rattle.stm_terms.specs.Typing.{TypeEnv, type_of}
 use Rattle.stm_store.specs.declared.cell.Cell.{Cell}
-use Rattle.stm_store.specs.Cells.{plain, plains, kinds_of, StoreIsTyped, StoreHasAtMost8Refs, IsStore, CommitFits, Fits, renumbered, rewritten, with_write, with_writes, new_cell, applied}
+use Rattle.stm_store.specs.Cells.{plain, plains, kinds_of, StoreIsTyped, StoreHasAtMost8Refs, CommitFits, Fits, renumbered, rewritten, with_write, with_writes, new_cell, applied}
 use Rattle.stm_store.specs.Laws.{TypesStay, CoveredStay, FittingKeepTypes, FittingKeepStores}
 use Rattle.stm_store.proofs.Typed.{kinds-left, mapped, old_type}
 use Rattle.stm_store.proofs.WritesInTurn.{EachWrite, each_found}
 
--- ---- each cell has a value of its type, where the variables have these types
+-- ---- each cell has a value of its type, if the variables have these types
 abbrev pub AreTyped : TypeEnv → List Cell → Type 0
-AreTyped k [] = Unit {0}
+AreTyped k [] = ⊤
 AreTyped k (c ∷ cs) = (type_of k no_changes c.value ≡ Some c.kind) × AreTyped k cs
 
 pub each_typed : (k : TypeEnv) (cs : List Cell) → ((i : ℕ) (c : Ty × Value) → slice_get (plains cs) i ≡ Some c → type_of k no_changes c.1 ≡ Some c.0) → AreTyped k cs
@@ -78,7 +78,7 @@ kinds-new n [] k = refl
 kinds-new n (c ∷ cs) zero = refl
 kinds-new n (c ∷ cs) (suc k) = kinds-new n cs k
 
--- ---- the type of a value, before and after its references are settled
+-- ---- the type of a value, before and after its references are renumbered
 renumbered_type : (k l : TypeEnv) (h : Changes) (n : ℕ) → ((i : ℕ) (t : Ty) → k i ≡ Some t → l i ≡ Some t) → ((i : ℕ) (t : Ty) → option_map (λ c. c.0) (slice_get h.news i) ≡ Some t → l (n + i) ≡ Some t) → (v : Value) (t : Ty) → type_of k h v ≡ Some t → type_of l no_changes (renumbered n v) ≡ Some t
 renumbered_type k l h n old new (Int z) t e = e
 renumbered_type k l h n old new (Truth b) t e = e
@@ -117,7 +117,7 @@ typed-new l n (c ∷ cs) f = (f 0 c refl, typed-new l n cs (λ i d e. f (suc i) 
 
 -- ---- each cell's type is low
 abbrev AreLow : List Cell → Type 0
-AreLow [] = Unit {0}
+AreLow [] = ⊤
 AreLow (c ∷ cs) = (c.kind.refs ≤ 8) × AreLow cs
 
 each_low : (cs : List Cell) → StoreHasAtMost8Refs (plains cs) → AreLow cs
@@ -208,6 +208,3 @@ kept_store cells (Commits writes news v) f i room = record {
 }
 kept_store cells (Throws x) f i room = i
 kept_store cells Blocks f i room = i
-
-pub few_cells : (cells : List Cell) → IsStore (plains cells) → length cells ≤ 1000000
-few_cells cells i = omega (arith, length-map cells plain, i.small)

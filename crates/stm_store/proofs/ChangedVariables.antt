@@ -1,5 +1,5 @@
 -- The variables that a verdict changes are those whose value is another one afterwards.
-use Rattle.std.proofs.Common.{◌≡◌, ◌≢◌, ℕ, zero, suc, ◌+◌, ◌<◌, ◌≤◌, Bool, true, false, not, ◌||◌, List, [], ◌∷◌, ◌++◌, map, filter, Option, Some, None, length, refl, sym, ap, subst, ◌∙◌, arith, add-one, eqb-true}
+use Rattle.std.proofs.Common.{◌≡◌, ◌≢◌, ℕ, zero, suc, ◌<◌, ◌≤◌, Bool, true, false, not, ◌||◌, List, [], ◌∷◌, map, filter, Option, Some, None, length, refl, sym, ap, subst, ◌∙◌, arith, add-one, eqb-true}
 use Rattle.std.specs.Prelude.{slice_get, option_map, nat_eq, if◌then◌else◌, Result, Ok, Err, IfOk}
 use Rattle.std.specs.List.{list_any}
 use Rattle.std.specs.List.Sorted.{IsStrictlyIncreasing}
@@ -14,7 +14,7 @@ use Rattle.stm_terms.specs.Typing.{AllAbove, Rising}
 use Rattle.stm_terms.specs.Value.{same_value}
 use Rattle.stm_terms.proofs.SameValues.{value_equal, value_same}
 use Rattle.stm_store.specs.declared.cell.Cell.{Cell}
-use Rattle.stm_store.specs.Cells.{plain, plains, Fits, renumbered, counted, rewritten, with_write, with_writes, new_cell, applied, after_write, changes_value, changed_by, written_by}
+use Rattle.stm_store.specs.Cells.{plain, plains, Fits, renumbered, counted, rewritten, with_write, with_writes, new_cell, applied, after_write, changes_value, changed_by}
 use Rattle.stm_store.specs.Laws.{ChangedDiffer, UnchangedStay}
 use Rattle.stm_store.proofs.Lookups.{before, write-here, write-other, is_applied}
 
@@ -167,7 +167,7 @@ changed_differ cells verdict i fits less =
       differ_to cells verdict i there.0 (list_any (nat_eq i) (changed_by cells verdict)) refl there.1,
     )
 
--- ---- they rise
+-- ---- they ascend
 rise_above : (n : ℕ) (ws : List (ℕ × Value)) (p : ℕ × Value → Bool) → AllAbove n ws → Rising ws → IsStrictlyIncreasing (n ∷ map (λ w. w.0) (filter p ws))
 rise_above n [] p a r = λ k h. absurd (omega arith)
 rise_above n (w ∷ ws) p a r =

@@ -51,7 +51,7 @@ module _ {A : Type 0} where
   same_contents items (p ∷ ptrs) [] e = absurd e
   same_contents items (p ∷ ptrs) (q ∷ qtrs) e = rw (e.0, same_contents items ptrs qtrs e.1) refl
 
-  -- pages of the same lengths are as many
+  -- as many pages, if their lengths are the same
   pub count-sizes : (ptrs qtrs : List (Arc (List A) Global)) → sizes qtrs ≡ sizes ptrs → length qtrs ≡ length ptrs
   count-sizes ptrs qtrs e =
       omega (arith, ap length e, length-map (contents ptrs) length, length-map (contents qtrs) length, length-map ptrs arc_value, length-map qtrs arc_value)
@@ -187,7 +187,7 @@ module _ {A P : Type 0} (s : ℕ) (full : 0 < s) (items : P → List A) where
   pages-set_or_same (Ok x) n ptrs p k i a b v f h less e at ok err = (kept-set n ptrs p k i a b v f h less e at ok).pages
   pages-set_or_same (Err x) n ptrs p k i a b v f h less e at ok err = (kept-same n ptrs p a b f (within n ptrs i p f (omega arith) h) at err).pages
 
-  -- the last page, where it has room
+  -- the last page, if it has room
   pub last_within : (n : ℕ) (ptrs : List (Arc P Global)) (p k : ℕ) → ArePages s n (contents_by items ptrs) → n ≡ s * p + k → 0 < k → p < length ptrs
   last_within n ptrs p k f e h = within n ptrs (n - 1) p f (omega arith) (omega arith)
 

@@ -36,10 +36,6 @@ pub from_lower : (n i k j : ℕ) (ws : List (ℕ × Value)) → i ≤ k → AreW
 from_lower n i k j [] h a = tt
 from_lower n i k j (w ∷ ws) h a = (omega (arith, a.0), a.1, a.2, a.3)
 
-pub to_higher : (n i j k : ℕ) (ws : List (ℕ × Value)) → j ≤ k → AreWithin n i j ws → AreWithin n i k ws
-to_higher n i j k [] h a = tt
-to_higher n i j k (w ∷ ws) h a = (a.0, omega (arith, a.1), a.2, to_higher n (w.0 + 1) j k ws h a.3)
-
 above : (n m j : ℕ) (ws : List (ℕ × Value)) → AllAbove m ws → Rising ws → AreWritable n ws → n ≤ j → AreWithin n (m + 1) j ws
 above n m j [] a r w h = tt
 above n m j (x ∷ ws) a r w h = (omega (arith, a.0), omega (arith, w.0), w.1, above n x.0 j ws r.0 r.1 w.2 h)
@@ -57,7 +53,7 @@ pub starts_below : (b : ℕ) (ws : List (ℕ × Value)) (d : ℕ × Value) → 0
 starts_below b [] d h l = absurd (omega arith)
 starts_below b (w ∷ ws) d h l = l
 
--- writes that rise, to cells among n
+-- ascending writes to cells among n
 pub all_within : (n j : ℕ) (ws : List (ℕ × Value)) → Rising ws → AreWritable n ws → n ≤ j → AreWithin n 0 j ws
 all_within n j [] r w h = tt
 all_within n j (x ∷ ws) r w h = (omega arith, omega (arith, w.0), w.1, above n x.0 j ws r.0 r.1 w.2 h)
@@ -187,7 +183,7 @@ pub some_writes : (ws : List (ℕ × Value)) → false ≡ (length ws == 0) → 
 some_writes [] e = absurd (cc)
 some_writes (w ∷ ws) e = omega arith
 
--- where there is a write there is a cell
+-- if there is a write, there is a cell
 pub some_cells : (n j : ℕ) (ws : List (ℕ × Value)) → AreWithin n 0 j ws → 0 < length ws → 0 < j
 some_cells n j [] a h = absurd (omega arith)
 some_cells n j (w ∷ ws) a h = omega (arith, a.1)

@@ -1,6 +1,6 @@
 -- The writes of a verdict, one by one.
 use Rattle.std.proofs.Common.{◌≡◌, ℕ, ◌<◌, true, false, List, [], ◌∷◌, Some, refl, arith}
-use Rattle.std.specs.Prelude.{nat_eq, if◌then◌else◌}
+use Rattle.std.specs.Prelude.{⊤, nat_eq, if◌then◌else◌}
 use Rattle.std.proofs.lemmas.Bool.Decides.{nat_tests}
 use Rattle.stm_terms.specs.declared.values.Value.{Value}
 use Rattle.stm_terms.specs.Changes.{find}
@@ -17,7 +17,7 @@ find_above n (w ∷ ws) i v a e =
 
 -- each write that a list of writes in order has is found in it
 abbrev pub EachWrite : (ℕ → Value → Type 0) → List (ℕ × Value) → Type 0
-EachWrite P [] = Unit {0}
+EachWrite P [] = ⊤
 EachWrite P (w ∷ ws) = P w.0 w.1 × EachWrite P ws
 
 pub each_found : (P : ℕ → Value → Type 0) (ws : List (ℕ × Value)) → Rising ws → ((i : ℕ) (v : Value) → find i ws ≡ Some v → P i v) → EachWrite P ws

@@ -1,5 +1,5 @@
 -- The cells of a store: what a block may rest on, when a verdict fits them, and what applying it does to them.
-use Rattle.std.specs.Prelude.{◌≡◌, ℕ, ◌+◌, ◌-◌, ◌^◌, ◌<◌, ◌≤◌, min, Bool, false, not, if◌then◌else◌, List, [], ◌∷◌, ◌++◌, Option, Some, None, map, filter, length, slice_set, slice_get, option_map}
+use Rattle.std.specs.Prelude.{⊤, ◌≡◌, ℕ, ◌+◌, ◌-◌, ◌^◌, ◌<◌, ◌≤◌, min, Bool, false, not, if◌then◌else◌, List, [], ◌∷◌, ◌++◌, Option, Some, None, map, filter, length, slice_set, slice_get, option_map}
 use Rattle.stm_terms.specs.declared.kinds.Ty.{Ty}
 use Rattle.stm_terms.specs.declared.values.Ref.{Ref}
 use Rattle.stm_terms.specs.declared.values.Ref.TheVariants.{Old, New}
@@ -46,10 +46,10 @@ pub record IsStore (cells : List (Ty × Value)) : Type 0 where
 
 -- these variables exist with these types
 abbrev pub Covers : List (Ty × Value) → List (ℕ × Ty) → Type 0
-Covers cells [] = Unit {0}
+Covers cells [] = ⊤
 Covers cells (u ∷ us) = (kinds_of cells u.0 ≡ Some u.1) × Covers cells us
 
--- A commit fits the cells: its writes rise, name existing cells and hold values of their types; its new cells have types
+-- A commit fits the cells: its writes ascend, name existing cells and hold values of their types; its new cells have types
 -- of at most 8 `TVar` and hold values of these; and its result is a value there.
 pub record CommitFits (cells : List (Ty × Value)) (ws : List (ℕ × Value)) (ns : List (Ty × Value)) (given : Value) : Type 0 where
   pub rising : Rising ws
@@ -62,8 +62,8 @@ pub record CommitFits (cells : List (Ty × Value)) (ws : List (ℕ × Value)) (n
 -- a throw and a retry fit every store
 unfoldable pub Fits : List (Ty × Value) → Verdict → Type 0
 Fits cells (Commits writes news result) = CommitFits cells writes news result
-Fits cells (Throws f) = Unit {0}
-Fits cells Blocks = Unit {0}
+Fits cells (Throws f) = ⊤
+Fits cells Blocks = ⊤
 
 -- in a store that had n cells, the k-th new cell becomes variable n + k
 abbrev pub renumbered_ref : ℕ → Ref → Ref
@@ -90,7 +90,7 @@ rewritten n v c =
       count = if same_value (renumbered n v) c.value then c.count else counted c.count;
     }
 
--- the cells with the i-th written, if it is there
+-- the cells with the i-th written, if it exists
 abbrev pub with_write : ℕ → List Cell → ℕ → Value → Option Cell → List Cell
 with_write n cells i v (Some c) = slice_set cells i (rewritten n v c)
 with_write n cells i v None = cells
@@ -149,7 +149,7 @@ changed_by cells (Commits writes news result) =
 changed_by cells (Throws f) = []
 changed_by cells Blocks = []
 
--- What applying a verdict means, variable by variable: one that the verdict writes has the value written and, where that is
+-- What applying a verdict means, variable by variable: one that the verdict writes has the value written and, if that is
 -- another value, is counted once more; any other is as it was; and the new cells come after them, in order.
 pub record IsApplied (old : List Cell) (verdict : Verdict) (new : List Cell) : Type 0 where
   pub olds : (i : ℕ) → i < length old

@@ -1,4 +1,4 @@
--- Whether cells suit a block or a verdict, as tests.
+-- Whether a block or a verdict fits cells, as tests.
 use Rattle.std.specs.Prelude.{ℕ, ◌+◌, Bool, true, false, ◌&&◌, is_some, nat_le, List, [], ◌∷◌, Option, Some, None}
 use Rattle.stm_terms.specs.declared.kinds.Ty.{Ty}
 use Rattle.stm_terms.specs.declared.values.Value.{Value}
@@ -10,12 +10,12 @@ use Rattle.stm_terms.specs.Typing.{TypeEnv, type_of}
 use Rattle.stm_store.specs.Cells.{kinds_of}
 use Rattle.stm_store.specs.Tables.{is_type}
 
--- these variables are there with these types
+-- these variables exist with these types
 abbrev pub covers_all : List (Ty × Value) → List (ℕ × Ty) → Bool
 covers_all cells [] = true
 covers_all cells (u ∷ us) = is_type (kinds_of cells u.0) u.1 && covers_all cells us
 
--- the keys rise, and are not below n
+-- the keys ascend, and are not below n
 abbrev pub rise_from : ℕ → List (ℕ × Value) → Bool
 rise_from n [] = true
 rise_from n (w ∷ ws) = nat_le n w.0 && rise_from (w.0 + 1) ws
@@ -28,12 +28,12 @@ making news = record { writes = []; news = news }
 abbrev pub has_type : TypeEnv → Changes → Value → Ty → Bool
 has_type k h v t = is_type (type_of k h v) t
 
--- a type that is there, and the value has it
+-- the type exists, and the value has it
 abbrev pub value_fits : TypeEnv → Changes → Value → Option Ty → Bool
 value_fits k h v (Some t) = has_type k h v t
 value_fits k h v None = false
 
--- each variable written is there, and its new value has its type
+-- each variable written exists, and its new value has its type
 abbrev pub writes_fit : TypeEnv → Changes → List (ℕ × Value) → Bool
 writes_fit k h [] = true
 writes_fit k h (w ∷ ws) = value_fits k h w.1 (k w.0) && writes_fit k h ws

@@ -8,7 +8,7 @@ use Rattle.stm_terms.specs.Changes.{cell_value}
 use Rattle.stm_store.specs.Cells.{most_cells, plains, kinds_of, StoreIsTyped, IsStore, Covers, Fits, IsApplied, applied, made_by, written_by, changed_by}
 use Rattle.stm_store.specs.Tables.{Declared, declared_cells, opened}
 
--- a variable that is there stays, with its type
+-- a variable that exists stays, with its type
 abbrev pub TypesStay : Type 0
 TypesStay =
     (cells : List Cell) (verdict : Verdict) (i : ℕ) (t : Ty)
@@ -51,7 +51,7 @@ FittingKeepTypes =
     (cells : List Cell) (verdict : Verdict)
     → Fits (plains cells) verdict → StoreIsTyped (plains cells) → StoreIsTyped (plains (applied cells verdict))
 
--- and keeps all that holds of every store, where there is room for the new variables
+-- and keeps all that holds of every store, if there is room for the new variables
 abbrev pub FittingKeepStores : Type 0
 FittingKeepStores =
     (cells : List Cell) (verdict : Verdict)

@@ -1,5 +1,5 @@
 -- What a list of cells points to.
-use Rattle.std.specs.Prelude.{◌≤◌, List, [], length}
+use Rattle.std.specs.Prelude.{⊤, ◌≤◌, List, [], length}
 use Rattle.std.specs.Arc.{arc_value}
 use Rattle.stm_store.specs.declared.cell.Cell.{Cell}
 use Rattle.stm_store.specs.declared.tree.Root.{Root}
@@ -15,7 +15,7 @@ cells_at (Parts p) = arc_value p
 
 -- a page or a part has at most the cells of a full one
 abbrev pub IsRoot : Root → Type 0
-IsRoot Empty = Unit {0}
+IsRoot Empty = ⊤
 IsRoot (Page p) = length (arc_value p) ≤ page_cells
 IsRoot (Part p) = length (arc_value p) ≤ part_cells
-IsRoot (Parts p) = Unit {0}
+IsRoot (Parts p) = ⊤

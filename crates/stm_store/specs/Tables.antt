@@ -43,12 +43,12 @@ opened_cell d = record { kind = d.kind; value = d.value; count = 0 }
 abbrev pub opened : List Declared → List Cell
 opened table = map opened_cell table
 
--- this type is there, and no other
+-- the type exists, and is this one
 abbrev pub is_type : Option Ty → Ty → Bool
 is_type (Some u) t = same_ty u t
 is_type None t = false
 
--- whether a value is of a type, where these variables are declared
+-- whether a value is of a type, if these variables are declared
 abbrev pub is_of : List (Ty × Value) → Value → Ty → Bool
 is_of cells value kind = is_type (type_of (kinds_of cells) no_changes value) kind
 
@@ -63,7 +63,7 @@ declare_refusal table name kind value =
     else if not (may_hold (declared_cells table) kind value) then Some TypeOfValue
     else if nat_lt (length table) most_cells then None else Some TableFull
 
--- the refusal that an answer reports; an out-of-memory error is none
+-- the refusal that a result reports; an out-of-memory error is none
 abbrev pub refusal_of : Result ℕ DeclareError → Option DeclareError
 refusal_of (Ok id) = None
 refusal_of (Err Twice) = Some Twice
@@ -71,15 +71,15 @@ refusal_of (Err TypeOfValue) = Some TypeOfValue
 refusal_of (Err TableFull) = Some TableFull
 refusal_of (Err NoMemory) = None
 
--- each name is one
+-- each name is a name of the language
 abbrev pub NamesAreNames : List Declared → Type 0
 NamesAreNames table = (i : ℕ) (d : Declared) → slice_get table i ≡ Some d → IsTrue (is_name_text d.name)
 
--- no name stands twice: each has the number of its own variable
+-- no name is declared twice: each has the number of its own variable
 abbrev pub NamesAreDistinct : List Declared → Type 0
 NamesAreDistinct table = (i : ℕ) (d : Declared) → slice_get table i ≡ Some d → number_of d.name table ≡ Some i
 
--- a table that declarations make: each name is one, and none of the declarations is refused, in their order
+-- a table that declarations make: each name is a name of the language, and no declaration is refused, in their order
 abbrev pub AreDeclared : List Declared → Type 0
 AreDeclared table = (i : ℕ) (d : Declared) → slice_get table i ≡ Some d →
     IsTrue (is_name_text d.name) × (declare_refusal (take i table) d.name d.kind d.value ≡ None)

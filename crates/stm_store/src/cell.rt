@@ -16,7 +16,7 @@ pub struct Cell {
 }
 
 impl Cell {
-    /// The cell after one more block has written this value, which counts where it is another one.
+    /// The cell after one more block has written this value. The write is counted if it changes the value.
     pub fn written(self, value: Value) -> Cell
         ensures kind { result.kind ≡ self.kind }
         ensures value { result.value ≡ value }

@@ -6,14 +6,14 @@ ghost use Rattle.stm_store.specs.Cells.{with_writes};
 ghost use Rattle.stm_store.specs.FreshReferences.{AreWritable};
 
 use crate::cell::Cell;
-use crate::cells::Cells;
+use crate::cell_traits::Cells;
 use crate::tree::Tree;
 use std::alloc::{AllocError, Global};
 use std::marker::Model;
 use stm_terms::values::Value;
 
 /// A list of cells in parts, whose last cells may be cut off again without taking memory: they stay after the end, and are
-/// overwritten where the list grows.
+/// overwritten when the list grows.
 #[derive(Drop)]
 pub(crate) struct CellList {
     tree: Tree,
@@ -68,7 +68,7 @@ impl CellList {
         })
     }
 
-    /// Makes the writes of a verdict, in a store that had this many cells, or where memory is refused none.
+    /// Makes the writes of a verdict in a store that had this many cells; after an out-of-memory error, none of them.
     pub(crate) fn write(&mut self, len: u32, writes: &[(u32, Value)]) -> Result<(), AllocError>
         requires len { len ≤ length self.old }
         requires writable { AreWritable len writes.now }

@@ -7,7 +7,7 @@ ghost use Rattle.stm_store.specs.FitsDecision.{covers_all};
 use crate::cell_list::CellList;
 use stm_terms::kinds::Ty;
 
-/// The type of a variable, if it is there.
+/// The type of a variable, if it exists.
 pub(crate) fn kind_at(cells: &CellList, id: u32) -> Option<Ty>
     ensures { result ≡ kinds_of (plains cells.now) id }
 {
@@ -18,7 +18,7 @@ pub(crate) fn kind_at(cells: &CellList, id: u32) -> Option<Ty>
     }
 }
 
-/// Whether all of these variables are there with these types.
+/// Whether all of these variables exist with these types.
 pub(crate) fn covers(cells: &CellList, uses: &[(u32, Ty)]) -> bool
     ensures { result ≡ covers_all (plains cells.now) uses.now }
 {

@@ -12,7 +12,7 @@ use stm_terms::kinds::{Base, Ty};
 use stm_terms::values::{Ref, Value};
 use stm_terms::verdicts::Verdict;
 
-/// Whether the verdict suits the cells.
+/// Whether the verdict fits the cells.
 pub(crate) fn fits(cells: &CellList, verdict: &Verdict) -> bool
     ensures { result ≡ fits_decision (plains cells.now) verdict.now }
 {
@@ -31,7 +31,7 @@ pub(crate) fn fits(cells: &CellList, verdict: &Verdict) -> bool
     }
 }
 
-/// Whether the variables rise.
+/// Whether the variables ascend, each once.
 fn rise(writes: &[(u32, Value)]) -> bool
     ensures { result ≡ rise_from 0 writes.now }
 {
@@ -45,7 +45,7 @@ fn rise(writes: &[(u32, Value)]) -> bool
     true
 }
 
-/// Whether each variable written is there and has the type of its new value.
+/// Whether each variable written exists and has the type of its new value.
 fn writes_hold(cells: &CellList, news: &[(Ty, Value)], writes: &[(u32, Value)]) -> bool
     ensures { result ≡ writes_fit (kinds_of (plains cells.now)) (making news.now) writes.now }
 {
@@ -86,7 +86,7 @@ fn value_has(cells: &CellList, news: &[(Ty, Value)], value: Value, kind: Ty) -> 
     }
 }
 
-/// Whether the value's reference, if it is one, is there.
+/// Whether the value's reference, if it is one, is to a variable that exists.
 fn exists(cells: &CellList, news: &[(Ty, Value)], value: Value) -> bool
     ensures { result ≡ is_some (type_of (kinds_of (plains cells.now)) (making news.now) value) }
 {
@@ -96,7 +96,7 @@ fn exists(cells: &CellList, news: &[(Ty, Value)], value: Value) -> bool
     }
 }
 
-/// The type of a cell that a verdict refers to, if it is there.
+/// The type of a cell that a verdict refers to, if it exists.
 fn kind_of_ref(cells: &CellList, news: &[(Ty, Value)], reference: Ref) -> Option<Ty>
     ensures { result ≡ kind_of (kinds_of (plains cells.now)) (making news.now) reference }
 {

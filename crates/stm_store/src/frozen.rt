@@ -38,7 +38,7 @@ impl Frozen {
         Frozen { cells }
     }
 
-    /// How many variables there are. What holds of every copy stands here.
+    /// How many variables there are. The other clauses hold of every copy.
     pub fn len(&self) -> usize
         ensures len { result ≡ length self.now }
         ensures small { length self.now ≤ most_cells }
@@ -64,7 +64,7 @@ impl Frozen {
         self.cells.get(id as usize).kind
     }
 
-    /// Whether these variables are there with these types.
+    /// Whether these variables exist with these types.
     #[tactic(auto, using(crate::proofs::FitsDecided::covers_from, crate::proofs::FitsDecided::covers_to))]
     pub fn covers(&self, uses: &[(u32, Ty)]) -> bool
         ensures { IsTrue result ↔ Covers self.now uses.now }

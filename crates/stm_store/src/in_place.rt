@@ -1,8 +1,8 @@
 //! Writing in place, all or none.
 //!
 //! What another list shares is copied before it is written: a page, and each list of pages or parts that leads to it. The
-//! memory for that may be refused. So each page is made this list's own on the way down, where nothing is written, and its
-//! cells are written on the way back, where nothing can be refused: after a refusal no cell has been written. The writes
+//! copies need memory. So each page is made this list's own on the way down, before anything is written, and its cells are
+//! written on the way back, which needs no memory: after an out-of-memory error no cell has been written. The writes
 //! ascend by variable, so that each call hands on what comes after its page. The stack grows with the pages that are written,
 //! and not with the writes.
 
@@ -13,13 +13,13 @@ ghost use Rattle.stm_store.specs.Pages.{page_cells, part_cells, contents, flatte
 ghost use Rattle.stm_store.specs.RangeWrites.{AreWithin, StartsBelow, with_writes_from};
 
 use crate::page::Page;
-use crate::paged::place;
+use crate::paged_list::place;
 use crate::parts::{Part, Parts};
 use std::alloc::AllocError;
 use std::sync::Arc;
 use stm_terms::values::Value;
 
-/// Makes these writes in a page, or if memory is refused none.
+/// Makes these writes in a page; after an out-of-memory error, none of them.
 pub(crate) fn write_one_page(
     page: &mut Arc<Page>,
     len: u32,
@@ -35,7 +35,7 @@ pub(crate) fn write_one_page(
     Ok(())
 }
 
-/// Makes these writes in a part, or if memory is refused none. There is at least one.
+/// Makes these writes, at least one, in a part; after an out-of-memory error, none of them.
 pub(crate) fn write_one_part(
     part: &mut Arc<Part>,
     len: u32,
@@ -53,7 +53,7 @@ pub(crate) fn write_one_part(
     write_part(0, part, &mut [], len, writes)
 }
 
-/// Makes these writes in a list of parts, or if memory is refused none.
+/// Makes these writes in a list of parts; after an out-of-memory error, none of them.
 pub(crate) fn write_parts(
     parts: &mut Arc<Parts>,
     len: u32,
@@ -68,7 +68,7 @@ pub(crate) fn write_parts(
     write(parts, len, writes)
 }
 
-/// Makes these writes, or if memory is refused none, in a list of parts that is this list's own.
+/// Makes these writes in a list of parts that no other list shares; after an out-of-memory error, none of them.
 fn write(cells: &mut Parts, len: u32, writes: &[(u32, Value)]) -> Result<(), AllocError>
     requires { AreWithin len 0 (length cells.old) writes.now }
     ensures ok { OnOk result (cells.new ≡ with_writes_from len 0 writes.now cells.old) }
@@ -78,7 +78,7 @@ fn write(cells: &mut Parts, len: u32, writes: &[(u32, Value)]) -> Result<(), All
     write_pages(0, 0, &mut [], cells.pages.as_mut_slice(), len, writes)
 }
 
-/// Makes these writes in these pages, whose cells have the numbers from `first` to before `end`, and in the parts behind
+/// Makes these writes in these pages, whose cells have the numbers from `first` to before `end`, and in the parts after
 /// them.
 #[cycle(write)]
 fn write_pages(

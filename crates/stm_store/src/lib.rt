@@ -1,22 +1,22 @@
 //! The declared variables, the store of their values, and unchanging copies of it.
 //!
-//! What a reader has to believe stands in `specs/`: `Cells` (what holds of every store, which verdicts fit it, and what
+//! What a reader has to believe is in `specs/`: `Cells` (what holds of every store, which verdicts fit it, and what
 //! applying one does), `Tables` (what holds of every table, and why a variable can't be declared), and `Laws` (what applying
 //! a verdict keeps).
 #![tactic(auto)]
 
+mod apply;
 pub mod cell;
 mod cell_list;
-mod cells;
-mod change;
-mod changed;
+mod cell_traits;
+mod changed_variables;
 mod covers;
 mod fits;
 pub mod frozen;
 mod in_place;
 pub mod laws;
 mod page;
-mod paged;
+mod paged_list;
 mod parts;
 pub mod ready;
 mod renumber;

@@ -6,13 +6,13 @@ ghost use Rattle.stm_store.specs.Pages.{page_cells};
 ghost use Rattle.stm_store.specs.RangeWrites.{AreWithin, with_writes_from};
 
 use crate::cell::Cell;
-use crate::cells::{AsPage, Cells};
+use crate::cell_traits::{AsPage, Cells};
 use crate::renumber::rewrite;
 use std::alloc::{AllocError, Global};
 use std::marker::Model;
 use stm_terms::values::Value;
 
-/// A few cells. Contracts see a list; whoever holds pages gives each at most `Page::SIZE` cells.
+/// A few cells. Contracts see a list; the owner of a page puts at most `Page::SIZE` cells into it.
 #[derive(Drop)]
 pub(crate) struct Page {
     cells: Vec<Cell>,

@@ -1,7 +1,7 @@
 //! A list of cells in parts, each of which is a list of pages.
 
 use crate::page::Page;
-use crate::paged::Paged;
+use crate::paged_list::Paged;
 
 /// A part of a list of cells: 64 pages.
 pub(crate) type Part = Paged<Page>;

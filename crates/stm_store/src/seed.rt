@@ -33,7 +33,7 @@ impl Hasher for NameHasher {
     }
 }
 
-/// The seed of a table: the states from which its names are hashed. Whoever doesn't know it can't choose names that collide.
+/// The seed of a table: the states from which its names are hashed. Without it nobody can choose names that collide.
 /// Nothing that a table returns depends on it.
 #[derive(Clone, Copy)]
 pub struct Seed {
@@ -54,8 +54,7 @@ impl Seed {
         }
     }
 
-    /// A seed of random bytes. If the system has none to give, it is the fixed one, since all that names which collide can do
-    /// is to take time.
+    /// A seed of random bytes. If the system has none, it is the fixed one: names that collide cost time, and nothing else.
     pub fn random(rt: &impl RandomSource) -> Seed {
         let mut seed = Seed::fixed();
         let mut bytes = [0; 16];

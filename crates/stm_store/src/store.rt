@@ -6,10 +6,10 @@ ghost use Rattle.stm_terms.specs.Changes.{cell_value};
 ghost use Rattle.stm_store.specs.Cells.{most_cells, StoreIsTyped, StoreHasAtMost8Refs, Covers, Fits, IsApplied, kinds_of, plains, applied, changed_by, result_there, made_by, applied_answer};
 ghost use Rattle.stm_store.specs.Tables.{opened};
 
+use crate::apply::perform;
 use crate::cell::Cell;
 use crate::cell_list::CellList;
-use crate::change::perform;
-use crate::changed::changed_variables;
+use crate::changed_variables::changed_variables;
 use crate::covers::covers;
 use crate::fits::fits;
 use crate::frozen::Frozen;
@@ -60,7 +60,7 @@ impl Store {
         Ok(Store { cells })
     }
 
-    /// How many variables there are. What holds of every store stands here.
+    /// How many variables there are. The other clauses hold of every store.
     pub fn len(&self) -> usize
         ensures len { result ≡ length self.now }
         ensures small { length self.now ≤ most_cells }
@@ -86,7 +86,7 @@ impl Store {
         self.cells.get(id as usize).kind
     }
 
-    /// How many finished blocks changed a variable; the greatest number where it is that many or more.
+    /// How many finished blocks changed a variable, up to the greatest `u64`.
     pub fn count(&self, id: u32) -> u64
         requires { id < length self.now }
         ensures { option_map (λ c. c.count) (slice_get self.now id) ≡ Some result }
@@ -101,7 +101,7 @@ impl Store {
         Ok(Frozen::of(self.cells.share()?))
     }
 
-    /// Whether these variables are there with these types.
+    /// Whether these variables exist with these types.
     #[tactic(auto, using(crate::proofs::FitsDecided::covers_from, crate::proofs::FitsDecided::covers_to))]
     pub fn covers(&self, uses: &[(u32, Ty)]) -> bool
         ensures { IsTrue result ↔ Covers (plains self.now) uses.now }
@@ -116,8 +116,8 @@ impl Store {
         fits(&self.cells, verdict)
     }
 
-    /// The variables that a verdict changes: those that it writes and whose value afterwards is another one. They rise where
-    /// the verdict can be applied.
+    /// The variables that a verdict changes: it writes them, and their value afterwards is another one. They ascend if the
+    /// verdict can be applied.
     pub fn changes(&self, verdict: &Verdict) -> Result<Vec<u32>, NoMemory>
         ensures changed { IfOk result (λ vs. vs.items ≡ changed_by self.now verdict.now) }
         ensures rising { Fits (plains self.now) verdict.now
@@ -175,7 +175,7 @@ impl Store {
         ready.applied
     }
 
-    /// Whether there may be as many variables more as the verdict makes.
+    /// Whether there is room for the variables that the verdict makes.
     fn has_room(&self, verdict: &Verdict) -> Result<(), ApplyError>
         ensures ok { OnOk result (length self.now + length (made_by verdict.now) ≤ most_cells) }
         ensures err { OnErr result (most_cells < length self.now + length (made_by verdict.now)) }

@@ -88,7 +88,7 @@ impl Table {
         Ok(Table { entries })
     }
 
-    /// How many variables there are. What holds of every table stands here.
+    /// How many variables there are. The other clauses hold of every table.
     pub fn len(&self) -> usize
         ensures len { result ≡ length self.now }
         ensures small { length self.now ≤ most_cells }
@@ -143,7 +143,7 @@ impl Table {
         }
     }
 
-    /// The type of a variable, if it is there.
+    /// The type of a variable, if it exists.
     fn kind_at(&self, id: u32) -> Option<Ty>
         ensures { result ≡ kinds_of (declared_cells self.now) id }
     {
@@ -162,7 +162,7 @@ impl Table {
     }
 
     /// Whether the value is of the type.
-    fn is_of(&self, value: Value, kind: Ty) -> bool
+    pub fn is_of(&self, value: Value, kind: Ty) -> bool
         ensures { result ≡ is_of (declared_cells self.now) value kind }
     {
         match value {
@@ -177,7 +177,7 @@ impl Table {
         }
     }
 
-    /// Declares a variable after the others and answers its number. The caller knows that the name is one.
+    /// Declares a variable after the others and returns its number. The caller knows that the name is one.
     pub fn declare(&mut self, name: &str, kind: Ty, value: Value) -> Result<u32, DeclareError>
         requires { IsTrue (is_name_text name.now) }
         ensures ok { IfOk result (λ id. (id ≡ length self.old)

@@ -6,10 +6,10 @@ ghost use Rattle.stm_store.specs.Pages.{page_cells, part_cells};
 ghost use Rattle.stm_store.specs.RangeWrites.{AreWithin, with_writes_from};
 
 use crate::cell::Cell;
-use crate::cells::{AsPage, Cells};
+use crate::cell_traits::{AsPage, Cells};
 use crate::in_place::{write_one_page, write_one_part, write_parts};
 use crate::page::Page;
-use crate::paged::{Paged, push_cell, set_cell};
+use crate::paged_list::{Paged, push_cell, set_cell};
 use crate::parts::{Part, Parts};
 use std::alloc::{AllocError, Global};
 use std::marker::Model;
@@ -98,7 +98,7 @@ impl Tree {
         })
     }
 
-    /// Makes these writes, or if memory is refused none. What another list shares is copied first.
+    /// Makes these writes; after an out-of-memory error, none of them. What another list shares is copied first.
     pub(crate) fn write(&mut self, len: u32, writes: &[(u32, Value)]) -> Result<(), AllocError>
         requires { AreWithin len 0 (length self.old) writes.now }
         ensures ok { OnOk result (self.new ≡ with_writes_from len 0 writes.now self.old) }

@@ -1,6 +1,6 @@
 -- No line begins more sections than a script may have.
 use Rattle.std.proofs.Common.{◌≡◌, ℕ, ◌+◌, ◌≤◌, ◌<◌, true, false, Bool, List, [], ◌∷◌, ◌++◌, length, refl, sym, subst, arith, cond, length-append, Option, Some, None, Result, Ok, Err}
-use Rattle.std.specs.Prelude.{nat_lt, nat_eq, ◌&&◌}
+use Rattle.std.specs.Prelude.{nat_lt, nat_eq, ◌&&◌, ⊤}
 use Rattle.std.proofs.lemmas.Bool.Decides.{nat_tests}
 use Rattle.stm_check.specs.TypedBlock.{Block}
 use Rattle.stm_parse.specs.ExpectationFunction.{parsed_expectation}
@@ -20,7 +20,7 @@ use Rattle.stm_storm.specs.StormScript.{PartialScript, Begun, sections_so_far, m
 
 -- a step that leads to a script leads to one with few sections
 abbrev pub Few : Option PartialScript → Type 0
-Few None = Unit {0}
+Few None = ⊤
 Few (Some s) = length (sections_so_far s.ended s.begun) ≤ max_sections
 
 -- the section under way may change, and the variables

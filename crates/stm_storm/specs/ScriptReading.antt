@@ -1,23 +1,18 @@
--- The code's script under way, and what its calls answer, by the definitions of scripts.
+-- The code's script under way, and what its calls return, by the definitions of scripts.
 use Rattle.std.specs.Prelude.{◌≡◌, ◌≤◌, ℕ, ◌+◌, nat_lt, List, [], ◌∷◌, Option, Some, None, Result, Ok, Err, length, map, if◌then◌else◌, ⊤}
 use Rattle.stm_store.specs.Tables.{Declared}
 use Rattle.stm_pool.specs.declared.section.Section.{Section}
 use Rattle.stm_pool.specs.declared.section.Task.{Task}
 use Rattle.stm_pool.specs.Limits.{max_sections}
 use Rattle.stm_storm.specs.declared.script_line.LineFault.{LineFault}
-use Rattle.stm_storm.specs.declared.script_line.LineFault.TheVariants.{Faulty, NoMemory}
+use Rattle.stm_storm.specs.declared.script_line.LineFault.TheVariants.{Faulty}
 use Rattle.stm_storm.specs.declared.script_so_far.ScriptSoFar.{ScriptSoFar}
 use Rattle.stm_storm.specs.declared.script_reader.Script.{Script}
 use Rattle.stm_lines.specs.LineClass.{LineClass}
 use Rattle.stm_lines.specs.LineReading.{classes_from}
 use Rattle.stm_storm.specs.StormScript.{Begun, PartialScript, StormScript, most_lines, numbered_result, after_class, script_result, sections_so_far, storm_script}
 
--- the fault of a line that is told; an out-of-memory error tells none
-abbrev pub told_line_fault : LineFault → Option LineFault
-told_line_fault Faulty = Some Faulty
-told_line_fault NoMemory = None
-
--- what the definitions of scripts give, as an answer: where they give none, the line is faulty
+-- what the definitions of scripts give, as a result: if they give none, the line is faulty
 abbrev pub some_or_faulty : {Y : Type 0} → Option Y → Result Y LineFault
 some_or_faulty (Some y) = Ok y
 some_or_faulty None = Err Faulty
@@ -30,7 +25,7 @@ tasks_of s = s.tasks.items
 abbrev pub reading_of : ScriptSoFar → PartialScript
 reading_of s = record { table = s.table; ended = map tasks_of s.ended.items; begun = s.begun }
 
--- the same where a section has begun
+-- the same if a section has begun
 abbrev pub reading_in : List Declared → List (List Task) → Begun → PartialScript
 reading_in table ended b = record { table = table; ended = ended; begun = Some b }
 
@@ -57,7 +52,7 @@ after_classes (Ok r) n (class ∷ rest) = after_classes (after_class_at r n clas
 unfoldable pub rest_script : Result PartialScript ℕ → ℕ → List LineClass → Result StormScript ℕ
 rest_script r n classes = script_result (after_classes r n classes) (n + length classes)
 
--- where it is known what the input was and what is left: the lines from this number on lead to its script
+-- if it is known what the input was and what is left, the lines from this number on lead to its script
 abbrev pub IsReadTo : Option (List ℕ) → Option (List ℕ) → PartialScript → ℕ → Type 0
 IsReadTo None new r n = ⊤
 IsReadTo (Some all) None r n = ⊥

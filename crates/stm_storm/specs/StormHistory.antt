@@ -6,7 +6,7 @@ use Rattle.stm_events.specs.SlowDesk.{IsLegal}
 use Rattle.stm_pool.specs.declared.storm.Counts.{Counts}
 use Rattle.stm_pool.specs.Storms.{CountsClients}
 
--- a history of so many events that is legal over the table, of which the counts say what each client did
+-- a history of this many events is legal over the table, and the counts say what each client did in it
 pub record IsStormHistory (table : List Declared) (counts : List Counts) (events : ℕ) (history : List Event) : Type 0 where
   pub legal : IsLegal table history
   pub many : events ≡ length history

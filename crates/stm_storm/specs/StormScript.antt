@@ -50,7 +50,7 @@ pub record PartialScript : Type 0 where
 abbrev pub nothing_read : PartialScript
 nothing_read = record { table = []; ended = []; begun = None }
 
--- ---- the lines; none where a line is faulty
+-- ---- the lines; none if a line is faulty
 -- `tvar`: a variable more, before the first section
 abbrev pub declared_more : PartialScript → Result Declared Refusal → Option PartialScript
 declared_more r (Ok d) = Some (record r { table = r.table ++ d ∷ [] })
@@ -76,14 +76,14 @@ after_client r argument =
 abbrev pub with_task : PartialScript → Begun → Task → PartialScript
 with_task r b t = record r { begun = Some (record b { tasks = b.tasks ++ t ∷ [] }) }
 
--- `submit`: the submission of a block more; none where the block's text is refused
+-- `submit`: the submission of a block more; none if the block's text is refused
 abbrev pub with_block : PartialScript → Begun → Result Block Refusal → Option PartialScript
 with_block r b (Ok block) = Some (record r {
   begun = Some (record { tasks = b.tasks ++ task.Submit block ∷ []; submissions = b.submissions + 1 });
 })
 with_block r b (Err e) = None
 
--- the submission of a number, counted from 0, where the number, counted from 1, is one of those before
+-- the submission of a number, counted from 0, if the number, counted from 1, is one of those before
 abbrev pub submission_of : ℕ → Option ℕ → Option ℕ
 submission_of submissions (Some n) = if nat_lt 0 n && nat_le n submissions then Some (n - 1) else None
 submission_of submissions None = None
@@ -99,7 +99,7 @@ expected_at table i (Some d) (Ok v) = if is_of (declared_cells table) v d.kind t
 expected_at table i (Some d) (Err e) = None
 expected_at table i None v = None
 
--- what is expected of a variable by its number; none where its name is unknown
+-- what is expected of a variable by its number; none if its name is unknown
 abbrev pub expected_of : List Declared → ParsedExpectation → Option ℕ → Option Task
 expected_of table e (Some i) = expected_at table i (slice_get table i) (initial table e.value)
 expected_of table e None = None
@@ -158,7 +158,7 @@ after_line r line = after_class r (line_class line)
 abbrev pub most_lines : ℕ
 most_lines = 1048576
 
--- what a line with its number leads to, or the number where it is faulty
+-- what a line with its number leads to, or the number if it is faulty
 abbrev pub numbered_result : ℕ → Option PartialScript → Result PartialScript ℕ
 numbered_result n (Some r) = Ok r
 numbered_result n None = Err n

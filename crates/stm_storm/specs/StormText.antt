@@ -20,24 +20,24 @@ abbrev pub client_lines : ℕ → List Counts → List ℕ
 client_lines client [] = []
 client_lines client (c ∷ cs) = client_line client c ++ client_lines (client + 1) cs
 
--- the line that tells how many events there were
+-- the line with the number of events
 unfoldable pub events_line : ℕ → List ℕ
 events_line events = codes "events " ++ decimal events ++ 10 ∷ []
 
--- where the history was replayed, and found legal
+-- what is written if the history was replayed and found legal
 abbrev pub storm_text : List Counts → ℕ → List ℕ
 storm_text counts events = client_lines 0 counts ++ events_line events ++ codes "replay ok" ++ 10 ∷ []
 
--- where it was replayed and isn't legal, or wasn't replayed, since the desk couldn't be closed
+-- the last lines if it was replayed and isn't legal, or wasn't replayed, since the desk couldn't be closed
 abbrev pub failed_lines : Option ℕ → List ℕ
 failed_lines (Some events) = events_line events ++ codes "replay failed" ++ 10 ∷ []
 failed_lines None = codes "replay failed" ++ 10 ∷ []
 
--- what is written where the history isn't found legal
+-- what is written if the history isn't found legal
 abbrev pub failed_text : List Counts → Option ℕ → List ℕ
 failed_text counts events = client_lines 0 counts ++ failed_lines events
 
--- a text that a storm of a script may write: what it counts is told by a history that is legal over the script's variables.
+-- a text that a storm of a script may write: its counts are those of a history that is legal over the script's variables.
 -- Which history that is, and so what is refused or missed, depends on which thread came first
 pub record IsStormText (input text : List ℕ) : Type 0 where
   pub script : StormScript
@@ -48,7 +48,7 @@ pub record IsStormText (input text : List ℕ) : Type 0 where
   pub counted : IsStormHistory script.table counts (length history) history
   pub written : text ≡ storm_text counts (length history)
 
--- a text that a storm of a script may write where its history isn't found legal
+-- a text that a storm of a script may write if its history isn't found legal
 pub record IsFailedStormText (input text : List ℕ) : Type 0 where
   pub script : StormScript
   pub right : storm_script input ≡ Ok script

@@ -1,9 +1,8 @@
 //! Storms: a script of many clients, run by threads.
 //!
 //! `storm` (`storming`) reads a script whole, runs it, replays the history that it left (`replaying`), and writes how it ended.
-//! `storm_word` has the words of the lines,
-//! `script_line` says what a line is, `begun_section` and `script_so_far` take it, and `script_reader` reads a script; `storm_text`
-//! has the lines that are written.
+//! `storm_word` has the words of the lines, `script_line` says what a line is, `begun_section` and `script_so_far` take it, and
+//! `script_reader` reads a script; `storm_text` has the lines that are written.
 //!
 //! What a reader has to believe is in these modules of specs/: `StormScript` has what a script says, or its first faulty line,
 //! `StormHistory` which history a storm leaves, and `StormText` what a storm of it may write.

@@ -15,9 +15,9 @@ use stm_terms::NoMemory;
 pub enum Replay {
     /// The desk couldn't be closed: it lacks a pass, or a client's events are not those of its pass.
     NotClosed,
-    /// It has so many events, and isn't legal over the opened table.
+    /// It has this many events, and isn't legal over the opened table.
     NotLegal(u32),
-    /// It has so many events, and is legal over the opened table.
+    /// It has this many events, and is legal over the opened table.
     Legal(u32),
 }
 

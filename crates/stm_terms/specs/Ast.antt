@@ -1,4 +1,4 @@
--- The trees without where they lie in memory.
+-- The trees without addresses.
 use Rattle.std.specs.Prelude.{ℕ, Bool, true, false, ◌||◌}
 use Rattle.stm_terms.specs.declared.kinds.Ty.{Ty}
 use Rattle.stm_terms.specs.declared.values.Value.{Value}

@@ -5,7 +5,7 @@ use Rattle.stm_terms.specs.declared.values.Value.TheVariants.{Int}
 use Rattle.stm_terms.specs.declared.values.Fault.{Fault}
 use Rattle.stm_terms.specs.declared.values.Fault.TheVariants.{Overflow}
 
--- a number that is in range, and an overflow where it was not
+-- a number that is in range, and an overflow if it was not
 abbrev pub int_or_overflow : Option ℤ → Result Value Fault
 int_or_overflow (Some z) = Ok (Int z)
 int_or_overflow None = Err Overflow

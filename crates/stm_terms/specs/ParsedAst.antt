@@ -1,4 +1,4 @@
--- The parsed trees, without where they lie in memory.
+-- The parsed trees without addresses.
 use Rattle.std.specs.Prelude.{ℕ, ℤ, ◌+◌, ◌≤◌, Bool, List, slice_range}
 use Rattle.stm_terms.specs.declared.expr.Op.{Op}
 use Rattle.stm_terms.specs.declared.raw.Span.{Span}

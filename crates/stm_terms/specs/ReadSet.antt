@@ -44,14 +44,14 @@ then_look (Threw f) go = []
 then_look Retried go = []
 then_look Stuck go = []
 
--- what the right branch reads, where the left one retried
+-- what the right branch reads, if the left one retried
 abbrev pub else_look : Outcome → List ℕ → List ℕ
 else_look (Returned v h) is = []
 else_look (Threw f) is = []
 else_look Retried is = is
 else_look Stuck is = []
 
--- what the handler reads, where the action threw a number
+-- what the handler reads, if the action threw a number
 abbrev pub catch_look : Outcome → (Value → List ℕ) → List ℕ
 catch_look (Returned v h) handler = []
 catch_look (Threw (Thrown n)) handler = handler (Int n)
@@ -78,7 +78,7 @@ looks under (seq a b) locals h = looks under a locals h ++ then_look (run under 
 looks under (catch a b) locals h =
     looks under a locals h ++ catch_look (run under a locals h) (λ n. looks under b (locals ++ n ∷ []) h)
 
--- a variable with its value, put where it belongs in a list that rises
+-- a variable with its value, put into its place in an ascending list
 abbrev pub insert_read : ℕ → Option Value → List (ℕ × Value) → List (ℕ × Value)
 insert_read i (Some v) reads = put i v reads
 insert_read i None reads = reads

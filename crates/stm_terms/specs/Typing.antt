@@ -38,7 +38,7 @@ abbrev pub deref_at : BaseTy → ℕ → Option Ty
 deref_at b zero = None
 deref_at b (suc n) = Some (record { base = b; refs = n })
 
--- none where the type is not one of references
+-- none if the type is not one of references
 abbrev pub deref_ty : Ty → Option Ty
 deref_ty t = deref_at t.base t.refs
 
@@ -81,7 +81,7 @@ with_type None go = None
 abbrev pub operands : Ty → Ty → Ty → Ty → Option Ty
 operands wanted given t u = if same_ty t wanted && same_ty u wanted then Some given else None
 
--- the type that an operator gives at operands of these types, none where it takes no such ones
+-- the type that an operator gives at operands of these types, none if it takes no such ones
 abbrev pub op_type : Op → Ty → Ty → Option Ty
 op_type Mul t u = operands int_ty int_ty t u
 op_type Add t u = operands int_ty int_ty t u
@@ -125,7 +125,7 @@ with_bound Any go = None
 abbrev pub when : Bool → ActionType → Option ActionType
 when b r = if b then Some r else None
 
--- the type of an action, from those of the variables and the locals; none where it is ill typed
+-- the type of an action, from those of the variables and the locals; none if it is ill typed
 abbrev pub action_type : TypeEnv → List Ty → Act → Option ActionType
 action_type kinds locals (return e) = with_type (expr_type kinds locals e) (λ t. Some (Gives t))
 action_type kinds locals (read e) = with_type (expr_type kinds locals e) (λ t. with_type (deref_ty t) (λ u. Some (Gives u)))

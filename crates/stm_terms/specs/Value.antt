@@ -11,7 +11,7 @@ use Rattle.stm_terms.specs.declared.expr.Op.{Op}
 use Rattle.stm_terms.specs.declared.expr.Op.TheVariants.{Mul, Add, Sub, Eq, Lt, Le, And, Or}
 use Rattle.stm_terms.specs.Ast.{Term, lit, local, global, bin}
 
--- what an expression gives: a value, a fault, or none where it has no meaning
+-- what an expression gives: a value, a fault, or none if it has no meaning
 abbrev pub Answer : Type 0
 Answer = Option (Result Value Fault)
 
@@ -39,13 +39,13 @@ same_value Nil Nil = true
 same_value (Var r) (Var s) = same_ref r s
 same_value x y = false
 
--- the left side alone decides `&&` where it is false, and `||` where it is true
+-- the left side alone decides `&&` if it is false, and `||` if it is true
 abbrev pub decides : Op → Value → Bool
 decides And (Truth b) = not b
 decides Or (Truth b) = b
 decides op v = false
 
--- an operator at two values; none where it doesn't take them
+-- an operator at two values; none if it doesn't take them
 abbrev pub apply_op : Op → Value → Value → Answer
 apply_op Mul (Int x) (Int y) = Some (int_result (x *ℤ y))
 apply_op Add (Int x) (Int y) = Some (int_result (x +ℤ y))
@@ -63,7 +63,7 @@ with_value (Some (Ok v)) go = go v
 with_value (Some (Err f)) go = Some (Err f)
 with_value None go = None
 
--- the value of an expression under its locals, or overflow, from left to right; none where a local is missing or an
+-- the value of an expression under its locals, or overflow, from left to right; none if a local is missing or an
 -- operator meets a value of a wrong kind
 abbrev pub value : Term → List Value → Answer
 value (lit v) locals = Some (Ok v)

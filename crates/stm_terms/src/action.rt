@@ -8,7 +8,7 @@ use crate::kinds::Ty;
 
 /// An action. A `do` is a chain of `Bind`, `Let` and `Seq` nested to the right; `Bind` and `Let` add a local.
 ///
-/// `Make` has the type of the cell that it makes. `Catch` has the handler behind the action; the handler has one more local,
+/// `Make` has the type of the cell that it makes. `Catch` has the handler after the action; the handler has one more local,
 /// the number that the action threw.
 #[derive(Drop)]
 pub enum Action {

@@ -1,6 +1,6 @@
 //! The language of atomic blocks: types, values, trees and verdicts, the value of an expression, and printed texts.
 //!
-//! The meaning of a block, which everything above is proved against, stands in `specs/`: `Ast` (the trees that the
+//! The meaning of a block, which everything above is proved against, is in `specs/`: `Ast` (the trees that the
 //! definitions speak of), `Value` (the value of an expression), `Changes` (what a block sees and has changed) and `Semantics`
 //! (what an action does), `ReadSet` (what it reads), `Verdict` (what a block does on a store) and `Typing` (the types of
 //! expressions and actions, and when a block's view is well typed). Beside it stand `ParsedAst` (the trees that a text writes,

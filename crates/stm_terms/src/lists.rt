@@ -53,7 +53,7 @@ impl<T: Copy> PlainList<T> {
     }
 }
 
-/// The variables that a block writes, with the values that it writes. A verdict of the evaluator lists them rising.
+/// The variables that a block writes, with the values that it writes. A verdict of the evaluator lists them in ascending order.
 pub type Writes = PlainList<(u32, Value)>;
 
 /// The cells that a block makes, each with its type and its value, in the order in which they were made.

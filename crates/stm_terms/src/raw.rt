@@ -48,7 +48,7 @@ pub enum RawAction {
         bound: Box<RawAction>,
         rest: Box<RawAction>,
     },
-    /// A name, what it stands for, and the rest.
+    /// A name, its value, and the rest.
     Let {
         name: Span,
         value: RawExpr,

@@ -195,20 +195,6 @@ pub held_length : (t : ℕ) (held : Held) (es : List (ℕ × Waiting)) → lengt
 held_length t held [] = refl
 held_length t held (e ∷ es) = held_step (nat_eq t e.0) (e.0, kept held e.1) e es (with_held t held es) (held_length t held es)
 
-past : (ps : List ℕ) (t : ℕ) → length ps ≤ t → get_or ps t 0 ≡ 0
-past [] t h = refl
-past (p ∷ ps) zero h = absurd (omega arith)
-past (p ∷ ps) (suc t) h = past ps t (omega arith)
-
-some_within : (b : Bool) (t : ℕ) (ps : List ℕ) (s : List Slot) → nat_lt t (length ps) ≡ b → (kept_at t (entries_from 0 ps s) ≡ None → ⊥) → t < length ps
-some_within true t ps s e n = grind (arith, nat_tests)
-some_within false t ps s e n =
-    let l : length ps ≤ t = grind (arith, nat_tests) in
-    absurd (n (kept_entries t ps s ∙ ap (λ (p : ℕ). held_at t p s) (past ps t l)))
-
-pub kept_within : (t : ℕ) (ps : List ℕ) (s : List Slot) → (kept_at t (entries_from 0 ps s) ≡ None → ⊥) → t < length ps
-kept_within t ps s n = some_within (nat_lt t (length ps)) t ps s refl n
-
 -- ---- a place behind the others
 last_get : (n : ℕ) (x : Slot) (s : List Slot) → n ≡ length s → slice_get (s ++ x ∷ []) n ≡ Some x
 last_get zero x [] h = refl
@@ -256,19 +242,6 @@ pub above_more : (a i : ℕ) (ps : List ℕ) (s : List Slot) → i < length ps �
 above_more a i ps s h none =
     let d : drop i ps ≡ get_or ps i 0 ∷ drop (suc i) ps = drop-cons ps i 0 h in
     rw (add-one i, d) (ap (first_above a) (sym (unlisted i (held_at i (get_or ps i 0) s) (entries_from (suc i) (drop (suc i) ps) s) none)))
-
-first_listed : (a n : ℕ) (o : Option Waiting) (es : List (ℕ × Waiting)) → a < n → is_some o ≡ true → first_above a (listed n o es) ≡ Some n
-first_listed a n None es l h = cc
-first_listed a n (Some w) es l h = let e : nat_lt a n ≡ true = grind (arith, nat_tests) in rw e refl
-
-pub above_found : (a i : ℕ) (ps : List ℕ) (s : List Slot) → a < i → i < length ps → is_some (held_at i (get_or ps i 0) s) ≡ true → first_above a (entries_from i (drop i ps) s) ≡ Some i
-above_found a i ps s l h some =
-    let d : drop i ps ≡ get_or ps i 0 ∷ drop (suc i) ps = drop-cons ps i 0 h in
-    rw d (first_listed a i (held_at i (get_or ps i 0) s) (entries_from (suc i) (drop (suc i) ps) s) l some)
-
-pub seen : (r : Option (Bor Waiting)) (o : Option Waiting) → option_copied r ≡ o → is_some r ≡ is_some o
-seen None o h = ap is_some h
-seen (Some b) o h = ap is_some h
 
 pub above_end : (a i : ℕ) (ps : List ℕ) (s : List Slot) → length ps ≤ i → first_above a (entries_from i (drop i ps) s) ≡ None
 above_end a i ps s h = rw (drop_all i ps h) refl

@@ -14,12 +14,11 @@ use Rattle.std.specs.BTreeMap.{is_at}
 use Rattle.std.proofs.lemmas.Bool.Decides.{nat_tests}
 use Rattle.stm_terms.specs.declared.values.Value.{Value}
 use Rattle.stm_watch.specs.Pairs.{pair_cmp, Pairs, has_pair, is_pair_of, watches}
-use Rattle.stm_watch.specs.PairList.{lists}
 use Rattle.std.specs.List.Sorted.{IsStrictlyIncreasing}
 use Rattle.stm_queue.specs.SortedTickets.{RisesAbove, IsRising}
 use Rattle.stm_watch.specs.declared.table.Table.{Table}
 use Rattle.stm_watch.specs.Tabled.{pairs_of, holds}
-use Rattle.stm_watch.proofs.TableLemmas.{lists_holds}
+use Rattle.stm_watch.proofs.TableLemmas.{lists, lists_holds}
 
 -- ---- the set and its list
 pair_cmp_total : IsTotalOrder pair_cmp
@@ -62,7 +61,7 @@ only_read [] d ticket v t l m = absurd (omega arith)
 only_read (r ∷ []) d ticket v t l m = only_bools (nat_eq v r.0) (nat_eq t ticket)
 only_read (r ∷ s ∷ rs) d ticket v t l m = absurd (omega arith)
 
--- ---- the pairs of a ticket, of which some are there: fresh is whether the variable's is not
+-- ---- the pairs of a ticket, some of which the set has: fresh is whether it lacks the variable's
 at_ticket : (table : Table) (v t ticket : ℕ) → nat_eq t ticket ≡ true → holds table v t ≡ holds table v ticket
 at_ticket table v t ticket h = ap (holds table v) (eqb-true t ticket h)
 
@@ -100,7 +99,7 @@ in_whole v i [] l h = absurd (omega arith)
 in_whole v zero (x ∷ vs) l h = rw h refl
 in_whole v (suc i) (x ∷ vs) l h = or_true (nat_eq v x) (list_any (nat_eq v) vs) (in_whole v i vs (omega arith) h)
 
--- ---- rising lists
+-- ---- ascending lists
 rises_above : (x k : ℕ) (xs : List ℕ) → RisesAbove x xs → k + 1 < length (x ∷ xs) → slice_index (x ∷ xs) k < slice_index (x ∷ xs) (k + 1)
 rises_above x k [] r l = absurd (omega arith)
 rises_above x zero (y ∷ xs) r l = r.0

@@ -1,16 +1,20 @@
 -- The pairs of the index as the table has them.
 use Rattle.std.proofs.Common.{◌≡◌, ℕ, zero, suc, ◌+◌, ◌-◌, ◌<◌, Bool, true, false, ◌&&◌, ◌||◌, List, [], ◌∷◌, map, get_or, refl, ap, ap₂, ◌∙◌, arith}
 use Rattle.std.specs.Prelude.{nat_eq, slice_get}
+use Rattle.std.specs.List.{list_any}
 use Rattle.std.proofs.Math.ListN.{set}
 use Rattle.std.proofs.lemmas.List.Folds.{list_any-append}
 use Rattle.std.proofs.lemmas.Bool.Decides.{nat_tests}
 use Rattle.stm_queue.specs.SortedTickets.{member}
 use Rattle.stm_watch.specs.declared.table.Slot.{Slot}
 use Rattle.stm_watch.specs.declared.table.Table.{Table}
-use Rattle.stm_watch.specs.PairList.{lists}
 use Rattle.stm_watch.specs.Tabled.{watchers_in, watchers_found, tickets_at, pairs_from, pairs_of, holds, OtherVariablesStay}
 
--- ---- a place that is written where nothing was kept
+-- the pair is in the list
+abbrev pub lists : List (ℕ × ℕ) → ℕ → ℕ → Bool
+lists keys v t = list_any (λ p. nat_eq v p.0 && nat_eq t p.1) keys
+
+-- ---- a place that is written and had nothing
 set_here : (w v : ℕ) (ws : List ℕ) (y : Slot) → nat_eq w v ≡ false → watchers_in w y ≡ [] → watchers_in w (record { number = v; watchers = ws }) ≡ watchers_in w y
 set_here w v ws y h e = let n : nat_eq v w ≡ false = grind (arith, nat_tests) in rw (n, e) refl
 
@@ -29,7 +33,7 @@ put_others v (suc i) ws s l e = λ w p h. let is : suc i - 1 ≡ i = omega arith
   other w zero h = refl
   other w (suc q) h = set_found w v i q ws s h (e w)
 
--- ---- the list of pairs, and who is in it
+-- ---- the list of pairs, and which are in it
 listed_map : (n v t : ℕ) (ts : List ℕ) → lists (map (λ u. (n, u)) ts) v t ≡ (nat_eq v n && member t ts)
 listed_map n v t [] = grind arith
 listed_map n v t (u ∷ ts) = ap (λ (b : Bool). (nat_eq v n && nat_eq t u) || b) (listed_map n v t ts) ∙ joined (nat_eq v n) (nat_eq t u) (member t ts) where

@@ -1,6 +1,5 @@
--- What a reader has to believe: the pairs of the index, and when they are just what some blocks have read.
+-- What a reader has to believe: the pairs of the index, and what each call does to them.
 pub mod Pairs
--- The words inside, for the pairs as a list in their order.
-pub mod KeptTickets
-pub mod PairList
+-- The words inside, for the pairs as they are kept.
 pub mod Tabled
+pub mod TicketLists

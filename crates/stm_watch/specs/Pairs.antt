@@ -26,15 +26,15 @@ is_read reads v = list_any (λ r. nat_eq v r.0) reads
 abbrev pub is_pair_of : ℕ → List (ℕ × Value) → ℕ → ℕ → Bool
 is_pair_of ticket reads v t = nat_eq t ticket && is_read reads v
 
--- the pairs that were there, and those of the variables read with the ticket
+-- the old pairs, and those of the variables read with the ticket
 abbrev pub WithReads : Pairs → ℕ → List (ℕ × Value) → Pairs → Type 0
 WithReads old ticket reads new = (v t : ℕ) → has_pair new v t ≡ (has_pair old v t || is_pair_of ticket reads v t)
 
--- the pairs that were there, without those of the variables read with the ticket
+-- the old pairs without those of the variables read with the ticket
 abbrev pub WithoutReads : Pairs → ℕ → List (ℕ × Value) → Pairs → Type 0
 WithoutReads old ticket reads new = (v t : ℕ) → has_pair new v t ≡ (has_pair old v t && not (is_pair_of ticket reads v t))
 
--- the pairs that were there, without those of these variables
+-- the old pairs without those of these variables
 abbrev pub WithoutVariables : Pairs → List ℕ → Pairs → Type 0
 WithoutVariables old variables new = (v t : ℕ) → has_pair new v t ≡ (has_pair old v t && not (list_any (nat_eq v) variables))
 

@@ -8,7 +8,7 @@ use Rattle.stm_watch.specs.declared.table.Table.{Table}
 abbrev pub watchers_in : ℕ → Slot → List ℕ
 watchers_in v s = if nat_eq s.number v then s.watchers else []
 
--- the same of a place that there may be
+-- the same of a slot that may be missing
 abbrev pub watchers_found : ℕ → Option Slot → List ℕ
 watchers_found v None = []
 watchers_found v (Some s) = watchers_in v s
@@ -18,7 +18,7 @@ abbrev pub tickets_at : ℕ → ℕ → List Slot → List ℕ
 tickets_at v zero slots = []
 tickets_at v (suc p) slots = watchers_found v (slice_get slots p)
 
--- the number that stands at a place
+-- the number of the slot at a place
 abbrev pub number_at : ℕ → List Slot → Option ℕ
 number_at zero slots = None
 number_at (suc p) slots = option_map (λ s. s.number) (slice_get slots p)

@@ -13,7 +13,7 @@ use crate::watchers::Watchers;
 use std::alloc::Global;
 use stm_terms::{NoMemory, Value};
 
-/// Whether the pair is there.
+/// Whether the table has the pair.
 fn has_pair(table: &Table, variable: u32, ticket: u32) -> bool
     ensures { result ≡ holds table.now variable ticket }
 {
@@ -21,7 +21,7 @@ fn has_pair(table: &Table, variable: u32, ticket: u32) -> bool
     has_at(&table.slots, place, variable, ticket)
 }
 
-/// Adds a pair, unless it is there.
+/// Adds a pair, unless the table has it.
 pub(crate) fn add_pair(
     table: &mut Table,
     alloc: Global,
@@ -44,7 +44,7 @@ pub(crate) fn add_pair(
     Ok(())
 }
 
-/// Takes a pair away, if it is there.
+/// Removes a pair, if the table has it.
 fn remove_pair(table: &mut Table, variable: u32, ticket: u32)
     ensures { (v t : ℕ) →
         holds table.new v t
@@ -56,7 +56,7 @@ fn remove_pair(table: &mut Table, variable: u32, ticket: u32)
     }
 }
 
-/// Takes all pairs of a variable away, and returns their tickets.
+/// Removes all pairs of a variable, and returns their tickets.
 pub(crate) fn take_pairs(table: &mut Table, variable: u32) -> Watchers
     ensures was { result ≡ tickets_of table.old variable }
     ensures gone { (v t : ℕ) →
@@ -70,7 +70,7 @@ pub(crate) fn take_pairs(table: &mut Table, variable: u32) -> Watchers
     watchers
 }
 
-/// Takes all pairs of some variables away.
+/// Removes all pairs of some variables.
 pub(crate) fn clear_all(table: &mut Table, variables: &[u32])
     ensures { (v t : ℕ) →
         holds table.new v t ≡ (holds table.old v t && not (list_any (nat_eq v) variables.now)) }
@@ -80,7 +80,7 @@ pub(crate) fn clear_all(table: &mut Table, variables: &[u32])
     }
 }
 
-/// Those of the variables read that the ticket doesn't watch yet.
+/// The variables read that the ticket doesn't watch yet.
 pub(crate) fn unwatched(
     alloc: Global,
     table: &Table,
@@ -100,7 +100,7 @@ pub(crate) fn unwatched(
     Ok(fresh)
 }
 
-/// Pairs each variable with the ticket. After a refusal some of the pairs may be there.
+/// Pairs each variable with the ticket. After an error the table may have some of the pairs.
 pub(crate) fn add_all(
     table: &mut Table,
     alloc: Global,
@@ -121,7 +121,7 @@ pub(crate) fn add_all(
     Ok(())
 }
 
-/// Takes away the pair of each variable with the ticket.
+/// Removes the pair of each variable with the ticket.
 pub(crate) fn remove_all(table: &mut Table, ticket: u32, variables: &[u32])
     ensures { (v t : ℕ) →
         holds table.new v t
@@ -133,7 +133,7 @@ pub(crate) fn remove_all(table: &mut Table, ticket: u32, variables: &[u32])
     }
 }
 
-/// Takes away the pair of each variable read with the ticket.
+/// Removes the pair of each variable read with the ticket.
 pub(crate) fn remove_reads(table: &mut Table, ticket: u32, reads: &[(u32, Value)])
     ensures { (v t : ℕ) →
         holds table.new v t
@@ -161,7 +161,7 @@ pub(crate) fn push_watchers(
     Ok(())
 }
 
-/// Adds the tickets that are paired with one variable, rising.
+/// Adds the tickets that are paired with one variable, in ascending order.
 pub(crate) fn push_watchers_of(
     table: &Table,
     variable: u32,

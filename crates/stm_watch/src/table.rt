@@ -114,7 +114,7 @@ pub(crate) fn add_at(
 fn put_at(slots: &mut Vec<Slot>, place: u32, variable: u32, ticket: u32) -> u32
     requires within { (0 < place) × (place ≤ vec_len slots.old) }
     requires unused { (v : ℕ) → tickets_at v place slots.old.items ≡ [] }
-    ensures held { tickets_at variable place slots.new.items ≡ ticket ∷ [] }
+    ensures there { tickets_at variable place slots.new.items ≡ ticket ∷ [] }
     ensures others { OtherVariablesStay variable slots.old.items slots.new.items }
 {
     let slot = Slot {
@@ -129,7 +129,7 @@ fn put_at(slots: &mut Vec<Slot>, place: u32, variable: u32, ticket: u32) -> u32
 
 /// Puts a variable's first ticket into a new slot after the others. Returns its place.
 fn put_last(slots: &mut Vec<Slot>, variable: u32, ticket: u32) -> Result<u32, NoMemory>
-    ensures held { IfOk result (λ p. tickets_at variable p slots.new.items ≡ ticket ∷ []) }
+    ensures there { IfOk result (λ p. tickets_at variable p slots.new.items ≡ ticket ∷ []) }
     ensures others { OnOk result (OtherVariablesStay variable slots.old.items slots.new.items) }
     ensures err { OnErr result (slots.new.items ≡ slots.old.items) }
 {
@@ -152,7 +152,7 @@ pub(crate) fn put(
     variable: u32,
     ticket: u32,
 ) -> Result<(u32, u32), NoMemory>
-    ensures held { IfOk result (λ r. tickets_at variable r.0 slots.new.items ≡ ticket ∷ []) }
+    ensures there { IfOk result (λ r. tickets_at variable r.0 slots.new.items ≡ ticket ∷ []) }
     ensures others { OnOk result (OtherVariablesStay variable slots.old.items slots.new.items) }
     ensures err { OnErr result (slots.new.items ≡ slots.old.items) }
 {

@@ -11,7 +11,7 @@ use stm_queue::sorted::{has_ticket_in, is_above_all, put_in, take_out};
 
 /// No ticket, one, which takes no memory of its own, or any number.
 #[derive(Drop)]
-pub(crate) enum Kept {
+pub(crate) enum TicketList {
     Nobody,
     One(u32),
     // Boxed, so that a slot with one ticket is small.
@@ -21,19 +21,19 @@ pub(crate) enum Kept {
 /// Tickets in ascending order.
 #[derive(Drop)]
 pub(crate) struct Watchers {
-    kept: Kept,
+    list: TicketList,
 }
 
 impl Model for Watchers {
     ghost use Rattle.std.specs.Prelude.{List, ℕ};
     ghost use Rattle.stm_queue.specs.SortedTickets.{IsRising};
-    ghost use Rattle.stm_watch.specs.KeptTickets.{kept_tickets};
+    ghost use Rattle.stm_watch.specs.TicketLists.{listed_tickets};
 
     ghost Value = { List ℕ };
 
-    ghost view = { λ w. kept_tickets w.kept };
+    ghost view = { λ w. listed_tickets w.list };
 
-    ghost invariant = { λ w. IsRising (kept_tickets w.kept) };
+    ghost invariant = { λ w. IsRising (listed_tickets w.list) };
 }
 
 /// A list of two tickets, in ascending order.
@@ -46,7 +46,7 @@ fn two(alloc: Global, low: u32, high: u32) -> Result<VecDeque<u32>, NoMemory>
     Ok(tickets)
 }
 
-/// Puts a ticket into an ascending list, unless it is there.
+/// Puts a ticket into an ascending list, unless the list has it.
 fn put(tickets: &mut VecDeque<u32>, ticket: u32) -> Result<(), NoMemory>
     requires { IsRising tickets.old.items }
     ensures rising { IsRising tickets.new.items }
@@ -71,7 +71,9 @@ impl Watchers {
     pub(crate) fn nobody() -> Watchers
         ensures { result ≡ [] }
     {
-        Watchers { kept: Kept::Nobody }
+        Watchers {
+            list: TicketList::Nobody,
+        }
     }
 
     /// One ticket.
@@ -79,7 +81,7 @@ impl Watchers {
         ensures { result ≡ ticket ∷ [] }
     {
         Watchers {
-            kept: Kept::One(ticket),
+            list: TicketList::One(ticket),
         }
     }
 
@@ -87,36 +89,36 @@ impl Watchers {
     pub(crate) fn is_empty(&self) -> bool
         ensures { IsTrue result ↔ (self.now ≡ []) }
     {
-        match &self.kept {
-            Kept::Nobody => true,
-            Kept::One(_) => false,
-            Kept::Many(tickets) => tickets.is_empty(),
+        match &self.list {
+            TicketList::Nobody => true,
+            TicketList::One(_) => false,
+            TicketList::Many(tickets) => tickets.is_empty(),
         }
     }
 
-    /// Whether the ticket is there.
+    /// Whether the ticket is among them.
     pub(crate) fn has(&self, ticket: u32) -> bool
         ensures { result ≡ member ticket self.now }
     {
-        match &self.kept {
-            Kept::Nobody => false,
-            Kept::One(other) => *other == ticket,
-            Kept::Many(tickets) => has_ticket_in(tickets, ticket),
+        match &self.list {
+            TicketList::Nobody => false,
+            TicketList::One(other) => *other == ticket,
+            TicketList::Many(tickets) => has_ticket_in(tickets, ticket),
         }
     }
 
-    /// Adds a ticket, unless it is there.
+    /// Adds a ticket, unless it is among them.
     pub(crate) fn add(&mut self, alloc: Global, ticket: u32) -> Result<(), NoMemory>
         ensures ok { OnOk result ((u : ℕ)
             → member u self.new ≡ (nat_eq u ticket || member u self.old)) }
         ensures err { OnErr result (self.new ≡ self.old) }
     {
-        match &mut self.kept {
-            Kept::Nobody => {
-                self.kept = Kept::One(ticket);
+        match &mut self.list {
+            TicketList::Nobody => {
+                self.list = TicketList::One(ticket);
                 Ok(())
             }
-            Kept::One(other) => {
+            TicketList::One(other) => {
                 let other = *other;
                 if other == ticket {
                     return Ok(());
@@ -126,29 +128,29 @@ impl Watchers {
                 } else {
                     (ticket, other)
                 };
-                self.kept = Kept::Many(Box::new(alloc, two(alloc, low, high)?)?);
+                self.list = TicketList::Many(Box::new(alloc, two(alloc, low, high)?)?);
                 Ok(())
             }
-            Kept::Many(tickets) => put(tickets, ticket),
+            TicketList::Many(tickets) => put(tickets, ticket),
         }
     }
 
-    /// Removes a ticket. Returns whether it was there.
+    /// Removes a ticket. Returns whether it was among them.
     pub(crate) fn remove(&mut self, ticket: u32) -> bool
         ensures was { result ≡ member ticket self.old }
         ensures others { (u : ℕ) → member u self.new ≡ (member u self.old && not (nat_eq u ticket)) }
     {
-        match &mut self.kept {
-            Kept::Nobody => false,
-            Kept::One(other) => {
+        match &mut self.list {
+            TicketList::Nobody => false,
+            TicketList::One(other) => {
                 if *other == ticket {
-                    self.kept = Kept::Nobody;
+                    self.list = TicketList::Nobody;
                     true
                 } else {
                     false
                 }
             }
-            Kept::Many(tickets) => take_out(tickets, ticket),
+            TicketList::Many(tickets) => take_out(tickets, ticket),
         }
     }
 
@@ -159,16 +161,16 @@ impl Watchers {
         ensures items { result.items ≡ self }
         ensures rising { IsRising self }
     {
-        match self.kept {
-            Kept::Nobody => room,
-            Kept::One(ticket) => {
+        match self.list {
+            TicketList::Nobody => room,
+            TicketList::One(ticket) => {
                 let mut tickets = room;
                 match tickets.push(ticket) {
                     Ok(()) => tickets,
                     Err(_) => unreachable!(),
                 }
             }
-            Kept::Many(tickets) => Box::into_inner(tickets).into_vec(),
+            TicketList::Many(tickets) => Box::into_inner(tickets).into_vec(),
         }
     }
 
@@ -177,13 +179,13 @@ impl Watchers {
         ensures pushed { OnOk result (others.new.items ≡ others.old.items ++ self.now) }
         ensures rising { IsRising self.now }
     {
-        match &self.kept {
-            Kept::Nobody => Ok(()),
-            Kept::One(ticket) => {
+        match &self.list {
+            TicketList::Nobody => Ok(()),
+            TicketList::One(ticket) => {
                 others.push(*ticket)?;
                 Ok(())
             }
-            Kept::Many(tickets) => push_all(tickets, others),
+            TicketList::Many(tickets) => push_all(tickets, others),
         }
     }
 }

@@ -1,3 +1,4 @@
+pub mod JournalWords
 pub mod SaidNumbers
 pub mod StormWords
 pub mod WordAnswers

@@ -6,16 +6,17 @@ use Rattle.std.specs.Char.{digit_value}
 use Rattle.std.specs.Int.{w64}
 use lib.Signed.{le_z_yes}
 use lib.Dec.{T}
-use Rattle.std.specs.Prelude.{Some, nat_le, ℤ, pos, FitsSigned, ◌≤ℤ◌}
+use Rattle.std.specs.Prelude.{Option, Some, nat_le, nat_lt, length, ℤ, pos, FitsSigned, ◌≤ℤ◌}
 use Rattle.std.specs.Str.Parse.{IsNumeral, digits_value, signed_digits_value, without_leading_plus, without_leading_sign}
 use Rattle.clap.specs.ValueTests.{accepts, is_unsigned_in}
 use Rattle.clap.specs.Lexer.{without_minus}
 use Rattle.clap.specs.declared.builder.value_parser.ValueParser.TheVariants.{Signed, Unsigned}
-use Rattle.clap.specs.declared.error.kind.ErrorKind.TheVariants.{ValueValidation}
+use Rattle.clap.specs.Words.{fault_of, subcommand_of}
 use Rattle.clap.proofs.OnLiterals.{clap_on_literals}
 use Rattle.clap.proofs.ValueTestLemmas.{accepts-Accepts, Accepts-accepts}
-use Rattle.stm_words.specs.CommandLine.{answers_of, are_mistakes, number_of_text, request_of}
-use Rattle.stm_words.specs.WordLaws.{NumbersAreTaken, OthersAreRefused, NoOptionTwice, OptionsNeedRun}
+use Rattle.stm_words.specs.CommandLine.{answers_of, are_mistakes, command_line, number_of_text, number_within, request_fault, request_of}
+use Rattle.stm_words.specs.WordLaws.{NumbersAreTaken, OthersAreRefused, NoOptionTwice, OptionsNeedRun, run_twice, run_with}
+use Rattle.stm_words.proofs.WordAnswers.{mistaken_words, request_kinds}
 use Rattle.stm_options.specs.Options.{default_options}
 use Rattle.stm_words.specs.declared.command_line.Request.TheVariants.{Run}
 
@@ -85,95 +86,155 @@ refused low high n h outside = go (accepts false (Signed (pos low) (pos high)) (
 
 -- ---- what clap makes of them
 
+-- the number that is said is the one that is meant
+within_said : (low high otherwise : ℕ) (o : Option ℕ) (n : ℕ) → o ≡ Some n → nat_le low n ≡ true → nat_le n high ≡ true → number_within low high otherwise o ≡ n
+within_said low high otherwise o n h least most = rw (h, least, most) refl
+
 -- `--workers=TEXT`
+workers_passed : (name text : List ℕ) → accepts false (Signed (pos 1) (pos 64)) text ≡ true → fault_of command_line (name ∷ codes "run" ∷ (codes "--workers=" ++ text) ∷ []) ≡ []
+unfolding clap_on_literals
+workers_passed name text h = rw h refl
+
+workers_unfaulted : (name text : List ℕ) → request_fault (subcommand_of command_line (name ∷ codes "run" ∷ (codes "--workers=" ++ text) ∷ [])) ≡ []
+unfolding clap_on_literals
+workers_unfaulted name text = refl
+
 workers_taken : (name text : List ℕ) → accepts false (Signed (pos 1) (pos 64)) text ≡ true → answers_of (name ∷ codes "run" ∷ (codes "--workers=" ++ text) ∷ []) ≡ []
-unfolding answers_of clap_on_literals
-workers_taken name text h = rw h refl
+workers_taken name text h = request_kinds (name ∷ codes "run" ∷ (codes "--workers=" ++ text) ∷ []) [] (workers_passed name text h) (workers_unfaulted name text)
 
 workers_refused : (name text : List ℕ) → accepts false (Signed (pos 1) (pos 64)) text ≡ false
-    → answers_of (name ∷ codes "run" ∷ (codes "--workers=" ++ text) ∷ []) ≡ ValueValidation ∷ []
-unfolding answers_of clap_on_literals
+    → are_mistakes (fault_of command_line (name ∷ codes "run" ∷ (codes "--workers=" ++ text) ∷ [])) ≡ true
+unfolding clap_on_literals
 workers_refused name text h = rw h refl
+
+workers_asked : (name text : List ℕ)
+    → request_of (name ∷ codes "run" ∷ (codes "--workers=" ++ text) ∷ []) ≡ Run (record default_options { workers = number_within 1 64 2 (number_of_text (without_minus text)) })
+unfolding request_of clap_on_literals
+workers_asked name text = refl
 
 workers_said : (name text : List ℕ) (n : ℕ) → number_of_text (without_minus text) ≡ Some n → nat_le 1 n ≡ true → nat_le n 64 ≡ true
     → request_of (name ∷ codes "run" ∷ (codes "--workers=" ++ text) ∷ []) ≡ Run (record default_options { workers = n })
-unfolding request_of clap_on_literals
-workers_said name text n h least most = rw (h, least, most) refl
+workers_said name text n h least most =
+    workers_asked name text ∙ ap (λ (k : ℕ). Run (record default_options { workers = k })) (within_said 1 64 2 (number_of_text (without_minus text)) n h least most)
 
 -- twice
-workers_twice : (name first second : List ℕ) → are_mistakes (answers_of (name ∷ codes "run" ∷ (codes "--workers=" ++ first) ∷ (codes "--workers=" ++ second) ∷ [])) ≡ true
-unfolding answers_of clap_on_literals
+workers_twice : (name first second : List ℕ) → are_mistakes (fault_of command_line (name ∷ codes "run" ∷ (codes "--workers=" ++ first) ∷ (codes "--workers=" ++ second) ∷ [])) ≡ true
+unfolding clap_on_literals
 workers_twice name first second = go (accepts false (Signed (pos 1) (pos 64)) first) refl
   where
-    go : (b : Bool) → accepts false (Signed (pos 1) (pos 64)) first ≡ b
-        → are_mistakes (answers_of (name ∷ codes "run" ∷ (codes "--workers=" ++ first) ∷ (codes "--workers=" ++ second) ∷ [])) ≡ true
+    go : (b : Bool) → accepts false (Signed (pos 1) (pos 64)) first ≡ b → are_mistakes (fault_of command_line (name ∷ codes "run" ∷ (codes "--workers=" ++ first) ∷ (codes "--workers=" ++ second) ∷ [])) ≡ true
     go true is = rw is refl
     go false is = rw is refl
 
 -- without `run`
-workers_alone : (name : List ℕ) (rest : List (List ℕ)) → are_mistakes (answers_of (name ∷ codes "--workers" ∷ rest)) ≡ true
-unfolding answers_of clap_on_literals
+workers_alone : (name : List ℕ) (rest : List (List ℕ)) → are_mistakes (fault_of command_line (name ∷ codes "--workers" ∷ rest)) ≡ true
+unfolding clap_on_literals
 workers_alone name rest = refl
 
 -- `--levels=TEXT`
+levels_passed : (name text : List ℕ) → accepts false (Signed (pos 0) (pos 8)) text ≡ true → fault_of command_line (name ∷ codes "run" ∷ (codes "--levels=" ++ text) ∷ []) ≡ []
+unfolding clap_on_literals
+levels_passed name text h = rw h refl
+
+levels_unfaulted : (name text : List ℕ) → request_fault (subcommand_of command_line (name ∷ codes "run" ∷ (codes "--levels=" ++ text) ∷ [])) ≡ []
+unfolding clap_on_literals
+levels_unfaulted name text = refl
+
 levels_taken : (name text : List ℕ) → accepts false (Signed (pos 0) (pos 8)) text ≡ true → answers_of (name ∷ codes "run" ∷ (codes "--levels=" ++ text) ∷ []) ≡ []
-unfolding answers_of clap_on_literals
-levels_taken name text h = rw h refl
+levels_taken name text h = request_kinds (name ∷ codes "run" ∷ (codes "--levels=" ++ text) ∷ []) [] (levels_passed name text h) (levels_unfaulted name text)
 
 levels_refused : (name text : List ℕ) → accepts false (Signed (pos 0) (pos 8)) text ≡ false
-    → answers_of (name ∷ codes "run" ∷ (codes "--levels=" ++ text) ∷ []) ≡ ValueValidation ∷ []
-unfolding answers_of clap_on_literals
+    → are_mistakes (fault_of command_line (name ∷ codes "run" ∷ (codes "--levels=" ++ text) ∷ [])) ≡ true
+unfolding clap_on_literals
 levels_refused name text h = rw h refl
+
+levels_asked : (name text : List ℕ)
+    → request_of (name ∷ codes "run" ∷ (codes "--levels=" ++ text) ∷ []) ≡ Run (record default_options { levels = number_within 0 8 0 (number_of_text (without_minus text)) })
+unfolding request_of clap_on_literals
+levels_asked name text = refl
 
 levels_said : (name text : List ℕ) (n : ℕ) → number_of_text (without_minus text) ≡ Some n → nat_le 0 n ≡ true → nat_le n 8 ≡ true
     → request_of (name ∷ codes "run" ∷ (codes "--levels=" ++ text) ∷ []) ≡ Run (record default_options { levels = n })
-unfolding request_of clap_on_literals
-levels_said name text n h least most = rw (h, least, most) refl
+levels_said name text n h least most =
+    levels_asked name text ∙ ap (λ (k : ℕ). Run (record default_options { levels = k })) (within_said 0 8 0 (number_of_text (without_minus text)) n h least most)
 
 -- twice
-levels_twice : (name first second : List ℕ) → are_mistakes (answers_of (name ∷ codes "run" ∷ (codes "--levels=" ++ first) ∷ (codes "--levels=" ++ second) ∷ [])) ≡ true
-unfolding answers_of clap_on_literals
+levels_twice : (name first second : List ℕ) → are_mistakes (fault_of command_line (name ∷ codes "run" ∷ (codes "--levels=" ++ first) ∷ (codes "--levels=" ++ second) ∷ [])) ≡ true
+unfolding clap_on_literals
 levels_twice name first second = go (accepts false (Signed (pos 0) (pos 8)) first) refl
   where
-    go : (b : Bool) → accepts false (Signed (pos 0) (pos 8)) first ≡ b
-        → are_mistakes (answers_of (name ∷ codes "run" ∷ (codes "--levels=" ++ first) ∷ (codes "--levels=" ++ second) ∷ [])) ≡ true
+    go : (b : Bool) → accepts false (Signed (pos 0) (pos 8)) first ≡ b → are_mistakes (fault_of command_line (name ∷ codes "run" ∷ (codes "--levels=" ++ first) ∷ (codes "--levels=" ++ second) ∷ [])) ≡ true
     go true is = rw is refl
     go false is = rw is refl
 
 -- without `run`
-levels_alone : (name : List ℕ) (rest : List (List ℕ)) → are_mistakes (answers_of (name ∷ codes "--levels" ∷ rest)) ≡ true
-unfolding answers_of clap_on_literals
+levels_alone : (name : List ℕ) (rest : List (List ℕ)) → are_mistakes (fault_of command_line (name ∷ codes "--levels" ∷ rest)) ≡ true
+unfolding clap_on_literals
 levels_alone name rest = refl
 
 -- `--max-events=TEXT`
+max_events_passed : (name text : List ℕ) → accepts false (Signed (pos 0) (pos 1048576)) text ≡ true → fault_of command_line (name ∷ codes "run" ∷ (codes "--max-events=" ++ text) ∷ []) ≡ []
+unfolding clap_on_literals
+max_events_passed name text h = rw h refl
+
+max_events_unfaulted : (name text : List ℕ) → request_fault (subcommand_of command_line (name ∷ codes "run" ∷ (codes "--max-events=" ++ text) ∷ [])) ≡ []
+unfolding clap_on_literals
+max_events_unfaulted name text = refl
+
 max_events_taken : (name text : List ℕ) → accepts false (Signed (pos 0) (pos 1048576)) text ≡ true → answers_of (name ∷ codes "run" ∷ (codes "--max-events=" ++ text) ∷ []) ≡ []
-unfolding answers_of clap_on_literals
-max_events_taken name text h = rw h refl
+max_events_taken name text h = request_kinds (name ∷ codes "run" ∷ (codes "--max-events=" ++ text) ∷ []) [] (max_events_passed name text h) (max_events_unfaulted name text)
 
 max_events_refused : (name text : List ℕ) → accepts false (Signed (pos 0) (pos 1048576)) text ≡ false
-    → answers_of (name ∷ codes "run" ∷ (codes "--max-events=" ++ text) ∷ []) ≡ ValueValidation ∷ []
-unfolding answers_of clap_on_literals
+    → are_mistakes (fault_of command_line (name ∷ codes "run" ∷ (codes "--max-events=" ++ text) ∷ [])) ≡ true
+unfolding clap_on_literals
 max_events_refused name text h = rw h refl
+
+max_events_asked : (name text : List ℕ)
+    → request_of (name ∷ codes "run" ∷ (codes "--max-events=" ++ text) ∷ []) ≡ Run (record default_options { max_events = number_within 0 1048576 1048576 (number_of_text (without_minus text)) })
+unfolding request_of clap_on_literals
+max_events_asked name text = refl
 
 max_events_said : (name text : List ℕ) (n : ℕ) → number_of_text (without_minus text) ≡ Some n → nat_le 0 n ≡ true → nat_le n 1048576 ≡ true
     → request_of (name ∷ codes "run" ∷ (codes "--max-events=" ++ text) ∷ []) ≡ Run (record default_options { max_events = n })
-unfolding request_of clap_on_literals
-max_events_said name text n h least most = rw (h, least, most) refl
+max_events_said name text n h least most =
+    max_events_asked name text ∙ ap (λ (k : ℕ). Run (record default_options { max_events = k })) (within_said 0 1048576 1048576 (number_of_text (without_minus text)) n h least most)
 
 -- twice
-max_events_twice : (name first second : List ℕ) → are_mistakes (answers_of (name ∷ codes "run" ∷ (codes "--max-events=" ++ first) ∷ (codes "--max-events=" ++ second) ∷ [])) ≡ true
-unfolding answers_of clap_on_literals
+max_events_twice : (name first second : List ℕ) → are_mistakes (fault_of command_line (name ∷ codes "run" ∷ (codes "--max-events=" ++ first) ∷ (codes "--max-events=" ++ second) ∷ [])) ≡ true
+unfolding clap_on_literals
 max_events_twice name first second = go (accepts false (Signed (pos 0) (pos 1048576)) first) refl
   where
-    go : (b : Bool) → accepts false (Signed (pos 0) (pos 1048576)) first ≡ b
-        → are_mistakes (answers_of (name ∷ codes "run" ∷ (codes "--max-events=" ++ first) ∷ (codes "--max-events=" ++ second) ∷ [])) ≡ true
+    go : (b : Bool) → accepts false (Signed (pos 0) (pos 1048576)) first ≡ b → are_mistakes (fault_of command_line (name ∷ codes "run" ∷ (codes "--max-events=" ++ first) ∷ (codes "--max-events=" ++ second) ∷ [])) ≡ true
     go true is = rw is refl
     go false is = rw is refl
 
 -- without `run`
-max_events_alone : (name : List ℕ) (rest : List (List ℕ)) → are_mistakes (answers_of (name ∷ codes "--max-events" ∷ rest)) ≡ true
-unfolding answers_of clap_on_literals
+max_events_alone : (name : List ℕ) (rest : List (List ℕ)) → are_mistakes (fault_of command_line (name ∷ codes "--max-events" ∷ rest)) ≡ true
+unfolding clap_on_literals
 max_events_alone name rest = refl
+
+-- `--journal=TEXT` and `--sync=TEXT` twice
+journal_twice : (name first second : List ℕ) → are_mistakes (fault_of command_line (name ∷ codes "run" ∷ (codes "--journal=" ++ first) ∷ (codes "--journal=" ++ second) ∷ [])) ≡ true
+unfolding clap_on_literals
+journal_twice name first second = go (nat_lt 0 (length first)) refl
+  where
+    go : (b : Bool) → nat_lt 0 (length first) ≡ b
+        → are_mistakes (fault_of command_line (name ∷ codes "run" ∷ (codes "--journal=" ++ first) ∷ (codes "--journal=" ++ second) ∷ [])) ≡ true
+    go true is = rw is refl
+    go false is = rw is refl
+
+sync_twice : (name first second : List ℕ) → are_mistakes (fault_of command_line (name ∷ codes "run" ∷ (codes "--sync=" ++ first) ∷ (codes "--sync=" ++ second) ∷ [])) ≡ true
+unfolding clap_on_literals
+sync_twice name first second = refl
+
+-- without `run`
+journal_alone : (name : List ℕ) (rest : List (List ℕ)) → are_mistakes (fault_of command_line (name ∷ codes "--journal" ∷ rest)) ≡ true
+unfolding clap_on_literals
+journal_alone name rest = refl
+
+sync_alone : (name : List ℕ) (rest : List (List ℕ)) → are_mistakes (fault_of command_line (name ∷ codes "--sync" ∷ rest)) ≡ true
+unfolding clap_on_literals
+sync_alone name rest = refl
 
 -- ---- numbers
 
@@ -195,13 +256,25 @@ numbers_are_taken name n = (
 
 pub others_are_refused : OthersAreRefused
 others_are_refused name n h = (
-  (λ outside. rw (workers_refused name (decimal n) (refused 1 64 n h outside)) refl),
-  (λ above. rw (levels_refused name (decimal n) (refused 0 8 n h (λ least most. omega arith))) refl),
-  (λ above. rw (max_events_refused name (decimal n) (refused 0 1048576 n h (λ least most. omega arith))) refl),
+  (λ outside. mistaken_words (run_with name (codes "--workers=") n) (workers_refused name (decimal n) (refused 1 64 n h outside))),
+  (λ above. mistaken_words (run_with name (codes "--levels=") n) (levels_refused name (decimal n) (refused 0 8 n h (λ least most. omega arith)))),
+  (λ above. mistaken_words (run_with name (codes "--max-events=") n) (max_events_refused name (decimal n) (refused 0 1048576 n h (λ least most. omega arith)))),
 )
 
 pub no_option_twice : NoOptionTwice
-no_option_twice name first second = (workers_twice name first second, levels_twice name first second, max_events_twice name first second)
+no_option_twice name first second = (
+  mistaken_words (run_twice name (codes "--workers=") first second) (workers_twice name first second),
+  mistaken_words (run_twice name (codes "--levels=") first second) (levels_twice name first second),
+  mistaken_words (run_twice name (codes "--max-events=") first second) (max_events_twice name first second),
+  mistaken_words (run_twice name (codes "--journal=") first second) (journal_twice name first second),
+  mistaken_words (run_twice name (codes "--sync=") first second) (sync_twice name first second),
+)
 
 pub options_need_run : OptionsNeedRun
-options_need_run name rest = (workers_alone name rest, levels_alone name rest, max_events_alone name rest)
+options_need_run name rest = (
+  mistaken_words (name ∷ codes "--workers" ∷ rest) (workers_alone name rest),
+  mistaken_words (name ∷ codes "--levels" ∷ rest) (levels_alone name rest),
+  mistaken_words (name ∷ codes "--max-events" ∷ rest) (max_events_alone name rest),
+  mistaken_words (name ∷ codes "--journal" ∷ rest) (journal_alone name rest),
+  mistaken_words (name ∷ codes "--sync" ∷ rest) (sync_alone name rest),
+)

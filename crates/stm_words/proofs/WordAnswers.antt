@@ -1,10 +1,11 @@
 -- What clap answers to words.
 use Rattle.std.proofs.Common.{bytes_eq, ◌≡◌, ◌≤◌, ℕ, Bool, true, false, List, [], ◌∷◌, ◌++◌, ◌&&◌, inl, inr, codes, refl, ap, sym, ◌∙◌, subst, cond, arith, Option, Some, None}
-use Rattle.std.specs.Prelude.{Ok, Err, ◌≢◌, ◌⊎◌, nat_le, option_and_then, unwrap_or}
+use Rattle.std.specs.Prelude.{Ok, Err, MatchResult, ◌⊎◌, nat_le, option_and_then, option_map, unwrap_or}
 use Rattle.std.specs.Str.Parse.{ParsesUnsigned, digits_value, without_leading_plus}
-use Rattle.clap.specs.Matches.{ReadsOne, first_value, one_text}
+use Rattle.clap.specs.Matches.{ReadsOne, first_value, found_of, one_text, subcommand_name_of}
 use Rattle.clap.specs.ValueTests.{is_unsigned_in}
-use Rattle.clap.specs.Walk.{Row, one_of, rows_of}
+use Rattle.clap.specs.Kinds.{or_else}
+use Rattle.clap.specs.Walk.{Row, first_of, one_of, rows_of}
 use Rattle.clap.specs.declared.builder.value_parser.ValueParser.TheVariants.{Unsigned}
 use Rattle.clap.specs.declared.parser.matches.Found.{Found}
 use Rattle.clap.proofs.ValueTestLemmas.{accepts-Accepts, Accepts-accepts}
@@ -14,14 +15,18 @@ use Rattle.std.specs.List.{list_all}
 use Rattle.std.proofs.lemmas.Slice.Eq.{bytes_eq-Decides}
 use Rattle.clap.specs.Words.{App, Kinds, FailsBy, HasKind, HasMatchesOf, IsAmong, fault_of, is_simple, is_simple_and_free, subcommand_of, subcommand_rows_of}
 use Rattle.clap.specs.declared.parser.matches.ArgMatches.{ArgMatches}
+use Rattle.clap.specs.declared.parser.matches.ArgMatches.TheViews.{out-ArgMatches, out-SubCommand}
+use Rattle.std.specs.Box.{box_value}
 use Rattle.clap.specs.Values.{kind_of}
 use Rattle.clap.specs.declared.error.Error.{Error}
 use Rattle.clap.specs.declared.error.kind.ErrorKind.{ErrorKind}
 use Rattle.clap.specs.declared.error.kind.ErrorKind.TheVariants.{DisplayHelp, DisplayVersion, OutOfMemory}
 use Rattle.clap.proofs.OnLiterals.{clap_on_literals}
 use Rattle.std.specs.Prelude.{Result}
-use Rattle.stm_words.specs.CommandLine.{answers_of, are_mistakes, asks_for_run, asks_for_version, command_line, is_help, is_mistake, is_version, number_of_text, number_within, explore_options_said, flag_said, options_said, request_of, request_said, AreExploreOptions, HasOptionsInRange}
+use Rattle.stm_words.specs.CommandLine.{answers_of, are_mistakes, asks_for_run, asks_for_version, command_line, is_help, is_mistake, is_version, number_of_text, number_within, explore_options_said, flag_said, mode_said, options_said, request_fault, request_of, request_said, run_fault, run_on, run_said, storm_fault, AreExploreOptions, HasOptionsInRange}
 use Rattle.stm_words.specs.WordLaws.{VersionsAreAskedFor}
+use Rattle.stm_journal.specs.declared.sync_mode.SyncMode.{SyncMode}
+use Rattle.stm_options.specs.declared.options.Options.{Options}
 use Rattle.stm_options.specs.Options.{AreRunOptions, default_options}
 use Rattle.stm_words.specs.declared.command_line.Request.{Request}
 use Rattle.stm_words.specs.declared.command_line.Request.TheVariants.{Run, Storm, Explore, Check, CheckWhy}
@@ -35,16 +40,63 @@ simple : is_simple command_line ≡ true
 unfolding clap_on_literals
 simple = refl
 
-pub answered : {T : Type 0} (a : App) (words : List (List ℕ)) (r : Result T Error) → a ≡ command_line
-    → (is_simple_and_free a ≡ true → FailsBy (fault_of a words) r) → FailsBy (answers_of words) r
+-- what clap has to say comes first
+first_kind : (kinds others : Kinds) (e : Error) → HasKind kinds e → HasKind (or_else kinds others) e
+first_kind [] others e (inl memory) = inl memory
+first_kind [] others e (inr h) = absurd h
+first_kind (k ∷ ks) others e h = h
+
+first_mistaken : (kinds others : Kinds) → are_mistakes kinds ≡ true → are_mistakes (or_else kinds others) ≡ true
+first_mistaken [] others h = absurd (false≢true h)
+first_mistaken (k ∷ ks) others h = h
+
+pub mistaken_words : (words : List (List ℕ)) → are_mistakes (fault_of command_line words) ≡ true → are_mistakes (answers_of words) ≡ true
 unfolding answers_of
-answered a words r same h = subst (λ (b : App). FailsBy (fault_of b words) r) same (h (ap is_simple_and_free same ∙ exact))
+mistaken_words words h = first_mistaken (fault_of command_line words) (request_fault (subcommand_of command_line words)) h
+
+-- if clap takes the words, what is wrong with the request is said
+pub request_kinds : (words : List (List ℕ)) (kinds : Kinds) → fault_of command_line words ≡ [] → request_fault (subcommand_of command_line words) ≡ kinds
+    → answers_of words ≡ kinds
+unfolding answers_of
+request_kinds words kinds none is = ap (λ (k : Kinds). or_else k (request_fault (subcommand_of command_line words))) none ∙ is
+
+-- what clap makes of the words: it takes them, or says what is wrong
+abbrev pub IsAnsweredByClap : {T : Type 0} → List (List ℕ) → Result T Error → Type 0
+IsAnsweredByClap words r = MatchResult r (λ _. fault_of command_line words ≡ []) (HasKind (answers_of words))
+
+clap_answer : {T : Type 0} (words : List (List ℕ)) (r : Result T Error) → FailsBy (fault_of command_line words) r → IsAnsweredByClap words r
+unfolding answers_of
+clap_answer words (Ok m) h = h
+clap_answer words (Err e) h = first_kind (fault_of command_line words) (request_fault (subcommand_of command_line words)) e h
+
+pub clap_answered : {T : Type 0} (a : App) (words : List (List ℕ)) (r : Result T Error) → a ≡ command_line
+    → (is_simple_and_free a ≡ true → FailsBy (fault_of a words) r) → IsAnsweredByClap words r
+clap_answered a words r same h =
+    clap_answer words r (subst (λ (b : App). FailsBy (fault_of b words) r) same (h (ap is_simple_and_free same ∙ exact)))
+
+-- what the subcommand is, where clap takes the words
+entered_rows : (a : App) (words : List (List ℕ)) (m : ArgMatches) → a ≡ command_line → HasMatchesOf a words m → subcommand_rows_of m ≡ subcommand_of command_line words
+entered_rows a words m same h = (h (ap is_simple same ∙ simple)).1 ∙ ap (λ (b : App). subcommand_of b words) same
+
+-- then only the request can be wrong
+request_answered : {T : Type 0} (words : List (List ℕ)) (o : Option (List ℕ × List Row)) (r : Result T Error) → fault_of command_line words ≡ []
+    → o ≡ subcommand_of command_line words → FailsBy (request_fault o) r → FailsBy (answers_of words) r
+unfolding answers_of
+request_answered words o r none same checked =
+    subst (λ (kinds : Kinds). FailsBy (or_else kinds (request_fault (subcommand_of command_line words))) r) (sym none)
+    (subst (λ (entered : Option (List ℕ × List Row)). FailsBy (request_fault entered) r) same checked)
+
+pub words_answered : {T : Type 0} (a : App) (words : List (List ℕ)) (parse : Result ArgMatches Error) (m : ArgMatches) (r : Result T Error) → a ≡ command_line
+    → (is_simple_and_free a ≡ true → FailsBy (fault_of a words) parse) → parse ≡ Ok m → HasMatchesOf a words m → FailsBy (request_fault (subcommand_rows_of m)) r
+    → FailsBy (answers_of words) r
+words_answered a words parse m r same kinds was matches checked =
+    request_answered words (subcommand_rows_of m) r (subst (IsAnsweredByClap words) was (clap_answered a words parse same kinds)) (entered_rows a words m same matches) checked
 
 -- what they ask for is what the matches say
 pub requested : (a : App) (words : List (List ℕ)) (m : ArgMatches) (r : Request) → a ≡ command_line → HasMatchesOf a words m
     → r ≡ request_said (subcommand_rows_of m) → r ≡ request_of words
 unfolding request_of
-requested a words m r same h is = is ∙ ap request_said ((h (ap is_simple same ∙ simple)).1 ∙ ap (λ (b : App). subcommand_of b words) same)
+requested a words m r same h is = is ∙ ap request_said (entered_rows a words m same h)
 
 -- a run without options has the default ones
 run_named : (name word : List ℕ) → word ≡ codes "run" → request_of (name ∷ word ∷ []) ≡ Run default_options
@@ -103,10 +155,10 @@ among k [] h e = absurd h
 among k (x ∷ xs) (inl same) e = rw same (both _ _ e).0
 among k (x ∷ xs) (inr later) e = among k xs later (both _ _ e).1
 
-pub told_mistake : (kinds : Kinds) (e : Error) → HasKind kinds e → are_mistakes kinds ≡ true → is_mistake (kind_of e) ≡ true
-told_mistake kinds e (inl same) h = rw same refl
-told_mistake [] e (inr h) wrong = absurd h
-told_mistake (k ∷ ks) e (inr h) wrong = among (kind_of e) (k ∷ ks) h wrong
+pub mistake_kind : (kinds : Kinds) (e : Error) → HasKind kinds e → are_mistakes kinds ≡ true → is_mistake (kind_of e) ≡ true
+mistake_kind kinds e (inl same) h = rw same refl
+mistake_kind [] e (inr h) wrong = absurd h
+mistake_kind (k ∷ ks) e (inr h) wrong = among (kind_of e) (k ∷ ks) h wrong
 
 -- ---- the number of an option
 
@@ -142,6 +194,46 @@ pub flag_read : (f : Found) (name : List ℕ) (o : Option (List ℕ)) (text : Li
     → bytes_eq text (codes "true") ≡ flag_said name (rows_of f)
 flag_read f name o text e is = ap (λ t. bytes_eq t (codes "true")) is ∙ ap (λ t. bytes_eq (unwrap_or t []) (codes "true")) (e ∙ first_value-rows f name)
 
+-- what the getter reads of an option that takes a text
+pub text_read : (f : Found) (name : List ℕ) (o : Option (List ℕ)) → o ≡ first_value f name → o ≡ first_of name (rows_of f)
+text_read f name o e = e ∙ first_value-rows f name
+
+-- ---- what is wrong with the request
+
+abbrev entry : {B : Type 0} → (B → List ℕ) → (B → List Row) → B → List ℕ × List Row
+entry f g b = (f b, g b)
+
+entered_by : {B : Type 0} (o : Option B) (f : B → List ℕ) (g : B → List Row) (name : List ℕ) (rows : List Row) → Some name ≡ option_map f o
+    → Some rows ≡ option_map (λ (p : List ℕ × List Row). p.1) (option_map (entry f g) o) → option_map (entry f g) o ≡ Some (name, rows)
+entered_by None f g name rows is are = absurd cc
+entered_by (Some b) f g name rows is are =
+    let n : f b ≡ name = cc in
+    let r : g b ≡ rows = cc in
+    rw (n, r) refl
+
+-- the name and the rows of the subcommand, as the getter gives them
+pub entered_subcommand : (m : ArgMatches) (name : List ℕ) (rows : List Row) → Some name ≡ subcommand_name_of m
+    → Some rows ≡ option_map (λ (p : List ℕ × List Row). p.1) (subcommand_rows_of m) → subcommand_rows_of m ≡ Some (name, rows)
+entered_subcommand m name rows is are =
+    entered_by (out-ArgMatches m).subcommand (λ b. (out-SubCommand (box_value b)).name.now) (λ b. rows_of (found_of (out-SubCommand (box_value b)).matches)) name rows is are
+
+run_faulted : (o : Option (List ℕ × List Row)) (name : List ℕ) (rows : List Row) → o ≡ Some (name, rows) → bytes_eq name (codes "run") ≡ true → request_fault o ≡ run_fault rows
+run_faulted o name rows e is = ap request_fault e ∙ ap (λ b. cond b (run_fault rows) (cond (bytes_eq name (codes "storm")) (storm_fault rows) [])) is
+
+storm_faulted : (o : Option (List ℕ × List Row)) (name : List ℕ) (rows : List Row) → o ≡ Some (name, rows) → bytes_eq name (codes "run") ≡ false
+    → bytes_eq name (codes "storm") ≡ true → request_fault o ≡ storm_fault rows
+storm_faulted o name rows e isnt is =
+    ap request_fault e ∙ ap (λ b. cond b (run_fault rows) (cond (bytes_eq name (codes "storm")) (storm_fault rows) [])) isnt
+    ∙ ap (λ b. cond b (storm_fault rows) []) is
+
+pub run_checked : {T : Type 0} (o : Option (List ℕ × List Row)) (name : List ℕ) (rows : List Row) (r : Result T Error) → o ≡ Some (name, rows)
+    → bytes_eq name (codes "run") ≡ true → FailsBy (run_fault rows) r → FailsBy (request_fault o) r
+run_checked o name rows r e is h = subst (λ (kinds : Kinds). FailsBy kinds r) (sym (run_faulted o name rows e is)) h
+
+pub storm_checked : {T : Type 0} (o : Option (List ℕ × List Row)) (name : List ℕ) (rows : List Row) (r : Result T Error) → o ≡ Some (name, rows)
+    → bytes_eq name (codes "run") ≡ false → bytes_eq name (codes "storm") ≡ true → FailsBy (storm_fault rows) r → FailsBy (request_fault o) r
+storm_checked o name rows r e isnt is h = subst (λ (kinds : Kinds). FailsBy kinds r) (sym (storm_faulted o name rows e isnt is)) h
+
 -- ---- the options of a run
 
 within : (low high otherwise : ℕ) (o : Option ℕ) → low ≤ otherwise → otherwise ≤ high
@@ -173,6 +265,10 @@ default_in_range = record {
   few_events = omega arith;
 }
 
+run_in_range : (file : Option (List ℕ)) (sync : SyncMode) (options : Options) → AreRunOptions options → HasOptionsInRange (run_on file sync options)
+run_in_range None sync options h = h
+run_in_range (Some file) sync options h = h
+
 explored_in_range : (rows : List Row) → AreExploreOptions (explore_options_said rows)
 explored_in_range rows = record {
   some_state = (within 1 4294967295 1000000 (number (codes "max-states") rows) (omega arith) (omega arith)).0;
@@ -182,12 +278,12 @@ explored_in_range rows = record {
 subcommand_in_range : (name : List ℕ) (rows : List Row) → HasOptionsInRange (request_said (Some (name, rows)))
 subcommand_in_range name rows = go (flag_said (codes "why") rows) (bytes_eq name (codes "check")) (bytes_eq name (codes "storm")) (bytes_eq name (codes "explore"))
   where
-    go : (a b c d : Bool) → HasOptionsInRange (cond b (cond a CheckWhy Check) (cond c (Storm (options_said rows)) (cond d (Explore (explore_options_said rows)) (Run (options_said rows)))))
+    go : (a b c d : Bool) → HasOptionsInRange (cond b (cond a CheckWhy Check) (cond c (Storm (options_said rows)) (cond d (Explore (explore_options_said rows)) (run_said rows))))
     go true true c d = tt
     go false true c d = tt
     go a false true d = said_in_range rows
     go a false false true = explored_in_range rows
-    go a false false false = said_in_range rows
+    go a false false false = run_in_range (first_of (codes "journal") rows) (mode_said (first_of (codes "sync") rows)) (options_said rows) (said_in_range rows)
 
 in_range : (p : Option (List ℕ × List Row)) → HasOptionsInRange (request_said p)
 in_range None = default_in_range
@@ -239,17 +335,17 @@ version_alone [] v = absurd cc
 version_alone (DisplayVersion ∷ []) v = refl
 version_alone (kind ∷ kinds) v = absurd cc
 
-told_among : (k : ErrorKind) (e : Error) → HasKind (k ∷ []) e → (kind_of e ≡ OutOfMemory) ⊎ (kind_of e ≡ k)
-told_among k e (inl same) = inl same
-told_among k e (inr (inl same)) = inr same
-told_among k e (inr (inr h)) = absurd h
+kind_among : (k : ErrorKind) (e : Error) → HasKind (k ∷ []) e → (kind_of e ≡ OutOfMemory) ⊎ (kind_of e ≡ k)
+kind_among k e (inl same) = inl same
+kind_among k e (inr (inl same)) = inr same
+kind_among k e (inr (inr h)) = absurd h
 
 -- what is printed of a request for help or the version is that, or an out-of-memory error
-pub told_help : (kinds : Kinds) (e : Error) → HasKind kinds e → is_help kinds ≡ true → (kind_of e ≡ OutOfMemory) ⊎ (kind_of e ≡ DisplayHelp)
-told_help kinds e h v = told_among DisplayHelp e (subst (λ (ks : Kinds). HasKind ks e) (help_alone kinds v) h)
+pub help_kind : (kinds : Kinds) (e : Error) → HasKind kinds e → is_help kinds ≡ true → (kind_of e ≡ OutOfMemory) ⊎ (kind_of e ≡ DisplayHelp)
+help_kind kinds e h v = kind_among DisplayHelp e (subst (λ (ks : Kinds). HasKind ks e) (help_alone kinds v) h)
 
-pub told_version : (kinds : Kinds) (e : Error) → HasKind kinds e → is_version kinds ≡ true → (kind_of e ≡ OutOfMemory) ⊎ (kind_of e ≡ DisplayVersion)
-told_version kinds e h v = told_among DisplayVersion e (subst (λ (ks : Kinds). HasKind ks e) (version_alone kinds v) h)
+pub version_kind : (kinds : Kinds) (e : Error) → HasKind kinds e → is_version kinds ≡ true → (kind_of e ≡ OutOfMemory) ⊎ (kind_of e ≡ DisplayVersion)
+version_kind kinds e h v = kind_among DisplayVersion e (subst (λ (ks : Kinds). HasKind ks e) (version_alone kinds v) h)
 
 -- ---- words that nothing is done for
 
@@ -258,5 +354,5 @@ among_none e (inl same) = same
 among_none e (inr h) = absurd h
 
 -- where there is nothing to tell, what is reported is an out-of-memory error
-pub told_nothing : (kinds : Kinds) (e : Error) → HasKind kinds e → kinds ≡ [] → kind_of e ≡ OutOfMemory
-told_nothing kinds e h none = among_none e (subst (λ (ks : Kinds). HasKind ks e) none h)
+pub memory_kind : (kinds : Kinds) (e : Error) → HasKind kinds e → kinds ≡ [] → kind_of e ≡ OutOfMemory
+memory_kind kinds e h none = among_none e (subst (λ (ks : Kinds). HasKind ks e) none h)

@@ -1,20 +1,23 @@
 -- What the words of a command line ask for. The first is the program's name.
-use Rattle.std.specs.Prelude.{ℕ, Bool, true, false, List, [], ◌∷◌, ◌++◌, ◌&&◌, Option, Some, None, if◌then◌else◌, codes, nat_le, option_and_then, unwrap_or, ◌≤◌, ⊤, pos}
+use Rattle.std.specs.Prelude.{ℕ, Bool, true, false, not, List, [], ◌∷◌, ◌++◌, ◌&&◌, ◌||◌, Option, Some, None, is_some, if◌then◌else◌, codes, nat_le, option_and_then, unwrap_or, ◌≤◌, ⊤, pos}
 use Rattle.std.specs.List.{list_all}
 use Rattle.std.specs.Str.{bytes_eq}
 use Rattle.std.specs.Str.Parse.{digits_value, without_leading_plus}
 use Rattle.clap.specs.Walk.{Row, Rule, first_of, one_of}
 use Rattle.clap.specs.ValueTests.{is_unsigned_in}
+use Rattle.clap.specs.Kinds.{or_else}
 use Rattle.clap.specs.Words.{App, Kinds, fault_of, new_app, new_rule, subcommand_of, with_rule, with_subcommand}
 use Rattle.clap.specs.declared.builder.action.ArgAction.TheVariants.{SetTrue}
-use Rattle.clap.specs.declared.builder.value_parser.ValueParser.TheVariants.{Signed}
+use Rattle.clap.specs.declared.builder.value_parser.ValueParser.TheVariants.{NonEmptyString, Signed}
 use Rattle.clap.specs.declared.error.kind.ErrorKind.{ErrorKind}
-use Rattle.clap.specs.declared.error.kind.ErrorKind.TheVariants.{DisplayHelp, DisplayVersion}
+use Rattle.clap.specs.declared.error.kind.ErrorKind.TheVariants.{DisplayHelp, DisplayVersion, InvalidValue, MissingRequiredArgument, UnknownArgument}
 use Rattle.stm_eval.specs.Limits.{max_levels}
 use Rattle.stm_events.specs.SlowDesk.{max_events}
 use Rattle.stm_pool.specs.Limits.{max_workers}
 use Rattle.stm_words.specs.declared.command_line.Request.{Request}
-use Rattle.stm_words.specs.declared.command_line.Request.TheVariants.{Run, Storm, Explore, Check, CheckWhy}
+use Rattle.stm_words.specs.declared.command_line.Request.TheVariants.{Run, RunOn, Storm, Explore, Check, CheckWhy}
+use Rattle.stm_journal.specs.declared.sync_mode.SyncMode.{SyncMode}
+use Rattle.stm_journal.specs.declared.sync_mode.SyncMode.TheVariants.{Full, Append, Never}
 use Rattle.stm_options.specs.declared.explore_options.ExploreOptions.{ExploreOptions}
 use Rattle.stm_options.specs.declared.options.Options.{Options}
 use Rattle.stm_words.specs.declared.version.TheConstants.{VERSION}
@@ -38,18 +41,34 @@ number_option name low high default = record (new_rule name) {
   parser = Some (Signed (pos low) (pos high));
 }
 
--- a command with the options of a run: `--workers`, `--levels` and `--max-events`
-abbrev pub with_options : App → App
-with_options command = with_rule (with_rule (with_rule command
+-- the option `--journal`, which takes a text that isn't empty
+abbrev pub journal_option : Rule
+journal_option = record (new_rule (codes "journal")) {
+  long = Some (codes "journal");
+  value_names = 1;
+  parser = Some NonEmptyString;
+}
+
+-- the option `--sync`, which takes a text
+abbrev pub sync_option : Rule
+sync_option = record (new_rule (codes "sync")) { long = Some (codes "sync"); value_names = 1 }
+
+-- a command with the options of a run that take numbers: `--workers`, `--levels` and `--max-events`
+abbrev pub with_numbers : App → App
+with_numbers command = with_rule (with_rule (with_rule command
     (number_option (codes "workers") 1 max_workers (codes "2")))
     (number_option (codes "levels") 0 max_levels (codes "0")))
     (number_option (codes "max-events") 0 max_events (codes "1048576"))
+
+-- a command with all options of a run
+abbrev pub with_options : App → App
+with_options command = with_rule (with_rule (with_numbers command) journal_option) sync_option
 
 -- `run` with its options
 abbrev pub run_command : App
 run_command = with_options (new_app (codes "run"))
 
--- `storm` with its options
+-- `storm` with its options; those of a journal are refused below
 abbrev pub storm_command : App
 storm_command = with_options (new_app (codes "storm"))
 
@@ -79,10 +98,50 @@ command_line = with_subcommand (with_subcommand (with_subcommand (with_subcomman
 
 -- ---- which words are taken
 
--- what clap has to say of words in place of what they ask for; nothing where they ask for a run, a storm, an exploration or a
--- check
+-- how a file is synced, by the word for it
+abbrev pub mode_of : List ℕ → Option SyncMode
+mode_of word =
+    if bytes_eq word (codes "full") then Some Full
+    else if bytes_eq word (codes "append") then Some Append
+    else if bytes_eq word (codes "none") then Some Never
+    else None
+
+-- what is wrong with the word that is said for `--sync`: it is no mode, or there is no journal
+abbrev pub sync_fault : Option (List ℕ) → Bool → Kinds
+sync_fault None has_journal = []
+sync_fault (Some word) has_journal =
+    if not (is_some (mode_of word)) then InvalidValue ∷ []
+    else if not has_journal then MissingRequiredArgument ∷ []
+    else []
+
+-- whether an option is said that takes a text
+abbrev pub is_said : List ℕ → List Row → Bool
+is_said name rows = is_some (first_of name rows)
+
+-- what is wrong with the options of a run that clap takes
+abbrev pub run_fault : List Row → Kinds
+run_fault rows = sync_fault (first_of (codes "sync") rows) (is_said (codes "journal") rows)
+
+-- what is wrong with the options of a journal where there can be none
+abbrev pub journal_fault : Bool → Bool → Kinds
+journal_fault has_journal has_sync = if has_journal || has_sync then UnknownArgument ∷ [] else []
+
+-- what is wrong with the options of a storm that clap takes
+abbrev pub storm_fault : List Row → Kinds
+storm_fault rows = journal_fault (is_said (codes "journal") rows) (is_said (codes "sync") rows)
+
+-- what is wrong with a subcommand and its options that clap takes
+abbrev pub request_fault : Option (List ℕ × List Row) → Kinds
+request_fault None = []
+request_fault (Some p) =
+    if bytes_eq p.0 (codes "run") then run_fault p.1
+    else if bytes_eq p.0 (codes "storm") then storm_fault p.1
+    else []
+
+-- what clap has to say of words in place of what they ask for, or else what is wrong with the options of a journal; nothing if they
+-- ask for a run, a storm, an exploration or a check
 unfoldable pub answers_of : List (List ℕ) → Kinds
-answers_of words = fault_of command_line words
+answers_of words = or_else (fault_of command_line words) (request_fault (subcommand_of command_line words))
 
 -- the words are wrong, and not a request for help or the version
 abbrev pub is_mistake : ErrorKind → Bool
@@ -123,11 +182,11 @@ version_line = codes "stmdesk " ++ VERSION.now ++ 10 ∷ []
 
 -- ---- what they ask for
 
--- the number that digits stand for, also after a plus, where it is one of 32 bits
+-- the number that digits stand for, also after a plus, if it has at most 32 bits
 abbrev pub number_of_text : List ℕ → Option ℕ
 number_of_text text = if is_unsigned_in 0 4294967295 text then Some (digits_value 10 (without_leading_plus text)) else None
 
--- a number from low to high; what is meant otherwise, where none is said or it is outside
+-- a number from low to high; what is meant otherwise, if none is said or it is outside
 abbrev pub number_within : ℕ → ℕ → ℕ → Option ℕ → ℕ
 number_within low high otherwise None = otherwise
 number_within low high otherwise (Some n) = if nat_le low n && nat_le n high then n else otherwise
@@ -161,6 +220,20 @@ explore_options_said rows = record {
 abbrev pub check_said : List Row → Request
 check_said rows = if flag_said (codes "why") rows then CheckWhy else Check
 
+-- how the file of a run is synced; `full` if nothing is said
+abbrev pub mode_said : Option (List ℕ) → SyncMode
+mode_said None = Full
+mode_said (Some word) = unwrap_or (mode_of word) Full
+
+-- a run, by the file that is said for its journal, if one is
+abbrev pub run_on : Option (List ℕ) → SyncMode → Options → Request
+run_on None sync options = Run options
+run_on (Some file) sync options = RunOn options sync file
+
+-- a run with the options that are said
+abbrev pub run_said : List Row → Request
+run_said rows = run_on (first_of (codes "journal") rows) (mode_said (first_of (codes "sync") rows)) (options_said rows)
+
 -- a subcommand, by its name and what is said for its options; without one a run
 abbrev pub request_said : Option (List ℕ × List Row) → Request
 request_said None = Run default_options
@@ -168,9 +241,9 @@ request_said (Some p) =
     if bytes_eq p.0 (codes "check") then check_said p.1
     else if bytes_eq p.0 (codes "storm") then Storm (options_said p.1)
     else if bytes_eq p.0 (codes "explore") then Explore (explore_options_said p.1)
-    else Run (options_said p.1)
+    else run_said p.1
 
--- what words ask for that clap takes: a run, a storm, an exploration or a check, with its options
+-- what words ask for that are taken: a run, a storm, an exploration or a check, with its options
 unfoldable pub request_of : List (List ℕ) → Request
 request_of words = request_said (subcommand_of command_line words)
 
@@ -182,6 +255,7 @@ pub record AreExploreOptions (o : ExploreOptions) : Type 0 where
 -- its options are in their ranges
 abbrev pub HasOptionsInRange : Request → Type 0
 HasOptionsInRange (Run options) = AreRunOptions options
+HasOptionsInRange (RunOn options sync file) = AreRunOptions options
 HasOptionsInRange (Storm options) = AreRunOptions options
 HasOptionsInRange (Explore options) = AreExploreOptions options
 HasOptionsInRange Check = ⊤

@@ -1,11 +1,13 @@
--- Which words ask for a run, a storm, a check or the version, and what they say.
-use Rattle.std.specs.Prelude.{◌≡◌, ◌≤◌, ◌<◌, ◌^◌, ℕ, List, [], ◌∷◌, ◌++◌, codes, decimal, IsTrue}
+-- Which words ask for a run, a run on a file, a storm, a check or the version, and what they say.
+use Rattle.std.specs.Prelude.{◌≡◌, ◌≢◌, ◌≤◌, ◌<◌, ◌^◌, ℕ, List, [], ◌∷◌, ◌++◌, codes, decimal, IsTrue}
 use Rattle.stm_eval.specs.Limits.{max_levels}
 use Rattle.stm_events.specs.SlowDesk as slow
 use Rattle.stm_pool.specs.Limits.{max_workers}
-use Rattle.stm_words.specs.declared.command_line.Request.TheVariants.{Run, Storm, Check, CheckWhy}
+use Rattle.stm_words.specs.declared.command_line.Request.TheVariants.{Run, RunOn, Storm, Check, CheckWhy}
+use Rattle.stm_journal.specs.declared.sync_mode.SyncMode.{SyncMode}
+use Rattle.stm_journal.specs.declared.sync_mode.SyncMode.TheVariants.{Full, Append, Never}
 use Rattle.stm_options.specs.declared.options.Options.{Options}
-use Rattle.stm_words.specs.CommandLine.{answers_of, asks_for_run, asks_for_version, has_mistake, request_of, HasOptionsInRange}
+use Rattle.stm_words.specs.CommandLine.{answers_of, asks_for_help, asks_for_run, asks_for_version, has_mistake, request_of, HasOptionsInRange}
 use Rattle.stm_options.specs.Options.{default_options}
 
 -- of the program's name alone, and of the word `run` after it, there is nothing to tell, so they ask for a run
@@ -30,13 +32,26 @@ abbrev pub StormsAreAccepted : Type 0
 StormsAreAccepted = (name : List ℕ)
     → (answers_of (name ∷ codes "storm" ∷ []) ≡ []) × (request_of (name ∷ codes "storm" ∷ []) ≡ Storm default_options)
 
--- any words after `storm` are taken as after `run`: what there is to tell of them is the same, and the storm has the options
--- that the run would have
+-- there is nothing to tell of the words, and they ask for a run with these options
+abbrev pub IsTaken : List (List ℕ) → Options → Type 0
+IsTaken words options = (answers_of words ≡ []) × (request_of words ≡ Run options)
+
+-- Any words after `storm` are taken as after `run`, with the same options, if these ask for a run without a journal; what asks for
+-- help or is wrong after `run` is so after `storm`.
 abbrev pub StormsAreAsRuns : Type 0
 StormsAreAsRuns = (name : List ℕ) (rest : List (List ℕ))
-    → (answers_of (name ∷ codes "storm" ∷ rest) ≡ answers_of (name ∷ codes "run" ∷ rest))
-    × ((options : Options) → request_of (name ∷ codes "run" ∷ rest) ≡ Run options
-    → request_of (name ∷ codes "storm" ∷ rest) ≡ Storm options)
+    → (asks_for_help (name ∷ codes "storm" ∷ rest) ≡ asks_for_help (name ∷ codes "run" ∷ rest))
+    × (IsTrue (has_mistake (name ∷ codes "run" ∷ rest)) → IsTrue (has_mistake (name ∷ codes "storm" ∷ rest)))
+    × ((options : Options) → IsTaken (name ∷ codes "run" ∷ rest) options
+    → (answers_of (name ∷ codes "storm" ∷ rest) ≡ []) × (request_of (name ∷ codes "storm" ∷ rest) ≡ Storm options))
+    × ((options : Options) → answers_of (name ∷ codes "storm" ∷ rest) ≡ []
+    → request_of (name ∷ codes "storm" ∷ rest) ≡ Storm options → IsTaken (name ∷ codes "run" ∷ rest) options)
+
+-- a storm has no journal: words that ask for one after `run` are refused after `storm`
+abbrev pub StormsHaveNoJournal : Type 0
+StormsHaveNoJournal = (name : List ℕ) (rest : List (List ℕ)) (options : Options) (sync : SyncMode) (file : List ℕ)
+    → answers_of (name ∷ codes "run" ∷ rest) ≡ [] → request_of (name ∷ codes "run" ∷ rest) ≡ RunOn options sync file
+    → IsTrue (has_mistake (name ∷ codes "storm" ∷ rest))
 
 -- `check` after the program's name asks for a check, and there is nothing to tell of it
 abbrev pub ChecksAreAccepted : Type 0
@@ -60,10 +75,6 @@ VersionsAreAskedFor = (name : List ℕ) (rest : List (List ℕ))
 abbrev pub run_with : List ℕ → List ℕ → ℕ → List (List ℕ)
 run_with name option n = name ∷ codes "run" ∷ (option ++ decimal n) ∷ []
 
--- there is nothing to tell of the words, and they ask for a run with these options
-abbrev pub IsTaken : List (List ℕ) → Options → Type 0
-IsTaken words options = (answers_of words ≡ []) × (request_of words ≡ Run options)
-
 -- a number in an option's range is taken, and is that of the run
 abbrev pub NumbersAreTaken : Type 0
 NumbersAreTaken = (name : List ℕ) (n : ℕ)
@@ -78,7 +89,7 @@ OthersAreRefused = (name : List ℕ) (n : ℕ) → n < 2 ^ 64
     × (max_levels < n → IsTrue (has_mistake (run_with name (codes "--levels=") n)))
     × (slow.max_events < n → IsTrue (has_mistake (run_with name (codes "--max-events=") n)))
 
--- an option twice is refused, whatever stands behind it
+-- an option twice is refused, whatever follows it
 abbrev pub run_twice : List ℕ → List ℕ → List ℕ → List ℕ → List (List ℕ)
 run_twice name option first second = name ∷ codes "run" ∷ (option ++ first) ∷ (option ++ second) ∷ []
 
@@ -88,10 +99,52 @@ NoOptionTwice = (name first second : List ℕ)
     → IsTrue (has_mistake (run_twice name (codes "--workers=") first second))
     × IsTrue (has_mistake (run_twice name (codes "--levels=") first second))
     × IsTrue (has_mistake (run_twice name (codes "--max-events=") first second))
+    × IsTrue (has_mistake (run_twice name (codes "--journal=") first second))
+    × IsTrue (has_mistake (run_twice name (codes "--sync=") first second))
 
--- an option that stands first is refused, whatever follows
+-- an option that comes first is refused, whatever follows it
 abbrev pub OptionsNeedRun : Type 0
 OptionsNeedRun = (name : List ℕ) (rest : List (List ℕ))
     → IsTrue (has_mistake (name ∷ codes "--workers" ∷ rest))
     × IsTrue (has_mistake (name ∷ codes "--levels" ∷ rest))
     × IsTrue (has_mistake (name ∷ codes "--max-events" ∷ rest))
+    × IsTrue (has_mistake (name ∷ codes "--journal" ∷ rest))
+    × IsTrue (has_mistake (name ∷ codes "--sync" ∷ rest))
+
+-- ---- journals
+
+-- there is nothing to tell of the words, and they ask for a run on this file with the default options, which is synced so
+abbrev pub IsTakenOn : List (List ℕ) → SyncMode → List ℕ → Type 0
+IsTakenOn words sync file = (answers_of words ≡ []) × (request_of words ≡ RunOn default_options sync file)
+
+-- `run --journal=FILE` asks for a run on the file, and so does `run --journal FILE` if it doesn't begin with `-` (45)
+abbrev pub JournalsAreTaken : Type 0
+JournalsAreTaken = (name : List ℕ) (first : ℕ) (rest : List ℕ)
+    → IsTakenOn (name ∷ codes "run" ∷ (codes "--journal=" ++ first ∷ rest) ∷ []) Full (first ∷ rest)
+    × (first ≢ 45 → IsTakenOn (name ∷ codes "run" ∷ codes "--journal" ∷ (first ∷ rest) ∷ []) Full (first ∷ rest))
+
+-- an empty name is refused
+abbrev pub EmptyNamesAreRefused : Type 0
+EmptyNamesAreRefused = (name : List ℕ)
+    → IsTrue (has_mistake (name ∷ codes "run" ∷ codes "--journal=" ∷ []))
+    × IsTrue (has_mistake (name ∷ codes "run" ∷ codes "--journal" ∷ [] ∷ []))
+
+-- the words of a run on a file with a mode
+abbrev pub run_synced : List ℕ → List ℕ → List ℕ → List (List ℕ)
+run_synced name file mode = name ∷ codes "run" ∷ (codes "--journal=" ++ file) ∷ (codes "--sync=" ++ mode) ∷ []
+
+-- the three modes are taken
+abbrev pub ModesAreTaken : Type 0
+ModesAreTaken = (name : List ℕ) (first : ℕ) (rest : List ℕ)
+    → IsTakenOn (run_synced name (first ∷ rest) (codes "full")) Full (first ∷ rest)
+    × IsTakenOn (run_synced name (first ∷ rest) (codes "append")) Append (first ∷ rest)
+    × IsTakenOn (run_synced name (first ∷ rest) (codes "none")) Never (first ∷ rest)
+
+-- any other is refused
+abbrev pub OtherModesAreRefused : Type 0
+OtherModesAreRefused = (name file mode : List ℕ)
+    → mode ≢ codes "full" → mode ≢ codes "append" → mode ≢ codes "none" → IsTrue (has_mistake (run_synced name file mode))
+
+-- and so is a mode without a journal
+abbrev pub ModesNeedJournals : Type 0
+ModesNeedJournals = (name mode : List ℕ) → IsTrue (has_mistake (name ∷ codes "run" ∷ (codes "--sync=" ++ mode) ∷ []))

@@ -1,24 +1,30 @@
 //! The words of the command line.
 
-ghost use Rattle.std.specs.Prelude.{◌≡◌, false, codes, IsTrue, IsOk, IfOk, map, option_and_then};
+ghost use Rattle.std.specs.Prelude.{◌≡◌, [], ◌∷◌, false, codes, IsTrue, IsOk, IfOk, map, option_and_then, option_map};
 ghost use Rattle.clap.specs.Simple.{subcommand_rows_of};
-ghost use Rattle.clap.specs.Walk.{one_of, rows_of, rule_of};
-ghost use Rattle.clap.specs.Words.{app_of, found_of, new_app, with_subcommand, FailsBy};
+ghost use Rattle.clap.specs.Values.{kind_of};
+ghost use Rattle.clap.specs.Walk.{first_of, one_of, rows_of, rule_of};
+ghost use Rattle.clap.specs.Words.{app_of, found_of, new_app, with_subcommand, FailsBy, HasKind};
 ghost use Rattle.clap.specs.declared.builder.command.Command.TheViews.{out-Command as fields_of};
-ghost use Rattle.stm_words.specs.CommandLine.{answers_of, asks_for_run, check_command, check_said, command_line, explore_command, explore_options_said, flag_option, flag_said, number_of_text, number_option, number_said, number_within, options_said, request_of, request_said, run_command, storm_command, with_options, with_version, AreExploreOptions, HasOptionsInRange};
+ghost use Rattle.stm_words.specs.CommandLine.{answers_of, asks_for_run, check_command, check_said, command_line, explore_command, explore_options_said, flag_option, flag_said, journal_fault, journal_option, mode_of, mode_said, number_of_text, number_option, number_said, number_within, options_said, request_fault, request_of, request_said, run_command, run_fault, run_on, run_said, storm_command, storm_fault, sync_fault, sync_option, with_numbers, with_options, with_version, AreExploreOptions, HasOptionsInRange};
 ghost use Rattle.stm_options.specs.Options.{AreRunOptions};
 
+use crate::file_name::FileName;
 use crate::version::VERSION;
+use clap::builder::ValueParser;
+use clap::error::ErrorKind;
 use clap::{Arg, ArgAction, ArgMatches, Command, Error, value_parser};
 use std::alloc::{AllocError, Global};
 use std::convert::AsStr;
+use stm_journal::SyncMode;
 use stm_options::{ExploreOptions, Options};
 
-/// What words ask for: a run, a storm or an exploration with these options, a check of a history, or a check that also prints what
-/// would be accepted instead.
-#[derive(Clone, Copy, PartialEq, Eq, Debug)]
-pub enum Request {
+/// What words ask for: a run, a storm or an exploration with these options, a check of a history, or a check that also prints
+/// what would be accepted instead. `RunOn` is a run that keeps its history in a file, which is synced in this way.
+#[derive(Drop)]
+pub enum Request<'a> {
     Run(Options),
+    RunOn(Options, SyncMode, FileName<'a>),
     Storm(Options),
     Explore(ExploreOptions),
     Check,
@@ -51,11 +57,11 @@ Without a command stmdesk reads commands from standard input, as `stmdesk run` d
 
 `stmdesk run --help` describes the commands, each with an example, and the options; `stmdesk storm --help` describes the lines
 of a script, `stmdesk explore --help` those of an exploration and what it prints, and `stmdesk check --help` what a check
-prints. Exit statuses: 0 success, 1 the input or the output failed, or a line of a script is wrong, 2 the arguments were
-refused, 3 a history isn't legal, or an exploration found a fault or didn't end, 4 out of memory, or a thread didn't start.
+prints. Exit statuses: 0 success, 1 the input, the output or a journal failed, or a line of a script is wrong, 2 the arguments
+were refused, 3 a history isn't legal, or an exploration found a fault or didn't end, 4 out of memory, or a thread didn't start.
 
-docs/CONSOLE.md describes the console, docs/LANGUAGE.md blocks, docs/HISTORY.md histories, docs/STORM.md storms, and
-docs/EXPLORE.md explorations.";
+docs/CONSOLE.md describes the console, docs/LANGUAGE.md blocks, docs/HISTORY.md histories, docs/JOURNAL.md journals,
+docs/STORM.md storms, and docs/EXPLORE.md explorations.";
 
 const COMMANDS: &str = "\
 Commands on standard input, one per line. A line that begins with `--` is a comment.
@@ -105,7 +111,14 @@ A refused line prints `refused NAME`, followed by the place of the error if it h
 
 Answers don't depend on `--workers` or `--levels`. The number of an option may begin with `+` or with zeros.
 
-docs/CONSOLE.md describes the commands in full, and docs/LANGUAGE.md describes blocks.";
+With `--journal` the history is kept in a file, and the next run with this file goes on from there. No answer is written before
+its events are in the file and, as `--sync` says, on the disk:
+      stmdesk run --journal desk.history
+  full    Three syncs a batch of answers: a crash leaves each batch of events whole or not at all
+  append  One sync a batch: a crash leaves all events that were answered, and of the next batch perhaps some
+  none    No sync: a crash of the program loses no event that was answered, but a crash of the system may lose any
+
+docs/CONSOLE.md describes the commands in full, docs/LANGUAGE.md blocks, and docs/JOURNAL.md journals.";
 
 const SCRIPT: &str = "\
 A script on standard input: variables, then one section per client. Blank lines and lines that begin with `--` are ignored.
@@ -194,6 +207,11 @@ const HISTORY: &str = "Prints the history of the fault instead";
 
 const ALL: &str = "Explores every state, and leaves no client for later";
 
+const JOURNAL: &str = "Keeps the history in FILE, and goes on from what is in it";
+
+const SYNC: &str =
+    "What is synced before an answer is written: full, append or none [default: full]";
+
 const WHY: &str = "Also prints what would be accepted instead, or why nothing would be";
 
 /// Whether the words are those of a run with nothing else, so that clap need not be asked.
@@ -228,14 +246,39 @@ fn number_option<'a>(
         .help(help)
 }
 
-/// A command with the options of a run.
-fn with_options<'a>(
+/// The option of the file that keeps the history of a run. If it is hidden, help leaves it out.
+fn journal_option<'a>(alloc: Global, is_hidden: bool) -> Arg<'a>
+    ensures rule { rule_of result ≡ journal_option }
+    ensures local { result.global ≡ false }
+{
+    Arg::new(alloc, "journal")
+        .long("journal")
+        .value_name("FILE")
+        .value_parser(ValueParser::NonEmptyString)
+        .help(JOURNAL)
+        .hide(is_hidden)
+}
+
+/// The option of how that file is synced.
+fn sync_option<'a>(alloc: Global, is_hidden: bool) -> Arg<'a>
+    ensures rule { rule_of result ≡ sync_option }
+    ensures local { result.global ≡ false }
+{
+    Arg::new(alloc, "sync")
+        .long("sync")
+        .value_name("MODE")
+        .help(SYNC)
+        .hide(is_hidden)
+}
+
+/// A command with the options of a run that take numbers.
+fn with_numbers<'a>(
     alloc: Global,
     name: &'a str,
     about: &'a str,
     after_help: &'a str,
 ) -> Result<Command<'a>, AllocError>
-    ensures app { IfOk result (λ c. app_of c ≡ with_options (new_app name.entry.now)) }
+    ensures app { IfOk result (λ c. app_of c ≡ with_numbers (new_app name.entry.now)) }
     ensures local { IfOk result (λ c. (fields_of c).has_globals ≡ false) }
 {
     let workers = number_option(alloc, "workers", 1, Options::MAX_WORKERS, "2", WORKERS);
@@ -256,12 +299,31 @@ fn with_options<'a>(
         .arg(max_events)
 }
 
+/// A command with the options of a run. A storm has those of a journal too, hidden, and they are refused later: so what follows
+/// `storm` is read as what follows `run`.
+fn with_options<'a>(
+    alloc: Global,
+    name: &'a str,
+    about: &'a str,
+    after_help: &'a str,
+    is_storm: bool,
+) -> Result<Command<'a>, AllocError>
+    ensures app { IfOk result (λ c. app_of c ≡ with_options (new_app name.entry.now)) }
+    ensures local { IfOk result (λ c. (fields_of c).has_globals ≡ false) }
+{
+    let journal = journal_option(alloc, is_storm);
+    let sync = sync_option(alloc, is_storm);
+    with_numbers(alloc, name, about, after_help)?
+        .arg(journal)?
+        .arg(sync)
+}
+
 /// `run` with its options.
 fn run_words<'a>(alloc: Global) -> Result<Command<'a>, AllocError>
     ensures app { IfOk result (λ c. app_of c ≡ run_command) }
     ensures local { IfOk result (λ c. (fields_of c).has_globals ≡ false) }
 {
-    with_options(alloc, "run", RUN, COMMANDS)
+    with_options(alloc, "run", RUN, COMMANDS, false)
 }
 
 /// `storm` with its options.
@@ -269,7 +331,7 @@ fn storm_words<'a>(alloc: Global) -> Result<Command<'a>, AllocError>
     ensures app { IfOk result (λ c. app_of c ≡ storm_command) }
     ensures local { IfOk result (λ c. (fields_of c).has_globals ≡ false) }
 {
-    with_options(alloc, "storm", STORM, SCRIPT)
+    with_options(alloc, "storm", STORM, SCRIPT, true)
 }
 
 /// An option that is said or not.
@@ -362,7 +424,7 @@ fn number_given(matches: &ArgMatches, name: &str) -> Option<u32>
     matches.get_one::<u32>(name)
 }
 
-/// A number, where it is one from `low` to `high`.
+/// A number, if it is one from `low` to `high`.
 fn number_within(low: u32, high: u32, otherwise: u32, number: Option<u32>) -> u32
     ensures { result ≡ number_within low high otherwise number }
 {
@@ -411,6 +473,13 @@ fn options_of(matches: &ArgMatches) -> Options
     }
 }
 
+/// The text that was said for an option.
+fn text_given<'a>(matches: &ArgMatches<'a>, name: &str) -> Option<&'a str>
+    ensures { option_map (λ s. s.now) result ≡ first_of name.now (rows_of (found_of matches.now)) }
+{
+    matches.get_str(name)
+}
+
 /// Whether an option was said that takes no number.
 fn flag_of(matches: &ArgMatches, name: &str) -> bool
     ensures { result ≡ flag_said name.now (rows_of (found_of matches.now)) }
@@ -440,7 +509,7 @@ fn explore_options_of(matches: &ArgMatches) -> ExploreOptions
 }
 
 /// What is asked for by `check`.
-fn check_of(matches: &ArgMatches) -> Request
+fn check_of<'a>(matches: &ArgMatches) -> Request<'a>
     ensures { result ≡ check_said (rows_of (found_of matches.now)) }
 {
     if flag_of(matches, "why") {
@@ -450,8 +519,58 @@ fn check_of(matches: &ArgMatches) -> Request
     }
 }
 
+/// The mode that a word names.
+fn mode_of(word: &str) -> Option<SyncMode>
+    ensures { result ≡ mode_of word.now }
+{
+    if word == "full" {
+        return Some(SyncMode::Full);
+    }
+    if word == "append" {
+        return Some(SyncMode::Append);
+    }
+    if word == "none" {
+        return Some(SyncMode::Never);
+    }
+    None
+}
+
+/// How the file is synced, by the word that was said, if one was.
+fn mode_said(word: Option<&str>) -> SyncMode
+    ensures { result ≡ mode_said (option_map (λ w. w.now) word.entry) }
+{
+    match word {
+        Some(word) => mode_of(word).unwrap_or(SyncMode::Full),
+        None => SyncMode::Full,
+    }
+}
+
+/// A run, on the file of this name if there is one.
+fn run_on<'a>(file: Option<&'a str>, sync: SyncMode, options: Options) -> Request<'a>
+    requires { AreRunOptions options }
+    ensures said { result ≡ run_on (option_map (λ f. f.now) file.entry) sync options }
+    ensures range { HasOptionsInRange result }
+{
+    match file {
+        Some(name) => Request::RunOn(options, sync, FileName::new(name)),
+        None => Request::Run(options),
+    }
+}
+
+/// What is asked for by `run`.
+fn run_of<'a>(matches: &ArgMatches<'a>) -> Request<'a>
+    ensures said { result ≡ run_said (rows_of (found_of matches.now)) }
+    ensures range { HasOptionsInRange result }
+{
+    run_on(
+        text_given(matches, "journal"),
+        mode_said(text_given(matches, "sync")),
+        options_of(matches),
+    )
+}
+
 /// What is asked for by words that clap takes.
-fn request_of<'a>(matches: &ArgMatches<'a>) -> Request
+fn request_of<'a>(matches: &ArgMatches<'a>) -> Request<'a>
     ensures said { result ≡ request_said (subcommand_rows_of matches.now) }
     ensures range { HasOptionsInRange result }
 {
@@ -466,14 +585,135 @@ fn request_of<'a>(matches: &ArgMatches<'a>) -> Request
             if name == "explore" {
                 return Request::Explore(explore_options_of(inner));
             }
-            Request::Run(options_of(inner))
+            run_of(inner)
         }
         None => Request::Run(Options::standard()),
     }
 }
 
+/// An error in the words after `run` or `storm`, with how these are used.
+fn usage_error(
+    alloc: Global,
+    is_storm: bool,
+    kind: ErrorKind,
+    message: &str,
+) -> Result<Error, AllocError>
+    ensures { IfOk result (λ e. kind_of e ≡ kind) }
+{
+    let command = if is_storm {
+        storm_words(alloc)?.bin_name("stmdesk storm")
+    } else {
+        run_words(alloc)?.bin_name("stmdesk run")
+    };
+    let mut command = command?;
+    command.error(kind, message)
+}
+
+/// The same, or that memory ran out.
+fn refusal(alloc: Global, is_storm: bool, kind: ErrorKind, message: &str) -> Error
+    ensures { HasKind (kind ∷ []) result }
+{
+    match usage_error(alloc, is_storm, kind, message) {
+        Ok(error) => error,
+        Err(refused) => Error::from(refused),
+    }
+}
+
+/// That a word is no mode.
+fn unknown_mode(alloc: Global, word: &str) -> Error
+    ensures { HasKind (ErrorKind.InvalidValue ∷ []) result }
+{
+    match format!(in alloc;
+        "invalid value '{word}' for '--sync <MODE>'\n  [possible values: full, append, none]"
+    ) {
+        Ok(message) => refusal(alloc, false, ErrorKind::InvalidValue, &message),
+        Err(refused) => Error::from(refused),
+    }
+}
+
+/// Refuses a word that is no mode, and a mode without a journal.
+fn check_sync(alloc: Global, word: Option<&str>, has_journal: bool) -> Result<(), Error>
+    ensures { FailsBy (sync_fault (option_map (λ w. w.now) word.entry) has_journal) result }
+{
+    match word {
+        Some(word) => {
+            if mode_of(word).is_none() {
+                return Err(unknown_mode(alloc, word));
+            }
+            if !has_journal {
+                return Err(refusal(
+                    alloc,
+                    false,
+                    ErrorKind::MissingRequiredArgument,
+                    "the argument '--sync <MODE>' cannot be used without '--journal <FILE>'",
+                ));
+            }
+            Ok(())
+        }
+        None => Ok(()),
+    }
+}
+
+/// Refuses the options of a journal after `storm`.
+fn check_alone(alloc: Global, has_journal: bool, has_sync: bool) -> Result<(), Error>
+    ensures { FailsBy (journal_fault has_journal has_sync) result }
+{
+    if has_journal {
+        return Err(refusal(
+            alloc,
+            true,
+            ErrorKind::UnknownArgument,
+            "unexpected argument '--journal' found",
+        ));
+    }
+    if has_sync {
+        return Err(refusal(
+            alloc,
+            true,
+            ErrorKind::UnknownArgument,
+            "unexpected argument '--sync' found",
+        ));
+    }
+    Ok(())
+}
+
+/// Refuses what clap takes after `run`: a wrong mode, and one without a journal.
+fn check_run(alloc: Global, matches: &ArgMatches) -> Result<(), Error>
+    ensures { FailsBy (run_fault (rows_of (found_of matches.now))) result }
+{
+    let has_journal = text_given(matches, "journal").is_some();
+    check_sync(alloc, text_given(matches, "sync"), has_journal)
+}
+
+/// Refuses what clap takes after `storm`: a journal.
+fn check_storm(alloc: Global, matches: &ArgMatches) -> Result<(), Error>
+    ensures { FailsBy (storm_fault (rows_of (found_of matches.now))) result }
+{
+    let has_journal = text_given(matches, "journal").is_some();
+    let has_sync = text_given(matches, "sync").is_some();
+    check_alone(alloc, has_journal, has_sync)
+}
+
+/// Refuses what clap takes and no request has.
+fn check_request(alloc: Global, matches: &ArgMatches) -> Result<(), Error>
+    ensures { FailsBy (request_fault (subcommand_rows_of matches.now)) result }
+{
+    match matches.subcommand() {
+        Some((name, inner)) => {
+            if name == "run" {
+                return check_run(alloc, inner);
+            }
+            if name == "storm" {
+                return check_storm(alloc, inner);
+            }
+            Ok(())
+        }
+        None => Ok(()),
+    }
+}
+
 /// Reads the words, the program's name first: what they ask for, else the help, the version or the fault to be reported.
-pub fn read_words<'a, S: AsStr>(alloc: Global, words: &'a [S]) -> Result<Request, Error>
+pub fn read_words<'a, S: AsStr>(alloc: Global, words: &'a [S]) -> Result<Request<'a>, Error>
     ensures run { IsTrue (asks_for_run (map S.text words.now)) → IsOk result }
     ensures answers { FailsBy (answers_of (map S.text words.now)) result }
     ensures request { IfOk result (λ r. r ≡ request_of (map S.text words.now)) }
@@ -483,5 +723,8 @@ pub fn read_words<'a, S: AsStr>(alloc: Global, words: &'a [S]) -> Result<Request
         return Ok(Request::Run(Options::standard()));
     }
     let matches = command(alloc)?.try_get_matches_from(words)?;
-    Ok(request_of(&matches))
+    match check_request(alloc, &matches) {
+        Ok(()) => Ok(request_of(&matches)),
+        Err(error) => Err(error),
+    }
 }

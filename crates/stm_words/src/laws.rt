@@ -1,6 +1,6 @@
 //! What holds of the program's words. Each function is a law: its contract says it.
 
-ghost use Rattle.stm_words.specs.WordLaws.{RunsAreAccepted, LastDashesChangeNothing, RunsHaveDefaults, OptionsAreInRange, StormsAreAccepted, StormsAreAsRuns, ChecksAreAccepted, ChecksWithReasonsAreAccepted, VersionsAreAskedFor, NumbersAreTaken, OthersAreRefused, NoOptionTwice, OptionsNeedRun};
+ghost use Rattle.stm_words.specs.WordLaws.{RunsAreAccepted, LastDashesChangeNothing, RunsHaveDefaults, OptionsAreInRange, StormsAreAccepted, StormsAreAsRuns, StormsHaveNoJournal, ChecksAreAccepted, ChecksWithReasonsAreAccepted, VersionsAreAskedFor, NumbersAreTaken, OthersAreRefused, NoOptionTwice, OptionsNeedRun, JournalsAreTaken, EmptyNamesAreRefused, ModesAreTaken, OtherModesAreRefused, ModesNeedJournals};
 
 /// The program's name alone, and `run` after it, ask for a run with the default options, also with a last word `--`. No
 /// words give a run, a storm or an exploration options that are out of their ranges.
@@ -11,11 +11,12 @@ pub fn words_of_a_run_are_accepted()
     ensures range { OptionsAreInRange }
 {}
 
-/// `storm` after the program's name asks for a storm with the default options, and any words after it are taken as after `run`:
-/// so a storm's options are those of a run, in the same ranges, each at most once.
+/// `storm` after the program's name asks for a storm with the default options, and any words after it are taken as after `run`,
+/// except those of a journal: so a storm's options are those of a run, in the same ranges, each at most once.
 pub fn words_of_a_storm_are_those_of_a_run()
     ensures accepted { StormsAreAccepted }
     ensures same { StormsAreAsRuns }
+    ensures no_journal { StormsHaveNoJournal }
 {}
 
 /// `check` after the program's name asks for a check, and `check --why` for what would be accepted instead, too.
@@ -29,8 +30,8 @@ pub fn versions_are_asked_for()
     ensures { VersionsAreAskedFor }
 {}
 
-/// `run` with `--workers=N`, `--levels=N` or `--max-events=N` runs with this number where it is in the option's range, and
-/// is refused where it isn't.
+/// `run` with `--workers=N`, `--levels=N` or `--max-events=N` runs with this number if it is in the option's range, and
+/// is refused if it isn't.
 pub fn numbers_in_range_are_taken()
     ensures taken { NumbersAreTaken }
     ensures others { OthersAreRefused }
@@ -40,4 +41,14 @@ pub fn numbers_in_range_are_taken()
 pub fn options_stand_once_after_run()
     ensures once { NoOptionTwice }
     ensures after { OptionsNeedRun }
+{}
+
+/// `run` with `--journal` asks for a run on the file of this name, which is synced as `--sync` says, or fully. An empty name,
+/// another mode, and a mode without a journal are refused.
+pub fn journals_are_taken()
+    ensures taken { JournalsAreTaken }
+    ensures empty { EmptyNamesAreRefused }
+    ensures modes { ModesAreTaken }
+    ensures others { OtherModesAreRefused }
+    ensures alone { ModesNeedJournals }
 {}

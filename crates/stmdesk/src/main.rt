@@ -1,6 +1,9 @@
-//! The program `stmdesk`: commands from standard input, answers to standard output.
+//! The program `stmdesk`: commands from standard input, answers to standard output, and with `--journal` a history in a file.
 #![tactic(auto)]
 
+mod files;
+
+use files::SystemFiles;
 use std::env;
 use std::io::{BufWriter, ErrorKind, Write};
 use std::process::ExitCode;
@@ -33,5 +36,14 @@ fn main(rt: HostRuntime) -> ExitCode {
         return no_memory(&mut errors);
     };
     let mut reader = rt.stdin();
-    ExitCode::from(start(&rt, alloc, &words, &mut reader, &mut writer, &mut errors))
+    let files = SystemFiles { rt: &rt };
+    ExitCode::from(start(
+        &rt,
+        alloc,
+        &words,
+        &files,
+        &mut reader,
+        &mut writer,
+        &mut errors,
+    ))
 }

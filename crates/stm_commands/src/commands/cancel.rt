@@ -23,7 +23,10 @@ impl OpenDesk {
         ensures { OnOk result (Steps self.new (string_bytes out.old) (string_bytes out.new)
             (on_desk self.old (cancel_ticket_step self.old.desk ticket (cancel_refusal self.old.desk ticket)))) }
     {
-        match self.desk.cancel(0, ticket) {
+        let answer = self.desk.cancel(0, ticket);
+        // The history is known to be legal by this.
+        let _events = self.desk.history();
+        match answer {
             Ok(()) => write_cancelled(ticket, out),
             Err(refusal) => refuse_cancel(refusal, out),
         }

@@ -2,7 +2,7 @@
 
 ghost use Rattle.std.specs.Prelude.{◌≡◌, ◌+◌, ◌++◌, Some, string_bytes, OnOk};
 ghost use Rattle.stm_events.specs.SlowDesk.{IsLegal};
-ghost use Rattle.stm_desk.specs.Seen.{now};
+ghost use Rattle.stm_desk.specs.DeskView.{state_of};
 ghost use Rattle.stm_commands.specs.Jobs.{job_at, delivered_line, deliver_job_step, deliver_step};
 ghost use Rattle.stm_commands.specs.OpenDesk.{on_desk, Steps};
 ghost use Rattle.stm_commands.specs.OpenInvariant.{job_kept, HasStore, JobStands, HasGrown};
@@ -33,11 +33,11 @@ fn deliver_kept(
 ) -> Result<(), NoMemory>
     requires legal { IsLegal desk.old.table desk.old.history }
     requires stands { JobStands desk.old (job_kept kept.now) }
-    requires stored { HasStore (now desk.old).waiters kept.now }
+    requires stored { HasStore (state_of desk.old).waiters kept.now }
     ensures step { OnOk result (Steps desk.new (string_bytes out.old) (string_bytes out.new)
         (deliver_job_step desk.old (Some (job_kept kept.now)))) }
     ensures grown { HasGrown desk.old desk.new }
-    ensures store { (now desk.new).store ≡ (now desk.old).store }
+    ensures store { (state_of desk.new).store ≡ (state_of desk.old).store }
 {
     if let Some(refusal) = refused_unevaluated(desk, kept.ticket) {
         return refuse_delivery(refusal, out);

@@ -82,11 +82,10 @@ fn write_finished(
 }
 
 /// Appends the answer to a finish.
-fn write_finish(ticket: u32, finish: &Finish, out: &mut String) -> Result<(), NoMemory>
-    requires { (cells : List Cell)
-        × (finish.now.applied ≡ applied_answer cells finish.now.verdict) }
+fn write_finish(ticket: u32, finish: Finish, out: &mut String) -> Result<(), NoMemory>
+    requires { (cells : List Cell) × (finish.applied ≡ applied_answer cells finish.verdict) }
     ensures { OnOk result (string_bytes out.new ≡ string_bytes out.old
-        ++ finished_line ticket finish.now.applied.first_new finish.now.verdict finish.now.stale) }
+        ++ finished_line ticket finish.applied.first_new finish.verdict finish.stale) }
 {
     let blocks = Verdict::Blocks;
     let verdict = finish.verdict.get(&blocks);
@@ -106,8 +105,11 @@ impl OpenDesk {
             (on_desk self.old (finish_ticket_step self.old.desk ticket (finish_refusal self.old.desk ticket)))) }
     {
         self.copy = None;
-        match self.desk.finish(0, ticket) {
-            Ok(finish) => write_finish(ticket, &finish, out),
+        let answer = self.desk.finish(0, ticket);
+        // The history is known to be legal by this.
+        let _events = self.desk.history();
+        match answer {
+            Ok(finish) => write_finish(ticket, finish, out),
             Err(refusal) => refuse_finish(refusal, out),
         }
     }

@@ -2,7 +2,7 @@
 
 ghost use Rattle.std.specs.Prelude.{◌≡◌, ◌++◌, string_bytes, OnOk};
 ghost use Rattle.stm_events.specs.SlowDesk.{find_waiter};
-ghost use Rattle.stm_desk.specs.Seen.{now};
+ghost use Rattle.stm_desk.specs.DeskView.{state_of};
 ghost use Rattle.stm_commands.specs.Contents.{waiter_reads_text, reads_answer};
 
 use crate::commands::trial::write_reads_line;
@@ -15,7 +15,7 @@ use stm_terms::NoMemory;
 /// Appends what the block under a ticket read at its last delivery.
 fn write_reads(desk: &Desk, ticket: u32, out: &mut String) -> Result<(), NoMemory>
     ensures { OnOk result (string_bytes out.new
-        ≡ string_bytes out.old ++ waiter_reads_text (find_waiter ticket (now desk.now).waiters)) }
+        ≡ string_bytes out.old ++ waiter_reads_text (find_waiter ticket (state_of desk.now).waiters)) }
 {
     if desk.block(ticket).is_none() {
         return refuse("NoTicket", out);

@@ -1,7 +1,7 @@
 //! `ready`: the blocks that could finish now.
 
 ghost use Rattle.std.specs.Prelude.{◌≡◌, ◌++◌, decimal, string_bytes, OnOk};
-ghost use Rattle.stm_desk.specs.Seen.{now};
+ghost use Rattle.stm_desk.specs.DeskView.{state_of};
 ghost use Rattle.stm_terms.specs.Texts.{spaced};
 ghost use Rattle.stm_events.specs.SlowDesk.{IsLegal};
 ghost use Rattle.stm_commands.specs.Endings.{tickets_text};
@@ -18,7 +18,7 @@ use stm_terms::text::write_number;
 fn write_ready_above(desk: &Desk, ticket: u32, out: &mut String) -> Result<(), NoMemory>
     requires { IsLegal desk.now.table desk.now.history }
     ensures { OnOk result (string_bytes out.new
-        ≡ string_bytes out.old ++ spaced decimal (ready_above ticket (now desk.now))) }
+        ≡ string_bytes out.old ++ spaced decimal (ready_above ticket (state_of desk.now))) }
 {
     tickets_rise();
     let mut last = ticket;
@@ -34,7 +34,7 @@ fn write_ready_above(desk: &Desk, ticket: u32, out: &mut String) -> Result<(), N
 fn write_ready_tickets(desk: &Desk, out: &mut String) -> Result<(), NoMemory>
     requires { IsLegal desk.now.table desk.now.history }
     ensures { OnOk result (string_bytes out.new
-        ≡ string_bytes out.old ++ tickets_text (ready_tickets (now desk.now))) }
+        ≡ string_bytes out.old ++ tickets_text (ready_tickets (state_of desk.now))) }
 {
     tickets_rise();
     match desk.next_ready(0) {
@@ -54,7 +54,7 @@ fn write_ready_tickets(desk: &Desk, out: &mut String) -> Result<(), NoMemory>
 fn write_ready(desk: &Desk, out: &mut String) -> Result<(), NoMemory>
     requires { IsLegal desk.now.table desk.now.history }
     ensures { OnOk result
-        (string_bytes out.new ≡ string_bytes out.old ++ ready_text (now desk.now)) }
+        (string_bytes out.new ≡ string_bytes out.old ++ ready_text (state_of desk.now)) }
 {
     out.push_str("ready ")?;
     write_ready_tickets(desk, out)?;

@@ -1,7 +1,7 @@
 //! `settle`: all that can run does.
 
 ghost use Rattle.std.specs.Prelude.{◌≡◌, ◌≢◌, ◌++◌, ◌∷◌, [], codes, string_bytes, OnOk, decimal};
-ghost use Rattle.stm_desk.specs.Settling.{called_back};
+ghost use Rattle.stm_desk.specs.Settling.{requeued_all};
 ghost use Rattle.stm_commands.specs.Endings.{settled_line, why_text, settle_desk_step, settle_step};
 ghost use Rattle.stm_commands.specs.OpenDesk.{on_desk, Steps};
 
@@ -51,10 +51,13 @@ impl OpenDesk {
     /// Settles the desk.
     fn settle(&mut self, out: &mut String) -> Result<(), NoMemory>
         ensures { OnOk result (Steps self.new (string_bytes out.old) (string_bytes out.new)
-            (on_desk self.old (settle_desk_step (called_back self.old.desk)))) }
+            (on_desk self.old (settle_desk_step (requeued_all self.old.desk)))) }
     {
         self.copy = None;
-        match self.desk.settle(0) {
+        let answer = self.desk.settle(0);
+        // The history is known to be legal by this.
+        let _events = self.desk.history();
+        match answer {
             Ok(settled) => write_settled(settled.finished, settled.evaluations, out),
             Err(stop) => write_stop(stop, out),
         }

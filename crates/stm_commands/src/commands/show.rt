@@ -3,7 +3,7 @@
 ghost use Rattle.std.specs.Prelude.{◌≡◌, ◌++◌, ◌∷◌, [], Some, decimal, string_bytes, OnOk};
 ghost use Rattle.stm_events.specs.BlockStatus.{shown};
 ghost use Rattle.stm_events.specs.SlowDesk.{IsLegal, Waiter, find_waiter};
-ghost use Rattle.stm_desk.specs.Seen.{now};
+ghost use Rattle.stm_desk.specs.DeskView.{state_of};
 ghost use Rattle.stm_commands.specs.Contents.{standing_text, waiter_line, waiter_lines, show_text, show_answer};
 
 use crate::open_desk::OpenDesk;
@@ -44,9 +44,9 @@ fn write_status_line(ticket: u32, status: Status<'_>, out: &mut String) -> Resul
 /// Appends the line of the block that waits under a ticket.
 #[tactic(auto, unfolding(crate::specs::Contents::waiter_line))]
 fn write_waiter(desk: &Desk, ticket: u32, out: &mut String) -> Result<(), NoMemory>
-    ensures { OnOk result ((w : Waiter) → find_waiter ticket (now desk.now).waiters ≡ Some w →
+    ensures { OnOk result ((w : Waiter) → find_waiter ticket (state_of desk.now).waiters ≡ Some w →
         w.ticket ≡ ticket →
-        string_bytes out.new ≡ string_bytes out.old ++ waiter_line (now desk.now).store w) }
+        string_bytes out.new ≡ string_bytes out.old ++ waiter_line (state_of desk.now).store w) }
 {
     match desk.status(ticket) {
         Some(status) => write_status_line(ticket, status, out),
@@ -58,7 +58,7 @@ fn write_waiter(desk: &Desk, ticket: u32, out: &mut String) -> Result<(), NoMemo
 fn write_waiters(desk: &Desk, out: &mut String) -> Result<(), NoMemory>
     requires { IsLegal desk.now.table desk.now.history }
     ensures { OnOk result (string_bytes out.new
-        ≡ string_bytes out.old ++ waiter_lines (now desk.now).store (now desk.now).waiters) }
+        ≡ string_bytes out.old ++ waiter_lines (state_of desk.now).store (state_of desk.now).waiters) }
 {
     tickets_rise();
     let mut last = 0;
@@ -74,7 +74,7 @@ fn write_waiters(desk: &Desk, out: &mut String) -> Result<(), NoMemory>
 fn write_all_waiters(desk: &Desk, out: &mut String) -> Result<(), NoMemory>
     requires { IsLegal desk.now.table desk.now.history }
     ensures { OnOk result
-        (string_bytes out.new ≡ string_bytes out.old ++ show_text (now desk.now)) }
+        (string_bytes out.new ≡ string_bytes out.old ++ show_text (state_of desk.now)) }
 {
     write_waiters(desk, out)?;
     let count = desk.waiting();

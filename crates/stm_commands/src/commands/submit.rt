@@ -24,7 +24,10 @@ impl OpenDesk {
         ensures { OnOk result (Steps self.new (string_bytes out.old) (string_bytes out.new)
             (on_desk self.old (submit_block_step self.old.desk block (submit_refusal self.old.desk block)))) }
     {
-        match self.desk.submit(0, block) {
+        let answer = self.desk.submit(0, block);
+        // The history is known to be legal by this.
+        let _events = self.desk.history();
+        match answer {
             Ok(ticket) => write_ticket_line(ticket, out),
             Err(refusal) => refuse_submit(refusal, out),
         }

@@ -3,7 +3,7 @@
 ghost use Rattle.std.specs.Prelude.{◌≡◌, ◌≤◌, ◌+◌, ◌++◌, map, length, string_bytes, OnOk, IfOk};
 ghost use Rattle.stm_terms.specs.Texts.{spaced, list_text};
 ghost use Rattle.stm_machine.specs.JobsHandedOut.{sent};
-ghost use Rattle.stm_desk.specs.Seen.{now};
+ghost use Rattle.stm_desk.specs.DeskView.{state_of};
 ghost use Rattle.stm_commands.specs.Jobs.{taken, jobs_of, job_text, numbered, jobs_line, take_jobs_step, take_step};
 ghost use Rattle.stm_commands.specs.OpenDesk.{Steps};
 ghost use Rattle.stm_commands.specs.OpenInvariant.{job_kept, AreStored, JobsStand};
@@ -81,7 +81,7 @@ fn hand_out(
     ensures text { OnOk result
         (string_bytes out.new ≡ string_bytes out.old ++ jobs_line first (taken desk.old n)) }
     ensures made { IfOk result (λ made.
-        map job_kept made.items ≡ jobs_of (now desk.old) (taken desk.old n)) }
+        map job_kept made.items ≡ jobs_of (state_of desk.old) (taken desk.old n)) }
     ensures stand { IfOk result (λ made. JobsStand desk.old (map job_kept made.items)) }
     ensures stored { IfOk result (λ made. AreStored made.items) }
     ensures out { OnOk result (desk.new

@@ -3,15 +3,16 @@
 ghost use Rattle.std.specs.Prelude.{◌≡◌, ◌++◌, ◌∷◌, [], ◌+◌, ◌≤◌, ◌<◌, ◌^◌, ℕ, List, OnOk, IfOk, IfErr, IfSome, MatchBool, Ok, true, length, is_some};
 ghost use Rattle.stm_store.specs.Tables.{Declared};
 ghost use Rattle.stm_events.specs.declared.event.Event.{Event as AnyEvent};
+ghost use Rattle.stm_events.specs.declared.staleness.StalenessRule.{StalenessRule as AnyRule};
 ghost use Rattle.std.specs.Io.KnownBytes.{prepend_known};
 ghost use Rattle.stm_lines.specs.Lines.{NoLineFeed};
 ghost use Rattle.stm_lines.specs.TakenLines.{bytes_to_come};
 ghost use Rattle.stm_history.specs.Checking.{CheckerState, at_header, at_variables, at_events, LeadsTo, MayRefuse, StopsAt, strange};
 ghost use Rattle.stm_history.specs.Reading.{FailsIn, IsReadingFault, TakesLine, TakesRest};
 ghost use Rattle.stm_event_lines.specs.Fits.{FitsTable, FitsFormat};
-ghost use Rattle.stm_history.specs.Following.{Follows, FollowsIn};
-ghost use Rattle.stm_history.specs.Judgement.{IsHistory, IsShort, TellsFault, next_line};
-ghost use Rattle.stm_event_lines.specs.Lines.{event_line};
+ghost use Rattle.stm_history.specs.Following.{Follows};
+ghost use Rattle.stm_history.specs.Judgement.{IsHistory, IsShort, ReportsFault, next_line};
+ghost use Rattle.stm_event_lines.specs.Lines.{event_line, rule_of};
 ghost use Rattle.stm_events.specs.SlowDesk.{max_cells, max_events, IsLegal};
 ghost use Rattle.stm_history.specs.Stages.{keeps, IsRunning, IsStage, CountsWithinLimits, LeadsToStage, Reached, refused_by};
 ghost use Rattle.stm_history.specs.Checking.{with_table as progress_with};
@@ -39,7 +40,7 @@ pub(crate) const MAX_LINE: usize = 1_048_576;
 /// The most variables of a table.
 pub(crate) const MAX_CELLS: u32 = Table::LIMIT as u32;
 
-/// How far the lines have come: before the first; in a format, among the variables, of which so many were promised; in a
+/// How far the lines have come: before the first; in a format, among the variables, of which this many were announced; in a
 /// format, among the events. Each stage has whether the events are kept.
 #[derive(Drop)]
 pub(crate) enum Stage {
@@ -59,7 +60,7 @@ pub(crate) enum Stage {
     },
 }
 
-/// The stage in a format where so many variables were promised and these are there.
+/// The stage in a format if this many variables were announced and these were read.
 fn with_table(
     alloc: Global,
     keep: bool,
@@ -149,8 +150,8 @@ fn take_variable(
 
 /// The number of the line that comes next.
 pub(crate) fn line_number(table: &Table, replayer: &Replayer) -> u32
-    requires { (H : List AnyEvent) × Follows table.now H replayer.now }
-    ensures { (H : List AnyEvent) → Follows table.now H replayer.now
+    requires { (R : AnyRule) × (H : List AnyEvent) × Follows R table.now H replayer.now }
+    ensures { (R : AnyRule) (H : List AnyEvent) → Follows R table.now H replayer.now
         → result ≡ next_line table.now H }
 {
     table.len() as u32 + replayer.events + 2
@@ -163,13 +164,13 @@ fn take_event(
     event: &Event,
     number: u32,
 ) -> Result<(), HistoryFault>
-    requires { (T : List Declared) × (H : List AnyEvent) × FollowsIn format T H replayer.old }
+    requires { (T : List Declared) × (H : List AnyEvent) × Follows (rule_of format) T H replayer.old }
     ensures done { OnOk result ((T : List Declared) (H : List AnyEvent)
-        → FollowsIn format T H replayer.old
-        → FollowsIn format T (H ++ event.now ∷ []) replayer.new) }
+        → Follows (rule_of format) T H replayer.old
+        → Follows (rule_of format) T (H ++ event.now ∷ []) replayer.new) }
     ensures fits { OnOk result (FitsFormat format event.now) }
     ensures refused { IfErr result (λ e. (T : List Declared) (H : List AnyEvent)
-        → FollowsIn format T H replayer.old → FitsTable T event.now → number ≡ next_line T H
+        → Follows (rule_of format) T H replayer.old → FitsTable T event.now → number ≡ next_line T H
         → MayRefuse (at_events format T H) (event_line event.now) e) }
     ensures keeps { OnOk result (is_some replayer.new.kept ≡ is_some replayer.old.kept) }
 {
@@ -191,13 +192,13 @@ fn take_event_line(
     replayer: &mut Replayer,
     line: &[u8],
 ) -> Result<(), HistoryFault>
-    requires { (H : List AnyEvent) × FollowsIn format table.now H replayer.old }
-    ensures leads { OnOk result ((H : List AnyEvent) → FollowsIn format table.now H replayer.old
+    requires { (H : List AnyEvent) × Follows (rule_of format) table.now H replayer.old }
+    ensures leads { OnOk result ((H : List AnyEvent) → Follows (rule_of format) table.now H replayer.old
         → (e : AnyEvent)
         × LeadsTo (at_events format table.now H) line.now (at_events format table.now (H ++ e ∷ []))
-        × FollowsIn format table.now (H ++ e ∷ []) replayer.new) }
+        × Follows (rule_of format) table.now (H ++ e ∷ []) replayer.new) }
     ensures refused { IfErr result (λ e. (H : List AnyEvent)
-        → FollowsIn format table.now H replayer.old
+        → Follows (rule_of format) table.now H replayer.old
         → MayRefuse (at_events format table.now H) line.now e) }
     ensures keeps { OnOk result (is_some replayer.new.kept ≡ is_some replayer.old.kept) }
 {
@@ -217,10 +218,10 @@ fn run_on(
     mut replayer: Replayer,
     line: &[u8],
 ) -> Result<Stage, HistoryFault>
-    requires { (H : List AnyEvent) × FollowsIn format table H replayer }
-    ensures leads { IfOk result (λ s. (H : List AnyEvent) → FollowsIn format table H replayer
+    requires { (H : List AnyEvent) × Follows (rule_of format) table H replayer }
+    ensures leads { IfOk result (λ s. (H : List AnyEvent) → Follows (rule_of format) table H replayer
         → LeadsToStage (at_events format table H) line.now s) }
-    ensures refused { IfErr result (λ e. (H : List AnyEvent) → FollowsIn format table H replayer
+    ensures refused { IfErr result (λ e. (H : List AnyEvent) → Follows (rule_of format) table H replayer
         → MayRefuse (at_events format table H) line.now e) }
     ensures keeps { IfOk result (λ s. keeps s ≡ is_some replayer.kept) }
 {
@@ -312,7 +313,7 @@ impl Checker {
             → Reached self.new.stage self.new.whole [] (taken ++ (line.now ++ 10 ∷ []))) }
         ensures fault { IfErr result (λ e. (taken more : List ℕ)
             → Reached self.old.stage self.old.whole [] taken
-            → TellsFault e (taken ++ ((line.now ++ 10 ∷ []) ++ more))) }
+            → ReportsFault e (taken ++ ((line.now ++ 10 ∷ []) ++ more))) }
         ensures stops { IfErr result (λ e. (taken more : List ℕ)
             → Reached self.old.stage self.old.whole [] taken
             → StopsAt e self.new.whole (taken ++ ((line.now ++ 10 ∷ []) ++ more))) }
@@ -340,7 +341,7 @@ impl Checker {
             → Reached self.new.stage self.new.whole self.new.line.items (taken ++ line.now)) }
         ensures fault { IfErr result (λ e. (taken more : List ℕ)
             → Reached self.old.stage self.old.whole [] taken
-            → TellsFault e (taken ++ (line.now ++ more))) }
+            → ReportsFault e (taken ++ (line.now ++ more))) }
         ensures stops { IfErr result (λ e. (taken more : List ℕ)
             → Reached self.old.stage self.old.whole [] taken
             → StopsAt e self.new.whole (taken ++ (line.now ++ more))) }
@@ -360,7 +361,7 @@ impl Checker {
             → IsHistory taken n) }
         ensures fault { IfErr result (λ e. (taken : List ℕ)
             → Reached self.now.stage self.now.whole self.now.line.items taken
-            → TellsFault e taken) }
+            → ReportsFault e taken) }
         ensures stops { IfErr result (λ e. (taken : List ℕ)
             → Reached self.now.stage self.now.whole self.now.line.items taken
             → StopsAt e self.now.whole taken) }
@@ -440,7 +441,7 @@ fn read_lines<R: Read, L: Ledger>(
         × IfSome (R.remaining calls.old.reader.now) (λ bytes. bytes ≡ taken)
         × Reached checker.new.stage checker.new.whole checker.new.line.items taken) }
     ensures fault { IfErr result (λ e.
-        IfSome (R.remaining calls.old.reader.now) (λ bytes. TellsFault e bytes)) }
+        IfSome (R.remaining calls.old.reader.now) (λ bytes. ReportsFault e bytes)) }
     ensures stops { IfErr result (λ e.
         IfSome (R.remaining calls.old.reader.now) (λ bytes. StopsAt e checker.new.whole bytes)) }
     ensures keeps { OnOk result (keeps checker.new.stage ≡ keeps checker.old.stage) }
@@ -466,7 +467,7 @@ fn read_from<R: Read, L: Ledger>(
         × IfSome (R.remaining reader.old) (λ bytes. bytes ≡ taken)
         × Reached checker.new.stage checker.new.whole checker.new.line.items taken) }
     ensures fault { IfErr result (λ e.
-        IfSome (R.remaining reader.old) (λ bytes. TellsFault e bytes)) }
+        IfSome (R.remaining reader.old) (λ bytes. ReportsFault e bytes)) }
     ensures stops { IfErr result (λ e.
         IfSome (R.remaining reader.old) (λ bytes. StopsAt e checker.new.whole bytes)) }
     ensures keeps { OnOk result (keeps checker.new.stage ≡ keeps checker.old.stage) }
@@ -484,7 +485,7 @@ pub(crate) fn read_all<R: Read>(checker: &mut Checker, reader: &mut R) -> Result
         × IfSome (R.remaining reader.old) (λ bytes. bytes ≡ taken)
         × Reached checker.new.stage checker.new.whole checker.new.line.items taken) }
     ensures fault { IfErr result (λ e.
-        IfSome (R.remaining reader.old) (λ bytes. TellsFault e bytes)) }
+        IfSome (R.remaining reader.old) (λ bytes. ReportsFault e bytes)) }
     // The whole lines that were taken led to where the fault is.
     ensures stops { IfErr result (λ e.
         IfSome (R.remaining reader.old) (λ bytes. StopsAt e checker.new.whole bytes)) }
@@ -498,7 +499,7 @@ fn check_rest<R: Read>(checker: &mut Checker, reader: &mut R) -> Result<Legal, H
     requires { Reached checker.old.stage checker.old.whole checker.old.line.items [] }
     ensures ok { IfOk result (λ n. IfSome (R.remaining reader.old) (λ bytes. IsHistory bytes n)) }
     ensures fault { IfErr result (λ e.
-        IfSome (R.remaining reader.old) (λ bytes. TellsFault e bytes)) }
+        IfSome (R.remaining reader.old) (λ bytes. ReportsFault e bytes)) }
 {
     match read_all(checker, reader) {
         Ok(()) => checker.end(),
@@ -513,7 +514,7 @@ pub fn check_history<R: Read>(alloc: Global, reader: &mut R) -> Result<Legal, Hi
     ensures ok { IfOk result (λ n. IfSome (R.remaining reader.old) (λ bytes. IsHistory bytes n)) }
     // Otherwise the first fault of the bytes is reported.
     ensures fault { IfErr result (λ e.
-        IfSome (R.remaining reader.old) (λ bytes. TellsFault e bytes)) }
+        IfSome (R.remaining reader.old) (λ bytes. ReportsFault e bytes)) }
 {
     check_history_with(alloc, Seed::fixed(), reader)
 }
@@ -528,7 +529,7 @@ pub fn check_history_with<R: Read>(
     ensures ok { IfOk result (λ n. IfSome (R.remaining reader.old) (λ bytes. IsHistory bytes n)) }
     // Otherwise the first fault of the bytes is reported.
     ensures fault { IfErr result (λ e.
-        IfSome (R.remaining reader.old) (λ bytes. TellsFault e bytes)) }
+        IfSome (R.remaining reader.old) (λ bytes. ReportsFault e bytes)) }
 {
     let mut checker = Checker::new(alloc, seed, false);
     check_rest(&mut checker, reader)

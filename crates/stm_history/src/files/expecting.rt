@@ -1,21 +1,20 @@
-//! What is due in place of an event: the machine is asked whether it refuses the call, and then moved by the call as it has to
-//! be.
+//! What is due in place of an event: the machine is asked whether it refuses the call, and then for the fields that the call has
+//! to have.
 
-ghost use Rattle.std.specs.Prelude.{◌≡◌, ◌<◌, ◌↔◌, ◌++◌, ◌∷◌, [], ℕ, List, Err, IfOk, IfSome, None, option_map};
-ghost use Rattle.stm_store.specs.Cells.{plains};
+ghost use Rattle.std.specs.Prelude.{◌≡◌, ◌≢◌, ◌<◌, false, true, ℕ, List, IfOk, None, Some, if◌then◌else◌};
 ghost use Rattle.stm_store.specs.Tables.{Declared};
 ghost use Rattle.stm_eval.specs.EvaluatedFields.{message_ticket};
 ghost use Rattle.stm_events.specs.declared.event.Event.{Event as AnyEvent};
 ghost use Rattle.stm_events.specs.declared.event.What.TheVariants.{Submitted, Installed, Finished, Cancelled};
-ghost use Rattle.stm_events.specs.declared.staleness.StalenessRule.{StalenessRule as AnyRule};
-ghost use Rattle.stm_events.specs.Refusals.{submit_told, cancel_told, finish_told, deliver_error};
-ghost use Rattle.stm_events.specs.SlowDesk.{state_by, max_clients};
+ghost use Rattle.stm_events.specs.declared.staleness.StalenessRule.{StalenessRule};
+ghost use Rattle.stm_events.specs.Refusals.{submit_refused, finish_refused};
+ghost use Rattle.stm_events.specs.SlowDesk.{Slow, max_clients};
 ghost use Rattle.stm_terms.specs.declared.verdicts.Verdict.{Verdict};
-ghost use Rattle.stm_machine.specs.declared.finish.Plan.{Plan as AnyPlan};
 ghost use Rattle.stm_machine.specs.JobsHandedOut.{IsPresent};
-ghost use Rattle.stm_machine.specs.Machine.{CanFinishBy, CanInstallBy, CanWaitBy};
+ghost use Rattle.stm_machine.specs.Machine.{IsAt, HasTicketLeft, MayDeliver};
 ghost use Rattle.stm_history.specs.declared.files.explanation.CallRefusal.TheVariants.{Submission, Delivery, Finish, Cancellation};
-ghost use Rattle.stm_history.specs.Expecting.{IsAt, TellsDue, Moves, TellsRefusal};
+ghost use Rattle.stm_history.specs.declared.files.expecting.Expectation.TheVariants.{Refuses};
+ghost use Rattle.stm_history.specs.Expecting.{IsDueOn, IsDueAfter};
 ghost use Rattle.stm_history.specs.Following.{Follows};
 
 use crate::files::explanation::CallRefusal;
@@ -24,7 +23,6 @@ use stm_check::SharedBlock;
 use stm_eval::Evaluated;
 use stm_events::errors::{CancelError, DeliverError, FinishError, SubmitError};
 use stm_events::event::{Event, What};
-use stm_events::staleness::StalenessRule;
 use stm_machine::finish::Plan;
 use stm_machine::machine::Machine;
 use stm_terms::NoMemory;
@@ -38,9 +36,9 @@ pub(crate) enum Expectation {
     Refuses(CallRefusal),
 }
 
+/// What is due in place of a submission that is refused, unless it was for lack of memory.
 fn refused_submission(error: SubmitError) -> Result<Expectation, NoMemory>
-    ensures { IfOk result
-        (λ x. TellsRefusal (option_map Submission (submit_told {A = Unit {0}} (Err error))) x) }
+    ensures { IfOk result (λ x. (error ≢ SubmitError.NoMemory) × (x ≡ Refuses (Submission error))) }
 {
     match error {
         SubmitError::NoMemory => Err(NoMemory),
@@ -51,8 +49,7 @@ fn refused_submission(error: SubmitError) -> Result<Expectation, NoMemory>
 }
 
 fn refused_cancellation(error: CancelError) -> Result<Expectation, NoMemory>
-    ensures { IfOk result
-        (λ x. TellsRefusal (option_map Cancellation (cancel_told {A = Unit {0}} (Err error))) x) }
+    ensures { IfOk result (λ x. (error ≢ CancelError.NoMemory) × (x ≡ Refuses (Cancellation error))) }
 {
     match error {
         CancelError::NoMemory => Err(NoMemory),
@@ -62,8 +59,7 @@ fn refused_cancellation(error: CancelError) -> Result<Expectation, NoMemory>
 }
 
 fn refused_finish(error: FinishError) -> Result<Expectation, NoMemory>
-    ensures { IfOk result
-        (λ x. TellsRefusal (option_map Finish (finish_told {A = AnyPlan} (Err error))) x) }
+    ensures { IfOk result (λ x. (error ≢ FinishError.NoMemory) × (x ≡ Refuses (Finish error))) }
 {
     match error {
         FinishError::NoMemory => Err(NoMemory),
@@ -77,8 +73,7 @@ fn refused_finish(error: FinishError) -> Result<Expectation, NoMemory>
 }
 
 fn refused_delivery(error: DeliverError) -> Result<Expectation, NoMemory>
-    ensures { IfOk result
-        (λ x. TellsRefusal (option_map Delivery (deliver_error error)) x) }
+    ensures { IfOk result (λ x. (error ≢ DeliverError.NoMemory) × (x ≡ Refuses (Delivery error))) }
 {
     match error {
         DeliverError::NoMemory => Err(NoMemory),
@@ -92,15 +87,14 @@ fn refused_delivery(error: DeliverError) -> Result<Expectation, NoMemory>
 
 /// The block is submitted, under the next ticket.
 fn submit_next(machine: &mut Machine, block: &SharedBlock) -> Result<Expectation, NoMemory>
-    requires { (R : AnyRule) × (T : List Declared) × (H : List AnyEvent)
-        × CanWaitBy R T H machine.old block.now }
-    ensures { IfOk result (λ x. (R : AnyRule) (T : List Declared) (H : List AnyEvent) (t : ℕ)
-        → CanWaitBy R T H machine.old block.now
-        → Moves R T H (Submitted t block.now) machine.new x) }
+    requires { (s : Slow) × IsAt machine.old s × HasTicketLeft s
+        × (submit_refused s false block.now ≡ None) }
+    ensures { IfOk result (λ x. (s : Slow) (t : ℕ) → IsAt machine.old s
+        → IsDueOn s false (Submitted t block.now) x) }
 {
     let waiting = block.share()?;
     let block = block.share()?;
-    let ticket = machine.wait(waiting)?;
+    let ticket = machine.submit(waiting)?;
     Ok(Expectation::Due(What::Submitted { ticket, block }))
 }
 
@@ -110,28 +104,34 @@ fn submission(
     full: bool,
     block: &SharedBlock,
 ) -> Result<Expectation, NoMemory>
-    requires { (R : AnyRule) × (T : List Declared) × (H : List AnyEvent)
-        × IsAt R T H full machine.old }
-    ensures { IfOk result (λ x. (R : AnyRule) (T : List Declared) (H : List AnyEvent) (t : ℕ)
-        → IsAt R T H full machine.old → Moves R T H (Submitted t block.now) machine.new x) }
+    requires { (s : Slow) × IsAt machine.old s × HasTicketLeft s }
+    ensures { IfOk result (λ x. (s : Slow) (t : ℕ) → IsAt machine.old s
+        → IsDueOn s full (Submitted t block.now) x) }
 {
-    match machine.may_wait(block, full) {
-        Ok(()) => submit_next(machine, block),
+    match machine.may_submit(block) {
+        Ok(()) => {
+            if full {
+                refused_submission(SubmitError::HistoryFull)
+            } else {
+                submit_next(machine, block)
+            }
+        }
         Err(error) => refused_submission(error),
     }
 }
 
 /// What is due in place of a cancellation of the ticket.
-fn cancellation(machine: &mut Machine, full: bool, ticket: u32) -> Result<Expectation, NoMemory>
-    requires { (R : AnyRule) × (T : List Declared) × (H : List AnyEvent)
-        × IsAt R T H full machine.old }
-    ensures { IfOk result (λ x. (R : AnyRule) (T : List Declared) (H : List AnyEvent)
-        → IsAt R T H full machine.old → Moves R T H (Cancelled ticket) machine.new x) }
+fn cancellation(machine: &Machine, full: bool, ticket: u32) -> Result<Expectation, NoMemory>
+    ensures { IfOk result (λ x. (s : Slow) → IsAt machine.now s
+        → IsDueOn s full (Cancelled ticket) x) }
 {
-    match machine.may_leave(ticket, full) {
+    match machine.may_cancel(ticket) {
         Ok(()) => {
-            machine.leave(ticket);
-            Ok(Expectation::Due(What::Cancelled { ticket }))
+            if full {
+                refused_cancellation(CancelError::HistoryFull)
+            } else {
+                Ok(Expectation::Due(What::Cancelled { ticket }))
+            }
         }
         Err(error) => refused_cancellation(error),
     }
@@ -154,49 +154,49 @@ fn finish_of(ticket: u32, plan: Plan) -> What
     }
 }
 
-/// The block finishes by its plan.
-fn finish_by(machine: &mut Machine, ticket: u32, plan: Plan) -> Result<Expectation, NoMemory>
-    requires { (R : AnyRule) × (T : List Declared) × (H : List AnyEvent)
-        × CanFinishBy R T H machine.old ticket plan.verdict plan.first_new plan.stale }
-    ensures { IfOk result (λ x. (R : AnyRule) (T : List Declared) (H : List AnyEvent)
-        (v : Verdict) (n : ℕ) (stale : List ℕ)
-        → CanFinishBy R T H machine.old ticket plan.verdict plan.first_new plan.stale
-        → Moves R T H (Finished ticket v n stale) machine.new x) }
+/// The error of a finish if the history may be full: a desk reports a full history before a full store.
+fn finish_error(full: bool, error: FinishError) -> FinishError
+    ensures refused { (s : Slow) (t : ℕ) → finish_refused s false t ≡ Some error
+        → finish_refused s full t ≡ Some result }
+    ensures memory { error ≡ FinishError.NoMemory → result ≡ error }
 {
-    match machine.finish(ticket, &plan) {
-        Ok(_) => Ok(Expectation::Due(finish_of(ticket, plan))),
-        Err(refused) => Err(refused),
+    match error {
+        FinishError::CellsFull => {
+            if full {
+                FinishError::HistoryFull
+            } else {
+                error
+            }
+        }
+        _ => error,
     }
 }
 
 /// What is due in place of a finish of the ticket.
-fn finish(
-    machine: &mut Machine,
-    rule: StalenessRule,
-    full: bool,
-    ticket: u32,
-) -> Result<Expectation, NoMemory>
-    requires { (T : List Declared) × (H : List AnyEvent) × IsAt rule T H full machine.old }
-    ensures { IfOk result (λ x. (T : List Declared) (H : List AnyEvent)
-        (v : Verdict) (n : ℕ) (stale : List ℕ) → IsAt rule T H full machine.old
-        → Moves rule T H (Finished ticket v n stale) machine.new x) }
+fn finish(machine: &Machine, full: bool, ticket: u32) -> Result<Expectation, NoMemory>
+    ensures { IfOk result (λ x. (s : Slow) (v : Verdict) (n : ℕ) (stale : List ℕ)
+        → IsAt machine.now s → IsDueOn s full (Finished ticket v n stale) x) }
 {
-    match machine.plan(ticket, full, rule) {
-        Ok(plan) => finish_by(machine, ticket, plan),
-        Err(error) => refused_finish(error),
+    match machine.plan(ticket) {
+        Ok(plan) => {
+            if full {
+                refused_finish(FinishError::HistoryFull)
+            } else {
+                Ok(Expectation::Due(finish_of(ticket, plan)))
+            }
+        }
+        Err(error) => refused_finish(finish_error(full, error)),
     }
 }
 
-/// A message of the present store is installed.
-fn install(machine: &mut Machine, message: Evaluated) -> Result<Expectation, NoMemory>
-    requires { (R : AnyRule) × (T : List Declared) × (H : List AnyEvent)
-        × CanInstallBy R T H machine.old message }
-    ensures { IfOk result (λ x. (R : AnyRule) (T : List Declared) (H : List AnyEvent) (v : Verdict)
-        → CanInstallBy R T H machine.old message
-        → Moves R T H (Installed (message_ticket message) v) machine.new x) }
+/// The message is delivered, which is of the present store.
+fn deliver(machine: &mut Machine, message: Evaluated) -> Result<Expectation, NoMemory>
+    requires { (s : Slow) × IsAt machine.old s × MayDeliver s message }
+    ensures { IfOk result (λ x. (s : Slow) (v : Verdict) → IsAt machine.old s
+        → IsDueOn s false (Installed (message_ticket message) v) x) }
 {
     let ticket = message.ticket();
-    match machine.install(message) {
+    match machine.deliver(message) {
         Ok(verdict) => Ok(Expectation::Due(What::Installed { ticket, verdict })),
         Err((_, refused)) => Err(refused),
     }
@@ -208,26 +208,29 @@ fn message_due(
     full: bool,
     message: Evaluated,
 ) -> Result<Expectation, NoMemory>
-    requires room { (R : AnyRule) × (T : List Declared) × (H : List AnyEvent)
-        × IsAt R T H full machine.old }
-    requires present { (R : AnyRule) (T : List Declared) (H : List AnyEvent)
-        → IsAt R T H full machine.old → IsPresent (state_by R T H) (message_ticket message) message }
-    ensures { IfOk result (λ x. (R : AnyRule) (T : List Declared) (H : List AnyEvent) (v : Verdict)
-        → IsAt R T H full machine.old
-        → Moves R T H (Installed (message_ticket message) v) machine.new x) }
+    requires at { (s : Slow) × IsAt machine.old s }
+    requires present { (s : Slow) → IsAt machine.old s
+        → IsPresent s (message_ticket message) message }
+    ensures { IfOk result (λ x. (s : Slow) (v : Verdict) → IsAt machine.old s
+        → IsDueOn s full (Installed (message_ticket message) v) x) }
 {
-    match machine.may_install(&message, full) {
-        Ok(()) => install(machine, message),
+    match machine.may_deliver(&message) {
+        Ok(()) => {
+            if full {
+                refused_delivery(DeliverError::HistoryFull)
+            } else {
+                deliver(machine, message)
+            }
+        }
         Err(error) => refused_delivery(error),
     }
 }
 
 /// What is due in place of a delivery to the ticket.
 fn delivery(machine: &mut Machine, full: bool, ticket: u32) -> Result<Expectation, NoMemory>
-    requires { (R : AnyRule) × (T : List Declared) × (H : List AnyEvent)
-        × IsAt R T H full machine.old }
-    ensures { IfOk result (λ x. (R : AnyRule) (T : List Declared) (H : List AnyEvent) (v : Verdict)
-        → IsAt R T H full machine.old → Moves R T H (Installed ticket v) machine.new x) }
+    requires { (s : Slow) × IsAt machine.old s }
+    ensures { IfOk result (λ x. (s : Slow) (v : Verdict) → IsAt machine.old s
+        → IsDueOn s full (Installed ticket v) x) }
 {
     if machine.block(ticket).is_none() {
         return refused_delivery(DeliverError::Gone);
@@ -240,20 +243,14 @@ fn delivery(machine: &mut Machine, full: bool, ticket: u32) -> Result<Expectatio
 }
 
 /// What is due in place of what happens.
-fn due(
-    machine: &mut Machine,
-    rule: StalenessRule,
-    full: bool,
-    what: &What,
-) -> Result<Expectation, NoMemory>
-    requires { (T : List Declared) × (H : List AnyEvent) × IsAt rule T H full machine.old }
-    ensures { IfOk result (λ x. (T : List Declared) (H : List AnyEvent)
-        → IsAt rule T H full machine.old → Moves rule T H what.now machine.new x) }
+fn due(machine: &mut Machine, full: bool, what: &What) -> Result<Expectation, NoMemory>
+    requires { (s : Slow) × IsAt machine.old s × HasTicketLeft s }
+    ensures { IfOk result (λ x. (s : Slow) → IsAt machine.old s → IsDueOn s full what.now x) }
 {
     match what {
         What::Submitted { block, .. } => submission(machine, full, block),
         What::Installed { ticket, .. } => delivery(machine, full, *ticket),
-        What::Finished { ticket, .. } => finish(machine, rule, full, *ticket),
+        What::Finished { ticket, .. } => finish(machine, full, *ticket),
         What::Cancelled { ticket } => cancellation(machine, full, *ticket),
     }
 }
@@ -261,12 +258,13 @@ fn due(
 impl Replayer {
     /// What is due in place of the event. Nothing is promised of what goes through the history afterwards.
     pub(crate) fn expect(&mut self, event: &Event) -> Result<Expectation, NoMemory>
-        requires follows { (T : List Declared) × (H : List AnyEvent) × Follows T H self.old }
+        requires follows { (R : StalenessRule) × (T : List Declared) × (H : List AnyEvent)
+            × Follows R T H self.old }
         requires client { event.now.client < max_clients }
-        ensures { IfOk result (λ x. (T : List Declared) (H : List AnyEvent) → Follows T H self.old
-            → TellsDue self.old.rule T H event.now x) }
+        ensures { IfOk result (λ x. (R : StalenessRule) (T : List Declared) (H : List AnyEvent)
+            → Follows R T H self.old → IsDueAfter R T H event.now x) }
     {
         let full = self.events >= MAX_EVENTS;
-        due(&mut self.machine, self.rule, full, &event.what)
+        due(&mut self.machine, full, &event.what)
     }
 }

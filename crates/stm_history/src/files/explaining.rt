@@ -10,8 +10,8 @@ ghost use Rattle.stm_history.specs.Checking.{CheckerState, at_header, at_variabl
 ghost use Rattle.stm_history.specs.Expecting.{HasCheckedBlock, IsLineOf, IsShortOr};
 ghost use Rattle.stm_history.specs.Explanation.{Explains, ExplainsEvent, ExplainsHead};
 ghost use Rattle.stm_event_lines.specs.Fits.{FitsTable, FitsVerdict, FitNews, FitsVariable, FitsFormat, WhatFitsTable};
-ghost use Rattle.stm_history.specs.Following.{FollowsIn};
-ghost use Rattle.stm_event_lines.specs.Lines.{IsFormat, header_line, variable_line};
+ghost use Rattle.stm_history.specs.Following.{Follows};
+ghost use Rattle.stm_event_lines.specs.Lines.{IsFormat, header_line, rule_of, variable_line};
 ghost use Rattle.stm_history.specs.Stages.{IsStage, CountsWithinLimits};
 ghost use Rattle.stm_event_lines.specs.Variables.{declared};
 
@@ -38,7 +38,7 @@ use stm_terms::verdicts::Verdict;
 /// The most `TVar` of a type in a line.
 const MOST_REFS: u8 = 8;
 
-/// Whether the types of new variables can stand in a line. Their values can.
+/// Whether the types of new variables can be in a line. Their values can.
 fn fit_news(news: &[(Ty, Value)]) -> bool
     ensures { IsTrue result ↔ FitNews news.now }
 {
@@ -61,7 +61,7 @@ fn fault_in_range(fault: Fault)
     }
 }
 
-/// Whether the verdict can stand in a line.
+/// Whether the verdict can be in a line.
 fn fits_verdict(verdict: &Verdict) -> bool
     ensures { IsTrue result ↔ FitsVerdict verdict.now }
 {
@@ -90,7 +90,7 @@ fn fits_shared(verdict: &SharedVerdict) -> bool
     fits_verdict(verdict.get(&blocks))
 }
 
-/// Whether what happens can stand in a line over a table to which its block was checked.
+/// Whether what happens can be in a line over a table to which its block was checked.
 fn fits_line(what: &What) -> bool
     ensures { (T : List Declared) → HasCheckedBlock T what.now
         → (IsTrue result ↔ WhatFitsTable T what.now) }
@@ -133,7 +133,7 @@ fn short_line(text: String) -> Explanation
     }
 }
 
-/// The line of what is due, if it can stand in the format.
+/// The line of what is due, if it can be in the format.
 fn due_line(alloc: Global, format: u32, event: &Event) -> Result<Explanation, NoMemory>
     ensures { IfOk result (λ x. (T : List Declared) → event.now.client < max_clients
         → HasCheckedBlock T event.now.what → IsLineOf format T event.now x) }
@@ -148,7 +148,7 @@ fn due_line(alloc: Global, format: u32, event: &Event) -> Result<Explanation, No
     Ok(short_line(text))
 }
 
-/// The line of what is due from a client, if it can stand in the format.
+/// The line of what is due from a client, if it can be in the format.
 fn line_due(alloc: Global, format: u32, client: u32, what: What) -> Result<Explanation, NoMemory>
     ensures { IfOk result (λ x. (T : List Declared) → client < max_clients
         → HasCheckedBlock T what → IsLineOf format T (event client what) x) }
@@ -157,17 +157,17 @@ fn line_due(alloc: Global, format: u32, client: u32, what: What) -> Result<Expla
     due_line(alloc, format, &event)
 }
 
-/// What is told of a line that was read as the event.
+/// What is reported of a line that was read as the event.
 fn explain_event(
     alloc: Global,
     format: u32,
     replayer: &mut Replayer,
     event: &Event,
 ) -> Result<Explanation, NoMemory>
-    requires { (T : List Declared) × (H : List AnyEvent) × FollowsIn format T H replayer.old
+    requires { (T : List Declared) × (H : List AnyEvent) × Follows (rule_of format) T H replayer.old
         × FitsTable T event.now }
     ensures { IfOk result (λ x. (T : List Declared) (H : List AnyEvent)
-        → FollowsIn format T H replayer.old → FitsTable T event.now
+        → Follows (rule_of format) T H replayer.old → FitsTable T event.now
         → ExplainsEvent format T H event.now x) }
 {
     match replayer.expect(event) {
@@ -177,7 +177,7 @@ fn explain_event(
     }
 }
 
-/// What is told of a line among the events.
+/// What is reported of a line among the events.
 fn explain_event_line(
     alloc: Global,
     format: u32,
@@ -185,8 +185,8 @@ fn explain_event_line(
     replayer: &mut Replayer,
     line: &[u8],
 ) -> Result<Explanation, NoMemory>
-    requires { (H : List AnyEvent) × FollowsIn format table.now H replayer.old }
-    ensures { IfOk result (λ x. (H : List AnyEvent) → FollowsIn format table.now H replayer.old
+    requires { (H : List AnyEvent) × Follows (rule_of format) table.now H replayer.old }
+    ensures { IfOk result (λ x. (H : List AnyEvent) → Follows (rule_of format) table.now H replayer.old
         → Explains (at_events format table.now H) line.now x) }
 {
     match loose_event(alloc, table, line)? {
@@ -195,7 +195,7 @@ fn explain_event_line(
     }
 }
 
-/// What is told of a line before the first.
+/// What is reported of a line before the first.
 fn explain_header(alloc: Global, line: &[u8]) -> Result<Explanation, NoMemory>
     ensures { IfOk result (λ x. ExplainsHead at_header x) }
 {
@@ -234,7 +234,7 @@ fn variable_due(
     }
 }
 
-/// What is told of a line among the variables.
+/// What is reported of a line among the variables.
 fn explain_variable(alloc: Global, table: &mut Table, line: &[u8]) -> Result<Explanation, NoMemory>
     ensures { IfOk result (λ x. (format n : ℕ)
         → ExplainsHead (at_variables format n table.old) x) }
@@ -245,7 +245,7 @@ fn explain_variable(alloc: Global, table: &mut Table, line: &[u8]) -> Result<Exp
     }
 }
 
-/// What is told of a line that is not accepted at this stage. Nothing is promised of the stage afterwards.
+/// What is reported of a line that is not accepted at this stage. Nothing is promised of the stage afterwards.
 pub(crate) fn explain(
     alloc: Global,
     stage: &mut Stage,

@@ -1,4 +1,4 @@
-//! What is told of a line that is not accepted.
+//! What is reported of a line that is not accepted.
 
 use crate::files::fault::HistoryFault;
 use stm_events::errors::{CancelError, DeliverError, FinishError, SubmitError};
@@ -12,7 +12,7 @@ pub enum CallRefusal {
     Cancellation(CancelError),
 }
 
-/// What is told of a line that is not accepted.
+/// What is reported of a line that is not accepted.
 #[derive(Drop)]
 pub enum Explanation {
     /// The line that would be accepted at this place for the same call, without its line feed.
@@ -24,7 +24,7 @@ pub enum Explanation {
     Unreadable,
 }
 
-/// The first fault of bytes, the number of its line, counted from 1, and what is told of that line.
+/// The first fault of bytes, the number of its line, counted from 1, and what is reported of that line.
 #[derive(Drop)]
 pub struct Reason {
     pub fault: HistoryFault,

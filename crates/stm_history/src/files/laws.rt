@@ -21,7 +21,7 @@ pub fn texts_are_of_one_history()
     ensures { TextsAreOfOneHistory }
 {}
 
-/// No fault can be told of the text of a legal history: the clauses of `check_history` fix its answer.
+/// No fault can be reported of the text of a legal history: the clauses of `check_history` fix its answer.
 pub fn histories_are_taken()
     ensures { HistoriesAreTaken }
 {}

@@ -4,9 +4,10 @@ ghost use Rattle.std.specs.Prelude.{◌≡◌, [], true, ℕ, List, OnOk, IfOk, 
 ghost use Rattle.stm_events.specs.Laws.{SubmittedAreWellTyped};
 ghost use Rattle.stm_events.specs.declared.event.Event.{Event as AnyEvent};
 ghost use Rattle.stm_event_lines.specs.Lines.{latest_format};
-ghost use Rattle.stm_history.specs.Loading.{HasText, IsWholeHistory, TellsLoadFault};
+ghost use Rattle.stm_history.specs.Loading.{HasText, IsWholeHistory, ReportsLoadFault};
 ghost use Rattle.stm_history.specs.Stages.{keeps, Reached, IsLoaded};
-ghost use Rattle.stm_machine.specs.Machine.{StandsFor};
+ghost use Rattle.stm_events.specs.SlowDesk.{IsLegal, state};
+ghost use Rattle.stm_machine.specs.Machine.{IsAt};
 
 use crate::files::check::{Checker, Stage, read_all};
 use crate::files::fault::HistoryFault;
@@ -70,7 +71,6 @@ fn loaded_of(table: Table, replayer: Replayer) -> Loaded
         → result.events.items ≡ H }
 {
     let Replayer {
-        rule: _,
         machine,
         events: _,
         copy: _,
@@ -94,7 +94,7 @@ impl Checker {
         ensures line { OnOk result (self.now.line.items ≡ []) }
         ensures fault { IfErr result (λ e. (taken : List ℕ)
             → Reached self.now.stage self.now.whole self.now.line.items taken
-            → TellsLoadFault e taken) }
+            → ReportsLoadFault e taken) }
     {
         match self.end() {
             Ok(_) => {}
@@ -120,7 +120,8 @@ impl Checker {
         requires line { self.line.items ≡ [] }
         ensures history { (taken : List ℕ) → Reached self.stage self.whole self.line.items taken
             → IsWholeHistory latest_format taken result.table result.events.items }
-        ensures stands { StandsFor result.table result.events.items result.machine }
+        ensures legal { IsLegal result.table result.events.items }
+        ensures at { IsAt result.machine (state result.table result.events.items) }
     {
         let Checker {
             alloc: _,
@@ -151,7 +152,7 @@ fn load_rest<R: Read>(checker: &mut Checker, reader: &mut R) -> Result<(), LoadF
         × IfSome (R.remaining reader.old) (λ bytes. bytes ≡ taken)
         × Reached checker.new.stage checker.new.whole checker.new.line.items taken) }
     ensures fault { IfErr result (λ e.
-        IfSome (R.remaining reader.old) (λ bytes. TellsLoadFault e bytes)) }
+        IfSome (R.remaining reader.old) (λ bytes. ReportsLoadFault e bytes)) }
 {
     match read_all(checker, reader) {
         Ok(()) => checker.may_load(),
@@ -165,14 +166,15 @@ pub fn load_history<R: Read>(alloc: Global, seed: Seed, reader: &mut R) -> Resul
     // The bytes are the text of the history.
     ensures ok { IfOk result (λ h. IfSome (R.remaining reader.old) (λ bytes.
         IsWholeHistory latest_format bytes h.table h.events.items)) }
-    // It is legal, whatever the reader was, and the machine is what it leads to.
-    ensures stands { IfOk result (λ h. StandsFor h.table h.events.items h.machine) }
+    // It is legal, whatever the reader was, and the machine is at the state that it leads to.
+    ensures legal { IfOk result (λ h. IsLegal h.table h.events.items) }
+    ensures at { IfOk result (λ h. IsAt h.machine (state h.table h.events.items)) }
     ensures text { IfOk result (λ h. HasText h.table h.events.items) }
     // Each block that is submitted in it is well typed.
     ensures typed { IfOk result (λ h. SubmittedAreWellTyped h.events.items) }
     // Otherwise the first error of the bytes is reported, or their format.
     ensures fault { IfErr result (λ e.
-        IfSome (R.remaining reader.old) (λ bytes. TellsLoadFault e bytes)) }
+        IfSome (R.remaining reader.old) (λ bytes. ReportsLoadFault e bytes)) }
 {
     let mut checker = Checker::new(alloc, seed, true);
     match load_rest(&mut checker, reader) {

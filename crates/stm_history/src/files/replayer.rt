@@ -13,11 +13,10 @@ use stm_terms::NoMemory;
 /// The most events of a history.
 pub(crate) const MAX_EVENTS: u32 = 1_048_576;
 
-/// The rule that a history goes by, the machine that its events so far lead to, how many they are, and an unchanging copy of
-/// the present store, if one was made after the last finish; the events themselves, if they are kept.
+/// The machine that the events of a history so far lead to, how many they are, and an unchanging copy of the present store, if
+/// one was made after the last finish; the events themselves, if they are kept.
 #[derive(Drop)]
 pub(crate) struct Replayer {
-    pub rule: StalenessRule,
     pub machine: Machine,
     pub events: u32,
     pub copy: Option<Frozen>,
@@ -35,6 +34,7 @@ fn none_kept(alloc: Global, keep: bool) -> Option<Vec<OneEvent>>
 impl Replayer {
     ghost use Rattle.stm_store.specs.Tables.{Declared};
     ghost use Rattle.stm_events.specs.declared.event.Event.{Event};
+    ghost use Rattle.stm_events.specs.declared.staleness.StalenessRule.{StalenessRule as AnyRule};
     ghost use Rattle.stm_history.specs.Following.{Follows};
     ghost use Rattle.stm_history.specs.Judgement.{numbers_by};
 
@@ -45,13 +45,11 @@ impl Replayer {
         table: &Table,
         keep: bool,
     ) -> Result<Replayer, NoMemory>
-        ensures follows { IfOk result (λ r. Follows table.now [] r) }
-        ensures rule { IfOk result (λ r. r.rule ≡ rule) }
+        ensures follows { IfOk result (λ r. Follows rule table.now [] r) }
         ensures keeps { IfOk result (λ r. is_some r.kept ≡ keep) }
     {
         Ok(Replayer {
-            rule,
-            machine: Machine::open(alloc, table)?,
+            machine: Machine::open(alloc, rule, table)?,
             events: 0,
             copy: None,
             kept: none_kept(alloc, keep),
@@ -60,9 +58,9 @@ impl Replayer {
 
     /// The numbers of the history so far.
     pub(crate) fn numbers(&self) -> Legal
-        requires { (T : List Declared) × (H : List Event) × Follows T H self.now }
-        ensures { (T : List Declared) (H : List Event) → Follows T H self.now
-            → result ≡ numbers_by self.now.rule T H }
+        requires { (R : AnyRule) × (T : List Declared) × (H : List Event) × Follows R T H self.now }
+        ensures { (R : AnyRule) (T : List Declared) (H : List Event) → Follows R T H self.now
+            → result ≡ numbers_by R T H }
     {
         Legal {
             events: self.events,

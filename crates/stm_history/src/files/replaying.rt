@@ -16,13 +16,12 @@ use stm_store::Table;
 
 /// Takes the events of a list, one after another, before any of which was taken. `NotLegal` counts them from 1.
 fn step_all(replayer: &mut Replayer, history: &[Event]) -> Result<(), HistoryFault>
-    requires { (T : List Declared) × Follows T [] replayer.old
-        × (replayer.old.rule ≡ StalenessRule.Changed) }
-    ensures done { OnOk result ((T : List Declared) → Follows T [] replayer.old
-        → Follows T history.now replayer.new) }
-    ensures rule { OnOk result (replayer.new.rule ≡ replayer.old.rule) }
-    ensures fault { IfErr result (λ e. (T : List Declared) → Follows T [] replayer.old
-        → replayer.old.rule ≡ StalenessRule.Changed → Refuses e T history.now) }
+    requires { (T : List Declared) × Follows StalenessRule.Changed T [] replayer.old }
+    ensures done { OnOk result ((T : List Declared)
+        → Follows StalenessRule.Changed T [] replayer.old
+        → Follows StalenessRule.Changed T history.now replayer.new) }
+    ensures fault { IfErr result (λ e. (T : List Declared)
+        → Follows StalenessRule.Changed T [] replayer.old → Refuses e T history.now) }
 {
     for event in history {
         let number = replayer.events + 1;

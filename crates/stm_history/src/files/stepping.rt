@@ -1,19 +1,18 @@
 //! One event more: the machine is asked whether it may follow, its fields are compared, and then the machine is moved.
 
-ghost use Rattle.std.specs.Prelude.{◌≡◌, ◌<◌, ◌↔◌, ◌++◌, ◌∷◌, [], ℕ, List, OnOk, IfSome, IsErrOf, IsTrue, is_some, Some, None, Err};
+ghost use Rattle.std.specs.Prelude.{◌≡◌, ◌↔◌, ◌++◌, ◌∷◌, [], List, OnOk, IfSome, IsErrOf, IsTrue, is_some, Some};
 ghost use Rattle.stm_store.specs.Cells.{plains};
 ghost use Rattle.stm_store.specs.Tables.{Declared};
 ghost use Rattle.stm_eval.specs.EvaluatedFields.{message_ticket, message_verdict};
 ghost use Rattle.stm_events.specs.declared.event.Event.{Event as AnyEvent};
 ghost use Rattle.stm_events.specs.declared.event.What.TheVariants.{Submitted, Installed, Finished, Cancelled};
-ghost use Rattle.stm_machine.specs.declared.finish.Plan.{Plan as AnyPlan};
-ghost use Rattle.stm_events.specs.declared.staleness.StalenessRule.{StalenessRule as AnyRule};
-ghost use Rattle.stm_history.specs.Following.{HasRoom, WhatIsIllegal, Follows};
-ghost use Rattle.stm_history.specs.Judgement.{IsIllegalBy};
-ghost use Rattle.stm_machine.specs.Machine.{CanInstallBy, CanFinishBy, MovesToBy};
-ghost use Rattle.stm_events.specs.Refusals.{submit_told, cancel_told, finish_told, deliver_error};
-ghost use Rattle.stm_events.specs.SlowDesk.{state_by};
+ghost use Rattle.stm_events.specs.declared.staleness.StalenessRule.{StalenessRule};
+ghost use Rattle.stm_events.specs.SlowDesk.{Slow};
 ghost use Rattle.stm_machine.specs.JobsHandedOut.{IsPresent};
+ghost use Rattle.stm_machine.specs.Machine.{IsAt, HasTicketLeft, MayDeliver, MovesBy};
+ghost use Rattle.stm_machine.specs.Plans.{IsPlan};
+ghost use Rattle.stm_history.specs.Following.{IsForbidden, Follows};
+ghost use Rattle.stm_history.specs.Judgement.{IsIllegalBy};
 
 use crate::files::replayer::{MAX_EVENTS, Replayer};
 use stm_check::SharedBlock;
@@ -22,7 +21,6 @@ use stm_events::errors::{CancelError, DeliverError, FinishError, SubmitError};
 use stm_events::event::{Event, What};
 use stm_events::same::same_numbers;
 use stm_events::shared_verdict::SharedVerdict;
-use stm_events::staleness::StalenessRule;
 use stm_machine::finish::Plan;
 use stm_machine::machine::Machine;
 use stm_store::Frozen;
@@ -48,7 +46,7 @@ impl From<NoMemory> for StepError {
 }
 
 fn submit_refused(error: SubmitError) -> StepError
-    ensures { submit_told {A = Unit {0}} (Err error) ≡ None → result ≡ StepError.NoMemory }
+    ensures { error ≡ SubmitError.NoMemory → result ≡ StepError.NoMemory }
 {
     match error {
         SubmitError::NoMemory => StepError::NoMemory,
@@ -59,7 +57,7 @@ fn submit_refused(error: SubmitError) -> StepError
 }
 
 fn cancel_refused(error: CancelError) -> StepError
-    ensures { cancel_told {A = Unit {0}} (Err error) ≡ None → result ≡ StepError.NoMemory }
+    ensures { error ≡ CancelError.NoMemory → result ≡ StepError.NoMemory }
 {
     match error {
         CancelError::NoMemory => StepError::NoMemory,
@@ -69,7 +67,7 @@ fn cancel_refused(error: CancelError) -> StepError
 }
 
 fn finish_refused(error: FinishError) -> StepError
-    ensures { finish_told {A = AnyPlan} (Err error) ≡ None → result ≡ StepError.NoMemory }
+    ensures { error ≡ FinishError.NoMemory → result ≡ StepError.NoMemory }
 {
     match error {
         FinishError::NoMemory => StepError::NoMemory,
@@ -83,7 +81,7 @@ fn finish_refused(error: FinishError) -> StepError
 }
 
 fn deliver_refused(error: DeliverError) -> StepError
-    ensures { deliver_error error ≡ None → result ≡ StepError.NoMemory }
+    ensures { error ≡ DeliverError.NoMemory → result ≡ StepError.NoMemory }
 {
     match error {
         DeliverError::NoMemory => StepError::NoMemory,
@@ -97,20 +95,17 @@ fn deliver_refused(error: DeliverError) -> StepError
 
 /// The block is submitted, under the next ticket.
 fn submitted(machine: &mut Machine, ticket: u32, block: &SharedBlock) -> Result<(), StepError>
-    requires { (R : AnyRule) × (T : List Declared) × (H : List AnyEvent)
-        × HasRoom R T H machine.old }
-    ensures done { OnOk result ((R : AnyRule) (T : List Declared) (H : List AnyEvent)
-        → HasRoom R T H machine.old → MovesToBy R T H (Submitted ticket block.now) machine.new) }
+    requires { (s : Slow) × IsAt machine.old s × HasTicketLeft s }
+    ensures done { OnOk result (MovesBy (Submitted ticket block.now) machine.old machine.new) }
     ensures not_allowed { IsErrOf result StepError.NotAllowed
-        → (R : AnyRule) (T : List Declared) (H : List AnyEvent) → HasRoom R T H machine.old
-        → WhatIsIllegal R T H (Submitted ticket block.now) }
+        → IsForbidden (Submitted ticket block.now) machine.old }
 {
-    match machine.may_wait(block, false) {
+    match machine.may_submit(block) {
         Ok(()) => {}
         Err(error) => return Err(submit_refused(error)),
     }
     let block = block.share()?;
-    let given = machine.wait(block)?;
+    let given = machine.submit(block)?;
     if given == ticket {
         Ok(())
     } else {
@@ -120,17 +115,14 @@ fn submitted(machine: &mut Machine, ticket: u32, block: &SharedBlock) -> Result<
 
 /// The block is cancelled.
 fn cancelled(machine: &mut Machine, ticket: u32) -> Result<(), StepError>
-    requires { (R : AnyRule) × (T : List Declared) × (H : List AnyEvent)
-        × HasRoom R T H machine.old }
-    ensures done { OnOk result ((R : AnyRule) (T : List Declared) (H : List AnyEvent)
-        → HasRoom R T H machine.old → MovesToBy R T H (Cancelled ticket) machine.new) }
+    requires { (s : Slow) × IsAt machine.old s }
+    ensures done { OnOk result (MovesBy (Cancelled ticket) machine.old machine.new) }
     ensures not_allowed { IsErrOf result StepError.NotAllowed
-        → (R : AnyRule) (T : List Declared) (H : List AnyEvent) → HasRoom R T H machine.old
-        → WhatIsIllegal R T H (Cancelled ticket) }
+        → IsForbidden (Cancelled ticket) machine.old }
 {
-    match machine.may_leave(ticket, false) {
+    match machine.may_cancel(ticket) {
         Ok(()) => {
-            machine.leave(ticket);
+            machine.cancel(ticket);
             Ok(())
         }
         Err(error) => Err(cancel_refused(error)),
@@ -159,15 +151,13 @@ fn finish_by(
     first_new: u32,
     stale: &[u32],
 ) -> Result<(), StepError>
-    requires { (R : AnyRule) × (T : List Declared) × (H : List AnyEvent)
-        × CanFinishBy R T H machine.old ticket plan.now.verdict plan.now.first_new plan.now.stale }
-    ensures done { OnOk result ((R : AnyRule) (T : List Declared) (H : List AnyEvent)
-        → CanFinishBy R T H machine.old ticket plan.now.verdict plan.now.first_new plan.now.stale
-        → MovesToBy R T H (Finished ticket verdict.now first_new stale.now) machine.new) }
+    requires at { (s : Slow) × IsAt machine.old s }
+    requires plan { (s : Slow) → IsAt machine.old s
+        → IsPlan s ticket plan.now.verdict plan.now.first_new plan.now.stale }
+    ensures done { OnOk result
+        (MovesBy (Finished ticket verdict.now first_new stale.now) machine.old machine.new) }
     ensures not_allowed { IsErrOf result StepError.NotAllowed
-        → (R : AnyRule) (T : List Declared) (H : List AnyEvent)
-        → CanFinishBy R T H machine.old ticket plan.now.verdict plan.now.first_new plan.now.stale
-        → WhatIsIllegal R T H (Finished ticket verdict.now first_new stale.now) }
+        → IsForbidden (Finished ticket verdict.now first_new stale.now) machine.old }
 {
     if !is_plan(plan, verdict, first_new, stale) {
         return Err(StepError::NotAllowed);
@@ -181,21 +171,18 @@ fn finish_by(
 /// The block finishes, with these fields.
 fn finished(
     machine: &mut Machine,
-    rule: StalenessRule,
     ticket: u32,
     verdict: &SharedVerdict,
     first_new: u32,
     stale: &[u32],
 ) -> Result<(), StepError>
-    requires { (T : List Declared) × (H : List AnyEvent) × HasRoom rule T H machine.old }
-    ensures done { OnOk result ((T : List Declared) (H : List AnyEvent)
-        → HasRoom rule T H machine.old
-        → MovesToBy rule T H (Finished ticket verdict.now first_new stale.now) machine.new) }
+    requires { (s : Slow) × IsAt machine.old s }
+    ensures done { OnOk result
+        (MovesBy (Finished ticket verdict.now first_new stale.now) machine.old machine.new) }
     ensures not_allowed { IsErrOf result StepError.NotAllowed
-        → (T : List Declared) (H : List AnyEvent) → HasRoom rule T H machine.old
-        → WhatIsIllegal rule T H (Finished ticket verdict.now first_new stale.now) }
+        → IsForbidden (Finished ticket verdict.now first_new stale.now) machine.old }
 {
-    match machine.plan(ticket, false, rule) {
+    match machine.plan(ticket) {
         Ok(plan) => finish_by(machine, ticket, &plan, verdict, first_new, stale),
         Err(error) => Err(finish_refused(error)),
     }
@@ -209,50 +196,44 @@ fn brings(message: &Evaluated, verdict: &SharedVerdict) -> bool
     message.verdict().same(verdict.get(&blocks))
 }
 
-/// Whether the message may be installed, and brings this verdict.
+/// Whether the message may be delivered, and brings this verdict.
 fn may_bring(
     machine: &Machine,
     message: &Evaluated,
     verdict: &SharedVerdict,
 ) -> Result<(), StepError>
-    requires present { (R : AnyRule) (T : List Declared) (H : List AnyEvent)
-        → HasRoom R T H machine.now
-        → IsPresent (state_by R T H) (message_ticket message.now) message.now }
-    ensures may { OnOk result ((R : AnyRule) (T : List Declared) (H : List AnyEvent)
-        → HasRoom R T H machine.now → CanInstallBy R T H machine.now message.now) }
+    requires { (s : Slow) → IsAt machine.now s
+        → IsPresent s (message_ticket message.now) message.now }
+    ensures may { OnOk result ((s : Slow) → IsAt machine.now s → MayDeliver s message.now) }
     ensures verdict { OnOk result (message_verdict message.now ≡ verdict.now) }
     ensures not_allowed { IsErrOf result StepError.NotAllowed
-        → (R : AnyRule) (T : List Declared) (H : List AnyEvent) → HasRoom R T H machine.now
-        → WhatIsIllegal R T H (Installed (message_ticket message.now) verdict.now) }
+        → IsForbidden (Installed (message_ticket message.now) verdict.now) machine.now }
 {
     if !brings(message, verdict) {
         return Err(StepError::NotAllowed);
     }
-    match machine.may_install(message, false) {
+    match machine.may_deliver(message) {
         Ok(()) => Ok(()),
         Err(error) => Err(deliver_refused(error)),
     }
 }
 
-/// The message is installed, where it brings this verdict.
-fn install_message(
+/// The message is delivered, if it brings this verdict.
+fn deliver_message(
     machine: &mut Machine,
     message: Evaluated,
     verdict: &SharedVerdict,
 ) -> Result<(), StepError>
-    requires room { (R : AnyRule) × (T : List Declared) × (H : List AnyEvent)
-        × HasRoom R T H machine.old }
-    requires present { (R : AnyRule) (T : List Declared) (H : List AnyEvent)
-        → HasRoom R T H machine.old → IsPresent (state_by R T H) (message_ticket message) message }
-    ensures done { OnOk result ((R : AnyRule) (T : List Declared) (H : List AnyEvent)
-        → HasRoom R T H machine.old
-        → MovesToBy R T H (Installed (message_ticket message) verdict.now) machine.new) }
+    requires at { (s : Slow) × IsAt machine.old s }
+    requires present { (s : Slow) → IsAt machine.old s
+        → IsPresent s (message_ticket message) message }
+    ensures done { OnOk result (MovesBy (Installed (message_ticket message) verdict.now)
+        machine.old machine.new) }
     ensures not_allowed { IsErrOf result StepError.NotAllowed
-        → (R : AnyRule) (T : List Declared) (H : List AnyEvent) → HasRoom R T H machine.old
-        → WhatIsIllegal R T H (Installed (message_ticket message) verdict.now) }
+        → IsForbidden (Installed (message_ticket message) verdict.now) machine.old }
 {
     match may_bring(machine, &message, verdict) {
-        Ok(()) => match machine.install(message) {
+        Ok(()) => match machine.deliver(message) {
             Ok(_) => Ok(()),
             Err(_) => Err(StepError::NoMemory),
         },
@@ -267,25 +248,22 @@ fn installed(
     ticket: u32,
     verdict: &SharedVerdict,
 ) -> Result<(), StepError>
-    requires room { (R : AnyRule) × (T : List Declared) × (H : List AnyEvent)
-        × HasRoom R T H machine.old }
+    requires at { (s : Slow) × IsAt machine.old s }
     requires copied { copy.now ≡ plains machine.old.store }
-    ensures done { OnOk result ((R : AnyRule) (T : List Declared) (H : List AnyEvent)
-        → HasRoom R T H machine.old → MovesToBy R T H (Installed ticket verdict.now) machine.new) }
+    ensures done { OnOk result (MovesBy (Installed ticket verdict.now) machine.old machine.new) }
     ensures not_allowed { IsErrOf result StepError.NotAllowed
-        → (R : AnyRule) (T : List Declared) (H : List AnyEvent) → HasRoom R T H machine.old
-        → WhatIsIllegal R T H (Installed ticket verdict.now) }
+        → IsForbidden (Installed ticket verdict.now) machine.old }
 {
     if machine.block(ticket).is_none() {
         return Err(StepError::NotAllowed);
     }
     match machine.evaluated(copy, ticket) {
-        Ok(message) => install_message(machine, message, verdict),
+        Ok(message) => deliver_message(machine, message, verdict),
         Err(_) => Err(StepError::NoMemory),
     }
 }
 
-/// Sees to a copy of the present store.
+/// Makes sure that `copy` is a copy of the present store.
 fn keep_copy(machine: &Machine, copy: &mut Option<Frozen>) -> Result<(), NoMemory>
     requires { IfSome copy.old (λ cells. cells ≡ plains machine.now.store) }
     ensures { OnOk result (copy.new ≡ Some (plains machine.now.store)) }
@@ -314,18 +292,14 @@ fn keep_event(kept: &mut Option<Vec<Event>>, event: &Event) -> Result<(), NoMemo
 impl Replayer {
     /// A verdict is installed.
     fn install(&mut self, ticket: u32, verdict: &SharedVerdict) -> Result<(), StepError>
-        requires room { (R : AnyRule) × (T : List Declared) × (H : List AnyEvent)
-            × HasRoom R T H self.old.machine }
+        requires at { (s : Slow) × IsAt self.old.machine s }
         requires copied { IfSome self.old.copy (λ cells. cells ≡ plains self.old.machine.store) }
-        ensures done { OnOk result ((R : AnyRule) (T : List Declared) (H : List AnyEvent)
-            → HasRoom R T H self.old.machine
-            → MovesToBy R T H (Installed ticket verdict.now) self.new.machine) }
+        ensures done { OnOk result
+            (MovesBy (Installed ticket verdict.now) self.old.machine self.new.machine) }
         ensures not_allowed { IsErrOf result StepError.NotAllowed
-            → (R : AnyRule) (T : List Declared) (H : List AnyEvent) → HasRoom R T H self.old.machine
-            → WhatIsIllegal R T H (Installed ticket verdict.now) }
+            → IsForbidden (Installed ticket verdict.now) self.old.machine }
         ensures copied { OnOk result (self.new.copy ≡ Some (plains self.old.machine.store)) }
         ensures events { self.new.events ≡ self.old.events }
-        ensures rule { self.new.rule ≡ self.old.rule }
         ensures kept { self.new.kept ≡ self.old.kept }
     {
         keep_copy(&self.machine, &mut self.copy)?;
@@ -337,19 +311,14 @@ impl Replayer {
 
     /// What happens next. A finish lets go of the copy first, so that the store changes in place.
     fn act(&mut self, what: &What) -> Result<(), StepError>
-        requires room { (T : List Declared) × (H : List AnyEvent)
-            × HasRoom self.old.rule T H self.old.machine }
+        requires at { (s : Slow) × IsAt self.old.machine s × HasTicketLeft s }
         requires copied { IfSome self.old.copy (λ cells. cells ≡ plains self.old.machine.store) }
-        ensures done { OnOk result ((T : List Declared) (H : List AnyEvent)
-            → HasRoom self.old.rule T H self.old.machine
-            → MovesToBy self.old.rule T H what.now self.new.machine) }
+        ensures done { OnOk result (MovesBy what.now self.old.machine self.new.machine) }
         ensures not_allowed { IsErrOf result StepError.NotAllowed
-            → (T : List Declared) (H : List AnyEvent) → HasRoom self.old.rule T H self.old.machine
-            → WhatIsIllegal self.old.rule T H what.now }
+            → IsForbidden what.now self.old.machine }
         ensures copied { OnOk result
             (IfSome self.new.copy (λ cells. cells ≡ plains self.new.machine.store)) }
         ensures events { self.new.events ≡ self.old.events }
-        ensures rule { self.new.rule ≡ self.old.rule }
         ensures kept { self.new.kept ≡ self.old.kept }
     {
         match what {
@@ -364,7 +333,6 @@ impl Replayer {
                 self.copy = None;
                 finished(
                     &mut self.machine,
-                    self.rule,
                     *ticket,
                     verdict,
                     *first_new,
@@ -377,13 +345,13 @@ impl Replayer {
 
     /// One event more, exactly where it may follow. After an error nothing is promised.
     pub(crate) fn step(&mut self, event: &Event) -> Result<(), StepError>
-        requires { (T : List Declared) × (H : List AnyEvent) × Follows T H self.old }
-        ensures done { OnOk result ((T : List Declared) (H : List AnyEvent) → Follows T H self.old
-            → Follows T (H ++ event.now ∷ []) self.new) }
+        requires { (R : StalenessRule) × (T : List Declared) × (H : List AnyEvent)
+            × Follows R T H self.old }
+        ensures done { OnOk result ((R : StalenessRule) (T : List Declared) (H : List AnyEvent)
+            → Follows R T H self.old → Follows R T (H ++ event.now ∷ []) self.new) }
         ensures not_allowed { IsErrOf result StepError.NotAllowed
-            → (T : List Declared) (H : List AnyEvent) → Follows T H self.old
-            → IsIllegalBy self.old.rule T H event.now }
-        ensures rule { OnOk result (self.new.rule ≡ self.old.rule) }
+            → (R : StalenessRule) (T : List Declared) (H : List AnyEvent) → Follows R T H self.old
+            → IsIllegalBy R T H event.now }
         ensures keeps { OnOk result (is_some self.new.kept ≡ is_some self.old.kept) }
     {
         if event.client >= Event::MAX_CLIENTS || self.events >= MAX_EVENTS {

@@ -1,11 +1,11 @@
-//! Bytes that are no legal history: the first fault, and what is told of its line.
+//! Bytes that are no legal history: the first fault, and what is reported of its line.
 
 ghost use Rattle.std.specs.Prelude.{◌≡◌, ◌≢◌, ◌++◌, [], ℕ, List, IfOk, IfErr, OnOk};
 ghost use Rattle.stm_history.specs.Checking.{CheckerState, NoFeed, StopsAt};
-ghost use Rattle.stm_history.specs.Explanation.{IsAfterLine, TellsWhy, line_after};
-ghost use Rattle.stm_history.specs.Judgement.{IsHistory, TellsFault};
+ghost use Rattle.stm_history.specs.Explanation.{IsAfterLine, ReportsWhy, line_after};
+ghost use Rattle.stm_history.specs.Judgement.{IsHistory, ReportsFault};
 ghost use Rattle.stm_history.specs.Stages.{IsStage, CountsWithinLimits, Reached};
-ghost use Rattle.stm_history.specs.Stopping.{IsAfter, IsToldAfter};
+ghost use Rattle.stm_history.specs.Stopping.{IsAfter, IsReportedAfter};
 
 use crate::files::check::{Checker, Stage, line_number, read_all};
 use crate::files::explaining::explain;
@@ -21,7 +21,7 @@ fn take_all(checker: &mut Checker, bytes: &[u8]) -> Result<(), HistoryFault>
     requires { Reached checker.old.stage checker.old.whole checker.old.line.items [] }
     ensures done { OnOk result
         (Reached checker.new.stage checker.new.whole checker.new.line.items bytes.now) }
-    ensures fault { IfErr result (λ e. TellsFault e bytes.now) }
+    ensures fault { IfErr result (λ e. ReportsFault e bytes.now) }
     ensures stops { IfErr result (λ e. (e ≢ HistoryFault.NoMemory) → StopsAt e checker.new.whole bytes.now) }
 {
     let mut reader = bytes;
@@ -32,7 +32,7 @@ fn take_all(checker: &mut Checker, bytes: &[u8]) -> Result<(), HistoryFault>
 fn judge(checker: &mut Checker, bytes: &[u8]) -> Result<Legal, HistoryFault>
     requires { Reached checker.old.stage checker.old.whole checker.old.line.items [] }
     ensures ok { IfOk result (λ n. IsHistory bytes.now n) }
-    ensures fault { IfErr result (λ e. TellsFault e bytes.now) }
+    ensures fault { IfErr result (λ e. ReportsFault e bytes.now) }
     ensures stops { IfErr result (λ e. (e ≢ HistoryFault.NoMemory) → StopsAt e checker.new.whole bytes.now) }
 {
     match take_all(checker, bytes) {
@@ -84,14 +84,14 @@ fn take_front(checker: &mut Checker, front: &[u8]) -> Result<(), NoMemory>
     }
 }
 
-/// The number of the line after the front, and what is told of it.
+/// The number of the line after the front, and what is reported of it.
 fn explain_after(
     alloc: Global,
     seed: Seed,
     front: &[u8],
     line: &[u8],
 ) -> Result<(u32, Explanation), NoMemory>
-    ensures { IfOk result (λ told. IsToldAfter front.now line.now told.0 told.1) }
+    ensures { IfOk result (λ r. IsReportedAfter front.now line.now r.0 r.1) }
 {
     let mut checker = Checker::new(alloc, seed, false);
     take_front(&mut checker, front)?;
@@ -100,7 +100,7 @@ fn explain_after(
     Ok((number, explanation))
 }
 
-/// The reason of a fault after so many bytes of whole lines.
+/// The reason of a fault after this many bytes of whole lines.
 fn reason_of(
     alloc: Global,
     seed: Seed,
@@ -112,7 +112,7 @@ fn reason_of(
     requires read { fault ≢ HistoryFault.ReadFault }
     requires memory { fault ≢ HistoryFault.NoMemory }
     ensures fault { IfOk result (λ r. r.fault ≡ fault) }
-    ensures why { IfOk result (λ r. TellsWhy bytes.now r.fault r.line r.explanation) }
+    ensures why { IfOk result (λ r. ReportsWhy bytes.now r.fault r.line r.explanation) }
 {
     let line = first_line(&bytes[whole..]);
     let (number, explanation) = explain_after(alloc, seed, &bytes[..whole], line)?;
@@ -124,17 +124,17 @@ fn reason_of(
 }
 
 /// The reason of a fault of the bytes. The reader of bytes in memory has none.
-fn told(
+fn reason_for(
     alloc: Global,
     seed: Seed,
     bytes: &[u8],
     fault: HistoryFault,
     whole: usize,
 ) -> Result<Reason, NoMemory>
-    requires fault { TellsFault fault bytes.now }
+    requires fault { ReportsFault fault bytes.now }
     requires stops { (fault ≢ HistoryFault.NoMemory) → StopsAt fault whole bytes.now }
-    ensures fault { IfOk result (λ r. TellsFault r.fault bytes.now) }
-    ensures why { IfOk result (λ r. TellsWhy bytes.now r.fault r.line r.explanation) }
+    ensures fault { IfOk result (λ r. ReportsFault r.fault bytes.now) }
+    ensures why { IfOk result (λ r. ReportsWhy bytes.now r.fault r.line r.explanation) }
 {
     match fault {
         HistoryFault::NoMemory => Err(NoMemory),
@@ -145,7 +145,7 @@ fn told(
     }
 }
 
-/// Judges bytes as a history, as `check_history` does, and tells why they are none. If they have a fault the lines before it
+/// Judges bytes as a history, as `check_history` does, and reports why they are none. If they have a fault, the lines before it
 /// are judged twice. The fault of a reason is never `ReadFault` or `NoMemory`.
 pub fn why_history(
     alloc: Global,
@@ -155,16 +155,16 @@ pub fn why_history(
     // The bytes are the text of a legal history, and the numbers are its own.
     ensures legal { IfOk result (λ r. IfOk r (λ n. IsHistory bytes.now n)) }
     // Otherwise the first fault is reported.
-    ensures fault { IfOk result (λ r. IfErr r (λ e. TellsFault e.fault bytes.now)) }
-    // And what is told of its line is right.
+    ensures fault { IfOk result (λ r. IfErr r (λ e. ReportsFault e.fault bytes.now)) }
+    // And what is reported of its line is right.
     ensures why { IfOk result (λ r. IfErr r (λ e.
-        TellsWhy bytes.now e.fault e.line e.explanation)) }
+        ReportsWhy bytes.now e.fault e.line e.explanation)) }
 {
     let mut checker = Checker::new(alloc, seed, false);
     match judge(&mut checker, bytes) {
         Ok(legal) => Ok(Ok(legal)),
         Err(fault) => {
-            let reason = told(alloc, seed, bytes, fault, checker.whole)?;
+            let reason = reason_for(alloc, seed, bytes, fault, checker.whole)?;
             Ok(Err(reason))
         }
     }

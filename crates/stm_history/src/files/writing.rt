@@ -17,7 +17,7 @@ use stm_store::Table;
 pub enum WriteFault {
     /// The writer failed, or took nothing.
     Write,
-    /// Memory was refused.
+    /// Memory ran out.
     NoMemory,
 }
 

@@ -1,4 +1,4 @@
-use Rattle.stm_console.proofs.StatusProofs.{done_run, done_storm, done_exploration, done_version, other_run, other_check, other_version}
+use Rattle.stm_console.proofs.StatusProofs.{done_run, done_file, done_storm, done_exploration, done_version, other_run, other_file, other_check, other_version}
 use Rattle.stm_console.proofs.laws.output_by_status.Goals as goal
 
 pub returns-clause-run : goal.returns-clause-run
@@ -21,3 +21,9 @@ returns-clause-check_part c = other_check
 
 pub returns-clause-version_part : goal.returns-clause-version_part
 returns-clause-version_part c = other_version
+
+pub returns-clause-run_on : goal.returns-clause-run_on
+returns-clause-run_on c = done_file
+
+pub returns-clause-run_on_part : goal.returns-clause-run_on_part
+returns-clause-run_on_part c = other_file

@@ -1,4 +1,4 @@
-use Rattle.stm_durable.proofs.Resumed.{all_or_none_is_resumed, first_are_resumed}
+use Rattle.stm_durable.proofs.LeftIsLoaded.{all_or_none_is_resumed, first_are_resumed}
 use Rattle.stm_durable.proofs.laws.crashes_are_resumed.Goals as goal
 
 pub returns : goal.returns

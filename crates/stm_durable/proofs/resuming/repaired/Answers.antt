@@ -1,5 +1,5 @@
 use Rattle.stm_journal.specs.Text.{recovered}
-use Rattle.stm_durable.proofs.Loaded.{has_loaded}
+use Rattle.stm_durable.proofs.RepairedFiles.{has_loaded}
 use Rattle.stm_durable.proofs.resuming.repaired.Goals as goal
 
 pub returns-in-Ok-clause-kept : goal.returns-in-Ok-clause-kept

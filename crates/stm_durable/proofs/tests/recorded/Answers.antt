@@ -1,7 +1,7 @@
 use Rattle.std.proofs.Common.{[], List, sym, subst}
 use Rattle.stm_events.specs.declared.event.Event.{Event}
 use Rattle.stm_durable.specs.Durable.{FitLines}
-use Rattle.stm_durable.proofs.Loaded.{none_yet, text_of}
+use Rattle.stm_durable.proofs.RepairedFiles.{none_yet, text_of}
 use Rattle.stm_durable.proofs.Texts.{fits_again}
 use Rattle.stm_durable.proofs.tests.recorded.Goals as goal
 

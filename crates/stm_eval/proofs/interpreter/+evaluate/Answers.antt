@@ -31,7 +31,7 @@ run_first-returns-in-Returned-clause-steps t c = record {
   below = search rules;
 }
 
--- the part runs in a frame of its own, and what is left is told by how it ended
+-- the part runs in a frame of its own, and how it ended decides what is left
 pub run_left-returns-clause-steps : goal.run_left-returns-clause-steps
 run_left-returns-clause-steps t c =
     let S = cell_value c.args.frozen.now in

@@ -2,12 +2,12 @@ use Rattle.std.proofs.Common.{arith, inl, inr}
 use Rattle.stm_parse.specs.ParseResult.{most_bytes, most_tokens}
 use Rattle.stm_parse.specs.declared.fault.ParseFault.TheVariants as fault
 use Rattle.stm_parse.proofs.CallsExact.{early_block, early_declaration}
-use Rattle.stm_parse.proofs.FaultReported.{tells_early}
+use Rattle.stm_parse.proofs.FaultReported.{tokens_early}
 use Rattle.stm_parse.proofs.block.lexed.Goals as goal
 
 pub returns-in-Err-clause-right : goal.returns-in-Err-clause-right
 unfolding most_bytes
-returns-in-Err-clause-right c = tells_early c.args.text.now c.in-Err.fault (omega arith) c.in-Err.ensures.cuts c.in-Err.ensures.faults
+returns-in-Err-clause-right c = tokens_early c.args.text.now c.in-Err.fault (omega arith) c.in-Err.ensures.cuts c.in-Err.ensures.faults
 
 pub returns-then-text-gt-MOST_BYTES-clause-block : goal.returns-then-text-gt-MOST_BYTES-clause-block
 unfolding most_bytes
@@ -15,7 +15,7 @@ returns-then-text-gt-MOST_BYTES-clause-block c = early_block c.args.text.now fau
 
 pub returns-in-Err-clause-block : goal.returns-in-Err-clause-block
 unfolding most_bytes
-returns-in-Err-clause-block c = early_block c.args.text.now c.in-Err.fault (tells_early c.args.text.now c.in-Err.fault (omega arith) c.in-Err.ensures.cuts c.in-Err.ensures.faults)
+returns-in-Err-clause-block c = early_block c.args.text.now c.in-Err.fault (tokens_early c.args.text.now c.in-Err.fault (omega arith) c.in-Err.ensures.cuts c.in-Err.ensures.faults)
 
 pub returns-then-len-gt-MOST_TOKENS-clause-block : goal.returns-then-len-gt-MOST_TOKENS-clause-block
 unfolding most_bytes most_tokens
@@ -27,7 +27,7 @@ returns-then-text-gt-MOST_BYTES-clause-declaration c = early_declaration c.args.
 
 pub returns-in-Err-clause-declaration : goal.returns-in-Err-clause-declaration
 unfolding most_bytes
-returns-in-Err-clause-declaration c = early_declaration c.args.text.now c.in-Err.fault (tells_early c.args.text.now c.in-Err.fault (omega arith) c.in-Err.ensures.cuts c.in-Err.ensures.faults)
+returns-in-Err-clause-declaration c = early_declaration c.args.text.now c.in-Err.fault (tokens_early c.args.text.now c.in-Err.fault (omega arith) c.in-Err.ensures.cuts c.in-Err.ensures.faults)
 
 pub returns-then-len-gt-MOST_TOKENS-clause-declaration : goal.returns-then-len-gt-MOST_TOKENS-clause-declaration
 unfolding most_bytes most_tokens

@@ -1,13 +1,14 @@
-use Rattle.std.proofs.Common.{◌≡◌, length, sym, ap, ◌∙◌, subst, Ok, rules, Err, IfSome}
+use Rattle.std.proofs.Common.{◌≡◌, length, sym, ap, ◌∙◌, subst, Ok, rules, Err, ◌≢◌}
 use Rattle.stm_terms.specs.ParsedAst.{raw_act_of, SpansWithin}
-use Rattle.stm_terms.specs.ParsedBlock.{RawBlock, NamesAre}
+use Rattle.stm_terms.specs.ParsedBlock.{NamesAre}
 use Rattle.stm_parse.specs.Grammar.{IsBlock}
-use Rattle.stm_parse.specs.ParseResult.{IsTextOf, IsReported, told_parse_fault}
+use Rattle.stm_parse.specs.declared.fault.ParseFault.TheVariants as fault
+use Rattle.stm_parse.specs.ParseResult.{IsTextOf, IsReported}
 use Rattle.stm_parse.specs.Descent.{block_reader}
 use Rattle.stm_parse.specs.ParseFunction.{parsed_block}
 use Rattle.stm_parse.proofs.CallsExact.{ok_block, stop_block}
 use Rattle.stm_parse.proofs.TreeNamesAndSize.{kept_block}
-use Rattle.stm_parse.proofs.FaultReported.{early_none, text_of, ok_text, only_this, stop_told, stop_none}
+use Rattle.stm_parse.proofs.FaultReported.{early_is_memory, text_of, ok_text, only_this, stop_reported, stop_is_memory}
 use Rattle.stm_parse.proofs.WholeTextRead.{good_block}
 use Rattle.stm_parse.proofs.block.parse_block.Goals as goal
 
@@ -45,12 +46,12 @@ returns-in-Ok-clause-only c =
 pub returns-clause-right : goal.returns-clause-right
 returns-clause-right c =
     let e = rw c.deref.ensures.value at c.in-Err.ensures in
-    subst (IsReported IsBlock c.args.text.now) (sym (rw c.deref-in-Err.ensures.value at c.fault_of_failure.ensures)) (stop_told block_reader IsBlock good_block c.args.text.now c.in_ok-toks.toks.items c.in_ok-toks.ensures.right c.in-Err.stop e)
+    subst (IsReported IsBlock c.args.text.now) (sym (rw c.deref-in-Err.ensures.value at c.fault_of_failure.ensures)) (stop_reported block_reader IsBlock good_block c.args.text.now c.in_ok-toks.toks.items c.in_ok-toks.ensures.right c.in-Err.stop e)
 
 pub returns-clause-only : goal.returns-clause-only
 returns-clause-only c =
     let e = rw c.deref.ensures.value at c.in-Err.ensures in
-    λ t h. rw (rw c.deref-in-Err.ensures.value at c.fault_of_failure.ensures) (stop_none block_reader IsBlock good_block c.args.text.now c.in_ok-toks.toks.items c.in_ok-toks.ensures.right (λ r. r.tree ≡ t) t h c.in-Err.stop e)
+    λ t h. rw (rw c.deref-in-Err.ensures.value at c.fault_of_failure.ensures) (stop_is_memory block_reader IsBlock good_block c.args.text.now c.in_ok-toks.toks.items c.in_ok-toks.ensures.right t h c.in-Err.stop e)
 
 pub returns-in-Ok-clause-answer : goal.returns-in-Ok-clause-answer
 returns-in-Ok-clause-answer c =
@@ -60,7 +61,7 @@ returns-in-Ok-clause-answer c =
 pub returns-clause-answer : goal.returns-clause-answer
 returns-clause-answer c =
     let e = rw c.deref.ensures.value at c.in-Err.ensures in
-    subst (λ x. IfSome (told_parse_fault x) (λ f. parsed_block c.args.text.now ≡ Err f)) (sym (rw c.deref-in-Err.ensures.value at c.fault_of_failure.ensures)) (stop_block c.args.text.now c.in_ok-toks.toks.items c.in_ok-toks.ensures.right c.in-Err.stop e)
+    subst (λ x. x ≢ fault.NoMemory → parsed_block c.args.text.now ≡ Err x) (sym (rw c.deref-in-Err.ensures.value at c.fault_of_failure.ensures)) (stop_block c.args.text.now c.in_ok-toks.toks.items c.in_ok-toks.ensures.right c.in-Err.stop e)
 
 pub returns-in_err-toks-clause-only : goal.returns-in_err-toks-clause-only
-returns-in_err-toks-clause-only c = λ t h. search (early_none (λ (r : RawBlock). r.tree ≡ t) c.args.text.now h.0 h.1 _ c.in_err-toks.ensures.right, rules)
+returns-in_err-toks-clause-only c = λ t h. search (early_is_memory c.args.text.now h.0 h.1 _ c.in_err-toks.ensures.right, rules)

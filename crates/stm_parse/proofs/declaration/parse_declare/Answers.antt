@@ -1,13 +1,14 @@
-use Rattle.std.proofs.Common.{◌≡◌, sym, ap, ◌∙◌, subst, Ok, rules, Err, IfSome}
+use Rattle.std.proofs.Common.{◌≡◌, sym, ap, ◌∙◌, subst, Ok, rules, Err, ◌≢◌}
 use Rattle.stm_terms.specs.Names.{is_name_text}
-use Rattle.stm_parse.specs.Declarations.{declaration_tree_of, declaration_in, declaration_of}
+use Rattle.stm_parse.specs.Declarations.{declaration_tree_of, declaration_in}
 use Rattle.stm_parse.specs.Grammar.{IsDeclaration}
-use Rattle.stm_parse.specs.ParseResult.{IsReported, told_parse_fault}
+use Rattle.stm_parse.specs.declared.fault.ParseFault.TheVariants as fault
+use Rattle.stm_parse.specs.ParseResult.{IsReported}
 use Rattle.stm_parse.specs.Descent.{declaration_reader}
 use Rattle.stm_parse.specs.ParseFunction.{parsed_declaration}
 use Rattle.stm_parse.proofs.CallsExact.{ok_declaration, stop_declaration}
 use Rattle.stm_parse.proofs.TreeNamesAndSize.{kept_declaration}
-use Rattle.stm_parse.proofs.FaultReported.{early_none, text_of, ok_text, only_this, stop_told, stop_none}
+use Rattle.stm_parse.proofs.FaultReported.{early_is_memory, text_of, ok_text, only_this, stop_reported, stop_is_memory}
 use Rattle.stm_parse.proofs.TypeReaders.{good_declaration}
 use Rattle.stm_parse.proofs.declaration.parse_declare.Goals as goal
 
@@ -40,12 +41,12 @@ returns-in-Ok-clause-name c =
 pub returns-clause-right : goal.returns-clause-right
 returns-clause-right c =
     let e = rw c.deref.ensures.value at c.in-Err.ensures.gives in
-    subst (IsReported IsDeclaration c.args.text.now) (sym (rw c.deref-in-Err.ensures.value at c.fault_of_failure.ensures)) (stop_told declaration_reader IsDeclaration good_declaration c.args.text.now c.in_ok-toks.toks.items c.in_ok-toks.ensures.right c.in-Err.stop e)
+    subst (IsReported IsDeclaration c.args.text.now) (sym (rw c.deref-in-Err.ensures.value at c.fault_of_failure.ensures)) (stop_reported declaration_reader IsDeclaration good_declaration c.args.text.now c.in_ok-toks.toks.items c.in_ok-toks.ensures.right c.in-Err.stop e)
 
 pub returns-clause-only : goal.returns-clause-only
 returns-clause-only c =
     let e = rw c.deref.ensures.value at c.in-Err.ensures.gives in
-    λ t h. rw (rw c.deref-in-Err.ensures.value at c.fault_of_failure.ensures) (stop_none declaration_reader IsDeclaration good_declaration c.args.text.now c.in_ok-toks.toks.items c.in_ok-toks.ensures.right (λ d. declaration_of d ≡ declaration_in c.args.text.now t) t h c.in-Err.stop e)
+    λ t h. rw (rw c.deref-in-Err.ensures.value at c.fault_of_failure.ensures) (stop_is_memory declaration_reader IsDeclaration good_declaration c.args.text.now c.in_ok-toks.toks.items c.in_ok-toks.ensures.right t h c.in-Err.stop e)
 
 pub returns-in-Ok-clause-answer : goal.returns-in-Ok-clause-answer
 returns-in-Ok-clause-answer c =
@@ -55,7 +56,7 @@ returns-in-Ok-clause-answer c =
 pub returns-clause-answer : goal.returns-clause-answer
 returns-clause-answer c =
     let e = rw c.deref.ensures.value at c.in-Err.ensures.gives in
-    subst (λ x. IfSome (told_parse_fault x) (λ f. parsed_declaration c.args.text.now ≡ Err f)) (sym (rw c.deref-in-Err.ensures.value at c.fault_of_failure.ensures)) (stop_declaration c.args.text.now c.in_ok-toks.toks.items c.in_ok-toks.ensures.right c.in-Err.stop e)
+    subst (λ x. x ≢ fault.NoMemory → parsed_declaration c.args.text.now ≡ Err x) (sym (rw c.deref-in-Err.ensures.value at c.fault_of_failure.ensures)) (stop_declaration c.args.text.now c.in_ok-toks.toks.items c.in_ok-toks.ensures.right c.in-Err.stop e)
 
 pub returns-in_err-toks-clause-only : goal.returns-in_err-toks-clause-only
-returns-in_err-toks-clause-only c = λ t h. search (early_none (λ d. declaration_of d ≡ declaration_in c.args.text.now t) c.args.text.now h.0 h.1 _ c.in_err-toks.ensures.right, rules)
+returns-in_err-toks-clause-only c = λ t h. search (early_is_memory c.args.text.now h.0 h.1 _ c.in_err-toks.ensures.right, rules)

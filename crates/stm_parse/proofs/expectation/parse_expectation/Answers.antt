@@ -1,10 +1,11 @@
-use Rattle.std.proofs.Common.{◌≡◌, sym, ap, ◌∙◌, subst, rules, Ok, Err, IfSome}
+use Rattle.std.proofs.Common.{◌≡◌, sym, ap, ◌∙◌, subst, rules, Ok, Err, ◌≢◌}
 use Rattle.stm_terms.specs.Names.{is_name_text}
-use Rattle.stm_parse.specs.Expectations.{IsExpectation, expectation_tree_of, expectation_in, expectation_of}
-use Rattle.stm_parse.specs.ParseResult.{IsReported, told_parse_fault}
+use Rattle.stm_parse.specs.Expectations.{IsExpectation, expectation_tree_of, expectation_in}
+use Rattle.stm_parse.specs.declared.fault.ParseFault.TheVariants as fault
+use Rattle.stm_parse.specs.ParseResult.{IsReported}
 use Rattle.stm_parse.specs.ExpectationFunction.{expectation_reader, parsed_expectation}
 use Rattle.stm_parse.proofs.Expectations.{good_expectation, kept_expectation, early_expectation, ok_expectation, stop_expectation}
-use Rattle.stm_parse.proofs.FaultReported.{early_none, text_of, ok_text, only_this, stop_told, stop_none}
+use Rattle.stm_parse.proofs.FaultReported.{early_is_memory, text_of, ok_text, only_this, stop_reported, stop_is_memory}
 use Rattle.stm_parse.proofs.expectation.parse_expectation.Goals as goal
 
 pub owned-requires-clause-name : goal.owned-requires-clause-name
@@ -36,12 +37,12 @@ returns-in-Ok-clause-name c =
 pub returns-clause-right : goal.returns-clause-right
 returns-clause-right c =
     let e = rw c.deref.ensures.value at c.in-Err.ensures in
-    subst (IsReported IsExpectation c.args.text.now) (sym (rw c.deref-in-Err.ensures.value at c.fault_of_failure.ensures)) (stop_told expectation_reader IsExpectation good_expectation c.args.text.now c.in_ok-toks.toks.items c.in_ok-toks.ensures.right c.in-Err.stop e)
+    subst (IsReported IsExpectation c.args.text.now) (sym (rw c.deref-in-Err.ensures.value at c.fault_of_failure.ensures)) (stop_reported expectation_reader IsExpectation good_expectation c.args.text.now c.in_ok-toks.toks.items c.in_ok-toks.ensures.right c.in-Err.stop e)
 
 pub returns-clause-only : goal.returns-clause-only
 returns-clause-only c =
     let e = rw c.deref.ensures.value at c.in-Err.ensures in
-    λ t h. rw (rw c.deref-in-Err.ensures.value at c.fault_of_failure.ensures) (stop_none expectation_reader IsExpectation good_expectation c.args.text.now c.in_ok-toks.toks.items c.in_ok-toks.ensures.right (λ d. expectation_of d ≡ expectation_in c.args.text.now t) t h c.in-Err.stop e)
+    λ t h. rw (rw c.deref-in-Err.ensures.value at c.fault_of_failure.ensures) (stop_is_memory expectation_reader IsExpectation good_expectation c.args.text.now c.in_ok-toks.toks.items c.in_ok-toks.ensures.right t h c.in-Err.stop e)
 
 pub returns-in-Ok-clause-answer : goal.returns-in-Ok-clause-answer
 returns-in-Ok-clause-answer c =
@@ -51,10 +52,10 @@ returns-in-Ok-clause-answer c =
 pub returns-clause-answer : goal.returns-clause-answer
 returns-clause-answer c =
     let e = rw c.deref.ensures.value at c.in-Err.ensures in
-    subst (λ x. IfSome (told_parse_fault x) (λ f. parsed_expectation c.args.text.now ≡ Err f)) (sym (rw c.deref-in-Err.ensures.value at c.fault_of_failure.ensures)) (stop_expectation c.args.text.now c.in_ok-toks.toks.items c.in_ok-toks.ensures.right c.in-Err.stop e)
+    subst (λ x. x ≢ fault.NoMemory → parsed_expectation c.args.text.now ≡ Err x) (sym (rw c.deref-in-Err.ensures.value at c.fault_of_failure.ensures)) (stop_expectation c.args.text.now c.in_ok-toks.toks.items c.in_ok-toks.ensures.right c.in-Err.stop e)
 
 pub returns-in_err-toks-clause-answer : goal.returns-in_err-toks-clause-answer
 returns-in_err-toks-clause-answer c = search (early_expectation c.args.text.now _ c.in_err-toks.ensures.right, rules)
 
 pub returns-in_err-toks-clause-only : goal.returns-in_err-toks-clause-only
-returns-in_err-toks-clause-only c = λ t h. search (early_none (λ d. expectation_of d ≡ expectation_in c.args.text.now t) c.args.text.now h.0 h.1 _ c.in_err-toks.ensures.right, rules)
+returns-in_err-toks-clause-only c = λ t h. search (early_is_memory c.args.text.now h.0 h.1 _ c.in_err-toks.ensures.right, rules)

@@ -14,13 +14,13 @@ loop-place-preserved c =
     (omega arith, subst (AreSeen c.args.bytes.now (c.loop-place.place + c.in-Found.n)) (sym c.in_ok-push-in-Found.ensures.items) (seen_found c.args.bytes.now c.loop-place.place c.loop-place.out.items c.loop-place.invariant.1 c.loop-place-test.true c.in-Found.sym c.in-Found.n c.in-Found.ensures.front c.in-Found.ensures.sym w.0 w.1))
 
 pub returns-in-BadByte-clause-cuts : goal.returns-in-BadByte-clause-cuts
-returns-in-BadByte-clause-cuts c = seen_bad c.args.bytes.now c.loop-place.place c.loop-place.out.items c.loop-place.invariant.1 c.loop-place-test.true front.BadByte (fault.BadByte c.loop-place.place) c.in-BadByte.ensures.front (λ go. refl)
+returns-in-BadByte-clause-cuts c = λ n. seen_bad c.args.bytes.now c.loop-place.place c.loop-place.out.items c.loop-place.invariant.1 c.loop-place-test.true front.BadByte (fault.BadByte c.loop-place.place) c.in-BadByte.ensures.front (λ go. refl)
 
 pub returns-in-LongName-clause-cuts : goal.returns-in-LongName-clause-cuts
-returns-in-LongName-clause-cuts c = seen_bad c.args.bytes.now c.loop-place.place c.loop-place.out.items c.loop-place.invariant.1 c.loop-place-test.true front.LongName (fault.NameTooLong c.loop-place.place) c.in-LongName.ensures.front (λ go. refl)
+returns-in-LongName-clause-cuts c = λ n. seen_bad c.args.bytes.now c.loop-place.place c.loop-place.out.items c.loop-place.invariant.1 c.loop-place-test.true front.LongName (fault.NameTooLong c.loop-place.place) c.in-LongName.ensures.front (λ go. refl)
 
 pub returns-in-BadNumber-clause-cuts : goal.returns-in-BadNumber-clause-cuts
-returns-in-BadNumber-clause-cuts c = seen_bad c.args.bytes.now c.loop-place.place c.loop-place.out.items c.loop-place.invariant.1 c.loop-place-test.true front.BadNumber (fault.BadNumber c.loop-place.place) c.in-BadNumber.ensures.front (λ go. refl)
+returns-in-BadNumber-clause-cuts c = λ n. seen_bad c.args.bytes.now c.loop-place.place c.loop-place.out.items c.loop-place.invariant.1 c.loop-place-test.true front.BadNumber (fault.BadNumber c.loop-place.place) c.in-BadNumber.ensures.front (λ go. refl)
 
 pub returns-clause-cuts : goal.returns-clause-cuts
 returns-clause-cuts c = seen_all c.args.bytes.now c.loop-place.place c.loop-place.out.items c.loop-place.invariant.1 c.loop-place-test.false

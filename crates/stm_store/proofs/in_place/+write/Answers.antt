@@ -67,7 +67,7 @@ write_page-returns-clause-size t c =
     ap length (c.make_mut.follows.holds c.write.new.self (ap is_ok c.in_ok-page.was) ∙ c.write.ensures ∙ ap (with_writes_from c.args.len c.args.first c.split_at.result.0.now) page)
     ∙ length-writes_from c.args.len c.args.first c.split_at.result.0.now (arc_value c.args.page.now)
 
--- ---- pages, and the parts behind them
+-- ---- pages, and the parts after them
 pub write_pages-split_at_mut-others-requires : goal.write_pages-split_at_mut-others-requires
 write_pages-split_at_mut-others-requires t c =
     let ws = c.args.writes.now in

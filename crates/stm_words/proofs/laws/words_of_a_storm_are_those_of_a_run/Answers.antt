@@ -1,4 +1,4 @@
-use Rattle.stm_words.proofs.StormWords.{storms_are_accepted, storms_are_as_runs}
+use Rattle.stm_words.proofs.StormWords.{storms_are_accepted, storms_are_as_runs, storms_have_no_journal}
 use Rattle.stm_words.proofs.laws.words_of_a_storm_are_those_of_a_run.Goals as goal
 
 pub returns-clause-accepted : goal.returns-clause-accepted
@@ -6,3 +6,6 @@ returns-clause-accepted c = storms_are_accepted
 
 pub returns-clause-same : goal.returns-clause-same
 returns-clause-same c = storms_are_as_runs
+
+pub returns-clause-no_journal : goal.returns-clause-no_journal
+returns-clause-no_journal c = storms_have_no_journal

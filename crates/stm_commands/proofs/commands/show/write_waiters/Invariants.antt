@@ -1,12 +1,12 @@
 use Rattle.std.proofs.Common.{◌≡◌, ◌++◌, length, string_bytes}
-use Rattle.stm_desk.specs.Seen.{now}
+use Rattle.stm_desk.specs.DeskView.{state_of}
 use Rattle.stm_commands.specs.Contents.{waiter_lines}
 use Rattle.stm_commands.proofs.WaiterLines.{above}
 use Rattle.stm_commands.proofs.commands.show.write_waiters.Given as goal
 
 abbrev pub invariant-loop-ticket : goal.invariant-loop-ticket
 invariant-loop-ticket l =
-    string_bytes l.out ++ waiter_lines (now l.desk).store (above l.last (now l.desk).waiters) ≡ string_bytes l.fn.out ++ waiter_lines (now l.desk).store (now l.desk).waiters
+    string_bytes l.out ++ waiter_lines (state_of l.desk).store (above l.last (state_of l.desk).waiters) ≡ string_bytes l.fn.out ++ waiter_lines (state_of l.desk).store (state_of l.desk).waiters
 
 abbrev pub decreases-loop-ticket : goal.decreases-loop-ticket
-decreases-loop-ticket l = length (above l.last (now l.desk).waiters)
+decreases-loop-ticket l = length (above l.last (state_of l.desk).waiters)

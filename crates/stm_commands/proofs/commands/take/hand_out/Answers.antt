@@ -1,5 +1,5 @@
 use Rattle.std.proofs.Common.{◌∙◌, ap, sym, subst}
-use Rattle.stm_desk.specs.Seen.{now}
+use Rattle.stm_desk.specs.DeskView.{state_of}
 use Rattle.stm_commands.specs.Jobs.{jobs_of}
 use Rattle.stm_commands.specs.OpenInvariant.{JobsStand}
 use Rattle.stm_commands.proofs.Growing.{given_stand, given_are}
@@ -8,7 +8,7 @@ use Rattle.stm_commands.proofs.commands.take.hand_out.Goals as goal
 pub returns-clause-made : goal.returns-clause-made
 returns-clause-made c =
     c.in_ok-made.ensures.kept ∙ given_are c.args.desk.now c.in_ok-store.store c.in_ok-store.jobs.items c.in_ok-store.ensures.store c.in_ok-store.ensures.blocks
-    ∙ ap (jobs_of (now c.args.desk.now)) c.in_ok-store.ensures.tickets
+    ∙ ap (jobs_of (state_of c.args.desk.now)) c.in_ok-store.ensures.tickets
 
 pub returns-clause-stand : goal.returns-clause-stand
 returns-clause-stand c =

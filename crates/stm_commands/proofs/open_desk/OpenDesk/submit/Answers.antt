@@ -4,10 +4,10 @@ use Rattle.stm_commands.proofs.open_desk.OpenDesk.submit.Goals.{in-Ok, in-Err}
 use Rattle.stm_commands.proofs.open_desk.OpenDesk.submit.Goals as goal
 
 pub invariant_of-self : goal.invariant_of-self
-invariant_of-self c = kept_submitted _ _ _ _ _ c.submit.result c.submit.ensures.done c.submit.ensures.err c.submit.ensures.legal c.self.invariant
+invariant_of-self c = kept_submitted _ _ _ _ _ c.submit-answer.result c.submit-answer.ensures.accepted c.submit-answer.ensures.unchanged c.history-events.ensures.legal c.self.invariant
 
 pub returns : goal.returns
-returns c = rw (← c.self.view_is) (elim c.match-submit.branch [
-  | in-Ok w ↦ rw (w.result-is, w.out-is) (submit_ok _ _ _ _ _ _ _ w.write_ticket_line.result w.in-Ok.ensures.done w.in-Ok.ensures.ticket w.in-Ok.ensures.told w.write_ticket_line.ensures)
-  | in-Err w ↦ rw (w.result-is, w.out-is) (submit_err _ _ _ _ _ _ _ w.refuse_submit.result w.in-Err.ensures.err w.in-Err.ensures.told w.refuse_submit.ensures.told w.refuse_submit.ensures.text)
+returns c = rw (← c.self.view_is) (elim c.match-answer.branch [
+  | in-Ok w ↦ rw (w.result-is, w.out-is) (submit_ok _ _ _ _ _ _ _ w.write_ticket_line.result w.in-Ok.ensures.accepted w.in-Ok.ensures.ticket w.in-Ok.ensures.refused w.write_ticket_line.ensures)
+  | in-Err w ↦ rw (w.result-is, w.out-is) (submit_err _ _ _ _ _ _ _ w.refuse_submit.result w.in-Err.ensures.unchanged w.in-Err.ensures.refused w.refuse_submit.ensures.memory w.refuse_submit.ensures.text)
 ])

@@ -17,7 +17,7 @@ pub returns-in-Ok-keep_verdict-clause-done : goal.returns-in-Ok-keep_verdict-cla
 returns-in-Ok-keep_verdict-clause-done c =
     next_install c.args.self.now c.keep_verdict.new.self c.args.client c.args.ticket c.in-Ok.verdict
     (due_verdict c.args.self.now c.args.ticket c.in-Ok.verdict c.verdict_due.new.scratch c.requires.legal c.requires.next c.in-Ok.ensures.verdict) (sym c.is_full.ensures ∙ c.if-is_full.false)
-    c.in-Ok-keep_verdict.ensures.done
+    c.in-Ok-keep_verdict.ensures.accepted
 
 pub returns-in-Ok-keep_verdict-clause-store : goal.returns-in-Ok-keep_verdict-clause-store
-returns-in-Ok-keep_verdict-clause-store c = store_install c.args.self.now c.keep_verdict.new.self c.args.client _ _ c.in-Ok-keep_verdict.ensures.done
+returns-in-Ok-keep_verdict-clause-store c = store_install c.args.self.now c.keep_verdict.new.self c.args.client _ _ c.in-Ok-keep_verdict.ensures.accepted

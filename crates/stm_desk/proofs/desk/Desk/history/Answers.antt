@@ -4,25 +4,25 @@ use Rattle.stm_store.specs.Cells.{plains, StoreIsTyped}
 use Rattle.stm_events.specs.declared.staleness.StalenessRule.TheVariants.{Changed}
 use Rattle.stm_events.specs.Headline.{HeadlineHoldsBy}
 use Rattle.stm_events.proofs.Headline.{headline}
-use Rattle.stm_desk.specs.Seen.{Seen, now, AllHaveVerdicts, SettlesInRounds}
+use Rattle.stm_desk.specs.DeskView.{DeskView, state_of, AllHaveVerdicts, SettlesInRounds}
 use Rattle.stm_desk.proofs.Verdicts.{have_verdicts, settles_in_rounds}
 use Rattle.stm_desk.proofs.desk.Desk.history.Goals as goal
 
 pub returns-clause-verdicts : goal.returns-clause-verdicts
 returns-clause-verdicts c =
-    let d : Seen = record { table = c.self.inside.table; limit = c.self.inside.limit; history = c.self.inside.history.items; pending = c.self.inside.machine.pending } in
+    let d : DeskView = record { table = c.self.inside.table; limit = c.self.inside.limit; history = c.self.inside.history.items; pending = c.self.inside.machine.pending } in
     let k = c.self.invariant in
-    let store : StoreIsTyped (plains (now d).store) = subst (λ (cells : List Cell). StoreIsTyped (plains cells)) (c.store.ensures.store Changed d.table d.history k.stands) c.len-variables.ensures.typed in
-    subst (λ (d : Seen). AllHaveVerdicts (now d)) c.self.view_is (have_verdicts d k.stands.legal k.typed store)
+    let store : StoreIsTyped (plains (state_of d).store) = subst (λ (cells : List Cell). StoreIsTyped (plains cells)) (c.store.ensures.store (state_of d) k.at) c.len-variables.ensures.typed in
+    subst (λ (d : DeskView). AllHaveVerdicts (state_of d)) c.self.view_is (have_verdicts d k.legal k.typed store)
 
 pub returns-clause-rounds : goal.returns-clause-rounds
 returns-clause-rounds c =
-    let d : Seen = record { table = c.self.inside.table; limit = c.self.inside.limit; history = c.self.inside.history.items; pending = c.self.inside.machine.pending } in
+    let d : DeskView = record { table = c.self.inside.table; limit = c.self.inside.limit; history = c.self.inside.history.items; pending = c.self.inside.machine.pending } in
     let k = c.self.invariant in
-    let store : StoreIsTyped (plains (now d).store) = subst (λ (cells : List Cell). StoreIsTyped (plains cells)) (c.store.ensures.store Changed d.table d.history k.stands) c.len-variables.ensures.typed in
-    subst (λ (d : Seen). SettlesInRounds (now d)) c.self.view_is (settles_in_rounds d k.stands.legal (have_verdicts d k.stands.legal k.typed store))
+    let store : StoreIsTyped (plains (state_of d).store) = subst (λ (cells : List Cell). StoreIsTyped (plains cells)) (c.store.ensures.store (state_of d) k.at) c.len-variables.ensures.typed in
+    subst (λ (d : DeskView). SettlesInRounds (state_of d)) c.self.view_is (settles_in_rounds d k.legal (have_verdicts d k.legal k.typed store))
 
 pub returns-clause-headline : goal.returns-clause-headline
 returns-clause-headline c =
-    let d : Seen = record { table = c.self.inside.table; limit = c.self.inside.limit; history = c.self.inside.history.items; pending = c.self.inside.machine.pending } in
-    subst (λ (d : Seen). HeadlineHoldsBy Changed d.table d.history) c.self.view_is (headline Changed d.table d.history c.self.invariant.stands.legal)
+    let d : DeskView = record { table = c.self.inside.table; limit = c.self.inside.limit; history = c.self.inside.history.items; pending = c.self.inside.machine.pending } in
+    subst (λ (d : DeskView). HeadlineHoldsBy Changed d.table d.history) c.self.view_is (headline Changed d.table d.history c.self.invariant.legal)

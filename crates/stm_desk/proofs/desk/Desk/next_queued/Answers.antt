@@ -1,22 +1,16 @@
-use Rattle.std.proofs.Common.{◌≡◌, ℕ, Option, Some, None, true, List, subst}
+use Rattle.std.proofs.Common.{◌≡◌, ℕ, Option, Some, None, true, subst}
 use Rattle.std.specs.Prelude.{IfSome}
-use Rattle.stm_events.specs.declared.event.Event.{Event}
-use Rattle.stm_events.specs.declared.staleness.StalenessRule.{StalenessRule}
-use Rattle.stm_events.specs.declared.staleness.StalenessRule.TheVariants.{Changed}
-use Rattle.stm_machine.specs.Machine.{Parts, StandsFor, StandsForBy}
+use Rattle.stm_machine.specs.Machine.{Parts, IsAt}
 use Rattle.stm_machine.specs.QueueAndIndex.{due_of}
-use Rattle.stm_events.specs.SlowDesk.{find_waiter, state, state_by}
-use Rattle.stm_store.specs.Tables.{Declared}
-use Rattle.stm_desk.specs.Seen.{Seen, now}
+use Rattle.stm_events.specs.SlowDesk.{Slow, find_waiter, state}
+use Rattle.stm_desk.specs.DeskView.{DeskView, state_of}
 use Rattle.stm_desk.proofs.desk.Desk.next_queued.Goals as goal
 
-due_now : (table : List Declared) (history : List Event) (m : Parts) (o : Option ℕ) → StandsFor table history m
-    → IfSome o (λ t. (R : StalenessRule) (T : List Declared) (H : List Event) → StandsForBy R T H m → due_of (find_waiter t (state_by R T H).waiters) ≡ true)
-    → IfSome o (λ t. due_of (find_waiter t (state table history).waiters) ≡ true)
-due_now table history m None s h = tt
-due_now table history m (Some t) s h = h Changed table history s
+due_now : (m : Parts) (s : Slow) (o : Option ℕ) → IsAt m s → IfSome o (λ t. (s : Slow) → IsAt m s → due_of (find_waiter t s.waiters) ≡ true) → IfSome o (λ t. due_of (find_waiter t s.waiters) ≡ true)
+due_now m s None k h = tt
+due_now m s (Some t) k h = h s k
 
 pub returns-clause-due : goal.returns-clause-due
 returns-clause-due c =
-    subst (λ (d : Seen). IfSome c.next_queued.result (λ t. due_of (find_waiter t (now d).waiters) ≡ true)) c.self.view_is
-    (due_now c.self.inside.table c.self.inside.history.items c.self.inside.machine c.next_queued.result c.self.invariant.stands c.next_queued.ensures.due)
+    subst (λ (d : DeskView). IfSome c.next_queued.result (λ t. due_of (find_waiter t (state_of d).waiters) ≡ true)) c.self.view_is
+    (due_now c.self.inside.machine (state c.self.inside.table c.self.inside.history.items) c.next_queued.result c.self.invariant.at c.next_queued.ensures.due)

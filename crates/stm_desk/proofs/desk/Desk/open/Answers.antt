@@ -1,7 +1,6 @@
 use Rattle.std.proofs.Common.{arith}
-use Rattle.stm_events.specs.declared.staleness.StalenessRule.TheVariants.{Changed}
 use Rattle.stm_desk.proofs.desk.Desk.open.Goals as goal
 
 pub invariant_of-result : goal.invariant_of-result
 invariant_of-result c =
-    rw (c.in_ok-table.ensures, c.new.ensures.items) (record { stands = c.in_ok-machine.ensures.stands Changed; few = omega arith; small = c.requires; typed = tt })
+    rw (c.in_ok-table.ensures, c.new.ensures.items) (record { legal = record { each = tt; few = omega arith }; at = c.in_ok-machine.ensures.at; few = omega arith; small = c.requires; typed = tt })

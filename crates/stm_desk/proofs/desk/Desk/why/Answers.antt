@@ -2,10 +2,9 @@ use Rattle.std.proofs.Common.{◌≡◌, ◌∙◌, List, Option, Some, None, sy
 use Rattle.std.specs.Prelude.{IfOk, is_some, option_map, if◌then◌else◌}
 use Rattle.stm_events.specs.declared.event.Event.{Event}
 use Rattle.stm_events.specs.declared.status.Status.{Status}
-use Rattle.stm_events.specs.declared.staleness.StalenessRule.TheVariants.{Changed}
 use Rattle.stm_events.specs.BlockStatus.{shown}
 use Rattle.stm_events.specs.SlowDesk.{is_blocks, find_waiter}
-use Rattle.stm_desk.specs.Seen.{Seen, now}
+use Rattle.stm_desk.specs.DeskView.{DeskView, state_of}
 use Rattle.stm_desk.specs.Reasons.{WaitReason, NotEvaluated, IsStale, Waits, CanFinish, reason_of}
 use Rattle.stm_desk.specs.ReasonsTold.{EachIsWritable, events_since, cause_told, told_reason}
 use Rattle.stm_desk.proofs.Causes.{IsTypedHistory, each_is_writable}
@@ -15,93 +14,93 @@ use Rattle.stm_desk.proofs.desk.Desk.why.Goals as goal
 
 pub returns-in_default-clause-reason : goal.returns-in_default-clause-reason
 returns-in_default-clause-reason c =
-    let d : Seen = record { table = c.self.inside.table; limit = c.self.inside.limit; history = c.self.inside.history.items; pending = c.self.inside.machine.pending } in
+    let d : DeskView = record { table = c.self.inside.table; limit = c.self.inside.limit; history = c.self.inside.history.items; pending = c.self.inside.machine.pending } in
     let k = c.self.invariant in
-    let none : None ≡ reason_of d c.args.ticket = no_reason d c.args.ticket (no_waiter d c.args.ticket (c.in_default.ensures Changed d.table d.history k.stands)) in
-    subst (λ (x : Seen). None ≡ reason_of x c.args.ticket) c.self.view_is none
+    let none : None ≡ reason_of d c.args.ticket = no_reason d c.args.ticket (no_waiter d c.args.ticket (c.in_default.ensures (state_of d) k.at)) in
+    subst (λ (x : DeskView). None ≡ reason_of x c.args.ticket) c.self.view_is none
 
 pub returns-in_default-reads-clause-reason : goal.returns-in_default-reads-clause-reason
 returns-in_default-reads-clause-reason c =
-    let d : Seen = record { table = c.self.inside.table; limit = c.self.inside.limit; history = c.self.inside.history.items; pending = c.self.inside.machine.pending } in
+    let d : DeskView = record { table = c.self.inside.table; limit = c.self.inside.limit; history = c.self.inside.history.items; pending = c.self.inside.machine.pending } in
     let k = c.self.invariant in
-    subst (λ (x : Seen). Some NotEvaluated ≡ reason_of x c.args.ticket) c.self.view_is
-    (unread d c.args.ticket (shown c.in-Some.status) (c.in-Some.ensures Changed d.table d.history k.stands) (c.in_default-reads.ensures.then Changed d.table d.history k.stands))
+    subst (λ (x : DeskView). Some NotEvaluated ≡ reason_of x c.args.ticket) c.self.view_is
+    (unread d c.args.ticket (shown c.in-Some.status) (c.in-Some.ensures (state_of d) k.at) (c.in_default-reads.ensures.then (state_of d) k.at))
 
 pub returns-in-New-clause-reason : goal.returns-in-New-clause-reason
 returns-in-New-clause-reason c =
-    let d : Seen = record { table = c.self.inside.table; limit = c.self.inside.limit; history = c.self.inside.history.items; pending = c.self.inside.machine.pending } in
+    let d : DeskView = record { table = c.self.inside.table; limit = c.self.inside.limit; history = c.self.inside.history.items; pending = c.self.inside.machine.pending } in
     let k = c.self.invariant in
-    subst (λ (x : Seen). Some NotEvaluated ≡ reason_of x c.args.ticket) c.self.view_is
-    (stands_new d c.args.ticket (ap (λ (s : Status). Some (shown s)) (sym c.in-New.is) ∙ c.in-Some.ensures Changed d.table d.history k.stands))
+    subst (λ (x : DeskView). Some NotEvaluated ≡ reason_of x c.args.ticket) c.self.view_is
+    (stands_new d c.args.ticket (ap (λ (s : Status). Some (shown s)) (sym c.in-New.is) ∙ c.in-Some.ensures (state_of d) k.at))
 
 pub stale_reason-requires : goal.stale_reason-requires
 stale_reason-requires c =
     let k = c.self.invariant in
     let history = c.self.inside.history.items in
-    let typed : IsTypedHistory c.self.inside.table history = record { legal = k.stands.legal; typed = k.typed; cells = c.len-variables.ensures.typed } in
+    let typed : IsTypedHistory c.self.inside.table history = record { legal = k.legal; typed = k.typed; cells = c.len-variables.ensures.typed } in
     subst (λ (h : List Event). EachIsWritable (events_since c.args.ticket h)) (sym c.deref.ensures.value)
     (since_writable c.args.ticket history (each_is_writable c.self.inside.table history typed))
 
 pub returns-in-Stale-clause-reason : goal.returns-in-Stale-clause-reason
 returns-in-Stale-clause-reason c =
-    let d : Seen = record { table = c.self.inside.table; limit = c.self.inside.limit; history = c.self.inside.history.items; pending = c.self.inside.machine.pending } in
+    let d : DeskView = record { table = c.self.inside.table; limit = c.self.inside.limit; history = c.self.inside.history.items; pending = c.self.inside.machine.pending } in
     let k = c.self.invariant in
     let reads = c.in-Some-reads.reads.now in
-    let typed : IsTypedHistory d.table d.history = record { legal = k.stands.legal; typed = k.typed; cells = c.len-variables.ensures.typed } in
+    let typed : IsTypedHistory d.table d.history = record { legal = k.legal; typed = k.typed; cells = c.len-variables.ensures.typed } in
     let p : IsStaleReason d c.args.ticket reads =
     stands_stale d c.args.ticket (Some c.in-Stale.field-0.now) reads typed
-    (ap (λ (s : Status). Some (shown s)) (sym c.in-Stale.is) ∙ c.in-Some.ensures Changed d.table d.history k.stands)
-    (c.in-Some-reads.ensures.then Changed d.table d.history k.stands)
+    (ap (λ (s : Status). Some (shown s)) (sym c.in-Stale.is) ∙ c.in-Some.ensures (state_of d) k.at)
+    (c.in-Some-reads.ensures.then (state_of d) k.at)
     in
     let same : option_map IsStale (cause_told reads (events_since c.args.ticket c.deref.result.now)) ≡ reason_of c.args.self.now c.args.ticket =
     ap (λ (h : List Event). option_map IsStale (cause_told reads (events_since c.args.ticket h))) c.deref.ensures.value
-    ∙ subst (λ (x : Seen). option_map IsStale (cause_told reads (events_since c.args.ticket d.history)) ≡ reason_of x c.args.ticket) c.self.view_is p
+    ∙ subst (λ (x : DeskView). option_map IsStale (cause_told reads (events_since c.args.ticket d.history)) ≡ reason_of x c.args.ticket) c.self.view_is p
     in
     subst (λ (x : Option WaitReason). IfOk c.stale_reason.result (λ r. option_map told_reason r ≡ x)) same c.stale_reason.ensures
 
 pub returns-in-Current-clause-reason : goal.returns-in-Current-clause-reason
 returns-in-Current-clause-reason c =
-    let d : Seen = record { table = c.self.inside.table; limit = c.self.inside.limit; history = c.self.inside.history.items; pending = c.self.inside.machine.pending } in
+    let d : DeskView = record { table = c.self.inside.table; limit = c.self.inside.limit; history = c.self.inside.history.items; pending = c.self.inside.machine.pending } in
     let k = c.self.invariant in
     let reads = c.in-Some-reads.reads.now in
     let verdict = c.in-Current.verdict.now in
     ap Some c.current_reason.ensures
-    ∙ subst (λ (x : Seen). Some (if is_blocks verdict then Waits reads else CanFinish) ≡ reason_of x c.args.ticket) c.self.view_is
+    ∙ subst (λ (x : DeskView). Some (if is_blocks verdict then Waits reads else CanFinish) ≡ reason_of x c.args.ticket) c.self.view_is
     (stands_current d c.args.ticket verdict reads
-    (ap (λ (s : Status). Some (shown s)) (sym c.in-Current.is) ∙ c.in-Some.ensures Changed d.table d.history k.stands)
-    (λ w f current. c.in-Some-reads.ensures.present Changed d.table d.history w k.stands f current))
+    (ap (λ (s : Status). Some (shown s)) (sym c.in-Current.is) ∙ c.in-Some.ensures (state_of d) k.at)
+    (λ w f current. c.in-Some-reads.ensures.present (state_of d) w k.at f current))
 
 pub returns-in_default-clause-waits : goal.returns-in_default-clause-waits
 returns-in_default-clause-waits c =
-    let d : Seen = record { table = c.self.inside.table; limit = c.self.inside.limit; history = c.self.inside.history.items; pending = c.self.inside.machine.pending } in
+    let d : DeskView = record { table = c.self.inside.table; limit = c.self.inside.limit; history = c.self.inside.history.items; pending = c.self.inside.machine.pending } in
     let k = c.self.invariant in
-    subst (λ (x : Seen). is_some (reason_of x c.args.ticket) ≡ is_some (find_waiter c.args.ticket (now x).waiters)) c.self.view_is
-    (has_reason d c.args.ticket (record { legal = k.stands.legal; typed = k.typed; cells = c.len-variables.ensures.typed }))
+    subst (λ (x : DeskView). is_some (reason_of x c.args.ticket) ≡ is_some (find_waiter c.args.ticket (state_of x).waiters)) c.self.view_is
+    (has_reason d c.args.ticket (record { legal = k.legal; typed = k.typed; cells = c.len-variables.ensures.typed }))
 
 pub returns-in_default-reads-clause-waits : goal.returns-in_default-reads-clause-waits
 returns-in_default-reads-clause-waits c =
-    let d : Seen = record { table = c.self.inside.table; limit = c.self.inside.limit; history = c.self.inside.history.items; pending = c.self.inside.machine.pending } in
+    let d : DeskView = record { table = c.self.inside.table; limit = c.self.inside.limit; history = c.self.inside.history.items; pending = c.self.inside.machine.pending } in
     let k = c.self.invariant in
-    subst (λ (x : Seen). is_some (reason_of x c.args.ticket) ≡ is_some (find_waiter c.args.ticket (now x).waiters)) c.self.view_is
-    (has_reason d c.args.ticket (record { legal = k.stands.legal; typed = k.typed; cells = c.len-variables.ensures.typed }))
+    subst (λ (x : DeskView). is_some (reason_of x c.args.ticket) ≡ is_some (find_waiter c.args.ticket (state_of x).waiters)) c.self.view_is
+    (has_reason d c.args.ticket (record { legal = k.legal; typed = k.typed; cells = c.len-variables.ensures.typed }))
 
 pub returns-in-New-clause-waits : goal.returns-in-New-clause-waits
 returns-in-New-clause-waits c =
-    let d : Seen = record { table = c.self.inside.table; limit = c.self.inside.limit; history = c.self.inside.history.items; pending = c.self.inside.machine.pending } in
+    let d : DeskView = record { table = c.self.inside.table; limit = c.self.inside.limit; history = c.self.inside.history.items; pending = c.self.inside.machine.pending } in
     let k = c.self.invariant in
-    subst (λ (x : Seen). is_some (reason_of x c.args.ticket) ≡ is_some (find_waiter c.args.ticket (now x).waiters)) c.self.view_is
-    (has_reason d c.args.ticket (record { legal = k.stands.legal; typed = k.typed; cells = c.len-variables.ensures.typed }))
+    subst (λ (x : DeskView). is_some (reason_of x c.args.ticket) ≡ is_some (find_waiter c.args.ticket (state_of x).waiters)) c.self.view_is
+    (has_reason d c.args.ticket (record { legal = k.legal; typed = k.typed; cells = c.len-variables.ensures.typed }))
 
 pub returns-in-Stale-clause-waits : goal.returns-in-Stale-clause-waits
 returns-in-Stale-clause-waits c =
-    let d : Seen = record { table = c.self.inside.table; limit = c.self.inside.limit; history = c.self.inside.history.items; pending = c.self.inside.machine.pending } in
+    let d : DeskView = record { table = c.self.inside.table; limit = c.self.inside.limit; history = c.self.inside.history.items; pending = c.self.inside.machine.pending } in
     let k = c.self.invariant in
-    subst (λ (x : Seen). is_some (reason_of x c.args.ticket) ≡ is_some (find_waiter c.args.ticket (now x).waiters)) c.self.view_is
-    (has_reason d c.args.ticket (record { legal = k.stands.legal; typed = k.typed; cells = c.len-variables.ensures.typed }))
+    subst (λ (x : DeskView). is_some (reason_of x c.args.ticket) ≡ is_some (find_waiter c.args.ticket (state_of x).waiters)) c.self.view_is
+    (has_reason d c.args.ticket (record { legal = k.legal; typed = k.typed; cells = c.len-variables.ensures.typed }))
 
 pub returns-in-Current-clause-waits : goal.returns-in-Current-clause-waits
 returns-in-Current-clause-waits c =
-    let d : Seen = record { table = c.self.inside.table; limit = c.self.inside.limit; history = c.self.inside.history.items; pending = c.self.inside.machine.pending } in
+    let d : DeskView = record { table = c.self.inside.table; limit = c.self.inside.limit; history = c.self.inside.history.items; pending = c.self.inside.machine.pending } in
     let k = c.self.invariant in
-    subst (λ (x : Seen). is_some (reason_of x c.args.ticket) ≡ is_some (find_waiter c.args.ticket (now x).waiters)) c.self.view_is
-    (has_reason d c.args.ticket (record { legal = k.stands.legal; typed = k.typed; cells = c.len-variables.ensures.typed }))
+    subst (λ (x : DeskView). is_some (reason_of x c.args.ticket) ≡ is_some (find_waiter c.args.ticket (state_of x).waiters)) c.self.view_is
+    (has_reason d c.args.ticket (record { legal = k.legal; typed = k.typed; cells = c.len-variables.ensures.typed }))

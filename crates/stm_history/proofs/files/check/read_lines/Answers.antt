@@ -2,7 +2,7 @@ use Rattle.std.proofs.Common.{◌≡◌, ◌++◌, ◌∙◌, ◌≤◌, [], Lis
 use Rattle.std.proofs.KnownBytes.{Consumes-trans}
 use Rattle.std.proofs.lemmas.Result.{err_from_is_err_and}
 use Rattle.stm_history.specs.Stages.{Reached}
-use Rattle.stm_history.proofs.Reading.{all_taken, nothing_begun, nothing_taken, stops_after, tells_after}
+use Rattle.stm_history.proofs.LineByLine.{all_taken, nothing_begun, nothing_taken, stops_after, tells_after}
 use Rattle.stm_history.proofs.files.check.read_lines.Goals as goal
 
 pub lines-init : goal.lines-init

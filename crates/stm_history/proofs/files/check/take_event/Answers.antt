@@ -1,6 +1,6 @@
 use Rattle.std.proofs.Common.{inl, inr, ap}
 use Rattle.stm_history.specs.declared.files.fault.HistoryFault.TheVariants.{BadLine}
-use Rattle.stm_history.proofs.Telling.{unfit}
+use Rattle.stm_history.proofs.RefusedLines.{unfit}
 use Rattle.stm_history.proofs.files.check.take_event.Goals as goal
 
 pub returns-then-not-fits_format-clause-refused : goal.returns-then-not-fits_format-clause-refused

@@ -1,5 +1,5 @@
 use Rattle.std.proofs.Common.{refl, inl, inr, arith}
-use Rattle.stm_history.proofs.Telling.{too_many}
+use Rattle.stm_history.proofs.RefusedLines.{too_many}
 use Rattle.stm_history.proofs.files.check.take_header.Goals as goal
 
 pub returns-else-header-le-MAX_CELLS-clause-refused : goal.returns-else-header-le-MAX_CELLS-clause-refused

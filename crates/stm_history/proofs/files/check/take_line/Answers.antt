@@ -1,4 +1,4 @@
-use Rattle.stm_history.proofs.Telling.{run_leads}
+use Rattle.stm_history.proofs.RefusedLines.{run_leads}
 use Rattle.stm_history.proofs.files.check.take_line.Goals as goal
 
 pub returns-in-Running-clause-leads : goal.returns-in-Running-clause-leads

@@ -1,5 +1,5 @@
 use Rattle.std.proofs.Common.{refl}
-use Rattle.stm_history.proofs.Reading.{fails_at, fails_long, fails_reading, takes_last, takes_line, takes_none}
+use Rattle.stm_history.proofs.LineByLine.{fails_at, fails_long, fails_reading, takes_last, takes_line, takes_none}
 use Rattle.stm_history.proofs.files.check.take_next.Goals as goal
 
 pub returns-in-Ok-clause-taken : goal.returns-in-Ok-clause-taken

@@ -1,7 +1,7 @@
 use Rattle.std.proofs.Common.{◌≡◌, ◌∙◌, ℕ, List, Err, ap}
 use Rattle.stm_store.specs.Tables.{declare_refusal, refusal_of}
 use Rattle.stm_event_lines.specs.Variables.{declared}
-use Rattle.stm_history.proofs.Variables.{declare_fault}
+use Rattle.stm_history.proofs.RefusedVariables.{declare_fault}
 use Rattle.stm_history.proofs.files.check.take_variable.Goals as goal
 
 pub returns-in-Ok-clause-refused : goal.returns-in-Ok-clause-refused

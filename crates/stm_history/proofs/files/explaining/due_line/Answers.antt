@@ -1,6 +1,6 @@
 use Rattle.std.proofs.Common.{◌≡◌, true, arith}
 use Rattle.std.proofs.lemmas.Grind.{common_steps}
-use Rattle.stm_history.proofs.Explained.{line_of}
+use Rattle.stm_history.proofs.Explanations.{line_of}
 use Rattle.std.specs.Prelude.{string_bytes}
 use Rattle.stm_history.proofs.files.explaining.due_line.Goals as goal
 

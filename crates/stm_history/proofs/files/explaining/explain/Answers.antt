@@ -1,4 +1,4 @@
-use Rattle.stm_history.proofs.Explained.{running_explained}
+use Rattle.stm_history.proofs.Explanations.{running_explained}
 use Rattle.stm_history.proofs.files.explaining.explain.Goals as goal
 
 pub returns-in-Running : goal.returns-in-Running

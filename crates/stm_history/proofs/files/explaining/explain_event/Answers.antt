@@ -1,4 +1,4 @@
-use Rattle.stm_history.proofs.Explained.{due_explained}
+use Rattle.stm_history.proofs.Explanations.{due_explained}
 use Rattle.stm_history.proofs.files.explaining.explain_event.Goals as goal
 
 pub returns-in-Ok-Due : goal.returns-in-Ok-Due

@@ -1,7 +1,7 @@
 use Rattle.std.proofs.Common.{[], refl, sym, arith}
 use Rattle.std.specs.Prelude.{string_bytes}
 use Rattle.stm_history.specs.Checking.{at_header, with_table}
-use Rattle.stm_history.proofs.Explained.{head_line}
+use Rattle.stm_history.proofs.Explanations.{head_line}
 use Rattle.stm_history.proofs.files.explaining.explain_header.Goals as goal
 
 pub returns : goal.returns

@@ -1,7 +1,7 @@
 use Rattle.std.proofs.Common.{◌≡◌, ℕ, List, None, ap, sym, ◌∙◌}
 use Rattle.stm_store.specs.Tables.{declare_refusal}
 use Rattle.stm_event_lines.specs.Variables.{declared}
-use Rattle.stm_history.proofs.Explained.{declared_head}
+use Rattle.stm_history.proofs.Explanations.{declared_head}
 use Rattle.stm_history.proofs.files.explaining.variable_due.Goals as goal
 
 pub returns-in-Ok : goal.returns-in-Ok

@@ -1,4 +1,4 @@
-use Rattle.stm_history.proofs.Calls.{one_event_of_a_call}
+use Rattle.stm_history.proofs.ExpectedEvents.{one_event_of_a_call}
 use Rattle.stm_history.proofs.files.laws.calls_have_one_event.Goals as goal
 
 pub returns : goal.returns

@@ -1,4 +1,4 @@
-use Rattle.stm_history.proofs.Calls.{refused_are_illegal}
+use Rattle.stm_history.proofs.ExpectedEvents.{refused_are_illegal}
 use Rattle.stm_history.proofs.files.laws.refused_calls_are_illegal.Goals as goal
 
 pub returns : goal.returns

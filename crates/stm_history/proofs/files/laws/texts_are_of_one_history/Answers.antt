@@ -1,4 +1,4 @@
-use Rattle.stm_history.proofs.Unique.{texts_are_of_one_history}
+use Rattle.stm_history.proofs.OneReading.{texts_are_of_one_history}
 use Rattle.stm_history.proofs.files.laws.texts_are_of_one_history.Goals as goal
 
 pub returns : goal.returns

@@ -1,4 +1,4 @@
-use Rattle.stm_history.proofs.Written.{what_is_written_is_taken}
+use Rattle.stm_history.proofs.WrittenIsTaken.{what_is_written_is_taken}
 use Rattle.stm_history.proofs.files.laws.what_is_written_is_taken.Goals as goal
 
 pub returns : goal.returns

@@ -1,6 +1,6 @@
 use Rattle.stm_event_lines.specs.Lines.{latest_format}
 use Rattle.stm_history.specs.Loading.{IsWholeHistory}
-use Rattle.stm_history.proofs.Loads.{at_taken, events_typed}
+use Rattle.stm_history.proofs.ReadToTheEnd.{at_taken, events_typed}
 use Rattle.stm_history.proofs.files.loading.load_history.Goals as goal
 
 pub returns-in-Ok-clause-ok : goal.returns-in-Ok-clause-ok

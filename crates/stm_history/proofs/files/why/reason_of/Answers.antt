@@ -1,6 +1,6 @@
 use Rattle.std.proofs.Common.{sym, ◌∙◌}
-use Rattle.stm_history.proofs.Parts.{drop-all}
-use Rattle.stm_history.proofs.Stopped.{why_at}
+use Rattle.stm_history.proofs.TextInParts.{drop-all}
+use Rattle.stm_history.proofs.WhereLinesStop.{why_at}
 use Rattle.stm_history.proofs.files.why.reason_of.Goals as goal
 
 pub returns-clause-why : goal.returns-clause-why

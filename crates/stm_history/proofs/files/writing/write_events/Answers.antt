@@ -1,6 +1,6 @@
 use Rattle.std.proofs.Common.{rules}
 use Rattle.stm_history.specs.HistoryText.{event_lines}
-use Rattle.stm_history.proofs.Parts.{part_of, whole_of, event_lines-append}
+use Rattle.stm_history.proofs.TextInParts.{part_of, whole_of, event_lines-append}
 use Rattle.stm_history.proofs.files.writing.write_events.Goals as goal
 
 pub returns-in-Err : goal.returns-in-Err

@@ -1,4 +1,4 @@
-use Rattle.stm_history.proofs.Parts.{part_1, part_2, part_3}
+use Rattle.stm_history.proofs.TextInParts.{part_1, part_2, part_3}
 use Rattle.stm_history.proofs.files.writing.write_history.Goals as goal
 
 pub returns-in-Err : goal.returns-in-Err

@@ -1,5 +1,5 @@
 use Rattle.std.proofs.Common.{rules}
-use Rattle.stm_history.proofs.Parts.{part_at, whole_at}
+use Rattle.stm_history.proofs.TextInParts.{part_at, whole_at}
 use Rattle.stm_history.proofs.files.writing.write_variables.Goals as goal
 
 pub returns-in-Err : goal.returns-in-Err

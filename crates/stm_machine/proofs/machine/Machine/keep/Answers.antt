@@ -1,36 +1,37 @@
 use Rattle.std.proofs.Common.{◌∙◌, refl, sym, subst}
-use Rattle.stm_machine.specs.Keeping.{CanKeepBy}
-use Rattle.stm_machine.specs.Machine.{Parts}
+use Rattle.stm_machine.specs.Machine.{Parts, IsAt}
 use Rattle.stm_machine.proofs.Keeping.{moves_keep}
 use Rattle.stm_machine.proofs.Taking.{kept_waits, queued_wait}
 use Rattle.stm_machine.proofs.Ready.{due_absent, ready_held}
 use Rattle.stm_machine.proofs.machine.Machine.keep.Goals as goal
 
 pub returns-in-Ok-clause-moved : goal.returns-in-Ok-clause-moved
-returns-in-Ok-clause-moved c = λ R T H h.
-    let k = subst (λ (z : Parts). CanKeepBy R T H z c.args.ticket c.args.verdict c.args.scratch.now) (sym c.self.view_is) h in
+returns-in-Ok-clause-moved c = λ z h.
+    let s = c.requires.0 in
+    let k = subst (λ (m : Parts). IsAt m s) (sym c.self.view_is) c.requires.1 in
+    let l = subst (λ (m : Parts). IsAt m z) (sym c.self.view_is) h in
     rw (c.hold_reads.ensures, c.remove.ensures.gone, c.in-Ok.ensures.verdicts.0)
-    (moves_keep R T H _ _ c.args.ticket c.args.verdict c.args.scratch.now k c.in-Ok.ensures.watch)
+    (moves_keep _ s z _ c.args.ticket c.args.verdict c.args.scratch.now k c.requires.2 l c.in-Ok.ensures.watch)
 
 pub hold_reads-requires-clause-waits : goal.hold_reads-requires-clause-waits
 hold_reads-requires-clause-waits c =
-    let R = c.requires.0 in let T = c.requires.1 in let H = c.requires.2 in
-    let k = subst (λ (z : Parts). CanKeepBy R T H z c.args.ticket c.args.verdict c.args.scratch.now) (sym c.self.view_is) c.requires.3 in
-    kept_waits R T H _ k.stands c.args.ticket (rw k.told.found refl)
+    let s = c.requires.0 in
+    let k = subst (λ (m : Parts). IsAt m s) (sym c.self.view_is) c.requires.1 in
+    kept_waits _ s k c.args.ticket (rw c.requires.2.1.found refl)
 
 pub add_if-requires-clause-absent : goal.add_if-requires-clause-absent
 add_if-requires-clause-absent c =
-    let R = c.requires.0 in let T = c.requires.1 in let H = c.requires.2 in
-    let k = subst (λ (z : Parts). CanKeepBy R T H z c.args.ticket c.args.verdict c.args.scratch.now) (sym c.self.view_is) c.requires.3 in
-    rw c.memory_to_keep-taken.ensures.ready (due_absent c.args.ticket _ c.self.inside.waiting c.self.inside.pending.entries c.self.invariant (k.stands.stands.queue c.args.ticket ∙ k.due))
+    let s = c.requires.0 in
+    let k = subst (λ (m : Parts). IsAt m s) (sym c.self.view_is) c.requires.1 in
+    rw c.memory_to_keep-taken.ensures.ready (due_absent c.args.ticket _ c.self.inside.waiting c.self.inside.pending.entries c.self.invariant (k.stands.queue c.args.ticket ∙ c.requires.2.0))
 
 pub invariant_of-self : goal.invariant_of-self
 invariant_of-self c =
-    let R = c.requires.0 in let T = c.requires.1 in let H = c.requires.2 in
+    let s = c.requires.0 in
+    let k = subst (λ (m : Parts). IsAt m s) (sym c.self.view_is) c.requires.1 in
     let t = c.args.ticket in
-    let k = subst (λ (z : Parts). CanKeepBy R T H z t c.args.verdict c.args.scratch.now) (sym c.self.view_is) c.requires.3 in
-    let q = k.stands.stands.queue t ∙ k.due in
+    let q = k.stands.queue t ∙ c.requires.2.0 in
     rw (c.hold_reads.ensures, c.remove.ensures.gone, c.in-Ok.ensures.verdicts.0)
     (ready_held t (record { reads = c.args.scratch.now; verdict = c.args.verdict }) c.self.inside.ready.tickets _ c.self.inside.waiting c.self.inside.pending.entries
-    (queued_wait R T H _ k.stands t q) c.self.invariant q
+    (queued_wait _ s k t q) c.self.invariant q
     (λ u. rw (← c.in-Ok.ensures.verdicts.0, ← c.memory_to_keep-taken.ensures.ready, ← c.blocks-in-Ok.ensures) (c.add_if.ensures u)))

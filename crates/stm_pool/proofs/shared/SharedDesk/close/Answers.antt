@@ -1,5 +1,5 @@
 use Rattle.std.proofs.Common.{◌≡◌, ℕ, true, length, rules, sym, subst}
-use Rattle.stm_desk.specs.Seen.{Seen}
+use Rattle.stm_desk.specs.DeskView.{DeskView}
 use Rattle.stm_pool.specs.Own.{are_below, events_in_passes}
 use Rattle.stm_pool.specs.Closing.{MayClose}
 use Rattle.stm_pool.proofs.Closes.{refilled}
@@ -16,4 +16,4 @@ returns-clause-only g c =
     let may : MayClose history c.self.inside.passes passes = search rules in
     let all : length history ≡ events_in_passes passes = search rules in
     subst (λ (n : ℕ). are_below n c.compare.new.self.desk.history ≡ true) c.self.view_is
-    (subst (λ (d : Seen). are_below c.self.inside.passes d.history ≡ true) (sym c.compare.ensures.desk) (only_theirs passes history c.self.inside.passes may all))
+    (subst (λ (d : DeskView). are_below c.self.inside.passes d.history ≡ true) (sym c.compare.ensures.desk) (only_theirs passes history c.self.inside.passes may all))

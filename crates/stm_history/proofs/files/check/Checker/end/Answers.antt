@@ -1,6 +1,6 @@
 use Rattle.std.proofs.Common.{◌<◌, length, refl, inl, inr, rules}
 use Rattle.stm_history.specs.declared.files.fault.HistoryFault.TheVariants.{BadHeader}
-use Rattle.stm_history.proofs.Telling.{ends_early, early_stops, before_strange, declaring_strange}
+use Rattle.stm_history.proofs.RefusedLines.{ends_early, early_stops, before_strange, declaring_strange}
 use Rattle.stm_history.proofs.files.check.Checker.end.Goals as goal
 
 pub returns-then-not-is_empty-clause-fault : goal.returns-then-not-is_empty-clause-fault

@@ -1,4 +1,4 @@
-use Rattle.stm_history.proofs.Started.{reached_start}
+use Rattle.stm_history.proofs.StartOfACheck.{reached_start}
 use Rattle.stm_history.proofs.files.check.Checker.new.Goals as goal
 
 pub returns-clause-reached : goal.returns-clause-reached

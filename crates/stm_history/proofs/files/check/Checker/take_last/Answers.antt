@@ -1,5 +1,5 @@
-use Rattle.stm_history.proofs.Reading.{last_taken}
-use Rattle.stm_history.proofs.Telling.{memory_stops}
+use Rattle.stm_history.proofs.LineByLine.{last_taken}
+use Rattle.stm_history.proofs.RefusedLines.{memory_stops}
 use Rattle.stm_history.proofs.files.check.Checker.take_last.Goals as goal
 
 pub returns-in-Ok-clause-done : goal.returns-in-Ok-clause-done

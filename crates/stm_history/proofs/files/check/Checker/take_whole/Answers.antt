@@ -1,5 +1,5 @@
 use Rattle.std.proofs.Common.{arith}
-use Rattle.stm_history.proofs.Reading.{whole_stops, whole_taken, whole_tells}
+use Rattle.stm_history.proofs.LineByLine.{whole_stops, whole_taken, whole_tells}
 use Rattle.stm_history.proofs.files.check.Checker.take_whole.Goals as goal
 
 pub returns-in-Err-clause-fault : goal.returns-in-Err-clause-fault

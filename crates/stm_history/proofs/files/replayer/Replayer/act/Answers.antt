@@ -1,20 +1,18 @@
-use Rattle.stm_history.proofs.Steps.{copy_kept, copy_made}
+use Rattle.stm_events.specs.declared.event.What.TheVariants.{Submitted, Installed, Cancelled}
+use Rattle.stm_history.proofs.AllowedEvents.{copy_kept, copy_made}
 use Rattle.stm_history.proofs.files.replayer.Replayer.act.Goals as goal
 
 pub returns-in-Submitted-clause-copied : goal.returns-in-Submitted-clause-copied
 returns-in-Submitted-clause-copied c =
-    let rule = c.args.self.now.rule in
-    let room = c.requires.room in
-    copy_kept rule c.submitted.result room.0 room.1 _ _ _ _ tt room.2 c.submitted.ensures.done c.requires.copied
+    let here = c.requires.at in
+    copy_kept c.submitted.result here.0 (Submitted c.in-Submitted.ticket c.in-Submitted.block) _ _ _ tt here.1 c.submitted.ensures.done c.requires.copied
 
 pub returns-in-Installed-clause-copied : goal.returns-in-Installed-clause-copied
 returns-in-Installed-clause-copied c =
-    let rule = c.args.self.now.rule in
-    let room = c.requires.room in
-    copy_made rule c.install.result room.0 room.1 _ _ _ _ tt room.2 c.install.ensures.done c.install.ensures.copied
+    let here = c.requires.at in
+    copy_made c.install.result here.0 (Installed c.in-Installed.ticket c.in-Installed.verdict) _ _ _ tt here.1 c.install.ensures.done c.install.ensures.copied
 
 pub returns-in-Cancelled-clause-copied : goal.returns-in-Cancelled-clause-copied
 returns-in-Cancelled-clause-copied c =
-    let rule = c.args.self.now.rule in
-    let room = c.requires.room in
-    copy_kept rule c.cancelled.result room.0 room.1 _ _ _ _ tt room.2 c.cancelled.ensures.done c.requires.copied
+    let here = c.requires.at in
+    copy_kept c.cancelled.result here.0 (Cancelled c.in-Cancelled.ticket) _ _ _ tt here.1 c.cancelled.ensures.done c.requires.copied

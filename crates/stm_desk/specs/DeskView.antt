@@ -1,0 +1,54 @@
+-- What contracts see of a desk: all else follows from it.
+use Rattle.std.specs.Prelude.{◌≡◌, ℕ, Bool, true, nat_le, List, [], ◌∷◌, ◌++◌, length, Option, Some, option_map, is_some}
+use Rattle.stm_store.specs.Tables.{Declared}
+use Rattle.stm_queue.specs.Queue.{Entry, has_ticket, with_ticket, without_ticket}
+use Rattle.stm_events.specs.declared.event.Event.{Event}
+use Rattle.stm_events.specs.declared.event.What.{What}
+use Rattle.stm_events.specs.declared.event.What.TheVariants.{Submitted, Installed, Finished, Cancelled}
+use Rattle.stm_events.specs.SlowDesk.{Slow, Waiter, Standing, standing, verdict_on, find_waiter, state}
+use Rattle.stm_events.specs.SlowSettle.{settling}
+use Rattle.stm_events.specs.Rounds.{a_round}
+use Rattle.stm_machine.specs.Machine.{event}
+use Rattle.stm_machine.specs.QueueAndIndex.{due_of, with_tickets}
+
+-- the table that it was opened on, how many events it takes, its history, and the tickets that are queued or out
+pub record DeskView : Type 0 where
+  pub table : List Declared
+  pub limit : ℕ
+  pub history : List Event
+  pub pending : List (ℕ × Bool)
+
+-- what the slow desk makes of the history
+abbrev pub state_of : DeskView → Slow
+state_of d = state d.table d.history
+
+-- the tickets that are queued or out, after one event more
+abbrev pub pending_after : What → List Entry → List Entry
+pending_after (Submitted t block) es = with_ticket t es
+pending_after (Installed t v) es = without_ticket t es
+pending_after (Finished t v n stale) es = with_tickets stale es
+pending_after (Cancelled t) es = without_ticket t es
+
+-- the desk after one event more, of this client
+abbrev pub with_event : DeskView → ℕ → What → DeskView
+with_event d client what = record d { history = d.history ++ event client what ∷ []; pending = pending_after what d.pending }
+
+-- how the block under a ticket stands, if one waits there
+abbrev pub standing_of : Slow → ℕ → Option Standing
+standing_of s t = option_map (standing s.store) (find_waiter t s.waiters)
+
+-- there is no room for an event
+abbrev pub is_full : DeskView → Bool
+is_full d = nat_le d.limit (length d.history)
+
+-- each ticket of a new or stale block is queued or out, and no other is
+abbrev pub DeskQueueIsRight : DeskView → Type 0
+DeskQueueIsRight d = (t : ℕ) → has_ticket t d.pending ≡ due_of (find_waiter t (state_of d).waiters)
+
+-- each waiting block has a verdict on the present store
+abbrev pub AllHaveVerdicts : Slow → Type 0
+AllHaveVerdicts s = (t : ℕ) (w : Waiter) → find_waiter t s.waiters ≡ Some w → is_some (verdict_on s.store w.block) ≡ true
+
+-- settling begins with a round, however many events there may be
+abbrev pub SettlesInRounds : Slow → Type 0
+SettlesInRounds s = (room : ℕ) → settling room s ≡ a_round room s

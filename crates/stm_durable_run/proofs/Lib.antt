@@ -1,0 +1,9 @@
+pub mod VerdictsInRange
+pub mod NewEvents
+pub mod Batches
+pub mod RecordedEvents
+pub mod Committing
+pub mod Running
+pub mod Ended
+pub mod RunCrashes
+pub mod ResumedQueue

@@ -1,0 +1,7 @@
+-- What a reader has to believe: what a run leaves in its file, and when an answer is written.
+pub mod DurableRun
+-- The words inside, for what a run keeps between two lines.
+pub mod Committing
+-- What is known of new events, and of their numbers once they are read.
+pub mod NewEvents
+pub mod Ranges

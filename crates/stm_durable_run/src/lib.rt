@@ -1,0 +1,185 @@
+//! Runs that keep their history in a file.
+//!
+//! `run_durable` does what `stm_run::run` does on a desk whose history is kept in a file. Answers are held back until the events
+//! of their lines are in the file and, as the sync mode says, on the disk: so no answer that anybody saw is lost in a crash.
+//! `session` is a run under way, `recording` adds events to the file in batches, `resuming` has the console that a file gives, `ranges`
+//! says that the numbers of events are in range, and `fault` why a run ends.
+//!
+//! What a reader has to believe is in `specs/DurableRun`: the console that a file gives, what the file has, and what a crash may
+//! leave.
+#![tactic(auto)]
+
+ghost use Rattle.std.specs.Prelude.{⊤, false, []};
+
+mod fault;
+mod laws;
+mod ranges;
+mod recording;
+mod resuming;
+mod session;
+mod streams;
+
+pub use fault::DurableFault;
+pub use streams::run_durable;
+
+// No program makes these calls by a script over a device in memory, and no contract says that they succeed.
+#[cfg(test)]
+mod tests {
+    use super::*;
+    use std::alloc::Global;
+    use std::random::RandomSource;
+    use std::test::Fail;
+    use std::thread::Threads;
+    use stm_durable::{Opened, open_history};
+    use stm_journal::{Device, JournalError, Memory, SyncMode};
+    use stm_options::Options;
+    use stm_store::Seed;
+
+    const FIRST: &[u8] = b"tvar x : Int = 1\nsubmit readTVar x\neval\nhistory\n";
+
+    const FIRST_OUT: &[u8] = b"tvar #0 x
+ticket 1
+evaluated 1
+{\"format\":3,\"vars\":1}
+{\"init\":1,\"name\":\"x\",\"type\":\"Int\"}
+{\"block\":\"readTVar x\",\"client\":0,\"event\":\"submitted\",\"ticket\":1}
+{\"client\":0,\"event\":\"installed\",\"ticket\":1,\"verdict\":{\"commits\":{\"news\":[],\"result\":1,\"writes\":[]}}}
+";
+
+    const FIRST_FILE: &[u8] = b"{\"format\":3,\"vars\":1}
+{\"init\":1,\"name\":\"x\",\"type\":\"Int\"}
+{\"block\":\"readTVar x\",\"client\":0,\"event\":\"submitted\",\"ticket\":1}
+{\"client\":0,\"event\":\"installed\",\"ticket\":1,\"verdict\":{\"commits\":{\"news\":[],\"result\":1,\"writes\":[]}}}
+";
+
+    /// The same, and the torn end of a batch that was not opened.
+    const TORN_FILE: &[u8] = b"{\"format\":3,\"vars\":1}
+{\"init\":1,\"name\":\"x\",\"type\":\"Int\"}
+{\"block\":\"readTVar x\",\"client\":0,\"event\":\"submitted\",\"ticket\":1}
+\0\"client\":0,\"event\":\"cancelled\",\"ticket\":1}
+";
+
+    /// What a run over a file with these bytes writes, and what the file then has.
+    fn run_over<T: Threads + RandomSource + Sync>(
+        rt: &T,
+        alloc: Global,
+        bytes: &[u8],
+        input: &[u8],
+    ) -> Result<(Vec<u8>, Vec<u8>), Fail> {
+        let device = Memory::new(alloc, bytes.to_vec(alloc)?);
+        let Opened {
+            mut file,
+            loaded,
+            ..
+        } = open_history(alloc, Seed::fixed(), device, SyncMode::Full).map_err(|e| e.1)?;
+        let mut reader = input;
+        let mut out = Vec::new(alloc);
+        run_durable(
+            rt,
+            alloc,
+            &mut reader,
+            &mut out,
+            &mut file,
+            loaded,
+            Options::standard(),
+        )?;
+        let left = file.journal.device.bytes().to_vec(alloc)?;
+        Ok((out, left))
+    }
+
+    #[test]
+    fn a_run_keeps_its_history(rt: HostRuntime) -> Result<(), Fail> {
+        let (out, left) = run_over(&rt, rt.alloc(), b"", FIRST)?;
+        assert_eq!(rt; out.as_slice(), FIRST_OUT);
+        assert_eq!(rt; left.as_slice(), FIRST_FILE);
+        Ok(())
+    }
+
+    #[test]
+    fn a_run_goes_on(rt: HostRuntime) -> Result<(), Fail> {
+        let (out, left) = run_over(
+            &rt,
+            rt.alloc(),
+            TORN_FILE,
+            b"tvar y : Int = 1\nshow\neval\n",
+        )?;
+        assert_eq!(rt;
+            out.as_slice(),
+            b"refused Late\n1 new\nwaiting 1\nevaluated 1\n".as_slice()
+        );
+        assert_eq!(rt; left.as_slice(), FIRST_FILE);
+        Ok(())
+    }
+
+    /// A device on which nothing can be written.
+    #[derive(Drop)]
+    struct ReadOnly;
+
+    impl Device for ReadOnly {
+        ghost is_honest = { false };
+
+        ghost fills_with_zeros = { false };
+
+        ghost seen = { λ _. [] };
+
+        ghost may_leave = { λ _ _. ⊤ };
+
+        ghost moment = { λ _. 0 };
+
+        ghost left_since = { λ _ _ _. ⊤ };
+
+        ghost faults = { λ _. 0 };
+
+        ghost reads_fail = { λ _. ⊤ };
+
+        ghost may_stay = { λ file. tt };
+
+        ghost counts_now = { λ file t c le now. now };
+
+        ghost only_now = { λ file c left. left };
+
+        fn len(&self) -> Result<usize, JournalError> {
+            Ok(0)
+        }
+
+        fn read_at(&self, _at: usize, _buffer: &mut [u8]) -> Result<usize, JournalError> {
+            Ok(0)
+        }
+
+        fn write_at(&mut self, _at: usize, _bytes: &[u8]) -> Result<(), JournalError> {
+            Err(JournalError::NoSpace)
+        }
+
+        fn cut(&mut self, _len: usize) -> Result<(), JournalError> {
+            Err(JournalError::Failed)
+        }
+
+        fn sync(&mut self) -> Result<(), JournalError> {
+            Ok(())
+        }
+    }
+
+    #[test]
+    fn no_answer_comes_before_its_events(rt: HostRuntime) -> Result<(), Fail> {
+        let alloc = rt.alloc();
+        let Opened {
+            mut file,
+            loaded,
+            ..
+        } = open_history(alloc, Seed::fixed(), ReadOnly, SyncMode::Full).map_err(|e| e.1)?;
+        let mut reader = FIRST;
+        let mut out = Vec::new(alloc);
+        let ended = run_durable(
+            &rt,
+            alloc,
+            &mut reader,
+            &mut out,
+            &mut file,
+            loaded,
+            Options::standard(),
+        );
+        assert_eq!(rt; ended, Err(DurableFault::Journal(JournalError::NoSpace)));
+        assert!(rt; out.is_empty());
+        Ok(())
+    }
+}

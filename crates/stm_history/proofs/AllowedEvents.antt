@@ -1,0 +1,176 @@
+-- What an allowed event says of the state before it: no question is refused, and its fields are the answers.
+use Rattle.std.proofs.Common.{◌≡◌, ◌≢◌, ℕ, ◌+◌, ◌<◌, ◌≤◌, false, List, [], ◌∷◌, ◌++◌, length, Option, Some, None, Result, Ok, Err, OnOk, is_some, refl, sym, ap, ◌∙◌, subst, arith, length-append}
+use Rattle.std.specs.Prelude.{IsSomeAnd, IfSome, option_map}
+use Rattle.stm_terms.specs.declared.kinds.Ty.{Ty}
+use Rattle.stm_terms.specs.declared.values.Value.{Value}
+use Rattle.stm_terms.specs.declared.verdicts.Verdict.{Verdict}
+use Rattle.stm_terms.specs.UnlessNoMemory.{RefusedAs}
+use Rattle.stm_store.specs.Cells.{plains}
+use Rattle.stm_store.specs.Tables.{Declared}
+use Rattle.stm_check.specs.TypedBlock.{Block}
+use Rattle.stm_eval.specs.declared.message.Evaluated.{Evaluated}
+use Rattle.stm_eval.specs.EvaluatedFields.{message_ticket, message_block, message_reads, message_verdict}
+use Rattle.stm_events.specs.declared.errors.DeliverError.{DeliverError}
+use Rattle.stm_events.specs.declared.errors.DeliverError.TheVariants as deliver
+use Rattle.stm_events.specs.declared.event.Event.{Event}
+use Rattle.stm_events.specs.declared.event.What.{What}
+use Rattle.stm_events.specs.declared.event.What.TheVariants.{Submitted, Installed, Finished, Cancelled}
+use Rattle.stm_events.specs.declared.staleness.StalenessRule.{StalenessRule}
+use Rattle.stm_events.specs.Refusals.{differing, install_first, DeliveryRefusedAt, DeliveryRefusedAs}
+use Rattle.stm_events.specs.SlowDesk.{Waiter, Slow, under, verdict_on, find_waiter, without_waiter, stale_after, waking, MayInstall, MayFinish, Allows, AllowsEvent, initial_state, state_by, IsLegalBy, max_events, max_clients, after}
+use Rattle.stm_events.proofs.Folds.{legal_split, state-push, is_legal-push}
+use Rattle.stm_events.proofs.Rising.{next_le}
+use Rattle.stm_machine.specs.JobsHandedOut.{IsPresent, block_at}
+use Rattle.stm_machine.specs.Machine.{Parts, IsAt, HasTicketLeft, MovesBy, event}
+use Rattle.stm_machine.specs.Plans.{IsPlan}
+use Rattle.stm_history.specs.declared.files.replayer.Replayer.{Replayer}
+use Rattle.stm_history.specs.Following.{Follows}
+
+-- ---- a history with one event more
+module _ (rule : StalenessRule) (table : List Declared) (history : List Event) (client : ℕ) (what : What) (a : IsLegalBy rule table (history ++ event client what ∷ [])) where
+  -- the slow desk allows it
+  pub allowed : Allows (state_by rule table history) what
+  allowed = (legal_split (initial_state rule table) history (event client what) a.each).allowed.what
+
+  pub client_low : client < max_clients
+  client_low = (legal_split (initial_state rule table) history (event client what) a.each).allowed.client
+
+  pub before_full : length history < max_events
+  before_full = let l = length-append history (event client what ∷ []) in omega (arith, a.few, l)
+
+-- it is legal where the event is allowed and there is room for it
+pub legal_next : (rule : StalenessRule) (table : List Declared) (history : List Event) (client : ℕ) (what : What) → IsLegalBy rule table history → length history < max_events → client < max_clients → Allows (state_by rule table history) what
+    → IsLegalBy rule table (history ++ event client what ∷ [])
+legal_next rule table history client what legal room low a = is_legal-push rule table history (event client what) legal (omega arith) (record { client = low; what = a })
+
+pub ticket_left : (rule : StalenessRule) (table : List Declared) (history : List Event) → IsLegalBy rule table history → HasTicketLeft (state_by rule table history)
+ticket_left rule table history legal = let few = legal.few in let low = next_le (initial_state rule table) history in omega arith
+
+-- what went through a history went on by an allowed event
+pub follows_next : (rule : StalenessRule) (table : List Declared) (history : List Event) (e : Event) (old new : Replayer) → Follows rule table history old → length history < max_events → e.client < max_clients
+    → Allows (state_by rule table history) e.what → IsAt new.machine (after (state_by rule table history) e.what) → new.events ≡ old.events + 1 → IfSome new.copy (λ cells. cells ≡ plains new.machine.store)
+    → ((es : List Event) → IfSome old.kept (λ events. events.items ≡ es) → IfSome new.kept (λ events. events.items ≡ es ++ e ∷ [])) → Follows rule table (history ++ e ∷ []) new
+follows_next rule table history e old new f room low a at counted copied kept = record {
+  legal = legal_next rule table history e.client e.what f.legal room low a;
+  at = subst (IsAt new.machine) (sym (state-push (initial_state rule table) history e)) at;
+  counted = (let before = f.counted in let longer = length-append history (e ∷ []) in omega arith);
+  copied = copied;
+  kept = kept history f.kept;
+}
+
+-- ---- refusals
+-- a call that isn't refused lacked memory only
+pub only_memory : (A : Type 0) {E : Type 0} (no_memory : E) (o : Option E) (e : E) → o ≡ None → RefusedAs {A = A} no_memory o (Err e) → e ≡ no_memory
+only_memory A no_memory None e none r = r
+only_memory A no_memory (Some reason) e none r = cc
+
+-- what is done isn't refused
+pub not_refused : {A E : Type 0} (no_memory : E) (o : Option E) (x : A) → RefusedAs no_memory o (Ok x) → o ≡ None
+not_refused no_memory None x r = refl
+not_refused no_memory (Some reason) x r = cc
+
+-- an error that isn't for lack of memory is the reason
+pub refused_for : (A : Type 0) {E : Type 0} (no_memory : E) (o : Option E) (e : E) → RefusedAs {A = A} no_memory o (Err e) → e ≢ no_memory → o ≡ Some e
+refused_for A no_memory None e r n = absurd (n r)
+refused_for A no_memory (Some reason) e r n = cc
+
+-- ---- submit
+pub submit_moves : (t u : ℕ) (a b : Block) (m n : Parts) → MovesBy (Submitted t a) m n → t ≡ u → a ≡ b → MovesBy (Submitted u b) m n
+submit_moves t u a b m n moved e f = subst (λ (x : ℕ). MovesBy (Submitted x b) m n) e (subst (λ (x : Block). MovesBy (Submitted t x) m n) f moved)
+
+-- ---- finish
+-- the fields are those of the block
+pub record AreSame (v u : Verdict) (n m : ℕ) (k l : List ℕ) : Type 0 where
+  pub verdicts : v ≡ u
+  pub firsts : n ≡ m
+  pub tickets : k ≡ l
+
+some_same : {A : Type 0} (x y : A) (o : Option A) → o ≡ Some x → o ≡ Some y → x ≡ y
+some_same x y o e f = cc
+
+finish_same_by : (s : Slow) (t : ℕ) (v u : Verdict) (n m : ℕ) (k l : List ℕ) (o : Option Waiter) → IsSomeAnd o (λ w. MayFinish s t w v n k) → IsSomeAnd o (λ w. MayFinish s t w u m l) → AreSame v u n m k l
+finish_same_by s t v u n m k l None f g = absurd f
+finish_same_by s t v u n m k l (Some w) f g =
+    let e : v ≡ u = some_same v u (verdict_on s.store w.block) f.verdict_is g.verdict_is in
+    record {
+      verdicts = e;
+      firsts = f.first_new ∙ sym g.first_new;
+      tickets = f.listed ∙ ap (λ (x : Verdict). stale_after (waking s.rule s.store x) (without_waiter t s.waiters)) e ∙ sym g.listed;
+    }
+
+-- what is planned is allowed
+pub plan_allowed : (s : Slow) (t : ℕ) (v : Verdict) (n : ℕ) (stale : List ℕ) → IsPlan s t v n stale → Allows s (Finished t v n stale)
+plan_allowed s t v n stale p = subst (λ (o : Option Waiter). IsSomeAnd o (λ w. MayFinish s t w v n stale)) (sym p.found) p.may
+
+-- an allowed finish has the fields of the plan
+pub finish_same : (s : Slow) (t : ℕ) (v u : Verdict) (n m : ℕ) (k l : List ℕ) → IsPlan s t v n k → Allows s (Finished t u m l) → AreSame v u n m k l
+finish_same s t v u n m k l p a = finish_same_by s t v u n m k l (find_waiter t s.waiters) (plan_allowed s t v n k p) a
+
+-- ---- install
+-- a message of the present store is not refused if its verdict may be installed
+install_by : (A : Type 0) (s : Slow) (v : Verdict) (e : DeliverError) (w : Waiter) (o : Option Waiter) (m : Evaluated) → o ≡ Some w → IsSomeAnd o (λ w. MayInstall s w v) → message_block m ≡ w.block
+    → differing (under s.store) (message_reads m) ≡ None → DeliveryRefusedAt {A = A} s.store false o (message_block m) (message_reads m) (Err e) → e ≡ deliver.NoMemory
+install_by A s v e w None m f a b d k = absurd a
+install_by A s v e w (Some x) m f a b d k =
+    let q : x ≡ w = cc in
+    let trees : x.block.tree ≡ (message_block m).tree = ap (λ (y : Waiter). y.block.tree) q ∙ ap (λ (y : Block). y.tree) (sym b) in
+    only_memory A deliver.NoMemory (install_first s.store false x (message_reads m)) e (rw (a.not_current, d) refl) (k.1 trees)
+
+pub install_only_memory : (A : Type 0) (s : Slow) (v : Verdict) (e : DeliverError) (m : Evaluated) → Allows s (Installed (message_ticket m) v) → IsPresent s (message_ticket m) m
+    → DeliveryRefusedAs {A = A} s false (message_ticket m) (message_block m) (message_reads m) (Err e) → e ≡ deliver.NoMemory
+install_only_memory A s v e m a p k = install_by A s v e p.one (find_waiter (message_ticket m) s.waiters) m p.found a p.block p.differs k
+
+install_same_by : (s : Slow) (v u : Verdict) (w : Waiter) (o : Option Waiter) → o ≡ Some w → IsSomeAnd o (λ w. MayInstall s w v) → verdict_on s.store w.block ≡ Some u → u ≡ v
+install_same_by s v u w None f m e = absurd m
+install_same_by s v u w (Some x) f m e =
+    let q : x ≡ w = cc in
+    some_same u v (verdict_on s.store w.block) e (ap (λ (y : Waiter). verdict_on s.store y.block) (sym q) ∙ m.verdict_is)
+
+-- an allowed verdict is the one that the message brings
+pub install_same : (s : Slow) (v : Verdict) (m : Evaluated) → Allows s (Installed (message_ticket m) v) → IsPresent s (message_ticket m) m → message_verdict m ≡ v
+install_same s v m a p = install_same_by s v (message_verdict m) p.one (find_waiter (message_ticket m) s.waiters) p.found a p.verdict
+
+one_waits : (s : Slow) (v : Verdict) (o : Option Waiter) → IsSomeAnd o (λ w. MayInstall s w v) → option_map (λ w. w.block) o ≢ None
+one_waits s v None m e = m
+one_waits s v (Some w) m e = cc
+
+pub block_waits : (s : Slow) (t : ℕ) (v : Verdict) → Allows s (Installed t v) → block_at s t ≢ None
+block_waits s t v a = one_waits s v (find_waiter t s.waiters) a
+
+-- ---- the store stays, but for a finish
+abbrev pub KeepsStore : What → Type 0
+KeepsStore (Submitted t b) = Unit {0}
+KeepsStore (Installed t v) = Unit {0}
+KeepsStore (Finished t v n stale) = ⊥
+KeepsStore (Cancelled t) = Unit {0}
+
+after_keeps : (s : Slow) (what : What) → KeepsStore what → (after s what).store ≡ s.store
+after_keeps s (Submitted t b) k = refl
+after_keeps s (Installed t v) k = refl
+after_keeps s (Finished t v n stale) k = absurd k
+after_keeps s (Cancelled t) k = refl
+
+store_kept : (s : Slow) (what : What) (m n : Parts) → KeepsStore what → IsAt m s → MovesBy what m n → n.store ≡ m.store
+store_kept s what m n k h moved = (moved s h).1.stands.store_is ∙ after_keeps s what k ∙ sym h.stands.store_is
+
+-- a copy of the store stays one
+pub copy_kept : {E : Type 0} (r : Result Unit E) (s : Slow) (what : What) (m n : Parts) (copy : Option (List (Ty × Value))) → KeepsStore what → IsAt m s → OnOk r (MovesBy what m n)
+    → IfSome copy (λ cells. cells ≡ plains m.store) → OnOk r (IfSome copy (λ cells. cells ≡ plains n.store))
+copy_kept (Ok x) s what m n None k h moved c = tt
+copy_kept (Ok x) s what m n (Some cells) k h moved c = c ∙ ap plains (sym (store_kept s what m n k h moved))
+copy_kept (Err e) s what m n copy k h moved c = tt
+
+made_by_copy : (s : Slow) (what : What) (m n : Parts) (copy : Option (List (Ty × Value))) → KeepsStore what → IsAt m s → MovesBy what m n → copy ≡ Some (plains m.store) → IfSome copy (λ cells. cells ≡ plains n.store)
+made_by_copy s what m n None k h moved c = tt
+made_by_copy s what m n (Some cells) k h moved c =
+    let same : cells ≡ plains m.store = cc in
+    same ∙ ap plains (sym (store_kept s what m n k h moved))
+
+pub copy_made : {E : Type 0} (r : Result Unit E) (s : Slow) (what : What) (m n : Parts) (copy : Option (List (Ty × Value))) → KeepsStore what → IsAt m s → OnOk r (MovesBy what m n) → OnOk r (copy ≡ Some (plains m.store))
+    → OnOk r (IfSome copy (λ cells. cells ≡ plains n.store))
+copy_made (Ok x) s what m n copy k h moved c = made_by_copy s what m n copy k h moved c
+copy_made (Err e) s what m n copy k h moved c = tt
+
+pub map_none : {A B : Type 0} (f : A → B) (o : Option A) → is_some o ≡ false → option_map f o ≡ None
+map_none f None e = refl
+map_none f (Some x) e = cc

@@ -1,0 +1,64 @@
+-- What the slow desk allows, no call refuses.
+use Rattle.std.proofs.Common.{◌≡◌, ℕ, ◌+◌, ◌≤◌, true, false, not, List, [], ◌∷◌, length, Option, Some, None, refl, ap, sym, ◌∙◌, arith, subst}
+use Rattle.std.specs.Prelude.{nat_eq, nat_le, IsSomeAnd}
+use Rattle.std.proofs.lemmas.Bool.Decides.{nat_tests}
+use Rattle.stm_terms.specs.declared.kinds.Ty.{Ty}
+use Rattle.stm_terms.specs.declared.kinds.Base.{Base}
+use Rattle.stm_terms.specs.declared.kinds.Base.TheVariants as base
+use Rattle.stm_terms.specs.declared.values.Value.{Value}
+use Rattle.stm_terms.specs.declared.verdicts.Verdict.{Verdict}
+use Rattle.stm_terms.specs.Typing.{same_base, same_ty}
+use Rattle.stm_store.specs.declared.cell.Cell.{Cell}
+use Rattle.stm_store.specs.Cells.{plains, Covers, kinds_of, made_by}
+use Rattle.stm_store.specs.Tables.{is_type}
+use Rattle.stm_check.specs.TypedBlock.{Block}
+use Rattle.stm_events.specs.declared.event.What.TheVariants.{Submitted, Finished, Cancelled}
+use Rattle.stm_events.specs.SlowDesk.{Since, Waiter, Slow, is_new_since, current_since, MayFinish, find_waiter, Allows, max_waiting, max_cells}
+use Rattle.stm_events.specs.Refusals.{missing, submit_refused, cancel_first, cancel_refused, overflows, finish_first, finish_refused}
+
+-- ---- a block that is submitted
+same_base_itself : (b : Base) → same_base b b ≡ true
+same_base_itself base.Int = refl
+same_base_itself base.Bool = refl
+same_base_itself base.Unit = refl
+
+number_itself : (n : ℕ) → nat_eq n n ≡ true
+number_itself n = grind (arith, nat_tests)
+
+same_ty_itself : (t : Ty) → same_ty t t ≡ true
+same_ty_itself t = rw (same_base_itself t.base) (number_itself t.refs)
+
+kind_there : (o : Option Ty) (t : Ty) → o ≡ Some t → is_type o t ≡ true
+kind_there o t e = ap (λ (x : Option Ty). is_type x t) e ∙ same_ty_itself t
+
+missing_none : (cells : List (Ty × Value)) (uses : List (ℕ × Ty)) → Covers cells uses → missing cells uses ≡ None
+missing_none cells [] c = refl
+missing_none cells (u ∷ us) c = rw (kind_there (kinds_of cells u.0) u.1 c.0) (missing_none cells us c.1)
+
+pub submit_not_refused : (s : Slow) (t : ℕ) (b : Block) → Allows s (Submitted t b) → submit_refused s false b ≡ None
+submit_not_refused s t b a =
+    let few : nat_le max_waiting (length s.waiters) ≡ false = (let h = a.2 in grind (arith, nat_tests)) in
+    rw (missing_none (plains s.store) b.uses a.1, few) refl
+
+-- ---- a block that is cancelled
+cancel_by : (o : Option Waiter) → IsSomeAnd o (λ w. Unit {0}) → cancel_first o false ≡ None
+cancel_by None a = absurd a
+cancel_by (Some w) a = refl
+
+pub cancel_not_refused : (s : Slow) (t : ℕ) → Allows s (Cancelled t) → cancel_refused s false t ≡ None
+cancel_not_refused s t a = cancel_by (find_waiter t s.waiters) a
+
+-- ---- a block that finishes
+current_old : (b : Block) (o : Option Since) → current_since b o ≡ true → is_new_since o ≡ false
+current_old b None c = cc
+current_old b (Some s) c = refl
+
+room_there : (store : List Cell) (v : Verdict) → length store + length (made_by v) ≤ max_cells → overflows store (Some v) ≡ false
+room_there store v h = let e : nat_le (length store + length (made_by v)) max_cells ≡ true = grind (arith, nat_tests) in ap not e
+
+finish_by : (s : Slow) (t : ℕ) (v : Verdict) (n : ℕ) (stale : List ℕ) (o : Option Waiter) → IsSomeAnd o (λ w. MayFinish s t w v n stale) → finish_first s.store false o ≡ None
+finish_by s t v n stale None m = absurd m
+finish_by s t v n stale (Some w) m = rw (current_old w.block w.since m.current, m.current, m.verdict_is, m.ends, room_there s.store v m.room) refl
+
+pub finish_not_refused : (s : Slow) (t : ℕ) (v : Verdict) (n : ℕ) (stale : List ℕ) → Allows s (Finished t v n stale) → finish_refused s false t ≡ None
+finish_not_refused s t v n stale a = finish_by s t v n stale (find_waiter t s.waiters) a

@@ -1,0 +1,68 @@
+-- What is reported where lines stop being accepted.
+use Rattle.std.proofs.Common.{◌≡◌, ◌≢◌, ℕ, ◌++◌, ◌∷◌, List, [], take, drop, refl, sym, ap, ◌∙◌, subst, append-nil, ◌⊎◌, inl, inr, Result, Ok, Err, IfErr}
+use Rattle.std.proofs.lemmas.List.{take-append-drop}
+use Rattle.stm_history.specs.declared.files.check.Stage.{Stage}
+use Rattle.stm_history.specs.declared.files.explanation.Explanation.{Explanation}
+use Rattle.stm_history.specs.declared.files.fault.HistoryFault.{HistoryFault}
+use Rattle.stm_history.specs.declared.files.fault.HistoryFault.TheVariants.{NoMemory, ReadFault}
+use Rattle.stm_history.specs.Checking.{CheckerState, at_header, at_variables, at_events, Forbids, ForbidsNext, IsFaultAt, LinesUpTo, NoFeed, StopsAt, strange}
+use Rattle.stm_history.specs.Explanation.{Explains, IsAfterLine, ReportsWhy, line_after}
+use Rattle.stm_history.specs.Judgement.{ReportsFault}
+use Rattle.stm_event_lines.specs.Lines.{event_line}
+use Rattle.stm_history.specs.Stages.{IsStage, Reached}
+use Rattle.stm_history.specs.Stopping.{IsAfter, IsReportedAfter}
+use Rattle.stm_history.proofs.CutsAtLineFeeds.{cut_unique, no_feed_at_end}
+use Rattle.stm_history.proofs.OneProgress.{one_progress}
+use Rattle.stm_history.proofs.RefusedLines.{event_no_feed}
+
+-- ---- after whole lines
+pub after_all : (front line : List ℕ) (s : Stage) (whole : ℕ) → Reached s whole line front → line ≡ [] → IsAfter front s
+after_all front line s whole h e =
+    let held = h.held in
+    let same : front ≡ held.whole = held.taken_is ∙ ap (λ (x : List ℕ). held.whole ++ x) e ∙ append-nil held.whole in
+    record { progress = h.progress; stage = h.stage; lines = subst (LinesUpTo h.progress) (sym same) held.lines }
+
+pub reported_after : (front line : List ℕ) (s : Stage) (number : ℕ) (x : Explanation) → IsAfter front s → ((p : CheckerState) → IsStage s p → number ≡ line_after p) → ((p : CheckerState) → IsStage s p → Explains p line x) → IsReportedAfter front line number x
+reported_after front line s number x h n e = record { progress = h.progress; lines = h.lines; counted = n h.progress h.stage; why = e h.progress h.stage }
+
+-- ---- one line
+pub same_line : (xs a ys b : List ℕ) → NoFeed xs → NoFeed ys → IsAfterLine a → IsAfterLine b → xs ++ a ≡ ys ++ b → xs ≡ ys
+same_line xs a ys b h k (inl e) (inl f) s = sym (append-nil xs) ∙ ap (λ (x : List ℕ). xs ++ x) (sym e) ∙ s ∙ ap (λ (x : List ℕ). ys ++ x) f ∙ append-nil ys
+same_line xs a ys b h k (inl e) (inr f) s = absurd (no_feed_at_end xs ys f.0 h (sym (append-nil xs) ∙ ap (λ (x : List ℕ). xs ++ x) (sym e) ∙ s ∙ ap (λ (x : List ℕ). ys ++ x) f.1))
+same_line xs a ys b h k (inr e) (inl f) s = absurd (no_feed_at_end ys xs e.0 k (sym (append-nil ys) ∙ ap (λ (x : List ℕ). ys ++ x) (sym f) ∙ sym s ∙ ap (λ (x : List ℕ). xs ++ x) e.1))
+same_line xs a ys b h k (inr e) (inr f) s = (cut_unique xs e.0 ys f.0 h k (ap (λ (x : List ℕ). xs ++ x) (sym e.1) ∙ s ∙ ap (λ (x : List ℕ). ys ++ x) f.1)).line
+
+-- the fault is that of the line
+forbids_line : (p : CheckerState) (line after : List ℕ) (f : HistoryFault) → NoFeed line → IsAfterLine after → ForbidsNext p (line ++ after) f → Forbids p line f
+forbids_line at_header line after f n a h = absurd h
+forbids_line (at_variables format m table) line after f n a h = absurd h
+forbids_line (at_events format table history) line after f n a h =
+    let feed = event_no_feed table h.0 h.3 in
+    let same : line ≡ event_line h.0 = same_line line after (event_line h.0) (10 ∷ h.1) n feed a (inr (h.1, refl)) h.2 in
+    (h.0, sym same, h.3, h.4, h.6, h.7)
+
+fault_of_line : (p : CheckerState) (line after : List ℕ) (f : HistoryFault) → f ≢ ReadFault → f ≢ NoMemory → NoFeed line → IsAfterLine after → IsFaultAt p (line ++ after) f → (f ≡ strange p) ⊎ Forbids p line f
+fault_of_line p line after f r m n a (inl e) = absurd (r e)
+fault_of_line p line after f r m n a (inr (inl e)) = absurd (m e)
+fault_of_line p line after f r m n a (inr (inr (inl e))) = inl e.0
+fault_of_line p line after f r m n a (inr (inr (inr e))) = inr (forbids_line p line after f n a e)
+
+pub why_at : (bytes line after : List ℕ) (f : HistoryFault) (whole number : ℕ) (x : Explanation) → StopsAt f whole bytes → f ≢ ReadFault → f ≢ NoMemory
+    → drop whole bytes ≡ line ++ after → NoFeed line → IsAfterLine after → IsReportedAfter (take whole bytes) line number x → ReportsWhy bytes f number x
+why_at bytes line after f whole number x s r m text one_line ends reported =
+    let front = take whole bytes in
+    let progress : s.progress ≡ reported.progress = one_progress s.progress reported.progress front s.lines reported.lines in
+    let fault = fault_of_line s.progress line after f r m one_line ends (subst (λ (z : List ℕ). IsFaultAt s.progress z f) text s.fault) in
+    record {
+      progress = reported.progress;
+      accepted = front;
+      line = line;
+      rest = after;
+      text = sym (take-append-drop whole bytes) ∙ ap (λ (z : List ℕ). front ++ z) text;
+      lines = reported.lines;
+      one_line = one_line;
+      ends = ends;
+      fault = subst (λ (p : CheckerState). (f ≡ strange p) ⊎ Forbids p line f) progress fault;
+      counted = reported.counted;
+      why = reported.why;
+    }
