@@ -2490,30 +2490,39 @@ class Journals(OnProgram):
         asyncio.run(second())
 
     def test_a_hundred_kills(self):
-        """Commands are given in batches, and the program is killed at a random moment; again and again on one file. Each time the
-        file has each event that was acknowledged, and after that at most events of the commands that weren't answered yet."""
+        """Commands are given in batches, and the program is killed at a random moment; ten times on each of ten files. Each time
+        the file has each event that was acknowledged, and after that at most events of the commands that weren't answered yet."""
         signal.alarm(5 * SECONDS)
         chance = random.Random(1)
-        events, given, unanswered, answered = [], [], 0, 0
+        answered = unanswered = 0
+        for number in range(10):
+            self.path = self.path.with_name(f"journal{number}")
+            for given in self.kills(chance, 10):
+                answered += sum(it.error is None for _, _, it in given)
+                unanswered += sum(isinstance(it.error, Ended) for _, _, it in given)
+        self.assertTrue(answered > 100 and unanswered > 100, f"{answered} commands were answered, and {unanswered} not")
+
+    def kills(self, chance, count):
+        """Has the program killed a number of times on one file. Yields what was given to it each time."""
+        events, given = [], []
         with self.open() as desk:
             desk.tvar("x : Int = 0")
             desk.store()
-        for _ in range(101):
+        for number in range(count + 1):
             with self.open(sync=chance.choice(("full", "append", "none"))) as desk:
                 found = desk.events()
                 self.assertEqual(found[: len(events)], events)
                 self.assertEqual(self.explained(given, found[len(events) :]), [])
                 events, given = found, []
+                if number == count:
+                    break
                 threading.Timer(chance.uniform(0, 0.08), os.kill, [desk.pid, signal.SIGKILL]).start()
                 with self.assertRaises(Ended) as caught:
                     while True:
                         self.give(desk, chance, given)
                 self.assertEqual(caught.exception.status, -signal.SIGKILL)
-            answered += sum(it.error is None for _, _, it in given)
-            unanswered += sum(isinstance(it.error, Ended) for _, _, it in given)
-        with self.open():
-            self.assertGreaterEqual(check(self.path, program=program).events, len(events))
-        self.assertTrue(answered > 100 and unanswered > 100, f"{answered} commands were answered, and {unanswered} not")
+            yield given
+        self.assertEqual(check(self.path, program=program).events, len(events))
 
     @staticmethod
     def give(desk, chance, given):

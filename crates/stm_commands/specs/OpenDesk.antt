@@ -18,7 +18,7 @@ pub record OpenDesk : Type 0 where
   pub desk : DeskView
   pub jobs : List HandedOut
 
--- the desk on which nothing has happened, with these variables and room for so many events
+-- the desk on which nothing has happened, with these variables and a limit of events
 abbrev pub opened_desk : List Declared → ℕ → OpenDesk
 opened_desk table limit = record { desk = record { table = table; limit = limit; history = []; pending = [] }; jobs = [] }
 

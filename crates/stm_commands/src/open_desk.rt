@@ -62,7 +62,7 @@ impl Model for OpenDesk {
 }
 
 impl OpenDesk {
-    /// Opens a desk on the declared variables, with room for so many events.
+    /// Opens a desk on the declared variables, whose history holds `limit` events at most.
     pub fn open(alloc: Global, table: &Table, limit: u32) -> Result<OpenDesk, NoMemory>
         requires { limit ≤ max_events }
         ensures { IfOk result (λ d. d ≡ opened_desk table.now limit) }

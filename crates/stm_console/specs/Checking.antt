@@ -7,7 +7,7 @@ use Rattle.stm_history.specs.Judgement.{IsHistory, ReportsFault}
 use Rattle.stm_console.specs.declared.checking.Finding.{Finding}
 use Rattle.stm_console.specs.declared.checking.Finding.TheVariants.{Legal as LegalFound, BadHeader, BadLine, NotLegal}
 
--- the bytes are the text of a legal history of so many events, or this is their first fault
+-- the bytes are the text of a legal history with this number of events, or this is their first fault
 abbrev pub IsFinding : List ℕ → Finding → Type 0
 IsFinding bytes (LegalFound events) = (n : Legal) × IsHistory bytes n × (events ≡ n.events)
 IsFinding bytes BadHeader = ReportsFault fault.BadHeader bytes

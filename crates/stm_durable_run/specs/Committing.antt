@@ -37,7 +37,7 @@ pub record MayBegin (s : Console) : Type 0 where
   pub typed : SubmittedAreWellTyped (events_of s)
 
 -- Of the lines since the run began, some were answered, and others followed that led to this console. The file, of which K says whose
--- history it has, has that of the answered ones: so many events.
+-- history it has, has that of the answered ones; `recorded` is the number of its events.
 pub record MayCommit (K : Console → Type 0) (console : Console) (recorded : ℕ) : Type 0 where
   pub first : Console
   pub answered : List (List ℕ)

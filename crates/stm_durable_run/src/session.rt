@@ -65,7 +65,7 @@ impl Drop for DurableSession {
 }
 
 impl DurableSession {
-    /// A run that begins as a console of which so many events are in the file.
+    /// A run that begins with this console. The file has the first `recorded` of its events.
     pub(crate) fn new(
         alloc: Global,
         console: Console,
@@ -154,7 +154,7 @@ impl DurableSession {
         }
     }
 
-    /// Sees the events of all lines so far to the file, and then writes the answers that are held.
+    /// Records the events of all lines so far in the file, and then writes the answers that are held.
     pub(crate) fn commit<D: Device, W: Write>(
         &mut self,
         alloc: Global,

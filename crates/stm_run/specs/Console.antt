@@ -95,11 +95,11 @@ abbrev pub answers_to : Console → List (List ℕ) → List ℕ
 answers_to s [] = []
 answers_to s (line ∷ rest) = answer_to s line ++ answers_to (state_after s line) rest
 
--- before the first line no variable is declared and the desk isn't open; its history will have room for so many events
+-- before the first line no variable is declared and the desk isn't open; its history will hold `max_events` events
 unfoldable pub initial_console : ℕ → Console
 initial_console max_events = Declaring [] max_events
 
--- what the console writes for an input, with a desk that takes so many events
+-- what the console writes for an input, with a desk that takes `max_events` events
 unfoldable pub console_text : ℕ → List ℕ → List ℕ
 console_text max_events input = answers_to (initial_console max_events) (lines_of input)
 

@@ -108,7 +108,7 @@ impl Console {
     ghost use Rattle.std.specs.Borrow.{sem};
     ghost use Rattle.stm_run.specs.LentDesk.{LendsDesk};
 
-    /// A console of no variables, whose names will be looked up under the seed, and whose desk will take so many events.
+    /// A console of no variables, whose names will be looked up under the seed, and whose desk will take `limit` events.
     #[tactic(auto, unfolding(crate::specs::Console::initial_console))]
     pub fn new(alloc: Global, seed: Seed, limit: EventLimit) -> Console
         ensures { result ≡ initial_console limit }

@@ -48,7 +48,7 @@ fn lock(file: &File) -> Result<(), OpenError> {
     }
 }
 
-/// Sees the name of a file to the disk.
+/// Syncs the folder of a file, so that its name is on the disk.
 fn sync_folder(rt: &HostRuntime, path: &str) -> Result<(), OpenError> {
     let folder = match Path::new(path).parent() {
         Some(folder) if !folder.as_str().is_empty() => folder.as_str(),
