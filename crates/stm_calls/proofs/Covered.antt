@@ -4,8 +4,8 @@ use Rattle.stm_terms.specs.declared.kinds.Ty.{Ty}
 use Rattle.stm_terms.specs.declared.values.Value.{Value}
 use Rattle.stm_store.specs.Cells.{Covers}
 use Rattle.stm_eval.specs.declared.job.Job.{Job}
-use Rattle.stm_machine.specs.JobsHandedOut.{AreCovered}
+use Rattle.stm_machine.specs.JobsHandedOut.{AreJobsCovered}
 
-pub covered_push : (cells : List (Ty × Value)) (js : List Job) (j : Job) → AreCovered cells js → Covers cells j.block.uses → AreCovered cells (js ++ j ∷ [])
+pub covered_push : (cells : List (Ty × Value)) (js : List Job) (j : Job) → AreJobsCovered cells js → Covers cells j.block.uses → AreJobsCovered cells (js ++ j ∷ [])
 covered_push cells [] j h one = (one, tt)
 covered_push cells (x ∷ js) j h one = (h.0, covered_push cells js j h.1 one)

@@ -3,7 +3,7 @@
 ghost use Rattle.std.specs.Prelude.{◌<◌, IfOk, OnOk};
 ghost use Rattle.stm_store.specs.Cells.{Covers};
 ghost use Rattle.stm_events.specs.SlowDesk.{max_clients};
-ghost use Rattle.stm_machine.specs.JobsHandedOut.{AreCovered};
+ghost use Rattle.stm_machine.specs.JobsHandedOut.{AreJobsCovered};
 
 use crate::words::say;
 use std::alloc::{AllocError, Global};
@@ -128,8 +128,8 @@ pub fn evaluate_jobs(work: &mut Work, alloc: Global, out: &mut String) -> Result
 
 /// A copy of the job at the end of the list, if the store covers it; its block is shared.
 fn push_copy(copied: &mut Vec<Job>, job: &Job, frozen: &Frozen) -> Result<(), AllocError>
-    requires { AreCovered frozen.now copied.old.items }
-    ensures { OnOk result (AreCovered frozen.now copied.new.items) }
+    requires { AreJobsCovered frozen.now copied.old.items }
+    ensures { OnOk result (AreJobsCovered frozen.now copied.new.items) }
 {
     if !frozen.covers(job.block.block().uses()) {
         return Ok(());
@@ -144,7 +144,7 @@ fn push_copy(copied: &mut Vec<Job>, job: &Job, frozen: &Frozen) -> Result<(), Al
 
 /// Copies of the jobs that the store covers.
 pub fn copies(jobs: &[Job], frozen: &Frozen, alloc: Global) -> Result<Vec<Job>, AllocError>
-    ensures { IfOk result (λ v. AreCovered frozen.now v.items) }
+    ensures { IfOk result (λ v. AreJobsCovered frozen.now v.items) }
 {
     let mut copied = Vec::new(alloc);
     for job in jobs {

@@ -18,7 +18,7 @@ use Rattle.stm_events.specs.declared.event.Event.{Event}
 use Rattle.stm_events.specs.declared.event.What.TheVariants.{Installed}
 use Rattle.stm_queue.specs.Queue.{Entry}
 use Rattle.stm_store.specs.Cells.{plains}
-use Rattle.stm_machine.specs.JobsHandedOut.{AreJobs, AreCovered, sent}
+use Rattle.stm_machine.specs.JobsHandedOut.{AreJobs, AreJobsCovered, sent}
 use Rattle.stm_events.specs.Laws.{BlocksStay}
 use Rattle.stm_events.specs.declared.errors.DeliverError.TheVariants.{Gone, NoMemory}
 use Rattle.stm_events.specs.Refusals.{install_first, DeliveryRefusedAt}
@@ -136,6 +136,6 @@ pub evaluated_all : {E : Type 0} → (d e f : DeskView) (cells : List (Ty × Val
     → IfOk r (λ p. record { desk = f; count = p.count; stop = p.stop } ≡ evaluated d)
 evaluated_all d e f cells js r q t s a h = progress_is f _ _ r (taken_all d e cells js q t s a) h
 
-pub given_queued : (d e : DeskView) (cells : List (Ty × Value)) (js : List Job) → e ≡ record d { pending = sent (length js) d.pending } → AreJobs (state_of d) js → AreCovered cells js → JobsStand e (map (handed_out cells) js)
+pub given_queued : (d e : DeskView) (cells : List (Ty × Value)) (js : List Job) → e ≡ record d { pending = sent (length js) d.pending } → AreJobs (state_of d) js → AreJobsCovered cells js → JobsStand e (map (handed_out cells) js)
 given_queued d e cells js q a c =
     subst (λ (f : DeskView). JobsStand f (map (handed_out cells) js)) (sym q) (queued_stand d (sent (length js) d.pending) (map (handed_out cells) js) (given_stand d cells js a c))

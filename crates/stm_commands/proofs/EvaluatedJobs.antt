@@ -9,7 +9,7 @@ use Rattle.stm_eval.specs.declared.job.Job.{Job}
 use Rattle.stm_eval.specs.declared.message.Evaluated.{Evaluated}
 use Rattle.stm_eval.specs.EvaluatedFields.{message_ticket}
 use Rattle.stm_events.specs.declared.errors.DeliverError.{DeliverError}
-use Rattle.stm_machine.specs.JobsHandedOut.{AreCovered}
+use Rattle.stm_machine.specs.JobsHandedOut.{AreJobsCovered}
 use Rattle.stm_events.specs.Laws.{BlocksStay}
 use Rattle.stm_events.specs.SlowDesk.{IsLegal}
 use Rattle.stm_pool.specs.Answers.{IsMessageOf, AnswersJob}
@@ -95,7 +95,7 @@ each_answers cells (j ∷ js) (a ∷ rest) n f = (f 0 j a (omega arith), each_an
 -- ---- batches
 -- the jobs that are left, which are evaluated and delivered to a desk yet
 pub record AreLeft (cells : List (Ty × Value)) (so_far whole : Delivered) (jobs : List Job) : Type 0 where
-  pub covered : AreCovered cells jobs
+  pub covered : AreJobsCovered cells jobs
   pub stand : JobsStand so_far.desk (map (handed_out cells) jobs)
   pub done : delivered_all so_far (map (handed_out cells) jobs) ≡ whole
 
@@ -103,7 +103,7 @@ delivered_append : (d : Delivered) (js ks : List HandedOut) → delivered_all d 
 delivered_append d [] ks = refl
 delivered_append d (j ∷ js) ks = delivered_append (delivered_next d j d.stop) js ks
 
-covered_both : (cells : List (Ty × Value)) (js ks : List Job) → AreCovered cells (js ++ ks) → AreCovered cells js × AreCovered cells ks
+covered_both : (cells : List (Ty × Value)) (js ks : List Job) → AreJobsCovered cells (js ++ ks) → AreJobsCovered cells js × AreJobsCovered cells ks
 covered_both cells [] ks c = (tt, c)
 covered_both cells (j ∷ js) ks c = let b = covered_both cells js ks c.1 in ((c.0, b.0), b.1)
 
@@ -112,7 +112,7 @@ stand_both d cells [] ks s = (tt, s)
 stand_both d cells (j ∷ js) ks s = let b = stand_both d cells js ks s.1 in ((s.0, b.0), b.1)
 
 -- the first of them, as a batch
-pub batch_covered : (cells : List (Ty × Value)) (d whole : Delivered) (batch rest : List Job) → AreLeft cells d whole (batch ++ rest) → AreCovered cells batch
+pub batch_covered : (cells : List (Ty × Value)) (d whole : Delivered) (batch rest : List Job) → AreLeft cells d whole (batch ++ rest) → AreJobsCovered cells batch
 batch_covered cells d whole batch rest l = (covered_both cells batch rest l.covered).0
 
 pub batch_stands : (cells : List (Ty × Value)) (d whole : Delivered) (batch rest : List Job) → AreLeft cells d whole (batch ++ rest) → JobsStand d.desk (map (handed_out cells) batch)

@@ -11,8 +11,7 @@ use Rattle.stm_events.specs.Laws.{AreRising}
 use Rattle.stm_events.specs.SlowDesk.{Waiter, Slow, waking, find_waiter, without_waiter, with_delivery, after_writes, after, Allows, initial_state, state_from, state, LegalFrom, IsLegal}
 use Rattle.stm_events.proofs.Folds.{state-append}
 use Rattle.stm_events.proofs.Kept.{legal-append}
-use Rattle.stm_events.proofs.Rising.{rising_after, rising_state, waiter_without, waiter_delivered, waiter_marks, waiter_push}
-use Rattle.stm_events.proofs.Since.{low}
+use Rattle.stm_events.proofs.Rising.{rising_after, rising_state, low, waiter_without, waiter_delivered, waiter_marks, waiter_push}
 
 -- the ticket was given
 record IsGiven (t : ℕ) (s : Slow) : Type 0 where

@@ -13,7 +13,7 @@ use Rattle.stm_events.specs.declared.errors.SubmitError.{SubmitError}
 use Rattle.stm_events.specs.declared.event.Event.{Event}
 use Rattle.stm_events.specs.declared.event.What.{What}
 use Rattle.stm_events.specs.declared.event.What.TheVariants.{Submitted, Finished, Cancelled}
-use Rattle.stm_machine.specs.JobsHandedOut.{block_at, AreJobs, AreCovered}
+use Rattle.stm_machine.specs.JobsHandedOut.{block_at, AreJobs, AreJobsCovered}
 use Rattle.stm_machine.specs.Machine.{event}
 use Rattle.stm_events.specs.SlowDesk.{Slow, IsLegal, state, state_from, after, initial_state}
 use Rattle.stm_events.specs.declared.staleness.StalenessRule.TheVariants.{Changed}
@@ -104,7 +104,7 @@ kept_without d e copy ks g k = record {
 }
 
 -- jobs that a desk gives out stand
-pub given_stand : (d : DeskView) (cells : List (Ty × Value)) (js : List Job) → AreJobs (state_of d) js → AreCovered cells js → JobsStand d (map (handed_out cells) js)
+pub given_stand : (d : DeskView) (cells : List (Ty × Value)) (js : List Job) → AreJobs (state_of d) js → AreJobsCovered cells js → JobsStand d (map (handed_out cells) js)
 given_stand d cells [] a c = tt
 given_stand d cells (j ∷ js) a c = (record { covered = c.0; before = d.history; more = []; history = sym (append-nil d.history); waited = a.0 }, given_stand d cells js a.1 c.1)
 

@@ -5,7 +5,7 @@ ghost use Rattle.stm_terms.specs.declared.kinds.Ty.{Ty};
 ghost use Rattle.stm_terms.specs.declared.values.Value.{Value};
 ghost use Rattle.stm_eval.specs.declared.job.Job.{Job};
 ghost use Rattle.stm_pool.specs.Answers.{IsMessageOf, AnswersJob};
-ghost use Rattle.stm_machine.specs.JobsHandedOut.{AreCovered};
+ghost use Rattle.stm_machine.specs.JobsHandedOut.{AreJobsCovered};
 ghost use Rattle.stm_events.specs.SlowDesk.{IsLegal, max_waiting};
 ghost use Rattle.stm_desk.specs.DeskView.{state_of};
 ghost use Rattle.stm_options.specs.declared.options.TheConstants.Options.{MAX_WORKERS};
@@ -133,7 +133,7 @@ fn evaluate_batch<T: Threads + Sync>(
 ) -> Result<Progress, NoMemory>
     requires few { before.count + vec_len jobs ≤ max_waiting }
     requires legal { IsLegal desk.old.table desk.old.history }
-    requires covered { AreCovered store.now jobs.items }
+    requires covered { AreJobsCovered store.now jobs.items }
     requires stand { JobsStand desk.old (map (handed_out store.now) jobs.items) }
     ensures done { IfOk result (λ p. delivered_so_far desk.new p
         ≡ delivered_all (delivered_so_far desk.old before) (map (handed_out store.now) jobs.items)) }
@@ -163,7 +163,7 @@ fn evaluate_jobs<T: Threads + Sync>(
 ) -> Result<Progress, NoMemory>
     requires few { vec_len jobs ≤ max_waiting }
     requires legal { IsLegal desk.old.table desk.old.history }
-    requires covered { AreCovered store.now jobs.items }
+    requires covered { AreJobsCovered store.now jobs.items }
     requires stand { JobsStand desk.old (map (handed_out store.now) jobs.items) }
     ensures done { IfOk result (λ p. delivered_so_far desk.new p
         ≡ delivered_all (none_delivered desk.old) (map (handed_out store.now) jobs.items)) }

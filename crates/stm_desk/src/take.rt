@@ -3,7 +3,7 @@
 ghost use Rattle.std.specs.Prelude.{◌≡◌, ◌≤◌, false, map, take, length, vec_len, IfOk, OnErr, is_some};
 ghost use Rattle.stm_store.specs.Cells.{plains};
 ghost use Rattle.stm_queue.specs.Queue.{queued, is_out, marked, first_queued};
-ghost use Rattle.stm_machine.specs.JobsHandedOut.{sent, AreJobs, AreCovered};
+ghost use Rattle.stm_machine.specs.JobsHandedOut.{sent, AreJobs, AreJobsCovered};
 ghost use Rattle.stm_desk.specs.DeskView.{state_of};
 
 use crate::desk::Desk;
@@ -19,7 +19,7 @@ impl Desk {
             ≡ take n (queued self.old.pending)) }
         ensures blocks { IfOk result (λ r. AreJobs (state_of self.old) r.1.items) }
         ensures store { IfOk result (λ r. r.0 ≡ plains (state_of self.old).store) }
-        ensures covered { IfOk result (λ r. AreCovered r.0 r.1.items) }
+        ensures covered { IfOk result (λ r. AreJobsCovered r.0 r.1.items) }
         ensures few { IfOk result (λ r. vec_len r.1 ≤ n) }
         ensures out { IfOk result (λ r. self.new
             ≡ record self.old { pending = sent (length r.1.items) self.old.pending }) }

@@ -21,14 +21,14 @@ int : (z : ℤ) → is_float (of_integer z) ≡ false
 int (pos n) = refl
 int (negsuc n) = refl
 
-value_exact : (v : Value) → has_float (value_data v) ≡ false
+pub value_exact : (v : Value) → has_float (value_data v) ≡ false
 value_exact (value.Int z) = int z
 value_exact (value.Bool b) = refl
 value_exact value.Unit = refl
 value_exact (value.Var (Old i)) = refl
 value_exact (value.Var (New k)) = refl
 
-writes_exact : (ws : List (ℕ × Value)) → items_have_float (items_of (map write_data ws)) ≡ false
+pub writes_exact : (ws : List (ℕ × Value)) → items_have_float (items_of (map write_data ws)) ≡ false
 writes_exact [] = refl
 writes_exact (w ∷ ws) = rw (value_exact w.1, writes_exact ws)
 
@@ -40,7 +40,7 @@ numbers_exact : (ns : List ℕ) → items_have_float (items_of (map number_data 
 numbers_exact [] = refl
 numbers_exact (n ∷ ns) = numbers_exact ns
 
-verdict_exact : (v : Verdict) → has_float (verdict_data v) ≡ false
+pub verdict_exact : (v : Verdict) → has_float (verdict_data v) ≡ false
 verdict_exact (Commits writes news result) = rw (news_exact news, value_exact result, writes_exact writes)
 verdict_exact (Throws (Thrown z)) = rw (int z)
 verdict_exact (Throws Overflow) = refl

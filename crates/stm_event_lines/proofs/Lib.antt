@@ -1,5 +1,6 @@
 -- Lines that are written and read back.
 pub mod CheckedBlocks
+pub mod Checkpoints
 pub mod Exact
 pub mod FitsPushed
 pub mod ReadLoosely

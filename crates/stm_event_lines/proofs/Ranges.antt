@@ -59,7 +59,7 @@ ascii_refs base.Bool (suc zero) = refl
 ascii_refs base.Unit (suc zero) = refl
 ascii_refs b (suc (suc n)) = ascii_append (refs_text b (suc n)) (codes ")") (ascii_refs b (suc n)) refl
 
-ascii_type : (t : Ty) → is_ascii_text (type_text t) ≡ true
+pub ascii_type : (t : Ty) → is_ascii_text (type_text t) ≡ true
 unfolding type_text
 ascii_type t = ascii_refs t.base t.refs
 
@@ -85,7 +85,7 @@ four true true c d h = refl
 four true false c d h = absurd cc
 four false b c d h = absurd cc
 
-ascii_name : (name : List ℕ) → IsTrue (is_name_text name) → is_ascii_text name ≡ true
+pub ascii_name : (name : List ℕ) → IsTrue (is_name_text name) → is_ascii_text name ≡ true
 unfolding is_name_text
 ascii_name name h = words_ascii name (four _ _ _ _ h)
 
@@ -111,7 +111,7 @@ known_ascii : (table : List Declared) (text : List ℕ) (r : Result raw.RawAct P
 known_ascii table text (Ok t) b e f = parsed_ascii text t e
 known_ascii table text (Err x) b e f = absurd cc
 
-ascii_block : (table : List Declared) (text : List ℕ) (b : Block) → checked_block table text ≡ Ok b → is_ascii_text text ≡ true
+pub ascii_block : (table : List Declared) (text : List ℕ) (b : Block) → checked_block table text ≡ Ok b → is_ascii_text text ≡ true
 unfolding checked_block
 ascii_block table text b e = ascii_tested text (known_ascii table text (parsed_block text) b refl e)
 
@@ -121,14 +121,14 @@ int_in_range : (z : ℤ) → FitsInt z → IsInRange (number (of_integer z))
 int_in_range (pos n) h = omega arith
 int_in_range (negsuc n) h = omega arith
 
-value_in_range : (v : Value) → FitsValue v → IsInRange (value_data v)
+pub value_in_range : (v : Value) → FitsValue v → IsInRange (value_data v)
 value_in_range (value.Int z) h = int_in_range z h
 value_in_range (value.Bool b) h = tt
 value_in_range value.Unit h = tt
 value_in_range (value.Var (Old i)) h = (refl, omega arith, tt)
 value_in_range (value.Var (New k)) h = (refl, omega arith, tt)
 
-writes_in_range : (ws : List (ℕ × Value)) → FitWrites ws → ItemsInRange (items_of (map write_data ws))
+pub writes_in_range : (ws : List (ℕ × Value)) → FitWrites ws → ItemsInRange (items_of (map write_data ws))
 writes_in_range [] h = tt
 writes_in_range (w ∷ ws) h = ((omega (arith, h.0), (value_in_range w.1 h.1, tt)), writes_in_range ws h.2)
 
@@ -140,7 +140,7 @@ numbers_in_range : (ns : List ℕ) → FitNumbers ns → ItemsInRange (items_of 
 numbers_in_range [] h = tt
 numbers_in_range (n ∷ ns) h = (omega (arith, h.0), numbers_in_range ns h.1)
 
-verdict_in_range : (v : Verdict) → FitsVerdict v → IsInRange (verdict_data v)
+pub verdict_in_range : (v : Verdict) → FitsVerdict v → IsInRange (verdict_data v)
 verdict_in_range (Commits writes news result) h = (refl, (refl, news_in_range news h.1, (refl, value_in_range result h.2, (refl, writes_in_range writes h.0, tt))), tt)
 verdict_in_range (Throws (Thrown z)) h = (refl, int_in_range z h, tt)
 verdict_in_range (Throws Overflow) h = (refl, refl, tt)

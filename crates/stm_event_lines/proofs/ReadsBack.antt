@@ -49,7 +49,7 @@ pub record ReadsBack (d : Data) : Type 0 where
   pub one_line : IsOneLine (compact_text d)
   pub utf8 : IsUtf8 (compact_text d)
 
-reads_of : (d : Data) → RoundTrips 6 d → IsInRange d → ReadsBack d
+pub reads_of : (d : Data) → RoundTrips 6 d → IsInRange d → ReadsBack d
 reads_of d g s = let l = one_line d s in record {
   back = text_reads d g.numbers (omega (arith, g.shallow)) g.back;
   one_line = l;
@@ -73,10 +73,10 @@ variable_reads d f = reads_of (variable_data d) (variable_round_trips d f.2) (va
 
 -- ---- the fields
 
-in_32 : (n : ℕ) → n < 2 ^ 32 → in_32_bits n ≡ Some n
+pub in_32 : (n : ℕ) → n < 2 ^ 32 → in_32_bits n ≡ Some n
 in_32 n h = rw (lt-ltb n (2 ^ 32) h)
 
-value_back : (v : Value) → FitsValue v → value_of (value_data v) ≡ Some v
+pub value_back : (v : Value) → FitsValue v → value_of (value_data v) ≡ Some v
 value_back (value.Int (pos n)) h = rw (lt-ltb n (2 ^ 63) h)
 value_back (value.Int (negsuc n)) h = refl
 value_back (value.Bool b) h = refl
@@ -84,7 +84,7 @@ value_back value.Unit h = refl
 value_back (value.Var (Old i)) h = rw (in_32 i h)
 value_back (value.Var (New k)) h = rw (in_32 k h)
 
-writes_back : (ws : List (ℕ × Value)) → FitWrites ws → AllBack write_of write_data ws
+pub writes_back : (ws : List (ℕ × Value)) → FitWrites ws → AllBack write_of write_data ws
 writes_back [] h = tt
 writes_back (w ∷ ws) h = (rw (in_32 w.0 h.0, value_back w.1 h.1), writes_back ws h.2)
 
@@ -96,7 +96,7 @@ numbers_back : (ns : List ℕ) → FitNumbers ns → AllBack u32_of number_data 
 numbers_back [] h = tt
 numbers_back (n ∷ ns) h = (in_32 n h.0, numbers_back ns h.1)
 
-verdict_back : (v : Verdict) → FitsVerdict v → verdict_of (verdict_data v) ≡ Some v
+pub verdict_back : (v : Verdict) → FitsVerdict v → verdict_of (verdict_data v) ≡ Some v
 verdict_back (Commits writes news result) h = rw (all_back write_of write_data writes (writes_back writes h.0), all_back new_of new_data news (news_back news h.1), value_back result h.2)
 verdict_back (Throws (Thrown (pos n))) h = rw (lt-ltb n (2 ^ 63) h)
 verdict_back (Throws (Thrown (negsuc n))) h = refl
@@ -136,7 +136,7 @@ unread line d r e none =
     cc
 
 -- and what it reads of it is the value
-same_data : (line : List ℕ) (d g : Data) → ReadsBack d → compact_text d ≡ line → read line ≡ Some g → g ≡ d
+pub same_data : (line : List ℕ) (d g : Data) → ReadsBack d → compact_text d ≡ line → read line ≡ Some g → g ≡ d
 same_data line d g r e some = let k : read line ≡ Some d = subst (λ (t : List ℕ). read t ≡ Some d) e r.back in cc
 
 pub event_is : (table : List Declared) (line : List ℕ) (e : Event) (g : Data) → FitsTable table e → event_line e ≡ line → read line ≡ Some g → event_of table g ≡ Some e

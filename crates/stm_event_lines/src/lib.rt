@@ -6,6 +6,7 @@
 #![tactic(auto)]
 
 mod build;
+pub mod checkpoint;
 mod draft;
 pub mod drafted;
 mod fields;
@@ -14,10 +15,13 @@ pub mod loose;
 mod parts;
 pub mod read;
 mod send;
+#[cfg(test)]
+mod tests;
 pub mod variable;
 mod verdicts;
 pub mod write;
 
+pub use checkpoint::{CheckpointHeader, NamedCell, WaitingBlock};
 pub use read::{Header, LineError, read_event, read_header, read_variable};
 pub use variable::Variable;
 pub use write::{event_text, header_text, variable_text};

@@ -271,7 +271,8 @@ pub fn variable_of(alloc: Global, json: &Json) -> Result<Option<Variable>, NoMem
     }))
 }
 
-fn kind_at(alloc: Global, json: &Json) -> Result<Option<Ty>, NoMemory>
+/// The type under the key `type`.
+pub fn kind_at(alloc: Global, json: &Json) -> Result<Option<Ty>, NoMemory>
     ensures value { IfOk result (λ o. o ≡ option_and_then type_meant
         (text_field (codes "type") (view json.now))) }
     ensures fits { IfOk result (λ o. IfSome o (λ t. t.refs ≤ most_refs)) }

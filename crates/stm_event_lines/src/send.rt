@@ -95,7 +95,8 @@ fn send_new<S: Serializer>(alloc: Global, new: (Ty, Value), out: &mut S) -> Resu
     out.end_seq()
 }
 
-fn send_writes<S: Serializer>(writes: &[(u32, Value)], out: &mut S) -> Result<(), S::Error>
+/// Sends a list of pairs of a variable's number and a value.
+pub fn send_writes<S: Serializer>(writes: &[(u32, Value)], out: &mut S) -> Result<(), S::Error>
     ensures { OnOk result (SendsValue (array (items_of (map write_data writes.now)))
         (S.written out.old) (S.written out.new)) }
 {

@@ -21,7 +21,8 @@ use stm_terms::kinds::Ty;
 use stm_terms::values::Value;
 use stm_terms::verdicts::Verdict;
 
-fn send_verdict_at<S: Serializer>(
+/// Sends a member whose value is a verdict, under the key `verdict`.
+pub fn send_verdict_at<S: Serializer>(
     alloc: Global,
     verdict: &SharedVerdict,
     out: &mut S,

@@ -12,10 +12,7 @@ use Rattle.stm_events.specs.declared.event.What.TheVariants.{Submitted, Installe
 use Rattle.stm_events.specs.declared.staleness.StalenessRule.{StalenessRule}
 use Rattle.stm_events.specs.SlowDesk.{Waiter, Slow, waking, find_waiter, without_waiter, with_delivery, delivered, after_writes, after, Allows, initial_state, state_from, state_by, LegalFrom, IsLegalBy}
 use Rattle.stm_events.specs.Laws.{BlocksAreCovered}
-
-abbrev pub AreCovered : List Cell → List Waiter → Type 0
-AreCovered store [] = Unit {0}
-AreCovered store (w ∷ ws) = Covers (plains store) w.block.uses × AreCovered store ws
+use Rattle.stm_events.specs.States.{AreCovered}
 
 covered_more : (store : List Cell) (v : Verdict) (ws : List Waiter) → AreCovered store ws → AreCovered (applied store v) ws
 covered_more store v [] c = tt

@@ -20,66 +20,58 @@ use Rattle.stm_events.specs.declared.event.What.TheVariants.{Submitted, Installe
 use Rattle.stm_events.specs.declared.staleness.StalenessRule.{StalenessRule}
 use Rattle.stm_events.specs.SlowDesk.{Since, Waiter, Slow, under, looked_on, waking, intersects, is_stale_since, find_waiter, without_waiter, with_delivery, delivered, woken_more, after_writes, after, initial_state, state_from, state_by}
 use Rattle.stm_events.specs.Laws.{CurrentHolds}
+use Rattle.stm_events.specs.States.{IsUnwoken, AreUnwoken}
 use Rattle.stm_events.proofs.Stores.{or_left, or_right, value_stays}
 
--- what makes nobody stale is as it was
-abbrev pub Unwoken : List Cell → Option Since → Type 0
-Unwoken store None = Unit {0}
-Unwoken store (Some s) = (i : ℕ) (x : Value) → list_any (nat_eq i) s.woken ≡ false → under s.store_then i ≡ Some x → under store i ≡ Some x
-
-abbrev pub AreFresh : List Cell → List Waiter → Type 0
-AreFresh store [] = Unit {0}
-AreFresh store (w ∷ ws) = Unwoken store w.since × AreFresh store ws
-
-fresh_without_cons : (b : Bool) (s : List Cell) (w : Waiter) (ws vs : List Waiter) → Unwoken s w.since → AreFresh s ws → AreFresh s vs → AreFresh s (cond b ws (w ∷ vs))
+fresh_without_cons : (b : Bool) (s : List Cell) (w : Waiter) (ws vs : List Waiter) → IsUnwoken s w.since → AreUnwoken s ws → AreUnwoken s vs → AreUnwoken s (cond b ws (w ∷ vs))
 fresh_without_cons true s w ws vs c cs ds = cs
 fresh_without_cons false s w ws vs c cs ds = (c, ds)
 
-fresh_without : (t : ℕ) (s : List Cell) (ws : List Waiter) → AreFresh s ws → AreFresh s (without_waiter t ws)
+fresh_without : (t : ℕ) (s : List Cell) (ws : List Waiter) → AreUnwoken s ws → AreUnwoken s (without_waiter t ws)
 fresh_without t s [] c = tt
 fresh_without t s (w ∷ ws) c = fresh_without_cons (nat_eq t w.ticket) s w ws (without_waiter t ws) c.0 c.1 (fresh_without t s ws c.1)
 
-fresh_delivered_cons : (b : Bool) (s : List Cell) (v w : Waiter) (ws vs : List Waiter) → Unwoken s v.since → Unwoken s w.since → AreFresh s ws → AreFresh s vs → AreFresh s (cond b (v ∷ ws) (w ∷ vs))
+fresh_delivered_cons : (b : Bool) (s : List Cell) (v w : Waiter) (ws vs : List Waiter) → IsUnwoken s v.since → IsUnwoken s w.since → AreUnwoken s ws → AreUnwoken s vs → AreUnwoken s (cond b (v ∷ ws) (w ∷ vs))
 fresh_delivered_cons true s v w ws vs c d cs ds = (c, cs)
 fresh_delivered_cons false s v w ws vs c d cs ds = (d, ds)
 
-fresh_delivered : (t : ℕ) (s : List Cell) (ws : List Waiter) → AreFresh s ws → AreFresh s (delivered t s ws)
+fresh_delivered : (t : ℕ) (s : List Cell) (ws : List Waiter) → AreUnwoken s ws → AreUnwoken s (delivered t s ws)
 fresh_delivered t s [] c = tt
 fresh_delivered t s (w ∷ ws) c = fresh_delivered_cons (nat_eq t w.ticket) s (with_delivery s w) w ws (delivered t s ws) (λ i x h e. e) c.0 c.1 (fresh_delivered t s ws c.1)
 
-fresh_push : (s : List Cell) (w : Waiter) (ws : List Waiter) → AreFresh s ws → w.since ≡ None → AreFresh s (ws ++ w ∷ [])
+fresh_push : (s : List Cell) (w : Waiter) (ws : List Waiter) → AreUnwoken s ws → w.since ≡ None → AreUnwoken s (ws ++ w ∷ [])
 fresh_push s w [] c d = (rw d tt, tt)
 fresh_push s w (v ∷ ws) c d = (c.0, fresh_push s w ws c.1 d)
 
-unwoken_more : (rule : StalenessRule) (v : Verdict) (store : List Cell) (o : Option Since) → Unwoken store o → Unwoken (applied store v) (woken_more (waking rule store v) o)
+unwoken_more : (rule : StalenessRule) (v : Verdict) (store : List Cell) (o : Option Since) → IsUnwoken store o → IsUnwoken (applied store v) (woken_more (waking rule store v) o)
 unwoken_more rule v store None u = tt
 unwoken_more rule v store (Some s) u = λ i x h e.
     let k : (list_any (nat_eq i) s.woken || list_any (nat_eq i) (waking rule store v)) ≡ false = sym (list_any-append (nat_eq i) s.woken (waking rule store v)) ∙ h in
     value_stays rule store v i x (or_right (list_any (nat_eq i) s.woken) (list_any (nat_eq i) (waking rule store v)) k)
     (u i x (or_left (list_any (nat_eq i) s.woken) (list_any (nat_eq i) (waking rule store v)) k) e)
 
-fresh_marks : (rule : StalenessRule) (v : Verdict) (store : List Cell) (ws : List Waiter) → AreFresh store ws → AreFresh (applied store v) (map (after_writes (waking rule store v)) ws)
+fresh_marks : (rule : StalenessRule) (v : Verdict) (store : List Cell) (ws : List Waiter) → AreUnwoken store ws → AreUnwoken (applied store v) (map (after_writes (waking rule store v)) ws)
 fresh_marks rule v store [] c = tt
 fresh_marks rule v store (w ∷ ws) c = (unwoken_more rule v store w.since c.0, fresh_marks rule v store ws c.1)
 
-fresh_after : (s : Slow) (d : What) → AreFresh s.store s.waiters → AreFresh (after s d).store (after s d).waiters
+pub fresh_after : (s : Slow) (d : What) → AreUnwoken s.store s.waiters → AreUnwoken (after s d).store (after s d).waiters
 fresh_after s (Submitted t b) c = fresh_push s.store _ s.waiters c refl
 fresh_after s (Installed t v) c = fresh_delivered t s.store s.waiters c
 fresh_after s (Finished t v n l) c = fresh_marks s.rule v s.store (without_waiter t s.waiters) (fresh_without t s.store s.waiters c)
 fresh_after s (Cancelled t) c = fresh_without t s.store s.waiters c
 
-pub fresh_from : (s : Slow) (es : List Event) → AreFresh s.store s.waiters → AreFresh (state_from s es).store (state_from s es).waiters
+pub fresh_from : (s : Slow) (es : List Event) → AreUnwoken s.store s.waiters → AreUnwoken (state_from s es).store (state_from s es).waiters
 fresh_from s [] c = c
 fresh_from s (e ∷ es) c = fresh_from (after s e.what) es (fresh_after s e.what c)
 
-pub fresh_state : (rule : StalenessRule) (table : List Declared) (es : List Event) → AreFresh (state_by rule table es).store (state_by rule table es).waiters
+pub fresh_state : (rule : StalenessRule) (table : List Declared) (es : List Event) → AreUnwoken (state_by rule table es).store (state_by rule table es).waiters
 fresh_state rule table es = fresh_from (initial_state rule table) es tt
 
-found_cons : (b : Bool) (s : List Cell) (w one : Waiter) (o : Option Waiter) → Unwoken s w.since → (o ≡ Some one → Unwoken s one.since) → cond b (Some w) o ≡ Some one → Unwoken s one.since
-found_cons true s w one o c more e = let h : w ≡ one = cc in subst (λ (x : Waiter). Unwoken s x.since) h c
+found_cons : (b : Bool) (s : List Cell) (w one : Waiter) (o : Option Waiter) → IsUnwoken s w.since → (o ≡ Some one → IsUnwoken s one.since) → cond b (Some w) o ≡ Some one → IsUnwoken s one.since
+found_cons true s w one o c more e = let h : w ≡ one = cc in subst (λ (x : Waiter). IsUnwoken s x.since) h c
 found_cons false s w one o c more e = more e
 
-fresh_waiter : (t : ℕ) (s : List Cell) (ws : List Waiter) (one : Waiter) → AreFresh s ws → find_waiter t ws ≡ Some one → Unwoken s one.since
+pub fresh_waiter : (t : ℕ) (s : List Cell) (ws : List Waiter) (one : Waiter) → AreUnwoken s ws → find_waiter t ws ≡ Some one → IsUnwoken s one.since
 fresh_waiter t s [] one c e = cc
 fresh_waiter t s (w ∷ ws) one c e = found_cons (nat_eq t w.ticket) s w one (find_waiter t ws) c.0 (fresh_waiter t s ws one c.1) e
 
@@ -92,7 +84,7 @@ not_met woken (j ∷ is) i h m =
 
 -- so what was read has its value on the present store
 pub stays : (block : Block) (store : List Cell) (s : Since) (reads : List (ℕ × Value)) (v : Verdict)
-    → Unwoken store (Some s) → is_stale_since block s ≡ false → Holds block.tree (under s.store_then) reads v → Holds block.tree (under store) reads v
+    → IsUnwoken store (Some s) → is_stale_since block s ≡ false → Holds block.tree (under s.store_then) reads v → Holds block.tree (under store) reads v
 stays block store s reads v u n holds =
     let agrees : Agrees reads (under store) = λ i x e.
     let some : IsSome (find i (reads_of (under s.store_then) block.tree)) = rw (holds.reads_are, e) refl in
@@ -101,9 +93,9 @@ stays block store s reads v u n holds =
     holds_again block.tree reads v (under s.store_then) (under store) holds agrees
 
 -- so a block that waits and isn't stale does on the present store what it did then
-pub still_holds : (t : ℕ) (store : List Cell) (ws : List Waiter) (w : Waiter) (s : Since) (reads : List (ℕ × Value)) (v : Verdict) → AreFresh store ws → find_waiter t ws ≡ Some w → w.since ≡ Some s
+pub still_holds : (t : ℕ) (store : List Cell) (ws : List Waiter) (w : Waiter) (s : Since) (reads : List (ℕ × Value)) (v : Verdict) → AreUnwoken store ws → find_waiter t ws ≡ Some w → w.since ≡ Some s
     → is_stale_since w.block s ≡ false → Holds w.block.tree (under s.store_then) reads v → Holds w.block.tree (under store) reads v
-still_holds t store ws w s reads v f e since n holds = stays w.block store s reads v (subst (Unwoken store) since (fresh_waiter t store ws w f e)) n holds
+still_holds t store ws w s reads v f e since n holds = stays w.block store s reads v (subst (IsUnwoken store) since (fresh_waiter t store ws w f e)) n holds
 
 pub current_holds : CurrentHolds
 current_holds rule table history t w s reads v l = still_holds t (state_by rule table history).store (state_by rule table history).waiters w s reads v (fresh_state rule table history)

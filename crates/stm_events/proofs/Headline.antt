@@ -1,66 +1,41 @@
--- The promise of the scheduler, from what each waiting block waits since.
-use Rattle.std.proofs.Common.{◌≡◌, ℕ, Bool, true, false, not, cond, List, Option, Some, None, refl, sym, ap, subst, ◌∙◌}
-use Rattle.stm_terms.specs.ReadSet.{reads_of}
-use Rattle.stm_store.specs.declared.cell.Cell.{Cell}
+-- The promise of the scheduler over a history of a table, from that of one that begins from any possible state.
+use Rattle.std.proofs.Common.{◌≡◌, ℕ, Bool, true, false, cond, List, Option, Some, None, refl, ap}
 use Rattle.stm_store.specs.Tables.{Declared}
 use Rattle.stm_events.specs.declared.event.Event.{Event}
 use Rattle.stm_events.specs.declared.staleness.StalenessRule.{StalenessRule}
-use Rattle.stm_events.specs.SlowDesk.{Since, Waiter, Standing, under, verdict_on, looked_on, intersects, is_stale_since, is_new_since, current_since, is_current, find_waiter, state_by, standing_since, weak_since, IsLegalBy}
-use Rattle.stm_events.specs.SlowDesk.{Stale, Current}
+use Rattle.stm_events.specs.Headline as table
+use Rattle.stm_events.specs.HeadlineFrom.{IsKnownFrom, Fresh, Evaluated, Before}
 use Rattle.stm_events.specs.Laws.{WeakIsPresent}
-use Rattle.stm_events.specs.Headline.{waking_from, state_then_by, HeadlineBy, IsKnownBy, Fresh, Evaluated, IsMarkedRightlyBy}
-use Rattle.stm_events.proofs.Since.{IsSince, Tracks, tracked_state}
-use Rattle.stm_events.proofs.Serial.{store_is_serial}
-use Rattle.stm_events.proofs.Fresh.{current_holds}
+use Rattle.stm_events.specs.SlowDesk.{Since, Waiter, Slow, Standing, Stale, Current, verdict_on, is_stale_since, find_waiter, initial_state, state_by, standing_since, standing, weak_since, weak_standing}
+use Rattle.stm_events.specs.States.{IsPossible}
+use Rattle.stm_events.proofs.HeadlineFrom.{headline_from}
+use Rattle.stm_events.proofs.Possible.{possible_initial, possible_from, current_verdict}
 
-twice : (a : Bool) → not (not a) ≡ a
-twice true = refl
-twice false = refl
+-- nothing waits where a history of a table begins
+known_by : (rule : StalenessRule) (declared : List Declared) (history : List Event) (t : ℕ) (w : Waiter) → IsKnownFrom (initial_state rule declared) history t w → table.IsKnownBy rule declared history t w
+known_by rule declared history t w (Fresh n k) = table.Fresh n k
+known_by rule declared history t w (Evaluated n d m) = table.Evaluated n d (record { evaluated = m.evaluated; marked = m.marked; present = m.present })
+known_by rule declared history t w (Before n k m) = let e = m.found in absurd cc
 
-from_current : (a : Bool) → not a ≡ true → a ≡ false
-from_current true e = cc
-from_current false e = refl
-
-marked_by : (rule : StalenessRule) (table : List Declared) (history : List Event) (t : ℕ) (w : Waiter) (s : Since) → IsLegalBy rule table history → find_waiter t (state_by rule table history).waiters ≡ Some w → w.since ≡ Some s
-    → (k : IsSince rule table history t w.block s) → IsMarkedRightlyBy rule table history t w k.delivery
-marked_by rule table history t w s l f e k =
-    let c : is_current w ≡ not (is_stale_since w.block s) = ap (current_since w.block) e in
-    record {
-      evaluated = subst (λ (x : List Cell). verdict_on x w.block ≡ Some k.delivery.verdict) k.store k.verdict;
-      marked =
-          ap not c ∙ twice (is_stale_since w.block s)
-          ∙ ap (λ (x : List ℕ). intersects x (looked_on s.store_then w.block)) k.woken
-          ∙ ap (λ (x : List Cell). intersects (waking_from (state_then_by rule table history t k.delivery) k.delivery.later) (looked_on x w.block)) k.store;
-      present = λ p.
-          (current_holds rule table history t w s (reads_of (under s.store_then) w.block.tree) k.delivery.verdict l f e (from_current (is_stale_since w.block s) (sym c ∙ p))
-          (record { verdict_is = k.verdict; reads_are = refl })).verdict_is;
-    }
-
-known_by : (rule : StalenessRule) (table : List Declared) (history : List Event) (t : ℕ) (w : Waiter) (o : Option Since) → IsLegalBy rule table history → find_waiter t (state_by rule table history).waiters ≡ Some w → w.since ≡ o
-    → Tracks rule table history t w.block o → IsKnownBy rule table history t w
-known_by rule table history t w None l f e k = Fresh (ap is_new_since e) k
-known_by rule table history t w (Some s) l f e k = Evaluated (ap is_new_since e) k.delivery (marked_by rule table history t w s l f e k)
-
-pub headline : (rule : StalenessRule) → HeadlineBy rule
-headline rule table history l = record {
-  blocks = λ t w f. known_by rule table history t w w.since l f refl ((tracked_state rule table history l).each t w f);
-  store = store_is_serial rule table history l;
-}
+pub headline : (rule : StalenessRule) → table.HeadlineBy rule
+headline rule declared history l =
+    let h = headline_from (initial_state rule declared) history (possible_initial rule declared) (record { each = l.each; few = l.few }) in
+    record { blocks = λ t w f. known_by rule declared history t w (h.blocks t w f); store = h.store }
 
 -- ---- the weak status is the status
 stands_by : (a : Bool) (then now present : Standing) → (a ≡ false → now ≡ present) → cond a then now ≡ cond a then present
 stands_by true then now present e = refl
 stands_by false then now present e = e refl
 
-weak_by : (rule : StalenessRule) (table : List Declared) (history : List Event) (t : ℕ) (w : Waiter) (o : Option Since) → IsLegalBy rule table history → find_waiter t (state_by rule table history).waiters ≡ Some w → w.since ≡ o → Tracks rule table history t w.block o
-    → standing_since (state_by rule table history).store w.block o ≡ weak_since w.block o
-weak_by rule table history t w None l f e k = refl
-weak_by rule table history t w (Some s) l f e k =
-    let store = (state_by rule table history).store in
-    stands_by (is_stale_since w.block s) (Stale (verdict_on s.store_then w.block)) (Current (verdict_on store w.block)) (Current (verdict_on s.store_then w.block))
-    (λ n.
-    let c : is_current w ≡ true = ap (current_since w.block) e ∙ ap not n in
-    ap Current ((marked_by rule table history t w s l f e k).present c ∙ sym k.verdict))
+weak_by : (s : Slow) (t : ℕ) (w : Waiter) (o : Option Since) → IsPossible s → find_waiter t s.waiters ≡ Some w → w.since ≡ o → standing_since s.store w.block o ≡ weak_since w.block o
+weak_by s t w None p f e = refl
+weak_by s t w (Some d) p f e =
+    stands_by (is_stale_since w.block d) (Stale (verdict_on d.store_then w.block)) (Current (verdict_on s.store w.block)) (Current (verdict_on d.store_then w.block))
+    (λ n. ap Current (current_verdict s t w d p f e n))
+
+pub weak_possible : (s : Slow) (t : ℕ) (w : Waiter) → IsPossible s → find_waiter t s.waiters ≡ Some w → standing s.store w ≡ weak_standing w
+weak_possible s t w p f = weak_by s t w w.since p f refl
 
 pub weak_is_present : WeakIsPresent
-weak_is_present rule table history t w l f = weak_by rule table history t w w.since l f refl ((tracked_state rule table history l).each t w f)
+weak_is_present rule declared history t w l f =
+    weak_possible (state_by rule declared history) t w (possible_from (initial_state rule declared) history (possible_initial rule declared) l.each) f

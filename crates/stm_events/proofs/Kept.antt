@@ -12,9 +12,9 @@ use Rattle.stm_events.specs.declared.event.What.{What}
 use Rattle.stm_events.specs.declared.event.What.TheVariants.{Submitted, Installed, Finished, Cancelled}
 use Rattle.stm_events.specs.SlowDesk.{Waiter, Slow, waking, find_waiter, without_waiter, with_delivery, after_writes, after, Allows, initial_state, state_from, state_by, LegalFrom, IsLegalBy}
 use Rattle.stm_events.specs.Laws.{AreRising, DeclaredAreCovered, BlocksStay}
+use Rattle.stm_events.specs.States.{IsPossible, IsTicketOf, TicketsStay, VariablesStayCovered}
 use Rattle.stm_events.proofs.Folds.{state-append}
-use Rattle.stm_events.proofs.Rising.{rising_after, rising_state, waiter_without, waiter_delivered, waiter_marks, waiter_push}
-use Rattle.stm_events.proofs.Since.{low}
+use Rattle.stm_events.proofs.Rising.{rising_after, rising_state, low, waiter_without, waiter_delivered, waiter_marks, waiter_push}
 
 -- ---- what is covered
 covered_after : (s : Slow) (d : What) (us : List (ℕ × Ty)) → Covers (plains s.store) us → Covers (plains (after s d).store) us
@@ -108,3 +108,23 @@ blocks_stay rule table before more t v w l e f =
     let begin : IsKept t v.block s = record { rising = rising; given = low t s.next 0 s.waiters v rising e; block = λ x g. let q : v ≡ x = cc in subst (λ (y : Waiter). y.block ≡ v.block) q refl } in
     let there : find_waiter t (state_from s more).waiters ≡ Some w = subst (λ (x : Slow). find_waiter t x.waiters ≡ Some w) (state-append (initial_state rule table) before more) f in
     (kept_from t v.block s more p.rest begin).block w there
+
+-- ---- the ticket of a block
+pub ticket_waiting : (s : Slow) (t : ℕ) (w : Waiter) → IsPossible s → find_waiter t s.waiters ≡ Some w → IsTicketOf w.block s t
+ticket_waiting s t w p e = record { given = low t s.next 0 s.waiters w p.rising e; waits = λ x f. let q : w ≡ x = cc in subst (λ (y : Waiter). y.block ≡ w.block) q refl }
+
+pub ticket_after : (s : Slow) (what : What) (block : Block) (t : ℕ) → IsPossible s → Allows s what → IsTicketOf block s t → IsTicketOf block (after s what) t
+ticket_after s what block t p a k =
+    let r = kept_after t block s what a (record { rising = p.rising; given = k.given; block = k.waits }) in
+    record { given = r.given; waits = r.block }
+
+pub ticket_from : (s : Slow) (events : List Event) (block : Block) (t : ℕ) → IsPossible s → LegalFrom s events → IsTicketOf block s t → IsTicketOf block (state_from s events) t
+ticket_from s events block t p l k =
+    let r = kept_from t block s events l (record { rising = p.rising; given = k.given; block = k.waits }) in
+    record { given = r.given; waits = r.block }
+
+pub tickets_stay : TicketsStay
+tickets_stay = record { waiting = ticket_waiting; next = ticket_after; later = ticket_from }
+
+pub variables_stay_covered : VariablesStayCovered
+variables_stay_covered = covered_from

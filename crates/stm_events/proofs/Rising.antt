@@ -1,5 +1,5 @@
 -- Waiting tickets rise, and stay below the next one.
-use Rattle.std.proofs.Common.{◌≡◌, ℕ, ◌+◌, ◌<◌, ◌≤◌, Bool, true, false, cond, List, [], ◌∷◌, ◌++◌, map, length, Option, Some, None, refl, ap, arith}
+use Rattle.std.proofs.Common.{◌≡◌, ℕ, ◌+◌, ◌<◌, ◌≤◌, Bool, true, false, cond, List, [], ◌∷◌, ◌++◌, map, length, Option, Some, None, refl, ap, arith, eqb-true}
 use Rattle.std.specs.Prelude.{nat_eq, option_map}
 use Rattle.std.proofs.lemmas.Bool.Decides.{nat_tests}
 use Rattle.stm_store.specs.declared.cell.Cell.{Cell}
@@ -157,3 +157,12 @@ not_above t n k (w ∷ ws) h r =
     let b : k < w.ticket = r.0 in
     let e : nat_eq t w.ticket ≡ false = grind (arith, nat_tests) in
     rw e (not_above t n w.ticket ws (omega arith) r.2)
+
+-- a waiting ticket is below the next one
+low_step : (b : Bool) (t n : ℕ) (w one : Waiter) (o : Option Waiter) → nat_eq t w.ticket ≡ b → w.ticket < n → (o ≡ Some one → t < n) → cond b (Some w) o ≡ Some one → t < n
+low_step true t n w one o e l more k = let q : t ≡ w.ticket = eqb-true t w.ticket e in omega arith
+low_step false t n w one o e l more k = more k
+
+pub low : (t n k : ℕ) (ws : List Waiter) (one : Waiter) → AreRising n k ws → find_waiter t ws ≡ Some one → t < n
+low t n k [] one r e = cc
+low t n k (w ∷ ws) one r e = low_step (nat_eq t w.ticket) t n w one (find_waiter t ws) refl r.1 (low t n w.ticket ws one r.2) e

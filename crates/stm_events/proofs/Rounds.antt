@@ -10,6 +10,7 @@ use Rattle.stm_events.specs.declared.event.What.TheVariants.{Installed}
 use Rattle.stm_events.specs.SlowDesk.{Slow, Waiter, verdict_on, looked_on, intersects, with_delivery, delivered}
 use Rattle.stm_events.specs.SlowSettle.{lowest, is_due, installing, next_what, settling}
 use Rattle.stm_events.specs.Laws.{AreRising}
+use Rattle.stm_events.proofs.Possible.{some_verdict}
 use Rattle.stm_events.specs.Rounds.{if_some, round_installs, delivered_if_due, from_finish, HaveVerdicts, SettlingIsRounds}
 
 -- none of them is new or stale, and their tickets are below this one
@@ -46,10 +47,6 @@ meets-nothing (i ∷ is) = meets-nothing is
 
 not_due : (store : List Cell) (w : Waiter) → is_due (with_delivery store w) ≡ false
 not_due store w = rw (meets-nothing (looked_on store w.block)) refl
-
-some_verdict : (o : Option Verdict) → is_some o ≡ true → (v : Verdict) × (o ≡ Some v)
-some_verdict None h = cc
-some_verdict (Some v) h = (v, refl)
 
 abbrev with_waiters : Slow → List Waiter → Slow
 with_waiters s ws = record s { waiters = ws }

@@ -21,7 +21,7 @@ serial_step s (Installed t v) bs a = refl
 serial_step s (Finished t v n l) bs a = serial_finish s t v n l (find_waiter t s.waiters) bs a
 serial_step s (Cancelled t) bs a = refl
 
-serial_from : (s : Slow) (es : List Event) → LegalFrom s es → (state_from s es).store ≡ serial s.store (finished_from s es)
+pub serial_from : (s : Slow) (es : List Event) → LegalFrom s es → (state_from s es).store ≡ serial s.store (finished_from s es)
 serial_from s [] l = refl
 serial_from s (e ∷ es) l = serial_from (after s e.what) es l.1 ∙ serial_step s e.what (finished_from (after s e.what) es) l.0.what
 

@@ -3,23 +3,24 @@ use Rattle.std.proofs.Common.{◌≡◌, ℕ, Bool, true, false, cond, List, [],
 use Rattle.std.specs.Prelude.{nat_eq, IsSomeAnd}
 use Rattle.stm_terms.specs.declared.verdicts.Verdict.{Verdict}
 use Rattle.stm_store.specs.declared.cell.Cell.{Cell}
-use Rattle.stm_store.specs.Cells.{plains, StoreIsTyped, applied}
-use Rattle.stm_store.proofs.ApplyPreservesTyping.{applied_typed}
+use Rattle.stm_store.specs.Cells.{plains, Fits, StoreIsTyped, applied}
+use Rattle.stm_store.proofs.ApplyPreservesTyping.{applied_typed, kinds_stay}
 use Rattle.stm_store.proofs.Opening.{plains-opened}
+use Rattle.stm_store.specs.Tables.{Declared, opened}
+use Rattle.stm_check.specs.TypedBlock.{Block}
 use Rattle.stm_check.proofs.TypingLaws.{every_verdict_fits}
 use Rattle.stm_check.proofs.Weakening.{verdict_fits}
 use Rattle.stm_events.specs.declared.event.Event.{Event}
 use Rattle.stm_events.specs.declared.event.What.{What}
 use Rattle.stm_events.specs.declared.event.What.TheVariants.{Submitted, Installed, Finished, Cancelled}
-use Rattle.stm_events.specs.SlowDesk.{Waiter, Slow, waking, MayFinish, find_waiter, without_waiter, with_delivery, delivered, after_writes, after, Allows, initial_state, state_from, state_by, LegalFrom}
+use Rattle.stm_events.specs.declared.staleness.StalenessRule.{StalenessRule}
+use Rattle.stm_events.specs.SlowDesk.{Since, Waiter, Slow, verdict_on, waking, MayFinish, find_waiter, without_waiter, with_delivery, delivered, woken_more, after_writes, after, Allows, initial_state, state_from, state_by, LegalFrom}
 use Rattle.stm_events.specs.Laws.{IsWellTyped, SubmitsWellTyped, SubmittedAreWellTyped, WaitingAreWellTyped, StoresAreTyped, BlocksHaveVerdicts}
-use Rattle.stm_events.proofs.Covered.{AreCovered, covered_after, covered_waiter, blocks_are_covered}
+use Rattle.stm_events.specs.States.{AreCovered, AreWellTyped, WasTyped, WereTyped, IsPossible, IsTypedState, TypedStatesStay}
+use Rattle.stm_events.proofs.Covered.{covered_waiter, blocks_are_covered}
+use Rattle.stm_events.proofs.Possible.{possible_initial, possible_after}
 
 -- ---- the blocks that wait
-abbrev AreWellTyped : List Waiter → Type 0
-AreWellTyped [] = Unit {0}
-AreWellTyped (w ∷ ws) = IsWellTyped w.block × AreWellTyped ws
-
 without_cons : (b : Bool) (w : Waiter) (ws vs : List Waiter) → IsWellTyped w.block → AreWellTyped ws → AreWellTyped vs → AreWellTyped (cond b ws (w ∷ vs))
 without_cons true w ws vs c cs ds = cs
 without_cons false w ws vs c cs ds = (c, ds)
@@ -71,34 +72,82 @@ pub waiting_are_well_typed : WaitingAreWellTyped
 waiting_are_well_typed rule table history t w typed e = typed_waiter t (state_by rule table history).waiters w (blocks_from (initial_state rule table) history typed tt) e
 
 -- ---- the store
-record IsSound (s : Slow) : Type 0 where
-  pub typed : StoreIsTyped (plains s.store)
-  pub blocks : AreWellTyped s.waiters
-  pub covered : AreCovered s.store s.waiters
+finished_typed : (s : Slow) (t : ℕ) (v : Verdict) (n : ℕ) (l : List ℕ) (o : Option Waiter) → AreCovered s.store s.waiters → AreWellTyped s.waiters → StoreIsTyped (plains s.store) → find_waiter t s.waiters ≡ o
+    → IsSomeAnd o (λ w. MayFinish s t w v n l) → StoreIsTyped (plains (applied s.store v))
+finished_typed s t v n l None c bs k e m = absurd m
+finished_typed s t v n l (Some w) c bs k e m =
+    let b = typed_waiter t s.waiters w bs e in
+    applied_typed s.store v (verdict_fits (plains s.store) w.block.uses w.block.tree b.0 v k (covered_waiter t s.store s.waiters w c e) b.1 m.verdict_is) k
 
-finished_typed : (s : Slow) (t : ℕ) (v : Verdict) (n : ℕ) (l : List ℕ) (o : Option Waiter) → IsSound s → find_waiter t s.waiters ≡ o → IsSomeAnd o (λ w. MayFinish s t w v n l) → StoreIsTyped (plains (applied s.store v))
-finished_typed s t v n l None k e m = absurd m
-finished_typed s t v n l (Some w) k e m =
+store_after : (s : Slow) (d : What) → AreCovered s.store s.waiters → AreWellTyped s.waiters → StoreIsTyped (plains s.store) → Allows s d → StoreIsTyped (plains (after s d).store)
+store_after s (Submitted t b) c bs k a = k
+store_after s (Installed t v) c bs k a = k
+store_after s (Finished t v n l) c bs k a = finished_typed s t v n l (find_waiter t s.waiters) c bs k refl a
+store_after s (Cancelled t) c bs k a = k
+
+-- ---- the stores of the deliveries
+were_without_cons : (b : Bool) (store : List Cell) (w : Waiter) (ws vs : List Waiter) → WasTyped store w.since → WereTyped store ws → WereTyped store vs → WereTyped store (cond b ws (w ∷ vs))
+were_without_cons true store w ws vs c cs ds = cs
+were_without_cons false store w ws vs c cs ds = (c, ds)
+
+were_without : (t : ℕ) (store : List Cell) (ws : List Waiter) → WereTyped store ws → WereTyped store (without_waiter t ws)
+were_without t store [] c = tt
+were_without t store (w ∷ ws) c = were_without_cons (nat_eq t w.ticket) store w ws (without_waiter t ws) c.0 c.1 (were_without t store ws c.1)
+
+were_delivered_cons : (b : Bool) (store : List Cell) (v w : Waiter) (ws vs : List Waiter) → WasTyped store v.since → WasTyped store w.since → WereTyped store ws → WereTyped store vs → WereTyped store (cond b (v ∷ ws) (w ∷ vs))
+were_delivered_cons true store v w ws vs c d cs ds = (c, cs)
+were_delivered_cons false store v w ws vs c d cs ds = (d, ds)
+
+were_delivered : (t : ℕ) (store : List Cell) (ws : List Waiter) → StoreIsTyped (plains store) → WereTyped store ws → WereTyped store (delivered t store ws)
+were_delivered t store [] k c = tt
+were_delivered t store (w ∷ ws) k c =
+    were_delivered_cons (nat_eq t w.ticket) store (with_delivery store w) w ws (delivered t store ws) (k, λ i r e. e) c.0 c.1 (were_delivered t store ws k c.1)
+
+was_more : (rule : StalenessRule) (store : List Cell) (v : Verdict) (o : Option Since) → WasTyped store o → WasTyped (applied store v) (woken_more (waking rule store v) o)
+was_more rule store v None c = tt
+was_more rule store v (Some s) c = (c.0, λ i k e. kinds_stay store v i k (c.1 i k e))
+
+were_marks : (rule : StalenessRule) (store : List Cell) (v : Verdict) (ws : List Waiter) → WereTyped store ws → WereTyped (applied store v) (map (after_writes (waking rule store v)) ws)
+were_marks rule store v [] c = tt
+were_marks rule store v (w ∷ ws) c = (was_more rule store v w.since c.0, were_marks rule store v ws c.1)
+
+were_push : (store : List Cell) (t : ℕ) (block : Block) (ws : List Waiter) → WereTyped store ws → WereTyped store (ws ++ record { ticket = t; block = block; since = None } ∷ [])
+were_push store t block [] c = (tt, tt)
+were_push store t block (w ∷ ws) c = (c.0, were_push store t block ws c.1)
+
+were_after : (s : Slow) (d : What) → StoreIsTyped (plains s.store) → WereTyped s.store s.waiters → WereTyped (after s d).store (after s d).waiters
+were_after s (Submitted t b) k c = were_push s.store t b s.waiters c
+were_after s (Installed t v) k c = were_delivered t s.store s.waiters k c
+were_after s (Finished t v n l) k c = were_marks s.rule s.store v (without_waiter t s.waiters) (were_without t s.store s.waiters c)
+were_after s (Cancelled t) k c = were_without t s.store s.waiters c
+
+-- ---- states
+pub typed_initial : (rule : StalenessRule) (table : List Declared) → StoreIsTyped (plains (opened table)) → IsTypedState (initial_state rule table)
+typed_initial rule table k = record { store = k; blocks = tt; deliveries = tt }
+
+pub typed_after : (s : Slow) (what : What) → IsPossible s → Allows s what → SubmitsWellTyped what → IsTypedState s → IsTypedState (after s what)
+typed_after s what p a w k = record {
+  store = store_after s what p.covered k.blocks k.store a;
+  blocks = blocks_after s what k.blocks w;
+  deliveries = were_after s what k.store k.deliveries;
+}
+
+pub typed_from : (s : Slow) (events : List Event) → IsPossible s → LegalFrom s events → SubmittedAreWellTyped events → IsTypedState s → IsTypedState (state_from s events)
+typed_from s [] p l w k = k
+typed_from s (e ∷ es) p l w k = typed_from (after s e.what) es (possible_after s e.what p l.0.what) l.1 w.1 (typed_after s e.what p l.0.what w.0 k)
+
+pub typed_verdict : (s : Slow) (t : ℕ) (w : Waiter) → IsPossible s → IsTypedState s → find_waiter t s.waiters ≡ Some w → (v : Verdict) × (verdict_on s.store w.block ≡ Some v) × Fits (plains s.store) v
+typed_verdict s t w p k e =
     let b = typed_waiter t s.waiters w k.blocks e in
-    let c = covered_waiter t s.store s.waiters w k.covered e in
-    applied_typed s.store v (verdict_fits (plains s.store) w.block.uses w.block.tree b.0 v k.typed c b.1 m.verdict_is) k.typed
+    every_verdict_fits (plains s.store) w.block.uses w.block.tree b.0 k.store (covered_waiter t s.store s.waiters w p.covered e) b.1
 
-typed_after : (s : Slow) (d : What) → IsSound s → Allows s d → StoreIsTyped (plains (after s d).store)
-typed_after s (Submitted t b) k a = k.typed
-typed_after s (Installed t v) k a = k.typed
-typed_after s (Finished t v n l) k a = finished_typed s t v n l (find_waiter t s.waiters) k refl a
-typed_after s (Cancelled t) k a = k.typed
-
-sound_from : (s : Slow) (es : List Event) → LegalFrom s es → SubmittedAreWellTyped es → IsSound s → IsSound (state_from s es)
-sound_from s [] l w k = k
-sound_from s (e ∷ es) l w k =
-    sound_from (after s e.what) es l.1 w.1
-    (record { typed = typed_after s e.what k l.0.what; blocks = blocks_after s e.what k.blocks w.0; covered = covered_after s e.what k.covered l.0.what })
+pub typed_states_stay : TypedStatesStay
+typed_states_stay = record { initial = typed_initial; later = typed_from; verdicts = typed_verdict }
 
 pub stores_are_typed : StoresAreTyped
 stores_are_typed rule table history typed blocks legal =
-    (sound_from (initial_state rule table) history legal.each blocks
-    (record { typed = subst StoreIsTyped (sym (plains-opened table)) typed; blocks = tt; covered = tt })).typed
+    (typed_from (initial_state rule table) history (possible_initial rule table) legal.each blocks
+    (typed_initial rule table (subst StoreIsTyped (sym (plains-opened table)) typed))).store
 
 pub blocks_have_verdicts : BlocksHaveVerdicts
 blocks_have_verdicts rule table history t w r legal typed e action =

@@ -1,11 +1,16 @@
--- What a reader has to believe: the slow desk, its settling, its laws, and what each call is refused for.
+-- What a reader has to believe: the slow desk, its settling, its laws, what each call is refused for, and the states that a
+-- history may begin from.
+pub mod Answers
+pub mod Delivered
 pub mod Headline
+pub mod HeadlineFrom
 pub mod Laws
 pub mod Ready
 pub mod Refusals
 pub mod Rounds
 pub mod SlowDesk
 pub mod SlowSettle
+pub mod States
 -- The words inside.
 pub mod BlockStatus
 pub mod Sharing

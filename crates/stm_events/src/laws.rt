@@ -3,10 +3,13 @@
 
 ghost use Rattle.stm_events.specs.declared.staleness.StalenessRule.{StalenessRule as AnyRule};
 ghost use Rattle.stm_events.specs.Headline.{Headline, HeadlineBy};
+ghost use Rattle.stm_events.specs.HeadlineFrom.{HeadlineFrom};
 ghost use Rattle.stm_events.specs.Ready.{ReadyFinishesNext};
 ghost use Rattle.stm_events.specs.Rounds.{SettlingIsRounds};
 ghost use Rattle.stm_events.specs.Laws.{TicketsRise, BlocksAreCovered, CurrentHolds, StoreIsSerial, WeakIsPresent};
 ghost use Rattle.stm_events.specs.Laws.{DeclaredAreCovered, BlocksStay};
+ghost use Rattle.stm_events.specs.States.{PossibleStatesStay, VariablesStayCovered, TicketsStay, TypedStatesStay, ObservationsDecide};
+ghost use Rattle.stm_events.specs.Answers.{ObservedAnswerAlike};
 ghost use Rattle.stm_events.specs.Laws.{WaitingAreWellTyped, StoresAreTyped, BlocksHaveVerdicts};
 
 /// Waiting tickets rise, and are below the next one.
@@ -77,4 +80,39 @@ pub fn stores_are_typed()
 /// A well typed block that waits has a verdict on a well typed present store, and the verdict fits it.
 pub fn blocks_have_verdicts()
     ensures { BlocksHaveVerdicts }
+{}
+
+/// The state in which nothing has happened is one that events may go on from, and so is each that an allowed event leads to.
+pub fn possible_states_stay()
+    ensures { PossibleStatesStay }
+{}
+
+/// The variables that a state covers stay covered.
+pub fn covered_stay()
+    ensures { VariablesStayCovered }
+{}
+
+/// A ticket stays that of its block, over every event.
+pub fn tickets_stay()
+    ensures { TicketsStay }
+{}
+
+/// The store and the waiting blocks stay well typed if each block that is submitted is well typed.
+pub fn typed_states_stay()
+    ensures { TypedStatesStay }
+{}
+
+/// Two states of which the same can be observed allow the same events, and after them the same can be observed.
+pub fn observations_decide()
+    ensures { ObservationsDecide }
+{}
+
+/// Two states of which the same can be observed give the same answers.
+pub fn observed_answer_alike()
+    ensures { ObservedAnswerAlike }
+{}
+
+/// The headline over a history that begins from any state that events may go on from.
+pub fn headline_from()
+    ensures { HeadlineFrom }
 {}

@@ -8,6 +8,7 @@
 //! `same` returns whether two events are equal.
 #![tactic(auto)]
 
+pub mod delivery;
 pub mod errors;
 pub mod event;
 pub mod laws;
@@ -17,6 +18,7 @@ pub mod staleness;
 pub mod status;
 pub mod tickets;
 
+pub use delivery::Delivery;
 pub use errors::{CancelError, DeliverError, FinishError, SubmitError};
 pub use event::{Event, What};
 pub use shared_verdict::SharedVerdict;

@@ -1,5 +1,5 @@
 -- What holds of each state that a machine is at, the state after an event, and what two such states have in common.
-use Rattle.std.proofs.Common.{◌≡◌, ℕ, ◌≤◌, Bool, true, false, not, List, [], ◌∷◌, ◌++◌, length, Option, Some, None, refl, sym, ap, subst, ◌∙◌, arith}
+use Rattle.std.proofs.Common.{◌≡◌, ℕ, ◌≤◌, Bool, true, false, not, List, length, Option, Some, None, refl, sym, subst, ◌∙◌}
 use Rattle.stm_terms.specs.declared.values.Value.{Value}
 use Rattle.stm_terms.specs.declared.verdicts.Verdict.{Verdict}
 use Rattle.stm_store.specs.declared.cell.Cell.{Cell}
@@ -7,65 +7,40 @@ use Rattle.stm_store.specs.Cells.{plains, Covers}
 use Rattle.stm_check.specs.TypedBlock.{Block}
 use Rattle.stm_eval.specs.Messages.{Holds}
 use Rattle.stm_queue.specs.Queue.{Entry, has_ticket}
-use Rattle.stm_events.specs.declared.event.Event.{Event}
 use Rattle.stm_events.specs.declared.event.What.{What}
-use Rattle.stm_events.specs.declared.staleness.StalenessRule.{StalenessRule}
-use Rattle.stm_events.specs.SlowDesk.{Since, Waiter, Slow, under, verdict_on, is_current, is_stale_since, find_waiter, after, Allows, initial_state, state_from, LegalFrom, max_waiting}
+use Rattle.stm_events.specs.SlowDesk.{Since, Waiter, Slow, under, verdict_on, is_current, is_stale_since, find_waiter, after, Allows, max_waiting}
 use Rattle.stm_events.specs.Laws.{AreRising}
-use Rattle.stm_events.proofs.Covered.{AreCovered, covered_from, covered_waiter}
-use Rattle.stm_events.proofs.Folds.{after-rule, state-push, legal-push}
-use Rattle.stm_events.proofs.Fresh.{AreFresh, fresh_from, still_holds}
-use Rattle.stm_events.proofs.Rising.{rising_all}
+use Rattle.stm_events.proofs.Covered.{covered_waiter}
+use Rattle.stm_events.proofs.Fresh.{still_holds}
+use Rattle.stm_events.proofs.Possible.{possible_after}
 use Rattle.stm_waiting.specs.declared.waiting.Waiting.{Waiting}
-use Rattle.stm_machine.specs.Machine.{Parts, Stands, IsAt, event}
+use Rattle.stm_machine.specs.Machine.{Parts, Stands, IsAt}
 use Rattle.stm_machine.specs.QueueAndIndex.{due_of}
 use Rattle.stm_machine.proofs.Due.{IsFound, found, length_due}
-use Rattle.stm_machine.proofs.Few.{few_from}
 
 -- ---- what holds of it
 pub rising_at : (m : Parts) (s : Slow) → IsAt m s → AreRising s.next 0 s.waiters
-rising_at m s k =
-    subst (λ (x : Slow). AreRising x.next 0 x.waiters) (sym k.leads) (rising_all (initial_state s.rule k.table) k.history k.legal (omega arith) tt)
+rising_at m s k = k.possible.rising
 
 pub covered_at : (m : Parts) (s : Slow) → IsAt m s → (t : ℕ) (w : Waiter) → find_waiter t s.waiters ≡ Some w → Covers (plains s.store) w.block.uses
-covered_at m s k t w e =
-    covered_waiter t s.store s.waiters w
-    (subst (λ (x : Slow). AreCovered x.store x.waiters) (sym k.leads) (covered_from (initial_state s.rule k.table) k.history k.legal tt)) e
+covered_at m s k t w = covered_waiter t s.store s.waiters w k.possible.covered
 
 -- what a current block did at its delivery, it does on the present store
 pub holds_at : (m : Parts) (s : Slow) → IsAt m s → (t : ℕ) (w : Waiter) (d : Since) (reads : List (ℕ × Value)) (v : Verdict) → find_waiter t s.waiters ≡ Some w → w.since ≡ Some d
     → is_stale_since w.block d ≡ false → Holds w.block.tree (under d.store_then) reads v → Holds w.block.tree (under s.store) reads v
-holds_at m s k t w d reads v =
-    still_holds t s.store s.waiters w d reads v (subst (λ (x : Slow). AreFresh x.store x.waiters) (sym k.leads) (fresh_from (initial_state s.rule k.table) k.history tt))
+holds_at m s k t w d reads v = still_holds t s.store s.waiters w d reads v k.possible.unwoken
 
 pub few_at : (m : Parts) (s : Slow) → IsAt m s → length s.waiters ≤ max_waiting
-few_at m s k = subst (λ (x : Slow). length x.waiters ≤ max_waiting) (sym k.leads) (few_from (initial_state s.rule k.table) k.history k.legal (omega arith))
+few_at m s k = k.possible.few
 
 -- ---- the state after an event
 pub moves_to : (m m' : Parts) (s : Slow) (what : What) → IsAt m s → Allows s what → Stands (after s what) m' → (Allows s what × IsAt m' (after s what))
-moves_to m m' s what k a q =
-    let start = initial_state s.rule k.table in
-    let longer : List Event = k.history ++ event 0 what ∷ [] in
-    let there : after s what ≡ state_from start longer = ap (λ (x : Slow). after x what) k.leads ∙ sym (state-push start k.history (event 0 what)) in
-    let legal : LegalFrom start longer = legal-push start k.history (event 0 what) k.legal (record { client = omega arith; what = subst (λ (x : Slow). Allows x what) k.leads a }) in
-    let same : s.rule ≡ (after s what).rule = sym (after-rule s what) in (
-      a,
-      record {
-        table = k.table;
-        history = longer;
-        legal = subst (λ (r : StalenessRule). LegalFrom (initial_state r k.table) longer) same legal;
-        leads = subst (λ (r : StalenessRule). after s what ≡ state_from (initial_state r k.table) longer) same there;
-        stands = q;
-      },
-    )
+moves_to m m' s what k a q = (a, record { possible = possible_after s what k.possible a; stands = q })
 
 -- what has the same tickets queued or out is at the same state
 pub requeued : (m : Parts) (s : Slow) (ps : List Entry) → ((u : ℕ) → has_ticket u ps ≡ has_ticket u m.pending) → IsAt m s → IsAt (record m { pending = ps }) s
 requeued m s ps same k = record {
-  table = k.table;
-  history = k.history;
-  legal = k.legal;
-  leads = k.leads;
+  possible = k.possible;
   stands = record {
     rule_is = k.stands.rule_is;
     store_is = k.stands.store_is;

@@ -19,7 +19,7 @@ use Rattle.stm_waiting.specs.Entries.{kept_at}
 use Rattle.stm_machine.specs.Entries.{AreDue}
 use Rattle.stm_machine.specs.Machine.{Parts, IsAt}
 use Rattle.stm_machine.specs.QueueAndIndex.{due_of}
-use Rattle.stm_machine.specs.JobsHandedOut.{sent, block_at, AreJobs, IsKeptJob, AreKept, AreCovered, IsPresent}
+use Rattle.stm_machine.specs.JobsHandedOut.{sent, block_at, AreJobs, IsKeptJob, AreKept, AreJobsCovered, IsPresent}
 use Rattle.stm_events.specs.Refusals.{differing}
 use Rattle.stm_machine.proofs.Agreeing.{reads_differ_nowhere}
 use Rattle.stm_machine.proofs.States.{covered_at}
@@ -80,7 +80,7 @@ covered_step : (cells : List (Ty × Value)) (o : Option Waiter) (b : Block) → 
 covered_step cells None b f e = cc
 covered_step cells (Some w) b f e = let q : w.block ≡ b = cc in subst (λ (x : Block). Covers cells x.uses) q (f w refl)
 
-pub are_covered : (s : Slow) (js : List Job) → ((t : ℕ) (w : Waiter) → find_waiter t s.waiters ≡ Some w → Covers (plains s.store) w.block.uses) → AreJobs s js → AreCovered (plains s.store) js
+pub are_covered : (s : Slow) (js : List Job) → ((t : ℕ) (w : Waiter) → find_waiter t s.waiters ≡ Some w → Covers (plains s.store) w.block.uses) → AreJobs s js → AreJobsCovered (plains s.store) js
 are_covered s [] c a = tt
 are_covered s (j ∷ js) c a = (covered_step (plains s.store) (find_waiter j.ticket s.waiters) j.block (c j.ticket) a.0, are_covered s js c a.1)
 

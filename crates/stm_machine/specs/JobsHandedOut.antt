@@ -38,9 +38,9 @@ AreKept es [] = Unit {0}
 AreKept es (j ∷ js) = IsKeptJob es j × AreKept es js
 
 -- the store has the variables that each block names
-abbrev pub AreCovered : List (Ty × Value) → List Job → Type 0
-AreCovered cells [] = Unit {0}
-AreCovered cells (j ∷ js) = Covers cells j.block.uses × AreCovered cells js
+abbrev pub AreJobsCovered : List (Ty × Value) → List Job → Type 0
+AreJobsCovered cells [] = Unit {0}
+AreJobsCovered cells (j ∷ js) = Covers cells j.block.uses × AreJobsCovered cells js
 
 -- the message is what the block that waits under the ticket does on the present store, so nothing of it was overtaken
 pub record IsPresent (s : Slow) (t : ℕ) (m : Evaluated) : Type 0 where

@@ -1,3 +1,6 @@
+-- The states that a history may begin from.
+pub mod Checkpoints
+pub mod CheckpointEntries
 -- What the machine holds and hands out.
 pub mod Entries
 pub mod IndexEncoding

@@ -1,14 +1,14 @@
 -- What a machine holds, and the state of the slow desk that it is at.
 use Rattle.std.specs.Prelude.{◌≡◌, ℕ, Bool, false, ◌<◌, List, None, Some}
 use Rattle.stm_store.specs.declared.cell.Cell.{Cell}
-use Rattle.stm_store.specs.Tables.{Declared}
 use Rattle.stm_eval.specs.declared.message.Evaluated.{Evaluated}
 use Rattle.stm_eval.specs.EvaluatedFields.{message_ticket, message_block, message_reads}
 use Rattle.stm_watch.specs.Pairs.{Pairs, has_pair}
 use Rattle.stm_events.specs.declared.event.Event.{Event}
 use Rattle.stm_events.specs.declared.event.What.{What}
 use Rattle.stm_events.specs.declared.staleness.StalenessRule.{StalenessRule}
-use Rattle.stm_events.specs.SlowDesk.{Waiter, Slow, find_waiter, after, Allows, initial_state, state_from, LegalFrom}
+use Rattle.stm_events.specs.SlowDesk.{Waiter, Slow, find_waiter, after, Allows}
+use Rattle.stm_events.specs.States.{IsPossible}
 use Rattle.stm_events.specs.Refusals.{install_first}
 use Rattle.stm_waiting.specs.declared.waiting.Waiting.{Waiting}
 use Rattle.stm_machine.specs.Entries.{AreDue}
@@ -36,12 +36,9 @@ pub record Stands (s : Slow) (m : Parts) : Type 0 where
   pub queue : AreQueued m.pending s.waiters
   pub index : AreWatched m.watch s.waiters
 
--- the machine is at this state: some legal history leads to it, and the machine holds it
+-- the machine is at this state: events may go on from it, and the machine holds it
 pub record IsAt (m : Parts) (s : Slow) : Type 0 where
-  pub table : List Declared
-  pub history : List Event
-  pub legal : LegalFrom (initial_state s.rule table) history
-  pub leads : s ≡ state_from (initial_state s.rule table) history
+  pub possible : IsPossible s
   pub stands : Stands s m
 
 -- what happens is allowed on each state that the machine is at, and takes the machine to the state after it

@@ -49,7 +49,7 @@ fn holds_value(store: &Store, id: u32, value: Value) -> bool
 }
 
 /// The first of the variables read whose value differs now, or that isn't there.
-fn first_differing(store: &Store, reads: &[(u32, Value)]) -> Option<u32>
+pub(crate) fn first_differing(store: &Store, reads: &[(u32, Value)]) -> Option<u32>
     ensures { result ≡ differing (under store.now) reads.now }
 {
     for (id, value) in reads {

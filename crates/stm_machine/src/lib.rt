@@ -5,6 +5,7 @@
 #![tactic(auto)]
 
 pub mod cancel;
+pub mod checkpoint;
 pub mod deliver;
 pub mod evaluation;
 pub mod finish;
@@ -12,7 +13,10 @@ mod index;
 pub mod machine;
 pub mod queries;
 pub mod queue;
+mod restored;
+mod right_delivery;
 pub mod submit;
 
+pub use checkpoint::{AddError, Checkpoint, CheckpointBlock, CheckpointError};
 pub use finish::Plan;
 pub use machine::Machine;

@@ -7,7 +7,7 @@ ghost use Rattle.stm_events.specs.SlowDesk.{Slow};
 ghost use Rattle.stm_waiting.specs.Entries.{kept_at};
 ghost use Rattle.stm_machine.specs.Machine.{IsAt, Stays};
 ghost use Rattle.stm_events.specs.Refusals.{pending_left};
-ghost use Rattle.stm_machine.specs.JobsHandedOut.{sent, AreJobs, AreCovered, AreKept, IsKeptJob};
+ghost use Rattle.stm_machine.specs.JobsHandedOut.{sent, AreJobs, AreJobsCovered, AreKept, IsKeptJob};
 
 use crate::machine::Machine;
 use std::alloc::Global;
@@ -89,7 +89,7 @@ impl Machine {
             ≡ take n (queued self.old.pending)) }
         ensures blocks { IfOk result (λ r. (s : Slow) → IsAt self.old s → AreJobs s r.1.items) }
         ensures store { IfOk result (λ r. r.0 ≡ plains self.old.store) }
-        ensures covered { IfOk result (λ r. AreCovered r.0 r.1.items) }
+        ensures covered { IfOk result (λ r. AreJobsCovered r.0 r.1.items) }
         ensures few { IfOk result (λ r. vec_len r.1 ≤ n) }
         ensures out { IfOk result (λ r. self.new
             ≡ record self.old { pending = sent (length r.1.items) self.old.pending }) }

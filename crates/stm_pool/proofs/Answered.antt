@@ -9,7 +9,7 @@ use Rattle.stm_terms.specs.declared.values.Value.{Value}
 use Rattle.stm_store.specs.Cells.{Covers}
 use Rattle.stm_eval.specs.declared.job.Job.{Job}
 use Rattle.stm_eval.specs.declared.message.Evaluated.{Evaluated}
-use Rattle.stm_machine.specs.JobsHandedOut.{AreCovered}
+use Rattle.stm_machine.specs.JobsHandedOut.{AreJobsCovered}
 use Rattle.stm_pool.specs.declared.slot.Slot.{Slot}
 use Rattle.stm_pool.specs.Answers.{AnswersJob}
 use Rattle.stm_pool.specs.Slots.{IsWorked, IsDone, IsReady, IsLeft, AreDone, todo, slot_of}
@@ -61,11 +61,11 @@ answered cells jobs before after answers n len is are same each k d e h =
     let w = worked_at cells jobs before after is (λ i f l. each i f (omega arith)) k d (slot_of e) h in
     left_answer (get_or jobs k d) cells (get_or answers k e) (subst (λ (s : Slot). IsLeft (get_or jobs k d) cells s.job s.message) y w)
 
-all_covered : (cells : List (Ty × Value)) (jobs : List Job) → AreCovered cells jobs → (k : ℕ) (d : Job) → k < length jobs → Covers cells (get_or jobs k d).block.uses
+all_covered : (cells : List (Ty × Value)) (jobs : List Job) → AreJobsCovered cells jobs → (k : ℕ) (d : Job) → k < length jobs → Covers cells (get_or jobs k d).block.uses
 all_covered cells [] h k d l = absurd (omega arith)
 all_covered cells (j ∷ js) h zero d l = h.0
 all_covered cells (j ∷ js) h (suc k) d l = all_covered cells js h.1 k d (omega arith)
 
 -- jobs that can be evaluated, in slots
-pub all_ready : (cells : List (Ty × Value)) (jobs : List Job) → AreCovered cells jobs → All (λ s. IsReady cells s) (map todo jobs)
+pub all_ready : (cells : List (Ty × Value)) (jobs : List Job) → AreJobsCovered cells jobs → All (λ s. IsReady cells s) (map todo jobs)
 all_ready cells jobs h = All-map (λ s. IsReady cells s) todo jobs (λ i d l. record { job = all_covered cells jobs h i d l; message = refl })

@@ -2,7 +2,7 @@
 
 ghost use Rattle.std.specs.Prelude.{◌≡◌, ℕ, ◌<◌, ◌≤◌, All, vec_len, slice_index_or, IfOk, IfErr};
 ghost use Rattle.stm_eval.specs.Limits.{max_levels};
-ghost use Rattle.stm_machine.specs.JobsHandedOut.{AreCovered};
+ghost use Rattle.stm_machine.specs.JobsHandedOut.{AreJobsCovered};
 ghost use Rattle.stm_pool.specs.Answers.{AnswersJob};
 ghost use Rattle.stm_pool.specs.Limits.{max_workers};
 ghost use Rattle.stm_pool.specs.Slots.{IsWorked, IsReady};
@@ -62,7 +62,7 @@ pub fn evaluate_all<R: Threads + Sync>(
 ) -> Result<Vec<Answer>, (Vec<Job>, NoMemory)>
     requires workers { (0 < workers) × (workers ≤ max_workers) }
     requires levels { levels ≤ max_levels }
-    requires covered { AreCovered frozen.now jobs.items }
+    requires covered { AreJobsCovered frozen.now jobs.items }
     ensures len { IfOk result (λ v. vec_len v ≡ vec_len jobs) }
     ensures each { IfOk result (λ v. (k : ℕ) (d : _) (e : _) → k < vec_len jobs → AnswersJob
         (slice_index_or jobs.items k d) frozen.now (slice_index_or v.items k e)) }

@@ -1,5 +1,5 @@
 -- The test of a verdict decides whether it fits.
-use Rattle.std.proofs.Common.{◌≡◌, ℕ, zero, suc, ◌+◌, ◌<◌, ◌≤◌, true, false, List, [], ◌∷◌, Option, Some, None, refl, sym, ap, subst, ◌∙◌, arith, eqb-true}
+use Rattle.std.proofs.Common.{◌≡◌, ℕ, zero, suc, ◌+◌, ◌<◌, ◌≤◌, true, false, length, List, [], ◌∷◌, Option, Some, None, refl, sym, ap, subst, ◌∙◌, arith, eqb-true}
 use Rattle.std.specs.Prelude.{slice_get, is_some, nat_eq, if◌then◌else◌}
 use Rattle.std.proofs.lemmas.Bool.{false≢true}
 use Rattle.stm_terms.specs.declared.kinds.Ty.{Ty}
@@ -10,7 +10,7 @@ use Rattle.stm_terms.specs.declared.verdicts.Verdict.{Verdict}
 use Rattle.stm_terms.specs.declared.verdicts.Verdict.TheVariants.{Commits, Throws, Blocks}
 use Rattle.stm_terms.specs.Changes.{Changes, find}
 use Rattle.stm_terms.specs.Typing.{TypeEnv, type_of, AllAbove, Rising}
-use Rattle.stm_store.specs.Cells.{kinds_of, Covers, Fits}
+use Rattle.stm_store.specs.Cells.{most_cells, kinds_of, Covers, Fits, IsStore}
 use Rattle.stm_store.specs.FitsDecision.{covers_all, value_fits, making, rise_from, writes_fit, news_fit, fits_decision}
 use Rattle.stm_store.proofs.TypeTestsDecide.{and_left, and_right, both, le_true, true_le, kind_from, kind_to}
 use Rattle.stm_store.proofs.WritesInTurn.{EachWrite, each_found}
@@ -115,3 +115,14 @@ fits_to cells (Commits writes news v) f =
     (both _ _ (news_to k (making news) news (λ i c e. let p = f.news i c e in (sym (news_only k writes news c.1) ∙ p.0, p.1))) (ap is_some result))
 fits_to cells (Throws x) f = refl
 fits_to cells Blocks f = refl
+
+-- ---- cells
+pub store_from : (cells : List (Ty × Value)) → length cells ≤ most_cells → news_fit (kinds_of cells) (making []) cells ≡ true → IsStore cells
+store_from cells few e = record {
+  small = few;
+  typed = λ i c f. (news_from (kinds_of cells) (making []) cells e i c f).0;
+  low = λ i c f. (news_from (kinds_of cells) (making []) cells e i c f).1;
+}
+
+pub store_to : (cells : List (Ty × Value)) → IsStore cells → news_fit (kinds_of cells) (making []) cells ≡ true
+store_to cells k = news_to (kinds_of cells) (making []) cells (λ i c f. (k.typed i c f, k.low i c f))

@@ -30,5 +30,5 @@ pub use cell::Cell;
 pub use frozen::Frozen;
 pub use ready::{Applied, ApplyError, Ready};
 pub use seed::Seed;
-pub use store::Store;
+pub use store::{Store, StoreError};
 pub use table::{DeclareError, Table};

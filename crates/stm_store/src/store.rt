@@ -3,7 +3,7 @@
 ghost use Rattle.std.specs.Prelude.{◌≡◌, ◌+◌, ◌<◌, ◌≤◌, ◌↔◌, Some, length, slice_get, option_map, IsTrue, IfOk, IfErr, OnOk, OnErr, IsErrOf};
 ghost use Rattle.std.specs.List.Sorted.{IsStrictlyIncreasing};
 ghost use Rattle.stm_terms.specs.Changes.{cell_value};
-ghost use Rattle.stm_store.specs.Cells.{most_cells, StoreIsTyped, StoreHasAtMost8Refs, Covers, Fits, IsApplied, kinds_of, plains, applied, changed_by, result_there, made_by, applied_answer};
+ghost use Rattle.stm_store.specs.Cells.{most_cells, IsStore, StoreIsTyped, StoreHasAtMost8Refs, Covers, Fits, IsApplied, kinds_of, plains, applied, changed_by, result_there, made_by, applied_answer};
 ghost use Rattle.stm_store.specs.Tables.{opened};
 
 use crate::apply::perform;
@@ -11,16 +11,38 @@ use crate::cell::Cell;
 use crate::cell_list::CellList;
 use crate::changed_variables::changed_variables;
 use crate::covers::covers;
-use crate::fits::fits;
+use crate::fits::{cells_hold, fits};
 use crate::frozen::Frozen;
 use crate::ready::{Applied, ApplyError, Ready};
 use crate::table::Table;
-use std::alloc::Global;
+use std::alloc::{AllocError, Global};
 use std::marker::Model;
 use stm_terms::NoMemory;
 use stm_terms::kinds::Ty;
 use stm_terms::values::Value;
 use stm_terms::verdicts::Verdict;
+use thiserror::Error;
+
+/// Why cells can't be a store.
+#[derive(Clone, Copy, Debug, PartialEq, Eq, Error)]
+pub enum StoreError {
+    /// A value isn't of its cell's type, a type has too many `TVar`, or there are too many cells.
+    #[error("the cells are no store")]
+    NotStore,
+    #[error("out of memory")]
+    NoMemory,
+}
+
+impl From<AllocError> for StoreError {
+    ghost use Rattle.std.specs.Prelude.{◌≡◌};
+    ghost use Rattle.stm_store.specs.declared.store.StoreError.{StoreError};
+
+    ghost from_gives = { λ _ e. e ≡ StoreError.NoMemory };
+
+    fn from(_refusal: AllocError) -> StoreError {
+        StoreError::NoMemory
+    }
+}
 
 /// The variables with their types, their values, and how many finished blocks changed each.
 #[derive(Drop)]
@@ -92,6 +114,33 @@ impl Store {
         ensures { option_map (λ c. c.count) (slice_get self.now id) ≡ Some result }
     {
         self.cells.get(id as usize).count
+    }
+
+    /// A store of these cells.
+    pub fn of_cells(alloc: Global, cells: Vec<Cell>) -> Result<Store, StoreError>
+        ensures cells { IfOk result (λ s. s ≡ cells.items) }
+        ensures refused { IsErrOf result StoreError.NotStore → IsStore (plains cells.items) → ⊥ }
+    {
+        if cells.len() > Store::LIMIT {
+            return Err(StoreError::NotStore);
+        }
+        let mut list = CellList::empty(alloc);
+        for cell in &cells {
+            list.push(*cell)?;
+        }
+        if !cells_hold(&list, &cells) {
+            return Err(StoreError::NotStore);
+        }
+        Ok(Store { cells: list })
+    }
+
+    /// A store with the same cells. The two share them until one changes.
+    pub fn share(&self) -> Result<Store, NoMemory>
+        ensures { IfOk result (λ s. s ≡ self.now) }
+    {
+        Ok(Store {
+            cells: self.cells.share()?,
+        })
     }
 
     /// An unchanging copy, which shares its cells with the store until the store changes.

@@ -24,7 +24,7 @@ length_delivered : (t : ℕ) (store : List Cell) (ws : List Waiter) → length (
 length_delivered t store [] = refl
 length_delivered t store (w ∷ ws) = same_by (nat_eq t w.ticket) (with_delivery store w) w ws (delivered t store ws) (length_delivered t store ws)
 
-few_after : (s : Slow) (d : What) → Allows s d → length s.waiters ≤ max_waiting → length (after s d).waiters ≤ max_waiting
+pub few_after : (s : Slow) (d : What) → Allows s d → length s.waiters ≤ max_waiting → length (after s d).waiters ≤ max_waiting
 few_after s (Submitted t b) a h = let w : Waiter = record { ticket = t; block = b; since = None } in let l = length-append s.waiters (w ∷ []) in omega (arith, a.2, l)
 few_after s (Installed t v) a h = let l = length_delivered t s.store s.waiters in omega (arith, h, l)
 few_after s (Finished t v n k) a h = let l = length-map (without_waiter t s.waiters) (after_writes (waking s.rule s.store v)) in let m = length_without t s.waiters in omega (arith, h, l, m)

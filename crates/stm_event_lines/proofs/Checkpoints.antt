@@ -1,0 +1,241 @@
+-- The lines of a checkpoint: each is one line, begins with a brace, reads back, and is of one content only.
+use Rattle.std.proofs.Common.{◌≡◌, ◌≢◌, ℕ, ◌<◌, ◌^◌, List, false, Option, Some, None, Ok, refl, sym, ap, arith, codes}
+use Rattle.std.specs.Prelude.{option_and_then}
+use Rattle.std.specs.Str.{IsUtf8}
+use Rattle.json.proofs.Printed.Decimals.{IsNumber-decimal}
+use Rattle.serde_json.specs.Data.{Data, object, member, no_members}
+use Rattle.serde_json.specs.Find.{get}
+use Rattle.serde_json.specs.Read.{read}
+use Rattle.serde_json.specs.Written.{compact_text, has_float}
+use Rattle.serde_json.proofs.Numbers.{number_of-decimal}
+use Rattle.stm_store.specs.declared.cell.Cell.{Cell}
+use Rattle.stm_store.specs.Tables.{Declared}
+use Rattle.stm_check.specs.TypedBlock.{Block}
+use Rattle.stm_events.specs.Delivered.{Delivered}
+use Rattle.stm_event_lines.specs.declared.checkpoint.CheckpointHeader.{CheckpointHeader}
+use Rattle.stm_event_lines.specs.declared.checkpoint.WaitingBlock.{WaitingBlock}
+use Rattle.stm_event_lines.specs.CheckpointFields.{checkpoint_header_of, cell_of, waiting_of}
+use Rattle.stm_event_lines.specs.CheckpointLines.{checkpoint_format, checkpoint_header_data, checkpoint_header_line, name_data, cell_data, cell_line, waiting_data, waiting_line, FitsName, FitsCell, FitsDelivery, FitsWaiting}
+use Rattle.stm_event_lines.specs.Fields.{write_of, block_of_text}
+use Rattle.stm_event_lines.specs.Fits.{Is32Bit, FitsValue, IsOneLine, BeginsWithBrace}
+use Rattle.stm_event_lines.specs.Lines.{IsFormat, number_data, write_data, header_data, header_line}
+use Rattle.stm_event_lines.specs.WholeBlocks.{checked_block}
+use Rattle.stm_event_lines.proofs.Exact.{value_exact, writes_exact, verdict_exact}
+use Rattle.stm_event_lines.proofs.OneLines.{IsInRange}
+use Rattle.stm_event_lines.proofs.Ranges.{own_text, ascii_type, ascii_name, ascii_block, value_in_range, writes_in_range, verdict_in_range}
+use Rattle.stm_event_lines.proofs.ReadsBack.{ReadsBack, reads_of, unread, same_data, in_32, value_back, writes_back, verdict_back, header_reads}
+use Rattle.stm_event_lines.proofs.RoundTrips.{RoundTrips, number_round_trips, string_round_trips, value_round_trips, writes_round_trips, verdict_round_trips, array_round_trips, all_back}
+use Rattle.stm_event_lines.proofs.Types.{type_back}
+
+-- ---- no float
+
+pub checkpoint_header_exact : (next vars waiting : ℕ) → has_float (checkpoint_header_data next vars waiting) ≡ false
+checkpoint_header_exact next vars waiting = refl
+
+name_exact : (name : Option (List ℕ)) → has_float (name_data name) ≡ false
+name_exact (Some name) = refl
+name_exact None = refl
+
+pub cell_exact : (name : Option (List ℕ)) (c : Cell) → has_float (cell_data name c) ≡ false
+cell_exact name c = rw (value_exact c.value, name_exact name)
+
+pub delivered_exact : (ticket : ℕ) (text : List ℕ) (d : Delivered) → has_float (waiting_data ticket text (Some d)) ≡ false
+delivered_exact ticket text d = rw (writes_exact d.reads, verdict_exact d.verdict)
+
+-- ---- read as themselves
+
+count_round_trips : (k n : ℕ) → n < 2 ^ 64 → RoundTrips k (number_data n)
+count_round_trips k n h = record { numbers = IsNumber-decimal n h; back = rw (number_of-decimal n h); shallow = omega arith; exact = refl }
+
+-- a first line of any format
+abbrev headed : ℕ → ℕ → ℕ → ℕ → Data
+headed format next vars waiting =
+    object (member (codes "format") (number_data format)
+    (member (codes "next") (number_data next)
+    (member (codes "vars") (number_data vars)
+    (member (codes "waiting") (number_data waiting) no_members))))
+
+headed_round_trips : (format next vars waiting : ℕ) → Is32Bit format → Is32Bit next → Is32Bit vars → Is32Bit waiting → RoundTrips 6 (headed format next vars waiting)
+headed_round_trips format next vars waiting g h i j =
+    let f = number_round_trips 0 format g in let n = number_round_trips 0 next h in
+    let v = number_round_trips 0 vars i in let w = number_round_trips 0 waiting j in
+    record { numbers = (f.numbers, (n.numbers, (v.numbers, (w.numbers, tt)))); back = rw (f.back, n.back, v.back, w.back); shallow = omega arith; exact = refl }
+
+name_round_trips : (name : Option (List ℕ)) → RoundTrips 1 (name_data name)
+name_round_trips (Some name) = string_round_trips 1 name
+name_round_trips None = record { numbers = tt; back = refl; shallow = omega arith; exact = refl }
+
+cell_round_trips : (name : Option (List ℕ)) (c : Cell) → FitsValue c.value → c.count < 2 ^ 64 → RoundTrips 6 (cell_data name c)
+cell_round_trips name c h k =
+    let v = value_round_trips c.value h in let n = name_round_trips name in let m = count_round_trips 0 c.count k in
+    record { numbers = (m.numbers, (v.numbers, (n.numbers, (tt, tt)))); back = rw (m.back, v.back, n.back); shallow = omega (arith, v.shallow, n.shallow); exact = rw (v.exact, n.exact) }
+
+waiting_round_trips : (ticket : ℕ) (text : List ℕ) (d : Option Delivered) → Is32Bit ticket → FitsDelivery d → RoundTrips 6 (waiting_data ticket text d)
+waiting_round_trips ticket text None k h =
+    let t = number_round_trips 0 ticket k in
+    record { numbers = (tt, (t.numbers, tt)); back = rw t.back; shallow = omega arith; exact = refl }
+waiting_round_trips ticket text (Some d) k h =
+    let t = number_round_trips 0 ticket k in let r = array_round_trips 2 _ (writes_round_trips d.reads h.0) in let o = verdict_round_trips d.verdict h.1 in
+    record { numbers = (tt, (r.numbers, (tt, (t.numbers, (o.numbers, tt))))); back = rw (r.back, t.back, o.back); shallow = omega (arith, r.shallow, o.shallow); exact = rw (r.exact, o.exact) }
+
+-- ---- numbers and strings in range
+
+name_in_range : (name : Option (List ℕ)) → FitsName name → IsInRange (name_data name)
+name_in_range (Some name) h = ascii_name name h
+name_in_range None h = tt
+
+cell_in_range : (name : Option (List ℕ)) (c : Cell) → FitsCell name c → IsInRange (cell_data name c)
+cell_in_range name c f = (refl, f.3, (refl, value_in_range c.value f.2, (refl, name_in_range name f.0, (refl, ascii_type c.kind, tt))))
+
+waiting_in_range : (table : List Declared) (ticket : ℕ) (b : Block) (d : Option Delivered) → FitsWaiting table ticket b d → IsInRange (waiting_data ticket b.text d)
+waiting_in_range table ticket b None f = (refl, ascii_block table b.text b f.1, (refl, omega (arith, f.0), tt))
+waiting_in_range table ticket b (Some d) f =
+    let given = f.2 in
+    (refl, ascii_block table b.text b f.1, (refl, writes_in_range d.reads given.0, (refl, tt, (refl, omega (arith, f.0), (refl, verdict_in_range d.verdict given.1, tt)))))
+
+-- ---- their texts
+
+checkpoint_header_reads : (next vars waiting : ℕ) → Is32Bit next → Is32Bit vars → Is32Bit waiting → ReadsBack (checkpoint_header_data next vars waiting)
+checkpoint_header_reads next vars waiting h i j =
+    reads_of (checkpoint_header_data next vars waiting) (headed_round_trips checkpoint_format next vars waiting (omega arith) h i j)
+    (refl, omega arith, (refl, omega (arith, h), (refl, omega (arith, i), (refl, omega (arith, j), tt))))
+
+cell_reads : (name : Option (List ℕ)) (c : Cell) → FitsCell name c → ReadsBack (cell_data name c)
+cell_reads name c f = reads_of (cell_data name c) (cell_round_trips name c f.2 f.3) (cell_in_range name c f)
+
+waiting_reads : (table : List Declared) (ticket : ℕ) (b : Block) (d : Option Delivered) → FitsWaiting table ticket b d → ReadsBack (waiting_data ticket b.text d)
+waiting_reads table ticket b d f = reads_of (waiting_data ticket b.text d) (waiting_round_trips ticket b.text d f.0 f.2) (waiting_in_range table ticket b d f)
+
+-- ---- their fields
+
+checkpoint_header_back : (next vars waiting : ℕ) → Is32Bit next → Is32Bit vars → Is32Bit waiting → checkpoint_header_of (checkpoint_header_data next vars waiting) ≡ Some (record { next = next; vars = vars; waiting = waiting })
+checkpoint_header_back next vars waiting h i j = rw (in_32 next h, in_32 vars i, in_32 waiting j)
+
+cell_back : (name : Option (List ℕ)) (c : Cell) → FitsCell name c → cell_of (cell_data name c) ≡ Some (name, c)
+cell_back (Some name) c f = rw (value_back c.value f.2, type_back c.kind f.1)
+cell_back None c f = rw (value_back c.value f.2, type_back c.kind f.1)
+
+waiting_back : (table : List Declared) (ticket : ℕ) (b : Block) (d : Option Delivered) → FitsWaiting table ticket b d → waiting_of table (waiting_data ticket b.text d) ≡ Some (record { ticket = ticket; block = b; delivery = d })
+waiting_back table ticket b None f = rw (in_32 ticket f.0, f.1)
+waiting_back table ticket b (Some d) f =
+    let given = f.2 in rw (in_32 ticket f.0, f.1, verdict_back d.verdict given.1, all_back write_of write_data d.reads (writes_back d.reads given.0))
+
+-- ---- what a line is that was read
+
+pub checkpoint_header_is : (line : List ℕ) (next vars waiting : ℕ) (g : Data) → Is32Bit next → Is32Bit vars → Is32Bit waiting → checkpoint_header_line next vars waiting ≡ line → read line ≡ Some g
+    → checkpoint_header_of g ≡ Some (record { next = next; vars = vars; waiting = waiting })
+unfolding checkpoint_header_line
+checkpoint_header_is line next vars waiting g h i j l some =
+    let same : g ≡ checkpoint_header_data next vars waiting = same_data line (checkpoint_header_data next vars waiting) g (checkpoint_header_reads next vars waiting h i j) l some in
+    rw same (checkpoint_header_back next vars waiting h i j)
+
+pub cell_is : (line : List ℕ) (name : Option (List ℕ)) (c : Cell) (g : Data) → FitsCell name c → cell_line name c ≡ line → read line ≡ Some g → cell_of g ≡ Some (name, c)
+unfolding cell_line
+cell_is line name c g f l some = let same : g ≡ cell_data name c = same_data line (cell_data name c) g (cell_reads name c f) l some in rw same (cell_back name c f)
+
+pub waiting_is : (table : List Declared) (line : List ℕ) (ticket : ℕ) (b : Block) (d : Option Delivered) (g : Data) → FitsWaiting table ticket b d → waiting_line ticket b.text d ≡ line → read line ≡ Some g
+    → waiting_of table g ≡ Some (record { ticket = ticket; block = b; delivery = d })
+unfolding waiting_line
+waiting_is table line ticket b d g f l some =
+    let same : g ≡ waiting_data ticket b.text d = same_data line (waiting_data ticket b.text d) g (waiting_reads table ticket b d f) l some in rw same (waiting_back table ticket b d f)
+
+pub checkpoint_header_unread : (line : List ℕ) (next vars waiting : ℕ) → Is32Bit next → Is32Bit vars → Is32Bit waiting → checkpoint_header_line next vars waiting ≡ line → (IsUtf8 line → read line ≡ None) → ⊥
+unfolding checkpoint_header_line
+checkpoint_header_unread line next vars waiting h i j l none = unread line (checkpoint_header_data next vars waiting) (checkpoint_header_reads next vars waiting h i j) l none
+
+pub cell_unread : (line : List ℕ) (name : Option (List ℕ)) (c : Cell) → FitsCell name c → cell_line name c ≡ line → (IsUtf8 line → read line ≡ None) → ⊥
+unfolding cell_line
+cell_unread line name c f l none = unread line (cell_data name c) (cell_reads name c f) l none
+
+pub waiting_unread : (table : List Declared) (line : List ℕ) (ticket : ℕ) (b : Block) (d : Option Delivered) → FitsWaiting table ticket b d → waiting_line ticket b.text d ≡ line → (IsUtf8 line → read line ≡ None) → ⊥
+unfolding waiting_line
+waiting_unread table line ticket b d f l none = unread line (waiting_data ticket b.text d) (waiting_reads table ticket b d f) l none
+
+-- ---- a block that was read
+
+-- it is what its text checks to
+pub own_block : (table : List Declared) (o : Option (List ℕ)) (b : Block) → option_and_then (block_of_text table) o ≡ Some b → checked_block table b.text ≡ Ok b
+own_block table (Some text) b e = own_text table text b e
+own_block table None b e = absurd cc
+
+-- ---- laws
+
+pub checkpoint_header_one_line : (next vars waiting : ℕ) → Is32Bit next → Is32Bit vars → Is32Bit waiting → IsOneLine (checkpoint_header_line next vars waiting)
+unfolding checkpoint_header_line
+checkpoint_header_one_line next vars waiting h i j = (checkpoint_header_reads next vars waiting h i j).one_line
+
+pub cell_one_line : (name : Option (List ℕ)) (c : Cell) → FitsCell name c → IsOneLine (cell_line name c)
+unfolding cell_line
+cell_one_line name c f = (cell_reads name c f).one_line
+
+pub waiting_one_line : (table : List Declared) (ticket : ℕ) (b : Block) (d : Option Delivered) → FitsWaiting table ticket b d → IsOneLine (waiting_line ticket b.text d)
+unfolding waiting_line
+waiting_one_line table ticket b d f = (waiting_reads table ticket b d f).one_line
+
+pub checkpoint_header_brace : (next vars waiting : ℕ) → BeginsWithBrace (checkpoint_header_line next vars waiting)
+unfolding checkpoint_header_line
+checkpoint_header_brace next vars waiting = (_, refl)
+
+pub cell_brace : (name : Option (List ℕ)) (c : Cell) → BeginsWithBrace (cell_line name c)
+unfolding cell_line
+cell_brace name c = (_, refl)
+
+waiting_data_brace : (ticket : ℕ) (text : List ℕ) (d : Option Delivered) → BeginsWithBrace (compact_text (waiting_data ticket text d))
+waiting_data_brace ticket text None = (_, refl)
+waiting_data_brace ticket text (Some d) = (_, refl)
+
+pub waiting_brace : (ticket : ℕ) (text : List ℕ) (d : Option Delivered) → BeginsWithBrace (waiting_line ticket text d)
+unfolding waiting_line
+waiting_brace ticket text d = waiting_data_brace ticket text d
+
+-- different first lines say different numbers
+one_header : (o : Option CheckpointHeader) (g h : CheckpointHeader) → o ≡ Some g → o ≡ Some h → g ≡ h
+one_header o g h a b = cc
+
+pub checkpoint_header_same : (next next' vars vars' waiting waiting' : ℕ) → Is32Bit next → Is32Bit vars → Is32Bit waiting → Is32Bit next' → Is32Bit vars' → Is32Bit waiting'
+    → checkpoint_header_line next vars waiting ≡ checkpoint_header_line next' vars' waiting' → (next ≡ next') × (vars ≡ vars') × (waiting ≡ waiting')
+unfolding checkpoint_header_line
+checkpoint_header_same next next' vars vars' waiting waiting' h i j h' i' j' l =
+    let g = checkpoint_header_data next' vars' waiting' in
+    let a : checkpoint_header_of g ≡ Some (record { next = next'; vars = vars'; waiting = waiting' }) = checkpoint_header_back next' vars' waiting' h' i' j' in
+    let b : checkpoint_header_of g ≡ Some (record { next = next; vars = vars; waiting = waiting }) =
+    checkpoint_header_is (checkpoint_header_line next' vars' waiting') next vars waiting g h i j l (checkpoint_header_reads next' vars' waiting' h' i' j').back in
+    let same : record { next = next; vars = vars; waiting = waiting } ≡ record { next = next'; vars = vars'; waiting = waiting' } = one_header _ _ _ b a in
+    (ap (λ (x : CheckpointHeader). x.next) same, ap (λ (x : CheckpointHeader). x.vars) same, ap (λ (x : CheckpointHeader). x.waiting) same)
+
+-- so different variables have different lines
+one_cell : (o : Option (Option (List ℕ) × Cell)) (g h : Option (List ℕ) × Cell) → o ≡ Some g → o ≡ Some h → g ≡ h
+one_cell o g h a b = cc
+
+pub cell_same : (name name' : Option (List ℕ)) (c c' : Cell) → FitsCell name c → FitsCell name' c' → cell_line name c ≡ cell_line name' c' → (name ≡ name') × (c ≡ c')
+unfolding cell_line
+cell_same name name' c c' f f' l =
+    let a : cell_of (cell_data name' c') ≡ Some (name', c') = cell_back name' c' f' in
+    let b : cell_of (cell_data name' c') ≡ Some (name, c) = cell_is (cell_line name' c') name c (cell_data name' c') f l (cell_reads name' c' f').back in
+    let same : (name, c) ≡ (name', c') = one_cell _ _ _ b a in
+    (ap (λ (x : Option (List ℕ) × Cell). x.0) same, ap (λ (x : Option (List ℕ) × Cell). x.1) same)
+
+-- and different waiting blocks over one table
+one_waiting : (o : Option WaitingBlock) (g h : WaitingBlock) → o ≡ Some g → o ≡ Some h → g ≡ h
+one_waiting o g h a b = cc
+
+pub waiting_same : (table : List Declared) (ticket ticket' : ℕ) (b b' : Block) (d d' : Option Delivered) → FitsWaiting table ticket b d → FitsWaiting table ticket' b' d' → waiting_line ticket b.text d ≡ waiting_line ticket' b'.text d'
+    → (ticket ≡ ticket') × (b ≡ b') × (d ≡ d')
+unfolding waiting_line
+waiting_same table ticket ticket' b b' d d' f f' l =
+    let g = waiting_data ticket' b'.text d' in
+    let w : WaitingBlock = record { ticket = ticket; block = b; delivery = d } in
+    let w' : WaitingBlock = record { ticket = ticket'; block = b'; delivery = d' } in
+    let a : waiting_of table g ≡ Some w' = waiting_back table ticket' b' d' f' in
+    let e : waiting_of table g ≡ Some w = waiting_is table (waiting_line ticket' b'.text d') ticket b d g f l (waiting_reads table ticket' b' d' f').back in
+    let same : w ≡ w' = one_waiting _ w w' e a in
+    (ap (λ (x : WaitingBlock). x.ticket) same, ap (λ (x : WaitingBlock). x.block) same, ap (λ (x : WaitingBlock). x.delivery) same)
+
+-- a first line of a checkpoint is none of the formats that begin from a table
+pub checkpoint_header_new : (next vars waiting format n : ℕ) → Is32Bit next → Is32Bit vars → Is32Bit waiting → IsFormat format → Is32Bit n → checkpoint_header_line next vars waiting ≢ header_line format n
+unfolding checkpoint_header_line header_line
+checkpoint_header_new next vars waiting format n h i j k m = λ l.
+    let same : checkpoint_header_data next vars waiting ≡ header_data format n =
+    sym (same_data (header_line format n) (checkpoint_header_data next vars waiting) (header_data format n) (checkpoint_header_reads next vars waiting h i j) l (header_reads format n k m).back) in
+    let there : Some (number_data next) ≡ None = ap (get (codes "next")) same in
+    absurd cc

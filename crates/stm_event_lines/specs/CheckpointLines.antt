@@ -1,0 +1,83 @@
+-- The lines of a history that begins from a checkpoint, before its events, without their line feeds: the first line, a line for
+-- each variable of the store, and one for each waiting block.
+use Rattle.std.specs.Prelude.{⊤, ◌≡◌, ℕ, ◌^◌, ◌<◌, ◌≤◌, List, map, Option, Some, None, Ok, IsTrue, codes}
+use Rattle.serde_json.specs.Data.{Data, null, boolean, string, array, object, member, no_members}
+use Rattle.serde_json.specs.View.{items_of}
+use Rattle.serde_json.specs.Written.{compact_text}
+use Rattle.stm_terms.specs.Limits.{most_refs}
+use Rattle.stm_terms.specs.Texts.{type_text}
+use Rattle.stm_terms.specs.Names.{is_name_text}
+use Rattle.stm_store.specs.declared.cell.Cell.{Cell}
+use Rattle.stm_store.specs.Tables.{Declared}
+use Rattle.stm_check.specs.TypedBlock.{Block}
+use Rattle.stm_events.specs.Delivered.{Delivered}
+use Rattle.stm_event_lines.specs.Fits.{Is32Bit, FitsValue, FitsVerdict, FitWrites}
+use Rattle.stm_event_lines.specs.Lines.{number_data, value_data, write_data, verdict_data}
+use Rattle.stm_event_lines.specs.WholeBlocks.{checked_block}
+
+-- the format of histories that begin from a checkpoint
+abbrev pub checkpoint_format : ℕ
+checkpoint_format = 4
+
+-- ---- the first line
+-- in JSON: the format, the next ticket, and how many lines of variables and of waiting blocks follow
+abbrev pub checkpoint_header_data : ℕ → ℕ → ℕ → Data
+checkpoint_header_data next vars waiting =
+    object (member (codes "format") (number_data checkpoint_format)
+    (member (codes "next") (number_data next)
+    (member (codes "vars") (number_data vars)
+    (member (codes "waiting") (number_data waiting) no_members))))
+
+unfoldable pub checkpoint_header_line : ℕ → ℕ → ℕ → List ℕ
+checkpoint_header_line next vars waiting = compact_text (checkpoint_header_data next vars waiting)
+
+-- ---- a variable
+-- a declared variable has a name, and one that a block made has none
+abbrev pub name_data : Option (List ℕ) → Data
+name_data (Some name) = string name
+name_data None = null
+
+-- in JSON: how many finished blocks changed it, its present value, its name, and its type's text
+abbrev pub cell_data : Option (List ℕ) → Cell → Data
+cell_data name c =
+    object (member (codes "count") (number_data c.count)
+    (member (codes "init") (value_data c.value)
+    (member (codes "name") (name_data name)
+    (member (codes "type") (string (type_text c.kind)) no_members))))
+
+unfoldable pub cell_line : Option (List ℕ) → Cell → List ℕ
+cell_line name c = compact_text (cell_data name c)
+
+-- the name is one, if there is one
+abbrev pub FitsName : Option (List ℕ) → Type 0
+FitsName None = ⊤
+FitsName (Some name) = IsTrue (is_name_text name)
+
+-- a variable by itself, whatever stands before it
+abbrev pub FitsCell : Option (List ℕ) → Cell → Type 0
+FitsCell name c = FitsName name × (c.kind.refs ≤ most_refs) × FitsValue c.value × (c.count < 2 ^ 64)
+
+-- ---- a waiting block
+-- in JSON: a new one has its text and its ticket; one to which something was delivered has what it read, whether it is stale, and
+-- the verdict besides
+abbrev pub waiting_data : ℕ → List ℕ → Option Delivered → Data
+waiting_data ticket text None = object (member (codes "block") (string text) (member (codes "ticket") (number_data ticket) no_members))
+waiting_data ticket text (Some d) =
+    object (member (codes "block") (string text)
+    (member (codes "reads") (array (items_of (map write_data d.reads)))
+    (member (codes "stale") (boolean d.stale)
+    (member (codes "ticket") (number_data ticket)
+    (member (codes "verdict") (verdict_data d.verdict) no_members)))))
+
+unfoldable pub waiting_line : ℕ → List ℕ → Option Delivered → List ℕ
+waiting_line ticket text delivery = compact_text (waiting_data ticket text delivery)
+
+-- all numbers and values of the delivery are in range
+abbrev pub FitsDelivery : Option Delivered → Type 0
+FitsDelivery None = ⊤
+FitsDelivery (Some d) = FitWrites d.reads × FitsVerdict d.verdict
+
+-- the waiting block can stand in a line over the table: its numbers are in range, and it is what its text checks to
+abbrev pub FitsWaiting : List Declared → ℕ → Block → Option Delivered → Type 0
+FitsWaiting table ticket block delivery =
+    Is32Bit ticket × (checked_block table block.text ≡ Ok block) × FitsDelivery delivery

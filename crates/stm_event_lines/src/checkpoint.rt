@@ -1,0 +1,524 @@
+//! The lines of a history that begins from a checkpoint, before its events.
+
+ghost use Rattle.std.specs.Prelude.{◌≡◌, ◌≢◌, ◌↔◌, ◌≤◌, ◌<◌, ◌^◌, ℕ, List, Option, None, Some, IfOk, IfSome, IsErrOf, OnOk, IsTrue, map, codes, option_map, option_and_then, string_bytes};
+ghost use Rattle.serde_json.specs.Data.{array, boolean};
+ghost use Rattle.serde_json.specs.Events.{SendsValue};
+ghost use Rattle.serde_json.specs.Find.{get};
+ghost use Rattle.serde_json.specs.View.{view, items_of};
+ghost use Rattle.stm_terms.specs.Limits.{most_refs};
+ghost use Rattle.stm_store.specs.declared.cell.Cell.{Cell as AnyCell};
+ghost use Rattle.stm_check.specs.TypedBlock.{Block};
+ghost use Rattle.stm_events.specs.Delivered.{Delivered};
+ghost use Rattle.stm_event_lines.specs.CheckpointFields.{checkpoint_header_of as header_meant, count_field, name_of, counted_cell_of, cell_of as cell_meant, cell_parts, bool_field, delivery_in, delivery_of as delivery_meant, waiting_of as waiting_meant};
+ghost use Rattle.stm_event_lines.specs.CheckpointLines.{checkpoint_header_data, checkpoint_header_line, name_data, cell_data, cell_line, waiting_data, waiting_line, FitsName, FitsCell, FitsDelivery, FitsWaiting};
+ghost use Rattle.stm_event_lines.specs.Fields.{block_of_text, text_field, verdict_field};
+ghost use Rattle.stm_event_lines.specs.Fits.{Is32Bit, FitsValue, FitsVerdict};
+ghost use Rattle.stm_event_lines.specs.Lines.{write_data};
+ghost use Rattle.stm_event_lines.specs.Sending.{SendsMember};
+
+use crate::build::{type_text, value_json};
+use crate::drafted::block_of;
+use crate::fields::{number_at, text_at, value_at};
+use crate::parts::writes_at;
+use crate::read::{LineError, json_of, kind_at};
+use crate::send::{send_number_at, send_text_at, send_writes};
+use crate::verdicts::verdict_at;
+use crate::write::send_verdict_at;
+use serde::{Described, Serialize, Serializer};
+use serde_json::{Value as Json, json, to_string};
+use std::alloc::Global;
+use stm_check::SharedBlock;
+use stm_events::delivery::Delivery;
+use stm_events::shared_verdict::SharedVerdict;
+use stm_store::{Cell, Table};
+use stm_terms::values::Value;
+use stm_terms::verdicts::Verdict;
+use stm_terms::{NoMemory, is_name};
+
+/// What the first line says: the next ticket, and how many lines of variables and of waiting blocks follow.
+#[derive(Clone, Copy)]
+pub struct CheckpointHeader {
+    pub next: u32,
+    pub vars: u32,
+    pub waiting: u32,
+}
+
+/// A variable of the store, with its name if it was declared.
+#[derive(Drop)]
+pub struct NamedCell {
+    pub name: Option<String>,
+    pub cell: Cell,
+}
+
+/// A block that waits under a ticket, with what its last delivery brought, if there was one.
+#[derive(Drop)]
+pub struct WaitingBlock {
+    pub ticket: u32,
+    pub block: SharedBlock,
+    pub delivery: Option<Delivery>,
+}
+
+/// The format of histories that begin from a checkpoint.
+pub const CHECKPOINT_FORMAT: u32 = 4;
+
+fn header_json(alloc: Global, next: u32, vars: u32, waiting: u32) -> Result<Json, NoMemory>
+    ensures { IfOk result (λ v. view v ≡ checkpoint_header_data next vars waiting) }
+{
+    json!(in alloc; {"format": CHECKPOINT_FORMAT, "next": next, "vars": vars, "waiting": waiting})
+}
+
+/// The first line.
+#[tactic(auto, unfolding(crate::specs::CheckpointLines::checkpoint_header_line))]
+pub fn checkpoint_header_text(
+    alloc: Global,
+    next: u32,
+    vars: u32,
+    waiting: u32,
+) -> Result<String, NoMemory>
+    ensures { IfOk result (λ s. string_bytes s ≡ checkpoint_header_line next vars waiting) }
+{
+    let header = header_json(alloc, next, vars, waiting)?;
+    header.to_string(alloc)
+}
+
+fn name_json(alloc: Global, name: Option<&str>) -> Result<Json, NoMemory>
+    ensures { IfOk result (λ v. view v ≡ name_data (option_map (λ n. n.now) name.entry)) }
+{
+    match name {
+        Some(name) => json!(in alloc; name),
+        None => Ok(Json::from(())),
+    }
+}
+
+fn cell_json(alloc: Global, name: Option<&str>, cell: Cell) -> Result<Json, NoMemory>
+    ensures { IfOk result (λ v. view v ≡ cell_data (option_map (λ n. n.now) name.entry) cell) }
+{
+    json!(in alloc; {
+        "count": cell.count,
+        "init": value_json(alloc, cell.value)?,
+        "name": name_json(alloc, name)?,
+        "type": type_text(alloc, cell.kind)?
+    })
+}
+
+/// The line of a variable; none is the name of one that a block made.
+#[tactic(auto, unfolding(crate::specs::CheckpointLines::cell_line))]
+pub fn cell_text(alloc: Global, name: Option<&str>, cell: Cell) -> Result<String, NoMemory>
+    ensures { IfOk result (λ s. string_bytes s ≡ cell_line (option_map (λ n. n.now) name.entry) cell) }
+{
+    let variable = cell_json(alloc, name, cell)?;
+    variable.to_string(alloc)
+}
+
+fn new_block_json(alloc: Global, ticket: u32, text: &str) -> Result<Json, NoMemory>
+    ensures { IfOk result (λ v. view v ≡ waiting_data ticket text.now None) }
+{
+    json!(in alloc; {"block": text, "ticket": ticket})
+}
+
+/// The line of a new block.
+#[tactic(auto, unfolding(crate::specs::CheckpointLines::waiting_line))]
+pub fn new_block_text(alloc: Global, ticket: u32, text: &str) -> Result<String, NoMemory>
+    ensures { IfOk result (λ s. string_bytes s ≡ waiting_line ticket text.now None) }
+{
+    let block = new_block_json(alloc, ticket, text)?;
+    block.to_string(alloc)
+}
+
+fn send_reads_at<S: Serializer>(reads: &[(u32, Value)], out: &mut S) -> Result<(), S::Error>
+    ensures { OnOk result (SendsMember (codes "reads") (array (items_of (map write_data reads.now)))
+        (S.written out.old) (S.written out.new)) }
+{
+    out.key("reads")?;
+    send_writes(reads, out)
+}
+
+fn send_stale_at<S: Serializer>(stale: bool, out: &mut S) -> Result<(), S::Error>
+    ensures { OnOk result (SendsMember (codes "stale") (boolean stale)
+        (S.written out.old) (S.written out.new)) }
+{
+    out.key("stale")?;
+    out.bool(stale)
+}
+
+/// A block to which something was delivered, as a writer of JSON takes it.
+#[derive(Drop)]
+struct DeliveredLine<'a> {
+    alloc: Global,
+    ticket: u32,
+    text: &'a str,
+    reads: &'a [(u32, Value)],
+    verdict: &'a SharedVerdict,
+    stale: bool,
+}
+
+fn send_delivered<S: Serializer>(line: &DeliveredLine<'_>, out: &mut S) -> Result<(), S::Error>
+    ensures { OnOk result (SendsValue (waiting_data line.now.ticket line.now.text.now (Some (record {
+      reads = line.now.reads.now;
+      verdict = line.now.verdict.now;
+      stale = line.now.stale;
+    })))
+        (S.written out.old) (S.written out.new)) }
+{
+    out.begin_map(Some(5))?;
+    send_text_at("block", line.text, out)?;
+    send_reads_at(line.reads, out)?;
+    send_stale_at(line.stale, out)?;
+    send_number_at("ticket", line.ticket, out)?;
+    send_verdict_at(line.alloc, line.verdict, out)?;
+    out.end_map()
+}
+
+impl Described for DeliveredLine<'_> {
+    ghost use Rattle.serde_json.specs.Events.{SendsValue};
+    ghost use Rattle.std.specs.Prelude.{Some};
+    ghost use Rattle.stm_event_lines.specs.CheckpointLines.{waiting_data};
+
+    ghost writes = { λ line. SendsValue (waiting_data line.ticket line.text.now (Some (record {
+      reads = line.reads.now;
+      verdict = line.verdict.now;
+      stale = line.stale;
+    }))) };
+}
+
+impl Serialize for DeliveredLine<'_> {
+    fn serialize<S: Serializer>(&self, out: &mut S) -> Result<(), S::Error> {
+        send_delivered(self, out)
+    }
+}
+
+/// The line of a block to which something was delivered.
+pub fn delivered_block_text(
+    alloc: Global,
+    ticket: u32,
+    text: &str,
+    reads: &[(u32, Value)],
+    verdict: &SharedVerdict,
+    stale: bool,
+) -> Result<String, NoMemory>
+    ensures { IfOk result (λ s. string_bytes s
+        ≡ waiting_line ticket text.now (Some (record { reads = reads.now; verdict = verdict.now; stale = stale }))) }
+{
+    let line = DeliveredLine {
+        alloc,
+        ticket,
+        text,
+        reads,
+        verdict,
+        stale,
+    };
+    match to_string(alloc, &line) {
+        Ok(text) => Ok(text),
+        Err(_) => Err(NoMemory),
+    }
+}
+
+fn header_of(json: &Json) -> Option<CheckpointHeader>
+    ensures value { result ≡ header_meant (view json.now) }
+    ensures fits { IfSome result (λ h. Is32Bit h.next × Is32Bit h.vars × Is32Bit h.waiting) }
+{
+    let next = number_at(json, "next")?;
+    let vars = number_at(json, "vars")?;
+    let waiting = number_at(json, "waiting")?;
+    Some(CheckpointHeader {
+        next,
+        vars,
+        waiting,
+    })
+}
+
+/// What the value says as a first line, if the line is that first line.
+fn header_in(alloc: Global, json: &Json, line: &[u8]) -> Result<CheckpointHeader, LineError>
+    ensures ok { IfOk result (λ h. checkpoint_header_line h.next h.vars h.waiting ≡ line.now) }
+    ensures small { IfOk result (λ h. Is32Bit h.next × Is32Bit h.vars × Is32Bit h.waiting) }
+    ensures bad { IsErrOf result LineError.Bad → (next vars waiting : ℕ)
+        → header_meant (view json.now) ≡ Some (record { next = next; vars = vars; waiting = waiting })
+        → checkpoint_header_line next vars waiting ≢ line.now }
+{
+    let Some(header) = header_of(json) else {
+        return Err(LineError::Bad);
+    };
+    let again = checkpoint_header_text(alloc, header.next, header.vars, header.waiting)?;
+    if again.as_bytes() == line {
+        Ok(header)
+    } else {
+        Err(LineError::Bad)
+    }
+}
+
+/// Reads the first line, exactly where it is one.
+pub fn read_checkpoint_header(alloc: Global, line: &[u8]) -> Result<CheckpointHeader, LineError>
+    ensures ok { IfOk result (λ h. checkpoint_header_line h.next h.vars h.waiting ≡ line.now) }
+    ensures small { IfOk result (λ h. Is32Bit h.next × Is32Bit h.vars × Is32Bit h.waiting) }
+    ensures bad { IsErrOf result LineError.Bad → (next vars waiting : ℕ) → Is32Bit next → Is32Bit vars → Is32Bit waiting
+        → checkpoint_header_line next vars waiting ≢ line.now }
+{
+    match json_of(alloc, line) {
+        Ok(json) => header_in(alloc, &json, line),
+        Err(e) => Err(e),
+    }
+}
+
+fn count_at(json: &Json, key: &str) -> Option<u64>
+    ensures value { result ≡ count_field key.now (view json.now) }
+    ensures fits { IfSome result (λ n. n < 2 ^ 64) }
+{
+    json.get(key)?.as_u64()
+}
+
+/// The text, or none of null.
+fn name(json: &Json) -> Option<Option<&str>>
+    ensures { option_map (option_map (λ n. n.now)) result ≡ name_of (view json.now) }
+{
+    if json.is_null() {
+        return Some(None);
+    }
+    let text = json.as_str()?;
+    Some(Some(text))
+}
+
+fn name_at<'a>(json: &'a Json, key: &str) -> Option<Option<&'a str>>
+    ensures { option_map (option_map (λ n. n.now)) result
+        ≡ option_and_then name_of (get key.now (view json.now)) }
+{
+    name(json.get(key)?)
+}
+
+fn owned_name(alloc: Global, name: Option<&str>) -> Result<Option<String>, NoMemory>
+    ensures { IfOk result (λ o. option_map string_bytes o ≡ option_map (λ n. n.now) name.entry) }
+{
+    match name {
+        Some(name) => Ok(Some(String::from_str(alloc, name)?)),
+        None => Ok(None),
+    }
+}
+
+fn counted_cell(
+    alloc: Global,
+    json: &Json,
+    count: u64,
+    value: Value,
+) -> Result<Option<NamedCell>, NoMemory>
+    ensures value { IfOk result (λ o. option_map cell_parts o
+        ≡ counted_cell_of (view json.now) count value) }
+    ensures fits { IfOk result (λ o. IfSome o (λ c. c.cell.kind.refs ≤ most_refs)) }
+    ensures same { IfOk result (λ o. IfSome o (λ c. (c.cell.count ≡ count) × (c.cell.value ≡ value))) }
+{
+    let Some(name) = name_at(json, "name") else {
+        return Ok(None);
+    };
+    let Some(kind) = kind_at(alloc, json)? else {
+        return Ok(None);
+    };
+    Ok(Some(NamedCell {
+        name: owned_name(alloc, name)?,
+        cell: Cell { kind, value, count },
+    }))
+}
+
+/// The variable that the value represents, if it does.
+fn cell_of(alloc: Global, json: &Json) -> Result<Option<NamedCell>, NoMemory>
+    ensures value { IfOk result (λ o. option_map cell_parts o ≡ cell_meant (view json.now)) }
+    ensures fits { IfOk result (λ o. IfSome o (λ c. (c.cell.kind.refs ≤ most_refs)
+        × FitsValue c.cell.value × (c.cell.count < 2 ^ 64))) }
+{
+    let Some(count) = count_at(json, "count") else {
+        return Ok(None);
+    };
+    let Some(value) = value_at(json, "init") else {
+        return Ok(None);
+    };
+    counted_cell(alloc, json, count, value)
+}
+
+/// The name, if there is one.
+fn name_of_cell(cell: &NamedCell) -> Option<&str>
+    ensures { option_map (λ n. n.now) result ≡ option_map string_bytes cell.now.name }
+{
+    match &cell.name {
+        Some(name) => Some(name.as_str()),
+        None => None,
+    }
+}
+
+/// Whether the name is one, if there is one.
+fn is_fit_name(name: Option<&str>) -> bool
+    ensures { IsTrue result ↔ FitsName (option_map (λ n. n.now) name.entry) }
+{
+    match name {
+        Some(name) => is_name(name),
+        None => true,
+    }
+}
+
+/// The variable that the value represents, if it has a name or none and the line is that variable's.
+fn cell_in(alloc: Global, json: &Json, line: &[u8]) -> Result<NamedCell, LineError>
+    ensures ok { IfOk result (λ c. cell_line (option_map string_bytes c.name) c.cell ≡ line.now) }
+    ensures fits { IfOk result (λ c. FitsCell (option_map string_bytes c.name) c.cell) }
+    ensures bad { IsErrOf result LineError.Bad → (name : Option (List ℕ)) (c : AnyCell) → FitsCell name c
+        → cell_meant (view json.now) ≡ Some (name, c) → cell_line name c ≢ line.now }
+{
+    let Some(cell) = cell_of(alloc, json)? else {
+        return Err(LineError::Bad);
+    };
+    let name = name_of_cell(&cell);
+    if !is_fit_name(name) {
+        return Err(LineError::Bad);
+    }
+    let again = cell_text(alloc, name, cell.cell)?;
+    if again.as_bytes() == line {
+        Ok(cell)
+    } else {
+        Err(LineError::Bad)
+    }
+}
+
+/// Reads a variable's line, exactly where it is one.
+pub fn read_cell(alloc: Global, line: &[u8]) -> Result<NamedCell, LineError>
+    ensures ok { IfOk result (λ c. cell_line (option_map string_bytes c.name) c.cell ≡ line.now) }
+    ensures fits { IfOk result (λ c. FitsCell (option_map string_bytes c.name) c.cell) }
+    ensures bad { IsErrOf result LineError.Bad → (name : Option (List ℕ)) (c : AnyCell) → FitsCell name c
+        → cell_line name c ≢ line.now }
+{
+    match json_of(alloc, line) {
+        Ok(json) => cell_in(alloc, &json, line),
+        Err(e) => Err(e),
+    }
+}
+
+fn bool_at(json: &Json, key: &str) -> Option<bool>
+    ensures { result ≡ bool_field key.now (view json.now) }
+{
+    json.get(key)?.as_bool()
+}
+
+/// What a delivery brought, with this verdict.
+fn delivered(alloc: Global, json: &Json, verdict: Verdict) -> Result<Option<Delivery>, NoMemory>
+    requires { FitsVerdict verdict }
+    ensures value { IfOk result (λ o. o ≡ delivery_in (view json.now) verdict) }
+    ensures fits { IfOk result (λ o. FitsDelivery o) }
+{
+    let Some(reads) = writes_at(alloc, json, "reads")? else {
+        return Ok(None);
+    };
+    let Some(stale) = bool_at(json, "stale") else {
+        return Ok(None);
+    };
+    let verdict = SharedVerdict::new(alloc, verdict)?;
+    Ok(Some(Delivery::new(reads, verdict, stale)))
+}
+
+/// What the delivery that the value has brought.
+fn delivery_in(alloc: Global, json: &Json) -> Result<Option<Delivery>, NoMemory>
+    ensures value { IfOk result (λ o. o
+        ≡ option_and_then (delivery_in (view json.now)) (verdict_field (view json.now))) }
+    ensures fits { IfOk result (λ o. FitsDelivery o) }
+{
+    match verdict_at(alloc, json, "verdict")? {
+        Some(verdict) => delivered(alloc, json, verdict),
+        None => Ok(None),
+    }
+}
+
+/// What the last delivery brought, or that there was none.
+fn delivery_of(alloc: Global, json: &Json) -> Result<Option<Option<Delivery>>, NoMemory>
+    ensures value { IfOk result (λ o. o ≡ delivery_meant (view json.now)) }
+    ensures fits { IfOk result (λ o. IfSome o (λ d. FitsDelivery d)) }
+{
+    if json.get("verdict").is_none() {
+        return Ok(Some(None));
+    }
+    match delivery_in(alloc, json)? {
+        Some(delivery) => Ok(Some(Some(delivery))),
+        None => Ok(None),
+    }
+}
+
+fn block_at(alloc: Global, table: &Table, json: &Json) -> Result<Option<SharedBlock>, NoMemory>
+    ensures { IfOk result (λ o. o ≡ option_and_then (block_of_text table.now)
+        (text_field (codes "block") (view json.now))) }
+{
+    match text_at(json, "block") {
+        Some(text) => block_of(alloc, table, text),
+        None => Ok(None),
+    }
+}
+
+/// The waiting block that the value represents, if it does.
+fn waiting_of(alloc: Global, table: &Table, json: &Json) -> Result<Option<WaitingBlock>, NoMemory>
+    ensures value { IfOk result (λ o. o ≡ waiting_meant table.now (view json.now)) }
+    ensures fits { IfOk result (λ o. IfSome o (λ w.
+        FitsWaiting table.now w.ticket w.block w.delivery)) }
+{
+    let Some(ticket) = number_at(json, "ticket") else {
+        return Ok(None);
+    };
+    let Some(block) = block_at(alloc, table, json)? else {
+        return Ok(None);
+    };
+    match delivery_of(alloc, json)? {
+        Some(delivery) => Ok(Some(WaitingBlock {
+            ticket,
+            block,
+            delivery,
+        })),
+        None => Ok(None),
+    }
+}
+
+/// The line of a waiting block.
+fn waiting_text(alloc: Global, waiting: &WaitingBlock) -> Result<String, NoMemory>
+    ensures { IfOk result (λ s. string_bytes s
+        ≡ waiting_line waiting.now.ticket waiting.now.block.text waiting.now.delivery) }
+{
+    let text = waiting.block.block().text();
+    match &waiting.delivery {
+        None => new_block_text(alloc, waiting.ticket, text),
+        Some(delivery) => delivered_block_text(
+            alloc,
+            waiting.ticket,
+            text,
+            delivery.reads(),
+            delivery.verdict(),
+            delivery.is_stale(),
+        ),
+    }
+}
+
+/// The waiting block that the value represents, if the line is that block's.
+fn waiting_in(
+    alloc: Global,
+    table: &Table,
+    json: &Json,
+    line: &[u8],
+) -> Result<WaitingBlock, LineError>
+    ensures ok { IfOk result (λ w. waiting_line w.ticket w.block.text w.delivery ≡ line.now) }
+    ensures fits { IfOk result (λ w. FitsWaiting table.now w.ticket w.block w.delivery) }
+    ensures bad { IsErrOf result LineError.Bad → (ticket : ℕ) (block : Block) (d : Option Delivered)
+        → waiting_meant table.now (view json.now)
+        ≡ Some (record { ticket = ticket; block = block; delivery = d })
+        → waiting_line ticket block.text d ≢ line.now }
+{
+    let Some(waiting) = waiting_of(alloc, table, json)? else {
+        return Err(LineError::Bad);
+    };
+    let again = waiting_text(alloc, &waiting)?;
+    if again.as_bytes() == line {
+        Ok(waiting)
+    } else {
+        Err(LineError::Bad)
+    }
+}
+
+/// Reads the line of a waiting block, exactly where it is one whose text is a block over the table.
+pub fn read_waiting(alloc: Global, table: &Table, line: &[u8]) -> Result<WaitingBlock, LineError>
+    ensures ok { IfOk result (λ w. waiting_line w.ticket w.block.text w.delivery ≡ line.now) }
+    ensures fits { IfOk result (λ w. FitsWaiting table.now w.ticket w.block w.delivery) }
+    ensures bad { IsErrOf result LineError.Bad → (ticket : ℕ) (block : Block) (d : Option Delivered)
+        → FitsWaiting table.now ticket block d → waiting_line ticket block.text d ≢ line.now }
+{
+    match json_of(alloc, line) {
+        Ok(json) => waiting_in(alloc, table, &json, line),
+        Err(e) => Err(e),
+    }
+}

@@ -1,0 +1,214 @@
+//! What the lines of a checkpoint look like, which are read, and which are refused. No program makes these calls by a script, and no
+//! contract says that they succeed.
+
+use crate::checkpoint::{
+    cell_text, checkpoint_header_text, delivered_block_text, new_block_text, read_cell,
+    read_checkpoint_header, read_waiting,
+};
+use crate::read::LineError;
+use std::alloc::Global;
+use std::test::Fail;
+use stm_events::shared_verdict::SharedVerdict;
+use stm_store::{Cell, Table};
+use stm_terms::is_name;
+use stm_terms::kinds::{Base, Ty};
+use stm_terms::lists::{News, Writes};
+use stm_terms::values::{Fault, Ref, Value};
+use stm_terms::verdicts::Verdict;
+
+const HEADER: &str = "{\"format\":4,\"next\":9,\"vars\":2,\"waiting\":0}";
+
+const DECLARED: &str =
+    "{\"count\":18446744073709551615,\"init\":-5,\"name\":\"x\",\"type\":\"Int\"}";
+
+const MADE: &str = "{\"count\":0,\"init\":{\"old\":0},\"name\":null,\"type\":\"TVar Int\"}";
+
+const NEW: &str = "{\"block\":\"readTVar x\",\"ticket\":7}";
+
+const COMMITS: &str =
+    "{\"block\":\"readTVar x\",\"reads\":[[0,5]],\"stale\":false,\"ticket\":7,\"verdict\":{\"commits\":{\"news\":[[\"TVar Int\",{\"new\":0}]],\"result\":5,\"writes\":[[0,true]]}}}";
+
+const THROWS: &str =
+    "{\"block\":\"throw 3\",\"reads\":[],\"stale\":true,\"ticket\":8,\"verdict\":{\"throws\":3}}";
+
+const OVERFLOWS: &str =
+    "{\"block\":\"throw 3\",\"reads\":[],\"stale\":false,\"ticket\":8,\"verdict\":{\"throws\":\"overflow\"}}";
+
+const BLOCKS: &str =
+    "{\"block\":\"retry\",\"reads\":[[0,5],[1,{\"old\":0}]],\"stale\":true,\"ticket\":1,\"verdict\":\"blocks\"}";
+
+#[test]
+fn headers_and_variables_are_written(rt: HostRuntime) -> Result<(), Fail> {
+    let int = Ty {
+        base: Base::Int,
+        refs: 0,
+    };
+    let declared = Cell {
+        kind: int,
+        value: Value::Int(-5),
+        count: u64::MAX,
+    };
+    let made = Cell {
+        kind: Ty {
+            base: Base::Int,
+            refs: 1,
+        },
+        value: Value::Var(Ref::Old(0)),
+        count: 0,
+    };
+    assert_eq!(rt;
+        checkpoint_header_text(rt.alloc(), 9, 2, 0)?.as_str(),
+        HEADER
+    );
+    assert_eq!(rt;
+        cell_text(rt.alloc(), Some("x"), declared)?.as_str(),
+        DECLARED
+    );
+    assert_eq!(rt; cell_text(rt.alloc(), None, made)?.as_str(), MADE);
+    Ok(())
+}
+
+#[test]
+fn waiting_blocks_are_written(rt: HostRuntime) -> Result<(), Fail> {
+    let alloc = rt.alloc();
+    let reference = Ty {
+        base: Base::Int,
+        refs: 1,
+    };
+    let verdict = Verdict::Commits {
+        writes: Writes::from_vec(vec![in alloc; (0, Value::Bool(true))]?),
+        news: News::from_vec(vec![in alloc; (reference, Value::Var(Ref::New(0)))]?),
+        result: Value::Int(5),
+    };
+    let commits = SharedVerdict::new(alloc, verdict)?;
+    let throws = SharedVerdict::new(alloc, Verdict::Throws(Fault::Thrown(3)))?;
+    let overflows = SharedVerdict::new(alloc, Verdict::Throws(Fault::Overflow))?;
+    let blocks = SharedVerdict::new(alloc, Verdict::Blocks)?;
+    let read = [(0, Value::Int(5))];
+    let two = [(0, Value::Int(5)), (1, Value::Var(Ref::Old(0)))];
+    assert_eq!(rt; new_block_text(alloc, 7, "readTVar x")?.as_str(), NEW);
+    assert_eq!(rt;
+        delivered_block_text(alloc, 7, "readTVar x", &read, &commits, false)?.as_str(),
+        COMMITS
+    );
+    assert_eq!(rt;
+        delivered_block_text(alloc, 8, "throw 3", &[], &throws, true)?.as_str(),
+        THROWS
+    );
+    assert_eq!(rt;
+        delivered_block_text(alloc, 8, "throw 3", &[], &overflows, false)?.as_str(),
+        OVERFLOWS
+    );
+    assert_eq!(rt;
+        delivered_block_text(alloc, 1, "retry", &two, &blocks, true)?.as_str(),
+        BLOCKS
+    );
+    Ok(())
+}
+
+/// Whether the line is read as a first line.
+fn is_header(alloc: Global, line: &str) -> Result<bool, LineError> {
+    match read_checkpoint_header(alloc, line.as_bytes()) {
+        Ok(_header) => Ok(true),
+        Err(LineError::Bad) => Ok(false),
+        Err(LineError::NoMemory) => Err(LineError::NoMemory),
+    }
+}
+
+/// Whether the line is read as a variable.
+fn is_cell(alloc: Global, line: &str) -> Result<bool, LineError> {
+    match read_cell(alloc, line.as_bytes()) {
+        Ok(_cell) => Ok(true),
+        Err(LineError::Bad) => Ok(false),
+        Err(LineError::NoMemory) => Err(LineError::NoMemory),
+    }
+}
+
+/// Whether the line is read as a waiting block over the table.
+fn is_waiting(alloc: Global, table: &Table, line: &str) -> Result<bool, LineError> {
+    match read_waiting(alloc, table, line.as_bytes()) {
+        Ok(_waiting) => Ok(true),
+        Err(LineError::Bad) => Ok(false),
+        Err(LineError::NoMemory) => Err(LineError::NoMemory),
+    }
+}
+
+/// A table of one variable `x`.
+fn one_variable(alloc: Global) -> Result<Table, Fail> {
+    let mut table = Table::empty(alloc);
+    let int = Ty {
+        base: Base::Int,
+        refs: 0,
+    };
+    if is_name("x") {
+        table.declare("x", int, Value::Int(0))?;
+    }
+    Ok(table)
+}
+
+#[test]
+fn own_lines_are_read(rt: HostRuntime) -> Result<(), Fail> {
+    let alloc = rt.alloc();
+    let table = one_variable(alloc)?;
+    assert!(rt; is_header(alloc, HEADER)?);
+    for line in [DECLARED, MADE] {
+        assert!(rt; is_cell(alloc, line)?, "{line}");
+    }
+    for line in [NEW, COMMITS, THROWS, OVERFLOWS, BLOCKS] {
+        assert!(rt; is_waiting(alloc, &table, line)?, "{line}");
+    }
+    Ok(())
+}
+
+/// No first lines: another format, an old one, another order, a blank, a leading zero, a number of 33 bits.
+const NO_HEADERS: [&str; 7] = [
+    "",
+    "{\"format\":3,\"next\":9,\"vars\":2,\"waiting\":0}",
+    "{\"format\":3,\"vars\":2}",
+    "{\"next\":9,\"format\":4,\"vars\":2,\"waiting\":0}",
+    "{\"format\":4, \"next\":9,\"vars\":2,\"waiting\":0}",
+    "{\"format\":4,\"next\":09,\"vars\":2,\"waiting\":0}",
+    "{\"format\":4,\"next\":9,\"vars\":4294967296,\"waiting\":0}",
+];
+
+/// No variables: another order, a blank, a leading zero, a count of 65 bits, a keyword as a name, no name, a fault in the type.
+const NO_CELLS: [&str; 8] = [
+    "{\"init\":1,\"count\":0,\"name\":\"x\",\"type\":\"Int\"}",
+    "{\"count\":0,\"init\":1,\"name\":\"x\",\"type\":\"Int\"} ",
+    "{\"count\":00,\"init\":1,\"name\":\"x\",\"type\":\"Int\"}",
+    "{\"count\":18446744073709551616,\"init\":1,\"name\":\"x\",\"type\":\"Int\"}",
+    "{\"count\":-1,\"init\":1,\"name\":\"x\",\"type\":\"Int\"}",
+    "{\"count\":0,\"init\":1,\"name\":\"let\",\"type\":\"Int\"}",
+    "{\"count\":0,\"init\":1,\"type\":\"Int\"}",
+    "{\"count\":0,\"init\":1,\"name\":null,\"type\":\"TVar\"}",
+];
+
+/// No waiting blocks: another order, a blank, a leading zero, a read of three items, no verdict beside reads, a fault in the block,
+/// a variable that isn't in the table, a second verdict, a truth value that is a number.
+const NO_WAITING: [&str; 9] = [
+    "{\"ticket\":7,\"block\":\"readTVar x\"}",
+    "{\"block\":\"readTVar x\",\"ticket\": 7}",
+    "{\"block\":\"readTVar x\",\"ticket\":07}",
+    "{\"block\":\"retry\",\"reads\":[[0,5,6]],\"stale\":true,\"ticket\":1,\"verdict\":\"blocks\"}",
+    "{\"block\":\"retry\",\"reads\":[],\"stale\":true,\"ticket\":1}",
+    "{\"block\":\"readTVar\",\"ticket\":7}",
+    "{\"block\":\"readTVar y\",\"ticket\":7}",
+    "{\"block\":\"retry\",\"reads\":[],\"stale\":true,\"ticket\":1,\"verdict\":\"blocks\",\"verdict\":\"blocks\"}",
+    "{\"block\":\"retry\",\"reads\":[],\"stale\":1,\"ticket\":1,\"verdict\":\"blocks\"}",
+];
+
+#[test]
+fn other_lines_are_refused(rt: HostRuntime) -> Result<(), Fail> {
+    let alloc = rt.alloc();
+    let table = one_variable(alloc)?;
+    for line in NO_HEADERS {
+        assert!(rt; !is_header(alloc, line)?, "{line}");
+    }
+    for line in NO_CELLS {
+        assert!(rt; !is_cell(alloc, line)?, "{line}");
+    }
+    for line in NO_WAITING {
+        assert!(rt; !is_waiting(alloc, &table, line)?, "{line}");
+    }
+    Ok(())
+}

@@ -1,0 +1,160 @@
+//! A new file, written from the front on.
+
+ghost use Rattle.std.specs.Prelude.{◌≡◌, ◌≢◌, ◌≤◌, ◌<◌, ◌+◌, ◌^◌, [], IsTrue, length, Option, Some, None, IfOk, IfErr, IfSome, OnOk, OnErr, IsErrOf};
+ghost use Rattle.std.specs.Io.{WritesAtMost};
+ghost use Rattle.std.specs.Io.KnownBytes.{Keeps, WriteAppends};
+ghost use Rattle.stm_journal.specs.Device.{Only};
+ghost use Rattle.stm_journal.specs.NewFile.{written_bytes, MayFail};
+ghost use Rattle.stm_journal.specs.declared.error.JournalError.TheVariants.{Failed, NoSpace, Full, TooLong, TornTooLong};
+
+use crate::device::Device;
+use crate::error::JournalError;
+use crate::recovery::MAX_LEN;
+use std::alloc::{AllocError, Global};
+use std::io;
+use std::io::{ErrorKind, Write};
+
+/// How many bytes are written to the device at a time.
+const PIECE: usize = 65_536;
+
+/// Writes to an empty device from the front on, 64 KiB at a time. After an error it takes no more bytes, and `finish` returns
+/// that error.
+#[derive(Drop)]
+pub struct NewFile<D: Device> {
+    device: D,
+    len: usize,
+    pending: Vec<u8>,
+    fault: Option<JournalError>,
+    ghost within: { IsTrue D.is_honest → len ≤ length (D.seen device) },
+    ghost counts: { IsTrue D.is_honest → fault ≡ None → len ≡ length (D.seen device) },
+    ghost small: { len ≤ 2 ^ 62 },
+    ghost piece: { length pending.items ≤ 65536 },
+    ghost failed: { IsTrue D.is_honest → fault ≡ Some Failed → MayFail D.faults },
+    ghost no_space: { IsTrue D.is_honest → fault ≡ Some NoSpace → MayFail D.faults },
+    ghost full: { IsTrue D.is_honest → fault ≡ Some Full → 2 ^ 62 < len + length pending.items },
+    ghost not_long: { IsTrue D.is_honest → fault ≢ Some TooLong },
+    ghost not_torn: { IsTrue D.is_honest → fault ≢ Some TornTooLong },
+}
+
+impl<D: Device> NewFile<D> {
+    /// A file with no bytes yet.
+    pub fn new(alloc: Global, device: D) -> Result<Self, AllocError>
+    where
+        D: Drop,
+        requires { IsTrue D.is_honest → D.seen device ≡ [] }
+        ensures empty { IsTrue D.is_honest → IfOk result (λ file.
+            written_bytes D.is_honest (D.seen file.device) file.len file.pending.items ≡ Some []) }
+        ensures fault { IfOk result (λ file. file.fault ≡ None) }
+    {
+        Ok(NewFile {
+            device,
+            len: 0,
+            pending: Vec::with_capacity(alloc, PIECE)?,
+            fault: None,
+        })
+    }
+
+    /// The first error, if there was one.
+    pub fn fault(&self) -> Option<JournalError>
+        ensures { result ≡ self.now.fault }
+    {
+        self.fault
+    }
+
+    /// Writes what is pending to the device.
+    #[tactic(auto, using(crate::proofs::Faults::may_fail))]
+    fn write_out(&mut self) -> Result<(), JournalError>
+        ensures kept { Keeps (written_bytes D.is_honest (D.seen self.old.device) self.old.len self.old.pending.items)
+            (written_bytes D.is_honest (D.seen self.new.device) self.new.len self.new.pending.items) }
+        ensures none_left { OnOk result (self.new.pending.items ≡ []) }
+        ensures fine { OnOk result (self.new.fault ≡ None) }
+        ensures unchanged { OnErr result ((self.new.len ≡ self.old.len) × (self.new.pending.items ≡ self.old.pending.items)) }
+        ensures first { IfSome self.old.fault (λ e. IsErrOf result e) }
+        ensures fault { IfErr result (λ e. self.new.fault ≡ Some e) }
+    {
+        if let Some(fault) = self.fault {
+            return Err(fault);
+        }
+        if self.len > MAX_LEN - self.pending.len() {
+            self.fault = Some(JournalError::Full);
+            return Err(JournalError::Full);
+        }
+        match self.device.write_at(self.len, &self.pending) {
+            Ok(()) => {
+                self.len += self.pending.len();
+                self.pending.clear();
+                Ok(())
+            }
+            Err(fault) => {
+                self.fault = Some(fault);
+                Err(fault)
+            }
+        }
+    }
+
+    /// Takes some of these bytes, at least one if there are any, and returns how many.
+    fn add(&mut self, bytes: &[u8]) -> Result<usize, JournalError>
+        ensures bound { WritesAtMost result bytes.now }
+        ensures bytes { WriteAppends
+            (written_bytes D.is_honest (D.seen self.old.device) self.old.len self.old.pending.items)
+            (written_bytes D.is_honest (D.seen self.new.device) self.new.len self.new.pending.items) result bytes.now }
+        ensures fault { IfErr result (λ e. self.new.fault ≡ Some e) }
+    {
+        if let Some(fault) = self.fault {
+            return Err(fault);
+        }
+        if self.pending.len() == PIECE {
+            self.write_out()?;
+        }
+        let count = bytes.len().min(PIECE - self.pending.len());
+        match self.pending.extend_from_slice(&bytes[..count]) {
+            Ok(()) => Ok(count),
+            Err(_) => {
+                self.fault = Some(JournalError::NoMemory);
+                Err(JournalError::NoMemory)
+            }
+        }
+    }
+
+    /// Writes what is left, and syncs. Returned are the device and the length of its file.
+    #[tactic(auto, using(crate::proofs::Faults::may_fail))]
+    pub fn finish(mut self) -> Result<(D, usize), JournalError>
+    where
+        D: Drop,
+        // The file is exactly what was written.
+        ensures text { IsTrue D.is_honest → IfOk result (λ r.
+            written_bytes D.is_honest (D.seen self.device) self.len self.pending.items ≡ Some (D.seen r.0)) }
+        ensures len { IsTrue D.is_honest → IfOk result (λ r. r.1 ≡ length (D.seen r.0)) }
+        ensures durable { IsTrue D.is_honest → IfOk result (λ r. Only (D.seen r.0) (D.may_leave r.0)) }
+        // The first error of a write is kept for this call.
+        ensures first { IfSome self.fault (λ e. IsErrOf result e) }
+        // It doesn't give up by itself. The device of a file that failed is gone, so its faults have no name.
+        ensures failed { IsTrue D.is_honest → IsErrOf result JournalError.Failed → MayFail D.faults }
+        ensures no_space { IsTrue D.is_honest → IsErrOf result JournalError.NoSpace → MayFail D.faults }
+        ensures full { IsTrue D.is_honest → IsErrOf result JournalError.Full → 2 ^ 62 < self.len + length self.pending.items }
+        ensures too_long { IsTrue D.is_honest → IsErrOf result JournalError.TooLong → ⊥ }
+        ensures torn_too_long { IsTrue D.is_honest → IsErrOf result JournalError.TornTooLong → ⊥ }
+    {
+        self.write_out()?;
+        self.device.sync()?;
+        Ok((self.device, self.len))
+    }
+}
+
+impl<D: Device> Write for NewFile<D> {
+    ghost contents = { λ f. written_bytes D.is_honest (D.seen f.device) f.len f.pending.items };
+
+    fn write(&mut self, buf: &[u8]) -> io::Result<usize> {
+        match self.add(buf) {
+            Ok(count) => Ok(count),
+            Err(_) => Err(io::Error::from(ErrorKind::Other)),
+        }
+    }
+
+    fn flush(&mut self) -> io::Result<()> {
+        match self.write_out() {
+            Ok(()) => Ok(()),
+            Err(_) => Err(io::Error::from(ErrorKind::Other)),
+        }
+    }
+}

@@ -1,0 +1,62 @@
+-- How a machine keeps the blocks of a checkpoint, ticket by ticket, and what a checkpoint has of the blocks that a machine keeps.
+use Rattle.std.specs.Prelude.{ℕ, ◌<◌, Bool, not, ◌&&◌, nat_eq, is_some, List, [], ◌∷◌, length}
+use Rattle.std.specs.List.{list_any}
+use Rattle.stm_queue.specs.Queue.{Entry, has_ticket}
+use Rattle.stm_events.specs.SlowDesk.{max_waiting}
+use Rattle.stm_watch.specs.Pairs.{is_read}
+use Rattle.stm_waiting.specs.declared.waiting.Waiting.{Waiting}
+use Rattle.stm_waiting.specs.Entries.{held_reads}
+use Rattle.stm_machine.specs.declared.checkpoint.CheckpointBlock.{CheckpointBlock}
+use Rattle.stm_machine.specs.Checkpoints.{CheckpointView}
+use Rattle.stm_machine.specs.Entries.{held_ends}
+
+-- ---- kept by a machine
+-- above k, each above the one before it
+abbrev pub TicketsAscend : ℕ → List CheckpointBlock → Type 0
+TicketsAscend k [] = Unit {0}
+TicketsAscend k (b ∷ bs) = (k < b.ticket) × TicketsAscend b.ticket bs
+
+-- the last ticket, or k if there is none
+abbrev pub last_ticket : ℕ → List CheckpointBlock → ℕ
+last_ticket k [] = k
+last_ticket k (b ∷ bs) = last_ticket b.ticket bs
+
+-- one block more may wait, under this ticket
+pub record HasPlace (c : CheckpointView) (t : ℕ) : Type 0 where
+  pub few : length c.blocks < max_waiting
+  pub above : last_ticket 0 c.blocks < t
+  pub below : t < c.next
+
+-- a block by its ticket
+abbrev pub entry_of : CheckpointBlock → ℕ × Waiting
+entry_of b = (b.ticket, b.waiting)
+
+-- the block is new or stale
+abbrev pub is_due_block : CheckpointBlock → Bool
+is_due_block b = not (is_some b.waiting.held && not b.stale)
+
+-- the block is current and read the variable
+abbrev pub watches_variable : ℕ → CheckpointBlock → Bool
+watches_variable v b = not (is_due_block b) && is_read (held_reads b.waiting.held) v
+
+-- the block is current, and its verdict doesn't block
+abbrev pub is_ready_block : CheckpointBlock → Bool
+is_ready_block b = not (is_due_block b) && held_ends b.waiting.held
+
+-- the block has the ticket and is such a one
+abbrev pub is_named : (CheckpointBlock → Bool) → ℕ → CheckpointBlock → Bool
+is_named f t b = nat_eq t b.ticket && f b
+
+-- a block with the ticket is such a one
+abbrev pub has_block : (CheckpointBlock → Bool) → ℕ → List CheckpointBlock → Bool
+has_block f t bs = list_any (is_named f t) bs
+
+-- ---- kept by a checkpoint
+-- above k, each above the one before it
+abbrev pub EntriesRise : ℕ → List (ℕ × Waiting) → Type 0
+EntriesRise k [] = Unit {0}
+EntriesRise k (e ∷ es) = (k < e.0) × EntriesRise e.0 es
+
+-- what a machine keeps under a ticket, with these tickets queued or out
+abbrev pub block_of : List Entry → ℕ × Waiting → CheckpointBlock
+block_of pending e = record { ticket = e.0; waiting = e.1; stale = is_some e.1.held && has_ticket e.0 pending }

@@ -1,0 +1,148 @@
+-- A checkpoint: a state that a history may begin from, as it can be kept and written. Of each waiting block it has what its last
+-- delivery brought, and whether it is stale.
+use Rattle.std.specs.Prelude.{◌≡◌, ◌≢◌, ℕ, ◌<◌, ◌≤◌, Bool, true, false, not, ◌&&◌, if◌then◌else◌, List, [], ◌∷◌, ◌++◌, map, length, Option, Some, None, option_map}
+use Rattle.stm_terms.specs.declared.kinds.Ty.{Ty}
+use Rattle.stm_terms.specs.declared.values.Value.{Value}
+use Rattle.stm_terms.specs.declared.values.Value.TheVariants as value
+use Rattle.stm_terms.specs.declared.verdicts.Verdict.TheVariants.{Commits}
+use Rattle.stm_terms.specs.ReadSet.{reads_of}
+use Rattle.stm_store.specs.declared.cell.Cell.{Cell}
+use Rattle.stm_store.specs.Cells.{plains, Covers, Fits, IsStore, applied}
+use Rattle.stm_store.specs.Tables.{Declared, opened}
+use Rattle.stm_check.specs.TypedBlock.{Block}
+use Rattle.stm_eval.specs.Messages.{Holds}
+use Rattle.stm_events.specs.Delivered.{Delivered}
+use Rattle.stm_events.specs.declared.staleness.StalenessRule.{StalenessRule}
+use Rattle.stm_events.specs.declared.staleness.StalenessRule.TheVariants.{Changed}
+use Rattle.stm_events.specs.Laws.{IsWellTyped}
+use Rattle.stm_events.specs.Refusals.{differing}
+use Rattle.stm_events.specs.SlowDesk.{Since, Waiter, Slow, under, verdict_on, is_new, is_current, initial_state, max_waiting}
+use Rattle.stm_events.specs.States.{IsPossible, IsTypedState, observed}
+use Rattle.stm_machine.specs.declared.checkpoint.CheckpointBlock.{CheckpointBlock}
+use Rattle.stm_waiting.specs.declared.waiting.Held.{Held}
+
+-- the store, the next ticket, and the waiting blocks, in ascending order of their tickets
+pub record CheckpointView : Type 0 where
+  pub store : List Cell
+  pub next : ℕ
+  pub blocks : List CheckpointBlock
+
+-- what is held of a delivery
+abbrev pub held_of : Delivered → Held
+held_of d = record { reads = d.reads; verdict = d.verdict }
+
+-- the delivery left the block stale
+abbrev pub is_stale_delivery : Option Delivered → Bool
+is_stale_delivery None = false
+is_stale_delivery (Some d) = d.stale
+
+-- the block that waits under a ticket, with its last delivery, if there was one
+abbrev pub checkpoint_block : ℕ → Block → Option Delivered → CheckpointBlock
+checkpoint_block t block delivery =
+    record { ticket = t; waiting = record { block = block; held = option_map held_of delivery }; stale = is_stale_delivery delivery }
+
+-- ---- the state
+-- the store with these values of variables written over its own
+abbrev pub store_with : List (ℕ × Value) → List Cell → List Cell
+store_with values store = applied store (Commits values [] value.Unit)
+
+-- A last delivery: the store then may have been any that has what the block read, so it is taken to be the present one but for
+-- that; and if the block is stale, it is all that it read by which it became so.
+abbrev pub since_held : List Cell → Bool → Option Held → Option Since
+since_held store stale None = None
+since_held store stale (Some h) =
+    Some (record { store_then = store_with h.reads store; woken = if stale then map (λ r. r.0) h.reads else [] })
+
+-- a waiting block
+abbrev pub waiter_of : List Cell → CheckpointBlock → Waiter
+waiter_of store b =
+    record { ticket = b.ticket; block = b.waiting.block; since = since_held store b.stale b.waiting.held }
+
+-- the state of a checkpoint, by the present rule
+abbrev pub checkpoint_state : CheckpointView → Slow
+checkpoint_state c = record { rule = Changed; store = c.store; next = c.next; waiters = map (waiter_of c.store) c.blocks }
+
+-- ---- what makes it one
+-- the last delivery is right: on a store with what the block read it has this verdict and reads just this; what isn't stale is
+-- found again in the present store; and what is stale has read something
+abbrev pub IsRightDelivery : List Cell → Block → Bool → Option Held → Type 0
+IsRightDelivery store block stale None = stale ≡ false
+IsRightDelivery store block stale (Some h) =
+    Fits (plains store) (Commits h.reads [] value.Unit)
+    × Holds block.tree (under (store_with h.reads store)) h.reads h.verdict
+    × (stale ≡ false → differing (under store) h.reads ≡ None)
+    × (stale ≡ true → h.reads ≢ [])
+
+-- a waiting block of a checkpoint with this store
+pub record IsCheckpointBlock (store : List Cell) (b : CheckpointBlock) : Type 0 where
+  pub covered : Covers (plains store) b.waiting.block.uses
+  pub typed : IsWellTyped b.waiting.block
+  pub delivery : IsRightDelivery store b.waiting.block b.stale b.waiting.held
+
+-- these are waiting blocks of one, with tickets above k, each above the one before it, all below n
+abbrev pub AreCheckpointBlocks : List Cell → ℕ → ℕ → List CheckpointBlock → Type 0
+AreCheckpointBlocks store n k [] = Unit {0}
+AreCheckpointBlocks store n k (b ∷ bs) =
+    (k < b.ticket) × (b.ticket < n) × IsCheckpointBlock store b × AreCheckpointBlocks store n b.ticket bs
+
+-- the greatest next ticket of a checkpoint: a history after it has tickets for all of its events
+abbrev pub max_next : ℕ
+max_next = 4293918719
+
+-- a checkpoint
+pub record IsCheckpoint (c : CheckpointView) : Type 0 where
+  pub begun : 0 < c.next
+  pub tickets : c.next ≤ max_next
+  pub store : IsStore (plains c.store)
+  pub few : length c.blocks ≤ max_waiting
+  pub blocks : AreCheckpointBlocks c.store c.next 0 c.blocks
+
+-- the block may be added: the checkpoint with it is one
+abbrev pub MayAdd : CheckpointView → CheckpointBlock → Type 0
+MayAdd c b = IsCheckpoint (record c { blocks = c.blocks ++ b ∷ [] })
+
+-- events may go on from the state of a checkpoint, and all in it is well typed
+abbrev pub CheckpointsArePossible : Type 0
+CheckpointsArePossible =
+    (c : CheckpointView) → IsCheckpoint c → IsPossible (checkpoint_state c) × IsTypedState (checkpoint_state c)
+
+-- ---- the checkpoint of a state
+-- what a last delivery brought
+abbrev pub held_since : Block → Option Since → Option Held
+held_since block None = None
+held_since block (Some s) =
+    option_map (λ v. record { reads = reads_of (under s.store_then) block.tree; verdict = v }) (verdict_on s.store_then block)
+
+-- a waiting block: it is stale if it is neither new nor current
+abbrev pub block_of_waiter : Waiter → CheckpointBlock
+block_of_waiter w =
+    record {
+      ticket = w.ticket;
+      waiting = record { block = w.block; held = held_since w.block w.since };
+      stale = not (is_new w) && not (is_current w);
+    }
+
+-- of a state
+unfoldable pub checkpoint_of : Slow → CheckpointView
+checkpoint_of s = record { store = s.store; next = s.next; blocks = map block_of_waiter s.waiters }
+
+-- it is a checkpoint, and from its state the same is observed, so that nobody can tell the two apart
+abbrev pub CheckpointsAreUnseen : Type 0
+CheckpointsAreUnseen =
+    (s : Slow) → IsPossible s → IsTypedState s → s.rule ≡ Changed → s.next ≤ max_next → IsStore (plains s.store)
+    → IsCheckpoint (checkpoint_of s) × (observed (checkpoint_state (checkpoint_of s)) ≡ observed s)
+
+-- ---- where a history begins
+-- with the first values of its variables, or from a checkpoint; a rule is that of a history without one
+abbrev pub started_by : StalenessRule → List Declared → Option CheckpointView → Slow
+started_by rule table None = initial_state rule table
+started_by rule table (Some c) = checkpoint_state c
+
+-- the same by the present rule
+abbrev pub start_of : List Declared → Option CheckpointView → Slow
+start_of = started_by Changed
+
+-- a checkpoint that a history with these declared variables may begin from: they are its first variables
+abbrev pub MayStart : List Declared → Option CheckpointView → Type 0
+MayStart table None = Unit {0}
+MayStart table (Some c) = IsCheckpoint c × ((uses : List (ℕ × Ty)) → Covers (plains (opened table)) uses → Covers (plains c.store) uses)

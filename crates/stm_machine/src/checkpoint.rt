@@ -1,0 +1,264 @@
+//! Checkpoints: states that a history may begin from.
+
+ghost use Rattle.std.specs.Prelude.{◌≡◌, ◌≢◌, ℕ, ◌<◌, ◌≤◌, ◌++◌, ◌∷◌, [], false, true, IfOk, OnOk, OnErr, IsErrOf, IsTrue, ◌↔◌};
+ghost use Rattle.stm_store.specs.Cells.{plains, StoreIsTyped};
+ghost use Rattle.stm_events.specs.SlowDesk.{Slow};
+ghost use Rattle.stm_events.specs.States.{IsTypedState};
+ghost use Rattle.stm_events.specs.declared.staleness.StalenessRule.{StalenessRule as AnyRule};
+ghost use Rattle.stm_machine.specs.Checkpoints.{IsCheckpoint, CheckpointsArePossible, CheckpointsAreUnseen, checkpoint_of, MayAdd, checkpoint_block, checkpoint_state, max_next};
+ghost use Rattle.stm_machine.specs.CheckpointEntries.{HasPlace, last_ticket};
+ghost use Rattle.stm_machine.specs.Machine.{IsAt};
+ghost use Rattle.stm_machine.specs.SettleChoices.{some_out};
+
+use crate::machine::Machine;
+use crate::restored::{due_tickets, entries, read_variables, ready_tickets, waiting_blocks};
+use crate::right_delivery::last_delivery;
+use std::alloc::Global;
+use std::marker::Model;
+use stm_check::SharedBlock;
+use stm_events::delivery::Delivery;
+use stm_events::staleness::StalenessRule;
+use stm_store::Store;
+use stm_terms::NoMemory;
+use stm_waiting::Waiting;
+use thiserror::Error;
+
+/// A waiting block of a checkpoint.
+#[derive(Drop)]
+pub struct CheckpointBlock {
+    pub ticket: u32,
+    /// The block, with what its last delivery brought.
+    pub waiting: Waiting,
+    /// Whether the block is stale. A new one isn't.
+    pub stale: bool,
+}
+
+/// A state that a history may begin from: the store, the next ticket, and the waiting blocks.
+#[derive(Drop)]
+pub struct Checkpoint {
+    pub(crate) store: Store,
+    pub(crate) next: u32,
+    pub(crate) blocks: Vec<CheckpointBlock>,
+}
+
+impl Model for Checkpoint {
+    ghost use Rattle.std.specs.Coded.{codes};
+    ghost use Rattle.stm_terms.specs.TreeEncoding.{act_code};
+    ghost use Rattle.stm_machine.specs.Checkpoints.{CheckpointView, IsCheckpoint};
+
+    ghost Value = { CheckpointView };
+
+    ghost coded = { Prim.hlevel (codes, act_code) };
+
+    ghost view = { λ c. record { store = c.store; next = c.next; blocks = c.blocks.items } };
+
+    ghost invariant = { λ c. IsCheckpoint (record { store = c.store; next = c.next; blocks = c.blocks.items }) };
+}
+
+/// Why a state can't be a checkpoint, or a block not be one of a checkpoint's.
+#[derive(Clone, Copy, Debug, PartialEq, Eq, Error)]
+pub enum CheckpointError {
+    /// The next ticket is so high that a history after it could run out of tickets.
+    #[error("the tickets run out")]
+    TicketsFull,
+    #[error("out of memory")]
+    NoMemory,
+}
+
+/// Why a block can't be added to a checkpoint.
+#[derive(Clone, Copy, Debug, PartialEq, Eq, Error)]
+pub enum AddError {
+    /// With the block it would be no checkpoint.
+    #[error("the block doesn't belong to the checkpoint")]
+    NotPossible,
+    #[error("out of memory")]
+    NoMemory,
+}
+
+impl From<NoMemory> for CheckpointError {
+    ghost use Rattle.std.specs.Prelude.{◌≡◌};
+    ghost use Rattle.stm_machine.specs.declared.checkpoint.CheckpointError.{CheckpointError};
+
+    ghost from_gives = { λ _ e. e ≡ CheckpointError.NoMemory };
+
+    fn from(_refused: NoMemory) -> CheckpointError {
+        CheckpointError::NoMemory
+    }
+}
+
+impl From<NoMemory> for AddError {
+    ghost use Rattle.std.specs.Prelude.{◌≡◌};
+    ghost use Rattle.stm_machine.specs.declared.checkpoint.AddError.{AddError};
+
+    ghost from_gives = { λ _ e. e ≡ AddError.NoMemory };
+
+    fn from(_refused: NoMemory) -> AddError {
+        AddError::NoMemory
+    }
+}
+
+/// The last ticket, or 0 if no block waits.
+fn last_ticket(blocks: &[CheckpointBlock]) -> u32
+    ensures { result ≡ last_ticket 0 blocks.now }
+{
+    if blocks.len() == 0 {
+        0
+    } else {
+        blocks[blocks.len() - 1].ticket
+    }
+}
+
+fn push_block(blocks: &mut Vec<CheckpointBlock>, block: CheckpointBlock) -> Result<(), NoMemory>
+    ensures ok { OnOk result (blocks.new.items ≡ blocks.old.items ++ block ∷ []) }
+    ensures err { OnErr result (blocks.new.items ≡ blocks.old.items) }
+{
+    match blocks.push(block) {
+        Ok(()) => Ok(()),
+        Err(_) => Err(NoMemory),
+    }
+}
+
+impl Checkpoint {
+    /// The greatest next ticket of a checkpoint.
+    pub const MAX_NEXT: u32 = 4_293_918_719;
+
+    /// A checkpoint with this store and this next ticket, in which no block waits. The next ticket is 1 to `MAX_NEXT`.
+    pub fn new(alloc: Global, store: Store, next: u32) -> Checkpoint
+        requires { (0 < next) × (next ≤ max_next) }
+        ensures { result ≡ record { store = store; next = next; blocks = [] } }
+    {
+        // The cells are known to be well typed by this.
+        let _cells = store.len();
+        Checkpoint {
+            store,
+            next,
+            blocks: Vec::new(alloc),
+        }
+    }
+
+    /// Adds a waiting block after the others, with what its last delivery brought if there was one. Runs the block on what it read
+    /// to see that the delivery is right.
+    pub fn add(
+        &mut self,
+        alloc: Global,
+        ticket: u32,
+        block: SharedBlock,
+        delivery: Option<Delivery>,
+    ) -> Result<(), AddError>
+        ensures added { OnOk result (self.new
+            ≡ record self.old { blocks = self.old.blocks ++ checkpoint_block ticket block delivery ∷ [] }) }
+        ensures may { OnOk result (MayAdd self.old (checkpoint_block ticket block delivery)) }
+        ensures refused { IsErrOf result AddError.NotPossible
+            → MayAdd self.old (checkpoint_block ticket block delivery) → ⊥ }
+        ensures err { OnErr result (self.new ≡ self.old) }
+    {
+        let block = self.checked(alloc, ticket, block, delivery)?;
+        push_block(&mut self.blocks, block)?;
+        Ok(())
+    }
+
+    /// The block with its last delivery; `NotPossible` if it can't be added.
+    fn checked(
+        &self,
+        alloc: Global,
+        ticket: u32,
+        block: SharedBlock,
+        delivery: Option<Delivery>,
+    ) -> Result<CheckpointBlock, AddError>
+        ensures block { IfOk result (λ b. b ≡ checkpoint_block ticket block delivery) }
+        ensures may { OnOk result (MayAdd self.now (checkpoint_block ticket block delivery)) }
+        ensures refused { IsErrOf result AddError.NotPossible
+            → MayAdd self.now (checkpoint_block ticket block delivery) → ⊥ }
+    {
+        if !self.has_place(ticket) {
+            return Err(AddError::NotPossible);
+        }
+        if !self.store.covers(block.block().uses()) {
+            return Err(AddError::NotPossible);
+        }
+        // The block is known to be well typed by this.
+        let _action = block.block().action();
+        last_delivery(alloc, &self.store, ticket, block, delivery)
+    }
+
+    /// Whether one block more may wait, under this ticket.
+    fn has_place(&self, ticket: u32) -> bool
+        ensures { IsTrue result ↔ HasPlace self.now ticket }
+    {
+        self.blocks.len() < Machine::MAX_WAITING
+            && last_ticket(&self.blocks) < ticket
+            && ticket < self.next
+    }
+
+    pub fn store(&self) -> &Store
+        ensures { result.now ≡ self.now.store }
+    {
+        &self.store
+    }
+
+    /// The next ticket.
+    pub fn next(&self) -> u32
+        ensures next { result ≡ self.now.next }
+        ensures checkpoint { IsCheckpoint self.now }
+    {
+        self.next
+    }
+
+    /// The waiting blocks, in ascending order of their tickets.
+    pub fn blocks(&self) -> &[CheckpointBlock]
+        ensures { result.now ≡ self.now.blocks }
+    {
+        self.blocks.as_slice()
+    }
+}
+
+impl Machine {
+    /// A checkpoint of the present state. It goes over all waiting blocks and shares their texts; the store is shared until it
+    /// changes.
+    pub fn checkpoint(&self, alloc: Global) -> Result<Checkpoint, CheckpointError>
+        requires { (s : Slow) × IsAt self.now s × IsTypedState s × (s.rule ≡ AnyRule.Changed) }
+        ensures taken { IfOk result (λ c. (s : Slow) → IsAt self.now s → c ≡ checkpoint_of s) }
+        ensures room { OnOk result (self.now.next ≤ max_next) }
+        ensures full { IsErrOf result CheckpointError.TicketsFull → max_next < self.now.next }
+        ensures no_memory { IsErrOf result CheckpointError.NoMemory → self.now.next ≤ max_next }
+    {
+        if self.next > Checkpoint::MAX_NEXT {
+            return Err(CheckpointError::TicketsFull);
+        }
+        // The cells are known to be well typed by this.
+        let _cells = self.store.len();
+        Ok(Checkpoint {
+            store: self.store.share()?,
+            next: self.next,
+            blocks: waiting_blocks(alloc, &self.waiting, &self.pending)?,
+        })
+    }
+
+    /// A machine at the state of a checkpoint, on which each new and each stale block is queued. No block is evaluated.
+    pub fn from_checkpoint(alloc: Global, checkpoint: &Checkpoint) -> Result<Machine, NoMemory>
+        ensures at { IfOk result (λ m. IsAt m (checkpoint_state checkpoint.now)) }
+        ensures none_out { IfOk result (λ m. some_out m.pending ≡ false) }
+    {
+        let blocks = checkpoint.blocks.as_slice();
+        Ok(Machine {
+            alloc,
+            rule: StalenessRule::Changed,
+            store: checkpoint.store.share()?,
+            next: checkpoint.next,
+            waiting: entries(alloc, blocks)?,
+            pending: due_tickets(alloc, blocks)?,
+            watch: read_variables(alloc, blocks)?,
+            ready: ready_tickets(alloc, blocks)?,
+        })
+    }
+}
+
+/// Events may go on from the state of a checkpoint.
+pub fn checkpoints_are_possible()
+    ensures { CheckpointsArePossible }
+{}
+
+/// The checkpoint of a state can't be told apart from the state.
+pub fn checkpoints_are_unseen()
+    ensures { CheckpointsAreUnseen }
+{}
