@@ -6,6 +6,7 @@
 #![tactic(auto)]
 
 mod blocks;
+mod checkpoints;
 mod desk_calls;
 mod desk_show;
 mod desk_work;
@@ -31,6 +32,7 @@ use std::process::ExitCode;
 use std::sync::Wait;
 use std::thread::Threads;
 use std::time::Clock;
+use stm_machine::Checkpoint;
 use stm_store::Table;
 
 /// The exit status if the input or the output failed.
@@ -48,6 +50,7 @@ struct Objects {
     store: Option<Held>,
     desks: Desks,
     gathered: Gathered,
+    checkpoint: Option<Checkpoint>,
     calls_once: bool,
 }
 
@@ -59,6 +62,7 @@ impl Drop for Objects {
             store: _,
             desks: _,
             gathered: _,
+            checkpoint: _,
             calls_once: _,
         } = self;
     }
@@ -70,6 +74,7 @@ fn new_objects(alloc: Global) -> Objects {
         store: None,
         desks: Desks::new(alloc),
         gathered: Gathered::new(alloc),
+        checkpoint: None,
         calls_once: false,
     }
 }
@@ -108,6 +113,17 @@ fn answer_part(
         "store" => store::answer(&mut objects.store, &objects.table, alloc, call, out),
         "desk" => desks::answer(&mut objects.desks, &objects.table, alloc, call, out),
         "history" => histories::answer(&mut objects.gathered, &objects.desks, alloc, call, out),
+        "checkpoint" => {
+            let store = objects.store.as_ref();
+            checkpoints::answer(
+                &mut objects.checkpoint,
+                store,
+                &objects.table,
+                alloc,
+                call,
+                out,
+            )
+        }
         _ => say("no such call", out),
     }
 }

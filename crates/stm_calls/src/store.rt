@@ -22,6 +22,13 @@ impl Drop for Held {
     }
 }
 
+impl Held {
+    /// The store.
+    pub fn store(&self) -> &Store {
+        &self.store
+    }
+}
+
 /// Opens a store on the declared variables.
 pub fn open(
     held: &mut Option<Held>,
