@@ -7,7 +7,7 @@ use Rattle.stm_terms.specs.Changes.{cell_value}
 use Rattle.stm_store.specs.declared.cell.Cell.{Cell}
 use Rattle.stm_store.specs.Cells.{plains, kinds_of}
 use Rattle.stm_store.specs.Tables.{Declared}
-use Rattle.stm_commands.specs.Contents.{cell_line, cell_lines}
+use Rattle.stm_commands.specs.Contents.{stored_line, stored_lines}
 
 -- a cell is its type, its value and its count
 pub cell_at : (cells : List Cell) (i : ℕ) (kind : Ty) (value : Value) (count : ℕ) → kinds_of (plains cells) i ≡ Some kind → cell_value (plains cells) i ≡ Some value
@@ -24,7 +24,7 @@ drop-next (x ∷ cells) zero c e = let m : x ≡ c = cc in ap (λ y. y ∷ cells
 drop-next (x ∷ cells) (suc i) c e = drop-next cells i c e
 
 -- the text so far and the lines from the next variable on
-pub one_more : (text line all : List ℕ) (table : List Declared) (cells : List Cell) (i : ℕ) (c : Cell) → slice_get cells i ≡ Some c → line ≡ text ++ cell_line i (slice_get table i) c
-    → text ++ cell_lines table i (drop i cells) ≡ all → line ++ cell_lines table (i + 1) (drop (i + 1) cells) ≡ all
+pub one_more : (text line all : List ℕ) (table : List Declared) (cells : List Cell) (i : ℕ) (c : Cell) → slice_get cells i ≡ Some c → line ≡ text ++ stored_line i (slice_get table i) c
+    → text ++ stored_lines table i (drop i cells) ≡ all → line ++ stored_lines table (i + 1) (drop (i + 1) cells) ≡ all
 one_more text line all table cells i c e l h =
-    rw (add-one, l) (append_assoc text (cell_line i (slice_get table i) c) _ ∙ sym (ap (λ r. text ++ r) (rw add-one at (ap (cell_lines table i) (drop-next cells i c e)))) ∙ h)
+    rw (add-one, l) (append_assoc text (stored_line i (slice_get table i) c) _ ∙ sym (ap (λ r. text ++ r) (rw add-one at (ap (stored_lines table i) (drop-next cells i c e)))) ∙ h)

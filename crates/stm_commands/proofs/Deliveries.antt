@@ -26,7 +26,7 @@ use Rattle.stm_events.specs.SlowDesk.{Waiter, IsLegal, state, find_waiter}
 use Rattle.stm_desk.specs.Refusals.{RefusesDelivery, requeued_if_overtaken}
 use Rattle.stm_desk.specs.DeskView.{DeskView, state_of, is_full, with_event}
 use Rattle.stm_commands.specs.declared.evaluation.Progress.{Progress}
-use Rattle.stm_commands.specs.Evaluation.{Delivered, delivered_all, all_queued, evaluated}
+use Rattle.stm_commands.specs.Evaluation.{DeliveredSoFar, delivered_all, all_queued, evaluated}
 use Rattle.stm_commands.specs.Jobs.{jobs_of, job_at, delivery_first, delivery_refusal, installed, delivery_step, deliver_job_step}
 use Rattle.stm_commands.specs.OpenDesk.{HandedOut}
 use Rattle.stm_commands.specs.OpenInvariant.{handed_out, JobStands, JobsStand, HasGrown, after_message, delivery_result, IsRefusedFor}
@@ -115,7 +115,7 @@ ticket_count : (js : List Job) → length js ≡ length (map (λ (j : Job). j.ti
 ticket_count [] = refl
 ticket_count (j ∷ js) = ap suc (ticket_count js)
 
-begun : DeskView → List Entry → Delivered
+begun : DeskView → List Entry → DeliveredSoFar
 begun d p = record { desk = record d { pending = p }; count = 0; stop = None }
 
 taken_all : (d e : DeskView) (cells : List (Ty × Value)) (js : List Job) → e ≡ record d { pending = sent (length js) d.pending } → map (λ (j : Job). j.ticket) js ≡ all_queued d → cells ≡ plains (state_of d).store → AreJobs (state_of d) js
@@ -126,7 +126,7 @@ taken_all d e cells js q t s a =
     ∙ ap (λ (n : ℕ). delivered_all (begun d (sent n d.pending)) (map (handed_out cells) js)) (ticket_count js ∙ ap (λ (ts : List ℕ). length ts) t)
     ∙ ap (delivered_all (begun d (sent (length (all_queued d)) d.pending))) (given_are d cells js s a ∙ ap (jobs_of (state_of d)) t)
 
-progress_is : {E : Type 0} → (e : DeskView) (x y : Delivered) (r : Result Progress E) → x ≡ y → IfOk r (λ p. record { desk = e; count = p.count; stop = p.stop } ≡ x) → IfOk r (λ p. record { desk = e; count = p.count; stop = p.stop } ≡ y)
+progress_is : {E : Type 0} → (e : DeskView) (x y : DeliveredSoFar) (r : Result Progress E) → x ≡ y → IfOk r (λ p. record { desk = e; count = p.count; stop = p.stop } ≡ x) → IfOk r (λ p. record { desk = e; count = p.count; stop = p.stop } ≡ y)
 progress_is e x y (Ok p) q h = h ∙ q
 progress_is e x y (Err z) q h = tt
 

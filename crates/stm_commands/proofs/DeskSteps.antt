@@ -32,7 +32,7 @@ use Rattle.stm_desk.specs.Settling.{with_whats, requeued_all, slow_settle, slow_
 use Rattle.stm_commands.specs.Blocks.{ticket_line, submit_block_step}
 use Rattle.stm_commands.specs.Endings.{finished_line, finish_verdict_step, finish_waiter_step, finish_ticket_step, cancelled_line, cancel_ticket_step, settled_line, why_text, settle_text, settle_desk_step}
 use Rattle.stm_commands.specs.declared.evaluation.Progress.{Progress}
-use Rattle.stm_commands.specs.Evaluation.{Delivered, evaluated, evaluation_text, eval_desk_step}
+use Rattle.stm_commands.specs.Evaluation.{DeliveredSoFar, evaluated, evaluation_text, eval_desk_step}
 use Rattle.stm_commands.specs.Jobs.{max_jobs, jobs_of, taken, jobs_line, with_jobs, take_jobs_step, delivery_refusal, delivery_step, deliver_job_step, queued_line, handed_back, handback_ticket_step}
 use Rattle.stm_commands.specs.OpenDesk.{HandedOut, OpenDesk, on_desk, Steps}
 use Rattle.stm_commands.specs.OpenInvariant.{delivered_so_far}
@@ -92,7 +92,7 @@ handback_refused d e js t old new (Err x) h q p = tt
 -- ---- eval
 eval_here : {A E : Type 0} → (d e : DeskView) (js : List HandedOut) (p : Progress) (old new : List ℕ) (r : Result A E) → delivered_so_far e p ≡ evaluated d → OnOk r (new ≡ old ++ evaluation_text p.count p.stop)
     → OnOk r (Steps (opened_as js e) old new (on_desk (opened_as js d) (eval_desk_step d)))
-eval_here d e js p old new (Ok x) q h = (ap (λ (v : Delivered). opened_as js v.desk) q, h ∙ ap (λ (v : Delivered). old ++ evaluation_text v.count v.stop) q)
+eval_here d e js p old new (Ok x) q h = (ap (λ (v : DeliveredSoFar). opened_as js v.desk) q, h ∙ ap (λ (v : DeliveredSoFar). old ++ evaluation_text v.count v.stop) q)
 eval_here d e js p old new (Err x) q h = tt
 
 pub eval_made : {A E : Type 0} → (d e : DeskView) (js : List HandedOut) (s : OpenDesk) (p : Progress) (old new : List ℕ) (r : Result A E) → opened_as js d ≡ s → delivered_so_far e p ≡ evaluated d → OnOk r (new ≡ old ++ evaluation_text p.count p.stop)

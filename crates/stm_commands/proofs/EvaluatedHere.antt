@@ -24,7 +24,7 @@ use Rattle.stm_machine.proofs.Agreeing.{reads_differ_nowhere}
 use Rattle.stm_events.proofs.Rising.{waiter_delivered}
 use Rattle.stm_desk.specs.Evaluating.{EvaluatedSoFar, verdict_of_waiter, verdict_under, with_installed, with_evaluated, evaluate_unless, evaluate_each, none_evaluated, evaluate_lowest}
 use Rattle.stm_desk.specs.DeskView.{DeskView, state_of, is_full, with_event, DeskQueueIsRight, AllHaveVerdicts}
-use Rattle.stm_commands.specs.Evaluation.{Delivered, delivered_by, delivered_all, evaluated}
+use Rattle.stm_commands.specs.Evaluation.{DeliveredSoFar, delivered_by, delivered_all, evaluated}
 use Rattle.stm_commands.specs.Jobs.{delivery_first, delivery_refusal, installed, jobs_of, job_of, taken}
 use Rattle.stm_commands.specs.OpenDesk.{HandedOut}
 use Rattle.stm_commands.specs.OpenInvariant.{HasGrown}
@@ -227,10 +227,10 @@ are_ready_next s d t v (u ∷ us) h r =
     (ready_next s d t u v (other_way t u (left_false (nat_eq t u) (member t us) h)) r.0, r.1, are_ready_next s d t v us (right_false (nat_eq t u) (member t us) h) r.2)
 
 -- ---- both ways, ticket by ticket
-abbrev as_delivered : EvaluatedSoFar → Delivered
+abbrev as_delivered : EvaluatedSoFar → DeliveredSoFar
 as_delivered p = record { desk = p.desk; count = p.count; stop = p.stop }
 
-abbrev so_far : DeskView → List Entry → ℕ → Option DeliverError → Delivered
+abbrev so_far : DeskView → List Entry → ℕ → Option DeliverError → DeliveredSoFar
 so_far d p n stop = record { desk = record d { pending = p }; count = n; stop = stop }
 
 abbrev here : DeskView → ℕ → Option DeliverError → EvaluatedSoFar

@@ -15,7 +15,7 @@ use Rattle.stm_events.specs.SlowDesk.{IsLegal}
 use Rattle.stm_pool.specs.Answers.{IsMessageOf, AnswersJob}
 use Rattle.stm_desk.specs.Refusals.{requeued_if_overtaken}
 use Rattle.stm_desk.specs.DeskView.{DeskView}
-use Rattle.stm_commands.specs.Evaluation.{Delivered, delivered_by, delivered_next, delivered_all}
+use Rattle.stm_commands.specs.Evaluation.{DeliveredSoFar, delivered_by, delivered_next, delivered_all}
 use Rattle.stm_commands.specs.Jobs.{handed_back, delivery_refusal}
 use Rattle.stm_commands.specs.OpenDesk.{HandedOut}
 use Rattle.stm_commands.specs.OpenInvariant.{handed_out, JobStands, JobsStand, HasGrown, after_message, IsRefusedFor, AnswerJobs}
@@ -55,13 +55,13 @@ next_refused law d mid e cells j m n t None (Some x) f g legal s i w p q o =
 
 -- ---- answers
 -- the answers that are left of some jobs, which are delivered to a desk yet
-pub record IsLeft (cells : List (Ty × Value)) (so_far whole : Delivered) (answers : List Answer) : Type 0 where
+pub record IsLeft (cells : List (Ty × Value)) (so_far whole : DeliveredSoFar) (answers : List Answer) : Type 0 where
   pub jobs : List Job
   pub answered : AnswerJobs jobs cells answers
   pub stand : JobsStand so_far.desk (map (handed_out cells) jobs)
   pub done : delivered_all so_far (map (handed_out cells) jobs) ≡ whole
 
-next_of : (cells : List (Ty × Value)) (d e whole : Delivered) (a : Answer) (rest : List Answer) (jobs : List Job) → HasGrown d.desk e.desk
+next_of : (cells : List (Ty × Value)) (d e whole : DeliveredSoFar) (a : Answer) (rest : List Answer) (jobs : List Job) → HasGrown d.desk e.desk
     → ((j : Job) → AnswersJob j cells a → JobStands d.desk (handed_out cells j) → e ≡ delivered_next d (handed_out cells j) d.stop)
     → AnswerJobs jobs cells (a ∷ rest) → JobsStand d.desk (map (handed_out cells) jobs) → delivered_all d (map (handed_out cells) jobs) ≡ whole → IsLeft cells e whole rest
 next_of cells d e whole a rest [] g next h s p = absurd h
@@ -69,18 +69,18 @@ next_of cells d e whole a rest (j ∷ js) g next h s p = record {
   jobs = js;
   answered = h.1;
   stand = stand_grown d.desk e.desk (map (handed_out cells) js) g s.1;
-  done = ap (λ (x : Delivered). delivered_all x (map (handed_out cells) js)) (next j h.0 s.0) ∙ p;
+  done = ap (λ (x : DeliveredSoFar). delivered_all x (map (handed_out cells) js)) (next j h.0 s.0) ∙ p;
 }
 
-pub left_next : (cells : List (Ty × Value)) (d e whole : Delivered) (a : Answer) (rest : List Answer) → HasGrown d.desk e.desk
+pub left_next : (cells : List (Ty × Value)) (d e whole : DeliveredSoFar) (a : Answer) (rest : List Answer) → HasGrown d.desk e.desk
     → ((j : Job) → AnswersJob j cells a → JobStands d.desk (handed_out cells j) → e ≡ delivered_next d (handed_out cells j) d.stop) → IsLeft cells d whole (a ∷ rest) → IsLeft cells e whole rest
 left_next cells d e whole a rest g next l = next_of cells d e whole a rest l.jobs g next l.answered l.stand l.done
 
-ended_of : (cells : List (Ty × Value)) (d whole : Delivered) (jobs : List Job) → AnswerJobs jobs cells [] → delivered_all d (map (handed_out cells) jobs) ≡ whole → d ≡ whole
+ended_of : (cells : List (Ty × Value)) (d whole : DeliveredSoFar) (jobs : List Job) → AnswerJobs jobs cells [] → delivered_all d (map (handed_out cells) jobs) ≡ whole → d ≡ whole
 ended_of cells d whole [] h p = p
 ended_of cells d whole (j ∷ js) h p = absurd h
 
-pub left_none : (cells : List (Ty × Value)) (d whole : Delivered) (answers : List Answer) → length answers ≡ 0 → IsLeft cells d whole answers → d ≡ whole
+pub left_none : (cells : List (Ty × Value)) (d whole : DeliveredSoFar) (answers : List Answer) → length answers ≡ 0 → IsLeft cells d whole answers → d ≡ whole
 left_none cells d whole [] n l = ended_of cells d whole l.jobs l.answered l.done
 left_none cells d whole (a ∷ rest) n l = absurd (omega arith)
 
@@ -94,12 +94,12 @@ each_answers cells (j ∷ js) (a ∷ rest) n f = (f 0 j a (omega arith), each_an
 
 -- ---- batches
 -- the jobs that are left, which are evaluated and delivered to a desk yet
-pub record AreLeft (cells : List (Ty × Value)) (so_far whole : Delivered) (jobs : List Job) : Type 0 where
+pub record AreLeft (cells : List (Ty × Value)) (so_far whole : DeliveredSoFar) (jobs : List Job) : Type 0 where
   pub covered : AreJobsCovered cells jobs
   pub stand : JobsStand so_far.desk (map (handed_out cells) jobs)
   pub done : delivered_all so_far (map (handed_out cells) jobs) ≡ whole
 
-delivered_append : (d : Delivered) (js ks : List HandedOut) → delivered_all d (js ++ ks) ≡ delivered_all (delivered_all d js) ks
+delivered_append : (d : DeliveredSoFar) (js ks : List HandedOut) → delivered_all d (js ++ ks) ≡ delivered_all (delivered_all d js) ks
 delivered_append d [] ks = refl
 delivered_append d (j ∷ js) ks = delivered_append (delivered_next d j d.stop) js ks
 
@@ -112,19 +112,19 @@ stand_both d cells [] ks s = (tt, s)
 stand_both d cells (j ∷ js) ks s = let b = stand_both d cells js ks s.1 in ((s.0, b.0), b.1)
 
 -- the first of them, as a batch
-pub batch_covered : (cells : List (Ty × Value)) (d whole : Delivered) (batch rest : List Job) → AreLeft cells d whole (batch ++ rest) → AreJobsCovered cells batch
+pub batch_covered : (cells : List (Ty × Value)) (d whole : DeliveredSoFar) (batch rest : List Job) → AreLeft cells d whole (batch ++ rest) → AreJobsCovered cells batch
 batch_covered cells d whole batch rest l = (covered_both cells batch rest l.covered).0
 
-pub batch_stands : (cells : List (Ty × Value)) (d whole : Delivered) (batch rest : List Job) → AreLeft cells d whole (batch ++ rest) → JobsStand d.desk (map (handed_out cells) batch)
+pub batch_stands : (cells : List (Ty × Value)) (d whole : DeliveredSoFar) (batch rest : List Job) → AreLeft cells d whole (batch ++ rest) → JobsStand d.desk (map (handed_out cells) batch)
 batch_stands cells d whole batch rest l = (stand_both d.desk cells batch rest l.stand).0
 
 -- those behind a batch that was delivered
-pub batch_done : (cells : List (Ty × Value)) (d e whole : Delivered) (batch rest : List Job) → HasGrown d.desk e.desk → e ≡ delivered_all d (map (handed_out cells) batch) → AreLeft cells d whole (batch ++ rest)
+pub batch_done : (cells : List (Ty × Value)) (d e whole : DeliveredSoFar) (batch rest : List Job) → HasGrown d.desk e.desk → e ≡ delivered_all d (map (handed_out cells) batch) → AreLeft cells d whole (batch ++ rest)
     → AreLeft cells e whole rest
 batch_done cells d e whole batch rest g p l = record {
   covered = (covered_both cells batch rest l.covered).1;
   stand = stand_grown d.desk e.desk (map (handed_out cells) rest) g (stand_both d.desk cells batch rest l.stand).1;
-  done = ap (λ (x : Delivered). delivered_all x (map (handed_out cells) rest)) p
+  done = ap (λ (x : DeliveredSoFar). delivered_all x (map (handed_out cells) rest)) p
       ∙ sym (delivered_append d (map (handed_out cells) batch) (map (handed_out cells) rest))
       ∙ ap (delivered_all d) (sym (map-append (handed_out cells) batch rest)) ∙ l.done;
 }

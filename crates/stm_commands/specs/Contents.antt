@@ -68,17 +68,17 @@ content_text c =
     codes ": " ++ type_text c.kind ++ codes " = " ++ value_text c.value ++ codes " count " ++ decimal c.count ++ 10 ∷ []
 
 -- the line of a variable: its number, its name where it was declared, and what its cell is and holds
-unfoldable pub cell_line : ℕ → Option Declared → Cell → List ℕ
-cell_line number d c = codes "#" ++ decimal number ++ 32 ∷ name_text d ++ content_text c
+unfoldable pub stored_line : ℕ → Option Declared → Cell → List ℕ
+stored_line number d c = codes "#" ++ decimal number ++ 32 ∷ name_text d ++ content_text c
 
 -- the lines of the cells from the one with this number on
-abbrev pub cell_lines : List Declared → ℕ → List Cell → List ℕ
-cell_lines table number [] = []
-cell_lines table number (c ∷ cs) = cell_line number (slice_get table number) c ++ cell_lines table (number + 1) cs
+abbrev pub stored_lines : List Declared → ℕ → List Cell → List ℕ
+stored_lines table number [] = []
+stored_lines table number (c ∷ cs) = stored_line number (slice_get table number) c ++ stored_lines table (number + 1) cs
 
 -- the lines of all variables, and how many there are
 unfoldable pub store_text : List Declared → List Cell → List ℕ
-store_text table cells = cell_lines table 0 cells ++ codes "cells " ++ decimal (length cells) ++ 10 ∷ []
+store_text table cells = stored_lines table 0 cells ++ codes "cells " ++ decimal (length cells) ++ 10 ∷ []
 
 -- `store`: each variable, and how many there are
 unfoldable pub store_answer : OpenDesk → List ℕ → List ℕ

@@ -13,13 +13,13 @@ use Rattle.stm_commands.specs.OpenDesk.{HandedOut, OpenDesk, on_desk}
 use Rattle.stm_commands.specs.Refusals.{deliver_error_text}
 
 -- how far delivering came: the desk, how many were taken, and the first refusal
-pub record Delivered : Type 0 where
+pub record DeliveredSoFar : Type 0 where
   pub desk : DeskView
   pub count : ℕ
   pub stop : Option DeliverError
 
 -- what a job's block does is taken, or refused; then the job's ticket is queued again
-abbrev pub delivered_by : Delivered → HandedOut → Option DeliverError → Delivered
+abbrev pub delivered_by : DeliveredSoFar → HandedOut → Option DeliverError → DeliveredSoFar
 delivered_by d j None = record {
   desk = installed d.desk j.ticket (verdict (cell_value j.store) j.block.tree);
   count = d.count + 1;
@@ -28,12 +28,12 @@ delivered_by d j None = record {
 delivered_by d j (Some e) = record { desk = handed_back (requeued_if_overtaken e j.ticket d.desk) j.ticket; count = d.count; stop = Some e }
 
 -- after a refusal the tickets that come after it are queued again too
-abbrev pub delivered_next : Delivered → HandedOut → Option DeliverError → Delivered
+abbrev pub delivered_next : DeliveredSoFar → HandedOut → Option DeliverError → DeliveredSoFar
 delivered_next d j None = delivered_by d j (delivery_refusal d.desk j)
 delivered_next d j (Some e) = record d { desk = handed_back d.desk j.ticket }
 
 -- how far the delivery of jobs comes, one after another
-abbrev pub delivered_all : Delivered → List HandedOut → Delivered
+abbrev pub delivered_all : DeliveredSoFar → List HandedOut → DeliveredSoFar
 delivered_all d [] = d
 delivered_all d (j ∷ js) = delivered_all (delivered_next d j d.stop) js
 
@@ -46,7 +46,7 @@ abbrev pub all_queued : DeskView → List ℕ
 all_queued d = taken d max_waiting
 
 -- the queued tickets are taken, and what their blocks do on the present store is delivered, in ascending order
-abbrev pub evaluated : DeskView → Delivered
+abbrev pub evaluated : DeskView → DeliveredSoFar
 evaluated d =
     delivered_all
     (record { desk = record d { pending = sent (length (all_queued d)) d.pending }; count = 0; stop = None })

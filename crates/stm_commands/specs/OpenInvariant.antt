@@ -19,7 +19,7 @@ use Rattle.stm_desk.specs.Refusals.{RefusesDelivery, requeued_if_overtaken}
 use Rattle.stm_desk.specs.DeskView.{DeskView, state_of, with_event}
 use Rattle.stm_commands.specs.declared.jobs.KeptJob.{KeptJob}
 use Rattle.stm_commands.specs.declared.evaluation.Progress.{Progress}
-use Rattle.stm_commands.specs.Evaluation.{Delivered}
+use Rattle.stm_commands.specs.Evaluation.{DeliveredSoFar}
 use Rattle.stm_commands.specs.OpenDesk.{HandedOut}
 
 -- a job with the store at its `take`
@@ -110,9 +110,9 @@ AnswerJobs (j ∷ js) cells [] = ⊥
 AnswerJobs (j ∷ js) cells (a ∷ rest) = AnswersJob j cells a × AnswerJobs js cells rest
 
 -- how far the delivery of jobs came, with the desk as it then is
-abbrev pub delivered_so_far : DeskView → Progress → Delivered
+abbrev pub delivered_so_far : DeskView → Progress → DeliveredSoFar
 delivered_so_far d p = record { desk = d; count = p.count; stop = p.stop }
 
 -- the same before the first
-abbrev pub none_delivered : DeskView → Delivered
+abbrev pub none_delivered : DeskView → DeliveredSoFar
 none_delivered d = record { desk = d; count = 0; stop = None }

@@ -23,7 +23,7 @@ use Rattle.stm_events.specs.Refusals.{differing, overtaken_first, pending_left}
 use Rattle.stm_events.specs.SlowDesk.{Waiter, under, is_current, find_waiter, state, MayInstall, IsLegal}
 use Rattle.stm_desk.specs.Refusals.{requeued_if_overtaken}
 use Rattle.stm_desk.specs.DeskView.{DeskView, state_of, is_full}
-use Rattle.stm_commands.specs.Evaluation.{Delivered, delivered_by, delivered_next, delivered_all, all_queued, evaluated}
+use Rattle.stm_commands.specs.Evaluation.{DeliveredSoFar, delivered_by, delivered_next, delivered_all, all_queued, evaluated}
 use Rattle.stm_commands.specs.Jobs.{max_jobs, job_of, jobs_of, taken, with_jobs, delivery_first, delivery_refusal, installed, job_at, jobs_line, take_jobs_step, delivery_step, deliver_job_step}
 use Rattle.stm_commands.specs.OpenDesk.{HandedOut, OpenDesk}
 use Rattle.stm_commands.specs.Refusals.{refused}
@@ -121,19 +121,19 @@ module _ (stay : BlocksStay) (stable : VerdictIsStable) where
       of (suc n) (Some j) e = after_stands d jobs j (delivery_refusal d j) (taken_at d.table d.history jobs n j k.taken e) refl k
 
   -- ---- eval
-  by_stands : (d : Delivered) (j : HandedOut) (rest : List HandedOut) (o : Option DeliverError) → delivery_refusal d.desk j ≡ o → WasTaken d.desk.table d.desk.history j → Stands d.desk rest
+  by_stands : (d : DeliveredSoFar) (j : HandedOut) (rest : List HandedOut) (o : Option DeliverError) → delivery_refusal d.desk j ≡ o → WasTaken d.desk.table d.desk.history j → Stands d.desk rest
       → Stands (delivered_by d j o).desk rest
   by_stands d j rest None e t k = after_stands d.desk rest j None t e k
   by_stands d j rest (Some x) e t k =
       let left = requeued_if_overtaken x j.ticket d.desk in
       stands_marked left (marked j.ticket false left.pending) rest (tickets_marked j.ticket false left.pending) (after_stands d.desk rest j (Some x) t e k)
 
-  next_stands : (d : Delivered) (j : HandedOut) (rest : List HandedOut) (o : Option DeliverError) → Stands d.desk (j ∷ rest) → Stands (delivered_next d j o).desk rest
+  next_stands : (d : DeliveredSoFar) (j : HandedOut) (rest : List HandedOut) (o : Option DeliverError) → Stands d.desk (j ∷ rest) → Stands (delivered_next d j o).desk rest
   next_stands d j rest None k = by_stands d j rest (delivery_refusal d.desk j) refl k.taken.0 (stands_with d.desk (j ∷ rest) rest k.taken.1 k)
   next_stands d j rest (Some x) k =
       stands_marked d.desk (marked j.ticket false d.desk.pending) rest (tickets_marked j.ticket false d.desk.pending) (stands_with d.desk (j ∷ rest) rest k.taken.1 k)
 
-  all_stand : (js kept : List HandedOut) (d : Delivered) → Stands d.desk (js ++ kept) → Stands (delivered_all d js).desk kept
+  all_stand : (js kept : List HandedOut) (d : DeliveredSoFar) → Stands d.desk (js ++ kept) → Stands (delivered_all d js).desk kept
   all_stand [] kept d k = k
   all_stand (j ∷ js) kept d k = all_stand js kept (delivered_next d j d.stop) (next_stands d j (js ++ kept) d.stop k)
 
@@ -148,15 +148,15 @@ module _ (stay : BlocksStay) (stable : VerdictIsStable) where
 abbrev IsTold : Option DeliverError → Type 0
 IsTold o = o ≡ Some deliver.NoMemory → ⊥
 
-by_told : (d : Delivered) (j : HandedOut) (o : Option DeliverError) → IsTold o → IsTold (delivered_by d j o).stop
+by_told : (d : DeliveredSoFar) (j : HandedOut) (o : Option DeliverError) → IsTold o → IsTold (delivered_by d j o).stop
 by_told d j None h = h
 by_told d j (Some e) h = h
 
-next_told : (d : Delivered) (j : HandedOut) → (o : Option DeliverError) → d.stop ≡ o → IsTold o → IsTold (delivered_next d j o).stop
+next_told : (d : DeliveredSoFar) (j : HandedOut) → (o : Option DeliverError) → d.stop ≡ o → IsTold o → IsTold (delivered_next d j o).stop
 next_told d j None s h = by_told d j (delivery_refusal d.desk j) (refusal_told d.desk j)
 next_told d j (Some e) s h = subst IsTold (sym s) h
 
-all_told : (js : List HandedOut) (d : Delivered) → IsTold d.stop → IsTold (delivered_all d js).stop
+all_told : (js : List HandedOut) (d : DeliveredSoFar) → IsTold d.stop → IsTold (delivered_all d js).stop
 all_told [] d h = h
 all_told (j ∷ js) d h = all_told js (delivered_next d j d.stop) (next_told d j d.stop refl h)
 

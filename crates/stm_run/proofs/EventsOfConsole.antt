@@ -38,7 +38,7 @@ use Rattle.stm_lines.specs.LineClass.{LineClass, TooLong, Silent, NotAscii, Word
 use Rattle.stm_commands.specs.Arguments.{argument_refused}
 use Rattle.stm_commands.specs.Blocks.{submit_block_step, submit_text_step, submit_step}
 use Rattle.stm_commands.specs.Endings.{finish_verdict_step, finish_waiter_step, finish_ticket_step, finish_step, cancel_ticket_step, cancel_step, settle_desk_step, settle_step}
-use Rattle.stm_commands.specs.Evaluation.{Delivered, delivered_by, delivered_next, delivered_all, all_queued, eval_desk_step, eval_step}
+use Rattle.stm_commands.specs.Evaluation.{DeliveredSoFar, delivered_by, delivered_next, delivered_all, all_queued, eval_desk_step, eval_step}
 use Rattle.stm_commands.specs.Jobs.{max_jobs, taken, with_jobs, jobs_of, jobs_line, take_jobs_step, take_step, delivery_refusal, installed, delivery_step, job_at, deliver_job_step, deliver_step, queued_line, handed_back, handback_ticket_step, handback_step}
 use Rattle.stm_commands.specs.OpenDesk.{HandedOut, OpenDesk, on_desk}
 use Rattle.stm_commands.specs.Refusals.{refused}
@@ -184,15 +184,15 @@ module _ (table : List Declared) (before : List Event) where
       either_has (λ (p : OpenDesk × List ℕ). Holds p.0.desk) (nat_lt max_jobs (n + length d.jobs)) (d, refused (codes "JobsFull"))
       (with_jobs d (taken d.desk n), jobs_line (length d.jobs + 1) (taken d.desk n)) k k
 
-  evaluates_one : (d : Delivered) (j : HandedOut) (o : Option DeliverError) → Holds d.desk → Holds (delivered_by d j o).desk
+  evaluates_one : (d : DeliveredSoFar) (j : HandedOut) (o : Option DeliverError) → Holds d.desk → Holds (delivered_by d j o).desk
   evaluates_one d j None k = installs d.desk j.ticket (verdict (cell_value j.store) j.block.tree) k
   evaluates_one d j (Some e) k = k
 
-  evaluates_next : (d : Delivered) (j : HandedOut) (o : Option DeliverError) → Holds d.desk → Holds (delivered_next d j o).desk
+  evaluates_next : (d : DeliveredSoFar) (j : HandedOut) (o : Option DeliverError) → Holds d.desk → Holds (delivered_next d j o).desk
   evaluates_next d j None k = evaluates_one d j (delivery_refusal d.desk j) k
   evaluates_next d j (Some e) k = k
 
-  evaluates_all : (d : Delivered) (js : List HandedOut) → Holds d.desk → Holds (delivered_all d js).desk
+  evaluates_all : (d : DeliveredSoFar) (js : List HandedOut) → Holds d.desk → Holds (delivered_all d js).desk
   evaluates_all d [] k = k
   evaluates_all d (j ∷ js) k = evaluates_all (delivered_next d j d.stop) js (evaluates_next d j d.stop k)
 

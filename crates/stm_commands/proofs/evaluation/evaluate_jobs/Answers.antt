@@ -1,6 +1,6 @@
 use Rattle.std.proofs.Common.{rules, arith, ◌≡◌, ◌≤◌, ◌+◌, ◌∷◌, ◌++◌, ◌∙◌, [], List, map, length, vec_len, refl, sym, ap, subst, None, IfOk}
 use Rattle.stm_eval.specs.declared.job.Job.{Job}
-use Rattle.stm_commands.specs.Evaluation.{Delivered, delivered_all}
+use Rattle.stm_commands.specs.Evaluation.{DeliveredSoFar, delivered_all}
 use Rattle.stm_commands.specs.OpenInvariant.{handed_out, delivered_so_far}
 use Rattle.stm_commands.proofs.EvaluatedJobs.{AreLeft, batch_covered, batch_stands, batch_done, batch_longer, last_batch, batch_fits, rest_fits}
 use Rattle.stm_commands.proofs.Growing.{grown_same, grown_trans}
@@ -114,7 +114,7 @@ returns-clause-done g c =
     let none : length c.loop-job.job-iterator.rest.items ≡ 0 = search rules in
     let last = subst (AreLeft c.args.store.now (record { desk = c.loop-job.desk; count = c.loop-job.so_far.count; stop = c.loop-job.so_far.stop })
     (delivered_all (record { desk = c.args.desk.now; count = 0; stop = None }) (map (handed_out c.args.store.now) c.args.jobs.items))) (last_batch c.loop-job.batch.items c.loop-job.job-iterator.rest.items none) c.loop-job.invariant.left in
-    subst (λ (d : Delivered). IfOk c.evaluate_batch-2.result (λ p. delivered_so_far c.evaluate_batch-2.new.desk p ≡ d)) last.done c.evaluate_batch-2.ensures.done
+    subst (λ (d : DeliveredSoFar). IfOk c.evaluate_batch-2.result (λ p. delivered_so_far c.evaluate_batch-2.new.desk p ≡ d)) last.done c.evaluate_batch-2.ensures.done
 
 pub returns-clause-grown : goal.returns-clause-grown
 returns-clause-grown g c = grown_trans _ _ _ c.loop-job.invariant.grown c.evaluate_batch-2.ensures.grown
