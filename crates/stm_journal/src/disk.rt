@@ -7,7 +7,7 @@ use crate::error::JournalError;
 use crate::memory::Memory;
 use crate::replace::Replace;
 
-/// A device in memory with room for so many bytes. A write that finds no room leaves none of its bytes.
+/// A device in memory with room for a number of bytes. A write that finds no room leaves none of its bytes.
 #[derive(Drop)]
 pub(crate) struct Disk {
     pub file: Memory,
