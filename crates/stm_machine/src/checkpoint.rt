@@ -235,6 +235,7 @@ impl Machine {
     }
 
     /// A machine at the state of a checkpoint, on which each new and each stale block is queued. No block is evaluated.
+    /// It takes memory for each ticket up to the highest that waits.
     pub fn from_checkpoint(alloc: Global, checkpoint: &Checkpoint) -> Result<Machine, NoMemory>
         ensures at { IfOk result (λ m. IsAt m (checkpoint_state checkpoint.now)) }
         ensures none_out { IfOk result (λ m. some_out m.pending ≡ false) }
@@ -258,7 +259,7 @@ pub fn checkpoints_are_possible()
     ensures { CheckpointsArePossible }
 {}
 
-/// The checkpoint of a state can't be told apart from the state.
+/// What is observed of a state is also observed of its checkpoint's state.
 pub fn checkpoints_are_unseen()
     ensures { CheckpointsAreUnseen }
 {}
