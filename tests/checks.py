@@ -1,11 +1,12 @@
 """The answers of `check`: to a history whole, cut and with one change each, and to the histories of the cases."""
 
+import json
 import pathlib
 
 import transcript
 
 HERE = pathlib.Path(__file__).resolve().parent
-HEADER = b'{"format":3,"vars":'  # how the text of a history begins
+HEADER = b'{"format":'  # how the text of a history begins
 EXAMPLE = "the_example_of_a_history.case"  # it stands in docs/HISTORY.md; its variable has line 2, its events lines 3 to 8
 
 SAME = "expected SAME"  # the line that stands in the example is expected
@@ -13,6 +14,17 @@ UNREADABLE = "unreadable"
 RETRY = '{"format":3,"vars":0}\n{"block":"retry","client":0,"event":"submitted","ticket":1}\n'
 RETRIED = '{"client":0,"event":"installed","ticket":1,"verdict":"blocks"}\n'
 RESULT = 'expected {"client":0,"event":"installed","ticket":1,"verdict":{"commits":{"news":[],"result":%d,"writes":[]}}}'
+
+# A history from a checkpoint, whose events are the lines from the fifth on.
+CHECKPOINT = """\
+{"format":4,"next":3,"vars":1,"waiting":2}
+{"count":0,"init":1,"name":"x","type":"Int"}
+{"block":"readTVar x","reads":[[0,1]],"stale":false,"ticket":1,"verdict":{"commits":{"news":[],"result":1,"writes":[]}}}
+{"block":"writeTVar x 5","ticket":2}
+{"client":0,"event":"installed","ticket":2,"verdict":{"commits":{"news":[],"result":null,"writes":[[0,5]]}}}
+{"client":0,"event":"finished","first_new":1,"stale":[1],"ticket":2,"verdict":{"commits":{"news":[],"result":null,"writes":[[0,5]]}}}
+{"client":0,"event":"cancelled","ticket":1}
+"""
 
 # Of the example: the line, what stands there, what takes its place (all of it, where nothing is named), the answer, and if it isn't legal
 # the explanation.
@@ -97,21 +109,28 @@ def example():
     return case.steps[-1][1].decode(transcript.ENCODING).splitlines(keepends=True)
 
 
+def cuts(lines, before):
+    """A history cut after each line, within it and before its line feed. So many lines come before the events."""
+    for number, line in enumerate(lines, 1):
+        front = "".join(lines[: number - 1])
+        place = f"line {number} " if number <= before else ""
+        if number < before:
+            yield f"cut behind line {number}", front + line, "bad header", f"line {number + 1} unreadable"
+        else:
+            yield f"cut behind line {number}", front + line, f"legal {number - before} events", ""
+        inside = "bad header" if number <= before else f"bad line {number}"
+        for length in (1, len(line) // 2):
+            yield f"cut behind {length} bytes of line {number}", front + line[:length], inside, place + UNREADABLE
+        yield f"cut before the line feed of line {number}", front + line[:-1], inside, f"{place}expected {line[:-1]}"
+
+
 def texts():
     """What is to be checked, with its name, its answer and its explanation, which is empty if it is legal."""
     lines = example()
     yield "nothing", "", "bad header", "line 1 unreadable"
-    for number, line in enumerate(lines, 1):
-        before = "".join(lines[: number - 1])
-        place = f"line {number} " if number < 3 else ""
-        if number == 1:
-            yield "cut behind line 1", before + line, "bad header", "line 2 unreadable"
-        else:
-            yield f"cut behind line {number}", before + line, f"legal {number - 2} events", ""
-        inside = "bad header" if number < 3 else f"bad line {number}"
-        for length in (1, len(line) // 2):
-            yield f"cut behind {length} bytes of line {number}", before + line[:length], inside, place + UNREADABLE
-        yield f"cut before the line feed of line {number}", before + line[:-1], inside, f"{place}expected {line[:-1]}"
+    yield from cuts(lines, 2)
+    for name, *cut in cuts(CHECKPOINT.splitlines(keepends=True), 4):
+        yield f"from a checkpoint, {name}", *cut
     for number, old, new, answer, *reason in CHANGES:
         line = lines[number - 1]
         changed = new + "\n" if old is None else line.replace(old, new, 1)
@@ -163,8 +182,8 @@ def judge_history(program, case):
     if begun < 0:
         return f"no history is printed, but {printed[-200:]!r}"
     text = printed[begun:]
-    variables = int(text[len(HEADER) :].split(b"}")[0])
-    events = text.count(b"\n") - 1 - variables
+    header = json.loads(text.splitlines()[0])
+    events = text.count(b"\n") - 1 - header["vars"] - header.get("waiting", 0)
     return transcript.judged(program, asked(text, f"legal {events} events"))
 
 

@@ -1,9 +1,11 @@
-/* Loaded before the C library: the system crashes, or a call fails, at one of the calls that the program makes on its journal.
+/* Loaded before the C library: the system crashes, or a call fails, at one of the calls that the program makes on its journal, and on
+   the new file that takes its place at a checkpoint.
 
-   CRASH_AT=N    at the N-th call of write, cut and sync on a regular file, counted from 1, the program is killed, and the file has what a
+   CRASH_AT=N    at the N-th call of write, cut and sync on a regular file, or of rename, counted from 1, the program is killed, and the file has what a
                  crash of the system may leave: LEAVES=synced, what was synced last; LEAVES=written, this and all that was written;
                  LEAVES=any, in place of each byte that was written since the last sync the old one, the new one or anything, up to any
-                 length between the two; LEAVES=zeros, the same with a 0 in place of anything
+                 length between the two; LEAVES=zeros, the same with a 0 in place of anything. A rename is lost with LEAVES=synced,
+                 and else done
    SEED=N        of what is chosen
    FAIL_AT=N     the N-th such call fails with the error FAIL_WITH, a write after the half of it; if the program still writes or cuts the
                  file after that, it ends with status 99
@@ -13,6 +15,7 @@
 #include <dlfcn.h>
 #include <errno.h>
 #include <signal.h>
+#include <stdio.h>
 #include <stdlib.h>
 #include <string.h>
 #include <sys/stat.h>
@@ -21,7 +24,7 @@
 static ssize_t (*real_read)(int, void *, size_t);
 static ssize_t (*real_pread)(int, void *, size_t, off_t);
 static ssize_t (*real_pwrite)(int, const void *, size_t, off_t);
-static int (*real_ftruncate)(int, off_t), (*real_fsync)(int), (*real_fdatasync)(int);
+static int (*real_ftruncate)(int, off_t), (*real_fsync)(int), (*real_fdatasync)(int), (*real_rename)(const char *, const char *);
 static unsigned long calls, reads, crash_at, fail_at, read_fails, one_line, seed;
 static int fail_with, has_failed;
 static const char *leaves;
@@ -30,7 +33,9 @@ struct text {
     char *bytes;
     size_t length;
 };
-static struct text synced;
+enum { FILES = 256 };
+static struct text synced_of[FILES]; /* by the numbers of the files */
+static ino_t inode_of[FILES];
 
 static unsigned long number_of(const char *name) {
     const char *text = getenv(name);
@@ -44,6 +49,7 @@ __attribute__((constructor)) static void begin(void) {
     real_ftruncate = (int (*)(int, off_t))dlsym(RTLD_NEXT, "ftruncate");
     real_fsync = (int (*)(int))dlsym(RTLD_NEXT, "fsync");
     real_fdatasync = (int (*)(int))dlsym(RTLD_NEXT, "fdatasync");
+    real_rename = (int (*)(const char *, const char *))dlsym(RTLD_NEXT, "rename");
     crash_at = number_of("CRASH_AT");
     fail_at = number_of("FAIL_AT");
     fail_with = (int)number_of("FAIL_WITH");
@@ -55,7 +61,7 @@ __attribute__((constructor)) static void begin(void) {
 
 static int is_file(int file) {
     struct stat it;
-    return fstat(file, &it) == 0 && S_ISREG(it.st_mode) && file > 2;
+    return fstat(file, &it) == 0 && S_ISREG(it.st_mode) && file > 2 && file < FILES;
 }
 
 static struct text content(int file) {
@@ -74,8 +80,18 @@ static struct text content(int file) {
 }
 
 static void keep(int file) {
-    free(synced.bytes);
-    synced = content(file);
+    struct stat it;
+    if (fstat(file, &it))
+        abort();
+    free(synced_of[file].bytes);
+    synced_of[file] = content(file);
+    inode_of[file] = it.st_ino;
+}
+
+/* Whether nothing is known of the file, which may have the number of another one that was closed. */
+static int is_unknown(int file) {
+    struct stat it;
+    return !synced_of[file].bytes || fstat(file, &it) || it.st_ino != inode_of[file];
 }
 
 /* A number below `most`. */
@@ -86,7 +102,7 @@ static size_t chosen(size_t most) {
 
 /* Leaves in the file what a crash may leave, and kills the program. */
 static void crash(int file) {
-    struct text new = content(file), *old = &synced;
+    struct text new = content(file), *old = &synced_of[file];
     size_t shorter = new.length < old->length ? new.length : old->length;
     size_t longer = new.length > old->length ? new.length : old->length, length = longer, at;
     char *bytes = malloc(longer + 1);
@@ -117,7 +133,7 @@ static void crash(int file) {
 
 /* Counts a call. Whether it is to fail. */
 static int begin_call(int file, int writes) {
-    if (!synced.bytes)
+    if (is_unknown(file))
         keep(file);
     if (has_failed && writes)
         _exit(99);
@@ -187,6 +203,24 @@ static int sync_by(int (*real)(int), int file) {
         crash(file); /* before it has done anything; that it has done all is as a crash in the next call */
     done = real(file);
     keep(file);
+    return done;
+}
+
+int rename(const char *from, const char *to) {
+    int done;
+    if (has_failed)
+        _exit(99);
+    calls += 1;
+    if (fail_at && calls == fail_at) {
+        has_failed = 1;
+        errno = fail_with;
+        return -1;
+    }
+    if (crash_at && calls == crash_at && strcmp(leaves, "synced") == 0)
+        kill(getpid(), SIGKILL);
+    done = real_rename(from, to);
+    if (crash_at && calls == crash_at)
+        kill(getpid(), SIGKILL);
     return done;
 }
 

@@ -22,10 +22,11 @@ MOST = 4294967295
 
 
 class Waiter:
-    """A waiting block: its action, and if there was a delivery the store then and the variables that were changed since then."""
+    """A waiting block: its text and its action, and if there was a delivery the store then and the variables that were changed since then."""
 
-    def __init__(self, action):
-        self.action, self.store_then, self.changed = action, None, set()
+    def __init__(self, text, names):
+        self.text, self.action, self.store_then, self.changed = text, blocks.parsed(text, names), None, set()
+        self.was_stale = False  # when the history began, and there was no delivery since
 
     def on(self, store):
         """Its verdict on a store, and what it reads there, ascending, with the values."""
@@ -35,19 +36,37 @@ class Waiter:
     def is_current(self):
         return self.store_then is not None and not self.changed & set(self.on(self.store_then)[1])
 
+    def deliver(self, store):
+        """A delivery from this store."""
+        self.store_then, self.changed, self.was_stale = store, set(), False
+
 
 class Reference:
-    """What a history means: the store, and the waiting blocks by their tickets."""
+    """What a history means: the store, with how often each variable was changed, the next ticket, and the waiting blocks by their
+    tickets."""
 
     def __init__(self, text):
-        head, *lines = text.splitlines()
-        count = json.loads(head)["vars"]
-        declared = [json.loads(line) for line in lines[:count]]
-        self.names = {it["name"]: ("old", number) for number, it in enumerate(declared)}
-        self.store, self.waiters = [histories.Replay.value(it["init"], 0) for it in declared], {}
+        first, *lines = text.splitlines()
+        head = json.loads(first)
+        variables = [json.loads(line) for line in lines[: head["vars"]]]
+        begin = head["vars"] + head.get("waiting", 0)
+        self.names = {it["name"]: ("old", number) for number, it in enumerate(variables) if it["name"] is not None}
+        self.store = [histories.Replay.value(it["init"], 0) for it in variables]
+        self.counts = [it.get("count", 0) for it in variables]
+        self.next, self.waiters = head.get("next", 1), {}
         self.lines, self.events, self.stores = [], [], []  # of each event its line, what that is, and the store after it
-        for line in lines[count:]:
+        for line in lines[head["vars"] : begin]:
+            self.wait(json.loads(line))
+        for line in lines[begin:]:
             self.follow(line)
+
+    def wait(self, line):
+        """Takes in a block that waits when the history begins. The store of its last delivery is the present one with what it read."""
+        waiter = self.waiters[line["ticket"]] = Waiter(line["block"], self.names)
+        if "verdict" in line:
+            waiter.deliver(with_values(self.store, line["reads"]))
+            if line["stale"]:
+                waiter.changed, waiter.was_stale = {number for number, _ in line["reads"]}, True
 
     def follow(self, line):
         """Takes in the line of one more event."""
@@ -60,23 +79,25 @@ class Reference:
     def act(self, event):
         ticket = event["ticket"]
         if event["event"] == "submitted":
-            self.waiters[ticket] = Waiter(blocks.parsed(event["block"], self.names))
+            self.waiters[ticket] = Waiter(event["block"], self.names)
+            self.next = ticket + 1
         elif event["event"] == "installed":
             waiter = self.waiters[ticket]
-            waiter.store_then, waiter.changed = self.store, set()
+            waiter.deliver(self.store)
         else:
             waiter = self.waiters.pop(ticket)
         if event["event"] == "finished":
             verdict, _ = waiter.on(self.store)
             before, self.store = self.store, applied(self.store, verdict)
             changed = {number for number, value in enumerate(before) if not is_same(value, self.store[number])}
+            self.counts = [count + (number in changed) for number, count in enumerate(self.counts)] + [0] * (len(self.store) - len(before))
             for other in self.waiters.values():
                 other.changed |= changed
 
     def cause(self, ticket, reads):
         """The ticket of the first event since the last delivery to this one after which variables of the reads have other values,
         and these variables with both values."""
-        last = max(at for at, it in enumerate(self.events) if (it["event"], it["ticket"]) == ("installed", ticket))
+        last = max((at for at, it in enumerate(self.events) if (it["event"], it["ticket"]) == ("installed", ticket)), default=-1)
         for event, store in list(zip(self.events, self.stores))[last + 1:]:
             changes = {it: (value, store[it]) for it, value in reads.items() if not is_same(value, store[it])}
             if changes:
@@ -97,6 +118,8 @@ class Reference:
             return "refused NoTicket"
         if waiter.store_then is None:
             return f"why {ticket} new"
+        if waiter.was_stale:
+            return f"why {ticket} stale checkpoint"
         if not waiter.is_current():
             finish, changes = self.cause(ticket, waiter.on(waiter.store_then)[1])
             shown = [f"#{it}={histories.shown(old)}->{histories.shown(new)}" for it, (old, new) in changes.items()]
@@ -123,6 +146,12 @@ class Reference:
 
 def is_same(one, other):
     return type(one) is type(other) and one == other
+
+
+def with_values(store, reads):
+    """The store with the values of these reads, as a line has them."""
+    values = {number: histories.Replay.value(value, None) for number, value in reads}
+    return [values.get(number, value) for number, value in enumerate(store)]
 
 
 def applied(store, verdict):

@@ -1,29 +1,33 @@
 #!/usr/bin/env python3
 """Explains the first line of a history that isn't accepted: a slow reference for `stmdesk check --why`, with an evaluator of its own.
 
-It goes by the definitions: the events before that line are followed one by one, and the block of the line's ticket is run from scratch. As
-a program it reads a history of format 3 whose last line is the one to explain, and prints the explanation:
+It goes by the definitions: the lines before the first event are read one by one, the events before the line are followed one by one, and the
+block of the line's ticket is run from scratch. As a program it reads a history of format 3 or 4 and prints what `check --why` prints, but
+that it says `not accepted N` for both `bad line N` and `not legal N`:
 
     python3 tests/reasons_reference.py < HISTORY
 """
 
 import json
 import pathlib
+import re
 import sys
 
 sys.dont_write_bytecode = True
 sys.path.insert(0, str(pathlib.Path(__file__).resolve().parent.parent / "tools"))
 
 import blocks
-from questions_reference import Reference
+import histories
+from questions_reference import Reference, is_same, with_values
 
-KEYS = {
-    "submitted": {"block": str, "client": int, "ticket": int},
-    "installed": {"client": int, "ticket": int, "verdict": object},
-    "finished": {"client": int, "first_new": int, "stale": list, "ticket": int, "verdict": object},
-    "cancelled": {"client": int, "ticket": int},
-}
+KEYS = ("submitted", "installed", "finished", "cancelled")
 NOT_A_BLOCK = (ValueError, LookupError, RecursionError)
+RESERVED = "do let if then else return readTVar writeTVar newTVar retry orElse throw catch True False Int Bool TVar".split()
+MOST_CELLS, MOST_WAITING, MOST_NEXT, MOST_COUNT = 1_000_000, 65_536, 4_293_918_719, 2**64 - 1
+
+
+class Unreadable(Exception):
+    """A line, or a part of one, is none that could be read."""
 
 
 def text(value):
@@ -31,41 +35,127 @@ def text(value):
     return json.dumps(value, separators=(",", ":"), sort_keys=True)
 
 
+# ---- what JSON can be read as: each returns the JSON as a history has it
+
+def need(is_so):
+    if not is_so:
+        raise Unreadable
+
+
+def json_of(line):
+    """The object of a line."""
+    try:
+        found = json.loads(line)
+    except (ValueError, RecursionError):
+        raise Unreadable from None
+    need(isinstance(found, dict))
+    return found
+
+
 def is_number(value, most=4294967295):
     return type(value) is int and 0 <= value <= most
 
 
-def is_value(value):
+def number_of(value, most=4294967295):
+    need(is_number(value, most))
+    return value
+
+
+def text_of(value):
+    need(isinstance(value, str))
+    return value
+
+
+def list_of(values, each):
+    need(isinstance(values, list))
+    return [each(it) for it in values]
+
+
+def is_int(value):
+    return type(value) is int and -(2**63) <= value < 2**63
+
+
+def value_of(value):
     if isinstance(value, dict):
-        return any(is_number(value.get(it)) for it in ("old", "new"))
-    return value is None or (isinstance(value, (bool, int)) and -(2**63) <= value < 2**63)
+        key = next((it for it in ("old", "new") if is_number(value.get(it))), None)
+        need(key)
+        return {key: value[key]}
+    need(value is None or isinstance(value, bool) or is_int(value))
+    return value
 
 
-def is_pair(pair, first, second):
-    return isinstance(pair, list) and len(pair) >= 2 and first(pair[0]) and second(pair[1])
+def pair_of(pair, first, second):
+    need(isinstance(pair, list) and len(pair) >= 2)
+    return [first(pair[0]), second(pair[1])]
 
 
-def is_verdict(verdict):
-    """Whether it can be read as a verdict. A text is that a block blocks, or that it throws an overflow, whatever its letters are."""
+def write_of(pair):
+    return pair_of(pair, number_of, value_of)
+
+
+def type_of(words):
+    """A type's text. It may have blanks and brackets that it needn't have."""
+    found = re.findall(r"[A-Za-z][A-Za-z0-9_']*|[^ \t\n\r]", text_of(words))
+    kind, rest = type_at(found)
+    need(not rest and kind.count("TVar") <= 8)
+    return kind
+
+
+def type_at(words):
+    """The type at the front of these words, and the words after it."""
+    if words[:1] != ["TVar"]:
+        return atom_at(words)
+    inner, rest = atom_at(words[1:])
+    return to(inner), rest
+
+
+def atom_at(words):
+    if words[:1] in (["Int"], ["Bool"]):
+        return words[0], words[1:]
+    if words[:2] == ["(", ")"]:
+        return "()", words[2:]
+    need(words[:1] == ["("])
+    kind, rest = type_at(words[1:])
+    need(rest[:1] == [")"])
+    return kind, rest[1:]
+
+
+def to(kind):
+    """The type of references to variables of a type."""
+    return f"TVar ({kind})" if " " in kind else f"TVar {kind}"
+
+
+def verdict_of(verdict):
+    """A verdict. A text is that a block blocks, or that it throws an overflow, whatever its letters are."""
     if isinstance(verdict, str):
-        return True
-    if not isinstance(verdict, dict):
-        return False
+        return "blocks"
+    need(isinstance(verdict, dict))
     thrown, made = verdict.get("throws"), verdict.get("commits")
-    if isinstance(thrown, str) or (type(thrown) is int and -(2**63) <= thrown < 2**63):
-        return True
-    if not isinstance(made, dict) or not isinstance(made.get("writes"), list) or not isinstance(made.get("news"), list):
-        return False
-    return (
-        all(is_pair(it, is_number, is_value) for it in made["writes"])
-        and all(is_pair(it, lambda kind: isinstance(kind, str), is_value) for it in made["news"])
-        and "result" in made
-        and is_value(made["result"])
-    )
+    if isinstance(thrown, str):
+        return {"throws": "overflow"}
+    if is_int(thrown):
+        return {"throws": thrown}
+    need(isinstance(made, dict) and "result" in made)
+    news = list_of(made.get("news"), lambda it: pair_of(it, type_of, value_of))
+    return {"commits": {"news": news, "result": value_of(made["result"]), "writes": list_of(made.get("writes"), write_of)}}
+
+
+def block_of(block, names):
+    """A block's text: it has to be one over these variables."""
+    try:
+        blocks.parsed(text_of(block), names)
+    except NOT_A_BLOCK:
+        raise Unreadable from None
+    return block
+
+
+def name_of(name):
+    need(name is None or (isinstance(name, str) and re.fullmatch(r"[a-z][A-Za-z0-9_']{0,31}", name) and name not in RESERVED))
+    return name
 
 
 class Types:
-    """The types of the store's variables, which follow from their values."""
+    """The types of the store's variables, and those of values, which follow from them."""
 
     def __init__(self, kinds):
         self.kinds = kinds
@@ -74,9 +164,15 @@ class Types:
         """The type of a value; `made` are the values of the block's own new variables."""
         if isinstance(value, tuple):
             of, number = value
-            inner = self.kinds[number] if of == "old" else self.of(made[number], made)
-            return f"TVar ({inner})" if " " in inner else f"TVar {inner}"
+            return to(self.kinds[number] if of == "old" else self.of(made[number], made))
         return "()" if value is None else "Bool" if isinstance(value, bool) else "Int"
+
+    def need(self, kind, value):
+        """Whether this JSON is a value of the type."""
+        try:
+            need(self.of(histories.Replay.value(value, None)) == kind)
+        except LookupError:
+            raise Unreadable from None
 
 
 class Reasons(Reference):
@@ -99,9 +195,6 @@ class Reasons(Reference):
         if event["event"] == "finished" and "commits" in event["verdict"]:
             self.types.kinds += [it[0] for it in event["verdict"]["commits"]["news"]]
 
-    def next_ticket(self):
-        return 1 + sum(it["event"] == "submitted" for it in self.events)
-
     @staticmethod
     def value(value):
         return {value[0]: value[1]} if isinstance(value, tuple) else value
@@ -116,11 +209,25 @@ class Reasons(Reference):
         news = [[self.types.of(it, made), self.value(it)] for it in made]
         return {"commits": {"news": news, "result": self.value(result), "writes": [[it, self.value(writes[it])] for it in sorted(writes)]}}
 
+    def checkpoint(self):
+        """The lines before the first event of a history that begins from here."""
+        names = {number: name for name, (_, number) in self.names.items()}
+        lines = [{"format": 4, "next": self.next, "vars": len(self.store), "waiting": len(self.waiters)}]
+        for number, value in enumerate(self.store):
+            lines.append({"count": self.counts[number], "init": self.value(value), "name": names.get(number), "type": self.types.kinds[number]})
+        for ticket, waiter in sorted(self.waiters.items()):
+            lines.append({"block": waiter.text, "ticket": ticket})
+            if waiter.store_then is not None:
+                verdict, reads = waiter.on(waiter.store_then)
+                lines[-1] |= {"reads": [[it, self.value(value)] for it, value in reads.items()], "verdict": self.verdict(verdict)}
+                lines[-1]["stale"] = not waiter.is_current()
+        return [text(it) for it in lines]
+
     def stale_after(self, ticket):
         """The current tickets that the finish of this one makes stale."""
         others = {it: waiter for it, waiter in sorted(self.waiters.items()) if it != ticket and waiter.is_current()}
         history = Reasons.__new__(Reasons)
-        history.waiters, history.store = dict(self.waiters), self.store
+        history.waiters, history.store, history.counts = dict(self.waiters), self.store, self.counts
         before = {it: set(waiter.changed) for it, waiter in self.waiters.items()}
         history.act({"event": "finished", "ticket": ticket})
         stale = [it for it, waiter in others.items() if not waiter.is_current()]
@@ -131,27 +238,22 @@ class Reasons(Reference):
     def explained(self, line):
         """The explanation of a line in this place."""
         try:
-            event = json.loads(line)
-        except (ValueError, RecursionError):
+            return self.reason(json_of(line))
+        except Unreadable:
             return "unreadable"
-        if not isinstance(event, dict) or not isinstance(event.get("event"), str) or event["event"] not in KEYS:
-            return "unreadable"
-        if not is_number(event.get("client"), 127) or not is_number(event.get("ticket")):
-            return "unreadable"
-        kind, client, ticket = event["event"], event["client"], event["ticket"]
+
+    def reason(self, event):
+        kind, client, ticket = event.get("event"), number_of(event.get("client"), 127), number_of(event.get("ticket"))
+        need(kind in KEYS)
         waiter = self.waiters.get(ticket)
         if kind == "submitted":
-            try:
-                blocks.parsed(event["block"], self.names)
-            except (*NOT_A_BLOCK, KeyError, TypeError):
-                return "unreadable"
-            return "expected " + text({"block": event["block"], "client": client, "event": kind, "ticket": self.next_ticket()})
-        if kind != "cancelled" and not is_verdict(event.get("verdict")):
-            return "unreadable"
+            block = block_of(event.get("block"), self.names)
+            return "expected " + text({"block": block, "client": client, "event": kind, "ticket": self.next})
+        if kind != "cancelled":
+            verdict_of(event.get("verdict"))
         if kind == "finished":
-            stale = event.get("stale")
-            if not is_number(event.get("first_new")) or not isinstance(stale, list) or not all(map(is_number, stale)):
-                return "unreadable"
+            number_of(event.get("first_new"))
+            list_of(event.get("stale"), number_of)
         due = {"client": client, "event": kind, "ticket": ticket}
         if waiter is None:
             return "refused Gone" if kind == "installed" else "refused NoTicket"
@@ -169,9 +271,116 @@ class Reasons(Reference):
         return "expected " + text({**due, "first_new": len(self.store), "stale": self.stale_after(ticket), "verdict": self.verdict(verdict)})
 
 
+class Beginning:
+    """The lines before the first event, of a table in format 3 or of a checkpoint. `due` has the line that would be accepted in place of
+    one, and `take` takes in a line that is accepted."""
+
+    def __init__(self):
+        self.lines, self.head, self.variables, self.names, self.blocks = [], None, [], {}, []
+
+    @property
+    def is_whole(self):
+        return self.head is not None and len(self.lines) == 1 + self.head["vars"] + self.head.get("waiting", 0)
+
+    def due(self, line):
+        found = json_of(line)
+        if self.head is None:
+            return text(self.header(found))
+        if len(self.variables) < self.head["vars"]:
+            return text(self.variable(found))
+        return text(self.block(found))
+
+    def take(self, line):
+        found = json.loads(line)
+        self.lines.append(line)
+        if self.head is None:
+            self.head = found
+        elif len(self.variables) < self.head["vars"]:
+            if found["name"] is not None:
+                self.names[found["name"]] = ("old", len(self.variables))
+            self.variables.append(found)
+        else:
+            self.blocks.append(found)
+
+    def types(self, *more):
+        return Types([it["type"] for it in [*self.variables, *more]])
+
+    def header(self, found):
+        format, variables = number_of(found.get("format")), number_of(found.get("vars"), MOST_CELLS)
+        if 1 <= format <= 3:
+            return {"format": format, "vars": variables}
+        need(format == 4)
+        next_ticket, waiting = number_of(found.get("next"), MOST_NEXT), number_of(found.get("waiting"), MOST_WAITING)
+        need(next_ticket > 0)
+        return {"format": 4, "next": next_ticket, "vars": variables, "waiting": waiting}
+
+    def variable(self, found):
+        need("init" in found and "name" in found)
+        cell = {"init": value_of(found["init"]), "name": name_of(found["name"]), "type": type_of(found.get("type"))}
+        need(cell["name"] not in self.names)
+        if self.head["format"] != 4:
+            need(cell["name"] is not None)
+            self.types().need(cell["type"], cell["init"])
+            return cell
+        cell["count"] = number_of(found.get("count"), MOST_COUNT)
+        if cell["name"] is not None:
+            need(len(self.names) == len(self.variables))
+            need(not cell["type"].startswith("TVar") or any(to(it["type"]) == cell["type"] for it in self.variables))
+        # The values are judged with the last variable, since a reference may name one that comes later.
+        if len(self.variables) + 1 == self.head["vars"]:
+            for it in [*self.variables, cell]:
+                self.types(cell).need(it["type"], it["init"])
+        return cell
+
+    def block(self, found):
+        line = {"block": block_of(found.get("block"), self.names), "ticket": number_of(found.get("ticket"))}
+        need((self.blocks[-1]["ticket"] if self.blocks else 0) < line["ticket"] < self.head["next"])
+        if "verdict" not in found:
+            return line
+        line |= {"verdict": verdict_of(found["verdict"]), "reads": list_of(found.get("reads"), write_of), "stale": found.get("stale")}
+        need(isinstance(line["stale"], bool))
+        self.judge_delivery(line)
+        return line
+
+    def judge_delivery(self, line):
+        reads, numbers = line["reads"], [number for number, _ in line["reads"]]
+        need(numbers == sorted(set(numbers)) and all(it < len(self.variables) for it in numbers))
+        for number, value in reads:
+            self.types().need(self.variables[number]["type"], value)
+        need(reads or not line["stale"])
+        history = Reasons("".join(f"{it}\n" for it in [text({**self.head, "waiting": 0}), *self.lines[1 : 1 + len(self.variables)]]))
+        store = with_values(history.store, reads)
+        need(line["stale"] or all(is_same(one, other) for one, other in zip(store, history.store)))
+        history.wait(line)
+        verdict, found = history.waiters[line["ticket"]].on(store)
+        need([[it, history.value(value)] for it, value in found.items()] == reads and text(history.verdict(verdict)) == text(line["verdict"]))
+
+
+def judged(history):
+    """What `check --why` prints of a history: the lines of the answer, the first with `not accepted N` for `bad line N` or `not legal N`."""
+    lines, beginning = history.split("\n")[:-1], Beginning()
+    for number, line in enumerate([*lines, ""], 1):
+        if beginning.is_whole:
+            break
+        try:
+            due = beginning.due(line)
+        except Unreadable:
+            return ["bad header", f"line {number} unreadable"]
+        if due != line:
+            return ["bad header", f"line {number} expected {due}"]
+        beginning.take(line)
+    first = len(beginning.lines)
+    reasons = Reasons("".join(f"{it}\n" for it in beginning.lines))
+    for number, line in enumerate(lines[first:], first + 1):
+        explained = reasons.explained(line)
+        if explained != "expected " + line:
+            return [f"not accepted {number}", explained]
+        reasons.follow(line)
+    return [f"legal {len(lines) - first} events"]
+
+
 def main():
-    *before, last = sys.stdin.read().splitlines(keepends=True)
-    print(Reasons("".join(before)).explained(last))
+    print("\n".join(judged(sys.stdin.read())))
 
 
 if __name__ == "__main__":

@@ -14,14 +14,15 @@ VERSION_FILE = ROOT / "crates" / "stm_words" / "src" / "version.rt"
 ARGUMENTS = {  # of each command of the console
     **{"tvar": "NAME : TYPE = INIT", "try": "BLOCK", "looks": "BLOCK", "submit": "BLOCK", "take": "N", "deliver": "J"},
     **{"handback": "T", "eval": "", "finish": "T", "cancel": "T", "show": "", "reads": "T", "store": "", "settle": ""},
-    **{"history": "", "ready": "", "events": "N", "why": "T"},
+    **{"history": "", "ready": "", "events": "N", "why": "T", "checkpoint": ""},
 }
 COMMANDS = [rf"  {word} ?{argument}( .*)?" for word, argument in ARGUMENTS.items()]
 HELP = [r"Usage: stmdesk \[COMMAND\]", r"Commands:", *(rf"  {word} +.*" for word in ("run", "storm", "explore", "check", "help"))]
 HELP += [r"  -h, --help +.*", r"  -V, --version +.*"]
 EXAMPLE_IN_HELP = rf" {{4,}}(({'|'.join(ARGUMENTS)})( .*)?)"
 REFUSED_ALONE = ["NotOut", "NotEvaluated", "Stale", "Blocks", "NoTicket", "NoJob", "Already"]  # what an example may be
-HELP_OF_RUN = [r"Usage: stmdesk run .*", r" +--workers .*", r" +--levels .*", r" +--max-events .*", r" +--journal .*", r" +--sync .*", *COMMANDS]
+HELP_OF_RUN = [r"Usage: stmdesk run .*", r" +--workers .*", r" +--levels .*", r" +--max-events .*", r" +--journal .*", r" +--sync .*"]
+HELP_OF_RUN += [r" +--checkpoint-every .*", *COMMANDS]
 HELP_OF_STORM = [r"Usage: stmdesk storm .*", r" +--workers .*", r" +--levels .*", r" +--max-events .*"]
 HELP_OF_STORM += [rf"  {word}( .*)?" for word in ("tvar NAME", "client", "submit BLOCK", "finish K", "cancel K", "expect NAME VALUE")]
 HELP_OF_EXPLORE = [r"Usage: stmdesk explore .*", r" +--max-states .*", r" +--history .*", r" +--all .*", r"  always BLOCK .*", r"  never BLOCK .*"]
@@ -68,8 +69,11 @@ REFUSED = [
     *(["run", *rest] for rest in (["--sync"], ["--sync", "full"], ["--sync=none"], ["--journal", "a", "--sync"], ["--", "--journal", "a"])),
     *(["run", "--journal", "a", "--sync", mode] for mode in ("", "Full", "full ", "never", "0")),
     *(["run", "--journal", "a", "--sync", mode, "--sync", mode] for mode in ("full", "append", "none")),
-    *([*word, *rest] for word in ([], ["storm"], ["explore"], ["check"]) for rest in (["--journal", "a"], ["--journal=a"], ["--sync", "full"])),
-    *(["storm", *rest] for rest in (["--journal", "a", "--sync", "full"], ["--sync"], ["--journal"])),
+    *([*word, *rest] for word in ([], ["storm"], ["explore"], ["check"]) for rest in (["--journal", "a"], ["--journal=a"], ["--sync", "full"], ["--checkpoint-every", "9"])),
+    *(["storm", *rest] for rest in (["--journal", "a", "--sync", "full"], ["--sync"], ["--journal"], ["--checkpoint-every"])),
+    *(["run", *rest] for rest in (["--checkpoint-every", "9"], ["--checkpoint-every=9"], ["--journal", "a", "--checkpoint-every"])),
+    *(["run", "--journal", "a", "--checkpoint-every", number] for number in ("0", "1048577", *NO_NUMBERS)),
+    ["run", "--journal", "a", "--checkpoint-every", "9", "--checkpoint-every", "9"],
 ]
 ACCEPTED = [  # behind a command that takes the options
     *([option, str(number)] for option, ends in OPTIONS.items() for number in ends),

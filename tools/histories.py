@@ -51,27 +51,43 @@ def objects(lines: Iterable[bytes]) -> Iterator[tuple[int, Object]]:
 
 @dataclass
 class Head:
-    """What comes before the events: the format, and the lines of the declared variables."""
+    """What comes before the events: the format, the lines of the variables, and in format 4 those of the blocks that wait already. In
+    the other formats all variables are declared ones."""
 
     format: int
     variables: list[Object]
+    waiting: list[Object] = field(default_factory=list)
+
+    @property
+    def declared(self) -> list[Object]:
+        return [it for it in self.variables if it["name"] is not None]
 
     @property
     def names(self) -> list[str]:
-        return [clean(it["name"]) for it in self.variables]
+        return [clean(it["name"]) for it in self.declared]
+
+    @property
+    def lines(self) -> int:
+        return 1 + len(self.variables) + len(self.waiting)
 
 
 def head(found: Iterator[tuple[int, Object]]) -> Head:
-    """Takes the header and the lines of the variables."""
+    """Takes the header, the lines of the variables, and those of the blocks that wait already."""
     nothing: tuple[int, Object] = (0, {})
     _, header = next(found, nothing)
-    if header.get("format") not in (1, 2, 3) or not isinstance(header.get("vars"), int):
-        raise NotDrawn(f"this is no history of format 1, 2 or 3; {JUDGE}")
-    lines = itertools.islice(found, min(max(header["vars"], 0), sys.maxsize))
-    variables = [line for _, line in lines if "name" in line]
-    if len(variables) < header["vars"]:
-        raise NotDrawn(f"the lines of its {header['vars']} variables are not whole; {JUDGE}")
-    return Head(header["format"], variables)
+    is_head = header.get("format") in (1, 2, 3, 4) and isinstance(header.get("vars"), int)
+    if not is_head or (header["format"] == 4 and not isinstance(header.get("waiting"), int)):
+        raise NotDrawn(f"this is no history of format 1 to 4; {JUDGE}")
+    variables = taken(found, header["vars"], "name", "variables")
+    return Head(header["format"], variables, taken(found, header["waiting"] if header["format"] == 4 else 0, "ticket", "waiting blocks"))
+
+
+def taken(found: Iterator[tuple[int, Object]], count: int, key: str, what: str) -> list[Object]:
+    """The next lines, each of which has a key."""
+    lines = [line for _, line in itertools.islice(found, min(max(count, 0), sys.maxsize)) if key in line]
+    if len(lines) < count:
+        raise NotDrawn(f"the lines of its {count} {what} are not whole; {JUDGE}")
+    return lines
 
 
 @dataclass
@@ -98,12 +114,18 @@ class Replay:
     """Follows the store over the events, and what each waiting block has read."""
 
     def __init__(self, found: Head) -> None:
-        self.is_by_value = found.format == 3
+        self.is_by_value = found.format >= 3
         self.cells = [self.value(it.get("init"), 0) for it in found.variables]
-        self.declared = {str(it["name"]): ("old", at) for at, it in enumerate(found.variables)}
+        self.declared = {str(it["name"]): ("old", at) for at, it in enumerate(found.declared)}
         self.actions: dict[str, blocks.Action | None] = {}
         self.texts: dict[int, str] = {}
         self.reads: dict[int, frozenset[int] | None] = {}
+        try:
+            for it in found.waiting:
+                self.texts[int(it["ticket"])] = str(it["block"])
+                self.reads[int(it["ticket"])] = frozenset(int(variable) for variable, _ in it["reads"]) if "reads" in it else None
+        except NOT_AN_EVENT:
+            raise NotDrawn(f"the lines of its waiting blocks can't be read; {JUDGE}") from None
 
     @staticmethod
     def value(value: Any, first_new: int | None) -> blocks.Value:

@@ -39,7 +39,7 @@ import job_engine
 import stmdesk
 from stmdesk import (
     BadAnswer, Blocks, Cancellation, Cell, Change, ClientAt, Commits, Current, Delivery, Desk, Ended, FinalCell, Finish, Finished,
-    FinishedThrows, Job, JournalError, New, NewRef, Ready, Ref, Refused, ScriptRefused, Settled, Stale, StaleBy, Stopped,
+    FinishedThrows, Job, JournalError, New, NewRef, Ready, Ref, Refused, ScriptRefused, Settled, Stale, StaleBefore, StaleBy, Stopped,
     Submission, Throws, Waits, _commands, _hints, _program, aio, check, explore, find_program,
 )  # fmt: skip
 
@@ -327,6 +327,23 @@ class Histories(OnProgram):
         self.assertEqual(desk.events().text, text)
         self.assertTrue(text.endswith(new.text))
         self.assert_is(desk.try_("return 3"), Commits({}, [], 3))  # nothing of an answer is left
+
+    def test_checkpoint(self):
+        with Desk(program, max_events=5) as desk:
+            x = desk.tvar("x : Int = 1")
+            reader, writer = desk.submit("readTVar x"), desk.submit("writeTVar x 5")
+            self.assert_is((desk.eval(), desk.finish(writer).stale), (2, [reader]))
+            self.assert_is(desk.why(reader), StaleBy(reader, writer, {x: Change(1, 5)}))
+            self.assert_refused(lambda: desk.cancel(reader), "HistoryFull")
+            shown, store = desk.show(), desk.store()
+            self.assert_is((desk.checkpoint(), desk.checkpoint()), (5, 0))
+            self.assert_is((desk.show(), desk.store(), desk.events()), (shown, store, []))
+            self.assert_is(desk.why(reader), StaleBefore(reader))
+            self.assertTrue(desk.history().startswith('{"format":4,"next":3,"vars":1,"waiting":1}\n'))
+            with desk.batch() as batch:
+                evaluated, finished, count = batch.eval(), batch.finish(reader), batch.checkpoint()
+            self.assert_is((evaluated.result(), finished.result(), count.result()), (1, Finished(reader, 5, []), 2))
+            self.assert_is(desk.submit("retry"), 3)
 
     def test_events_as_a_journal(self):
         desk = self.start()
@@ -2404,7 +2421,7 @@ class Journals(OnProgram):
             ("{}\n", "bad header"),
             ("a letter\n", "bad header"),
             ('{"format":3,"va', "bad header"),
-            (header.replace("3", "2"), "format 2; a journal has format 3"),
+            (header.replace("3", "2"), "format 2; a journal has format 3 or 4"),
             (header + "x" * ((1 << 20) + 1), "more than 1048576 bytes after the last whole line"),
         ):
             self.write(text)
@@ -2427,7 +2444,31 @@ class Journals(OnProgram):
         with self.open(max_events=3) as desk:
             self.assert_is(desk.submit("retry"), 3)
 
+    def test_checkpoints(self):
+        with self.open(checkpoint_every=10, max_events=20) as desk:
+            desk.tvar("x : Int = 0")
+            for number in range(50):
+                self.assert_is(desk.atomically("do { a <- readTVar x; writeTVar x (a + 1); return a }"), number)
+            waiting = desk.submit("do { a <- readTVar x; if a < 51 then retry else return a }")
+            self.assertLess(desk.events().next, 14)
+        self.assertTrue(self.path.read_text().startswith('{"format":4,"next":5'))
+        self.assertTrue(check(self.path, program=program))
+        with self.open(checkpoint_every=1) as desk:
+            self.assertTrue(desk.is_resumed)
+            self.assert_is(desk.variable("x : Int = 0"), Ref(0, "x"))
+            self.assert_is((desk.value("x"), desk.show()), (50, [New(waiting)]))
+            desk.atomically("writeTVar x 51")
+            self.assert_is((desk.eval(), desk.finish(waiting).result, desk.events()), (1, 51, []))
+        self.assertEqual(sorted(self.path.parent.iterdir()), [self.path])
+
     def test_wrong_arguments(self):
+        with self.assertRaises(ValueError):
+            Desk(program, checkpoint_every=10)
+        with self.assertRaises(TypeError):
+            Desk(program, journal=self.path, checkpoint_every="10")
+        with self.assertRaises(Ended) as caught:
+            Desk(program, journal=self.path, checkpoint_every=0)
+        self.assertEqual((caught.exception.status, type(caught.exception)), (2, Ended))
         for options in ({"sync": "full"}, {"sync": "always", "journal": self.path}, {"sync": "", "journal": self.path}):
             with self.assertRaises(ValueError):
                 Desk(program, **options)

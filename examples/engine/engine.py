@@ -200,7 +200,7 @@ class Engine:
         return f"failed, {self.notes.errors[job.slot]} after {tries} tries" if tries else "left out after 0 tries"
 
     def runs(self) -> dict[int, list[tuple[int, int]]]:
-        """When the tries of each job ran: from which event of the desk's history to which."""
+        """When the tries of each job ran since the desk's last checkpoint: from which event to which."""
         found: dict[int, list[tuple[int, int]]] = {slot: [] for slot in self.notes.jobs}
         begun: dict[int, int] = {}
         for event in self.desk.events():

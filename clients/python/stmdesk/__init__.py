@@ -17,7 +17,7 @@ feed in a block is a blank.
 
 `Desk.atomically` runs a block and waits while it retries; `Desk.batch` gives many commands in one go; `Desk.ready` says which
 tickets can be finished, `Desk.why` what one waits for, and `Desk.events` what has happened since; `Desk(journal=PATH)` keeps
-the history in a file, and goes on from there at the next start; `stmdesk.aio` is the same for asyncio. `explore` needs no desk:
+the history in a file, and goes on from there at the next start; `Desk.checkpoint` lets the events so far go; `stmdesk.aio` is the same for asyncio. `explore` needs no desk:
 it tries every order of the steps of a script's clients; and `check` judges a history in a file.
 
 A call raises `Refused` if the program refuses the command; `Stopped`, which is a `Refused`, if a `settle` stopped; `Ended` if
@@ -36,17 +36,17 @@ from ._explore import ClientAt, ClientState, Exploration, Outcome, explore
 from ._program import find_program
 from ._values import (
     Blocks, Cancellation, Cell, Change, Commits, Current, Delivery, Event, Events, Fault, FinalCell, FinalStore, Finish,
-    Finished, FinishedThrows, Job, New, NewRef, Ready, Reason, Ref, Settled, Stale, StaleBy, Status, Store, Submission, Throws,
-    Value, Verdict, Waits,
+    Finished, FinishedThrows, Job, New, NewRef, Ready, Reason, Ref, Settled, Stale, StaleBefore, StaleBy, Status, Store, Submission,
+    Throws, Value, Verdict, Waits,
 )  # fmt: skip
 
-__version__ = "0.6.0"
+__version__ = "0.7.0"
 
 __all__ = [
     "Answer", "BadAnswer", "Batch", "Blocks", "Cancellation", "Cancelled", "Cell", "Change", "Checked", "ClientAt", "ClientState", "Commits",
     "Current", "Delivery", "Desk", "DeskError", "Ended", "Event", "Events", "Exploration", "Fault", "FinalCell", "FinalStore", "Finding",
     "Finish", "Finished", "FinishedThrows", "Job", "JournalError", "New", "NewRef", "Outcome", "Ready", "Reason", "Ref",
-    "Refused", "ScriptRefused", "Settled", "Stale", "StaleBy", "Status", "Stopped", "Store", "Submission", "Thrown", "Throws",
+    "Refused", "ScriptRefused", "Settled", "Stale", "StaleBefore", "StaleBy", "Status", "Stopped", "Store", "Submission", "Thrown", "Throws",
     "TimedOut", "Value", "Verdict", "Waits", "check", "explore", "find_program", "or_else",
 ]  # fmt: skip
 

@@ -11,7 +11,7 @@ from ._errors import Refused, Stopped
 from ._hints import JOURNAL, hint
 from ._values import (
     Blocks, Cancellation, Cell, Change, Commits, Current, Delivery, Event, Events, Fault, FinalCell, FinalStore, Finish,
-    Finished, FinishedThrows, Job, New, NewRef, Ready, Reason, Ref, Settled, Stale, StaleBy, Status, Store, Submission, Throws,
+    Finished, FinishedThrows, Job, New, NewRef, Ready, Reason, Ref, Settled, Stale, StaleBefore, StaleBy, Status, Store, Submission, Throws,
     Value, Verdict, Waits,
 )  # fmt: skip
 
@@ -136,9 +136,11 @@ class Answers:
         return found
 
     def reason(self, words: Sequence[str]) -> Reason:
-        """`why 1 new`, `why 1 stale 3 #0=1->5`, `why 1 waits #0=1` or `why 1 ready`"""
+        """`why 1 new`, `why 1 stale 3 #0=1->5`, `why 1 stale checkpoint`, `why 1 waits #0=1` or `why 1 ready`"""
         ticket, state = int(words[1]), words[2]
         if state == "stale":
+            if words[3:] == ["checkpoint"]:
+                return StaleBefore(ticket)
             return StaleBy(ticket, int(words[3]), self.changes(words[4:]))
         if state == "waits":
             return Waits(ticket, self.pairs(words[3:]))
@@ -183,7 +185,7 @@ class Answers:
         return FinalStore(self.final_cell(line) for line in counted(lines))
 
     def second(self, words: Sequence[str]) -> int:
-        """The number after the first word, as in `ticket 1`"""
+        """The number after the first word, as in `ticket 1` and `checkpoint 12`"""
         return int(words[1])
 
     def nothing(self, words: Sequence[str]) -> None:

@@ -7,7 +7,7 @@ from types import TracebackType
 from typing import Any, TypeVar
 
 from ._commands import (
-    CANCEL, DELIVER, EVAL, EVENTS, FINISH, HANDBACK, HISTORY, LOOKS, READS, READY, SETTLE, SHOW, STORE, SUBMIT, TAKE, TRY, TVAR,
+    CANCEL, CHECKPOINT, DELIVER, EVAL, EVENTS, FINISH, HANDBACK, HISTORY, LOOKS, READS, READY, SETTLE, SHOW, STORE, SUBMIT, TAKE, TRY, TVAR,
     WHY, Answer, Command, decimal, number_of,
 )  # fmt: skip
 from ._values import Events, Finished, FinishedThrows, Job, Reason, Ref, Settled, Status, Store, Value, Verdict
@@ -118,6 +118,10 @@ class Commands:
     def events(self, since: int = 1) -> Answer[Events]:
         """`Desk.events`, when the batch is sent."""
         return self._add(EVENTS, decimal(since))
+
+    def checkpoint(self) -> Answer[int]:
+        """`Desk.checkpoint`, when the batch is sent."""
+        return self._add(CHECKPOINT)
 
 
 class Batch(Commands):

@@ -132,7 +132,7 @@ def _history_lines(process: Process, first: str) -> list[str]:
     """Takes the lines up to the first that begins with no brace."""
     lines = [first]
     while lines[-1].startswith("{"):
-        if len(lines) > CELLS_LIMIT + EVENTS_LIMIT + 1:
+        if len(lines) > CELLS_LIMIT + WAITING_LIMIT + EVENTS_LIMIT + 1:
             raise Odd("\n".join(lines[-3:]))
         lines.append(process.line())
     return lines
@@ -152,6 +152,7 @@ READS: Command[dict[Ref, Value]] = Command("reads", Answers.reads, "reads")
 READY: Command[list[int]] = Command("ready", Answers.tickets, "ready")
 WHY: Command[Reason] = Command("why", Answers.reason, "why")
 SETTLE: Command[Settled] = Command("settle", Answers.settled)
+CHECKPOINT: Command[int] = Command("checkpoint", Answers.second, "checkpoint")
 SHOW: Command[list[Status]] = Command(
     "show", Answers.statuses, take=_lines_to("waiting ", tuple("123456789"), lambda: WAITING_LIMIT)
 )

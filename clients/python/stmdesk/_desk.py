@@ -14,7 +14,7 @@ from typing import Any, Literal, TypeVar, get_args
 from ._answers import Answers
 from ._batch import Batch
 from ._commands import (
-    CANCEL, DELIVER, EVAL, EVENTS, FINISH, HANDBACK, HISTORY, LOOKS, READS, READY, SETTLE, SHOW, STORE, SUBMIT, TAKE, TRY, TVAR,
+    CANCEL, CHECKPOINT, DELIVER, EVAL, EVENTS, FINISH, HANDBACK, HISTORY, LOOKS, READS, READY, SETTLE, SHOW, STORE, SUBMIT, TAKE, TRY, TVAR,
     WHY, Answer, Command, decimal, number_of,
 )  # fmt: skip
 from ._errors import BadAnswer, Cancelled, Refused, TimedOut
@@ -54,6 +54,7 @@ class Desk:
         *,
         journal: str | os.PathLike[str] | None = None,
         sync: Sync | None = None,
+        checkpoint_every: int | None = None,
         workers: int | None = None,
         levels: int | None = None,
         max_events: int | None = None,
@@ -62,7 +63,8 @@ class Desk:
         """Starts `program run`, with the options that are given: `stmdesk run --help` has what they mean.
 
         With a `journal`, a path, the desk's history is kept in this file, as `sync` says, and the desk goes on from the history
-        that the file has (docs/JOURNAL.md). Then this returns when the file is opened, and raises `JournalError` if it isn't.
+        that the file has (docs/JOURNAL.md). Then this returns when the file is opened, and raises `JournalError` if it isn't. When the
+        history has `checkpoint_every` events, 500,000 if that isn't given, it begins again from where the desk is, as by `checkpoint`.
 
         Without `program` it runs what `find_program` returns. After the program's input has ended, the program is killed if
         it takes more than `patience` seconds to end. Raises OSError, FileNotFoundError for example, if the program can't be
@@ -74,7 +76,9 @@ class Desk:
         """
         if sync is not None and (journal is None or sync not in get_args(Sync)):
             raise ValueError(f"sync={sync!r} goes with a journal, and is one of {', '.join(get_args(Sync))}")
-        given = {"--workers": workers, "--levels": levels, "--max-events": max_events}
+        if checkpoint_every is not None and journal is None:
+            raise ValueError(f"checkpoint_every={checkpoint_every!r} goes with a journal")
+        given = {"--workers": workers, "--levels": levels, "--max-events": max_events, "--checkpoint-every": checkpoint_every}
         options = [word for name, value in given.items() if value is not None for word in (name, decimal(value))]
         if journal is not None:
             options.append(f"--journal={os.fspath(journal)}")
@@ -226,8 +230,8 @@ class Desk:
         return self._ask(READS, decimal(ticket))
 
     def why(self, ticket: int) -> Reason:
-        """What a waiting ticket waits for: an evaluation, since it is `New` or `StaleBy` a finish; a change of what it has read,
-        since it `Waits`; or nothing but its finish, since it is `Ready`.
+        """What a waiting ticket waits for: an evaluation, since it is `New` or `StaleBy` a finish (`StaleBefore` if that came before
+        a checkpoint); a change of what it has read, since it `Waits`; or nothing but its finish, since it is `Ready`.
 
         >>> reader, writer = desk.submit("do { a <- readTVar x; if a < 5 then retry else return a }"), desk.submit("writeTVar x 3")
         >>> desk.why(reader), desk.eval(), desk.why(reader)
@@ -259,7 +263,8 @@ class Desk:
         return self._ask(SETTLE)
 
     def history(self) -> str:
-        """The text of all events so far, byte for byte, as docs/HISTORY.md says: what `stmdesk check` judges.
+        """The text of all events so far, or of those since the last checkpoint, byte for byte, as docs/HISTORY.md says: what
+        `stmdesk check` judges.
 
         >>> ticket = desk.submit("retry")
         >>> print(desk.history(), end="")
@@ -270,7 +275,8 @@ class Desk:
         return self._ask(HISTORY)
 
     def events(self, since: int = 1) -> Events:
-        """The events so far from the one of this number on, counted from 1: a list, with the number `next` from which to go on.
+        """The events so far from the one of this number on, counted from 1: a list, with the number `next` from which to go on. After
+        a checkpoint they are counted from 1 again, and `next` may be less than `since`: read `store` and `show` then, and go on.
 
         >>> ticket = desk.submit("retry")
         >>> events = desk.events()
@@ -281,6 +287,22 @@ class Desk:
         [Cancellation(number=2, client=0, ticket=1)]
         """
         return self._ask(EVENTS, decimal(since))
+
+    def checkpoint(self) -> int:
+        """Lets the events so far go, and returns how many there were: the history begins again from where the desk is. No other answer
+        differs but what `history` and `events` return, and `why` of a block that is stale already; and the history has room again.
+
+        With a journal this is done by itself when the history has `checkpoint_every` events, and the file becomes short.
+
+        >>> ticket = desk.submit("retry")
+        >>> desk.checkpoint(), desk.checkpoint(), desk.show()
+        (1, 0, [New(ticket=1)])
+        >>> print(desk.history(), end="")
+        {"format":4,"next":2,"vars":1,"waiting":1}
+        {"count":0,"init":1,"name":"x","type":"Int"}
+        {"block":"retry","ticket":1}
+        """
+        return self._ask(CHECKPOINT)
 
     # What a command doesn't do by itself.
 

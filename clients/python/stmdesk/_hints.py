@@ -76,7 +76,7 @@ _NAMES = {
     "CellsFull": "the store has its 1,000,000 variables: this desk can make no more",
     "EndOfText": "the text ends too early",
     "Gone": "its ticket waits no more",
-    "HistoryFull": "the history has all the events that it may have: start a new desk",
+    "HistoryFull": "the history has all the events that it may have: `checkpoint` lets them go",
     "JobsFull": "a desk hands out at most 65,536 jobs: use `eval`, which needs none",
     "Late": "declare all variables before the first other command",
     "LineTooLong": "a command has at most 65,536 bytes",
@@ -89,6 +89,7 @@ _NAMES = {
     "NotOut": "only a ticket that `take` handed out can be handed back",
     "Stale": "a variable that the block read has changed: call `eval` first",
     "TableFull": "a desk has at most 1,000,000 variables",
+    "TicketsFull": "the numbers of tickets run out: start a new desk",
     "TooDeep": "at most 64 of `do`, `if`, `orElse`, `catch` and `(` can be open at once: nest `orElse` as a balanced tree",
     "TooLarge": "a block has at most 4,096 tokens",
     "Twice": "a variable of this name is declared already",
@@ -127,7 +128,7 @@ def hint(
         return _NAMES[name] if at is None else f"{text[at]!r} at {at} isn't ASCII"
     if name == "BadByte" and place is not None:
         return _bad_byte(text, place)
-    if name == "Argument" and command in ("eval", "show", "ready", "store", "settle", "history"):
+    if name == "Argument" and command in ("eval", "show", "ready", "store", "settle", "history", "checkpoint"):
         return f"`{command}` takes no argument"
     found = None
     if command in ("tvar", "try", "looks", "submit"):

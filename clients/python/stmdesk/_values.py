@@ -196,7 +196,21 @@ class StaleBy:
     changes: dict[Ref, Change]
 
 
-Reason = New | StaleBy | Waits | Ready
+@dataclass(frozen=True)
+class StaleBefore:
+    """A stale block that was stale already at the last checkpoint. The finish that made it so isn't in the history any more.
+
+    >>> reader, writer = desk.submit("readTVar x"), desk.submit("writeTVar x 5")
+    >>> desk.eval(), desk.finish(writer).stale, desk.checkpoint()
+    (2, [1], 5)
+    >>> desk.why(reader)
+    StaleBefore(ticket=1)
+    """
+
+    ticket: int
+
+
+Reason = New | StaleBy | StaleBefore | Waits | Ready
 
 
 @dataclass(frozen=True)

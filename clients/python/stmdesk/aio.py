@@ -72,6 +72,7 @@ class Desk:
         *,
         journal: str | os.PathLike[str] | None = None,
         sync: _desk.Sync | None = None,
+        checkpoint_every: int | None = None,
         workers: int | None = None,
         levels: int | None = None,
         max_events: int | None = None,
@@ -84,7 +85,14 @@ class Desk:
         >>> run(other.close())
         """
         self._desk = _Desk(
-            program, journal=journal, sync=sync, workers=workers, levels=levels, max_events=max_events, patience=patience
+            program,
+            journal=journal,
+            sync=sync,
+            checkpoint_every=checkpoint_every,
+            workers=workers,
+            levels=levels,
+            max_events=max_events,
+            patience=patience,
         )
 
     async def tvar(self, declaration: str) -> Ref:
@@ -245,6 +253,14 @@ class Desk:
         [Submission(number=1, client=0, ticket=1, block='retry')]
         """
         return await self._call(partial(self._desk.events, since))
+
+    async def checkpoint(self) -> int:
+        """Lets the events so far go: the history begins again from where the desk is. Returns how many there were.
+
+        >>> run(desk.checkpoint())
+        0
+        """
+        return await self._call(self._desk.checkpoint)
 
     async def value(self, variable: str | Ref) -> Value:
         """The value of a variable of the present store.

@@ -9,7 +9,8 @@ use std::alloc::AllocError;
 use std::fmt::Write;
 use stm_check::SharedBlock;
 use stm_desk::{
-    CancelError, Desk, Finish, FinishError, SettleStop, SettleWhy, Settled, SubmitError,
+    CancelError, CheckpointError, Desk, Finish, FinishError, SettleStop, SettleWhy, Settled,
+    SubmitError,
 };
 use stm_terms::verdicts::Verdict;
 use stm_terms::{write_value, write_verdict};
@@ -120,5 +121,14 @@ pub fn settle(
     match desk.settle(client) {
         Ok(done) => say_settled(settled, done, "", out),
         Err(stop) => say_stop(settled, stop, out),
+    }
+}
+
+/// Makes a checkpoint, and answers with how many events the history had.
+pub fn checkpoint(desk: &mut Desk, out: &mut String) -> Result<(), AllocError> {
+    match desk.checkpoint() {
+        Ok(events) => writeln!(out, "checkpoint {events}"),
+        Err(CheckpointError::NoMemory) => Err(AllocError),
+        Err(refusal) => writeln!(out, "refused {refusal:?}"),
     }
 }

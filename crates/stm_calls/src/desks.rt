@@ -60,6 +60,11 @@ impl Desks {
         self.desk.as_ref()
     }
 
+    /// Another desk, in place of the one that was there.
+    pub fn replace(&mut self, desk: Desk) {
+        self.desk = Some(desk);
+    }
+
     /// What was handed out.
     pub fn work_mut(&mut self) -> &mut Work {
         &mut self.work
@@ -118,6 +123,7 @@ fn answer_change(
         "finish" => desk_calls::finish(desk, client, number(rest), out),
         "cancel" => desk_calls::cancel(desk, client, number(rest), out),
         "settle" => desk_calls::settle(desk, settled, client, out),
+        "checkpoint" => desk_calls::checkpoint(desk, out),
         "hand_back" => say_whether(desk.hand_back(number(rest)), out),
         _ => desk_show::answer(desk, call, number(rest), out),
     }

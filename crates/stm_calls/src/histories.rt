@@ -1,13 +1,16 @@
-//! The history of the desk as text: written, checked and replayed.
+//! The history of the desk as text: written, checked and replayed, and a desk that goes on from it.
 
 use crate::desks::Desks;
-use crate::words::say;
+use crate::words::{first_word, number, say};
 use std::alloc::{AllocError, Global};
 use std::fmt::Write as Formatted;
 use std::io;
 use std::io::{ErrorKind, Write};
 use stm_desk::Desk;
-use stm_history::{HistoryFault, Legal, WriteFault, check_history, replay, write_history};
+use stm_history::{
+    HistoryFault, Legal, LoadFault, WriteFault, check_history, load_history, replay, write_history,
+};
+use stm_store::Seed;
 
 /// Bytes that were written.
 #[derive(Drop)]
@@ -79,7 +82,13 @@ fn write(
     out: &mut String,
 ) -> Result<(), AllocError> {
     let mut written = Gathered::new(alloc);
-    match write_history(alloc, &mut written, desk.table(), desk.history()) {
+    match write_history(
+        alloc,
+        &mut written,
+        desk.table(),
+        desk.begins_from(),
+        desk.history(),
+    ) {
         Ok(()) => {}
         Err(WriteFault::Write) | Err(WriteFault::NoMemory) => return Err(AllocError),
     }
@@ -87,19 +96,59 @@ fn write(
     say("done", out)
 }
 
+/// Judges the events of a desk, if they begin with the first values of the variables.
+fn say_replay_of(desk: &Desk, alloc: Global, out: &mut String) -> Result<(), AllocError> {
+    match desk.begins_from() {
+        None => say_replay(desk, alloc, out),
+        Some(_) => say("refused a checkpoint", out),
+    }
+}
+
+/// The desk that goes on from what was written, in place of the one that was there.
+fn resume(
+    gathered: &Gathered,
+    desks: &mut Desks,
+    alloc: Global,
+    limit: u32,
+    out: &mut String,
+) -> Result<(), AllocError> {
+    if limit > Desk::MAX_EVENTS {
+        return say("refused too many events", out);
+    }
+    let mut reader = gathered.bytes.as_slice();
+    match load_history(alloc, Seed::fixed(), &mut reader) {
+        Ok(loaded) => {
+            let (table, checkpoint, events, machine) = loaded.into_parts();
+            match Desk::resume(table, checkpoint, events, machine, limit) {
+                Ok(desk) => {
+                    desks.replace(desk);
+                    say("done", out)
+                }
+                Err(refusal) => writeln!(out, "refused {refusal:?}"),
+            }
+        }
+        Err(LoadFault::Fault(HistoryFault::NoMemory)) => Err(AllocError),
+        Err(fault) => writeln!(out, "refused {fault:?}"),
+    }
+}
+
 /// Makes a call on histories.
 pub fn answer(
     gathered: &mut Gathered,
-    desks: &Desks,
+    desks: &mut Desks,
     alloc: Global,
-    call: &str,
+    text: &str,
     out: &mut String,
 ) -> Result<(), AllocError> {
+    let (call, rest) = first_word(text);
+    if call == "resume" {
+        return resume(gathered, desks, alloc, number(rest), out);
+    }
     match (call, desks.desk()) {
         ("show", _) => show(gathered, out),
         ("check", _) => judge(gathered, alloc, out),
         ("write", Some(desk)) => write(gathered, desk, alloc, out),
-        ("replay", Some(desk)) => say_replay(desk, alloc, out),
+        ("replay", Some(desk)) => say_replay_of(desk, alloc, out),
         (_, None) => say("refused no desk", out),
         _ => say("no such call", out),
     }

@@ -112,7 +112,9 @@ fn answer_part(
         "table" => tables::answer(&mut objects.table, alloc, call, out),
         "store" => store::answer(&mut objects.store, &objects.table, alloc, call, out),
         "desk" => desks::answer(&mut objects.desks, &objects.table, alloc, call, out),
-        "history" => histories::answer(&mut objects.gathered, &objects.desks, alloc, call, out),
+        "history" => {
+            histories::answer(&mut objects.gathered, &mut objects.desks, alloc, call, out)
+        }
         "checkpoint" => {
             let store = objects.store.as_ref();
             checkpoints::answer(

@@ -12,19 +12,18 @@ use Rattle.stm_check.specs.TypedBlock.{Block}
 use Rattle.stm_eval.specs.declared.job.Job.{Job}
 use Rattle.stm_eval.specs.declared.message.Evaluated.{Evaluated}
 use Rattle.stm_eval.specs.EvaluatedFields.{message_ticket, message_block, message_reads, message_verdict}
-use Rattle.stm_events.specs.declared.staleness.StalenessRule.TheVariants.{Changed}
 use Rattle.stm_events.specs.declared.errors.DeliverError.{DeliverError}
-use Rattle.stm_events.specs.declared.event.Event.{Event}
 use Rattle.stm_events.specs.declared.event.What.TheVariants.{Installed}
 use Rattle.stm_queue.specs.Queue.{Entry}
 use Rattle.stm_store.specs.Cells.{plains}
 use Rattle.stm_machine.specs.JobsHandedOut.{AreJobs, AreJobsCovered, sent}
-use Rattle.stm_events.specs.Laws.{BlocksStay}
 use Rattle.stm_events.specs.declared.errors.DeliverError.TheVariants.{Gone, NoMemory}
 use Rattle.stm_events.specs.Refusals.{install_first, DeliveryRefusedAt}
-use Rattle.stm_events.specs.SlowDesk.{Waiter, IsLegal, state, find_waiter}
+use Rattle.stm_events.specs.SlowDesk.{Waiter, find_waiter}
+use Rattle.stm_events.specs.States.{IsPossible, IsLegalFrom}
+use Rattle.stm_machine.specs.Checkpoints.{MayStart}
 use Rattle.stm_desk.specs.Refusals.{RefusesDelivery, requeued_if_overtaken}
-use Rattle.stm_desk.specs.DeskView.{DeskView, state_of, is_full, with_event}
+use Rattle.stm_desk.specs.DeskView.{DeskView, start_state, state_of, is_full, with_event}
 use Rattle.stm_commands.specs.declared.evaluation.Progress.{Progress}
 use Rattle.stm_commands.specs.Evaluation.{DeliveredSoFar, delivered_all, all_queued, evaluated}
 use Rattle.stm_commands.specs.Jobs.{jobs_of, job_at, delivery_first, delivery_refusal, installed, delivery_step, deliver_job_step}
@@ -33,15 +32,8 @@ use Rattle.stm_commands.specs.OpenInvariant.{handed_out, JobStands, JobsStand, H
 use Rattle.stm_commands.proofs.Growing.{now_next, grown_next, given_are, given_stand, queued_stand}
 
 -- the block that waits is the job's
-same_block : (o : Option Waiter) (b : Block) → option_map (λ w. w.block) o ≡ Some b → (v : Waiter) × (o ≡ Some v) × (v.block ≡ b)
-same_block (Some v) b e = let p : v.block ≡ b = cc in (v, refl, p)
-same_block None b e = absurd cc
-
-stays : BlocksStay → (d : DeskView) (cells : List (Ty × Value)) (j : Job) → IsLegal d.table d.history → JobStands d (handed_out cells j) → (w : Waiter) → find_waiter j.ticket (state_of d).waiters ≡ Some w → w.block ≡ j.block
-stays law d cells j legal s w e =
-    let v = same_block (find_waiter j.ticket (state d.table s.before).waiters) j.block s.waited in
-    law Changed d.table s.before s.more j.ticket v.0 w (subst (λ (h : List Event). IsLegal d.table h) s.history legal) v.1
-    (subst (λ (h : List Event). find_waiter j.ticket (state d.table h).waiters ≡ Some w) s.history e) ∙ v.2
+stays : (d : DeskView) (cells : List (Ty × Value)) (j : Job) → JobStands d (handed_out cells j) → (w : Waiter) → find_waiter j.ticket (state_of d).waiters ≡ Some w → w.block ≡ j.block
+stays d cells j s w e = s.ticket.waits w e
 
 reason_is : (o r : Option DeliverError) → r ≢ Some NoMemory → RefusedAs NoMemory o (delivery_result r) → r ≡ o
 reason_is None None n h = refl
@@ -55,11 +47,11 @@ first_reason d j (Some w) r reads same n h = reason_is (install_first (state_of 
 first_reason d j None r reads same n h = reason_is (Some Gone) r n h
 
 -- the first reason against the message is the job's
-pub reason_of_job : BlocksStay → (d : DeskView) (cells : List (Ty × Value)) (j : Job) (m : Evaluated) (r : Option DeliverError) → IsLegal d.table d.history → JobStands d (handed_out cells j)
+pub reason_of_job : (d : DeskView) (cells : List (Ty × Value)) (j : Job) (m : Evaluated) (r : Option DeliverError) → JobStands d (handed_out cells j)
     → message_ticket m ≡ j.ticket → message_block m ≡ j.block → message_reads m ≡ reads_of (cell_value cells) j.block.tree
     → IsRefusedFor d m r → r ≡ delivery_refusal d (handed_out cells j)
-reason_of_job law d cells j m r legal s t b rs refused =
-    first_reason d j (find_waiter j.ticket (state_of d).waiters) r (reads_of (cell_value cells) j.block.tree) (stays law d cells j legal s) refused.1
+reason_of_job d cells j m r s t b rs refused =
+    first_reason d j (find_waiter j.ticket (state_of d).waiters) r (reads_of (cell_value cells) j.block.tree) (stays d cells j s) refused.1
     (subst (λ (x : List (ℕ × Value)). DeliveryRefusedAt (state_of d).store (is_full d) (find_waiter j.ticket (state_of d).waiters) j.block x (delivery_result r)) rs
     (subst (λ (x : Block). DeliveryRefusedAt (state_of d).store (is_full d) (find_waiter j.ticket (state_of d).waiters) x (message_reads m) (delivery_result r)) b
     (subst (λ (x : ℕ). DeliveryRefusedAt (state_of d).store (is_full d) (find_waiter x (state_of d).waiters) (message_block m) (message_reads m) (delivery_result r)) t refused.0)))
@@ -80,20 +72,21 @@ pub done_of_job : (d e : DeskView) (cells : List (Ty × Value)) (j : Job) (m : E
 done_of_job d e cells j m r t v p q = q ∙ refused_of_job d cells j m r t v ∙ ap (λ (o : Option DeliverError). (delivery_step d (handed_out cells j) o).0) p
 
 -- how a delivery leaves the desk, by its answer
-pub delivered_grown : (d e : DeskView) (t : ℕ) (v : Verdict) (r : Result (Unit {0}) (Evaluated × DeliverError)) → OnOk r (e ≡ with_event d 0 (Installed t v)) → IfErr r (λ x. e ≡ requeued_if_overtaken x.1 t d) → IsLegal e.table e.history
+pub delivered_grown : (d e : DeskView) (t : ℕ) (v : Verdict) (r : Result (Unit {0}) (Evaluated × DeliverError)) → OnOk r (e ≡ with_event d 0 (Installed t v)) → IfErr r (λ x. e ≡ requeued_if_overtaken x.1 t d) → MayStart e.table e.checkpoint → IsLegalFrom (start_state e) e.history
     → HasGrown d e
-delivered_grown d e t v (Ok x) p q legal = grown_next d e 0 (Installed t v) p legal
-delivered_grown d e t v (Err x) p q legal = record { table = ap (λ s. s.table) q; limit = ap (λ s. s.limit) q; more = []; history = ap (λ s. s.history) q ∙ sym (append-nil d.history); legal = legal }
+delivered_grown d e t v (Ok x) p q start legal = grown_next d e 0 (Installed t v) p start legal
+delivered_grown d e t v (Err x) p q start legal =
+    record { table = ap (λ s. s.table) q; checkpoint = ap (λ s. s.checkpoint) q; limit = ap (λ s. s.limit) q; more = []; history = ap (λ s. s.history) q ∙ sym (append-nil d.history); start = start; legal = legal }
 
 pub delivered_store : (d e : DeskView) (t : ℕ) (v : Verdict) (r : Result (Unit {0}) (Evaluated × DeliverError)) → OnOk r (e ≡ with_event d 0 (Installed t v)) → IfErr r (λ x. e ≡ requeued_if_overtaken x.1 t d) → (state_of e).store ≡ (state_of d).store
 delivered_store d e t v (Ok x) p q = ap (λ s. (state_of s).store) p ∙ ap (λ s. s.store) (now_next d 0 (Installed t v))
 delivered_store d e t v (Err x) p q = ap (λ s. (state_of s).store) q
 
-pub reason_if_ok : {E : Type 0} → BlocksStay → (d : DeskView) (cells : List (Ty × Value)) (j : Job) (m : Evaluated) (r : Result (Option DeliverError) E) → IsLegal d.table d.history → JobStands d (handed_out cells j)
+pub reason_if_ok : {E : Type 0} → (d : DeskView) (cells : List (Ty × Value)) (j : Job) (m : Evaluated) (r : Result (Option DeliverError) E) → JobStands d (handed_out cells j)
     → message_ticket m ≡ j.ticket → message_block m ≡ j.block → message_reads m ≡ reads_of (cell_value cells) j.block.tree
     → IfOk r (λ r. IsRefusedFor d m r) → IfOk r (λ r. r ≡ delivery_refusal d (handed_out cells j))
-reason_if_ok law d cells j m (Ok r) legal s t b rs refused = reason_of_job law d cells j m r legal s t b rs refused
-reason_if_ok law d cells j m (Err e) legal s t b rs refused = tt
+reason_if_ok d cells j m (Ok r) s t b rs refused = reason_of_job d cells j m r s t b rs refused
+reason_if_ok d cells j m (Err e) s t b rs refused = tt
 
 pub done_if_ok : {E : Type 0} → (d e : DeskView) (cells : List (Ty × Value)) (j : Job) (m : Evaluated) (r : Result (Option DeliverError) E) → message_ticket m ≡ j.ticket → verdict (cell_value cells) j.block.tree ≡ Some (message_verdict m)
     → IfOk r (λ r. r ≡ delivery_refusal d (handed_out cells j)) → IfOk r (λ r. e ≡ after_message d m r) → OnOk r (e ≡ (deliver_job_step d (Some (handed_out cells j))).0)
@@ -136,6 +129,6 @@ pub evaluated_all : {E : Type 0} → (d e f : DeskView) (cells : List (Ty × Val
     → IfOk r (λ p. record { desk = f; count = p.count; stop = p.stop } ≡ evaluated d)
 evaluated_all d e f cells js r q t s a h = progress_is f _ _ r (taken_all d e cells js q t s a) h
 
-pub given_queued : (d e : DeskView) (cells : List (Ty × Value)) (js : List Job) → e ≡ record d { pending = sent (length js) d.pending } → AreJobs (state_of d) js → AreJobsCovered cells js → JobsStand e (map (handed_out cells) js)
-given_queued d e cells js q a c =
-    subst (λ (f : DeskView). JobsStand f (map (handed_out cells) js)) (sym q) (queued_stand d (sent (length js) d.pending) (map (handed_out cells) js) (given_stand d cells js a c))
+pub given_queued : (d e : DeskView) (cells : List (Ty × Value)) (js : List Job) → IsPossible (state_of d) → e ≡ record d { pending = sent (length js) d.pending } → AreJobs (state_of d) js → AreJobsCovered cells js → JobsStand e (map (handed_out cells) js)
+given_queued d e cells js p q a c =
+    subst (λ (f : DeskView). JobsStand f (map (handed_out cells) js)) (sym q) (queued_stand d (sent (length js) d.pending) (map (handed_out cells) js) (given_stand d cells js p a c))

@@ -16,8 +16,7 @@ use Rattle.stm_events.specs.declared.errors.FinishError.{FinishError}
 use Rattle.stm_events.specs.declared.errors.FinishError.TheVariants as finish
 use Rattle.stm_events.specs.declared.event.What.TheVariants.{Submitted, Finished, Cancelled}
 use Rattle.stm_events.specs.declared.staleness.StalenessRule.{StalenessRule}
-use Rattle.stm_events.specs.declared.staleness.StalenessRule.TheVariants.{Changed}
-use Rattle.stm_events.specs.SlowDesk.{Waiter, verdict_on, find_waiter, without_waiter, stale_after, waking, initial_state}
+use Rattle.stm_events.specs.SlowDesk.{Waiter, verdict_on, find_waiter, without_waiter, stale_after, waking}
 use Rattle.stm_events.specs.SlowSettle.{finishes}
 use Rattle.stm_events.proofs.Folds.{state-rule}
 use Rattle.stm_machine.specs.Plans.{IsPlan}
@@ -25,9 +24,10 @@ use Rattle.stm_desk.specs.declared.errors.SettleWhy.{SettleWhy}
 use Rattle.stm_desk.specs.declared.errors.SettleWhy.TheVariants.{HistoryFull, CellsFull, NoMemory}
 use Rattle.stm_desk.specs.Refusals.{submit_refusal, cancel_refusal, finish_refusal}
 use Rattle.stm_desk.proofs.Calls.{accepted}
+use Rattle.stm_desk.proofs.Starts.{start_rule}
 use Rattle.stm_desk.specs.declared.finish.Finish.{Finish}
 use Rattle.stm_desk.specs.Events.{finish_of}
-use Rattle.stm_desk.specs.DeskView.{DeskView, state_of, with_event}
+use Rattle.stm_desk.specs.DeskView.{DeskView, start_state, state_of, with_event}
 use Rattle.stm_desk.specs.Settling.{with_whats, requeued_all, slow_settle, slow_stop, HasSettled, HasStopped}
 use Rattle.stm_commands.specs.Blocks.{ticket_line, submit_block_step}
 use Rattle.stm_commands.specs.Endings.{finished_line, finish_verdict_step, finish_waiter_step, finish_ticket_step, cancelled_line, cancel_ticket_step, settled_line, why_text, settle_text, settle_desk_step}
@@ -121,7 +121,7 @@ finish_planned d t f plan =
     let s = state_of d in
     let may = plan.may in
     let ws = without_waiter t s.waiters in
-    let stale : f.stale ≡ stale_after (changed_by s.store f.verdict) ws = may.listed ∙ ap (λ (r : StalenessRule). stale_after (waking r s.store f.verdict) ws) (state-rule (initial_state Changed d.table) d.history) in
+    let stale : f.stale ≡ stale_after (changed_by s.store f.verdict) ws = may.listed ∙ ap (λ (r : StalenessRule). stale_after (waking r s.store f.verdict) ws) (state-rule (start_state d) d.history ∙ start_rule d.table d.checkpoint) in
     ap (finish_waiter_step d t) plan.found ∙ ap (finish_verdict_step d t) may.verdict_is ∙ sym (
     ap (λ (n : ℕ). (with_event d 0 (Finished t f.verdict n f.stale), finished_line t n f.verdict f.stale)) may.first_new
     ∙ ap (λ (l : List ℕ). (with_event d 0 (Finished t f.verdict (length s.store) l), finished_line t (length s.store) f.verdict l)) stale)

@@ -19,11 +19,13 @@ use Rattle.stm_machine.specs.JobsHandedOut.{sent}
 use Rattle.stm_machine.specs.Machine.{event}
 use Rattle.stm_machine.specs.QueueAndIndex.{due_of}
 use Rattle.stm_events.specs.Refusals.{differing, overtaken_first}
-use Rattle.stm_events.specs.SlowDesk.{Waiter, Slow, IsLegal, max_waiting, under, verdict_on, is_current, find_waiter, with_delivery}
+use Rattle.stm_events.specs.SlowDesk.{Waiter, Slow, max_waiting, under, verdict_on, is_current, find_waiter, with_delivery}
+use Rattle.stm_events.specs.States.{IsLegalFrom}
+use Rattle.stm_machine.specs.Checkpoints.{MayStart}
 use Rattle.stm_machine.proofs.Agreeing.{reads_differ_nowhere}
 use Rattle.stm_events.proofs.Rising.{waiter_delivered}
 use Rattle.stm_desk.specs.Evaluating.{EvaluatedSoFar, verdict_of_waiter, verdict_under, with_installed, with_evaluated, evaluate_unless, evaluate_each, none_evaluated, evaluate_lowest}
-use Rattle.stm_desk.specs.DeskView.{DeskView, state_of, is_full, with_event, DeskQueueIsRight, AllHaveVerdicts}
+use Rattle.stm_desk.specs.DeskView.{DeskView, start_state, state_of, is_full, with_event, DeskQueueIsRight, AllHaveVerdicts}
 use Rattle.stm_commands.specs.Evaluation.{DeliveredSoFar, delivered_by, delivered_all, evaluated}
 use Rattle.stm_commands.specs.Jobs.{delivery_first, delivery_refusal, installed, jobs_of, job_of, taken}
 use Rattle.stm_commands.specs.OpenDesk.{HandedOut}
@@ -333,16 +335,17 @@ evaluated_here d e count n stop m done right r have =
 -- ---- the history grows
 record IsLonger (d e : DeskView) : Type 0 where
   pub table : e.table ≡ d.table
+  pub checkpoint : e.checkpoint ≡ d.checkpoint
   pub limit : e.limit ≡ d.limit
   pub more : List Event
   pub history : e.history ≡ d.history ++ more
 
 longer_same : (d : DeskView) → IsLonger d d
-longer_same d = record { table = refl; limit = refl; more = []; history = sym (append-nil d.history) }
+longer_same d = record { table = refl; checkpoint = refl; limit = refl; more = []; history = sym (append-nil d.history) }
 
 longer_with : (d : DeskView) (t : ℕ) (o : Option Verdict) → IsLonger d (with_installed d 0 t o)
 longer_with d t None = longer_same d
-longer_with d t (Some v) = record { table = refl; limit = refl; more = event 0 (Installed t v) ∷ []; history = refl }
+longer_with d t (Some v) = record { table = refl; checkpoint = refl; limit = refl; more = event 0 (Installed t v) ∷ []; history = refl }
 
 longer_by : (d : DeskView) (n t : ℕ) (b : Bool) → IsLonger d (cond b (here d n (Some HistoryFull)) (here (with_evaluated d 0 t) (n + 1) None)).desk
 longer_by d n t true = longer_same d
@@ -360,12 +363,13 @@ longer_each (t ∷ ts) p =
     let h = longer_each ts q in
     record {
       table = h.table ∙ g.table;
+      checkpoint = h.checkpoint ∙ g.checkpoint;
       limit = h.limit ∙ g.limit;
       more = g.more ++ h.more;
       history = h.history ∙ ap (λ (es : List Event). es ++ h.more) g.history ∙ append_assoc p.desk.history g.more h.more;
     }
 
-pub evaluated_grown : (d : DeskView) (n : ℕ) (p : EvaluatedSoFar) → p ≡ evaluate_lowest d 0 n → IsLegal p.desk.table p.desk.history → HasGrown d p.desk
-evaluated_grown d n p done legal =
+pub evaluated_grown : (d : DeskView) (n : ℕ) (p : EvaluatedSoFar) → p ≡ evaluate_lowest d 0 n → MayStart p.desk.table p.desk.checkpoint → IsLegalFrom (start_state p.desk) p.desk.history → HasGrown d p.desk
+evaluated_grown d n p done start legal =
     let g = subst (λ (q : EvaluatedSoFar). IsLonger d q.desk) (sym done) (longer_each (take n (queued d.pending)) (none_evaluated d)) in
-    record { table = g.table; limit = g.limit; more = g.more; history = g.history; legal = legal }
+    record { table = g.table; checkpoint = g.checkpoint; limit = g.limit; more = g.more; history = g.history; start = start; legal = legal }

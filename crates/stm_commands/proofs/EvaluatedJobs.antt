@@ -10,8 +10,6 @@ use Rattle.stm_eval.specs.declared.message.Evaluated.{Evaluated}
 use Rattle.stm_eval.specs.EvaluatedFields.{message_ticket}
 use Rattle.stm_events.specs.declared.errors.DeliverError.{DeliverError}
 use Rattle.stm_machine.specs.JobsHandedOut.{AreJobsCovered}
-use Rattle.stm_events.specs.Laws.{BlocksStay}
-use Rattle.stm_events.specs.SlowDesk.{IsLegal}
 use Rattle.stm_pool.specs.Answers.{IsMessageOf, AnswersJob}
 use Rattle.stm_desk.specs.Refusals.{requeued_if_overtaken}
 use Rattle.stm_desk.specs.DeskView.{DeskView}
@@ -26,32 +24,32 @@ abbrev pub Answer : Type 0
 Answer = Result Evaluated (Job × AllocError)
 
 -- ---- one message
-reason : BlocksStay → (d : DeskView) (cells : List (Ty × Value)) (j : Job) (m : Evaluated) (r : Option DeliverError) → IsLegal d.table d.history → JobStands d (handed_out cells j) → IsMessageOf j cells m
+reason : (d : DeskView) (cells : List (Ty × Value)) (j : Job) (m : Evaluated) (r : Option DeliverError) → JobStands d (handed_out cells j) → IsMessageOf j cells m
     → IsRefusedFor d m r → r ≡ delivery_refusal d (handed_out cells j)
-reason law d cells j m r legal s i t = reason_of_job law d cells j m r legal s i.ticket i.block i.reads_are t
+reason d cells j m r s i t = reason_of_job d cells j m r s i.ticket i.block i.reads_are t
 
 -- a message that is taken
-pub next_taken : BlocksStay → (d e : DeskView) (cells : List (Ty × Value)) (j : Job) (m : Evaluated) (n : ℕ) (stop r : Option DeliverError) → is_some stop ≡ false → is_some r ≡ false
-    → IsLegal d.table d.history → JobStands d (handed_out cells j) → IsMessageOf j cells m → IsRefusedFor d m r
+pub next_taken : (d e : DeskView) (cells : List (Ty × Value)) (j : Job) (m : Evaluated) (n : ℕ) (stop r : Option DeliverError) → is_some stop ≡ false → is_some r ≡ false
+    → JobStands d (handed_out cells j) → IsMessageOf j cells m → IsRefusedFor d m r
     → e ≡ after_message d m r
     → record { desk = e; count = n + 1; stop = None } ≡ delivered_next (record { desk = d; count = n; stop = stop }) (handed_out cells j) stop
-next_taken law d e cells j m n (Some x) r f g legal s i t p = absurd cc
-next_taken law d e cells j m n None (Some x) f g legal s i t p = absurd cc
-next_taken law d e cells j m n None None f g legal s i t p =
+next_taken d e cells j m n (Some x) r f g s i t p = absurd cc
+next_taken d e cells j m n None (Some x) f g s i t p = absurd cc
+next_taken d e cells j m n None None f g s i t p =
     ap (λ (x : DeskView). record { desk = x; count = n + 1; stop = None }) (p ∙ refused_of_job d cells j m None i.ticket i.verdict_is)
-    ∙ ap (delivered_by (record { desk = d; count = n; stop = None }) (handed_out cells j)) (reason law d cells j m None legal s i t)
+    ∙ ap (delivered_by (record { desk = d; count = n; stop = None }) (handed_out cells j)) (reason d cells j m None s i t)
 
 -- a message that is refused
-pub next_refused : BlocksStay → (d mid e : DeskView) (cells : List (Ty × Value)) (j : Job) (m : Evaluated) (n t : ℕ) (stop r : Option DeliverError) → is_some stop ≡ false → is_some r ≡ true
-    → IsLegal d.table d.history → JobStands d (handed_out cells j) → IsMessageOf j cells m → IsRefusedFor d m r
+pub next_refused : (d mid e : DeskView) (cells : List (Ty × Value)) (j : Job) (m : Evaluated) (n t : ℕ) (stop r : Option DeliverError) → is_some stop ≡ false → is_some r ≡ true
+    → JobStands d (handed_out cells j) → IsMessageOf j cells m → IsRefusedFor d m r
     → mid ≡ after_message d m r → t ≡ message_ticket m → e ≡ handed_back mid t
     → record { desk = e; count = n; stop = r } ≡ delivered_next (record { desk = d; count = n; stop = stop }) (handed_out cells j) stop
-next_refused law d mid e cells j m n t (Some x) r f g legal s i w p q o = absurd cc
-next_refused law d mid e cells j m n t None None f g legal s i w p q o = absurd cc
-next_refused law d mid e cells j m n t None (Some x) f g legal s i w p q o =
+next_refused d mid e cells j m n t (Some x) r f g s i w p q o = absurd cc
+next_refused d mid e cells j m n t None None f g s i w p q o = absurd cc
+next_refused d mid e cells j m n t None (Some x) f g s i w p q o =
     ap (λ (y : DeskView). record { desk = y; count = n; stop = Some x })
     (o ∙ ap (λ (y : DeskView). handed_back y t) p ∙ ap (λ (u : ℕ). handed_back (requeued_if_overtaken x (message_ticket m) d) u) (q ∙ i.ticket) ∙ ap (λ (u : ℕ). handed_back (requeued_if_overtaken x u d) j.ticket) i.ticket)
-    ∙ ap (delivered_by (record { desk = d; count = n; stop = None }) (handed_out cells j)) (reason law d cells j m (Some x) legal s i w)
+    ∙ ap (delivered_by (record { desk = d; count = n; stop = None }) (handed_out cells j)) (reason d cells j m (Some x) s i w)
 
 -- ---- answers
 -- the answers that are left of some jobs, which are delivered to a desk yet

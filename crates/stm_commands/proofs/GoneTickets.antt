@@ -1,20 +1,16 @@
 -- A ticket that was given and waits no more never waits again.
-use Rattle.std.proofs.Common.{◌≡◌, ℕ, ◌<◌, Bool, true, false, cond, List, [], ◌∷◌, ◌++◌, Option, Some, None, refl, sym, ap, ◌∙◌, subst, arith, length-append}
+use Rattle.std.proofs.Common.{◌≡◌, ℕ, ◌<◌, Bool, true, false, cond, List, [], ◌∷◌, Option, Some, None, refl, ◌∙◌, arith}
 use Rattle.std.specs.Prelude.{nat_eq, option_map}
 use Rattle.std.proofs.lemmas.Bool.Decides.{nat_tests}
-use Rattle.stm_store.specs.Tables.{Declared}
 use Rattle.stm_events.specs.declared.event.Event.{Event}
 use Rattle.stm_events.specs.declared.event.What.{What}
 use Rattle.stm_events.specs.declared.event.What.TheVariants.{Submitted, Installed, Finished, Cancelled}
-use Rattle.stm_events.specs.declared.staleness.StalenessRule.TheVariants.{Changed}
 use Rattle.stm_events.specs.Laws.{AreRising}
-use Rattle.stm_events.specs.SlowDesk.{Waiter, Slow, waking, find_waiter, without_waiter, with_delivery, after_writes, after, Allows, initial_state, state_from, state, LegalFrom, IsLegal}
-use Rattle.stm_events.proofs.Folds.{state-append}
-use Rattle.stm_events.proofs.Kept.{legal-append}
-use Rattle.stm_events.proofs.Rising.{rising_after, rising_state, low, waiter_without, waiter_delivered, waiter_marks, waiter_push}
+use Rattle.stm_events.specs.SlowDesk.{Waiter, Slow, waking, find_waiter, without_waiter, with_delivery, after_writes, after, Allows, state_from, LegalFrom}
+use Rattle.stm_events.proofs.Rising.{rising_after, waiter_without, waiter_delivered, waiter_marks, waiter_push}
 
 -- the ticket was given
-record IsGiven (t : ℕ) (s : Slow) : Type 0 where
+pub record IsGiven (t : ℕ) (s : Slow) : Type 0 where
   pub rising : AreRising s.next 0 s.waiters
   pub given : t < s.next
 
@@ -24,10 +20,6 @@ given_after t s (Submitted u block) a k =
 given_after t s (Installed u v) a k = record { rising = rising_after s (Installed u v) (let g = k.given in omega arith) k.rising a; given = k.given }
 given_after t s (Finished u v n l) a k = record { rising = rising_after s (Finished u v n l) (let g = k.given in omega arith) k.rising a; given = k.given }
 given_after t s (Cancelled u) a k = record { rising = rising_after s (Cancelled u) (let g = k.given in omega arith) k.rising a; given = k.given }
-
-given_from : (t : ℕ) (s : Slow) (es : List Event) → LegalFrom s es → IsGiven t s → IsGiven t (state_from s es)
-given_from t s [] l k = k
-given_from t s (e ∷ es) l k = given_from t (after s e.what) es l.1 (given_after t s e.what l.0.what k)
 
 -- ---- it waits no more
 unlike : (t u n : ℕ) → t < n → u ≡ n → nat_eq t u ≡ false
@@ -60,31 +52,7 @@ gone_after t s (Finished u v n l) a k g =
     (waiter_without u t s.next 0 s.waiters k.rising ∙ none_without (nat_eq t u) (find_waiter t s.waiters) g)
 gone_after t s (Cancelled u) a k g = waiter_without u t s.next 0 s.waiters k.rising ∙ none_without (nat_eq t u) (find_waiter t s.waiters) g
 
-gone_from : (t : ℕ) (s : Slow) (es : List Event) → LegalFrom s es → IsGiven t s → find_waiter t s.waiters ≡ None → find_waiter t (state_from s es).waiters ≡ None
+-- once a ticket was given and waits no more, it doesn't wait after any more events
+pub gone_from : (t : ℕ) (s : Slow) (es : List Event) → LegalFrom s es → IsGiven t s → find_waiter t s.waiters ≡ None → find_waiter t (state_from s es).waiters ≡ None
 gone_from t s [] l k g = g
 gone_from t s (e ∷ es) l k g = gone_from t (after s e.what) es l.1 (given_after t s e.what l.0.what k) (gone_after t s e.what l.0.what k g)
-
--- the first part of a legal history is one
-pub legal_before : (table : List Declared) (before more : List Event) → IsLegal table (before ++ more) → IsLegal table before
-legal_before table before more l =
-    let few = l.few in
-    record { each = (legal-append (initial_state Changed table) before more l.each).first; few = omega (arith, length-append before more, few) }
-
-given_waiting : (table : List Declared) (history : List Event) (t : ℕ) (w : Waiter) → IsLegal table history → find_waiter t (state table history).waiters ≡ Some w → IsGiven t (state table history)
-given_waiting table history t w l f =
-    let s = state table history in
-    let rising : AreRising s.next 0 s.waiters = rising_state Changed table history l in
-    record { rising = rising; given = low t s.next 0 s.waiters w rising f }
-
-given_later : (table : List Declared) (before more : List Event) (t : ℕ) (w : Waiter) → IsLegal table (before ++ more) → find_waiter t (state table before).waiters ≡ Some w → IsGiven t (state table (before ++ more))
-given_later table before more t w l f =
-    subst (IsGiven t) (sym (state-append (initial_state Changed table) before more))
-    (given_from t (state table before) more (legal-append (initial_state Changed table) before more l.each).rest (given_waiting table before t w (legal_before table before more l) f))
-
--- once a ticket waited, and after some more events waits no more, it doesn't wait after any more events
-pub gone_stays : (table : List Declared) (before between more : List Event) (t : ℕ) (v : Waiter) → IsLegal table ((before ++ between) ++ more) → find_waiter t (state table before).waiters ≡ Some v
-    → find_waiter t (state table (before ++ between)).waiters ≡ None → find_waiter t (state table ((before ++ between) ++ more)).waiters ≡ None
-gone_stays table before between more t v l f g =
-    ap (λ (s : Slow). find_waiter t s.waiters) (state-append (initial_state Changed table) (before ++ between) more)
-    ∙ gone_from t (state table (before ++ between)) more (legal-append (initial_state Changed table) (before ++ between) more l.each).rest
-    (given_later table before between t v (legal_before table (before ++ between) more l) f) g

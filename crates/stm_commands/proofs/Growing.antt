@@ -1,6 +1,6 @@
 -- What an open desk keeps as events join its history.
 use Rattle.std.proofs.Common.{◌≡◌, ℕ, Bool, Result, Ok, Err, IfOk, IfErr, OnOk, OnErr, List, [], ◌∷◌, ◌++◌, Option, Some, None, refl, sym, ap, ◌∙◌, subst, append_assoc, append-nil}
-use Rattle.std.specs.Prelude.{map}
+use Rattle.std.specs.Prelude.{map, option_map}
 use Rattle.stm_terms.specs.declared.kinds.Ty.{Ty}
 use Rattle.stm_terms.specs.declared.values.Value.{Value}
 use Rattle.stm_store.specs.Cells.{plains}
@@ -15,9 +15,12 @@ use Rattle.stm_events.specs.declared.event.What.{What}
 use Rattle.stm_events.specs.declared.event.What.TheVariants.{Submitted, Finished, Cancelled}
 use Rattle.stm_machine.specs.JobsHandedOut.{block_at, AreJobs, AreJobsCovered}
 use Rattle.stm_machine.specs.Machine.{event}
-use Rattle.stm_events.specs.SlowDesk.{Slow, IsLegal, state, state_from, after, initial_state}
-use Rattle.stm_events.specs.declared.staleness.StalenessRule.TheVariants.{Changed}
-use Rattle.stm_desk.specs.DeskView.{DeskView, state_of, with_event}
+use Rattle.stm_machine.specs.Checkpoints.{MayStart}
+use Rattle.stm_events.specs.SlowDesk.{Slow, Waiter, after, find_waiter}
+use Rattle.stm_events.specs.States.{IsPossible, IsTicketOf, IsLegalFrom}
+use Rattle.stm_events.proofs.Folds.{state-append}
+use Rattle.stm_events.proofs.Kept.{ticket_waiting, ticket_from}
+use Rattle.stm_desk.specs.DeskView.{DeskView, start_state, state_of, with_event}
 use Rattle.stm_desk.specs.declared.errors.SettleStop.{SettleStop}
 use Rattle.stm_desk.specs.declared.errors.SettleWhy.{SettleWhy}
 use Rattle.stm_desk.specs.declared.errors.SettleWhy.TheVariants.{HistoryFull, CellsFull, NoMemory}
@@ -30,14 +33,11 @@ use Rattle.stm_commands.specs.Jobs.{job_of, jobs_of}
 use Rattle.stm_commands.specs.OpenDesk.{HandedOut}
 use Rattle.stm_commands.specs.OpenInvariant.{handed_out, job_kept, HaveStores, JobStands, JobsStand, IsPresentCopy, OpenInvariant, HasGrown}
 use Rattle.stm_commands.proofs.KeptStores.{stores_grown}
-
-state_from-append : (s : Slow) (es fs : List Event) → state_from s (es ++ fs) ≡ state_from (state_from s es) fs
-state_from-append s [] fs = refl
-state_from-append s (e ∷ es) fs = state_from-append (after s e.what) es fs
+use Rattle.stm_commands.proofs.LegalDesks.{grown_state, grown_legal, grown_possible}
 
 -- the desk after one event more
 pub now_next : (d : DeskView) (client : ℕ) (w : What) → state_of (with_event d client w) ≡ after (state_of d) w
-now_next d client w = state_from-append (initial_state Changed d.table) d.history (event client w ∷ [])
+now_next d client w = state-append (start_state d) d.history (event client w ∷ [])
 
 -- submissions and cancellations leave the store as it is
 pub submitted_store : (d : DeskView) (client t : ℕ) (b : Block) → (state_of (with_event d client (Submitted t b))).store ≡ (state_of d).store
@@ -46,18 +46,24 @@ submitted_store d client t b = ap (λ s. s.store) (now_next d client (Submitted 
 pub cancelled_store : (d : DeskView) (client t : ℕ) → (state_of (with_event d client (Cancelled t))).store ≡ (state_of d).store
 cancelled_store d client t = ap (λ s. s.store) (now_next d client (Cancelled t))
 
-pub grown_same : (d e : DeskView) → e ≡ d → IsLegal e.table e.history → HasGrown d e
-grown_same d e p legal = record { table = ap (λ s. s.table) p; limit = ap (λ s. s.limit) p; more = []; history = ap (λ s. s.history) p ∙ sym (append-nil d.history); legal = legal }
+pub grown_same : (d e : DeskView) → e ≡ d → MayStart e.table e.checkpoint → IsLegalFrom (start_state e) e.history → HasGrown d e
+grown_same d e p start legal = record { table = ap (λ s. s.table) p; checkpoint = ap (λ s. s.checkpoint) p; limit = ap (λ s. s.limit) p; more = []; history = ap (λ s. s.history) p ∙ sym (append-nil d.history); start = start; legal = legal }
 
-pub grown_next : (d e : DeskView) (client : ℕ) (w : What) → e ≡ with_event d client w → IsLegal e.table e.history → HasGrown d e
-grown_next d e client w p legal = record { table = ap (λ s. s.table) p; limit = ap (λ s. s.limit) p; more = event client w ∷ []; history = ap (λ s. s.history) p; legal = legal }
+pub grown_next : (d e : DeskView) (client : ℕ) (w : What) → e ≡ with_event d client w → MayStart e.table e.checkpoint → IsLegalFrom (start_state e) e.history → HasGrown d e
+grown_next d e client w p start legal = record { table = ap (λ s. s.table) p; checkpoint = ap (λ s. s.checkpoint) p; limit = ap (λ s. s.limit) p; more = event client w ∷ []; history = ap (λ s. s.history) p; start = start; legal = legal }
+
+-- a desk that differs in its queue alone has grown by no event
+pub grown_queued : (d e : DeskView) (p : List (ℕ × Bool)) → e ≡ record d { pending = p } → MayStart d.table d.checkpoint → IsLegalFrom (start_state d) d.history → HasGrown d e
+grown_queued d e p q start legal = subst (HasGrown d) (sym q) (record { table = refl; checkpoint = refl; limit = refl; more = []; history = sym (append-nil d.history); start = start; legal = legal })
 
 pub grown_trans : (c d e : DeskView) → HasGrown c d → HasGrown d e → HasGrown c e
 grown_trans c d e g h = record {
   table = h.table ∙ g.table;
+  checkpoint = h.checkpoint ∙ g.checkpoint;
   limit = h.limit ∙ g.limit;
   more = g.more ++ h.more;
   history = h.history ∙ ap (λ (es : List Event). es ++ h.more) g.history ∙ append_assoc c.history g.more h.more;
+  start = h.start;
   legal = h.legal;
 }
 
@@ -65,10 +71,7 @@ grown_trans c d e g h = record {
 pub stands_grown : (d e : DeskView) (j : HandedOut) → HasGrown d e → JobStands d j → JobStands e j
 stands_grown d e j g s = record {
   covered = s.covered;
-  before = s.before;
-  more = s.more ++ g.more;
-  history = g.history ∙ ap (λ (es : List Event). es ++ g.more) s.history ∙ append_assoc s.before s.more g.more;
-  waited = ap (λ (t : List Declared). block_at (state t s.before) j.ticket) g.table ∙ s.waited;
+  ticket = subst (λ (x : Slow). IsTicketOf j.block x j.ticket) (sym (grown_state d e g)) (ticket_from (state_of d) g.more j.block j.ticket (grown_possible d e g) (grown_legal d e g) s.ticket);
 }
 
 pub stand_grown : (d e : DeskView) (js : List HandedOut) → HasGrown d e → JobsStand d js → JobsStand e js
@@ -82,6 +85,7 @@ copied_same d e (Some cells) p c = c ∙ ap plains (sym p)
 -- and so does what an open desk keeps
 pub kept_grown : {table : List Declared} → (d e : DeskView) (copy : Option (List (Ty × Value))) (ks : List KeptJob) → HasGrown d e → (state_of e).store ≡ (state_of d).store → OpenInvariant d copy ks table → OpenInvariant e copy ks table
 kept_grown d e copy ks g p k = record {
+  start = g.start;
   legal = g.legal;
   copied = copied_same d e copy p k.copied;
   jobs_stand = stand_grown d e (map job_kept ks) g k.jobs_stand;
@@ -96,6 +100,7 @@ kept_prepared d copy ks table others same k = subst (OpenInvariant d copy ks) (s
 -- without a copy the store may be another one
 pub kept_without : {table : List Declared} → (d e : DeskView) (copy : Option (List (Ty × Value))) (ks : List KeptJob) → HasGrown d e → OpenInvariant d copy ks table → OpenInvariant e None ks table
 kept_without d e copy ks g k = record {
+  start = g.start;
   legal = g.legal;
   copied = tt;
   jobs_stand = stand_grown d e (map job_kept ks) g k.jobs_stand;
@@ -104,9 +109,16 @@ kept_without d e copy ks g k = record {
 }
 
 -- jobs that a desk gives out stand
-pub given_stand : (d : DeskView) (cells : List (Ty × Value)) (js : List Job) → AreJobs (state_of d) js → AreJobsCovered cells js → JobsStand d (map (handed_out cells) js)
-given_stand d cells [] a c = tt
-given_stand d cells (j ∷ js) a c = (record { covered = c.0; before = d.history; more = []; history = sym (append-nil d.history); waited = a.0 }, given_stand d cells js a.1 c.1)
+ticket_of : (s : Slow) (t : ℕ) (b : Block) (o : Option Waiter) → IsPossible s → find_waiter t s.waiters ≡ o → option_map (λ w. w.block) o ≡ Some b → IsTicketOf b s t
+ticket_of s t b None p f e = absurd cc
+ticket_of s t b (Some w) p f e = let q : w.block ≡ b = cc in subst (λ (x : Block). IsTicketOf x s t) q (ticket_waiting s t w p f)
+
+ticket_given : (s : Slow) (t : ℕ) (b : Block) → IsPossible s → block_at s t ≡ Some b → IsTicketOf b s t
+ticket_given s t b p e = ticket_of s t b (find_waiter t s.waiters) p refl e
+
+pub given_stand : (d : DeskView) (cells : List (Ty × Value)) (js : List Job) → IsPossible (state_of d) → AreJobs (state_of d) js → AreJobsCovered cells js → JobsStand d (map (handed_out cells) js)
+given_stand d cells [] p a c = tt
+given_stand d cells (j ∷ js) p a c = (record { covered = c.0; ticket = ticket_given (state_of d) j.ticket j.block p a.0 }, given_stand d cells js p a.1 c.1)
 
 pub stand_append : (d : DeskView) (js ks : List HandedOut) → JobsStand d js → JobsStand d ks → JobsStand d (js ++ ks)
 stand_append d [] ks s t = t
@@ -128,7 +140,7 @@ given_are d cells (j ∷ js) e a = by (block_at (state_of d) j.ticket) a.0 (give
 -- a desk that differs in its queue alone
 pub queued_stand : (d : DeskView) (p : List (ℕ × Bool)) (js : List HandedOut) → JobsStand d js → JobsStand (record d { pending = p }) js
 queued_stand d p [] s = tt
-queued_stand d p (j ∷ js) s = (record { covered = s.0.covered; before = s.0.before; more = s.0.more; history = s.0.history; waited = s.0.waited }, queued_stand d p js s.1)
+queued_stand d p (j ∷ js) s = (record { covered = s.0.covered; ticket = s.0.ticket }, queued_stand d p js s.1)
 
 queued_copied : (d : DeskView) (p : List (ℕ × Bool)) (copy : Option (List (Ty × Value))) → IsPresentCopy d copy → IsPresentCopy (record d { pending = p }) copy
 queued_copied d p None c = tt
@@ -137,12 +149,12 @@ queued_copied d p (Some cells) c = c
 pub kept_queued : {table : List Declared} → (d e : DeskView) (copy : Option (List (Ty × Value))) (ks : List KeptJob) → e ≡ record d { pending = e.pending } → OpenInvariant d copy ks table → OpenInvariant e copy ks table
 kept_queued {table = table} d e copy ks q k =
     subst (λ (f : DeskView). OpenInvariant f copy ks table) (sym q)
-    (record { legal = k.legal; copied = queued_copied d e.pending copy k.copied; jobs_stand = queued_stand d e.pending (map job_kept ks) k.jobs_stand; have_stores = k.have_stores; same_table = k.same_table })
+    (record { start = k.start; legal = k.legal; copied = queued_copied d e.pending copy k.copied; jobs_stand = queued_stand d e.pending (map job_kept ks) k.jobs_stand; have_stores = k.have_stores; same_table = k.same_table })
 
 pub kept_pending : {table : List Declared} → (d e : DeskView) (p : List (ℕ × Bool)) (copy : Option (List (Ty × Value))) (ks : List KeptJob) → e ≡ record d { pending = p } → OpenInvariant d copy ks table → OpenInvariant e copy ks table
 kept_pending {table = table} d e p copy ks q k =
     subst (λ (f : DeskView). OpenInvariant f copy ks table) (sym q)
-    (record { legal = k.legal; copied = queued_copied d p copy k.copied; jobs_stand = queued_stand d p (map job_kept ks) k.jobs_stand; have_stores = k.have_stores; same_table = k.same_table })
+    (record { start = k.start; legal = k.legal; copied = queued_copied d p copy k.copied; jobs_stand = queued_stand d p (map job_kept ks) k.jobs_stand; have_stores = k.have_stores; same_table = k.same_table })
 
 -- with more jobs that stand, where each that needs its store has it
 pub kept_more : {A E : Type 0} {table : List Declared} → (d e : DeskView) (copy : Option (List (Ty × Value))) (ks ls ms : List KeptJob) (r : Result A E) → e ≡ record d { pending = e.pending } → JobsStand d (map job_kept ls)
@@ -153,13 +165,17 @@ kept_more {A = A} {E = E} {table = table} d e copy ks ls ms r q s ok err h k = b
     stand = subst (λ (f : DeskView). JobsStand f (map job_kept ls)) (sym q) (queued_stand d e.pending (map job_kept ls) s)
 
     by : (r : Result A E) → OnOk r (map job_kept ms ≡ map job_kept ks ++ map job_kept ls) → OnErr r (map job_kept ms ≡ map job_kept ks) → OpenInvariant e copy ks table → OpenInvariant e copy ms table
-    by (Ok x) p n i = record { legal = i.legal; copied = i.copied; jobs_stand = subst (JobsStand e) (sym p) (stand_append e (map job_kept ks) (map job_kept ls) i.jobs_stand stand); have_stores = h; same_table = i.same_table }
-    by (Err x) p n i = record { legal = i.legal; copied = i.copied; jobs_stand = subst (JobsStand e) (sym n) i.jobs_stand; have_stores = h; same_table = i.same_table }
+    by (Ok x) p n i = record { start = i.start; legal = i.legal; copied = i.copied; jobs_stand = subst (JobsStand e) (sym p) (stand_append e (map job_kept ks) (map job_kept ls) i.jobs_stand stand); have_stores = h; same_table = i.same_table }
+    by (Err x) p n i = record { start = i.start; legal = i.legal; copied = i.copied; jobs_stand = subst (JobsStand e) (sym n) i.jobs_stand; have_stores = h; same_table = i.same_table }
 
 -- settling
 whats_table : (d : DeskView) (client : ℕ) (ws : List What) → (with_whats d client ws).table ≡ d.table
 whats_table d client [] = refl
 whats_table d client (w ∷ ws) = whats_table (with_event d client w) client ws
+
+whats_checkpoint : (d : DeskView) (client : ℕ) (ws : List What) → (with_whats d client ws).checkpoint ≡ d.checkpoint
+whats_checkpoint d client [] = refl
+whats_checkpoint d client (w ∷ ws) = whats_checkpoint (with_event d client w) client ws
 
 whats_limit : (d : DeskView) (client : ℕ) (ws : List What) → (with_whats d client ws).limit ≡ d.limit
 whats_limit d client [] = refl
@@ -169,50 +185,52 @@ whats_history : (d : DeskView) (client : ℕ) (ws : List What) → (with_whats d
 whats_history d client [] = sym (append-nil d.history)
 whats_history d client (w ∷ ws) = whats_history (with_event d client w) client ws ∙ append_assoc d.history (event client w ∷ []) (map (event client) ws)
 
-pub grown_whats : (d e : DeskView) (client : ℕ) (ws : List What) → e ≡ with_whats (requeued_all d) client ws → IsLegal e.table e.history → HasGrown d e
-grown_whats d e client ws p legal = record {
+pub grown_whats : (d e : DeskView) (client : ℕ) (ws : List What) → e ≡ with_whats (requeued_all d) client ws → MayStart e.table e.checkpoint → IsLegalFrom (start_state e) e.history → HasGrown d e
+grown_whats d e client ws p start legal = record {
   table = ap (λ s. s.table) p ∙ whats_table (requeued_all d) client ws;
+  checkpoint = ap (λ s. s.checkpoint) p ∙ whats_checkpoint (requeued_all d) client ws;
   limit = ap (λ s. s.limit) p ∙ whats_limit (requeued_all d) client ws;
   more = map (event client) ws;
   history = ap (λ s. s.history) p ∙ whats_history (requeued_all d) client ws;
+  start = start;
   legal = legal;
 }
 
 -- ---- by call
-submitted_grown : (d e : DeskView) (b : Block) (r : Result ℕ SubmitError) → IfOk r (λ t. e ≡ with_event d 0 (Submitted t b)) → OnErr r (e ≡ d) → IsLegal e.table e.history
+submitted_grown : (d e : DeskView) (b : Block) (r : Result ℕ SubmitError) → IfOk r (λ t. e ≡ with_event d 0 (Submitted t b)) → OnErr r (e ≡ d) → MayStart e.table e.checkpoint → IsLegalFrom (start_state e) e.history
     → HasGrown d e × ((state_of e).store ≡ (state_of d).store)
-submitted_grown d e b (Ok t) p q legal = (grown_next d e 0 (Submitted t b) p legal, ap (λ s. (state_of s).store) p ∙ submitted_store d 0 t b)
-submitted_grown d e b (Err x) p q legal = (grown_same d e q legal, ap (λ s. (state_of s).store) q)
+submitted_grown d e b (Ok t) p q start legal = (grown_next d e 0 (Submitted t b) p start legal, ap (λ s. (state_of s).store) p ∙ submitted_store d 0 t b)
+submitted_grown d e b (Err x) p q start legal = (grown_same d e q start legal, ap (λ s. (state_of s).store) q)
 
 pub kept_submitted : {table : List Declared} → (d e : DeskView) (copy : Option (List (Ty × Value))) (ks : List KeptJob) (b : Block) (r : Result ℕ SubmitError) → IfOk r (λ t. e ≡ with_event d 0 (Submitted t b)) → OnErr r (e ≡ d)
-    → IsLegal e.table e.history → OpenInvariant d copy ks table → OpenInvariant e copy ks table
-kept_submitted d e copy ks b r p q legal k = let g = submitted_grown d e b r p q legal in kept_grown d e copy ks g.0 g.1 k
+    → MayStart e.table e.checkpoint → IsLegalFrom (start_state e) e.history → OpenInvariant d copy ks table → OpenInvariant e copy ks table
+kept_submitted d e copy ks b r p q start legal k = let g = submitted_grown d e b r p q start legal in kept_grown d e copy ks g.0 g.1 k
 
-cancelled_grown : (d e : DeskView) (t : ℕ) (r : Result (Unit {0}) CancelError) → OnOk r (e ≡ with_event d 0 (Cancelled t)) → OnErr r (e ≡ d) → IsLegal e.table e.history
+cancelled_grown : (d e : DeskView) (t : ℕ) (r : Result (Unit {0}) CancelError) → OnOk r (e ≡ with_event d 0 (Cancelled t)) → OnErr r (e ≡ d) → MayStart e.table e.checkpoint → IsLegalFrom (start_state e) e.history
     → HasGrown d e × ((state_of e).store ≡ (state_of d).store)
-cancelled_grown d e t (Ok x) p q legal = (grown_next d e 0 (Cancelled t) p legal, ap (λ s. (state_of s).store) p ∙ cancelled_store d 0 t)
-cancelled_grown d e t (Err x) p q legal = (grown_same d e q legal, ap (λ s. (state_of s).store) q)
+cancelled_grown d e t (Ok x) p q start legal = (grown_next d e 0 (Cancelled t) p start legal, ap (λ s. (state_of s).store) p ∙ cancelled_store d 0 t)
+cancelled_grown d e t (Err x) p q start legal = (grown_same d e q start legal, ap (λ s. (state_of s).store) q)
 
 pub kept_cancelled : {table : List Declared} → (d e : DeskView) (copy : Option (List (Ty × Value))) (ks : List KeptJob) (t : ℕ) (r : Result (Unit {0}) CancelError) → OnOk r (e ≡ with_event d 0 (Cancelled t)) → OnErr r (e ≡ d)
-    → IsLegal e.table e.history → OpenInvariant d copy ks table → OpenInvariant e copy ks table
-kept_cancelled d e copy ks t r p q legal k = let g = cancelled_grown d e t r p q legal in kept_grown d e copy ks g.0 g.1 k
+    → MayStart e.table e.checkpoint → IsLegalFrom (start_state e) e.history → OpenInvariant d copy ks table → OpenInvariant e copy ks table
+kept_cancelled d e copy ks t r p q start legal k = let g = cancelled_grown d e t r p q start legal in kept_grown d e copy ks g.0 g.1 k
 
-finished_grown : (d e : DeskView) (t : ℕ) (r : Result Finish FinishError) → IfOk r (λ f. e ≡ with_event d 0 (finish_of t f)) → OnErr r (e ≡ d) → IsLegal e.table e.history → HasGrown d e
-finished_grown d e t (Ok f) p q legal = grown_next d e 0 (finish_of t f) p legal
-finished_grown d e t (Err x) p q legal = grown_same d e q legal
+finished_grown : (d e : DeskView) (t : ℕ) (r : Result Finish FinishError) → IfOk r (λ f. e ≡ with_event d 0 (finish_of t f)) → OnErr r (e ≡ d) → MayStart e.table e.checkpoint → IsLegalFrom (start_state e) e.history → HasGrown d e
+finished_grown d e t (Ok f) p q start legal = grown_next d e 0 (finish_of t f) p start legal
+finished_grown d e t (Err x) p q start legal = grown_same d e q start legal
 
 pub kept_finished : {table : List Declared} → (d e : DeskView) (copy : Option (List (Ty × Value))) (ks : List KeptJob) (t : ℕ) (r : Result Finish FinishError)
-    → IfOk r (λ f. e ≡ with_event d 0 (finish_of t f)) → OnErr r (e ≡ d) → IsLegal e.table e.history → OpenInvariant d copy ks table → OpenInvariant e None ks table
-kept_finished d e copy ks t r p q legal k = kept_without d e copy ks (finished_grown d e t r p q legal) k
+    → IfOk r (λ f. e ≡ with_event d 0 (finish_of t f)) → OnErr r (e ≡ d) → MayStart e.table e.checkpoint → IsLegalFrom (start_state e) e.history → OpenInvariant d copy ks table → OpenInvariant e None ks table
+kept_finished d e copy ks t r p q start legal k = kept_without d e copy ks (finished_grown d e t r p q start legal) k
 
-stopped_grown : (d e : DeskView) (w : SettleWhy) (f n : ℕ) → HasStopped w 0 (requeued_all d) e f n → IsLegal e.table e.history → HasGrown d e
-stopped_grown d e HistoryFull f n s legal = grown_whats d e 0 (slow_settle (requeued_all d)) s.0.grown legal
-stopped_grown d e CellsFull f n s legal = grown_whats d e 0 (slow_settle (requeued_all d)) s.0.grown legal
-stopped_grown d e NoMemory f n s legal = grown_whats d e 0 s.done s.grown legal
+stopped_grown : (d e : DeskView) (w : SettleWhy) (f n : ℕ) → HasStopped w 0 (requeued_all d) e f n → MayStart e.table e.checkpoint → IsLegalFrom (start_state e) e.history → HasGrown d e
+stopped_grown d e HistoryFull f n s start legal = grown_whats d e 0 (slow_settle (requeued_all d)) s.0.grown start legal
+stopped_grown d e CellsFull f n s start legal = grown_whats d e 0 (slow_settle (requeued_all d)) s.0.grown start legal
+stopped_grown d e NoMemory f n s start legal = grown_whats d e 0 s.done s.grown start legal
 
-settled_grown : (d e : DeskView) (r : Result Settled SettleStop) → SettlesAs 0 (requeued_all d) e r → IsLegal e.table e.history → HasGrown d e
-settled_grown d e (Ok s) p legal = grown_whats d e 0 (slow_settle (requeued_all d)) p.grown legal
-settled_grown d e (Err s) p legal = stopped_grown d e s.why s.finished s.evaluations p legal
+settled_grown : (d e : DeskView) (r : Result Settled SettleStop) → SettlesAs 0 (requeued_all d) e r → MayStart e.table e.checkpoint → IsLegalFrom (start_state e) e.history → HasGrown d e
+settled_grown d e (Ok s) p start legal = grown_whats d e 0 (slow_settle (requeued_all d)) p.grown start legal
+settled_grown d e (Err s) p start legal = stopped_grown d e s.why s.finished s.evaluations p start legal
 
-pub kept_settled : {table : List Declared} → (d e : DeskView) (copy : Option (List (Ty × Value))) (ks : List KeptJob) (r : Result Settled SettleStop) → SettlesAs 0 (requeued_all d) e r → IsLegal e.table e.history → OpenInvariant d copy ks table → OpenInvariant e None ks table
-kept_settled d e copy ks r p legal k = kept_without d e copy ks (settled_grown d e r p legal) k
+pub kept_settled : {table : List Declared} → (d e : DeskView) (copy : Option (List (Ty × Value))) (ks : List KeptJob) (r : Result Settled SettleStop) → SettlesAs 0 (requeued_all d) e r → MayStart e.table e.checkpoint → IsLegalFrom (start_state e) e.history → OpenInvariant d copy ks table → OpenInvariant e None ks table
+kept_settled d e copy ks r p start legal k = kept_without d e copy ks (settled_grown d e r p start legal) k

@@ -3,18 +3,15 @@ use Rattle.std.proofs.Common.{◌≡◌, ℕ, zero, suc, ◌<◌, false, List, [
 use Rattle.std.specs.Prelude.{option_map, is_some, slice_get, IfSome}
 use Rattle.stm_terms.specs.declared.kinds.Ty.{Ty}
 use Rattle.stm_terms.specs.declared.values.Value.{Value}
-use Rattle.stm_check.specs.TypedBlock.{Block}
-use Rattle.stm_store.specs.Tables.{Declared}
 use Rattle.stm_eval.specs.declared.job.Job.{Job}
-use Rattle.stm_events.specs.declared.event.Event.{Event}
-use Rattle.stm_machine.specs.JobsHandedOut.{block_at}
-use Rattle.stm_events.specs.SlowDesk.{Waiter, IsLegal, find_waiter, state}
+use Rattle.stm_events.specs.SlowDesk.{Waiter, Slow, find_waiter}
 use Rattle.stm_desk.specs.DeskView.{DeskView, state_of}
 use Rattle.stm_commands.specs.declared.jobs.KeptJob.{KeptJob}
 use Rattle.stm_commands.specs.Jobs.{job_at}
 use Rattle.stm_commands.specs.OpenDesk.{HandedOut}
 use Rattle.stm_commands.specs.OpenInvariant.{refusal_unevaluated, JobStands, JobsStand, job_kept, IsStored, AreStored, HasStore, HaveStores, HasGrown}
-use Rattle.stm_commands.proofs.GoneTickets.{gone_stays}
+use Rattle.stm_commands.proofs.GoneTickets.{IsGiven, gone_from}
+use Rattle.stm_commands.proofs.LegalDesks.{grown_state, grown_legal, grown_possible}
 
 -- ---- a store that is dropped
 abbrev without_store : KeptJob → KeptJob
@@ -91,28 +88,16 @@ store_of ws k cells h r e =
     cc
 
 -- ---- more events
-waited : (o : Option Waiter) (b : Block) → option_map (λ w. w.block) o ≡ Some b → (v : Waiter) × (o ≡ Some v)
-waited (Some v) b e = (v, refl)
-waited None b e = absurd cc
-
-store_later : (table : List Declared) (before between more : List Event) (k : KeptJob) → IsLegal table ((before ++ between) ++ more) → block_at (state table before) k.ticket ≡ Some k.block
-    → HasStore (state table (before ++ between)).waiters k → HasStore (state table ((before ++ between) ++ more)).waiters k
-store_later table before between more k l b h = λ w f. by w f (find_waiter k.ticket (state table (before ++ between)).waiters) refl
-  where
-    first : (v : Waiter) × (find_waiter k.ticket (state table before).waiters ≡ Some v)
-    first = waited (find_waiter k.ticket (state table before).waiters) k.block b
-
-    by : (w : Waiter) → find_waiter k.ticket (state table ((before ++ between) ++ more)).waiters ≡ Some w → (o : Option Waiter) → find_waiter k.ticket (state table (before ++ between)).waiters ≡ o → IsStored k
-    by w f (Some x) e = h x e
-    by w f None e = let g = gone_stays table before between more k.ticket first.0 l first.1 e in absurd (cc)
+stored_later : (d e : DeskView) (k : KeptJob) (o : Option Waiter) → HasGrown d e → JobStands d (job_kept k) → HasStore (state_of d).waiters k → find_waiter k.ticket (state_of d).waiters ≡ o
+    → HasStore (state_of e).waiters k
+stored_later d e k (Some x) g s h f = λ w l. h x f
+stored_later d e k None g s h f = λ w l.
+    let given : IsGiven k.ticket (state_of d) = record { rising = (grown_possible d e g).rising; given = s.ticket.given } in
+    let gone : find_waiter k.ticket (state_of e).waiters ≡ None = ap (λ (x : Slow). find_waiter k.ticket x.waiters) (grown_state d e g) ∙ gone_from k.ticket (state_of d) g.more (grown_legal d e g) given f in
+    absurd cc
 
 store_grown : (d e : DeskView) (k : KeptJob) → HasGrown d e → JobStands d (job_kept k) → HasStore (state_of d).waiters k → HasStore (state_of e).waiters k
-store_grown d e k g s h =
-    subst (λ (t : List Declared). HasStore (state t e.history).waiters k) (sym g.table)
-    (subst (λ (es : List Event). HasStore (state d.table es).waiters k) (sym (g.history ∙ ap (λ (es : List Event). es ++ g.more) s.history))
-    (store_later d.table s.before s.more g.more k
-    (subst (IsLegal d.table) (g.history ∙ ap (λ (es : List Event). es ++ g.more) s.history) (subst (λ (t : List Declared). IsLegal t e.history) g.table g.legal)) s.waited
-    (subst (λ (es : List Event). HasStore (state d.table es).waiters k) s.history h)))
+store_grown d e k g s h = stored_later d e k (find_waiter k.ticket (state_of d).waiters) g s h refl
 
 pub stores_grown : (d e : DeskView) (ks : List KeptJob) → HasGrown d e → JobsStand d (map job_kept ks) → HaveStores (state_of d).waiters ks → HaveStores (state_of e).waiters ks
 stores_grown d e [] g s h = tt

@@ -1,4 +1,5 @@
 pub mod CellLines
+pub mod CheckpointKept
 pub mod Deliveries
 pub mod DeskSteps
 pub mod EvaluatedHere
@@ -8,6 +9,7 @@ pub mod Growing
 pub mod KeptQueue
 pub mod KeptStores
 pub mod LaterEvents
+pub mod LegalDesks
 pub mod OutTickets
 pub mod PreparedBlocks
 pub mod ReadyTickets

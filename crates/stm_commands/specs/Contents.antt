@@ -7,7 +7,7 @@ use Rattle.stm_check.specs.TypedBlock.{Block}
 use Rattle.stm_store.specs.declared.cell.Cell.{Cell}
 use Rattle.stm_store.specs.Tables.{Declared}
 use Rattle.stm_history.specs.HistoryText.{history_text as text_of_history}
-use Rattle.stm_event_lines.specs.Lines.{latest_format}
+use Rattle.stm_history.specs.Starts.{written_start}
 use Rattle.stm_events.specs.SlowDesk.{Since, Waiter, Slow, Standing, New, Stale, Current, under, find_waiter, standing}
 use Rattle.stm_desk.specs.DeskView.{state_of}
 use Rattle.stm_lines.specs.NumberArgument.{number_argument}
@@ -85,10 +85,10 @@ unfoldable pub store_answer : OpenDesk → List ℕ → List ℕ
 store_answer d argument = with_nothing (store_text d.desk.table (present d)) argument_refused argument
 
 -- ---- history
--- the text of the events so far
+-- the text of the history: where it begins, and the events so far
 abbrev pub events_text : OpenDesk → List ℕ
-events_text d = text_of_history latest_format d.desk.table d.desk.history
+events_text d = text_of_history (written_start d.desk.table d.desk.checkpoint) d.desk.history
 
--- `history`: the events so far, as docs/HISTORY.md has them
+-- `history`: where it begins and the events so far, as docs/HISTORY.md has them
 unfoldable pub history_answer : OpenDesk → List ℕ → List ℕ
 history_answer d argument = with_nothing (events_text d) argument_refused argument

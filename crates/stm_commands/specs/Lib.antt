@@ -1,6 +1,7 @@
 -- What a reader has to believe: what each command does, and what it prints.
 pub mod Arguments
 pub mod Blocks
+pub mod Checkpointing
 pub mod Contents
 pub mod DueTickets
 pub mod Endings

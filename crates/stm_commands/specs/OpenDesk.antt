@@ -1,5 +1,5 @@
 -- An open desk, as the console has it, and its steps: a new desk, and what is printed.
-use Rattle.std.specs.Prelude.{◌≡◌, ℕ, List, [], ◌++◌}
+use Rattle.std.specs.Prelude.{◌≡◌, ℕ, List, [], ◌++◌, None}
 use Rattle.stm_terms.specs.declared.kinds.Ty.{Ty}
 use Rattle.stm_terms.specs.declared.values.Value.{Value}
 use Rattle.stm_check.specs.TypedBlock.{Block}
@@ -20,7 +20,8 @@ pub record OpenDesk : Type 0 where
 
 -- the desk on which nothing has happened, with these variables and a limit of events
 abbrev pub opened_desk : List Declared → ℕ → OpenDesk
-opened_desk table limit = record { desk = record { table = table; limit = limit; history = []; pending = [] }; jobs = [] }
+opened_desk table limit =
+    record { desk = record { table = table; checkpoint = None; limit = limit; history = []; pending = [] }; jobs = [] }
 
 -- the present store
 abbrev pub present : OpenDesk → List Cell

@@ -11,12 +11,13 @@ use Rattle.stm_eval.specs.EvaluatedFields.{message_ticket}
 use Rattle.stm_events.specs.declared.errors.DeliverError.{DeliverError}
 use Rattle.stm_events.specs.declared.errors.DeliverError.TheVariants.{Gone, Already, NoMemory}
 use Rattle.stm_events.specs.declared.event.Event.{Event}
-use Rattle.stm_machine.specs.JobsHandedOut.{block_at}
-use Rattle.stm_events.specs.SlowDesk.{Waiter, IsLegal, is_current, find_waiter, state}
+use Rattle.stm_events.specs.SlowDesk.{Waiter, is_current, find_waiter}
+use Rattle.stm_events.specs.States.{IsTicketOf, IsLegalFrom}
+use Rattle.stm_machine.specs.Checkpoints.{MayStart}
 use Rattle.stm_pool.specs.Answers.{AnswersJob}
 use Rattle.stm_desk.specs.Events.{installation_of}
 use Rattle.stm_desk.specs.Refusals.{RefusesDelivery, requeued_if_overtaken}
-use Rattle.stm_desk.specs.DeskView.{DeskView, state_of, with_event}
+use Rattle.stm_desk.specs.DeskView.{DeskView, start_state, state_of, with_event}
 use Rattle.stm_commands.specs.declared.jobs.KeptJob.{KeptJob}
 use Rattle.stm_commands.specs.declared.evaluation.Progress.{Progress}
 use Rattle.stm_commands.specs.Evaluation.{DeliveredSoFar}
@@ -26,14 +27,10 @@ use Rattle.stm_commands.specs.OpenDesk.{HandedOut}
 abbrev pub handed_out : List (Ty × Value) → Job → HandedOut
 handed_out store j = record { ticket = j.ticket; block = j.block; store = store }
 
--- a kept job is of a block that waited under its ticket when some of the events had happened, and its store has the
--- variables that the block names
+-- the ticket of a kept job was given to its block, and its store has the variables that the block names
 pub record JobStands (d : DeskView) (j : HandedOut) : Type 0 where
   pub covered : Covers j.store j.block.uses
-  pub before : List Event
-  pub more : List Event
-  pub history : d.history ≡ before ++ more
-  pub waited : block_at (state d.table before) j.ticket ≡ Some j.block
+  pub ticket : IsTicketOf j.block (state_of d) j.ticket
 
 -- each of the jobs does
 abbrev pub JobsStand : DeskView → List HandedOut → Type 0
@@ -69,19 +66,22 @@ IsPresentCopy d (Some cells) = cells ≡ plains (state_of d).store
 
 -- what the type of an open desk keeps
 pub record OpenInvariant (d : DeskView) (copy : Option (List (Ty × Value))) (jobs : List KeptJob) (cache : List Declared) : Type 0 where
-  pub legal : IsLegal d.table d.history
+  pub start : MayStart d.table d.checkpoint
+  pub legal : IsLegalFrom (start_state d) d.history
   pub copied : IsPresentCopy d copy
   pub jobs_stand : JobsStand d (map job_kept jobs)
   pub have_stores : HaveStores (state_of d).waiters jobs
   pub same_table : cache ≡ d.table
 
--- the desk has the same table and limit, and maybe more events
+-- the desk has the same table and limit, its history begins where it did, and maybe there are more events
 pub record HasGrown (old new : DeskView) : Type 0 where
   pub table : new.table ≡ old.table
+  pub checkpoint : new.checkpoint ≡ old.checkpoint
   pub limit : new.limit ≡ old.limit
   pub more : List Event
   pub history : new.history ≡ old.history ++ more
-  pub legal : IsLegal new.table new.history
+  pub start : MayStart new.table new.checkpoint
+  pub legal : IsLegalFrom (start_state new) new.history
 
 -- why a delivery is refused whatever is delivered: no block waits, or the one that does is current
 abbrev pub refusal_unevaluated : Option Waiter → Option DeliverError

@@ -6,7 +6,7 @@ use Rattle.stm_events.specs.Ready.{is_ready}
 use Rattle.stm_events.specs.SlowDesk.{Slow}
 use Rattle.stm_history.specs.HistoryText.{event_lines}
 use Rattle.stm_desk.specs.declared.reason.Change.{Change}
-use Rattle.stm_desk.specs.Reasons.{WaitReason, NotEvaluated, IsStale, Waits, CanFinish, reason_of}
+use Rattle.stm_desk.specs.Reasons.{WaitReason, NotEvaluated, IsStale, WasStale, Waits, CanFinish, reason_of}
 use Rattle.stm_desk.specs.DeskView.{state_of}
 use Rattle.stm_lines.specs.NumberArgument.{number_argument}
 use Rattle.stm_commands.specs.Arguments.{with_number, with_nothing, argument_refused}
@@ -40,6 +40,7 @@ change_text c = codes "#" ++ decimal c.variable ++ codes "=" ++ value_text c.rea
 abbrev pub reason_text : WaitReason → List ℕ
 reason_text NotEvaluated = codes "new"
 reason_text (IsStale cause) = codes "stale " ++ decimal cause.finish ++ spaced change_text cause.changes
+reason_text WasStale = codes "stale checkpoint"
 reason_text (Waits reads) = codes "waits " ++ list_text write_text reads
 reason_text CanFinish = codes "ready"
 

@@ -1,15 +1,16 @@
 //! Deliveries of what the blocks of jobs do.
 
 ghost use Rattle.std.specs.Prelude.{◌≡◌, ◌≢◌, Some, IfOk, OnOk};
-ghost use Rattle.stm_events.specs.SlowDesk.{IsLegal, find_waiter};
-ghost use Rattle.stm_desk.specs.DeskView.{state_of};
+ghost use Rattle.stm_events.specs.SlowDesk.{find_waiter};
+ghost use Rattle.stm_events.specs.States.{IsLegalFrom};
+ghost use Rattle.stm_machine.specs.Checkpoints.{MayStart};
+ghost use Rattle.stm_desk.specs.DeskView.{start_state, state_of};
 ghost use Rattle.stm_commands.specs.Jobs.{delivery_refusal, deliver_job_step};
 ghost use Rattle.stm_commands.specs.OpenInvariant.{refusal_unevaluated, handed_out, JobStands, HasGrown, after_message, IsRefusedFor};
 
 use std::alloc::{AllocError, Global};
 use stm_desk::{DeliverError, Desk, Status};
 use stm_eval::{Evaluated, Job, evaluate};
-use stm_events::laws::blocks_stay;
 use stm_store::Frozen;
 use stm_terms::NoMemory;
 
@@ -64,7 +65,8 @@ pub fn deliver_job(
     store: &Frozen,
     job: Job,
 ) -> Result<Option<DeliverError>, NoMemory>
-    requires legal { IsLegal desk.old.table desk.old.history }
+    requires start { MayStart desk.old.table desk.old.checkpoint }
+    requires legal { IsLegalFrom (start_state desk.old) desk.old.history }
     requires stands { JobStands desk.old (handed_out store.now job) }
     ensures told { IfOk result (λ r. r ≡ delivery_refusal desk.old (handed_out store.now job)) }
     ensures done { OnOk result
@@ -72,7 +74,6 @@ pub fn deliver_job(
     ensures grown { HasGrown desk.old desk.new }
     ensures store { (state_of desk.new).store ≡ (state_of desk.old).store }
 {
-    blocks_stay();
     match evaluate(alloc, job, store) {
         Ok(message) => deliver_message(desk, message),
         Err((_, refused)) => Err(refused),

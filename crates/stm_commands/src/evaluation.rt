@@ -6,8 +6,10 @@ ghost use Rattle.stm_terms.specs.declared.values.Value.{Value};
 ghost use Rattle.stm_eval.specs.declared.job.Job.{Job};
 ghost use Rattle.stm_pool.specs.Answers.{IsMessageOf, AnswersJob};
 ghost use Rattle.stm_machine.specs.JobsHandedOut.{AreJobsCovered};
-ghost use Rattle.stm_events.specs.SlowDesk.{IsLegal, max_waiting};
-ghost use Rattle.stm_desk.specs.DeskView.{state_of};
+ghost use Rattle.stm_events.specs.SlowDesk.{max_waiting};
+ghost use Rattle.stm_events.specs.States.{IsLegalFrom};
+ghost use Rattle.stm_machine.specs.Checkpoints.{MayStart};
+ghost use Rattle.stm_desk.specs.DeskView.{start_state, state_of};
 ghost use Rattle.stm_options.specs.declared.options.TheConstants.Options.{MAX_WORKERS};
 ghost use Rattle.stm_commands.specs.Evaluation.{delivered_next, delivered_all, evaluated};
 ghost use Rattle.stm_commands.specs.OpenInvariant.{handed_out, JobStands, JobsStand, HasGrown, AnswerJobs, delivered_so_far, none_delivered};
@@ -19,7 +21,6 @@ use std::mem;
 use std::thread::Threads;
 use stm_desk::{DeliverError, Desk};
 use stm_eval::{Evaluated, Job};
-use stm_events::laws::blocks_stay;
 use stm_pool::{Answer, evaluate_all};
 use stm_store::Frozen;
 use stm_terms::NoMemory;
@@ -34,7 +35,8 @@ pub struct Progress {
 /// Delivers the next message, unless one was refused before: then its ticket is queued again.
 fn deliver_next(desk: &mut Desk, message: Evaluated, so_far: Progress) -> Result<Progress, NoMemory>
     requires few { so_far.count < max_waiting }
-    requires legal { IsLegal desk.old.table desk.old.history }
+    requires start { MayStart desk.old.table desk.old.checkpoint }
+    requires legal { IsLegalFrom (start_state desk.old) desk.old.history }
     ensures done { (cells : List (Ty × Value)) (job : Job) → IsMessageOf job cells message →
         JobStands desk.old (handed_out cells job) → IfOk result (λ p. delivered_so_far desk.new p
         ≡ delivered_next (delivered_so_far desk.old so_far) (handed_out cells job) so_far.stop) }
@@ -42,7 +44,6 @@ fn deliver_next(desk: &mut Desk, message: Evaluated, so_far: Progress) -> Result
     ensures grown { HasGrown desk.old desk.new }
     ensures store { (state_of desk.new).store ≡ (state_of desk.old).store }
 {
-    blocks_stay();
     let ticket = message.ticket();
     if so_far.stop.is_some() {
         desk.hand_back(ticket);
@@ -65,7 +66,8 @@ fn deliver_next(desk: &mut Desk, message: Evaluated, so_far: Progress) -> Result
 /// Delivers the next answer. A job that wasn't evaluated tells that memory ran out.
 fn deliver_answer(desk: &mut Desk, answer: Answer, so_far: Progress) -> Result<Progress, NoMemory>
     requires few { so_far.count < max_waiting }
-    requires legal { IsLegal desk.old.table desk.old.history }
+    requires start { MayStart desk.old.table desk.old.checkpoint }
+    requires legal { IsLegalFrom (start_state desk.old) desk.old.history }
     ensures done { (cells : List (Ty × Value)) (job : Job) → AnswersJob job cells answer →
         JobStands desk.old (handed_out cells job) → IfOk result (λ p. delivered_so_far desk.new p
         ≡ delivered_next (delivered_so_far desk.old so_far) (handed_out cells job) so_far.stop) }
@@ -87,7 +89,8 @@ fn deliver_answers(
     before: Progress,
 ) -> Result<Progress, NoMemory>
     requires few { before.count + vec_len answers ≤ max_waiting }
-    requires legal { IsLegal desk.old.table desk.old.history }
+    requires start { MayStart desk.old.table desk.old.checkpoint }
+    requires legal { IsLegalFrom (start_state desk.old) desk.old.history }
     ensures done { (cells : List (Ty × Value)) (jobs : List Job) →
         AnswerJobs jobs cells answers.items → JobsStand desk.old (map (handed_out cells) jobs) →
         IfOk result (λ p. delivered_so_far desk.new p
@@ -132,7 +135,8 @@ fn evaluate_batch<T: Threads + Sync>(
     before: Progress,
 ) -> Result<Progress, NoMemory>
     requires few { before.count + vec_len jobs ≤ max_waiting }
-    requires legal { IsLegal desk.old.table desk.old.history }
+    requires start { MayStart desk.old.table desk.old.checkpoint }
+    requires legal { IsLegalFrom (start_state desk.old) desk.old.history }
     requires covered { AreJobsCovered store.now jobs.items }
     requires stand { JobsStand desk.old (map (handed_out store.now) jobs.items) }
     ensures done { IfOk result (λ p. delivered_so_far desk.new p
@@ -162,7 +166,8 @@ fn evaluate_jobs<T: Threads + Sync>(
     jobs: Vec<Job>,
 ) -> Result<Progress, NoMemory>
     requires few { vec_len jobs ≤ max_waiting }
-    requires legal { IsLegal desk.old.table desk.old.history }
+    requires start { MayStart desk.old.table desk.old.checkpoint }
+    requires legal { IsLegalFrom (start_state desk.old) desk.old.history }
     requires covered { AreJobsCovered store.now jobs.items }
     requires stand { JobsStand desk.old (map (handed_out store.now) jobs.items) }
     ensures done { IfOk result (λ p. delivered_so_far desk.new p
@@ -196,7 +201,8 @@ fn evaluate_by_threads<T: Threads + Sync>(
     alloc: Global,
     threading: Threading,
 ) -> Result<Progress, NoMemory>
-    requires { IsLegal desk.old.table desk.old.history }
+    requires start { MayStart desk.old.table desk.old.checkpoint }
+    requires legal { IsLegalFrom (start_state desk.old) desk.old.history }
     ensures done { IfOk result (λ p. delivered_so_far desk.new p ≡ evaluated desk.old) }
     ensures grown { HasGrown desk.old desk.new }
     ensures store { (state_of desk.new).store ≡ (state_of desk.old).store }
@@ -267,7 +273,8 @@ pub fn evaluate_queued<T: Threads + Sync>(
     alloc: Global,
     threading: Threading,
 ) -> Result<Progress, NoMemory>
-    requires { IsLegal desk.old.table desk.old.history }
+    requires start { MayStart desk.old.table desk.old.checkpoint }
+    requires legal { IsLegalFrom (start_state desk.old) desk.old.history }
     ensures done { IfOk result (λ p. delivered_so_far desk.new p ≡ evaluated desk.old) }
     ensures grown { HasGrown desk.old desk.new }
     ensures store { (state_of desk.new).store ≡ (state_of desk.old).store }

@@ -1,10 +1,14 @@
 //! The desk of a console that has opened.
 
-ghost use Rattle.std.specs.Prelude.{◌≡◌, ◌≤◌, [], IfOk};
+ghost use Rattle.std.specs.Prelude.{◌≡◌, ℕ, ◌≤◌, List, [], IfOk, option_map};
 ghost use Rattle.stm_terms.specs.UnlessNoMemory.{AnswersExcept};
+ghost use Rattle.stm_terms.specs.declared.kinds.Ty.{Ty};
 ghost use Rattle.stm_store.specs.Cells.{Covers, plains};
 ghost use Rattle.stm_store.specs.Tables.{opened};
-ghost use Rattle.stm_events.specs.SlowDesk.{IsLegal, max_events};
+ghost use Rattle.stm_events.specs.SlowDesk.{max_events};
+ghost use Rattle.stm_events.specs.States.{IsLegalFrom};
+ghost use Rattle.stm_machine.specs.Checkpoints.{MayStart};
+ghost use Rattle.stm_desk.specs.DeskView.{start_state};
 ghost use Rattle.stm_blocks.specs.CompiledBlock.{compiled_block};
 ghost use Rattle.stm_blocks.specs.OutOfMemory.{IsOutOfMemory};
 ghost use Rattle.stm_commands.specs.OpenDesk.{opened_desk, present};
@@ -16,7 +20,7 @@ use std::alloc::Global;
 use std::marker::Model;
 use stm_blocks::Refusal;
 use stm_check::SharedBlock;
-use stm_desk::Desk;
+use stm_desk::{Checkpoint, Desk};
 use stm_events::Event;
 use stm_store::{Frozen, Table};
 use stm_terms::NoMemory;
@@ -102,16 +106,26 @@ impl OpenDesk {
     /// The events so far.
     pub fn history(&self) -> &[Event]
         ensures history { result.now ≡ self.now.desk.history }
-        ensures legal { IsLegal self.now.desk.table self.now.desk.history }
+        ensures start { MayStart self.now.desk.table self.now.desk.checkpoint }
+        ensures legal { IsLegalFrom (start_state self.now.desk) self.now.desk.history }
     {
         self.desk.history()
+    }
+
+    /// The checkpoint that the history begins from; none if it begins with the first values of the variables.
+    pub fn begins_from(&self) -> Option<&Checkpoint>
+        ensures { option_map (λ c. c.now) result ≡ self.now.desk.checkpoint }
+    {
+        self.desk.begins_from()
     }
 
     /// The copy of the present store, as blocks are run on it: the one that is kept, or a new one.
     pub fn take_copy(&mut self) -> Result<Frozen, NoMemory>
         ensures same { self.new ≡ self.old }
         ensures store { IfOk result (λ f. f ≡ plains (present self.old)) }
-        ensures legal { IsLegal self.old.desk.table self.old.desk.history }
+        // It has what the declared variables have.
+        ensures covers { (uses : List (ℕ × Ty)) → Covers (plains (opened self.old.desk.table)) uses
+            → Covers (plains (present self.old)) uses }
     {
         match self.copy.take() {
             Some(copy) => Ok(copy),

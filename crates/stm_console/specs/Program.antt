@@ -8,7 +8,9 @@ use Rattle.stm_history.specs.declared.files.loading.Loaded.{Loaded}
 use Rattle.stm_journal.specs.Text.{recovered}
 use Rattle.stm_durable.specs.Durable.{LoadsFront}
 use Rattle.stm_run.specs.declared.console.Console.{Console}
-use Rattle.stm_run.specs.Console.{answers_to, console_text}
+use Rattle.stm_run.specs.Console.{console_text}
+use Rattle.stm_run.specs.LineCheckpoints.{answers_by}
+use Rattle.stm_options.specs.declared.options.Options.{Options}
 use Rattle.stm_durable_run.specs.DurableRun.{resumed_console}
 use Rattle.stm_storm.specs.StormText.{IsFailedStormText, IsStormText}
 use Rattle.stm_exploration.specs.ExploreEnd.{WritesRight}
@@ -86,18 +88,19 @@ WritesPartOf s text = AppendsPartOf s.before s.after text
 
 -- ---- a run on a file
 
--- a run that begins as this console writes the whole text of its input, or a part of it
-abbrev pub RunsFrom : Console → Streams → ℕ → Type 0
-RunsFrom console s status =
-    ((status ≡ DONE) × IfSome s.input (λ input. Writes s (answers_to console (lines_of input))))
-    ⊎ (IsFailure status × IfSome s.input (λ input. WritesPartOf s (answers_to console (lines_of input))))
+-- a run that begins as this console, and makes a checkpoint by itself at as many events as this, writes the whole text of its input, or a part
+-- of it
+abbrev pub RunsFrom : ℕ → Console → Streams → ℕ → Type 0
+RunsFrom every console s status =
+    ((status ≡ DONE) × IfSome s.input (λ input. Writes s (answers_by every console (lines_of input))))
+    ⊎ (IsFailure status × IfSome s.input (λ input. WritesPartOf s (answers_by every console (lines_of input))))
 
 -- It goes on from the history that was loaded of the file, of which these are the bytes if they are known; or it ends before
 -- anything is read or written: the file has no history, or it can't be opened.
-abbrev pub RunsOn : ℕ → Option (List ℕ) → Streams → ℕ → Type 0
-RunsOn max_events contents s status =
+abbrev pub RunsOn : Options → Option (List ℕ) → Streams → ℕ → Type 0
+RunsOn options contents s status =
     ((loaded : Option Loaded) × IfSome contents (λ bytes. LoadsFront (recovered bytes) loaded)
-    × RunsFrom (resumed_console max_events loaded) s status)
+    × RunsFrom options.checkpoint_every (resumed_console options.max_events loaded) s status)
     ⊎ (ReadsNothing s × WritesNothing s × (((status ≡ NOT_RIGHT) × IfSome contents HasNoHistory) ⊎ IsFailure status))
 
 -- ---- what the program does
@@ -121,7 +124,7 @@ ProgramDoes (Do (Run options)) s status =
     ((status ≡ DONE) × IfSome s.input (λ input. Writes s (console_text options.max_events input)))
     ⊎ (IsFailure status × IfSome s.input (λ input. WritesPartOf s (console_text options.max_events input)))
 -- a run on a file goes on from the history that the file has
-ProgramDoes (Do (RunOn options sync file)) s status = RunsOn options.max_events (s.files file) s status
+ProgramDoes (Do (RunOn options sync file)) s status = RunsOn options (s.files file) s status
 -- a storm writes a text of its script; a failed one if the history that its clients left isn't found legal
 ProgramDoes (Do (Storm options)) s status =
     ((status ≡ DONE) × IfSome s.input (λ input. (text : List ℕ) × IsStormText input text × Writes s text))

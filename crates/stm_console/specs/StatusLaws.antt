@@ -5,7 +5,8 @@ use Rattle.stm_history.specs.declared.files.loading.Loaded.{Loaded}
 use Rattle.stm_journal.specs.declared.sync_mode.SyncMode.{SyncMode}
 use Rattle.stm_journal.specs.Text.{recovered}
 use Rattle.stm_durable.specs.Durable.{LoadsFront}
-use Rattle.stm_run.specs.Console.{answers_to, console_text}
+use Rattle.stm_run.specs.Console.{console_text}
+use Rattle.stm_run.specs.LineCheckpoints.{answers_by}
 use Rattle.stm_durable_run.specs.DurableRun.{resumed_console}
 use Rattle.stm_storm.specs.StormText.{IsStormText}
 use Rattle.stm_exploration.specs.ExploreEnd.{WritesRight}
@@ -81,7 +82,7 @@ abbrev pub DoneFilesAnswer : Type 0
 DoneFilesAnswer = (options : Options) (sync : SyncMode) (file : List ℕ) (s : Streams)
     → ProgramDoes (Do (RunOn options sync file)) s DONE
     → (loaded : Option Loaded) × IfSome (s.files file) (λ bytes. LoadsFront (recovered bytes) loaded)
-    × IfSome s.input (λ input. Writes s (answers_to (resumed_console options.max_events loaded) (lines_of input)))
+    × IfSome s.input (λ input. Writes s (answers_by options.checkpoint_every (resumed_console options.max_events loaded) (lines_of input)))
 
 -- a storm's script is right, and a text of it was written
 abbrev pub DoneStormsReport : Type 0
@@ -110,7 +111,7 @@ OtherFilesWriteAPart = (options : Options) (sync : SyncMode) (file : List ℕ) (
     → ProgramDoes (Do (RunOn options sync file)) s status → status ≢ DONE
     → WritesNothing s
     ⊎ ((loaded : Option Loaded) × IfSome (s.files file) (λ bytes. LoadsFront (recovered bytes) loaded)
-    × IfSome s.input (λ input. WritesPartOf s (answers_to (resumed_console options.max_events loaded) (lines_of input))))
+    × IfSome s.input (λ input. WritesPartOf s (answers_by options.checkpoint_every (resumed_console options.max_events loaded) (lines_of input))))
 
 -- a part of what a check prints of the bytes was written, if not all of it
 abbrev pub OtherChecksWriteAPart : Type 0

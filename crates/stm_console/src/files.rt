@@ -6,7 +6,7 @@ ghost use Rattle.stm_console.specs.Journal.{open_status};
 use crate::status::{FAILED, NO_MEMORY};
 use std::io;
 use std::io::ErrorKind;
-use stm_journal::Device;
+use stm_journal::{Device, Replace};
 use thiserror::Error;
 
 /// Why a file can't be opened.
@@ -61,7 +61,7 @@ impl From<io::Error> for OpenError {
 /// Files by their names.
 pub trait JournalFiles {
     /// A file that is open.
-    type File: Device + Drop;
+    type File: Device + Replace + Drop;
 
     /// The bytes of the file of this name, if they are known; none of a file that is missing.
     ghost contents: { Self → List ℕ → Option (List ℕ) };

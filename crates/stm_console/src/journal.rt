@@ -15,7 +15,7 @@ use std::thread::Threads;
 use stm_durable::{OpenFault, Opened, open_history};
 use stm_durable_run::{DurableFault, run_durable};
 use stm_history::{HistoryFault, LoadFault, Loaded};
-use stm_journal::{Device, JournalError, SyncMode};
+use stm_journal::{JournalError, Replace, SyncMode};
 use stm_lines::RunFault;
 use stm_options::Options;
 use stm_store::Seed;
@@ -75,7 +75,7 @@ fn report_load<E: Write>(name: &str, fault: LoadFault, errors: &mut E) -> u8
         LoadFault::OldFormat(format) => {
             let _ = writeln!(
                 errors,
-                "stmdesk: {name}: format {format}; a journal has format 3"
+                "stmdesk: {name}: format {format}; a journal has format 3 or 4"
             );
             NOT_RIGHT
         }
@@ -132,14 +132,16 @@ fn report_dropped<E: Write>(name: &str, dropped: usize, errors: &mut E) {
     }
 }
 
-/// How many events a history has, if it has no room for another one.
-fn full_count(loaded: &Option<Loaded>, max_events: u32) -> Option<usize>
-    ensures { result ≡ None → IfSome loaded.now (λ h. length h.events.items ≤ max_events) }
+/// How many events a history has, if it has no room for another one. It is no obstacle if checkpoints are made at as many events:
+/// then the command `checkpoint` makes room.
+fn full_count(loaded: &Option<Loaded>, options: Options) -> Option<usize>
+    ensures { result ≡ None → IfSome loaded.now (λ h. length h.events.items ≤ options.max_events) }
 {
     match loaded {
         Some(loaded) => {
             let count = loaded.events.len();
-            if count < max_events as usize {
+            let limit = options.max_events as usize;
+            if count < limit || (count == limit && count >= options.checkpoint_every as usize) {
                 None
             } else {
                 Some(count)
@@ -150,7 +152,7 @@ fn full_count(loaded: &Option<Loaded>, max_events: u32) -> Option<usize>
 }
 
 /// A run on a device that was opened.
-fn run_on_device<T: Threads + RandomSource + Sync, D: Device + Drop, R: Read, W: Write, E: Write>(
+fn run_on_device<T: Threads + RandomSource + Sync, D: Replace + Drop, R: Read, W: Write, E: Write>(
     rt: &T,
     alloc: Global,
     options: Options,
@@ -163,7 +165,7 @@ fn run_on_device<T: Threads + RandomSource + Sync, D: Device + Drop, R: Read, W:
 ) -> u8
     requires { AreRunOptions options }
     ensures { (contents : Option (List ℕ)) → IfSome contents (λ bytes. IsTrue D.is_honest × (D.seen device ≡ bytes))
-        → RunsOn options.max_events contents (streams (R.remaining reader.old) (R.remaining reader.new)
+        → RunsOn options contents (streams (R.remaining reader.old) (R.remaining reader.new)
         (W.contents writer.old) (W.contents writer.new)) result }
 {
     match open_history(alloc, Seed::random(rt), device, sync) {
@@ -174,7 +176,7 @@ fn run_on_device<T: Threads + RandomSource + Sync, D: Device + Drop, R: Read, W:
                 found,
             } = opened;
             report_dropped(name, found.dropped, errors);
-            match full_count(&loaded, options.max_events) {
+            match full_count(&loaded, options) {
                 Some(count) => {
                     let _ = writeln!(
                         errors,
@@ -215,7 +217,7 @@ pub(crate) fn run_on_file<
     errors: &mut E,
 ) -> u8
     requires { AreRunOptions options }
-    ensures { RunsOn options.max_events (F.contents files.now name.now)
+    ensures { RunsOn options (F.contents files.now name.now)
         (streams (R.remaining reader.old) (R.remaining reader.new) (W.contents writer.old) (W.contents writer.new)) result }
 {
     match files.open(name) {

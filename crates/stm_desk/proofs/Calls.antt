@@ -7,15 +7,16 @@ use Rattle.stm_store.specs.Tables.{Declared}
 use Rattle.stm_check.specs.TypedBlock.{Block}
 use Rattle.stm_events.specs.declared.event.Event.{Event}
 use Rattle.stm_events.specs.declared.event.What.{What}
-use Rattle.stm_events.specs.declared.staleness.StalenessRule.TheVariants.{Changed}
-use Rattle.stm_events.specs.SlowDesk.{Slow, initial_state, state, max_events, max_clients}
+use Rattle.stm_events.specs.SlowDesk.{Slow, state_from, max_clients}
 use Rattle.stm_events.specs.Refusals.{submit_refused, cancel_refused}
 use Rattle.stm_events.specs.Laws.{SubmitsWellTyped}
-use Rattle.stm_events.proofs.Folds.{state-push, is_legal-push}
-use Rattle.stm_events.proofs.Rising.{tickets_rise}
+use Rattle.stm_events.proofs.Folds.{state-push, legal-push}
+use Rattle.stm_events.proofs.Rising.{next_le}
 use Rattle.stm_events.proofs.TypedStores.{submitted-append}
+use Rattle.stm_machine.specs.Checkpoints.{CheckpointView, start_of, max_next}
 use Rattle.stm_machine.specs.Machine.{Parts, IsAt, HasTicketLeft, MovesBy, event}
 use Rattle.stm_desk.specs.Kept.{DeskInvariant}
+use Rattle.stm_desk.proofs.Starts.{start_next}
 
 -- what the machine says of what a call returns, at the state that it is at
 pub at_state : {A E : Type 0} (m : Parts) (s : Slow) (r : Result A E) (P : Slow → A → Type 0) → IsAt m s → IfOk r (λ x. (s : Slow) → IsAt m s → P s x) → IfOk r (λ x. P s x)
@@ -48,30 +49,42 @@ refused_alike A B no_memory (Some r) e h = ap (as_error B) (same_error e r (as_e
 fits_in : (limit n : ℕ) → nat_le limit n ≡ false → n < limit
 fits_in limit n e = grind (arith, nat_tests)
 
-module _ (table : List Declared) (limit : ℕ) (history : List Event) (m : Parts) (k : DeskInvariant table limit history m) where
+module _ (table : List Declared) (checkpoint : Option CheckpointView) (limit : ℕ) (history : List Event) (m : Parts) (k : DeskInvariant table checkpoint limit history m) where
   abbrev full : Bool
   full = nat_le limit (length history)
 
-  pub ticket_left : HasTicketLeft (state table history)
-  ticket_left = let f = (tickets_rise Changed table history k.legal).few in let a = k.few in let b = k.small in omega arith
+  abbrev start : Slow
+  start = start_of table checkpoint
 
-  pub may_submit : (block : Block) → full ≡ false → submit_refused (state table history) full block ≡ None → submit_refused (state table history) false block ≡ None
-  may_submit block r e = subst (λ (b : Bool). submit_refused (state table history) b block ≡ None) r e
+  abbrev now : Slow
+  now = state_from start history
 
-  pub may_cancel : (t : ℕ) → full ≡ false → cancel_refused (state table history) full t ≡ None → cancel_refused (state table history) false t ≡ None
-  may_cancel t r e = subst (λ (b : Bool). cancel_refused (state table history) b t ≡ None) r e
+  pub ticket_left : full ≡ false → HasTicketLeft now
+  ticket_left e =
+      let few : length history < limit = fits_in limit (length history) e in
+      let small = k.small in
+      let first : start.next ≤ max_next = start_next table checkpoint k.start in
+      let low : now.next ≤ start.next + length history = next_le start history in
+      omega arith
+
+  pub may_submit : (block : Block) → full ≡ false → submit_refused now full block ≡ None → submit_refused now false block ≡ None
+  may_submit block r e = subst (λ (b : Bool). submit_refused now b block ≡ None) r e
+
+  pub may_cancel : (t : ℕ) → full ≡ false → cancel_refused now full t ≡ None → cancel_refused now false t ≡ None
+  may_cancel t r e = subst (λ (b : Bool). cancel_refused now b t ≡ None) r e
 
   -- the machine moved, and the history has the event more
-  pub kept_move : (client : ℕ) (what : What) (new : Parts) → client < max_clients → full ≡ false → SubmitsWellTyped what → MovesBy what m new → DeskInvariant table limit (history ++ event client what ∷ []) new
+  pub kept_move : (client : ℕ) (what : What) (new : Parts) → client < max_clients → full ≡ false → SubmitsWellTyped what → MovesBy what m new → DeskInvariant table checkpoint limit (history ++ event client what ∷ []) new
   kept_move client what new low e typed moves =
-      let moved = moves (state table history) k.at in
+      let moved = moves now k.at in
       let l : length history < limit = fits_in limit (length history) e in
       let s = k.small in
-      let few : length history + 1 ≤ max_events = omega arith in
+      let len : length (history ++ event client what ∷ []) ≡ length history + 1 = length-append history (event client what ∷ []) in
       record {
-        legal = is_legal-push Changed table history (event client what) k.legal few (record { client = low; what = moved.0 });
-        at = subst (λ (x : Slow). IsAt new x) (sym (state-push (initial_state Changed table) history (event client what))) moved.1;
-        few = omega (arith, length-append history (event client what ∷ []));
+        start = k.start;
+        legal = record { each = legal-push start history (event client what) k.legal.each (record { client = low; what = moved.0 }); few = omega arith };
+        at = subst (λ (x : Slow). IsAt new x) (sym (state-push start history (event client what))) moved.1;
+        few = omega arith;
         small = k.small;
         typed = submitted-append history (event client what ∷ []) k.typed (typed, tt);
       }

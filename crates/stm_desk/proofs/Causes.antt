@@ -1,5 +1,5 @@
 -- A stale block has a cause, and what the events write tells it.
-use Rattle.std.proofs.Common.{◌≡◌, ℕ, ◌+◌, ◌≤◌, Bool, true, false, ◌||◌, List, [], ◌∷◌, ◌++◌, Option, Some, None, IsSome, inl, inr, length, refl, sym, ap, subst, ◌∙◌, arith, length-append}
+use Rattle.std.proofs.Common.{◌≡◌, ℕ, ◌+◌, ◌≤◌, Bool, true, false, not, ◌&&◌, ◌||◌, List, [], ◌∷◌, ◌++◌, Option, Some, None, IsSome, inl, inr, length, refl, sym, ap, subst, ◌∙◌, arith}
 use Rattle.std.specs.Prelude.{nat_eq, is_some, IsSomeAnd}
 use Rattle.std.specs.List.{list_any}
 use Rattle.std.proofs.lemmas.Bool.Decides.{nat_tests}
@@ -10,28 +10,33 @@ use Rattle.stm_terms.specs.declared.verdicts.Verdict.TheVariants.{Commits, Throw
 use Rattle.stm_terms.specs.Changes.{find}
 use Rattle.stm_terms.specs.ReadSet.{reads_of}
 use Rattle.stm_store.specs.declared.cell.Cell.{Cell}
-use Rattle.stm_store.specs.Cells.{plains, Fits, StoreIsTyped, applied, made_by, changed_by}
-use Rattle.stm_store.specs.Tables.{Declared, declared_cells}
+use Rattle.stm_store.specs.Cells.{plains, Fits, applied, made_by, changed_by}
 use Rattle.stm_store.proofs.ChangedVariables.{changed_differ}
 use Rattle.stm_store.proofs.FreshNumbersInRange.{writable, rising}
 use Rattle.stm_store.specs.FreshReferences.{AreWritable}
+use Rattle.stm_check.specs.TypedBlock.{Block}
 use Rattle.stm_eval.specs.Laws.{In}
 use Rattle.stm_eval.proofs.FragmentsAndStores.{looked}
 use Rattle.stm_events.specs.declared.event.Event.{Event}
 use Rattle.stm_events.specs.declared.event.What.{What}
 use Rattle.stm_events.specs.declared.event.What.TheVariants.{Submitted, Installed, Finished, Cancelled}
 use Rattle.stm_events.specs.declared.staleness.StalenessRule.TheVariants.{Changed}
-use Rattle.stm_events.specs.Headline.{waking_at, waking_from}
+use Rattle.stm_events.specs.Headline.{is_installed, waking_at, waking_from}
 use Rattle.stm_events.specs.Laws.{SubmittedAreWellTyped}
-use Rattle.stm_events.specs.SlowDesk.{Since, Waiter, Slow, MayFinish, AllowsEvent, under, looked_on, intersects, is_stale_since, find_waiter, after, initial_state, state_from, state, LegalFrom, IsLegal, max_events}
-use Rattle.stm_events.proofs.Folds.{state-push, is_legal-push, after-rule, state-rule}
-use Rattle.stm_events.proofs.Since.{IsSince}
-use Rattle.stm_events.proofs.TypedStores.{submitted-append, waiting_are_well_typed, stores_are_typed, blocks_have_verdicts}
+use Rattle.stm_events.specs.SlowDesk.{Since, Waiter, Slow, MayFinish, Allows, under, verdict_on, looked_on, intersects, is_stale_since, is_new_since, current_since, find_waiter, after, state_from, LegalFrom}
+use Rattle.stm_events.specs.States.{HadVerdict, IsPossible, IsTypedState}
+use Rattle.stm_events.proofs.Alike.{meets-append}
+use Rattle.stm_events.proofs.Folds.{after-rule, state-rule}
+use Rattle.stm_events.proofs.Fresh.{still_holds}
+use Rattle.stm_events.proofs.Possible.{possible_after, had_waiter, some_verdict}
+use Rattle.stm_events.proofs.SinceFrom.{IsSinceFrom, IsSinceBefore}
+use Rattle.stm_events.proofs.TypedStores.{typed_after, typed_verdict}
 use Rattle.stm_desk.specs.declared.reason.Change.{Change}
-use Rattle.stm_desk.specs.Reasons.{changes_from, ticket_of, Cause, cause_or, first_cause, cause_since_delivery}
+use Rattle.stm_desk.specs.Reasons.{changes_from, ticket_of, Cause, cause_or, first_cause, cause_since_delivery, was_stale}
 use Rattle.stm_desk.specs.ReasonsTold.{left_by_verdict, HasWritable, IsWritable, EachIsWritable, changes_told, cause_told, events_since}
-use Rattle.stm_desk.proofs.EventsSince.{since_delivery, cause_after}
+use Rattle.stm_desk.proofs.EventsSince.{installed_mid, since_delivery, cause_after, none_since}
 use Rattle.stm_desk.proofs.ReadValues.{AreRead, reads_are, found_read, unchanged, is_within, are_left}
+use Rattle.stm_desk.proofs.Starts.{IsTypedHistory}
 
 -- ---- each verdict of a history fits the store on which it takes effect
 record IsFinish (s : Slow) (v : Verdict) (n : ℕ) : Type 0 where
@@ -49,41 +54,28 @@ abbrev FitFrom : Slow → List Event → Type 0
 FitFrom s [] = Unit {0}
 FitFrom s (e ∷ es) = FitsHere s e.what × FitFrom (after s e.what) es
 
-finish_fits : (table : List Declared) (h : List Event) (t : ℕ) (v : Verdict) (n : ℕ) (l : List ℕ) (o : Option Waiter) → IsLegal table h → SubmittedAreWellTyped h → StoreIsTyped (declared_cells table)
-    → find_waiter t (state table h).waiters ≡ o → IsSomeAnd o (λ w. MayFinish (state table h) t w v n l) → IsFinish (state table h) v n
-finish_fits table h t v n l None legal typed cells e m = absurd m
-finish_fits table h t v n l (Some w) legal typed cells e m =
-    let b = waiting_are_well_typed Changed table h t w typed e in
-    let p = blocks_have_verdicts Changed table h t w b.0 legal (stores_are_typed Changed table h cells typed legal) e b.1 in
+finish_fits : (s : Slow) (t : ℕ) (v : Verdict) (n : ℕ) (l : List ℕ) (o : Option Waiter) → IsPossible s → IsTypedState s → find_waiter t s.waiters ≡ o → IsSomeAnd o (λ w. MayFinish s t w v n l) → IsFinish s v n
+finish_fits s t v n l None possible typed e m = absurd m
+finish_fits s t v n l (Some w) possible typed e m =
+    let p = typed_verdict s t w possible typed e in
     let q : p.0 ≡ v = (let f = m.verdict_is in let g = p.1 in cc (f, g)) in
-    record { fits = subst (Fits (plains (state table h).store)) q p.2; first_new = m.first_new; room = m.room }
+    record { fits = subst (Fits (plains s.store)) q p.2; first_new = m.first_new; room = m.room }
 
-fits_here : (table : List Declared) (h : List Event) (e : Event) → IsLegal table h → SubmittedAreWellTyped h → StoreIsTyped (declared_cells table) → (what : What) → e.what ≡ what → AllowsEvent (state table h) e → FitsHere (state table h) what
-fits_here table h e legal typed cells (Submitted t block) q a = tt
-fits_here table h e legal typed cells (Installed t v) q a = tt
-fits_here table h e legal typed cells (Finished t v n l) q a =
-    finish_fits table h t v n l (find_waiter t (state table h).waiters) legal typed cells refl (rw q at a.what)
-fits_here table h e legal typed cells (Cancelled t) q a = tt
+fits_here : (s : Slow) (what : What) → IsPossible s → IsTypedState s → Allows s what → FitsHere s what
+fits_here s (Submitted t block) possible typed a = tt
+fits_here s (Installed t v) possible typed a = tt
+fits_here s (Finished t v n l) possible typed a = finish_fits s t v n l (find_waiter t s.waiters) possible typed refl a
+fits_here s (Cancelled t) possible typed a = tt
 
-fit_from : (table : List Declared) (h : List Event) (s : Slow) (es : List Event) → s ≡ state table h → IsLegal table h → LegalFrom s es → SubmittedAreWellTyped h → SubmittedAreWellTyped es → StoreIsTyped (declared_cells table)
-    → length h + length es ≤ max_events → FitFrom s es
-fit_from table h s [] r legal l typed more cells few = tt
-fit_from table h s (e ∷ es) r legal l typed more cells few =
-    let allowed : AllowsEvent (state table h) e = subst (λ (x : Slow). AllowsEvent x e) r l.0 in
-    let len : length (h ++ e ∷ []) ≡ length h + 1 = length-append h (e ∷ []) in (
-      subst (λ (x : Slow). FitsHere x e.what) (sym r) (fits_here table h e legal typed cells e.what refl allowed),
-      fit_from table (h ++ e ∷ []) (after s e.what) es (ap (λ (x : Slow). after x e.what) r ∙ sym (state-push (initial_state Changed table) h e))
-          (is_legal-push Changed table h e legal (omega arith) allowed) l.1 (submitted-append h (e ∷ []) typed (more.0, tt)) more.1 cells (omega (arith, len)),
-    )
+fit_from : (s : Slow) (es : List Event) → IsPossible s → IsTypedState s → LegalFrom s es → SubmittedAreWellTyped es → FitFrom s es
+fit_from s [] possible state legal typed = tt
+fit_from s (e ∷ es) possible state legal typed = (
+  fits_here s e.what possible state legal.0.what,
+  fit_from (after s e.what) es (possible_after s e.what possible legal.0.what) (typed_after s e.what possible legal.0.what typed.0 state) legal.1 typed.1,
+)
 
-pub record IsTypedHistory (table : List Declared) (history : List Event) : Type 0 where
-  pub legal : IsLegal table history
-  pub typed : SubmittedAreWellTyped history
-  pub cells : StoreIsTyped (declared_cells table)
-
-fit_all : (table : List Declared) (history : List Event) → IsTypedHistory table history → FitFrom (initial_state Changed table) history
-fit_all table history k =
-    fit_from table [] (initial_state Changed table) history refl (record { each = tt; few = omega arith }) k.legal.each tt k.typed k.cells (omega (arith, k.legal.few))
+fit_all : (s : Slow) (history : List Event) → IsTypedHistory s history → FitFrom s history
+fit_all s history k = fit_from s history k.possible k.state k.legal k.typed
 
 fit_rest : (s : Slow) (before more : List Event) → FitFrom s (before ++ more) → FitFrom (state_from s before) more
 fit_rest s [] more f = f
@@ -108,8 +100,8 @@ writable_from : (s : Slow) (es : List Event) → FitFrom s es → EachIsWritable
 writable_from s [] f = tt
 writable_from s (e ∷ es) f = (writable_what s e.what f.0, writable_from (after s e.what) es f.1)
 
-pub each_is_writable : (table : List Declared) (history : List Event) → IsTypedHistory table history → EachIsWritable history
-each_is_writable table history k = writable_from (initial_state Changed table) history (fit_all table history k)
+pub each_is_writable : (s : Slow) (history : List Event) → IsTypedHistory s history → EachIsWritable history
+each_is_writable s history k = writable_from s history (fit_all s history k)
 
 -- ---- the changes of an event are told by what it writes
 told_here : (reads : List (ℕ × Value)) (s : Slow) (what : What) → FitsHere s what → AreRead reads (under s.store)
@@ -170,11 +162,6 @@ none_met woken (i ∷ is) h = neither (list_any (nat_eq i) woken) (intersects wo
 itself : (t : ℕ) → nat_eq t t ≡ true
 itself t = grind (arith, nat_tests)
 
--- what is known of the cause of a block whose last delivery was made on this store
-pub record IsCaused (table : List Declared) (history : List Event) (t : ℕ) (w : Waiter) (s : Since) : Type 0 where
-  pub told : cause_since_delivery t (reads_of (under s.store_then) w.block.tree) (initial_state Changed table) history ≡ cause_told (reads_of (under s.store_then) w.block.tree) (events_since t history)
-  pub caused : is_stale_since w.block s ≡ true → is_some (cause_told (reads_of (under s.store_then) w.block.tree) (events_since t history)) ≡ true
-
 some_by : (o : Option Cause) → (o ≡ None → true ≡ false) → is_some o ≡ true
 some_by None h = sym (h refl)
 some_by (Some c) h = refl
@@ -183,28 +170,85 @@ found_by : (i : ℕ) (reads : List (ℕ × Value)) (o : Option Value) (b : Bool)
 found_by i reads None b woken e some h = cc
 found_by i reads (Some x) b woken e some h = h x e
 
-pub is_caused : (table : List Declared) (history : List Event) (t : ℕ) (w : Waiter) (s : Since) → IsTypedHistory table history → IsSince Changed table history t w.block s → IsCaused table history t w s
-is_caused table history t w s k since =
+-- where no event is a cause, none of them makes a block stale whose reads have their values where they begin
+quiet : (block : Block) (store_then : List Cell) (v : Verdict) (s : Slow) (es : List Event) → verdict_on store_then block ≡ Some v → s.rule ≡ Changed → FitFrom s es → AreRead (reads_of (under store_then) block.tree) (under s.store)
+    → cause_told (reads_of (under store_then) block.tree) es ≡ None → intersects (waking_from s es) (looked_on store_then block) ≡ false
+quiet block store_then v s es verdict rule fit read none =
+    let reads = reads_of (under store_then) block.tree in
+    none_met (waking_from s es) (looked_on store_then block) (λ j m.
+    found_by j reads (find j reads) true (waking_from s es) refl ((looked block.tree (under store_then) v verdict j).0 m) (λ x there. never_woken reads s es j x rule fit read there none))
+
+-- ---- a delivery in the history
+-- what is known of the cause of a block whose last delivery was made on this store
+pub record IsCaused (start : Slow) (history : List Event) (t : ℕ) (w : Waiter) (s : Since) (later : List Event) : Type 0 where
+  pub installed : is_installed t history ≡ true
+  pub since : events_since t history ≡ Some later
+  pub told : cause_since_delivery t (reads_of (under s.store_then) w.block.tree) start history ≡ cause_told (reads_of (under s.store_then) w.block.tree) later
+  pub caused : is_stale_since w.block s ≡ true → is_some (cause_told (reads_of (under s.store_then) w.block.tree) later) ≡ true
+
+pub is_caused : (start : Slow) (history : List Event) (t : ℕ) (w : Waiter) (s : Since) → IsTypedHistory start history → (since : IsSinceFrom start history t w.block s) → IsCaused start history t w s since.delivery.later
+is_caused start history t w s k since =
     let d = since.delivery in
     let e : Event = record { client = d.client; what = Installed t d.verdict } in
     let reads = reads_of (under s.store_then) w.block.tree in
-    let then : Slow = state table d.before in
-    let fit : FitFrom (after then e.what) d.later =
-    (fit_rest (initial_state Changed table) d.before (e ∷ d.later) (subst (FitFrom (initial_state Changed table)) d.whole (fit_all table history k))).1 in
+    let then : Slow = state_from start d.before in
+    let fit : FitFrom (after then e.what) d.later = (fit_rest start d.before (e ∷ d.later) (subst (FitFrom start) d.whole (fit_all start history k))).1 in
     let read : AreRead reads (under then.store) = subst (λ (cells : List Cell). AreRead reads (under cells)) since.store (reads_are (under s.store_then) w.block.tree) in
-    let rest : events_since t history ≡ d.later = ap (events_since t) d.whole ∙ since_delivery t d.before e d.later (itself t) d.last in
     record {
+      installed = ap (is_installed t) d.whole ∙ installed_mid t d.before e d.later (itself t);
+      since = ap (events_since t) d.whole ∙ since_delivery t d.before e d.later (itself t) d.last;
       told =
-          ap (cause_since_delivery t reads (initial_state Changed table)) d.whole
-          ∙ cause_after t reads (initial_state Changed table) d.before e d.later (itself t) d.last
-          ∙ causes_agree reads (after then e.what) d.later fit read
-          ∙ ap (cause_told reads) (sym rest);
-      caused = λ stale. some_by (cause_told reads (events_since t history)) (λ none.
-          let none_later : cause_told reads d.later ≡ None = ap (cause_told reads) (sym rest) ∙ none in
-          let quiet : intersects s.woken (looked_on s.store_then w.block) ≡ false =
-          none_met s.woken (looked_on s.store_then w.block) (λ j m.
-          found_by j reads (find j reads) true s.woken refl ((looked w.block.tree (under s.store_then) d.verdict since.verdict j).0 m)
-          (λ x there. subst (λ (woken : List ℕ). list_any (nat_eq j) woken ≡ false) (sym since.woken) (never_woken reads (after then e.what) d.later j x (after-rule then e.what ∙ state-rule (initial_state Changed table) d.before) fit read there none_later)))
+          ap (cause_since_delivery t reads start) d.whole
+          ∙ cause_after t reads start d.before e d.later (itself t) d.last
+          ∙ causes_agree reads (after then e.what) d.later fit read;
+      caused = λ stale. some_by (cause_told reads d.later) (λ none.
+          let quiet_later : intersects (waking_from (after then e.what) d.later) (looked_on s.store_then w.block) ≡ false =
+          quiet w.block s.store_then d.verdict (after then e.what) d.later since.verdict (after-rule then e.what ∙ state-rule start d.before ∙ k.rule) fit read none
           in
-          sym stale ∙ quiet);
+          sym stale ∙ ap (λ (woken : List ℕ). intersects woken (looked_on s.store_then w.block)) since.woken ∙ quiet_later);
+    }
+
+-- ---- a delivery before the history
+-- what is known of the cause of a block whose last delivery came before the history
+pub record IsCausedBefore (start : Slow) (history : List Event) (t : ℕ) (w : Waiter) (s : Since) : Type 0 where
+  pub installed : is_installed t history ≡ false
+  pub since : events_since t history ≡ None
+  pub told : was_stale (find_waiter t start.waiters) ≡ false → first_cause (reads_of (under s.store_then) w.block.tree) start history ≡ cause_told (reads_of (under s.store_then) w.block.tree) history
+  pub caused : was_stale (find_waiter t start.waiters) ≡ false → is_stale_since w.block s ≡ true → is_some (cause_told (reads_of (under s.store_then) w.block.tree) history) ≡ true
+
+-- a block that was not stale was current
+was_current : (w : Waiter) (s : Since) → w.since ≡ Some s → was_stale (Some w) ≡ false → is_stale_since w.block s ≡ false
+was_current w s e h = by w.block w.since e h where
+  twice : (b : Bool) → not (not b) ≡ false → b ≡ false
+  twice true h = cc
+  twice false h = refl
+
+  by : (b : Block) (o : Option Since) → o ≡ Some s → (not (is_new_since o) && not (current_since b o)) ≡ false → is_stale_since b s ≡ false
+  by b None e h = cc
+  by b (Some r) e h = let q : r ≡ s = cc in subst (λ (x : Since). is_stale_since b x ≡ false) q (twice (is_stale_since b r) h)
+
+pub is_caused_before : (start : Slow) (history : List Event) (t : ℕ) (w : Waiter) (s : Since) → IsTypedHistory start history → IsSinceBefore start history t w.block s → IsCausedBefore start history t w s
+is_caused_before start history t w s k since =
+    let reads = reads_of (under s.store_then) w.block.tree in
+    let had = some_verdict (verdict_on since.since.store_then since.first.block) (subst (HadVerdict since.first.block) since.delivered (had_waiter t start.waiters since.first k.possible.evaluated since.found)) in
+    let verdict : verdict_on s.store_then w.block ≡ Some had.0 = (let a = since.store in let b = since.block in let c = had.1 in rw (a, b) c) in
+    let fresh : was_stale (find_waiter t start.waiters) ≡ false → is_stale_since since.first.block since.since ≡ false =
+    λ h. was_current since.first since.since since.delivered (subst (λ (o : Option Waiter). was_stale o ≡ false) since.found h)
+    in
+    let read : was_stale (find_waiter t start.waiters) ≡ false → AreRead reads (under start.store) = λ h.
+    let now = still_holds t start.store start.waiters since.first since.since (reads_of (under since.since.store_then) since.first.block.tree) had.0 k.possible.unwoken since.found since.delivered (fresh h) (record { verdict_is = had.1; reads_are = refl }) in
+    let same : reads_of (under start.store) since.first.block.tree ≡ reads = now.reads_are ∙ (let a = since.store in let b = since.block in rw (a, b) refl) in
+    subst (λ (rs : List (ℕ × Value)). AreRead rs (under start.store)) same (reads_are (under start.store) since.first.block.tree)
+    in
+    let fit = fit_all start history k in
+    record {
+      installed = since.none;
+      since = none_since t history since.none;
+      told = λ h. causes_agree reads start history fit (read h);
+      caused = λ h stale. some_by (cause_told reads history) (λ none.
+          let looks = looked_on s.store_then w.block in
+          let before : intersects since.since.woken looks ≡ false = (let a = since.store in let b = since.block in rw (a, b) (fresh h)) in
+          let later : intersects (waking_from start history) looks ≡ false = quiet w.block s.store_then had.0 start history verdict k.rule fit (read h) none in
+          sym stale ∙ ap (λ (woken : List ℕ). intersects woken looks) since.woken ∙ meets-append since.since.woken (waking_from start history) looks
+          ∙ neither (intersects since.since.woken looks) (intersects (waking_from start history) looks) before later);
     }

@@ -1,5 +1,6 @@
 pub mod Calls
 pub mod Causes
+pub mod Checkpointed
 pub mod Evaluating
 pub mod EventsSince
 pub mod FoundWrites
@@ -8,5 +9,7 @@ pub mod ReadValues
 pub mod ReasonsTold
 pub mod Runs
 pub mod Settles
+pub mod StaleBefore
+pub mod Starts
 pub mod Turns
 pub mod Verdicts

@@ -4,17 +4,16 @@ use Rattle.std.specs.Prelude.{nat_eq, is_some}
 use Rattle.std.proofs.lemmas.List.Elements.{filter-append}
 use Rattle.stm_store.specs.declared.cell.Cell.{Cell}
 use Rattle.stm_events.specs.declared.event.What.{What}
-use Rattle.stm_events.specs.declared.staleness.StalenessRule.TheVariants.{Changed}
 use Rattle.stm_terms.specs.declared.verdicts.Verdict.{Verdict}
 use Rattle.stm_terms.specs.declared.verdicts.Verdict.TheVariants.{Commits, Throws, Blocks}
-use Rattle.stm_events.specs.SlowDesk.{Waiter, Slow, verdict_on, is_blocks, is_current, find_waiter, after, initial_state, state_from}
+use Rattle.stm_events.specs.SlowDesk.{Waiter, Slow, verdict_on, is_blocks, is_current, find_waiter, after, state_from}
 use Rattle.stm_events.specs.SlowSettle.{lowest, is_due, ends, can_end, next_what, has_cells, settling, Stop, NoRoom, NoCells, settle_stop, is_finish, is_install, finishes, installs}
 use Rattle.stm_events.proofs.Folds.{state-push}
 use Rattle.stm_desk.specs.declared.errors.SettleWhy.{SettleWhy}
 use Rattle.stm_desk.specs.declared.errors.SettleWhy.TheVariants.{HistoryFull, CellsFull, NoMemory}
 use Rattle.stm_machine.specs.SettleChoices.{some_out}
 use Rattle.stm_machine.specs.Machine.{event}
-use Rattle.stm_desk.specs.DeskView.{DeskView, state_of, with_event, AllHaveVerdicts}
+use Rattle.stm_desk.specs.DeskView.{DeskView, start_state, state_of, with_event, AllHaveVerdicts}
 use Rattle.stm_desk.specs.Settling.{slow_settle, slow_stop, with_whats, requeued_all, HasSettled, HasBegun, HasStopped, AllBlock}
 use Rattle.stm_desk.specs.Steps.{IsNextEvent, StopsFor}
 use Rattle.stm_desk.proofs.Settles.{out_after, out_recalled}
@@ -68,13 +67,13 @@ count_more p xs ys = rw filter-append (length-append (filter p xs) (filter p ys)
 
 next_left : (client : ℕ) (d new : DeskView) (x : What) → next_what (state_of d) ≡ Some x → has_cells (state_of d) x ≡ true → length d.history < d.limit → new ≡ with_event d client x → x ∷ slow_settle new ≡ slow_settle d
 next_left client d new x n h room e =
-    let p : state_from (initial_state Changed d.table) (d.history ++ event client x ∷ []) ≡ after (state_of d) x = state-push (initial_state Changed d.table) d.history (event client x) in
+    let p : state_from (start_state d) (d.history ++ event client x ∷ []) ≡ after (state_of d) x = state-push (start_state d) d.history (event client x) in
     let left : d.limit - length d.history ≡ suc (d.limit - length (d.history ++ event client x ∷ [])) = omega (arith, length-append d.history (event client x ∷ [])) in
     sym (rw e (settling_more _ _ (state_of d) x left n h ∙ ap (λ (s : Slow). x ∷ settling (d.limit - length (d.history ++ event client x ∷ [])) s) (sym p)))
 
 stop_left : (client : ℕ) (d new : DeskView) (x : What) → next_what (state_of d) ≡ Some x → has_cells (state_of d) x ≡ true → length d.history < d.limit → new ≡ with_event d client x → slow_stop new ≡ slow_stop d
 stop_left client d new x n h room e =
-    let p : state_from (initial_state Changed d.table) (d.history ++ event client x ∷ []) ≡ after (state_of d) x = state-push (initial_state Changed d.table) d.history (event client x) in
+    let p : state_from (start_state d) (d.history ++ event client x ∷ []) ≡ after (state_of d) x = state-push (start_state d) d.history (event client x) in
     let left : d.limit - length d.history ≡ suc (d.limit - length (d.history ++ event client x ∷ [])) = omega (arith, length-append d.history (event client x ∷ [])) in
     rw e (ap (settle_stop (d.limit - length (d.history ++ event client x ∷ []))) p ∙ sym (stopping_more _ _ (state_of d) x left n h))
 

@@ -6,12 +6,11 @@ use Rattle.stm_terms.specs.declared.values.Value.{Value}
 use Rattle.stm_terms.specs.declared.verdicts.Verdict.{Verdict}
 use Rattle.stm_store.specs.Cells.{made_by}
 use Rattle.stm_events.specs.declared.event.What.TheVariants.{Installed, Finished}
-use Rattle.stm_events.specs.declared.staleness.StalenessRule.TheVariants.{Changed}
-use Rattle.stm_events.specs.SlowDesk.{Since, Waiter, Slow, waking, verdict_on, is_blocks, is_new_since, is_new, current_since, is_current, find_waiter, without_waiter, stale_after, initial_state, IsLegal, max_cells}
+use Rattle.stm_events.specs.SlowDesk.{Since, Waiter, Slow, waking, verdict_on, is_blocks, is_new_since, is_new, current_since, is_current, find_waiter, without_waiter, stale_after, max_cells}
+use Rattle.stm_events.specs.States.{IsPossible}
 use Rattle.stm_events.specs.SlowSettle.{lowest, is_due, ends, can_end, next_what}
 use Rattle.stm_events.specs.Laws.{AreRising}
 use Rattle.stm_events.proofs.Folds.{state-push}
-use Rattle.stm_events.proofs.Rising.{rising_state}
 use Rattle.stm_events.specs.declared.errors.FinishError.{FinishError}
 use Rattle.stm_events.specs.declared.errors.FinishError.TheVariants as finish
 use Rattle.stm_machine.specs.Keeping.{IsVerdictUnder}
@@ -22,7 +21,7 @@ use Rattle.stm_machine.specs.QueueAndIndex.{due_of}
 use Rattle.stm_terms.specs.UnlessNoMemory.{RefusedAs}
 use Rattle.stm_events.specs.Refusals.{overflows}
 use Rattle.stm_machine.proofs.Heads.{lowest_waits, lowest_holds}
-use Rattle.stm_desk.specs.DeskView.{DeskView, state_of, with_event, is_full}
+use Rattle.stm_desk.specs.DeskView.{DeskView, start_state, state_of, with_event, is_full}
 use Rattle.stm_desk.specs.declared.finish.Finish.{Finish}
 use Rattle.stm_desk.specs.Events.{finish_of}
 use Rattle.stm_desk.specs.Refusals.{finish_refusal}
@@ -48,10 +47,10 @@ none_at p s h = by (lowest p s.waiters) h where
   by None e = refl
   by (Some w) e = cc
 
-pub rising_now : (d : DeskView) → IsLegal d.table d.history → AreRising (state_of d).next 0 (state_of d).waiters
-rising_now d l = rising_state Changed d.table d.history l
+pub rising_now : (d : DeskView) → IsPossible (state_of d) → AreRising (state_of d).next 0 (state_of d).waiters
+rising_now d p = p.rising
 
-pub found_waits : (p : Waiter → Bool) (d : DeskView) (one : Waiter) → IsLegal d.table d.history → lowest p (state_of d).waiters ≡ Some one → find_waiter one.ticket (state_of d).waiters ≡ Some one
+pub found_waits : (p : Waiter → Bool) (d : DeskView) (one : Waiter) → IsPossible (state_of d) → lowest p (state_of d).waiters ≡ Some one → find_waiter one.ticket (state_of d).waiters ≡ Some one
 found_waits p d one l f = lowest_waits p _ 0 (state_of d).waiters one (rising_now d l) f
 
 unnot : (b : Bool) → not b ≡ true → b ≡ false
@@ -77,7 +76,7 @@ pub record IsDueVerdict (s : Slow) (t : ℕ) (v : Verdict) : Type 0 where
   pub verdict : verdict_on s.store one.block ≡ Some v
 
 -- the lowest block that is new or stale is so
-pub due_at : (d : DeskView) (t : ℕ) → IsLegal d.table d.history → next_due (state_of d) ≡ Some t → due_of (find_waiter t (state_of d).waiters) ≡ true
+pub due_at : (d : DeskView) (t : ℕ) → IsPossible (state_of d) → next_due (state_of d) ≡ Some t → due_of (find_waiter t (state_of d).waiters) ≡ true
 due_at d t l n =
     let s = state_of d in
     let f = found_at is_due s t n in
@@ -103,14 +102,14 @@ full_at d t v k f e = record { left = ap is_some (due_next d t v f); full = full
 
 -- the store stays
 pub store_install : (d new : DeskView) (client t : ℕ) (v : Verdict) → new ≡ with_event d client (Installed t v) → (state_of new).store ≡ (state_of d).store
-store_install d new client t v e = ap (λ (x : DeskView). (state_of x).store) e ∙ ap (λ (s : Slow). s.store) (state-push (initial_state Changed d.table) d.history (event client (Installed t v)))
+store_install d new client t v e = ap (λ (x : DeskView). (state_of x).store) e ∙ ap (λ (s : Slow). s.store) (state-push (start_state d) d.history (event client (Installed t v)))
 
 -- ---- the verdict of the lowest that is due
 one_waits : (o : Option Waiter) (v w : Waiter) → o ≡ Some v → o ≡ Some w → v ≡ w
 one_waits None v w e f = cc
 one_waits (Some x) v w e f = let a : x ≡ v = cc in let b : x ≡ w = cc in sym a ∙ b
 
-pub due_verdict : (d : DeskView) (t : ℕ) (v : Verdict) (reads : List (ℕ × Value)) → IsLegal d.table d.history → next_due (state_of d) ≡ Some t → IsVerdictUnder (state_of d) t v reads → IsDueVerdict (state_of d) t v
+pub due_verdict : (d : DeskView) (t : ℕ) (v : Verdict) (reads : List (ℕ × Value)) → IsPossible (state_of d) → next_due (state_of d) ≡ Some t → IsVerdictUnder (state_of d) t v reads → IsDueVerdict (state_of d) t v
 due_verdict d t v reads l n p =
     let s = state_of d in
     let f = found_at is_due s t n in
@@ -147,7 +146,7 @@ all_current (w ∷ ws) t one n f =
       step true o e more g = let q : w ≡ one = cc in subst (λ (x : Waiter). is_current x ≡ true) q e
       step false o e more g = more g
 
-pub ends_at : (d : DeskView) (t : ℕ) → IsLegal d.table d.history → next_due (state_of d) ≡ None → next_end (state_of d) ≡ Some t → Ends d t
+pub ends_at : (d : DeskView) (t : ℕ) → IsPossible (state_of d) → next_due (state_of d) ≡ None → next_end (state_of d) ≡ Some t → Ends d t
 ends_at d t l n e =
     let s = state_of d in
     let f = found_at (can_end s.store) s t e in
@@ -183,7 +182,7 @@ le_true a b l = grind (arith, nat_tests)
 same_verdict : (v u : Verdict) → Some v ≡ Some u → v ≡ u
 same_verdict v u h = cc
 
-pub next_finish : (d new : DeskView) (client t : ℕ) (made : Finish) → IsLegal d.table d.history → next_due (state_of d) ≡ None → next_end (state_of d) ≡ Some t
+pub next_finish : (d new : DeskView) (client t : ℕ) (made : Finish) → IsPossible (state_of d) → next_due (state_of d) ≡ None → next_end (state_of d) ≡ Some t
     → new ≡ with_event d client (finish_of t made) → IsPlan (state_of d) t made.verdict made.applied.first_new made.stale
     → RefusedAs finish.NoMemory (finish_refusal d t) (Ok made) → IsNextEvent client 1 0 d new
 next_finish d new client t made l none some e plan r =
@@ -225,7 +224,7 @@ stops_finish_by a b finish.NoMemory h = tt
 ended : (d : DeskView) (t : ℕ) (f : Ends d t) (e : FinishError) → RefusedAs {A = Finish} finish.NoMemory (finish_refusal d t) (Err e) → RefusedAs {A = Finish} finish.NoMemory (last_refusal (is_full d) (overflows (state_of d).store (Some f.verdict))) (Err e)
 ended d t f e r = subst (λ (o : Option FinishError). RefusedAs {A = Finish} finish.NoMemory o (Err e)) (end_told d t f) r
 
-pub stops_finish : (d : DeskView) (t : ℕ) (e : FinishError) → IsLegal d.table d.history → next_due (state_of d) ≡ None → next_end (state_of d) ≡ Some t → RefusedAs {A = Finish} finish.NoMemory (finish_refusal d t) (Err e) → StopsFinish e
+pub stops_finish : (d : DeskView) (t : ℕ) (e : FinishError) → IsPossible (state_of d) → next_due (state_of d) ≡ None → next_end (state_of d) ≡ Some t → RefusedAs {A = Finish} finish.NoMemory (finish_refusal d t) (Err e) → StopsFinish e
 stops_finish d t e l n g h = let f = ends_at d t l n g in stops_finish_by (is_full d) (overflows (state_of d).store (Some f.verdict)) e (ended d t f e h)
 
 why_finish_by : (d : DeskView) (t : ℕ) (a b : Bool) (e : FinishError) → (f : Ends d t) → is_full d ≡ a → overflows (state_of d).store (Some f.verdict) ≡ b → length d.history ≤ d.limit → StopsFinish e
@@ -247,7 +246,7 @@ why_finish_by d t false true finish.CellsFull f p q k s h = record {
 why_finish_by d t false false finish.CellsFull f p q k s h = cc
 why_finish_by d t a b finish.NoMemory f p q k s h = tt
 
-pub why_finish : (d : DeskView) (t : ℕ) (e : FinishError) → IsLegal d.table d.history → length d.history ≤ d.limit → next_due (state_of d) ≡ None → next_end (state_of d) ≡ Some t → RefusedAs {A = Finish} finish.NoMemory (finish_refusal d t) (Err e)
+pub why_finish : (d : DeskView) (t : ℕ) (e : FinishError) → IsPossible (state_of d) → length d.history ≤ d.limit → next_due (state_of d) ≡ None → next_end (state_of d) ≡ Some t → RefusedAs {A = Finish} finish.NoMemory (finish_refusal d t) (Err e)
     → StopsFor (finish_why e) d
 why_finish d t e l k n g h =
     let f = ends_at d t l n g in

@@ -5,22 +5,33 @@ use Rattle.stm_queue.specs.Queue.{Entry, has_ticket, with_ticket, without_ticket
 use Rattle.stm_events.specs.declared.event.Event.{Event}
 use Rattle.stm_events.specs.declared.event.What.{What}
 use Rattle.stm_events.specs.declared.event.What.TheVariants.{Submitted, Installed, Finished, Cancelled}
-use Rattle.stm_events.specs.SlowDesk.{Slow, Waiter, Standing, standing, verdict_on, find_waiter, state}
+use Rattle.stm_events.specs.SlowDesk.{Slow, Waiter, Standing, standing, verdict_on, find_waiter, state_from}
 use Rattle.stm_events.specs.SlowSettle.{settling}
 use Rattle.stm_events.specs.Rounds.{a_round}
+use Rattle.stm_machine.specs.Checkpoints.{CheckpointView, start_of, checkpoint_of}
 use Rattle.stm_machine.specs.Machine.{event}
 use Rattle.stm_machine.specs.QueueAndIndex.{due_of, with_tickets}
 
--- the table that it was opened on, how many events it takes, its history, and the tickets that are queued or out
+-- the table that it was opened on, the checkpoint that its history begins from, if it begins from one, how many events it takes, its
+-- history, and the tickets that are queued or out
 pub record DeskView : Type 0 where
   pub table : List Declared
+  pub checkpoint : Option CheckpointView
   pub limit : ℕ
   pub history : List Event
   pub pending : List (ℕ × Bool)
 
+-- the state that the history begins from: the first values of the variables, or the checkpoint
+abbrev pub start_state : DeskView → Slow
+start_state d = start_of d.table d.checkpoint
+
 -- what the slow desk makes of the history
 abbrev pub state_of : DeskView → Slow
-state_of d = state d.table d.history
+state_of d = state_from (start_state d) d.history
+
+-- the desk after a checkpoint: its history is empty, and begins from the present state
+abbrev pub checkpointed : DeskView → DeskView
+checkpointed d = record d { checkpoint = Some (checkpoint_of (state_of d)); history = [] }
 
 -- the tickets that are queued or out, after one event more
 abbrev pub pending_after : What → List Entry → List Entry

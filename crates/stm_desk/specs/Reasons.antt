@@ -1,6 +1,7 @@
 -- What a waiting block waits for: a definition over the history. A block that is stale waits for another evaluation, because of
--- the first finish after its last delivery that left a variable which it had read with another value.
-use Rattle.std.specs.Prelude.{ℕ, if◌then◌else◌, List, [], ◌∷◌, ◌++◌, Option, Some, None, option_map}
+-- the first finish after its last delivery that left a variable which it had read with another value. If that finish came before the
+-- checkpoint that the history begins from, it is no longer known.
+use Rattle.std.specs.Prelude.{ℕ, Bool, false, not, ◌&&◌, if◌then◌else◌, List, [], ◌∷◌, ◌++◌, Option, Some, None, option_map}
 use Rattle.stm_terms.specs.declared.values.Value.{Value}
 use Rattle.stm_terms.specs.Changes.{Variables}
 use Rattle.stm_terms.specs.ReadSet.{reads_of}
@@ -9,13 +10,12 @@ use Rattle.stm_store.specs.declared.cell.Cell.{Cell}
 use Rattle.stm_events.specs.declared.event.Event.{Event}
 use Rattle.stm_events.specs.declared.event.What.{What}
 use Rattle.stm_events.specs.declared.event.What.TheVariants.{Submitted, Installed, Finished, Cancelled}
-use Rattle.stm_events.specs.declared.staleness.StalenessRule.TheVariants.{Changed}
 use Rattle.stm_events.specs.BlockStatus.{read_now}
 use Rattle.stm_events.specs.Headline.{installs_to, is_installed}
-use Rattle.stm_events.specs.SlowDesk.{Since, Slow, Waiter, after, find_waiter, initial_state, is_stale_since, under}
+use Rattle.stm_events.specs.SlowDesk.{Since, Slow, Waiter, after, find_waiter, is_current, is_new, is_stale_since, under}
 use Rattle.stm_events.specs.SlowSettle.{can_end}
 use Rattle.stm_desk.specs.declared.reason.Change.{Change}
-use Rattle.stm_desk.specs.DeskView.{DeskView, state_of}
+use Rattle.stm_desk.specs.DeskView.{DeskView, start_state, state_of}
 
 -- the change of a variable from the value that was read to the one that it has, if that is another one
 abbrev pub change_to : ℕ → Value → Option Value → List Change
@@ -64,6 +64,8 @@ pub data WaitReason : Type 0 where
   NotEvaluated : WaitReason
   -- another evaluation
   IsStale : Cause → WaitReason
+  -- the same, but it was stale already at the checkpoint that the history begins from
+  WasStale : WaitReason
   -- a change of one of these variables, of which it read these values: it is current and blocks
   Waits : List (ℕ × Value) → WaitReason
   -- its finish: it is current and doesn't block
@@ -73,12 +75,27 @@ pub data WaitReason : Type 0 where
 abbrev pub current_reason : List Cell → Waiter → WaitReason
 current_reason store w = if can_end store w then CanFinish else Waits (read_now store w)
 
+-- the block was stale: there was a delivery to it, and it was not current
+abbrev pub was_stale : Option Waiter → Bool
+was_stale None = false
+was_stale (Some w) = not (is_new w) && not (is_current w)
+
+-- why a block of these reads is stale to which nothing was delivered in these events, which begin on a state
+abbrev pub reason_before : ℕ → List (ℕ × Value) → Slow → List Event → Option WaitReason
+reason_before t reads s events =
+    if was_stale (find_waiter t s.waiters) then Some WasStale else option_map IsStale (first_cause reads s events)
+
+-- why a stale block of these reads is stale
+abbrev pub stale_reason : ℕ → List (ℕ × Value) → Slow → List Event → Option WaitReason
+stale_reason t reads s events =
+    if is_installed t events then option_map IsStale (cause_since_delivery t reads s events) else reason_before t reads s events
+
 -- what a block waits for, by its last delivery
 abbrev pub reason_since : DeskView → Waiter → Option Since → Option WaitReason
 reason_since d w None = Some NotEvaluated
 reason_since d w (Some s) =
     if is_stale_since w.block s
-    then option_map IsStale (cause_since_delivery w.ticket (reads_of (under s.store_then) w.block.tree) (initial_state Changed d.table) d.history)
+    then stale_reason w.ticket (reads_of (under s.store_then) w.block.tree) (start_state d) d.history
     else Some (current_reason (state_of d).store w)
 
 -- what a waiting block waits for, if there is one

@@ -1,6 +1,6 @@
 -- Why a block is stale by what the events after its last delivery write, and what a reason of the code says.
 use Rattle.std.specs.Global.{Vec}
-use Rattle.std.specs.Prelude.{ℕ, if◌then◌else◌, List, [], ◌∷◌, Option, None, option_map}
+use Rattle.std.specs.Prelude.{ℕ, Bool, false, nat_eq, if◌then◌else◌, List, [], ◌∷◌, Option, Some, None, option_map}
 use Rattle.stm_terms.specs.declared.values.Value.{Value}
 use Rattle.stm_terms.specs.declared.verdicts.Verdict.{Verdict}
 use Rattle.stm_terms.specs.declared.verdicts.Verdict.TheVariants.{Commits, Throws, Blocks}
@@ -12,10 +12,12 @@ use Rattle.stm_events.specs.declared.event.Event.{Event}
 use Rattle.stm_events.specs.declared.event.What.{What}
 use Rattle.stm_events.specs.declared.event.What.TheVariants.{Submitted, Installed, Finished, Cancelled}
 use Rattle.stm_events.specs.Headline.{installs_to, is_installed}
+use Rattle.stm_machine.specs.declared.checkpoint.CheckpointBlock.{CheckpointBlock}
+use Rattle.stm_machine.specs.Checkpoints.{CheckpointView}
 use Rattle.stm_desk.specs.declared.reason.Change.{Change}
 use Rattle.stm_desk.specs.declared.reason.Reason.{Reason}
 use Rattle.stm_desk.specs.declared.reason.Reason.TheVariants as told
-use Rattle.stm_desk.specs.Reasons.{changes_from, ticket_of, Cause, cause_or, WaitReason, NotEvaluated, IsStale, Waits, CanFinish}
+use Rattle.stm_desk.specs.Reasons.{changes_from, ticket_of, Cause, cause_or, WaitReason, NotEvaluated, IsStale, WasStale, Waits, CanFinish}
 
 -- the values that these writes leave, in a store that had n cells
 abbrev pub left_by_writes : ℕ → List (ℕ × Value) → Variables
@@ -37,10 +39,26 @@ abbrev pub cause_told : List (ℕ × Value) → List Event → Option Cause
 cause_told reads [] = None
 cause_told reads (e ∷ es) = cause_or (ticket_of e.what) (changes_told reads e.what) (cause_told reads es)
 
--- the events after the last delivery to a ticket; none if there was no delivery
-abbrev pub events_since : ℕ → List Event → List Event
-events_since t [] = []
-events_since t (e ∷ es) = if is_installed t es then events_since t es else if installs_to t e.what then es else []
+-- the events after the last delivery to a ticket, if there was one
+abbrev pub events_since : ℕ → List Event → Option (List Event)
+events_since t [] = None
+events_since t (e ∷ es) = if is_installed t es then events_since t es else if installs_to t e.what then Some es else None
+
+-- the block under a ticket is stale, by these blocks of a checkpoint
+abbrev pub stale_in : ℕ → List CheckpointBlock → Bool
+stale_in t [] = false
+stale_in t (b ∷ bs) = if nat_eq t b.ticket then b.stale else stale_in t bs
+
+-- the same of a checkpoint, if there is one
+abbrev pub stale_at : ℕ → Option CheckpointView → Bool
+stale_at t None = false
+stale_at t (Some c) = stale_in t c.blocks
+
+-- why a stale block of these reads is stale, by what the events after its last delivery write if there was one, and otherwise by
+-- whether it was stale before all of these events
+abbrev pub stale_told : Bool → List (ℕ × Value) → List Event → Option (List Event) → Option WaitReason
+stale_told before reads history (Some later) = option_map IsStale (cause_told reads later)
+stale_told before reads history None = if before then Some WasStale else option_map IsStale (cause_told reads history)
 
 -- the writes of a verdict ascend, and may be read in a store that had n cells
 abbrev pub HasWritable : ℕ → Verdict → Type 0
@@ -68,5 +86,6 @@ cause_of c = record { finish = c.0; changes = c.1.items }
 abbrev pub told_reason : Reason → WaitReason
 told_reason told.New = NotEvaluated
 told_reason (told.Stale t cs) = IsStale (record { finish = t; changes = cs.items })
+told_reason told.WasStale = WasStale
 told_reason (told.Waits rs) = Waits rs.now
 told_reason told.Ready = CanFinish

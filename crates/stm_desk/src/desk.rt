@@ -1,20 +1,21 @@
 //! The desk, and how it opens.
 
-ghost use Rattle.std.specs.Prelude.{◌≡◌, ◌≤◌, [], IfOk};
+ghost use Rattle.std.specs.Prelude.{◌≡◌, ◌≤◌, [], IfOk, None};
 ghost use Rattle.stm_events.specs.SlowDesk.{max_events as most_events};
 ghost use Rattle.stm_desk.specs.DeskView.{is_full};
 
 use std::alloc::Global;
 use std::marker::Model;
 use stm_events::{Event, StalenessRule};
-use stm_machine::Machine;
+use stm_machine::{Checkpoint, Machine};
 use stm_store::Table;
 use stm_terms::NoMemory;
 
-/// The desk. Contracts see the table that it was opened on, how many events it takes, its history, and the tickets that are
-/// queued or out.
+/// The desk. Contracts see the table that it was opened on, the checkpoint that its history begins from, how many events it takes,
+/// its history, and the tickets that are queued or out.
 pub struct Desk {
     pub(crate) table: Table,
+    pub(crate) checkpoint: Option<Checkpoint>,
     pub(crate) limit: u32,
     pub(crate) history: Vec<Event>,
     pub(crate) machine: Machine,
@@ -25,6 +26,7 @@ impl Drop for Desk {
     fn drop(self) {
         let Desk {
             table: _,
+            checkpoint: _,
             limit: _,
             history: _,
             machine: _,
@@ -44,12 +46,13 @@ impl Model for Desk {
 
     ghost view = { λ d. record {
       table = d.table;
+      checkpoint = d.checkpoint;
       limit = d.limit;
       history = d.history.items;
       pending = d.machine.pending;
     } };
 
-    ghost invariant = { λ d. DeskInvariant d.table d.limit d.history.items d.machine };
+    ghost invariant = { λ d. DeskInvariant d.table d.checkpoint d.limit d.history.items d.machine };
 }
 
 impl Desk {
@@ -63,6 +66,7 @@ impl Desk {
     pub fn open(alloc: Global, table: &Table, max_events: u32) -> Result<Desk, NoMemory>
         requires { max_events ≤ most_events }
         ensures table { IfOk result (λ d. d.table ≡ table.now) }
+        ensures checkpoint { IfOk result (λ d. d.checkpoint ≡ None) }
         ensures limit { IfOk result (λ d. d.limit ≡ max_events) }
         ensures history { IfOk result (λ d. d.history ≡ []) }
         ensures pending { IfOk result (λ d. d.pending ≡ []) }
@@ -71,6 +75,7 @@ impl Desk {
         let table = table.copy(alloc)?;
         Ok(Desk {
             table,
+            checkpoint: None,
             limit: max_events,
             history: Vec::new(alloc),
             machine,

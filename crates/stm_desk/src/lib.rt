@@ -1,8 +1,8 @@
 //! The desk: the store, the blocks that wait under tickets, and the history.
 //!
-//! A desk is a machine of `stm_machine` with the table that it was opened on, how many events it takes, and the list of its
-//! events. Contracts see the table, the limit, the history and the tickets that are queued or out (`specs/DeskView`); all else is
-//! what the slow desk makes of the history (`stm_events/specs/SlowDesk`). `specs/Refusals` says what each call is refused for,
+//! A desk is a machine of `stm_machine` with the table that it was opened on, the checkpoint that its history begins from, how many
+//! events it takes, and the list of its events. Contracts see these and the tickets that are queued or out (`specs/DeskView`); all else
+//! is what the slow desk makes of the history (`stm_events/specs/SlowDesk`). `specs/Refusals` says what each call is refused for,
 //! `specs/Evaluating` what evaluating the queued blocks does, `specs/Settling` what settling does and why it stops, and
 //! `specs/Reasons` what a waiting block waits for. Each accepted call adds exactly its event. Only `evaluate_queued` and
 //! `settle` evaluate blocks.
@@ -10,6 +10,7 @@
 
 // The desk and its calls.
 pub mod cancel;
+pub mod checkpoint;
 pub mod deliver;
 pub mod desk;
 pub mod evaluate;
@@ -33,3 +34,4 @@ pub use reason::{Change, Reason};
 pub use resume::TooManyEvents;
 pub use settle::Settled;
 pub use stm_events::{CancelError, DeliverError, FinishError, Status, SubmitError};
+pub use stm_machine::{Checkpoint, CheckpointError};

@@ -2,14 +2,16 @@
 
 ghost use Rattle.std.specs.Prelude.{◌≡◌, ◌≤◌, ◌↔◌, false, length, IsOk, IfOk};
 ghost use Rattle.stm_events.specs.Laws.{SubmittedAreWellTyped};
-ghost use Rattle.stm_events.specs.SlowDesk.{IsLegal, state, max_events as most_events};
+ghost use Rattle.stm_events.specs.SlowDesk.{state_from, max_events as most_events};
+ghost use Rattle.stm_events.specs.States.{IsLegalFrom};
+ghost use Rattle.stm_machine.specs.Checkpoints.{start_of, MayStart};
 ghost use Rattle.stm_machine.specs.Machine.{IsAt};
 ghost use Rattle.stm_machine.specs.SettleChoices.{some_out};
 ghost use Rattle.stm_desk.specs.DeskView.{DeskQueueIsRight};
 
 use crate::desk::Desk;
 use stm_events::Event;
-use stm_machine::Machine;
+use stm_machine::{Checkpoint, Machine};
 use stm_store::Table;
 use thiserror::Error;
 
@@ -19,23 +21,27 @@ use thiserror::Error;
 pub struct TooManyEvents;
 
 impl Desk {
-    /// A desk with this table and these events, on which each new and each stale block is queued, and none is out. It takes
-    /// `max_events` events, with those that are there. Nothing is allocated, and no block is evaluated.
+    /// A desk with this table and these events, which begin from the checkpoint if there is one, on which each new and each stale block
+    /// is queued, and none is out. It takes `max_events` events, with those that are there. Nothing is allocated, and no block is
+    /// evaluated.
     ///
-    /// `stm_history::load_history` returns the three for the text of a history.
+    /// `stm_history::load_history` returns the four for the text of a history.
     pub fn resume(
         table: Table,
+        checkpoint: Option<Checkpoint>,
         events: Vec<Event>,
         mut machine: Machine,
         max_events: u32,
     ) -> Result<Desk, TooManyEvents>
         // The history is legal, and the machine is at the state that it leads to.
-        requires legal { IsLegal table events.items }
-        requires at { IsAt machine (state table events.items) }
+        requires start { MayStart table checkpoint }
+        requires legal { IsLegalFrom (start_of table checkpoint) events.items }
+        requires at { IsAt machine (state_from (start_of table checkpoint) events.items) }
         requires typed { SubmittedAreWellTyped events.items }
         requires small { max_events ≤ most_events }
         ensures fits { IsOk result ↔ (length events.items ≤ max_events) }
         ensures table { IfOk result (λ d. d.table ≡ table) }
+        ensures checkpoint { IfOk result (λ d. d.checkpoint ≡ checkpoint) }
         ensures limit { IfOk result (λ d. d.limit ≡ max_events) }
         ensures history { IfOk result (λ d. d.history ≡ events.items) }
         ensures queue { IfOk result (λ d. DeskQueueIsRight d) }
@@ -47,6 +53,7 @@ impl Desk {
         machine.recall();
         let desk = Desk {
             table,
+            checkpoint,
             limit: max_events,
             history: events,
             machine,

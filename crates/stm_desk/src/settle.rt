@@ -2,9 +2,10 @@
 
 ghost use Rattle.std.specs.Prelude.{◌≡◌, ◌<◌, ◌≤◌, false, None, Some, length, IfOk, OnOk, IfErr, OnErr};
 ghost use Rattle.stm_store.specs.Cells.{plains};
-ghost use Rattle.stm_events.specs.SlowDesk.{IsLegal, max_clients};
+ghost use Rattle.stm_events.specs.SlowDesk.{max_clients};
+ghost use Rattle.stm_events.specs.States.{IsPossible, IsLegalFrom};
 ghost use Rattle.stm_machine.specs.SettleChoices.{some_out, next_due, next_end};
-ghost use Rattle.stm_desk.specs.DeskView.{state_of};
+ghost use Rattle.stm_desk.specs.DeskView.{start_state, state_of};
 ghost use Rattle.stm_desk.specs.Settling.{requeued_all, HasBegun, SettlesAs, AllBlock};
 ghost use Rattle.stm_desk.specs.Steps.{IsNextEvent, StopsFor, StopsFinish, finish_why};
 
@@ -50,7 +51,8 @@ impl Desk {
     fn next_due(&self) -> Option<u32>
         requires { some_out self.now.pending ≡ false }
         ensures first { result ≡ next_due (state_of self.now) }
-        ensures legal { IsLegal self.now.table self.now.history }
+        ensures possible { IsPossible (state_of self.now) }
+        ensures legal { IsLegalFrom (start_state self.now) self.now.history }
         ensures few { length self.now.history ≤ self.now.limit }
     {
         self.machine.first_queued()
@@ -67,7 +69,7 @@ impl Desk {
         requires client { client < max_clients }
         requires next { next_due (state_of self.old) ≡ Some ticket }
         requires store { frozen.now ≡ plains (state_of self.old).store }
-        requires legal { IsLegal self.old.table self.old.history }
+        requires possible { IsPossible (state_of self.old) }
         ensures done { OnOk result (IsNextEvent client 0 1 self.old self.new) }
         ensures why { IfErr result (λ why. StopsFor why self.old) }
         ensures unchanged { OnErr result (self.new ≡ self.old) }
@@ -95,7 +97,8 @@ impl Desk {
         ensures stopped { IfErr result (λ e. HasBegun client self.old self.new 0 e.0) }
         ensures why { IfErr result (λ e. StopsFor e.1 self.new) }
         ensures none_out { some_out self.new.pending ≡ false }
-        ensures legal { IsLegal self.new.table self.new.history }
+        ensures possible { IsPossible (state_of self.new) }
+        ensures legal { IsLegalFrom (start_state self.new) self.new.history }
         ensures few { OnOk result (length self.new.history ≤ self.new.limit) }
     {
         let mut delivered = 0;
@@ -121,7 +124,7 @@ impl Desk {
 
     /// The lowest ticket of a block that doesn't block, where none is new or stale.
     fn next_end(&self) -> Option<u32>
-        requires legal { IsLegal self.now.table self.now.history }
+        requires possible { IsPossible (state_of self.now) }
         requires none_due { next_due (state_of self.now) ≡ None }
         ensures { result ≡ next_end (state_of self.now) }
     {
@@ -133,7 +136,7 @@ impl Desk {
         requires client { client < max_clients }
         requires none_due { next_due (state_of self.old) ≡ None }
         requires next { next_end (state_of self.old) ≡ Some ticket }
-        requires legal { IsLegal self.old.table self.old.history }
+        requires possible { IsPossible (state_of self.old) }
         requires few { length self.old.history ≤ self.old.limit }
         ensures done { OnOk result (IsNextEvent client 1 0 self.old self.new) }
         ensures why { IfErr result (λ why. StopsFor why self.old) }

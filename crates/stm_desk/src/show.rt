@@ -1,17 +1,19 @@
 //! What a desk shows.
 
-ghost use Rattle.std.specs.Prelude.{◌≡◌, ◌≤◌, nat_lt, true, Some, length, option_map, slice_get};
+ghost use Rattle.std.specs.Prelude.{◌≡◌, ◌≤◌, nat_lt, true, None, Some, length, option_map, slice_get};
 ghost use Rattle.std.specs.Option.{option_copied};
-ghost use Rattle.stm_store.specs.Tables.{opened};
-ghost use Rattle.stm_events.specs.SlowDesk.{Waiter, IsLegal, is_current, find_waiter, initial_state, serial, finished_from};
+ghost use Rattle.stm_events.specs.SlowDesk.{Waiter, is_current, find_waiter, serial, finished_from};
+ghost use Rattle.stm_events.specs.States.{IsLegalFrom};
 ghost use Rattle.stm_events.specs.Ready.{next_ready};
 ghost use Rattle.stm_events.specs.SlowSettle.{lowest};
 ghost use Rattle.stm_events.specs.BlockStatus.{shown, read_then, read_now};
 ghost use Rattle.stm_machine.specs.JobsHandedOut.{block_at};
 ghost use Rattle.stm_events.specs.Headline.{HeadlineHoldsBy};
+ghost use Rattle.stm_events.specs.HeadlineFrom.{HeadlineHoldsFrom};
+ghost use Rattle.stm_machine.specs.Checkpoints.{MayStart};
 ghost use Rattle.stm_queue.specs.Queue.{queued, tickets};
 ghost use Rattle.stm_queue.specs.SortedTickets.{IsRising};
-ghost use Rattle.stm_desk.specs.DeskView.{state_of, standing_of, DeskQueueIsRight, AllHaveVerdicts, SettlesInRounds};
+ghost use Rattle.stm_desk.specs.DeskView.{start_state, state_of, standing_of, DeskQueueIsRight, AllHaveVerdicts, SettlesInRounds};
 
 use crate::desk::Desk;
 use stm_check::SharedBlock;
@@ -53,12 +55,13 @@ impl Desk {
         self.machine.queued_at(i)
     }
 
-    /// The present store: that of running the finished blocks alone, one after another.
+    /// The present store: that of running the blocks that finished in the history alone, one after another, on the store that it
+    /// begins with.
     pub fn store(&self) -> &Store
         ensures store { result.now ≡ (state_of self.now).store }
         ensures serial { result.now
-            ≡ serial (opened self.now.table)
-            (finished_from (initial_state StalenessRule.Changed self.now.table) self.now.history) }
+            ≡ serial (start_state self.now).store
+            (finished_from (start_state self.now) self.now.history) }
     {
         self.machine.store()
     }
@@ -73,17 +76,21 @@ impl Desk {
     /// The events so far. What holds of every desk stands here.
     pub fn history(&self) -> &[Event]
         ensures history { result.now ≡ self.now.history }
-        ensures legal { IsLegal self.now.table self.now.history }
+        ensures start { MayStart self.now.table self.now.checkpoint }
+        ensures legal { IsLegalFrom (start_state self.now) self.now.history }
         ensures few { length self.now.history ≤ self.now.limit }
         ensures queue { DeskQueueIsRight self.now }
         ensures rising { IsRising (tickets self.now.pending) }
         ensures verdicts { AllHaveVerdicts (state_of self.now) }
         ensures rounds { SettlesInRounds (state_of self.now) }
-        ensures headline { HeadlineHoldsBy StalenessRule.Changed self.now.table self.now.history }
+        ensures headline { HeadlineHoldsFrom (start_state self.now) self.now.history }
+        // The same in the words of a history that begins with the first values of the variables.
+        ensures from_variables { self.now.checkpoint ≡ None
+            → HeadlineHoldsBy StalenessRule.Changed self.now.table self.now.history }
     {
-        // The queue is known to be right by this, and the store to be well typed by the next call.
+        // The queue is known to be right by this, and the variables to be well typed by the next call.
         let _queue = self.machine.waiting();
-        let _variables = self.machine.store().len();
+        let _variables = self.table.len();
         self.history.as_slice()
     }
 

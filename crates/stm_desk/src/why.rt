@@ -1,6 +1,7 @@
 //! Why a block waits.
 
 ghost use Rattle.std.specs.Prelude.{◌≡◌, ◌∷◌, [], MatchOption, IfOk, if◌then◌else◌, is_some, option_map};
+ghost use Rattle.std.specs.Option.{option_copied};
 ghost use Rattle.stm_terms.specs.Changes.{find as value_in};
 ghost use Rattle.stm_terms.specs.Typing.{Rising};
 ghost use Rattle.stm_terms.specs.Value.{same_value};
@@ -10,20 +11,22 @@ ghost use Rattle.stm_events.specs.Headline.{installs_to as is_delivery_to};
 ghost use Rattle.stm_events.specs.SlowDesk.{find_waiter, is_blocks};
 ghost use Rattle.stm_desk.specs.DeskView.{state_of};
 ghost use Rattle.stm_desk.specs.Reasons.{change_to, changes_from, ticket_of as ticket_in, IsStale, Waits as WaitsFor, CanFinish, reason_of};
-ghost use Rattle.stm_desk.specs.ReasonsTold.{left_by_writes, left_by_verdict, HasWritable, IsWritable, EachIsWritable, events_since as events_after, changes_told as changes_of, cause_told, cause_of, told_reason};
+ghost use Rattle.stm_desk.specs.ReasonsTold.{left_by_writes, left_by_verdict, HasWritable, IsWritable, EachIsWritable, events_since as events_after, changes_told as changes_of, cause_told, cause_of, stale_in, stale_at, stale_told, told_reason};
 
 use crate::desk::Desk;
 use crate::reason::{Change, Reason};
 use std::alloc::Global;
 use stm_events::shared_verdict::blocks;
 use stm_events::{Event, SharedVerdict, Status, What};
+use stm_machine::{Checkpoint, CheckpointBlock};
 use stm_terms::NoMemory;
 use stm_terms::values::{Ref, Value};
 use stm_terms::verdicts::Verdict;
 
 impl Desk {
     /// What the block under a ticket waits for; none if no block waits there, and only then. `NoMemory` only if the block is
-    /// stale; then it goes through the events since the block's last delivery.
+    /// stale; then it goes through the events since the block's last delivery, and through the blocks of the checkpoint if that
+    /// delivery came before it.
     pub fn why(&self, alloc: Global, ticket: u32) -> Result<Option<Reason<'_>>, NoMemory>
         ensures reason { IfOk result (λ r. option_map told_reason r ≡ reason_of self.now ticket) }
         // A block that waits has a reason; so a stale one has a cause.
@@ -40,7 +43,13 @@ impl Desk {
         };
         match status {
             Status::New => Ok(Some(Reason::New)),
-            Status::Stale(_) => stale_reason(alloc, ticket, reads, &self.history),
+            Status::Stale(_) => stale_reason(
+                alloc,
+                ticket,
+                reads,
+                self.checkpoint.as_ref(),
+                &self.history,
+            ),
             Status::Current(verdict) => Ok(Some(current_reason(verdict, reads))),
         }
     }
@@ -57,35 +66,80 @@ fn current_reason<'a>(verdict: &Verdict, reads: &'a [(u32, Value)]) -> Reason<'a
     }
 }
 
-/// What a stale block waits for.
+/// What a stale block waits for, in a history that begins from the checkpoint if there is one.
 fn stale_reason<'a>(
     alloc: Global,
     ticket: u32,
     reads: &[(u32, Value)],
+    checkpoint: Option<&Checkpoint>,
     history: &[Event],
 ) -> Result<Option<Reason<'a>>, NoMemory>
-    requires { EachIsWritable (events_after ticket history.now) }
+    requires { EachIsWritable history.now }
     ensures { IfOk result (λ r. option_map told_reason r
-        ≡ option_map IsStale (cause_told reads.now (events_after ticket history.now))) }
+        ≡ stale_told (stale_at ticket (option_map (λ c. c.now) checkpoint.entry)) reads.now history.now (events_after ticket history.now)) }
 {
-    match first_cause(alloc, reads, events_since(history, ticket))? {
+    match events_since(history, ticket) {
+        Some(later) => stale_by(alloc, reads, later),
+        None => {
+            if was_stale(checkpoint, ticket) {
+                Ok(Some(Reason::WasStale))
+            } else {
+                stale_by(alloc, reads, history)
+            }
+        }
+    }
+}
+
+/// A stale block, by the first of these events that changed variables of its reads.
+fn stale_by<'a>(
+    alloc: Global,
+    reads: &[(u32, Value)],
+    events: &[Event],
+) -> Result<Option<Reason<'a>>, NoMemory>
+    requires { EachIsWritable events.now }
+    ensures { IfOk result (λ r. option_map told_reason r
+        ≡ option_map IsStale (cause_told reads.now events.now)) }
+{
+    match first_cause(alloc, reads, events)? {
         Some((finish, changes)) => Ok(Some(Reason::Stale { finish, changes })),
         None => Ok(None),
     }
 }
 
-/// The events after the last delivery to a ticket, found from the end.
-fn events_since(history: &[Event], ticket: u32) -> &[Event]
-    ensures { result.now ≡ events_after ticket history.now }
+/// Whether the block under a ticket was stale at the checkpoint, if there is one.
+fn was_stale(checkpoint: Option<&Checkpoint>, ticket: u32) -> bool
+    ensures { result ≡ stale_at ticket (option_map (λ c. c.now) checkpoint.entry) }
+{
+    match checkpoint {
+        Some(checkpoint) => is_stale_in(checkpoint.blocks(), ticket),
+        None => false,
+    }
+}
+
+/// Whether the block under a ticket is stale, by these blocks of a checkpoint.
+fn is_stale_in(blocks: &[CheckpointBlock], ticket: u32) -> bool
+    ensures { result ≡ stale_in ticket blocks.now }
+{
+    for block in blocks {
+        if ticket == block.ticket {
+            return block.stale;
+        }
+    }
+    false
+}
+
+/// The events after the last delivery to a ticket, found from the end; none if there was no delivery.
+fn events_since(history: &[Event], ticket: u32) -> Option<&[Event]>
+    ensures { option_copied result ≡ events_after ticket history.now }
 {
     let mut i = history.len();
     while i > 0 {
         if installs_to(&history[i - 1].what, ticket) {
-            return &history[i..];
+            return Some(&history[i..]);
         }
         i -= 1;
     }
-    &[]
+    None
 }
 
 /// Whether it is a delivery to the ticket.

@@ -3,14 +3,17 @@ use Rattle.std.proofs.Common.{◌≡◌, ◌⊎◌, inl, inr, ℕ, zero, suc, Li
 use Rattle.std.proofs.lemmas.List.{append-nil, append_assoc, take-append-drop}
 use Rattle.stm_store.specs.Tables.{Declared}
 use Rattle.stm_events.specs.declared.event.Event.{Event}
-use Rattle.stm_events.specs.declared.staleness.StalenessRule.TheVariants.{Changed}
-use Rattle.stm_events.specs.SlowDesk.{Slow, IsLegal, LegalFrom, initial_state, after}
-use Rattle.stm_history.specs.HistoryText.{history_text}
+use Rattle.stm_events.specs.SlowDesk.{Slow, LegalFrom, after}
+use Rattle.stm_events.specs.States.{IsLegalFrom}
+use Rattle.stm_history.specs.HistoryText.{history_text, start_text}
 use Rattle.stm_history.specs.Judgement.{AreEvents}
-use Rattle.stm_event_lines.specs.Lines.{latest_format}
 use Rattle.stm_history.specs.Loading.{IsWholeHistory}
-use Rattle.stm_journal.specs.Text.{recovered}
-use Rattle.stm_durable.specs.Durable.{file_text, MayGoOn, AllOrNoneIsResumed, FirstAreResumed}
+use Rattle.stm_history.specs.Starts.{Start, first_state, read_back}
+use Rattle.stm_history.proofs.KeptIsTaken.{what_is_kept_is_taken}
+use Rattle.stm_journal.specs.Text.{IsWhole, recovered}
+use Rattle.stm_journal.proofs.Wholes.{recovered_whole}
+use Rattle.stm_durable.specs.Durable.{file_text, MayGoOn, AllOrNoneIsResumed, FirstAreResumed, CheckpointIsResumed}
+use Rattle.stm_durable.proofs.Texts.{IsWhole-start}
 
 take_all : (xs : List Event) → take (length xs) xs ≡ xs
 take_all [] = refl
@@ -30,24 +33,23 @@ legal_front : (s : Slow) (xs ys : List Event) → LegalFrom s (xs ++ ys) → Leg
 legal_front s [] ys l = tt
 legal_front s (x ∷ xs) ys l = (l.0, legal_front (after s x.what) xs ys l.1)
 
-front_is_legal : (table : List Declared) (xs ys : List Event) → IsLegal table (xs ++ ys) → IsLegal table xs
-front_is_legal table xs ys l = record { each = legal_front (initial_state Changed table) xs ys l.each; few = omega (arith, l.few, length-append xs ys) }
+front_is_legal : (s : Slow) (xs ys : List Event) → IsLegalFrom s (xs ++ ys) → IsLegalFrom s xs
+front_is_legal s xs ys l = record { each = legal_front s xs ys l.each; few = omega (arith, l.few, length-append xs ys) }
 
-is_history : (table : List Declared) (history events : List Event) (n : ℕ) (text : List ℕ) → text ≡ history_text latest_format table (history ++ take n events) → MayGoOn table history events
-    → IsWholeHistory latest_format text table (history ++ take n events)
-is_history table history events n text is may =
-    let parts : (history ++ take n events) ++ drop n events ≡ history ++ events =
+is_history : (start : Start) (history events : List Event) (n : ℕ) (text : List ℕ) → text ≡ history_text start (history ++ take n events) → MayGoOn start history events
+    → IsWholeHistory (read_back start) text (history ++ take n events)
+is_history start history events n text is may =
+    let begins = may.begins in
+    let some = history ++ take n events in
+    let parts : some ++ drop n events ≡ history ++ events =
     append_assoc history (take n events) (drop n events) ∙ ap (λ (l : List Event). history ++ l) (take-append-drop n events) in
-    record {
-      text = is ∙ sym (append-nil _);
-      few = may.few;
-      variables = may.variables;
-      events = AreEvents-append latest_format table history (take n events) may.old (AreEvents-take latest_format table n events may.new);
-      legal = front_is_legal table (history ++ take n events) (drop n events) (subst (IsLegal table) (sym parts) may.legal);
-    }
+    subst (λ (t : List ℕ). IsWholeHistory (read_back start) t some) (sym is)
+    (what_is_kept_is_taken start some begins.written begins.fits begins.short
+    (AreEvents-append start.format start.table history (take n events) may.old (AreEvents-take start.format start.table n events may.new))
+    (front_is_legal (first_state start) some (drop n events) (subst (IsLegalFrom (first_state start)) (sym parts) may.legal)))
 
 pub all_or_none_is_resumed : AllOrNoneIsResumed
-all_or_none_is_resumed begun table history events file left may = by begun left.lines
+all_or_none_is_resumed begun start history events file left may = by begun left.lines
   where
     none_taken : history ++ take 0 events ≡ history
     none_taken = append-nil history
@@ -55,21 +57,32 @@ all_or_none_is_resumed begun table history events file left may = by begun left.
     all_taken : take (length events) events ≡ events
     all_taken = take_all events
 
-    before : recovered file ≡ history_text latest_format table history → IsWholeHistory latest_format (recovered file) table history
+    before : recovered file ≡ history_text start history → IsWholeHistory (read_back start) (recovered file) history
     before is =
-        subst (IsWholeHistory latest_format (recovered file) table) none_taken
-        (is_history table history events 0 (recovered file) (is ∙ ap (history_text latest_format table) (sym none_taken)) may)
+        subst (IsWholeHistory (read_back start) (recovered file)) none_taken
+        (is_history start history events 0 (recovered file) (is ∙ ap (history_text start) (sym none_taken)) may)
 
-    after : recovered file ≡ history_text latest_format table (history ++ events) → IsWholeHistory latest_format (recovered file) table (history ++ events)
-    after is =
-        subst (λ (l : List Event). IsWholeHistory latest_format (recovered file) table (history ++ l)) all_taken
-        (is_history table history events (length events) (recovered file) (is ∙ ap (λ (l : List Event). history_text latest_format table (history ++ l)) (sym all_taken)) may)
+    after_all : recovered file ≡ history_text start (history ++ events) → IsWholeHistory (read_back start) (recovered file) (history ++ events)
+    after_all is =
+        subst (λ (l : List Event). IsWholeHistory (read_back start) (recovered file) (history ++ l)) all_taken
+        (is_history start history events (length events) (recovered file) (is ∙ ap (λ (l : List Event). history_text start (history ++ l)) (sym all_taken)) may)
 
-    by : (b : Bool) → (recovered file ≡ file_text b table history) ⊎ (recovered file ≡ history_text latest_format table (history ++ events))
-        → (IsWholeHistory latest_format (recovered file) table history ⊎ IsWholeHistory latest_format (recovered file) table (history ++ events)) ⊎ ((b ≡ false) × (recovered file ≡ []))
+    by : (b : Bool) → (recovered file ≡ file_text b start history) ⊎ (recovered file ≡ history_text start (history ++ events))
+        → (IsWholeHistory (read_back start) (recovered file) history ⊎ IsWholeHistory (read_back start) (recovered file) (history ++ events))
+        ⊎ ((b ≡ false) × (recovered file ≡ []))
     by true (inl is) = inl (inl (before is))
     by false (inl is) = inr (refl, is)
-    by b (inr is) = inl (inr (after is))
+    by b (inr is) = inl (inr (after_all is))
 
 pub first_are_resumed : FirstAreResumed
-first_are_resumed table history events file left may = (left.count, is_history table history events left.count (recovered file) left.lines may)
+first_are_resumed start history events file left may = (left.count, is_history start history events left.count (recovered file) left.lines may)
+
+pub checkpoint_is_resumed : CheckpointIsResumed
+checkpoint_is_resumed start file begins is =
+    let none : start_text start ≡ history_text start [] = sym (append-nil (start_text start)) in
+    let whole : IsWhole file = subst IsWhole (sym (is ∙ ap start_text begins.written)) (IsWhole-start start.table start.checkpoint begins.fits) in
+    let all = recovered_whole file whole in (
+      subst (λ (t : List ℕ). IsWholeHistory (read_back start) t []) (sym (all ∙ is ∙ none))
+          (what_is_kept_is_taken start [] begins.written begins.fits begins.short tt (record { each = tt; few = omega arith })),
+      omega (arith, whole),
+    )

@@ -3,3 +3,4 @@ pub mod FirstEvents
 pub mod Crashes
 pub mod RepairedFiles
 pub mod LeftIsLoaded
+pub mod LinesMeasured

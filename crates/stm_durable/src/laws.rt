@@ -1,9 +1,10 @@
 //! What holds of files and crashes: each function's contract is a law of the definitions, and its body is empty.
 
-ghost use Rattle.stm_durable.specs.Durable.{AllOrNoneIsResumed, FirstAreResumed};
+ghost use Rattle.stm_durable.specs.Durable.{AllOrNoneIsResumed, FirstAreResumed, CheckpointIsResumed};
 
-/// What a crash leaves while events are recorded is loaded again.
+/// What a crash leaves while events are recorded is loaded again, and so is a file with the lines of a checkpoint.
 pub fn crashes_are_resumed()
     ensures full { AllOrNoneIsResumed }
     ensures append { FirstAreResumed }
+    ensures checkpoint { CheckpointIsResumed }
 {}

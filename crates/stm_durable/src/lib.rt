@@ -6,9 +6,11 @@
 #![tactic(auto)]
 
 ghost use Rattle.std.specs.Prelude.{IfOk, IfSome};
-ghost use Rattle.stm_history.specs.Loading.{HasText};
+ghost use Rattle.stm_history.specs.Loading.{HasText, loaded_start};
 
+mod beginning;
 pub mod laws;
+mod measured;
 mod recording;
 mod resuming;
 
@@ -40,6 +42,19 @@ mod tests {
 \0\"client\":0,\"event\":\"cancelled\",\"ticket\":1}
 ";
 
+    /// A history from a checkpoint in which a block waits, with no events.
+    const FROM: &[u8] = b"{\"format\":4,\"next\":2,\"vars\":1,\"waiting\":1}
+{\"count\":0,\"init\":1,\"name\":\"x\",\"type\":\"Int\"}
+{\"block\":\"readTVar x\",\"ticket\":1}
+";
+
+    /// The same, and an event.
+    const ONWARD: &[u8] = b"{\"format\":4,\"next\":2,\"vars\":1,\"waiting\":1}
+{\"count\":0,\"init\":1,\"name\":\"x\",\"type\":\"Int\"}
+{\"block\":\"readTVar x\",\"ticket\":1}
+{\"client\":0,\"event\":\"cancelled\",\"ticket\":1}
+";
+
     const OLD: &[u8] = b"{\"format\":2,\"vars\":0}\n";
 
     const ILLEGAL: &[u8] =
@@ -48,7 +63,7 @@ mod tests {
     const OTHER: &[u8] = b"Dear diary\n";
 
     fn opened(alloc: Global, bytes: &[u8]) -> Result<Opened<Memory>, Fail>
-        ensures { IfOk result (λ r. IfSome r.loaded (λ h. HasText h.table h.events.items)) }
+        ensures { IfOk result (λ r. IfSome r.loaded (λ h. HasText (loaded_start h) h.events.items)) }
     {
         let device = Memory::new(alloc, bytes.to_vec(alloc)?);
         Ok(open_history(alloc, Seed::fixed(), device, SyncMode::Full).map_err(|e| e.1)?)
@@ -104,7 +119,12 @@ mod tests {
         };
         match (&whole.loaded, &new.loaded) {
             (Some(loaded), None) => {
-                new.file.record(alloc, &loaded.table, &loaded.events)?;
+                new.file.record(
+                    alloc,
+                    &loaded.table,
+                    loaded.checkpoint.as_ref(),
+                    &loaded.events,
+                )?;
                 Ok(new.file.journal.device.bytes().to_vec(alloc)?)
             }
             _ => Ok(Vec::new(alloc)),
@@ -116,6 +136,69 @@ mod tests {
         assert_eq!(rt; recorded(rt.alloc(), SyncMode::Full)?.as_slice(), WHOLE);
         assert_eq!(rt; recorded(rt.alloc(), SyncMode::Append)?.as_slice(), WHOLE);
         assert_eq!(rt; recorded(rt.alloc(), SyncMode::Never)?.as_slice(), WHOLE);
+        Ok(())
+    }
+
+    /// Lets a history begin again from a checkpoint, and records events after it. Returned are the bytes in between, and the file.
+    fn begun_again(alloc: Global, sync: SyncMode) -> Result<(Vec<u8>, Memory), Fail> {
+        let onward = opened(alloc, ONWARD)?;
+        let device = Memory::new(alloc, WHOLE.to_vec(alloc)?);
+        let mut old = match open_history(alloc, Seed::fixed(), device, sync) {
+            Ok(old) => old,
+            Err((device, _)) => return Ok((Vec::new(alloc), device)),
+        };
+        let Some(loaded) = &onward.loaded else {
+            return Ok((Vec::new(alloc), old.file.journal.device));
+        };
+        let Some(checkpoint) = &loaded.checkpoint else {
+            return Ok((Vec::new(alloc), old.file.journal.device));
+        };
+        old.file.begin_anew(alloc, &loaded.table, checkpoint)?;
+        let bytes = old.file.journal.device.bytes().to_vec(alloc)?;
+        old.file
+            .record(alloc, &loaded.table, Some(checkpoint), &loaded.events)?;
+        Ok((bytes, old.file.journal.device))
+    }
+
+    #[test]
+    fn a_history_begins_again(rt: HostRuntime) -> Result<(), Fail> {
+        let (bytes, file) = begun_again(rt.alloc(), SyncMode::Full)?;
+        assert_eq!(rt; bytes.as_slice(), FROM);
+        assert_eq!(rt; file.bytes(), ONWARD);
+        // What a crash might have left before and after the new file took the place of the old one.
+        match (file.past().get(0), file.past().get(1)) {
+            (Some(before), Some(after)) => {
+                assert_eq!(rt; before.as_slice(), WHOLE);
+                assert_eq!(rt; after.as_slice(), FROM);
+            }
+            _ => panic!(rt; "the file had no other bytes"),
+        }
+        Ok(())
+    }
+
+    #[test]
+    fn a_history_begins_again_in_each_mode(rt: HostRuntime) -> Result<(), Fail> {
+        let (bytes, file) = begun_again(rt.alloc(), SyncMode::Append)?;
+        assert_eq!(rt; bytes.as_slice(), FROM);
+        assert_eq!(rt; file.bytes(), ONWARD);
+        let (bytes, file) = begun_again(rt.alloc(), SyncMode::Never)?;
+        assert_eq!(rt; bytes.as_slice(), FROM);
+        assert_eq!(rt; file.bytes(), ONWARD);
+        Ok(())
+    }
+
+    #[test]
+    fn what_began_again_is_opened(rt: HostRuntime) -> Result<(), Fail> {
+        let opened = opened(rt.alloc(), FROM)?;
+        assert_eq!(rt; opened.file.journal.device.bytes(), FROM);
+        match &opened.loaded {
+            Some(loaded) => {
+                assert!(rt; loaded.checkpoint.is_some());
+                assert_eq!(rt; loaded.events.len(), 0usize);
+                assert_eq!(rt; loaded.table.len(), 1usize);
+            }
+            None => panic!(rt; "nothing was loaded"),
+        }
         Ok(())
     }
 }

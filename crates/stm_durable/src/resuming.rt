@@ -2,11 +2,14 @@
 
 ghost use Rattle.std.specs.Prelude.{◌≡◌, ◌⊎◌, ◌≤◌, ◌<◌, ◌≢◌, ◌^◌, ℕ, List, IsTrue, IfOk, IfErr, IfSome, MatchResult, length, take, get_or};
 ghost use Rattle.stm_events.specs.Laws.{SubmittedAreWellTyped};
-ghost use Rattle.stm_events.specs.SlowDesk.{IsLegal, state};
-ghost use Rattle.stm_history.specs.Loading.{HasText, ReportsLoadFault};
+ghost use Rattle.stm_events.specs.SlowDesk.{state_from};
+ghost use Rattle.stm_events.specs.States.{IsLegalFrom};
+ghost use Rattle.stm_history.specs.Loading.{HasText, ReportsLoadFault, loaded_start};
+ghost use Rattle.stm_history.specs.Starts.{BlocksAreOfText};
 ghost use Rattle.stm_journal.specs.Device.{LeavesOnly, HasReadCause};
 ghost use Rattle.stm_journal.specs.Journal.{HasSameLines, most_batch};
 ghost use Rattle.stm_journal.specs.Text.{whole_count, recovered, dropped_count};
+ghost use Rattle.stm_machine.specs.Checkpoints.{MayStart, start_of};
 ghost use Rattle.stm_machine.specs.Machine.{IsAt};
 ghost use Rattle.stm_durable.specs.Durable.{HasLoaded, LoadsFront, ReportsOpenFault, IsOfFile, IsForeign};
 
@@ -21,7 +24,7 @@ use stm_store::Seed;
 pub enum OpenFault {
     /// The disk failed, memory ran out, or more than a batch follows the whole lines.
     Journal(JournalError),
-    /// Its whole lines are no legal history of the latest format.
+    /// Its whole lines are no legal history of format 3 or 4.
     History(LoadFault),
     /// It has more than one byte and no line of a history: it is some other file.
     Foreign,
@@ -43,10 +46,14 @@ fn load_front<D: Device>(
     len: usize,
 ) -> Result<Option<Loaded>, LoadFault>
     requires { IsTrue D.is_honest → len ≤ length (D.seen device.now) }
-    ensures legal { IfOk result (λ o. IfSome o (λ h. IsLegal h.table h.events.items)) }
-    ensures at { IfOk result (λ o. IfSome o (λ h. IsAt h.machine (state h.table h.events.items))) }
-    ensures lines { IfOk result (λ o. IfSome o (λ h. HasText h.table h.events.items)) }
+    ensures start { IfOk result (λ o. IfSome o (λ h. MayStart h.table h.checkpoint)) }
+    ensures legal { IfOk result (λ o. IfSome o (λ h.
+        IsLegalFrom (start_of h.table h.checkpoint) h.events.items)) }
+    ensures at { IfOk result (λ o. IfSome o (λ h. IsAt h.machine
+        (state_from (start_of h.table h.checkpoint) h.events.items))) }
+    ensures lines { IfOk result (λ o. IfSome o (λ h. HasText (loaded_start h) h.events.items)) }
     ensures typed { IfOk result (λ o. IfSome o (λ h. SubmittedAreWellTyped h.events.items)) }
+    ensures blocks { IfOk result (λ o. IfSome o (λ h. IfSome h.checkpoint (BlocksAreOfText h.table))) }
     ensures text { IsTrue D.is_honest → IfOk result (λ o. LoadsFront (take len (D.seen device.now)) o) }
     ensures fault { IsTrue D.is_honest
         → IfErr result (λ e. ReportsLoadFault e (take len (D.seen device.now))) }
@@ -85,10 +92,14 @@ fn judge<D: Device>(
 ) -> Result<(Found, Option<Loaded>), OpenFault>
     ensures kept { IsTrue D.is_honest → IfOk result (λ r. r.0.kept ≡ whole_count 0 (D.seen device.now)) }
     ensures dropped { IsTrue D.is_honest → IfOk result (λ r. r.0.dropped ≡ dropped_count (D.seen device.now)) }
-    ensures legal { IfOk result (λ r. IfSome r.1 (λ h. IsLegal h.table h.events.items)) }
-    ensures at { IfOk result (λ r. IfSome r.1 (λ h. IsAt h.machine (state h.table h.events.items))) }
-    ensures lines { IfOk result (λ r. IfSome r.1 (λ h. HasText h.table h.events.items)) }
+    ensures start { IfOk result (λ r. IfSome r.1 (λ h. MayStart h.table h.checkpoint)) }
+    ensures legal { IfOk result (λ r. IfSome r.1 (λ h.
+        IsLegalFrom (start_of h.table h.checkpoint) h.events.items)) }
+    ensures at { IfOk result (λ r. IfSome r.1 (λ h. IsAt h.machine
+        (state_from (start_of h.table h.checkpoint) h.events.items))) }
+    ensures lines { IfOk result (λ r. IfSome r.1 (λ h. HasText (loaded_start h) h.events.items)) }
     ensures typed { IfOk result (λ r. IfSome r.1 (λ h. SubmittedAreWellTyped h.events.items)) }
+    ensures blocks { IfOk result (λ r. IfSome r.1 (λ h. IfSome h.checkpoint (BlocksAreOfText h.table))) }
     ensures text { IsTrue D.is_honest → IfOk result (λ r. LoadsFront (recovered (D.seen device.now)) r.1) }
     ensures own { IsTrue D.is_honest → IfOk result (λ _. IsForeign (D.seen device.now) → ⊥) }
     ensures reported { IsTrue D.is_honest → IfErr result (λ e. ReportsOpenFault e (D.seen device.now)) }
@@ -180,11 +191,16 @@ pub fn open_history<D: Device>(
     device: D,
     sync: SyncMode,
 ) -> Result<Opened<D>, (D, OpenFault)>
-    // The history is legal, whatever the device is, and the machine is at the state that it leads to.
-    ensures legal { IfOk result (λ r. IfSome r.loaded (λ h. IsLegal h.table h.events.items)) }
-    ensures at { IfOk result (λ r. IfSome r.loaded (λ h. IsAt h.machine (state h.table h.events.items))) }
-    ensures lines { IfOk result (λ r. IfSome r.loaded (λ h. HasText h.table h.events.items)) }
+    // The history may begin where it does, and is legal from there, whatever the device is; and the machine is at the state that it
+    // leads to.
+    ensures start { IfOk result (λ r. IfSome r.loaded (λ h. MayStart h.table h.checkpoint)) }
+    ensures legal { IfOk result (λ r. IfSome r.loaded (λ h.
+        IsLegalFrom (start_of h.table h.checkpoint) h.events.items)) }
+    ensures at { IfOk result (λ r. IfSome r.loaded (λ h. IsAt h.machine
+        (state_from (start_of h.table h.checkpoint) h.events.items))) }
+    ensures lines { IfOk result (λ r. IfSome r.loaded (λ h. HasText (loaded_start h) h.events.items)) }
     ensures typed { IfOk result (λ r. IfSome r.loaded (λ h. SubmittedAreWellTyped h.events.items)) }
+    ensures blocks { IfOk result (λ r. IfSome r.loaded (λ h. IfSome h.checkpoint (BlocksAreOfText h.table))) }
     // Its text is the file's whole lines, and the file then has exactly this text.
     ensures loaded { IsTrue D.is_honest → IfOk result (λ r. LoadsFront (recovered (D.seen device)) r.loaded) }
     ensures kept { IsTrue D.is_honest → IfOk result (λ r. HasLoaded D.seen D.may_leave

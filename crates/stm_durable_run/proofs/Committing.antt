@@ -1,5 +1,7 @@
 -- A line more, and what a commit makes of it.
-use Rattle.std.proofs.Common.{◌≡◌, ◌≢◌, ℕ, List, [], ◌∷◌, ◌++◌, length, Bool, IsTrue, Option, Result, Ok, Err, OnOk, IfErr, refl, sym, ap, ap₂, ◌∙◌, subst, append_assoc, append-nil}
+use Rattle.std.proofs.Common.{◌≡◌, ◌≢◌, ⊎_elim, ℕ, zero, ◌<◌, ◌≤◌, List, [], ◌∷◌, ◌++◌, length, Bool, true, false, cond, IsTrue, Option, Result, Ok, Err, OnOk, IfErr, refl, sym, ap, ap₂, ◌∙◌, subst, arith, append_assoc, append-nil}
+use Rattle.std.specs.Prelude.{◌⊎◌, nat_lt, MatchBool, IfOk}
+use Rattle.std.proofs.lemmas.Bool.Decides.{nat_tests}
 use Rattle.std.specs.Io.KnownBytes.{Appends, Keeps}
 use Rattle.std.proofs.KnownBytes.{Appends-kept, Appends-trans}
 use Rattle.stm_terms.specs.Texts.{IsPrefixOf}
@@ -11,27 +13,33 @@ use Rattle.stm_lines.specs.declared.run_fault.RunFault.TheVariants.{Read}
 use Rattle.stm_run.specs.declared.console.Console.{Console}
 use Rattle.stm_run.specs.declared.reply.Reply.{Reply}
 use Rattle.stm_run.specs.declared.reply.Reply.TheVariants as reply
-use Rattle.stm_run.specs.Abstraction.{IsReply}
-use Rattle.stm_run.specs.Console.{answer_to, answers_to, state_after, class_step, step}
-use Rattle.stm_run.specs.ConsoleState.{events_of}
-use Rattle.stm_run.specs.Laws.{state_after_lines}
+use Rattle.stm_run.specs.Abstraction.{IsReply, IsStep}
+use Rattle.stm_run.specs.Console.{answer_to, state_after, class_step, step}
+use Rattle.stm_run.specs.ConsoleState.{table_of, events_of, with_checkpoint}
+use Rattle.stm_run.specs.Fitting.{VariablesFit, VariablesStayFit}
+use Rattle.stm_run.specs.Growing.{Grows}
+use Rattle.stm_run.specs.LineCheckpoints.{auto_checkpoint, auto_step, line_checkpoints, tells_checkpoint, states_after, answers_by}
+use Rattle.stm_run.proofs.EventsOfConsole.{consoles_grow, grows_not, grows_trans}
 use Rattle.stm_durable_run.specs.declared.fault.DurableFault.{DurableFault}
 use Rattle.stm_durable_run.specs.declared.fault.DurableFault.TheVariants.{Run, Journal}
 use Rattle.stm_durable_run.specs.DurableRun.{LeavesBetween, CoversAnswers}
-use Rattle.stm_durable_run.specs.Committing.{MayCommit, IsAfterLines, streamed_text, HasFinished, HasNotWritten, HasEndedAtRest, HasFailed}
+use Rattle.stm_durable_run.specs.Committing.{MayCommit, MayBeginAnew, IsBehind, IsAfterLines, streamed_text, HasFinished, HasNotWritten, HasEndedAtRest, HasFailed}
+use Rattle.stm_durable_run.specs.NewEvents.{MayBeginRun}
+use Rattle.stm_durable_run.proofs.NewEvents.{grown_begins}
 
 -- ---- lines after lines
-pub after_append : (s : Console) (xs ys : List (List ℕ)) → state_after_lines s (xs ++ ys) ≡ state_after_lines (state_after_lines s xs) ys
-after_append s [] ys = refl
-after_append s (x ∷ xs) ys = after_append (state_after s x) xs ys
+pub after_append : (every : ℕ) (s : Console) (xs ys : List (List ℕ)) → states_after every s (xs ++ ys) ≡ states_after every (states_after every s xs) ys
+after_append every s [] ys = refl
+after_append every s (x ∷ xs) ys = after_append every (auto_step every s (state_after s x)) xs ys
 
-pub answers_append : (s : Console) (xs ys : List (List ℕ)) → answers_to s (xs ++ ys) ≡ answers_to s xs ++ answers_to (state_after_lines s xs) ys
-answers_append s [] ys = refl
-answers_append s (x ∷ xs) ys =
-    ap (λ (t : List ℕ). answer_to s x ++ t) (answers_append (state_after s x) xs ys) ∙ sym (append_assoc (answer_to s x) (answers_to (state_after s x) xs) _)
+pub answers_append : (every : ℕ) (s : Console) (xs ys : List (List ℕ)) → answers_by every s (xs ++ ys) ≡ answers_by every s xs ++ answers_by every (states_after every s xs) ys
+answers_append every s [] ys = refl
+answers_append every s (x ∷ xs) ys =
+    let t = auto_step every s (state_after s x) in
+    ap (λ (l : List ℕ). answer_to s x ++ l) (answers_append every t xs ys) ∙ sym (append_assoc (answer_to s x) (answers_by every t xs) (answers_by every (states_after every t xs) ys))
 
 -- of a line no more counts than how it is judged
-same_step : (s : Console) (line judged : List ℕ) → line_class line ≡ line_class judged → step s line ≡ step s judged
+pub same_step : (s : Console) (line judged : List ℕ) → line_class line ≡ line_class judged → step s line ≡ step s judged
 unfolding step
 same_step s line judged e = ap (class_step s) e
 
@@ -40,130 +48,219 @@ pub reply_text : (r : Reply) (old new : List ℕ) (c : Console) (answer : List �
 reply_text reply.Text old new c answer h = append-nil new ∙ h
 reply_text reply.History old new c answer h = ap₂ (λ (a b : List ℕ). a ++ b) h.0 (sym h.1)
 reply_text (reply.Events n) old new c answer h = ap₂ (λ (a b : List ℕ). a ++ b) h.0 (sym h.1)
+reply_text reply.Checkpoint old new c answer h = append-nil new ∙ h
+
+-- ---- the checkpoint that is due after a line
+not_more : (m n : ℕ) → n ≤ m → nat_lt m n ≡ false
+not_more m n h = grind (arith, nat_tests)
+
+-- a line that adds no event makes none due
+pub none_due : (every : ℕ) (s t : Console) → length (events_of t) ≤ length (events_of s) → auto_step every s t ≡ t
+none_due every s t h = ap (λ (b : Bool). cond {A = Console} b (auto_checkpoint every t) t) (not_more (length (events_of s)) (length (events_of t)) h)
+
+pub streamed_step : (every : ℕ) (s t : Console) → events_of t ≡ events_of s → t ≡ auto_step every s t
+streamed_step every s t e = let n : length (events_of t) ≡ length (events_of s) = ap length e in sym (none_due every s t (omega arith))
+
+pub checkpoint_step : (every : ℕ) (s t : Console) → t ≡ with_checkpoint s → t ≡ auto_step every s t
+checkpoint_step every s t e = let n : length (events_of t) ≡ zero = ap (λ (x : Console). length (events_of x)) e in sym (none_due every s t (omega arith))
+
+-- ---- what a line leaves, by its reply
+module _ {X : Type 0} (s t : Console) (line old new : List ℕ) where
+  abbrev Told : Result Reply X → Type 0
+  Told r = IfOk r (λ r. IsStep r old new t (step s line)) × IfOk r (λ r. tells_checkpoint r ≡ line_checkpoints s line)
+
+  -- it makes a checkpoint
+  pub made_by_line : (r : Result Reply X) → Told r → IfOk r (λ r. tells_checkpoint r ≡ true → t ≡ with_checkpoint s)
+  made_by_line (Err x) h = tt
+  made_by_line (Ok r) h = λ e.
+      h.0.0 ∙ subst (λ (b : Bool). MatchBool b (state_after s line ≡ with_checkpoint s) (Grows s (state_after s line))) (sym h.1 ∙ e) (consoles_grow s line)
+
+  -- or lets the console grow
+  pub grown_by_line : (r : Result Reply X) → Told r → IfOk r (λ r. tells_checkpoint r ≡ false → Grows s t)
+  grown_by_line (Err x) h = tt
+  grown_by_line (Ok r) h = λ e.
+      subst (Grows s) (sym h.0.0) (subst (λ (b : Bool). MatchBool b (state_after s line ≡ with_checkpoint s) (Grows s (state_after s line))) (sym h.1 ∙ e) (consoles_grow s line))
+
+  -- the variables can still be in lines
+  pub fit_after_line : VariablesStayFit → (r : Result Reply X) → Told r → OnOk r (VariablesFit (table_of s) → VariablesFit (table_of t))
+  fit_after_line law (Err x) h = tt
+  fit_after_line law (Ok r) h = λ v. subst (λ (c : Console). VariablesFit (table_of c)) (sym h.0.0) (law s (line ∷ []) v)
 
 -- ---- a run after some lines
-abbrev pub may_commit : (K : Console → Type 0) (s : Console) (lines : List (List ℕ)) (old new : Option (List ℕ)) (console : Console) (held : List ℕ) (recorded : ℕ) → IsAfterLines K s lines old new console held recorded → MayCommit K console recorded
-may_commit K s lines old new console held recorded a =
-    record { first = s; answered = a.answered; awaiting = a.awaiting; may_begin = a.may_begin; since = a.since; count = a.count; kept = a.kept }
+abbrev pub may_commit : (K : Console → Type 0) (every : ℕ) (s : Console) (lines : List (List ℕ)) (old new : Option (List ℕ)) (console : Console) (held : List ℕ) (recorded : ℕ)
+    → IsAfterLines K every s lines old new console held recorded → MayCommit K console recorded
+may_commit K every s lines old new console held recorded a =
+    record {
+      committed = states_after every s a.behind.answered;
+      may_begin = a.behind.may_begin;
+      grows = a.grows;
+      variables = a.variables;
+      count = a.behind.count;
+      kept = a.behind.kept;
+    }
 
-module _ (K : Console → Type 0) (s : Console) (lines : List (List ℕ)) (old new : Option (List ℕ)) (console : Console) (held : List ℕ) (recorded : ℕ) (a : IsAfterLines K s lines old new console held recorded) where
+module _ (K : Console → Type 0) (every : ℕ) (s : Console) (lines : List (List ℕ)) (old new : Option (List ℕ)) (console : Console) (held : List ℕ) (recorded : ℕ) (a : IsBehind K every s lines old new console held recorded) where
   -- one line more, whose answer is held
-  pub held_more : (line judged : List ℕ) (next : Console) (more : List ℕ) (count : ℕ) → line_class line ≡ line_class judged → next ≡ state_after console line → more ≡ held ++ answer_to console line → count ≡ recorded
-      → IsAfterLines K s (lines ++ judged ∷ []) old new next more count
-  held_more line judged next more count same e h n =
-      let x = state_after_lines s a.answered in
+  unfoldable pub line_more : (line judged : List ℕ) (next : Console) (more : List ℕ) (count : ℕ) → line_class line ≡ line_class judged → next ≡ auto_step every console (state_after console line) → more ≡ held ++ answer_to console line → count ≡ recorded
+      → IsBehind K every s (lines ++ judged ∷ []) old new next more count
+  line_more line judged next more count same e h n =
+      let x = states_after every s a.answered in
+      let one = same_step console line judged same in
       record {
         answered = a.answered;
         awaiting = a.awaiting ++ judged ∷ [];
         parts = ap (λ (l : List (List ℕ)). l ++ judged ∷ []) a.parts ∙ append_assoc a.answered a.awaiting (judged ∷ []);
         may_begin = a.may_begin;
         appended = a.appended;
-        since = e ∙ ap (λ p. p.0) (same_step console line judged same) ∙ ap (λ (c : Console). state_after c judged) a.since ∙ sym (after_append x a.awaiting (judged ∷ []));
-        held_is = h ∙ ap (λ p. held ++ p.1) (same_step console line judged same) ∙ ap₂ (λ (t : List ℕ) (c : Console). t ++ answer_to c judged) a.held_is a.since
-            ∙ ap (λ (t : List ℕ). answers_to x a.awaiting ++ t) (sym (append-nil (answer_to (state_after_lines x a.awaiting) judged))) ∙ sym (answers_append x a.awaiting (judged ∷ []));
+        since = e ∙ ap (λ p. auto_step every console p.0) one ∙ ap (λ (c : Console). auto_step every c (state_after c judged)) a.since ∙ sym (after_append every x a.awaiting (judged ∷ []));
+        held_is = h ∙ ap (λ p. held ++ p.1) one ∙ ap₂ (λ (t : List ℕ) (c : Console). t ++ answer_to c judged) a.held_is a.since
+            ∙ ap (λ (t : List ℕ). answers_by every x a.awaiting ++ t) (sym (append-nil (answer_to (states_after every x a.awaiting) judged))) ∙ sym (answers_append every x a.awaiting (judged ∷ []));
         count = n ∙ a.count;
         kept = a.kept;
       }
 
-  console_is : console ≡ state_after_lines s lines
-  console_is = a.since ∙ sym (after_append s a.answered a.awaiting) ∙ ap (state_after_lines s) (sym a.parts)
+  console_is : console ≡ states_after every s lines
+  console_is = a.since ∙ sym (after_append every s a.answered a.awaiting) ∙ ap (states_after every s) (sym a.parts)
 
-  texts_are : answers_to s a.answered ++ held ≡ answers_to s lines
-  texts_are = ap (λ (t : List ℕ). answers_to s a.answered ++ t) a.held_is ∙ sym (answers_append s a.answered a.awaiting) ∙ ap (answers_to s) (sym a.parts)
+  texts_are : answers_by every s a.answered ++ held ≡ answers_by every s lines
+  texts_are = ap (λ (t : List ℕ). answers_by every s a.answered ++ t) a.held_is ∙ sym (answers_append every s a.answered a.awaiting) ∙ ap (answers_by every s) (sym a.parts)
 
   -- all was written, and the file has the history
   pub all_written : (K' : Console → Type 0) (later : Option (List ℕ)) (next : Console) (none : List ℕ) (count : ℕ) → Appends new later held → next ≡ console → none ≡ [] → count ≡ length (events_of console) → K' console
-      → IsAfterLines K' s lines old later next none count
-  all_written K' later next none count w e h n k = record {
-    answered = lines;
-    awaiting = [];
-    parts = sym (append-nil lines);
-    may_begin = a.may_begin;
-    appended = subst (Appends old later) texts_are (Appends-trans old new later (answers_to s a.answered) held a.appended w);
-    since = e ∙ console_is;
-    held_is = h;
-    count = n ∙ ap (λ (c : Console). length (events_of c)) console_is;
-    kept = subst K' console_is k;
-  }
+      → MayBeginRun console → IsAfterLines K' every s lines old later next none count
+  all_written K' later next none count w e h n k may =
+      let is = console_is in
+      record {
+        behind = record {
+          answered = lines;
+          awaiting = [];
+          parts = sym (append-nil lines);
+          may_begin = subst MayBeginRun is may;
+          appended = subst (Appends old later) texts_are (Appends-trans old new later (answers_by every s a.answered) held a.appended w);
+          since = e ∙ is;
+          held_is = h;
+          count = n ∙ ap (λ (c : Console). length (events_of c)) is;
+          kept = subst K' is k;
+        };
+        grows = subst (Grows (states_after every s lines)) (sym (e ∙ is)) (grows_not (states_after every s lines));
+        variables = subst (λ (c : Console). VariablesFit (table_of c)) (sym e) may.variables;
+      }
 
-  pub finished : (K' : Console → Type 0) (later : Option (List ℕ)) → Appends new later held → K' console → HasFinished K' s lines old later
+  pub finished : (K' : Console → Type 0) (later : Option (List ℕ)) → Appends new later held → K' console → HasFinished K' every s lines old later
   finished K' later w k = record {
-    appended = subst (Appends old later) texts_are (Appends-trans old new later (answers_to s a.answered) held a.appended w);
+    appended = subst (Appends old later) texts_are (Appends-trans old new later (answers_by every s a.answered) held a.appended w);
     kept = subst K' console_is k;
   }
 
   -- memory ran out before anything was written
-  pub stopped_before : (K' : Console → Type 0) → K' (state_after_lines s a.answered) → HasEndedAtRest K' s lines old new
+  pub stopped_before : (K' : Console → Type 0) → K' (states_after every s a.answered) → HasEndedAtRest K' every s lines old new
   stopped_before K' k = record {
     answered = a.answered;
     others = a.awaiting;
     parts = a.parts;
-    written = answers_to s a.answered;
-    front = ([], sym (append-nil (answers_to s a.answered)));
+    written = answers_by every s a.answered;
+    front = ([], sym (append-nil (answers_by every s a.answered)));
     appended = a.appended;
     kept = k;
   }
 
   -- the reader failed after a commit
-  pub stopped_after : (K' : Console → Type 0) (later : Option (List ℕ)) → Appends new later held → K' console → HasEndedAtRest K' s lines old later
+  pub stopped_after : (K' : Console → Type 0) (later : Option (List ℕ)) → Appends new later held → K' console → HasEndedAtRest K' every s lines old later
   stopped_after K' later w k = record {
     answered = lines;
     others = [];
     parts = sym (append-nil lines);
-    written = answers_to s lines;
-    front = ([], sym (append-nil (answers_to s lines)));
-    appended = subst (Appends old later) texts_are (Appends-trans old new later (answers_to s a.answered) held a.appended w);
+    written = answers_by every s lines;
+    front = ([], sym (append-nil (answers_by every s lines)));
+    appended = subst (Appends old later) texts_are (Appends-trans old new later (answers_by every s a.answered) held a.appended w);
     kept = subst K' console_is k;
   }
 
   -- the writer failed in what is held
-  stopped_in : (K' : Console → Type 0) (later : Option (List ℕ)) (front : List ℕ) → IsPrefixOf front held → Appends new later front → K' console → HasEndedAtRest K' s lines old later
+  stopped_in : (K' : Console → Type 0) (later : Option (List ℕ)) (front : List ℕ) → IsPrefixOf front held → Appends new later front → K' console → HasEndedAtRest K' every s lines old later
   stopped_in K' later front p w k = record {
     answered = lines;
     others = [];
     parts = sym (append-nil lines);
-    written = answers_to s a.answered ++ front;
-    front = (p.0, sym texts_are ∙ ap (λ (t : List ℕ). answers_to s a.answered ++ t) p.1 ∙ sym (append_assoc (answers_to s a.answered) front p.0));
-    appended = Appends-trans old new later (answers_to s a.answered) front a.appended w;
+    written = answers_by every s a.answered ++ front;
+    front = (p.0, sym texts_are ∙ ap (λ (t : List ℕ). answers_by every s a.answered ++ t) p.1 ∙ sym (append_assoc (answers_by every s a.answered) front p.0));
+    appended = Appends-trans old new later (answers_by every s a.answered) front a.appended w;
     kept = subst K' console_is k;
   }
 
-  -- what a crash leaves while the events are recorded
-  pub covers_answered : (sync : SyncMode) (zeros : Bool) (c : List ℕ) → LeavesBetween sync zeros (state_after_lines s a.answered) console c → CoversAnswers sync zeros s lines (answers_to s a.answered) c
-  covers_answered sync zeros c h = record {
-    answered = a.answered;
-    others = a.awaiting;
-    parts = a.parts;
-    front = ([], sym (append-nil (answers_to s a.answered)));
-    reached = lines;
-    unreached = [];
-    parts_reached = sym (append-nil lines);
-    left = subst (λ (t : Console). LeavesBetween sync zeros (state_after_lines s a.answered) t c) console_is h;
-  }
+  -- what a crash leaves of a commit: all that the file had, or some of what is recorded
+  abbrev pub LeavesCommit : SyncMode → Bool → List ℕ → Type 0
+  LeavesCommit sync zeros c =
+      LeavesBetween sync zeros (states_after every s a.answered) (states_after every s a.answered) c ⊎ LeavesBetween sync zeros (states_after every s a.answered) console c
 
-  pub covers_none : (sync : SyncMode) (zeros : Bool) (c : List ℕ) → LeavesBetween sync zeros (state_after_lines s a.answered) console c → CoversAnswers sync zeros s lines [] c
-  covers_none sync zeros c h = record {
-    answered = a.answered;
-    others = a.awaiting;
-    parts = a.parts;
-    front = (answers_to s a.answered, refl);
-    reached = lines;
-    unreached = [];
-    parts_reached = sym (append-nil lines);
-    left = subst (λ (t : Console). LeavesBetween sync zeros (state_after_lines s a.answered) t c) console_is h;
-  }
+  module _ (sync : SyncMode) (zeros : Bool) (c : List ℕ) (written : List ℕ) (front : IsPrefixOf written (answers_by every s a.answered)) where
+    covers_old : LeavesBetween sync zeros (states_after every s a.answered) (states_after every s a.answered) c → CoversAnswers sync zeros every s lines written c
+    covers_old h = record {
+      answered = a.answered;
+      others = a.awaiting;
+      parts = a.parts;
+      front = front;
+      reached = [];
+      unreached = a.awaiting;
+      parts_reached = refl;
+      left = subst (λ (ls : List (List ℕ)). LeavesBetween sync zeros (states_after every s a.answered) (states_after every s ls) c) (sym (append-nil a.answered)) h;
+    }
+
+    covers_new : LeavesBetween sync zeros (states_after every s a.answered) console c → CoversAnswers sync zeros every s lines written c
+    covers_new h = record {
+      answered = a.answered;
+      others = a.awaiting;
+      parts = a.parts;
+      front = front;
+      reached = a.awaiting;
+      unreached = [];
+      parts_reached = sym (append-nil a.awaiting);
+      left = subst (λ (t : Console). LeavesBetween sync zeros (states_after every s a.answered) t c) (a.since ∙ sym (after_append every s a.answered a.awaiting)) h;
+    }
+
+    covers : LeavesCommit sync zeros c → CoversAnswers sync zeros every s lines written c
+    covers h = ⊎_elim covers_old covers_new h
+
+  pub covers_answered : (sync : SyncMode) (zeros : Bool) (c : List ℕ) → LeavesCommit sync zeros c → CoversAnswers sync zeros every s lines (answers_by every s a.answered) c
+  covers_answered sync zeros c h = covers sync zeros c (answers_by every s a.answered) ([], sym (append-nil (answers_by every s a.answered))) h
+
+  pub covers_none : (sync : SyncMode) (zeros : Bool) (c : List ℕ) → LeavesCommit sync zeros c → CoversAnswers sync zeros every s lines [] c
+  covers_none sync zeros c h = covers sync zeros c [] (answers_by every s a.answered, refl) h
 
   -- a commit failed
   pub failed : (honest : Bool) (sync : SyncMode) (zeros : Bool) (may_leave : List ℕ → Type 0) (K' : Console → Type 0) (later : Option (List ℕ)) (e : DurableFault) → HasNotWritten e new later held (K' console)
-      → (IsTrue honest → (c : List ℕ) → may_leave c → LeavesBetween sync zeros (state_after_lines s a.answered) console c) → HasFailed honest sync zeros may_leave K' s lines old later e
+      → (IsTrue honest → (c : List ℕ) → may_leave c → LeavesCommit sync zeros c) → HasFailed honest sync zeros may_leave K' every s lines old later e
   failed honest sync zeros may_leave K' later (Run f) h left = stopped_in K' later h.1 h.2 h.3 h.4
   failed honest sync zeros may_leave K' later (Journal e) h left = record {
     answered = a.answered;
     others = a.awaiting;
     parts = a.parts;
-    appended = subst (Appends old later) (append-nil (answers_to s a.answered)) (Appends-trans old new later (answers_to s a.answered) [] a.appended h);
+    appended = subst (Appends old later) (append-nil (answers_by every s a.answered)) (Appends-trans old new later (answers_by every s a.answered) [] a.appended h);
     covered = λ real c l. covers_answered sync zeros c (left real c l);
   }
+
+-- a checkpoint was made after it
+abbrev pub may_begin_anew : (K : Console → Type 0) (every : ℕ) (s : Console) (lines : List (List ℕ)) (old new : Option (List ℕ)) (console : Console) (held : List ℕ) (recorded : ℕ) → IsAfterLines K every s lines old new console held recorded
+    → (before next : Console) → Grows console before → VariablesFit (table_of before) → next ≡ with_checkpoint before → MayBeginAnew K next
+may_begin_anew K every s lines old new console held recorded a before next g v made =
+    let first = states_after every s a.behind.answered in
+    record { committed = first; before = before; may_begin = a.behind.may_begin; grows = grows_trans first console before a.grows g; variables = v; made = made; kept = a.behind.kept }
+
+-- what is committed may begin a run
+pub may_begin_next : (K : Console → Type 0) (every : ℕ) (s : Console) (lines : List (List ℕ)) (old new : Option (List ℕ)) (console : Console) (held : List ℕ) (recorded : ℕ) → IsAfterLines K every s lines old new console held recorded
+    → MayBeginRun console
+may_begin_next K every s lines old new console held recorded a = grown_begins (states_after every s a.behind.answered) console a.behind.may_begin a.grows a.variables
+
+-- one line more after which no checkpoint was made
+pub held_more : (K : Console → Type 0) (every : ℕ) (s : Console) (lines : List (List ℕ)) (old new : Option (List ℕ)) (console : Console) (held : List ℕ) (recorded : ℕ) → IsAfterLines K every s lines old new console held recorded
+    → (line judged : List ℕ) (next : Console) (more : List ℕ) (count : ℕ) → line_class line ≡ line_class judged → next ≡ auto_step every console (state_after console line) → more ≡ held ++ answer_to console line → count ≡ recorded
+    → Grows console next → VariablesFit (table_of next) → IsAfterLines K every s (lines ++ judged ∷ []) old new next more count
+unfolding line_more
+held_more K every s lines old new console held recorded a line judged next more count same e h n g v = record {
+  behind = line_more K every s lines old new console held recorded a.behind line judged next more count same e h n;
+  grows = grows_trans (states_after every s a.behind.answered) console next a.grows g;
+  variables = v;
+}
 
 -- ---- what a commit and what follows it wrote
 -- a commit failed, and more was to be written
@@ -184,6 +281,14 @@ unstreamed f old mid new held text kept not w p h =
 pub on_done : {A B C X G : Type 0} (hon : Type 0) (r : Result Unit X) → OnOk r A → OnOk r B → OnOk r C → (hon → OnOk r G) → (H : Type 0) → (A → B → C → (hon → G) → H) → OnOk r H
 on_done hon (Ok x) a b c k H f = f a b c k
 on_done hon (Err x) a b c k H f = tt
+
+pub on_begun : {A B C M X G : Type 0} (hon : Type 0) (r : Result Unit X) → OnOk r A → OnOk r B → OnOk r C → OnOk r M → (hon → OnOk r G) → (H : Type 0) → (A → B → C → M → (hon → G) → H) → OnOk r H
+on_begun hon (Ok x) a b c m k H f = f a b c m k
+on_begun hon (Err x) a b c m k H f = tt
+
+pub on_ok : {T E A B : Type 0} (r : Result T E) → OnOk r A → (A → B) → OnOk r B
+on_ok (Ok x) h f = f h
+on_ok (Err e) h f = tt
 
 pub on_fault : {T E : Type 0} (r : Result T E) (P Q : E → Type 0) → IfErr r P → ((e : E) → P e → Q e) → IfErr r Q
 on_fault (Ok x) P Q p f = tt

@@ -7,3 +7,5 @@ pub mod Running
 pub mod Ended
 pub mod RunCrashes
 pub mod ResumedQueue
+pub mod RangesSoFar
+pub mod Results

@@ -7,12 +7,14 @@ use Rattle.stm_lines.specs.Lines.{drop_return, lines_of, whole_lines_of}
 use Rattle.stm_lines.specs.TakenLines.{TakesPartOfLine, TakesWholeLine, TakesLastLine}
 use Rattle.stm_lines.proofs.ReadLines.{lines_from-whole, lines_from-last, whole_lines_from-whole, whole_lines_from-last}
 use Rattle.stm_run.specs.declared.console.Console.{Console}
-use Rattle.stm_run.specs.Console.{answers_to}
+use Rattle.stm_run.specs.LineCheckpoints.{answers_by}
 use Rattle.stm_run.specs.ConsoleState.{events_of}
+use Rattle.stm_run.proofs.EventsOfConsole.{grows_not}
 use Rattle.stm_durable_run.specs.declared.fault.DurableFault.{DurableFault}
 use Rattle.stm_durable_run.specs.declared.fault.DurableFault.TheVariants.{Run, Journal}
 use Rattle.stm_durable_run.specs.DurableRun.{CoversAnswers}
-use Rattle.stm_durable_run.specs.Committing.{MayBegin, IsAfterLines, AreLinesOf, HasCome, HasComeToEnd, HasFinished, HasFailed, LeavesRun, WholeLinesAnswered}
+use Rattle.stm_durable_run.specs.NewEvents.{MayBeginRun}
+use Rattle.stm_durable_run.specs.Committing.{IsAfterLines, AreLinesOf, HasCome, HasComeToEnd, HasFinished, HasFailed, LeavesRun, WholeLinesAnswered}
 
 -- ---- the lines of bytes
 none_taken : AreLinesOf [] []
@@ -56,8 +58,8 @@ last_begins lines None e = tt
 last_begins lines (Some i) e = ([], e ∙ sym (append-nil lines))
 
 -- ---- what holds of these lines holds of the input
-covers_more : (sync : SyncMode) (zeros : Bool) (s : Console) (lines more : List (List ℕ)) (written c : List ℕ) → CoversAnswers sync zeros s lines written c → CoversAnswers sync zeros s (lines ++ more) written c
-covers_more sync zeros s lines more written c h = record {
+covers_more : (sync : SyncMode) (zeros : Bool) (every : ℕ) (s : Console) (lines more : List (List ℕ)) (written c : List ℕ) → CoversAnswers sync zeros every s lines written c → CoversAnswers sync zeros every s (lines ++ more) written c
+covers_more sync zeros every s lines more written c h = record {
   answered = h.answered;
   others = h.others ++ more;
   parts = ap (λ (ls : List (List ℕ)). ls ++ more) h.parts ∙ append_assoc h.answered h.others more;
@@ -68,14 +70,14 @@ covers_more sync zeros s lines more written c h = record {
   left = h.left;
 }
 
-pub leaves_run : (sync : SyncMode) (zeros : Bool) (s : Console) (lines : List (List ℕ)) (input : Option (List ℕ)) (c : List ℕ) → BeginsWith lines input → CoversAnswers sync zeros s lines [] c → LeavesRun sync zeros s input c
-leaves_run sync zeros s lines None c b h = tt
-leaves_run sync zeros s lines (Some i) c b h =
-    subst (λ (ls : List (List ℕ)). CoversAnswers sync zeros s ls [] c) (sym b.1) (covers_more sync zeros s lines b.0 [] c h)
+pub leaves_run : (sync : SyncMode) (zeros : Bool) (every : ℕ) (s : Console) (lines : List (List ℕ)) (input : Option (List ℕ)) (c : List ℕ) → BeginsWith lines input → CoversAnswers sync zeros every s lines [] c → LeavesRun sync zeros every s input c
+leaves_run sync zeros every s lines None c b h = tt
+leaves_run sync zeros every s lines (Some i) c b h =
+    subst (λ (ls : List (List ℕ)). CoversAnswers sync zeros every s ls [] c) (sym b.1) (covers_more sync zeros every s lines b.0 [] c h)
 
-failed_more : (honest : Bool) (sync : SyncMode) (zeros : Bool) (may_leave : List ℕ → Type 0) (K : Console → Type 0) (s : Console) (lines more : List (List ℕ)) (old new : Option (List ℕ)) (e : DurableFault)
-    → HasFailed honest sync zeros may_leave K s lines old new e → HasFailed honest sync zeros may_leave K s (lines ++ more) old new e
-failed_more honest sync zeros may_leave K s lines more old new (Run f) h = record {
+failed_more : (honest : Bool) (sync : SyncMode) (zeros : Bool) (may_leave : List ℕ → Type 0) (K : Console → Type 0) (every : ℕ) (s : Console) (lines more : List (List ℕ)) (old new : Option (List ℕ)) (e : DurableFault)
+    → HasFailed honest sync zeros may_leave K every s lines old new e → HasFailed honest sync zeros may_leave K every s (lines ++ more) old new e
+failed_more honest sync zeros may_leave K every s lines more old new (Run f) h = record {
   answered = h.answered;
   others = h.others ++ more;
   parts = ap (λ (ls : List (List ℕ)). ls ++ more) h.parts ∙ append_assoc h.answered h.others more;
@@ -84,42 +86,42 @@ failed_more honest sync zeros may_leave K s lines more old new (Run f) h = recor
   appended = h.appended;
   kept = h.kept;
 }
-failed_more honest sync zeros may_leave K s lines more old new (Journal e) h = record {
+failed_more honest sync zeros may_leave K every s lines more old new (Journal e) h = record {
   answered = h.answered;
   others = h.others ++ more;
   parts = ap (λ (ls : List (List ℕ)). ls ++ more) h.parts ∙ append_assoc h.answered h.others more;
   appended = h.appended;
-  covered = λ real c l. covers_more sync zeros s lines more (answers_to s h.answered) c (h.covered real c l);
+  covered = λ real c l. covers_more sync zeros every s lines more (answers_by every s h.answered) c (h.covered real c l);
 }
 
-pub failed_run : (honest : Bool) (sync : SyncMode) (zeros : Bool) (may_leave : List ℕ → Type 0) (K : Console → Type 0) (s : Console) (lines : List (List ℕ)) (input old new : Option (List ℕ)) (e : DurableFault)
-    → BeginsWith lines input → HasFailed honest sync zeros may_leave K s lines old new e → IfSome input (λ bytes. HasFailed honest sync zeros may_leave K s (lines_of bytes) old new e)
-failed_run honest sync zeros may_leave K s lines None old new e b h = tt
-failed_run honest sync zeros may_leave K s lines (Some i) old new e b h =
-    subst (λ (ls : List (List ℕ)). HasFailed honest sync zeros may_leave K s ls old new e) (sym b.1) (failed_more honest sync zeros may_leave K s lines b.0 old new e h)
+pub failed_run : (honest : Bool) (sync : SyncMode) (zeros : Bool) (may_leave : List ℕ → Type 0) (K : Console → Type 0) (every : ℕ) (s : Console) (lines : List (List ℕ)) (input old new : Option (List ℕ)) (e : DurableFault)
+    → BeginsWith lines input → HasFailed honest sync zeros may_leave K every s lines old new e → IfSome input (λ bytes. HasFailed honest sync zeros may_leave K every s (lines_of bytes) old new e)
+failed_run honest sync zeros may_leave K every s lines None old new e b h = tt
+failed_run honest sync zeros may_leave K every s lines (Some i) old new e b h =
+    subst (λ (ls : List (List ℕ)). HasFailed honest sync zeros may_leave K every s ls old new e) (sym b.1) (failed_more honest sync zeros may_leave K every s lines b.0 old new e h)
 
-pub all_finished : (K : Console → Type 0) (s : Console) (lines : List (List ℕ)) (input old new : Option (List ℕ)) → IfSome input (λ all. lines_of all ≡ lines) → HasFinished K s lines old new → IfSome input (λ bytes. HasFinished K s (lines_of bytes) old new)
-all_finished K s lines None old new e h = tt
-all_finished K s lines (Some i) old new e h = subst (λ (ls : List (List ℕ)). HasFinished K s ls old new) (sym e) h
+pub all_finished : (K : Console → Type 0) (every : ℕ) (s : Console) (lines : List (List ℕ)) (input old new : Option (List ℕ)) → IfSome input (λ all. lines_of all ≡ lines) → HasFinished K every s lines old new → IfSome input (λ bytes. HasFinished K every s (lines_of bytes) old new)
+all_finished K every s lines None old new e h = tt
+all_finished K every s lines (Some i) old new e h = subst (λ (ls : List (List ℕ)). HasFinished K every s ls old new) (sym e) h
 
-pub failed_synced : (honest : Bool) (sync same : SyncMode) (zeros : Bool) (may_leave : List ℕ → Type 0) (K : Console → Type 0) (s : Console) (input old new : Option (List ℕ)) (e : DurableFault) → sync ≡ same
-    → IfSome input (λ bytes. HasFailed honest sync zeros may_leave K s (lines_of bytes) old new e) → IfSome input (λ bytes. HasFailed honest same zeros may_leave K s (lines_of bytes) old new e)
-failed_synced honest sync same zeros may_leave K s input old new e is h =
-    subst (λ (m : SyncMode). IfSome input (λ bytes. HasFailed honest m zeros may_leave K s (lines_of bytes) old new e)) is h
+pub failed_synced : (honest : Bool) (sync same : SyncMode) (zeros : Bool) (may_leave : List ℕ → Type 0) (K : Console → Type 0) (every : ℕ) (s : Console) (input old new : Option (List ℕ)) (e : DurableFault) → sync ≡ same
+    → IfSome input (λ bytes. HasFailed honest sync zeros may_leave K every s (lines_of bytes) old new e) → IfSome input (λ bytes. HasFailed honest same zeros may_leave K every s (lines_of bytes) old new e)
+failed_synced honest sync same zeros may_leave K every s input old new e is h =
+    subst (λ (m : SyncMode). IfSome input (λ bytes. HasFailed honest m zeros may_leave K every s (lines_of bytes) old new e)) is h
 
 -- ---- a run that has come so far
-module _ (K : Console → Type 0) (s : Console) (input rest old new : Option (List ℕ)) (console : Console) (held : List ℕ) (recorded : ℕ) (h : HasCome K s input rest old new console held recorded) where
+module _ (K : Console → Type 0) (every : ℕ) (s : Console) (input rest old new : Option (List ℕ)) (console : Console) (held : List ℕ) (recorded : ℕ) (h : HasCome K every s input rest old new console held recorded) where
   pub come_begins : BeginsWith h.lines input
   come_begins = begins h.lines h.taken input rest h.lines_are h.consumed
 
   -- the same lines, with another commit
-  pub comes_after : (K' : Console → Type 0) (new' : Option (List ℕ)) (console' : Console) (held' : List ℕ) (recorded' : ℕ) → IsAfterLines K' s h.lines old new' console' held' recorded'
-      → HasCome K' s input rest old new' console' held' recorded'
+  pub comes_after : (K' : Console → Type 0) (new' : Option (List ℕ)) (console' : Console) (held' : List ℕ) (recorded' : ℕ) → IsAfterLines K' every s h.lines old new' console' held' recorded'
+      → HasCome K' every s input rest old new' console' held' recorded'
   comes_after K' new' console' held' recorded' a = record { taken = h.taken; lines = h.lines; consumed = h.consumed; lines_are = h.lines_are; after = a }
 
   module _ (next : Option (List ℕ)) (bytes : List ℕ) where
     pub comes_on : (K' : Console → Type 0) (new' : Option (List ℕ)) (console' : Console) (held' : List ℕ) (recorded' : ℕ) → TakesWholeLine rest next bytes
-        → IsAfterLines K' s (h.lines ++ drop_return bytes ∷ []) old new' console' held' recorded' → HasCome K' s input next old new' console' held' recorded'
+        → IsAfterLines K' every s (h.lines ++ drop_return bytes ∷ []) old new' console' held' recorded' → HasCome K' every s input next old new' console' held' recorded'
     comes_on K' new' console' held' recorded' w a = record {
       taken = h.taken ++ (bytes ++ 10 ∷ []);
       lines = h.lines ++ drop_return bytes ∷ [];
@@ -137,17 +139,17 @@ module _ (K : Console → Type 0) (s : Console) (input rest old new : Option (Li
     last_lines w k = last_is h.lines h.taken bytes input rest next h.lines_are h.consumed w k
 
     pub ends_with : (K' : Console → Type 0) (new' : Option (List ℕ)) (console' : Console) (held' : List ℕ) (recorded' : ℕ) → TakesLastLine rest next bytes → 0 < length bytes
-        → IsAfterLines K' s (h.lines ++ bytes ∷ []) old new' console' held' recorded' → HasComeToEnd K' s input old new' console' held' recorded'
+        → IsAfterLines K' every s (h.lines ++ bytes ∷ []) old new' console' held' recorded' → HasComeToEnd K' every s input old new' console' held' recorded'
     ends_with K' new' console' held' recorded' w k a = record { lines = h.lines ++ bytes ∷ []; lines_are = last_lines w k; after = a }
 
-  pub ends_here : (next : Option (List ℕ)) → TakesLastLine rest next [] → HasComeToEnd K s input old new console held recorded
+  pub ends_here : (next : Option (List ℕ)) → TakesLastLine rest next [] → HasComeToEnd K every s input old new console held recorded
   ends_here next w = record { lines = h.lines; lines_are = end_is h.lines h.taken input rest next h.lines_are h.consumed w; after = h.after }
 
   -- the reader failed, and what was held was written
-  pub whole_answered : (chunk left : Option (List ℕ)) (later : Option (List ℕ)) (bytes : List ℕ) → TakesPartOfLine rest chunk bytes → chunk ≡ left → Appends old later (answers_to s h.lines) → WholeLinesAnswered s input left old later
+  pub whole_answered : (chunk left : Option (List ℕ)) (later : Option (List ℕ)) (bytes : List ℕ) → TakesPartOfLine rest chunk bytes → chunk ≡ left → Appends old later (answers_by every s h.lines) → WholeLinesAnswered every s input left old later
   whole_answered chunk left later bytes w e a = by input rest chunk h.consumed w.taken e
     where
-      by : (i r c : Option (List ℕ)) → Consumes i r h.taken → Consumes r c bytes → c ≡ left → WholeLinesAnswered s i left old later
+      by : (i r c : Option (List ℕ)) → Consumes i r h.taken → Consumes r c bytes → c ≡ left → WholeLinesAnswered every s i left old later
       by None r c p q same = tt
       by (Some i) None c p q same = absurd p
       by (Some i) (Some r) None p q same = absurd q
@@ -156,17 +158,21 @@ module _ (K : Console → Type 0) (s : Console) (input rest old new : Option (Li
         c,
         p ∙ ap (λ (x : List ℕ). h.taken ++ x) q ∙ sym (append_assoc h.taken bytes c),
         sym same,
-        subst (λ (ls : List (List ℕ)). Appends old later (answers_to s ls))
+        subst (λ (ls : List (List ℕ)). Appends old later (answers_by every s ls))
             (sym (h.lines_are.whole bytes ∙ ap (λ (ls : List (List ℕ)). h.lines ++ ls) (whole_lines_from-last bytes w.plain) ∙ append-nil h.lines)) a,
       )
 
 -- a run begins
-pub comes_first : (K : Console → Type 0) (s : Console) (input rest x : Option (List ℕ)) (held : List ℕ) (recorded : ℕ) → MayBegin s → held ≡ [] → recorded ≡ length (events_of s) → K s → rest ≡ input
-    → HasCome K s input rest x x s held recorded
-comes_first K s input rest x held recorded m e n k same = record {
+pub comes_first : (K : Console → Type 0) (every : ℕ) (s : Console) (input rest x : Option (List ℕ)) (held : List ℕ) (recorded : ℕ) → MayBeginRun s → held ≡ [] → recorded ≡ length (events_of s) → K s → rest ≡ input
+    → HasCome K every s input rest x x s held recorded
+comes_first K every s input rest x held recorded m e n k same = record {
   taken = [];
   lines = [];
   consumed = subst (λ (o : Option (List ℕ)). Consumes input o []) (sym same) (Consumes-nil input);
   lines_are = none_taken;
-  after = record { answered = []; awaiting = []; parts = refl; may_begin = m; appended = Appends-nil x; since = refl; held_is = e; count = n; kept = k };
+  after = record {
+    behind = record { answered = []; awaiting = []; parts = refl; may_begin = m; appended = Appends-nil x; since = refl; held_is = e; count = n; kept = k };
+    grows = grows_not s;
+    variables = m.variables;
+  };
 }

@@ -2,9 +2,8 @@
 use Rattle.std.specs.Prelude.{◌≡◌, ◌≢◌, ℕ, Bool, true, IsTrue, List, [], ◌++◌, length, Option, Some, IfSome}
 use Rattle.std.specs.Io.KnownBytes.{Appends, Consumes}
 use Rattle.stm_terms.specs.Texts.{IsPrefixOf}
-use Rattle.stm_store.specs.Tables.{Declared}
 use Rattle.stm_events.specs.declared.event.Event.{Event}
-use Rattle.stm_events.specs.Laws.{SubmittedAreWellTyped}
+use Rattle.stm_history.specs.Starts.{Start}
 use Rattle.stm_journal.specs.declared.sync_mode.SyncMode.{SyncMode}
 use Rattle.stm_durable.specs.Durable.{LeavesHistory}
 use Rattle.stm_lines.specs.Lines.{lines_of, whole_lines_of}
@@ -13,58 +12,67 @@ use Rattle.stm_run.specs.declared.console.Console.{Console}
 use Rattle.stm_run.specs.declared.reply.Reply.{Reply}
 use Rattle.stm_run.specs.declared.reply.Reply.TheVariants as reply
 use Rattle.stm_run.specs.Abstraction.{history_of, later_events_of}
-use Rattle.stm_run.specs.Console.{answers_to}
-use Rattle.stm_run.specs.ConsoleState.{table_of, events_of}
+use Rattle.stm_run.specs.ConsoleState.{table_of, events_of, with_checkpoint}
 use Rattle.stm_run.specs.Fitting.{VariablesFit}
-use Rattle.stm_run.specs.Laws.{state_after_lines}
+use Rattle.stm_run.specs.Growing.{Grows}
+use Rattle.stm_run.specs.LineCheckpoints.{states_after, answers_by}
 use Rattle.stm_durable_run.specs.declared.fault.DurableFault.{DurableFault}
 use Rattle.stm_durable_run.specs.declared.fault.DurableFault.TheVariants.{Run, Journal}
 use Rattle.stm_durable_run.specs.DurableRun.{CoversAnswers}
+use Rattle.stm_durable_run.specs.NewEvents.{MayBeginRun}
 
 -- What a crash may leave while events are recorded in batches, after a history: that and the batches before, and of one batch what
 -- the sync mode says.
 pub record LeavesBatches
-    (sync : SyncMode) (zeros : Bool) (table : List Declared) (history events : List Event) (file : List ℕ) : Type 0 where
+    (sync : SyncMode) (zeros : Bool) (start : Start) (history events : List Event) (file : List ℕ) : Type 0 where
   pub recorded : List Event
   pub batch : List Event
   pub unrecorded : List Event
   pub parts : events ≡ recorded ++ (batch ++ unrecorded)
-  pub left : LeavesHistory sync zeros true table (history ++ recorded) batch file
+  pub left : LeavesHistory sync zeros true start (history ++ recorded) batch file
 
--- a run may begin as this console: its variables can be in lines, and the blocks that were submitted are well typed
-pub record MayBegin (s : Console) : Type 0 where
-  pub variables : VariablesFit (table_of s)
-  pub typed : SubmittedAreWellTyped (events_of s)
-
--- Of the lines since the run began, some were answered, and others followed that led to this console. The file, of which K says whose
--- history it has, has that of the answered ones; `recorded` is the number of its events.
+-- The file, of which K says whose history it has, has that of a console from which the present one grew with no checkpoint;
+-- `recorded` is the number of its events.
 pub record MayCommit (K : Console → Type 0) (console : Console) (recorded : ℕ) : Type 0 where
-  pub first : Console
-  pub answered : List (List ℕ)
-  pub awaiting : List (List ℕ)
-  pub may_begin : MayBegin first
-  pub since : console ≡ state_after_lines (state_after_lines first answered) awaiting
-  pub count : recorded ≡ length (events_of (state_after_lines first answered))
-  pub kept : K (state_after_lines first answered)
+  pub committed : Console
+  pub may_begin : MayBeginRun committed
+  pub grows : Grows committed console
+  pub variables : VariablesFit (table_of console)
+  pub count : recorded ≡ length (events_of committed)
+  pub kept : K committed
 
--- the console whose history the file has
-abbrev pub committed : {K : Console → Type 0} → {console : Console} → {recorded : ℕ} → MayCommit K console recorded → Console
-committed c = state_after_lines c.first c.answered
+-- A checkpoint was made of a console that grew from the one whose history the file has.
+pub record MayBeginAnew (K : Console → Type 0) (console : Console) : Type 0 where
+  pub committed : Console
+  pub before : Console
+  pub may_begin : MayBeginRun committed
+  pub grows : Grows committed before
+  pub variables : VariablesFit (table_of before)
+  pub made : console ≡ with_checkpoint before
+  pub kept : K committed
 
 -- After these lines of a run that began as s: the answers to some of them were written, and the file has their history; those to the
--- others are held.
-pub record IsAfterLines
-    (K : Console → Type 0) (s : Console) (lines : List (List ℕ)) (old new : Option (List ℕ)) (console : Console) (held : List ℕ)
-    (recorded : ℕ) : Type 0 where
+-- others are held. A checkpoint may be the last of what happened.
+pub record IsBehind
+    (K : Console → Type 0) (every : ℕ) (s : Console) (lines : List (List ℕ)) (old new : Option (List ℕ)) (console : Console)
+    (held : List ℕ) (recorded : ℕ) : Type 0 where
   pub answered : List (List ℕ)
   pub awaiting : List (List ℕ)
   pub parts : lines ≡ answered ++ awaiting
-  pub may_begin : MayBegin s
-  pub appended : Appends old new (answers_to s answered)
-  pub since : console ≡ state_after_lines (state_after_lines s answered) awaiting
-  pub held_is : held ≡ answers_to (state_after_lines s answered) awaiting
-  pub count : recorded ≡ length (events_of (state_after_lines s answered))
-  pub kept : K (state_after_lines s answered)
+  pub may_begin : MayBeginRun (states_after every s answered)
+  pub appended : Appends old new (answers_by every s answered)
+  pub since : console ≡ states_after every (states_after every s answered) awaiting
+  pub held_is : held ≡ answers_by every (states_after every s answered) awaiting
+  pub count : recorded ≡ length (events_of (states_after every s answered))
+  pub kept : K (states_after every s answered)
+
+-- The same, and no checkpoint was made since.
+pub record IsAfterLines
+    (K : Console → Type 0) (every : ℕ) (s : Console) (lines : List (List ℕ)) (old new : Option (List ℕ)) (console : Console)
+    (held : List ℕ) (recorded : ℕ) : Type 0 where
+  pub behind : IsBehind K every s lines old new console held recorded
+  pub grows : Grows (states_after every s behind.answered) console
+  pub variables : VariablesFit (table_of console)
 
 -- the bytes that were taken are these lines, whatever follows
 pub record AreLinesOf (lines : List (List ℕ)) (taken : List ℕ) : Type 0 where
@@ -73,32 +81,34 @@ pub record AreLinesOf (lines : List (List ℕ)) (taken : List ℕ) : Type 0 wher
 
 -- a run that began as s has taken some whole lines of its input
 pub record HasCome
-    (K : Console → Type 0) (s : Console) (input rest old new : Option (List ℕ)) (console : Console) (held : List ℕ) (recorded : ℕ)
-    : Type 0 where
+    (K : Console → Type 0) (every : ℕ) (s : Console) (input rest old new : Option (List ℕ)) (console : Console) (held : List ℕ)
+    (recorded : ℕ) : Type 0 where
   pub taken : List ℕ
   pub lines : List (List ℕ)
   pub consumed : Consumes input rest taken
   pub lines_are : AreLinesOf lines taken
-  pub after : IsAfterLines K s lines old new console held recorded
+  pub after : IsAfterLines K every s lines old new console held recorded
 
 -- it has taken all lines
 pub record HasComeToEnd
-    (K : Console → Type 0) (s : Console) (input old new : Option (List ℕ)) (console : Console) (held : List ℕ) (recorded : ℕ)
-    : Type 0 where
+    (K : Console → Type 0) (every : ℕ) (s : Console) (input old new : Option (List ℕ)) (console : Console) (held : List ℕ)
+    (recorded : ℕ) : Type 0 where
   pub lines : List (List ℕ)
   pub lines_are : IfSome input (λ bytes. lines_of bytes ≡ lines)
-  pub after : IsAfterLines K s lines old new console held recorded
+  pub after : IsAfterLines K every s lines old new console held recorded
 
 -- all lines were answered, and the file has their history
-pub record HasFinished (K : Console → Type 0) (s : Console) (lines : List (List ℕ)) (old new : Option (List ℕ)) : Type 0 where
-  pub appended : Appends old new (answers_to s lines)
-  pub kept : K (state_after_lines s lines)
+pub record HasFinished
+    (K : Console → Type 0) (every : ℕ) (s : Console) (lines : List (List ℕ)) (old new : Option (List ℕ)) : Type 0 where
+  pub appended : Appends old new (answers_by every s lines)
+  pub kept : K (states_after every s lines)
 
 -- what is still to be written of a line's answer
 abbrev pub streamed_text : Reply → Console → List ℕ
 streamed_text reply.Text s = []
 streamed_text reply.History s = history_of s
 streamed_text (reply.Events n) s = later_events_of s n
+streamed_text reply.Checkpoint s = []
 
 -- ---- faults
 
@@ -109,38 +119,40 @@ HasNotWritten (Run f) old new text kept =
 HasNotWritten (Journal e) old new text kept = Appends old new []
 
 -- the writer, the reader or memory failed: the file is at rest
-pub record HasEndedAtRest (K : Console → Type 0) (s : Console) (lines : List (List ℕ)) (old new : Option (List ℕ)) : Type 0 where
+pub record HasEndedAtRest
+    (K : Console → Type 0) (every : ℕ) (s : Console) (lines : List (List ℕ)) (old new : Option (List ℕ)) : Type 0 where
   pub answered : List (List ℕ)
   pub others : List (List ℕ)
   pub parts : lines ≡ answered ++ others
   pub written : List ℕ
-  pub front : IsPrefixOf written (answers_to s answered)
+  pub front : IsPrefixOf written (answers_by every s answered)
   pub appended : Appends old new written
-  pub kept : K (state_after_lines s answered)
+  pub kept : K (states_after every s answered)
 
 -- the journal failed: what a crash may leave covers what was written
 pub record HasNotRecorded
-    (honest : Bool) (sync : SyncMode) (zeros : Bool) (may_leave : List ℕ → Type 0) (s : Console) (lines : List (List ℕ))
+    (honest : Bool) (sync : SyncMode) (zeros : Bool) (may_leave : List ℕ → Type 0) (every : ℕ) (s : Console) (lines : List (List ℕ))
     (old new : Option (List ℕ)) : Type 0 where
   pub answered : List (List ℕ)
   pub others : List (List ℕ)
   pub parts : lines ≡ answered ++ others
-  pub appended : Appends old new (answers_to s answered)
-  pub covered : IsTrue honest → (c : List ℕ) → may_leave c → CoversAnswers sync zeros s lines (answers_to s answered) c
+  pub appended : Appends old new (answers_by every s answered)
+  pub covered : IsTrue honest → (c : List ℕ) → may_leave c → CoversAnswers sync zeros every s lines (answers_by every s answered) c
 
 -- how a run stands after a fault
 abbrev pub HasFailed :
-    Bool → SyncMode → Bool → (List ℕ → Type 0) → (Console → Type 0) → Console → List (List ℕ) → Option (List ℕ) → Option (List ℕ)
-    → DurableFault → Type 0
-HasFailed honest sync zeros may_leave K s lines old new (Run f) = HasEndedAtRest K s lines old new
-HasFailed honest sync zeros may_leave K s lines old new (Journal e) = HasNotRecorded honest sync zeros may_leave s lines old new
+    Bool → SyncMode → Bool → (List ℕ → Type 0) → (Console → Type 0) → ℕ → Console → List (List ℕ) → Option (List ℕ)
+    → Option (List ℕ) → DurableFault → Type 0
+HasFailed honest sync zeros may_leave K every s lines old new (Run f) = HasEndedAtRest K every s lines old new
+HasFailed honest sync zeros may_leave K every s lines old new (Journal e) =
+    HasNotRecorded honest sync zeros may_leave every s lines old new
 
 -- what a crash at any moment of a run leaves, if the input is known
-abbrev pub LeavesRun : SyncMode → Bool → Console → Option (List ℕ) → List ℕ → Type 0
-LeavesRun sync zeros s input c = IfSome input (λ bytes. CoversAnswers sync zeros s (lines_of bytes) [] c)
+abbrev pub LeavesRun : SyncMode → Bool → ℕ → Console → Option (List ℕ) → List ℕ → Type 0
+LeavesRun sync zeros every s input c = IfSome input (λ bytes. CoversAnswers sync zeros every s (lines_of bytes) [] c)
 
 -- the answers to the lines that were whole in what was taken were written
-abbrev pub WholeLinesAnswered : Console → Option (List ℕ) → Option (List ℕ) → Option (List ℕ) → Option (List ℕ) → Type 0
-WholeLinesAnswered s input left old new =
+abbrev pub WholeLinesAnswered : ℕ → Console → Option (List ℕ) → Option (List ℕ) → Option (List ℕ) → Option (List ℕ) → Type 0
+WholeLinesAnswered every s input left old new =
     IfSome input (λ bytes. (taken rest : List ℕ) × (bytes ≡ taken ++ rest) × (left ≡ Some rest)
-    × Appends old new (answers_to s (whole_lines_of taken)))
+    × Appends old new (answers_by every s (whole_lines_of taken)))

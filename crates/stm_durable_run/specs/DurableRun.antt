@@ -1,9 +1,11 @@
 -- A run whose history is kept in a file.
-use Rattle.std.specs.Prelude.{◌≡◌, ⊤, ℕ, Bool, true, false, List, [], ◌++◌, Option, Some, None, Result, Ok, Err}
+use Rattle.std.specs.Prelude.{◌≡◌, ◌⊎◌, ⊤, ℕ, Bool, true, false, List, [], ◌++◌, Option, Some, None, Result, Ok, Err, is_some}
 use Rattle.stm_terms.specs.Texts.{IsPrefixOf}
 use Rattle.stm_events.specs.declared.event.Event.{Event}
-use Rattle.stm_events.specs.SlowDesk.{state}
+use Rattle.stm_events.specs.SlowDesk.{state_from}
+use Rattle.stm_machine.specs.Checkpoints.{start_of}
 use Rattle.stm_history.specs.declared.files.loading.Loaded.{Loaded}
+use Rattle.stm_history.specs.HistoryText.{start_text}
 use Rattle.stm_journal.specs.declared.error.JournalError.TheVariants.{NoMemory}
 use Rattle.stm_journal.specs.declared.sync_mode.SyncMode.{SyncMode}
 use Rattle.stm_durable.specs.Durable.{KeepsHistory, LeavesHistory}
@@ -11,9 +13,9 @@ use Rattle.stm_lines.specs.RunStatus.{status_of}
 use Rattle.stm_commands.specs.DueTickets.{queue_for}
 use Rattle.stm_run.specs.declared.console.Console.{Console}
 use Rattle.stm_run.specs.declared.console.Console.TheVariants.{Open}
-use Rattle.stm_run.specs.Console.{initial_console, answers_to}
-use Rattle.stm_run.specs.ConsoleState.{is_open, table_of, events_of}
-use Rattle.stm_run.specs.Laws.{state_after_lines}
+use Rattle.stm_run.specs.Console.{initial_console}
+use Rattle.stm_run.specs.ConsoleState.{is_open, table_of, checkpoint_of_console, start_of_console, events_of}
+use Rattle.stm_run.specs.LineCheckpoints.{states_after, answers_by}
 use Rattle.stm_durable_run.specs.declared.fault.DurableFault.{DurableFault}
 use Rattle.stm_durable_run.specs.declared.fault.DurableFault.TheVariants.{Run, Journal}
 
@@ -27,59 +29,75 @@ resumed_console limit (Some h) =
     Open (record {
       desk = record {
         table = h.table;
+        checkpoint = h.checkpoint;
         limit = limit;
         history = h.events.items;
-        pending = queue_for [] (state h.table h.events.items).waiters;
+        pending = queue_for [] (state_from (start_of h.table h.checkpoint) h.events.items).waiters;
       };
       jobs = [];
     })
 
--- The file has exactly the history of the console, on the disk if the journal syncs; before the desk is open it has nothing.
+-- The file has exactly the history of the console from its last checkpoint on, on the disk if the journal syncs; before the desk is
+-- open it has nothing.
 pub record KeepsConsole
     {D : Type 0} (seen : D → List ℕ) (may_leave : D → List ℕ → Type 0) (device : D) (sync : SyncMode) (len : ℕ) (begun : Bool)
     (s : Console) : Type 0 where
-  pub history : KeepsHistory seen may_leave device sync len begun (table_of s) (events_of s)
+  pub history : KeepsHistory seen may_leave device sync len begun (start_of_console s) (events_of s)
   pub begun_if_open : begun ≡ is_open s
 
 -- ---- what a run leaves
 
 -- Some of these lines were answered, from the first on: the file has exactly their history, and no more than their answers was
--- written.
+-- written. After a line that adds an event there is a checkpoint if the history has `every` events.
 pub record HasCommitted
     {D : Type 0} (seen : D → List ℕ) (may_leave : D → List ℕ → Type 0) (device : D) (sync : SyncMode) (len : ℕ) (begun : Bool)
-    (s : Console) (lines : List (List ℕ)) (written : List ℕ) : Type 0 where
+    (every : ℕ) (s : Console) (lines : List (List ℕ)) (written : List ℕ) : Type 0 where
   pub answered : List (List ℕ)
   pub others : List (List ℕ)
   pub parts : lines ≡ answered ++ others
-  pub front : IsPrefixOf written (answers_to s answered)
-  pub kept : KeepsConsole seen may_leave device sync len begun (state_after_lines s answered)
+  pub front : IsPrefixOf written (answers_by every s answered)
+  pub kept : KeepsConsole seen may_leave device sync len begun (states_after every s answered)
 
 -- What a crash may leave after all events of the earlier console were recorded, and while those are recorded that follow up to the
--- later one: a batch of events was begun after a history that has all events of the earlier one.
-pub record LeavesBetween (sync : SyncMode) (zeros : Bool) (earlier later : Console) (file : List ℕ) : Type 0 where
+-- later one, if there is no checkpoint between them: a batch of events was begun after a history that has all events of the
+-- earlier one.
+pub record LeavesEvents (sync : SyncMode) (zeros : Bool) (earlier later : Console) (file : List ℕ) : Type 0 where
   pub begun : Bool
   pub recorded : List Event
   pub batch : List Event
   pub unrecorded : List Event
   pub parts : events_of later ≡ (events_of earlier ++ recorded) ++ (batch ++ unrecorded)
+  pub same_start : checkpoint_of_console later ≡ checkpoint_of_console earlier
+  pub same_table : is_open earlier ≡ true → table_of later ≡ table_of earlier
   pub begun_if_open : is_open earlier ≡ true → begun ≡ true
   pub none : begun ≡ false → events_of earlier ++ recorded ≡ []
-  pub left : LeavesHistory sync zeros begun (table_of later) (events_of earlier ++ recorded) batch file
+  pub left : LeavesHistory sync zeros begun (start_of_console later) (events_of earlier ++ recorded) batch file
 
--- What a crash may leave of a run of which this was written: each event whose answer was written, even in part, is in the file,
--- perhaps with some of the events that followed, and nothing else.
+-- What a crash leaves once a new file has taken the place of the old one, if the console has just made a checkpoint: all lines of the
+-- checkpoint, and no event.
+pub record LeavesCheckpoint (s : Console) (file : List ℕ) : Type 0 where
+  pub begun : is_some (checkpoint_of_console s) ≡ true
+  pub none : events_of s ≡ []
+  pub text : file ≡ start_text (start_of_console s)
+
+-- what a crash may leave of the file of the earlier console, while it comes to be that of the later one, which is the same or follows it
+abbrev pub LeavesBetween : SyncMode → Bool → Console → Console → List ℕ → Type 0
+LeavesBetween sync zeros earlier later file = LeavesEvents sync zeros earlier later file ⊎ LeavesCheckpoint later file
+
+-- What a crash may leave of a run of which this was written: each event whose answer was written, even in part, is in the file or
+-- was before a checkpoint that the file has, perhaps with some of the events that followed, and nothing else.
 pub record CoversAnswers
-    (sync : SyncMode) (zeros : Bool) (s : Console) (lines : List (List ℕ)) (written file : List ℕ) : Type 0 where
+    (sync : SyncMode) (zeros : Bool) (every : ℕ) (s : Console) (lines : List (List ℕ)) (written file : List ℕ) : Type 0 where
   -- the lines whose answers were written, the last perhaps in part
   pub answered : List (List ℕ)
   pub others : List (List ℕ)
   pub parts : lines ≡ answered ++ others
-  pub front : IsPrefixOf written (answers_to s answered)
-  -- the lines whose events the file may have
+  pub front : IsPrefixOf written (answers_by every s answered)
+  -- those after them whose events the file may have, too
   pub reached : List (List ℕ)
   pub unreached : List (List ℕ)
-  pub parts_reached : lines ≡ reached ++ unreached
-  pub left : LeavesBetween sync zeros (state_after_lines s answered) (state_after_lines s reached) file
+  pub parts_reached : others ≡ reached ++ unreached
+  pub left : LeavesBetween sync zeros (states_after every s answered) (states_after every s (answered ++ reached)) file
 
 -- the journal didn't fail
 abbrev pub IsNoJournalFault : {A : Type 0} → Result A DurableFault → Type 0

@@ -1,24 +1,39 @@
--- The events that a console adds can be in lines of a history.
-use Rattle.std.specs.Prelude.{ℕ, List, length, drop}
+-- The events that a console adds, and its checkpoint, can be in lines of a history.
+use Rattle.std.specs.Prelude.{◌≡◌, ⊤, List, [], ◌∷◌, Some}
+use Rattle.stm_store.specs.Tables.{Declared}
 use Rattle.stm_events.specs.declared.event.Event.{Event}
-use Rattle.stm_events.specs.SlowDesk.{IsLegal}
+use Rattle.stm_events.specs.States.{IsLegalFrom}
+use Rattle.stm_machine.specs.Checkpoints.{CheckpointView, MayStart}
 use Rattle.stm_durable.specs.Durable.{FitLines}
+use Rattle.stm_desk.specs.DeskView.{start_state}
 use Rattle.stm_run.specs.declared.console.Console.{Console}
-use Rattle.stm_run.specs.ConsoleState.{table_of, events_of}
-use Rattle.stm_run.specs.Laws.{state_after_lines}
-use Rattle.stm_durable_run.specs.Committing.{MayBegin}
-use Rattle.stm_durable_run.specs.Ranges.{AreEventsInRange}
+use Rattle.stm_run.specs.ConsoleState.{present_desk, table_of, checkpoint_of_console, start_of_console, events_of, with_checkpoint}
+use Rattle.stm_run.specs.Fitting.{IsOfText, VariablesFit}
+use Rattle.stm_run.specs.Growing.{Grows}
+use Rattle.stm_durable_run.specs.Ranges.{AreEventsInRange, AreCellsInRange, AreBlocksInRange}
+use Rattle.stm_history.specs.Judgement.{StartFits}
 
--- the events of the later console that the earlier one doesn't have
-abbrev pub new_events : Console → Console → List Event
-new_events earlier later = drop (length (events_of earlier)) (events_of later)
+-- each block that is submitted is what its text checks to over the table
+abbrev pub AreTexts : List Declared → List Event → Type 0
+AreTexts table [] = ⊤
+AreTexts table (e ∷ es) = IsOfText table e.what × AreTexts table es
 
--- if their values are in range they can, whatever lines came before and between
+-- A run may begin as this console: its variables can be in lines, and so can all that comes before its events; and its blocks are of
+-- their texts.
+pub record MayBeginRun (s : Console) : Type 0 where
+  pub variables : VariablesFit (table_of s)
+  pub start : StartFits (start_of_console s)
+  pub texts : AreTexts (table_of s) (events_of s)
+
+-- if the values of new events are in range, they can be in lines
 abbrev pub NewEventsFit : Type 0
 NewEventsFit =
-    (first : Console) (before between : List (List ℕ)) → MayBegin first
-    → IsLegal (table_of (state_after_lines (state_after_lines first before) between))
-    (events_of (state_after_lines (state_after_lines first before) between))
-    → AreEventsInRange (new_events (state_after_lines first before) (state_after_lines (state_after_lines first before) between))
-    → FitLines (table_of (state_after_lines (state_after_lines first before) between))
-    (new_events (state_after_lines first before) (state_after_lines (state_after_lines first before) between))
+    (s t : Console) → MayBeginRun s → (g : Grows s t) → VariablesFit (table_of t) → MayStart (table_of t) (checkpoint_of_console t)
+    → IsLegalFrom (start_state (present_desk t).desk) (events_of t) → AreEventsInRange g.added → FitLines (start_of_console t) g.added
+
+-- if the values of a checkpoint are in range, it can be in lines: a run may begin as the console that made it
+abbrev pub CheckpointsFit : Type 0
+CheckpointsFit =
+    (s t : Console) (c : CheckpointView) → MayBeginRun s → Grows s t → VariablesFit (table_of t)
+    → checkpoint_of_console (with_checkpoint t) ≡ Some c → MayStart (table_of t) (Some c) → AreCellsInRange c.store → AreBlocksInRange c.blocks
+    → MayBeginRun (with_checkpoint t)

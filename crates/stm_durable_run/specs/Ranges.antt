@@ -1,5 +1,8 @@
--- The values of verdicts are in range; that their new variables have types of few `TVar` is known otherwise.
-use Rattle.std.specs.Prelude.{List, [], ◌∷◌, ⊤}
+-- The values of verdicts and of checkpoints are in range; that variables have types of few `TVar` is known otherwise.
+use Rattle.std.specs.Prelude.{◌<◌, ◌^◌, List, [], ◌∷◌, Option, Some, None, ⊤}
+use Rattle.stm_store.specs.declared.cell.Cell.{Cell}
+use Rattle.stm_machine.specs.declared.checkpoint.CheckpointBlock.{CheckpointBlock}
+use Rattle.stm_waiting.specs.declared.waiting.Held.{Held}
 use Rattle.stm_terms.specs.declared.kinds.Ty.{Ty}
 use Rattle.stm_terms.specs.declared.values.Value.{Value}
 use Rattle.stm_terms.specs.declared.values.Fault.TheVariants.{Thrown, Overflow}
@@ -8,7 +11,7 @@ use Rattle.stm_terms.specs.declared.verdicts.Verdict.TheVariants.{Commits, Throw
 use Rattle.stm_events.specs.declared.event.Event.{Event}
 use Rattle.stm_events.specs.declared.event.What.{What}
 use Rattle.stm_events.specs.declared.event.What.TheVariants.{Submitted, Installed, Finished, Cancelled}
-use Rattle.stm_event_lines.specs.Fits.{FitsInt, FitsValue, FitWrites}
+use Rattle.stm_event_lines.specs.Fits.{Is32Bit, FitsInt, FitsValue, FitWrites}
 
 -- the values of new variables are in range
 abbrev pub AreValuesInRange : List (Ty × Value) → Type 0
@@ -33,3 +36,27 @@ IsEventInRange (Cancelled ticket) = ⊤
 abbrev pub AreEventsInRange : List Event → Type 0
 AreEventsInRange [] = ⊤
 AreEventsInRange (e ∷ es) = IsEventInRange e.what × AreEventsInRange es
+
+-- ---- checkpoints
+-- the value of a variable and its count are in range
+abbrev pub IsCellInRange : Cell → Type 0
+IsCellInRange c = FitsValue c.value × (c.count < 2 ^ 64)
+
+-- so of each variable of a store
+abbrev pub AreCellsInRange : List Cell → Type 0
+AreCellsInRange [] = ⊤
+AreCellsInRange (c ∷ cs) = IsCellInRange c × AreCellsInRange cs
+
+-- what a waiting block read, and the verdict, are in range, if something was delivered to it
+abbrev pub IsHeldInRange : Option Held → Type 0
+IsHeldInRange None = ⊤
+IsHeldInRange (Some h) = FitWrites h.reads × IsInRange h.verdict
+
+-- so of a waiting block, with its ticket
+abbrev pub IsBlockInRange : CheckpointBlock → Type 0
+IsBlockInRange b = Is32Bit b.ticket × IsHeldInRange b.waiting.held
+
+-- so of each waiting block
+abbrev pub AreBlocksInRange : List CheckpointBlock → Type 0
+AreBlocksInRange [] = ⊤
+AreBlocksInRange (b ∷ bs) = IsBlockInRange b × AreBlocksInRange bs

@@ -2,15 +2,20 @@
 //!
 //! `run_durable` does what `stm_run::run` does on a desk whose history is kept in a file. Answers are held back until the events
 //! of their lines are in the file and, as the sync mode says, on the disk: so no answer that anybody saw is lost in a crash.
-//! `session` is a run under way, `recording` adds events to the file in batches, `resuming` has the console that a file gives, `ranges`
-//! says that the numbers of events are in range, and `fault` why a run ends.
+//! With a checkpoint a new file takes the place of the old one, and has the checkpoint and what comes after it.
+//!
+//! `session` is a run under way, `recording` adds events to the file in batches, `beginning` replaces it at a checkpoint, `resuming`
+//! has the console that a file gives, `ranges` says that numbers are in range, `laws` that events and checkpoints can be in lines,
+//! and `fault` why a run ends.
 //!
 //! What a reader has to believe is in `specs/DurableRun`: the console that a file gives, what the file has, and what a crash may
 //! leave.
 #![tactic(auto)]
 
-ghost use Rattle.std.specs.Prelude.{⊤, false, []};
+ghost use Rattle.std.specs.Prelude.{⊤, ◌≤◌, false, []};
+ghost use Rattle.stm_events.specs.SlowDesk.{max_events};
 
+mod beginning;
 mod fault;
 mod laws;
 mod ranges;
@@ -31,9 +36,12 @@ mod tests {
     use std::test::Fail;
     use std::thread::Threads;
     use stm_durable::{Opened, open_history};
-    use stm_journal::{Device, JournalError, Memory, SyncMode};
+    use stm_journal::{Device, JournalError, Memory, Replace, SyncMode};
     use stm_options::Options;
     use stm_store::Seed;
+
+    /// More events than any of these runs adds.
+    const MANY: u32 = 1_000;
 
     const FIRST: &[u8] = b"tvar x : Int = 1\nsubmit readTVar x\neval\nhistory\n";
 
@@ -59,13 +67,32 @@ evaluated 1
 \0\"client\":0,\"event\":\"cancelled\",\"ticket\":1}
 ";
 
-    /// What a run over a file with these bytes writes, and what the file then has.
+    /// The same without `history`, but with a checkpoint.
+    const CHECKPOINT: &[u8] = b"tvar x : Int = 1\nsubmit readTVar x\neval\ncheckpoint\n";
+
+    /// The lines of that checkpoint.
+    const FROM: &[u8] = b"{\"format\":4,\"next\":2,\"vars\":1,\"waiting\":1}
+{\"count\":0,\"init\":1,\"name\":\"x\",\"type\":\"Int\"}
+{\"block\":\"readTVar x\",\"reads\":[[0,1]],\"stale\":false,\"ticket\":1,\"verdict\":{\"commits\":{\"news\":[],\"result\":1,\"writes\":[]}}}
+";
+
+    /// The same, and an event.
+    const ONWARD: &[u8] = b"{\"format\":4,\"next\":2,\"vars\":1,\"waiting\":1}
+{\"count\":0,\"init\":1,\"name\":\"x\",\"type\":\"Int\"}
+{\"block\":\"readTVar x\",\"reads\":[[0,1]],\"stale\":false,\"ticket\":1,\"verdict\":{\"commits\":{\"news\":[],\"result\":1,\"writes\":[]}}}
+{\"client\":0,\"event\":\"finished\",\"first_new\":1,\"stale\":[],\"ticket\":1,\"verdict\":{\"commits\":{\"news\":[],\"result\":1,\"writes\":[]}}}
+";
+
+    /// What a run over a file with these bytes writes, and what the file then has. There is a checkpoint from this many events on.
     fn run_over<T: Threads + RandomSource + Sync>(
         rt: &T,
         alloc: Global,
         bytes: &[u8],
         input: &[u8],
-    ) -> Result<(Vec<u8>, Vec<u8>), Fail> {
+        every: u32,
+    ) -> Result<(Vec<u8>, Vec<u8>), Fail>
+        requires { (1 ≤ every) × (every ≤ max_events) }
+    {
         let device = Memory::new(alloc, bytes.to_vec(alloc)?);
         let Opened {
             mut file,
@@ -74,22 +101,16 @@ evaluated 1
         } = open_history(alloc, Seed::fixed(), device, SyncMode::Full).map_err(|e| e.1)?;
         let mut reader = input;
         let mut out = Vec::new(alloc);
-        run_durable(
-            rt,
-            alloc,
-            &mut reader,
-            &mut out,
-            &mut file,
-            loaded,
-            Options::standard(),
-        )?;
+        let mut options = Options::standard();
+        options.checkpoint_every = every;
+        run_durable(rt, alloc, &mut reader, &mut out, &mut file, loaded, options)?;
         let left = file.journal.device.bytes().to_vec(alloc)?;
         Ok((out, left))
     }
 
     #[test]
     fn a_run_keeps_its_history(rt: HostRuntime) -> Result<(), Fail> {
-        let (out, left) = run_over(&rt, rt.alloc(), b"", FIRST)?;
+        let (out, left) = run_over(&rt, rt.alloc(), b"", FIRST, MANY)?;
         assert_eq!(rt; out.as_slice(), FIRST_OUT);
         assert_eq!(rt; left.as_slice(), FIRST_FILE);
         Ok(())
@@ -102,12 +123,54 @@ evaluated 1
             rt.alloc(),
             TORN_FILE,
             b"tvar y : Int = 1\nshow\neval\n",
+            MANY,
         )?;
         assert_eq!(rt;
             out.as_slice(),
             b"refused Late\n1 new\nwaiting 1\nevaluated 1\n".as_slice()
         );
         assert_eq!(rt; left.as_slice(), FIRST_FILE);
+        Ok(())
+    }
+
+    #[test]
+    fn a_checkpoint_starts_the_file_again(rt: HostRuntime) -> Result<(), Fail> {
+        let (out, left) = run_over(&rt, rt.alloc(), b"", CHECKPOINT, MANY)?;
+        assert_eq!(rt;
+            out.as_slice(),
+            b"tvar #0 x\nticket 1\nevaluated 1\ncheckpoint 2\n".as_slice()
+        );
+        assert_eq!(rt; left.as_slice(), FROM);
+        Ok(())
+    }
+
+    #[test]
+    fn a_run_goes_on_from_a_checkpoint(rt: HostRuntime) -> Result<(), Fail> {
+        let (out, left) = run_over(&rt, rt.alloc(), FROM, b"show\nfinish 1\nhistory\n", MANY)?;
+        assert!(rt;
+            out.as_slice().starts_with(
+                b"1 current commits writes none news none result 1\nwaiting 1\nfinished 1 result 1 stale none\n".as_slice()
+            )
+        );
+        assert!(rt; out.as_slice().ends_with(ONWARD));
+        assert_eq!(rt; left.as_slice(), ONWARD);
+        Ok(())
+    }
+
+    #[test]
+    fn a_checkpoint_comes_by_itself(rt: HostRuntime) -> Result<(), Fail> {
+        let (out, left) = run_over(
+            &rt,
+            rt.alloc(),
+            b"",
+            b"tvar x : Int = 1\nsubmit readTVar x\neval\n",
+            2,
+        )?;
+        assert_eq!(rt;
+            out.as_slice(),
+            b"tvar #0 x\nticket 1\nevaluated 1\n".as_slice()
+        );
+        assert_eq!(rt; left.as_slice(), FROM);
         Ok(())
     }
 
@@ -156,6 +219,16 @@ evaluated 1
 
         fn sync(&mut self) -> Result<(), JournalError> {
             Ok(())
+        }
+    }
+
+    impl Replace for ReadOnly {
+        fn beside(&mut self) -> Result<ReadOnly, JournalError> {
+            Err(JournalError::NoSpace)
+        }
+
+        fn put(&mut self, _other: ReadOnly) -> Result<(), JournalError> {
+            Err(JournalError::Failed)
         }
     }
 

@@ -2,7 +2,9 @@
 
 ghost use Rattle.std.specs.Prelude.{◌≡◌, ◌≤◌, length, IfOk, IfSome};
 ghost use Rattle.stm_events.specs.Laws.{SubmittedAreWellTyped};
-ghost use Rattle.stm_events.specs.SlowDesk.{max_events, state, IsLegal};
+ghost use Rattle.stm_events.specs.SlowDesk.{max_events, state_from};
+ghost use Rattle.stm_events.specs.States.{IsLegalFrom};
+ghost use Rattle.stm_machine.specs.Checkpoints.{MayStart, start_of};
 ghost use Rattle.stm_machine.specs.Machine.{IsAt};
 ghost use Rattle.stm_durable_run.specs.DurableRun.{resumed_console};
 
@@ -16,15 +18,16 @@ use stm_terms::NoMemory;
 
 /// A console that is open on a history.
 fn resumed(alloc: Global, loaded: Loaded, limit: u32) -> Result<Console, NoMemory>
-    requires legal { IsLegal loaded.table loaded.events.items }
-    requires at { IsAt loaded.machine (state loaded.table loaded.events.items) }
+    requires start { MayStart loaded.table loaded.checkpoint }
+    requires legal { IsLegalFrom (start_of loaded.table loaded.checkpoint) loaded.events.items }
+    requires at { IsAt loaded.machine (state_from (start_of loaded.table loaded.checkpoint) loaded.events.items) }
     requires typed { SubmittedAreWellTyped loaded.events.items }
     requires fits { length loaded.events.items ≤ limit }
     requires few { limit ≤ max_events }
     ensures { IfOk result (λ c. c ≡ resumed_console limit (Some loaded)) }
 {
-    let (table, events, machine) = loaded.into_parts();
-    match Desk::resume(table, events, machine, limit) {
+    let (table, checkpoint, events, machine) = loaded.into_parts();
+    match Desk::resume(table, checkpoint, events, machine, limit) {
         Ok(desk) => {
             // The queue is known to rise by this.
             let _history = desk.history();
@@ -42,8 +45,9 @@ pub(crate) fn resumed_console(
     loaded: Option<Loaded>,
     limit: u32,
 ) -> Result<Console, NoMemory>
-    requires legal { IfSome loaded (λ h. IsLegal h.table h.events.items) }
-    requires at { IfSome loaded (λ h. IsAt h.machine (state h.table h.events.items)) }
+    requires start { IfSome loaded (λ h. MayStart h.table h.checkpoint) }
+    requires legal { IfSome loaded (λ h. IsLegalFrom (start_of h.table h.checkpoint) h.events.items) }
+    requires at { IfSome loaded (λ h. IsAt h.machine (state_from (start_of h.table h.checkpoint) h.events.items)) }
     requires typed { IfSome loaded (λ h. SubmittedAreWellTyped h.events.items) }
     requires fits { IfSome loaded (λ h. length h.events.items ≤ limit) }
     requires few { limit ≤ max_events }

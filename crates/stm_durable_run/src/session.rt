@@ -3,7 +3,7 @@
 //! Answers are held until the events of their lines are in the file. Each byte of an answer is written by `write_held` or
 //! `write_streamed`, which ask for a file that has the history of all lines so far.
 
-ghost use Rattle.std.specs.Prelude.{◌≡◌, ◌≢◌, ◌++◌, ◌∷◌, [], ℕ, List, Option, IsTrue, length, string_bytes, OnOk, OnErr, IfOk, IfErr};
+ghost use Rattle.std.specs.Prelude.{◌≡◌, ◌≢◌, ◌⊎◌, ◌++◌, ◌∷◌, [], true, false, ℕ, MatchBool, List, Option, IsTrue, length, string_bytes, OnOk, OnErr, IfOk, IfErr};
 ghost use Rattle.std.specs.Io.KnownBytes.{Appends};
 ghost use Rattle.stm_terms.specs.Texts.{IsPrefixOf};
 ghost use Rattle.stm_history.specs.HistoryText.{WritesText};
@@ -12,10 +12,15 @@ ghost use Rattle.stm_lines.specs.LineClass.{line_class};
 ghost use Rattle.stm_run.specs.declared.console.Console.{Console as AnyConsole};
 ghost use Rattle.stm_run.specs.Abstraction.{IsStep};
 ghost use Rattle.stm_run.specs.Console.{step};
-ghost use Rattle.stm_run.specs.ConsoleState.{events_of};
+ghost use Rattle.stm_run.specs.ConsoleState.{table_of, events_of, with_checkpoint};
+ghost use Rattle.stm_run.specs.Fitting.{VariablesFit};
+ghost use Rattle.stm_run.specs.Growing.{Grows};
+ghost use Rattle.stm_run.specs.LineCheckpoints.{auto_step, is_streamed, tells_checkpoint};
 ghost use Rattle.stm_durable_run.specs.DurableRun.{KeepsConsole, LeavesBetween, CoversAnswers};
-ghost use Rattle.stm_durable_run.specs.Committing.{MayCommit, committed, IsAfterLines, streamed_text, HasNotWritten, HasFailed};
+ghost use Rattle.stm_durable_run.specs.Committing.{MayCommit, MayBeginAnew, IsAfterLines, streamed_text, HasNotWritten, HasFailed};
+ghost use Rattle.stm_durable_run.specs.NewEvents.{MayBeginRun};
 
+use crate::beginning::begin_file_anew;
 use crate::fault::DurableFault;
 use crate::recording::record_new;
 use std::alloc::Global;
@@ -24,7 +29,7 @@ use std::thread::Threads;
 use stm_commands::Threading;
 use stm_durable::HistoryFile;
 use stm_history::WriteFault;
-use stm_journal::Device;
+use stm_journal::{Device, Replace};
 use stm_lines::RunFault;
 use stm_lines::output::{flush, write_text};
 use stm_run::console::Console;
@@ -93,8 +98,16 @@ impl DurableSession {
     ) -> Result<Reply, NoMemory>
         ensures step { IfOk result (λ r. IsStep r (string_bytes self.old.held) (string_bytes self.new.held)
             self.new.console (step self.old.console line.now)) }
+        ensures made { IfOk result (λ r. tells_checkpoint r ≡ true
+            → self.new.console ≡ with_checkpoint self.old.console) }
+        ensures grows { IfOk result (λ r. tells_checkpoint r ≡ false → Grows self.old.console self.new.console) }
+        ensures variables { OnOk result (VariablesFit (table_of self.old.console)
+            → VariablesFit (table_of self.new.console)) }
+        ensures streamed { IfOk result (λ r. is_streamed r ≡ true
+            → events_of self.new.console ≡ events_of self.old.console) }
         ensures recorded { self.new.recorded ≡ self.old.recorded }
     {
+        stm_run::fitting_laws::variables_stay_fit();
         self.console
             .answer(rt, alloc, self.threading, line, &mut self.held)
     }
@@ -144,7 +157,7 @@ impl DurableSession {
         ensures fault { IfErr result (λ e. e ≢ RunFault.Read) }
     {
         let written = match reply {
-            Reply::Text => return Ok(()),
+            Reply::Text | Reply::Checkpoint => return Ok(()),
             Reply::History => self.console.write_history(alloc, writer),
             Reply::Events(n) => self.console.write_later_events(alloc, writer, n),
         };
@@ -182,7 +195,7 @@ impl DurableSession {
             → KeepsConsole D.seen D.may_leave file.old.journal.device file.old.journal.sync file.old.journal.len
             file.old.begun s) self.old.console self.old.recorded)
             → LeavesOnly D.moment D.left_since file.old.journal.device file.new.journal.device
-            (LeavesBetween file.old.journal.sync D.fills_with_zeros (committed c) self.old.console) }
+            (LeavesBetween file.old.journal.sync D.fills_with_zeros c.committed self.old.console) }
     {
         match record_new(alloc, &self.console, self.recorded, file) {
             Ok(count) => {
@@ -223,7 +236,7 @@ impl DurableSession {
             → KeepsConsole D.seen D.may_leave file.old.journal.device file.old.journal.sync file.old.journal.len
             file.old.begun s) self.old.console self.old.recorded)
             → LeavesOnly D.moment D.left_since file.old.journal.device file.new.journal.device
-            (LeavesBetween file.old.journal.sync D.fills_with_zeros (committed c) self.old.console) }
+            (LeavesBetween file.old.journal.sync D.fills_with_zeros c.committed self.old.console) }
     {
         match self.commit(alloc, file, writer) {
             Ok(()) => match flush(writer) {
@@ -262,7 +275,7 @@ impl DurableSession {
             → KeepsConsole D.seen D.may_leave file.old.journal.device file.old.journal.sync file.old.journal.len
             file.old.begun s) self.old.console self.old.recorded)
             → LeavesOnly D.moment D.left_since file.old.journal.device file.new.journal.device
-            (LeavesBetween file.old.journal.sync D.fills_with_zeros (committed c) self.old.console) }
+            (LeavesBetween file.old.journal.sync D.fills_with_zeros c.committed self.old.console) }
     {
         match self.commit(alloc, file, writer) {
             Ok(()) => match self.write_streamed(alloc, reply, file, writer) {
@@ -273,11 +286,123 @@ impl DurableSession {
         }
     }
 
-    /// Answers a line. What is held is committed as soon as it is long, and before an answer that is streamed.
-    pub(crate) fn answer_line<T: Threads + Sync, D: Device, W: Write>(
+    /// Makes a checkpoint if events were added to the first `before` ones and there are at least `every` of them then. Returns whether it
+    /// was made.
+    fn checkpoint_if_due(&mut self, every: u32, before: usize) -> Result<bool, NoMemory>
+        ensures made { IfOk result (λ made. MatchBool made (self.new.console ≡ with_checkpoint self.old.console)
+            (self.new.console ≡ self.old.console)) }
+        ensures state { OnOk result ((earlier : AnyConsole) → before ≡ length (events_of earlier)
+            → self.new.console ≡ auto_step every earlier self.old.console) }
+        ensures unchanged { OnErr result (self.new.console ≡ self.old.console) }
+        ensures held { string_bytes self.new.held ≡ string_bytes self.old.held }
+        ensures recorded { self.new.recorded ≡ self.old.recorded }
+    {
+        if before < self.console.event_count() {
+            self.console.checkpoint(every)
+        } else {
+            Ok(false)
+        }
+    }
+
+    /// Replaces the file by one that begins from the checkpoint that the console has just made, and then writes the answers that are
+    /// held.
+    fn begin_anew<D: Replace + Drop, W: Write>(
+        &mut self,
+        alloc: Global,
+        file: &mut HistoryFile<D>,
+        writer: &mut W,
+    ) -> Result<(), DurableFault>
+        requires { MayBeginAnew (λ s. IsTrue D.is_honest
+            → KeepsConsole D.seen D.may_leave file.old.journal.device file.old.journal.sync file.old.journal.len
+            file.old.begun s) self.old.console }
+        ensures done { OnOk result (Appends (W.contents writer.old) (W.contents writer.new)
+            (string_bytes self.old.held)) }
+        ensures none { OnOk result (string_bytes self.new.held ≡ []) }
+        ensures count { OnOk result (self.new.recorded ≡ length (events_of self.old.console)) }
+        ensures may_begin { OnOk result (MayBeginRun self.old.console) }
+        ensures console { self.new.console ≡ self.old.console }
+        ensures sync { file.new.journal.sync ≡ file.old.journal.sync }
+        // The file has the checkpoint, unless that was the fault; then nothing was written.
+        ensures kept { IsTrue D.is_honest → OnOk result
+            (KeepsConsole D.seen D.may_leave file.new.journal.device file.new.journal.sync file.new.journal.len
+            file.new.begun self.old.console) }
+        ensures fault { IfErr result (λ e. HasNotWritten e (W.contents writer.old) (W.contents writer.new)
+            (string_bytes self.old.held) (IsTrue D.is_honest
+            → KeepsConsole D.seen D.may_leave file.new.journal.device file.new.journal.sync file.new.journal.len
+            file.new.begun self.old.console)) }
+        ensures any_moment { IsTrue D.is_honest → (c : MayBeginAnew (λ s. IsTrue D.is_honest
+            → KeepsConsole D.seen D.may_leave file.old.journal.device file.old.journal.sync file.old.journal.len
+            file.old.begun s) self.old.console)
+            → LeavesOnly D.moment D.left_since file.old.journal.device file.new.journal.device
+            (λ f. LeavesBetween file.old.journal.sync D.fills_with_zeros c.committed c.committed f
+            ⊎ LeavesBetween file.old.journal.sync D.fills_with_zeros c.committed self.old.console f) }
+    {
+        match begin_file_anew(alloc, &self.console, file) {
+            Ok(()) => {
+                // The history of the console has no event yet.
+                self.recorded = 0;
+                match self.write_held(file, writer) {
+                    Ok(()) => Ok(()),
+                    Err(fault) => Err(DurableFault::Run(fault)),
+                }
+            }
+            Err(refused) => Err(DurableFault::Journal(refused)),
+        }
+    }
+
+    /// Commits if what is held is long.
+    fn commit_if_long<D: Device, W: Write>(
+        &mut self,
+        alloc: Global,
+        file: &mut HistoryFile<D>,
+        writer: &mut W,
+    ) -> Result<(), DurableFault>
+        requires { (every : ℕ) × (first : AnyConsole) × (lines : List (List ℕ)) × (old : Option (List ℕ))
+            × IsAfterLines (λ s. IsTrue D.is_honest
+            → KeepsConsole D.seen D.may_leave file.old.journal.device file.old.journal.sync file.old.journal.len
+            file.old.begun s) every first lines old (W.contents writer.old) self.old.console
+            (string_bytes self.old.held) self.old.recorded }
+        ensures sync { file.new.journal.sync ≡ file.old.journal.sync }
+        ensures done { OnOk result ((every : ℕ) (first : AnyConsole) (lines : List (List ℕ)) (old : Option (List ℕ))
+            → IsAfterLines (λ s. IsTrue D.is_honest
+            → KeepsConsole D.seen D.may_leave file.old.journal.device file.old.journal.sync file.old.journal.len
+            file.old.begun s) every first lines old (W.contents writer.old) self.old.console
+            (string_bytes self.old.held) self.old.recorded
+            → IsAfterLines (λ s. IsTrue D.is_honest
+            → KeepsConsole D.seen D.may_leave file.new.journal.device file.new.journal.sync file.new.journal.len
+            file.new.begun s) every first lines old (W.contents writer.new) self.new.console
+            (string_bytes self.new.held) self.new.recorded) }
+        ensures fault { IfErr result (λ e. (every : ℕ) (first : AnyConsole) (lines : List (List ℕ)) (old : Option (List ℕ))
+            → IsAfterLines (λ s. IsTrue D.is_honest
+            → KeepsConsole D.seen D.may_leave file.old.journal.device file.old.journal.sync file.old.journal.len
+            file.old.begun s) every first lines old (W.contents writer.old) self.old.console
+            (string_bytes self.old.held) self.old.recorded
+            → HasFailed D.is_honest file.old.journal.sync D.fills_with_zeros (D.may_leave file.new.journal.device) (λ s. IsTrue D.is_honest
+            → KeepsConsole D.seen D.may_leave file.new.journal.device file.new.journal.sync file.new.journal.len
+            file.new.begun s)
+            every first lines old (W.contents writer.new) e) }
+        ensures any_moment { IsTrue D.is_honest → (every : ℕ) (first : AnyConsole) (lines : List (List ℕ)) (old : Option (List ℕ))
+            → IsAfterLines (λ s. IsTrue D.is_honest
+            → KeepsConsole D.seen D.may_leave file.old.journal.device file.old.journal.sync file.old.journal.len
+            file.old.begun s) every first lines old (W.contents writer.old) self.old.console
+            (string_bytes self.old.held) self.old.recorded
+            → LeavesOnly D.moment D.left_since file.old.journal.device file.new.journal.device
+            (CoversAnswers file.old.journal.sync D.fills_with_zeros every first lines []) }
+        ensures read { IfErr result (λ e. e ≢ DurableFault.Run RunFault.Read) }
+    {
+        if self.held.len() < MOST_HELD {
+            Ok(())
+        } else {
+            self.commit(alloc, file, writer)
+        }
+    }
+
+    /// Answers a line. What is held is committed as soon as it is long, before an answer that is streamed, and with a checkpoint.
+    pub(crate) fn answer_line<T: Threads + Sync, D: Replace + Drop, W: Write>(
         &mut self,
         rt: &T,
         alloc: Global,
+        every: u32,
         line: &[u8],
         file: &mut HistoryFile<D>,
         writer: &mut W,
@@ -285,48 +410,49 @@ impl DurableSession {
         requires { (first : AnyConsole) × (before : List (List ℕ)) × (old : Option (List ℕ))
             × IsAfterLines (λ s. IsTrue D.is_honest
             → KeepsConsole D.seen D.may_leave file.old.journal.device file.old.journal.sync file.old.journal.len
-            file.old.begun s) first before old (W.contents writer.old) self.old.console
+            file.old.begun s) every first before old (W.contents writer.old) self.old.console
             (string_bytes self.old.held) self.old.recorded }
         ensures sync { file.new.journal.sync ≡ file.old.journal.sync }
         ensures done { OnOk result ((first : AnyConsole) (before : List (List ℕ)) (old : Option (List ℕ)) (judged : List ℕ)
             → line_class line.now ≡ line_class judged
             → IsAfterLines (λ s. IsTrue D.is_honest
             → KeepsConsole D.seen D.may_leave file.old.journal.device file.old.journal.sync file.old.journal.len
-            file.old.begun s) first before old (W.contents writer.old) self.old.console
+            file.old.begun s) every first before old (W.contents writer.old) self.old.console
             (string_bytes self.old.held) self.old.recorded
             → IsAfterLines (λ s. IsTrue D.is_honest
             → KeepsConsole D.seen D.may_leave file.new.journal.device file.new.journal.sync file.new.journal.len
-            file.new.begun s) first (before ++ judged ∷ []) old (W.contents writer.new) self.new.console
+            file.new.begun s) every first (before ++ judged ∷ []) old (W.contents writer.new) self.new.console
             (string_bytes self.new.held) self.new.recorded) }
         ensures fault { IfErr result (λ e. (first : AnyConsole) (before : List (List ℕ)) (old : Option (List ℕ)) (judged : List ℕ)
             → line_class line.now ≡ line_class judged
             → IsAfterLines (λ s. IsTrue D.is_honest
             → KeepsConsole D.seen D.may_leave file.old.journal.device file.old.journal.sync file.old.journal.len
-            file.old.begun s) first before old (W.contents writer.old) self.old.console
+            file.old.begun s) every first before old (W.contents writer.old) self.old.console
             (string_bytes self.old.held) self.old.recorded
             → HasFailed D.is_honest file.old.journal.sync D.fills_with_zeros (D.may_leave file.new.journal.device) (λ s. IsTrue D.is_honest
             → KeepsConsole D.seen D.may_leave file.new.journal.device file.new.journal.sync file.new.journal.len
             file.new.begun s)
-            first (before ++ judged ∷ []) old (W.contents writer.new) e) }
+            every first (before ++ judged ∷ []) old (W.contents writer.new) e) }
         ensures any_moment { IsTrue D.is_honest → (first : AnyConsole) (before : List (List ℕ)) (old : Option (List ℕ)) (judged : List ℕ)
             → line_class line.now ≡ line_class judged
             → IsAfterLines (λ s. IsTrue D.is_honest
             → KeepsConsole D.seen D.may_leave file.old.journal.device file.old.journal.sync file.old.journal.len
-            file.old.begun s) first before old (W.contents writer.old) self.old.console
+            file.old.begun s) every first before old (W.contents writer.old) self.old.console
             (string_bytes self.old.held) self.old.recorded
             → LeavesOnly D.moment D.left_since file.old.journal.device file.new.journal.device
-            (CoversAnswers file.old.journal.sync D.fills_with_zeros first (before ++ judged ∷ []) []) }
+            (CoversAnswers file.old.journal.sync D.fills_with_zeros every first (before ++ judged ∷ []) []) }
         ensures read { IfErr result (λ e. e ≢ DurableFault.Run RunFault.Read) }
     {
+        let before = self.console.event_count();
         match self.hold_answer(rt, alloc, line) {
-            Ok(Reply::Text) => {
-                if self.held.len() < MOST_HELD {
-                    Ok(())
-                } else {
-                    self.commit(alloc, file, writer)
-                }
-            }
-            Ok(reply) => self.stream(alloc, reply, file, writer),
+            Ok(Reply::Text) => match self.checkpoint_if_due(every, before) {
+                Ok(true) => self.begin_anew(alloc, file, writer),
+                Ok(false) => self.commit_if_long(alloc, file, writer),
+                Err(_) => Err(DurableFault::Run(RunFault::NoMemory)),
+            },
+            Ok(Reply::Checkpoint) => self.begin_anew(alloc, file, writer),
+            Ok(Reply::History) => self.stream(alloc, Reply::History, file, writer),
+            Ok(Reply::Events(n)) => self.stream(alloc, Reply::Events(n), file, writer),
             Err(_) => Err(DurableFault::Run(RunFault::NoMemory)),
         }
     }

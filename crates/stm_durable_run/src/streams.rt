@@ -4,8 +4,10 @@ ghost use Rattle.std.specs.Prelude.{◌≡◌, ◌≢◌, ◌++◌, ◌+◌, ◌
 ghost use Rattle.std.specs.Io.KnownBytes.{Appends, prepend_known};
 ghost use Rattle.stm_terms.specs.Texts.{IsPrefixOf};
 ghost use Rattle.stm_events.specs.Laws.{SubmittedAreWellTyped};
-ghost use Rattle.stm_history.specs.Loading.{HasText};
-ghost use Rattle.stm_events.specs.SlowDesk.{state, IsLegal};
+ghost use Rattle.stm_history.specs.Loading.{HasText, loaded_start};
+ghost use Rattle.stm_events.specs.SlowDesk.{state_from};
+ghost use Rattle.stm_events.specs.States.{IsLegalFrom};
+ghost use Rattle.stm_machine.specs.Checkpoints.{MayStart, start_of};
 ghost use Rattle.stm_machine.specs.Machine.{IsAt};
 ghost use Rattle.stm_journal.specs.Device.{LeavesOnly};
 ghost use Rattle.stm_durable.specs.Durable.{HasLoaded};
@@ -13,11 +15,11 @@ ghost use Rattle.stm_lines.specs.Lines.{lines_of, whole_lines_of};
 ghost use Rattle.stm_lines.specs.TakenLines.{bytes_to_come};
 ghost use Rattle.stm_options.specs.Options.{AreRunOptions};
 ghost use Rattle.stm_run.specs.declared.console.Console.{Console as AnyConsole};
-ghost use Rattle.stm_run.specs.Console.{answers_to};
 ghost use Rattle.stm_run.specs.ConsoleState.{events_of};
-ghost use Rattle.stm_run.specs.Laws.{state_after_lines};
+ghost use Rattle.stm_run.specs.LineCheckpoints.{answers_by, states_after};
 ghost use Rattle.stm_durable_run.specs.DurableRun.{resumed_console, KeepsConsole, IsNoJournalFault, HasCommitted, CoversAnswers};
-ghost use Rattle.stm_durable_run.specs.Committing.{MayBegin, HasCome, HasComeToEnd, HasFinished, HasFailed, LeavesRun, WholeLinesAnswered};
+ghost use Rattle.stm_durable_run.specs.Committing.{HasCome, HasComeToEnd, HasFinished, HasFailed, LeavesRun, WholeLinesAnswered};
+ghost use Rattle.stm_durable_run.specs.NewEvents.{MayBeginRun};
 
 use crate::fault::DurableFault;
 use crate::resuming::resumed_console;
@@ -31,7 +33,7 @@ use std::thread::Threads;
 use stm_commands::Threading;
 use stm_durable::HistoryFile;
 use stm_history::Loaded;
-use stm_journal::Device;
+use stm_journal::{Device, Replace};
 use stm_lines::calls::Calls;
 use stm_lines::command_lines::{CommandLine, next_command_line};
 use stm_lines::{LineReader, RunFault, Steps};
@@ -48,38 +50,38 @@ fn commit_before_read<W: Write, D: Device>(
     writer: &mut W,
     file: &mut HistoryFile<D>,
 ) -> Result<(), DurableFault>
-    requires { (first : AnyConsole) × (input rest old : Option (List ℕ))
+    requires { (every : ℕ) × (first : AnyConsole) × (input rest old : Option (List ℕ))
         × HasCome (λ s. IsTrue D.is_honest
         → KeepsConsole D.seen D.may_leave file.old.journal.device file.old.journal.sync file.old.journal.len
-        file.old.begun s) first input rest old (W.contents writer.old)
+        file.old.begun s) every first input rest old (W.contents writer.old)
         session.old.console (string_bytes session.old.held) session.old.recorded }
     ensures sync { file.new.journal.sync ≡ file.old.journal.sync }
-    ensures done { OnOk result ((first : AnyConsole) (input rest old : Option (List ℕ))
+    ensures done { OnOk result ((every : ℕ) (first : AnyConsole) (input rest old : Option (List ℕ))
         → HasCome (λ s. IsTrue D.is_honest
         → KeepsConsole D.seen D.may_leave file.old.journal.device file.old.journal.sync file.old.journal.len
-        file.old.begun s) first input rest old (W.contents writer.old)
+        file.old.begun s) every first input rest old (W.contents writer.old)
         session.old.console (string_bytes session.old.held) session.old.recorded
         → HasCome (λ s. IsTrue D.is_honest
         → KeepsConsole D.seen D.may_leave file.new.journal.device file.new.journal.sync file.new.journal.len
-        file.new.begun s) first input rest old (W.contents writer.new)
+        file.new.begun s) every first input rest old (W.contents writer.new)
         session.new.console (string_bytes session.new.held) session.new.recorded) }
-    ensures fault { IfErr result (λ e. (first : AnyConsole) (input rest old : Option (List ℕ))
+    ensures fault { IfErr result (λ e. (every : ℕ) (first : AnyConsole) (input rest old : Option (List ℕ))
         → HasCome (λ s. IsTrue D.is_honest
         → KeepsConsole D.seen D.may_leave file.old.journal.device file.old.journal.sync file.old.journal.len
-        file.old.begun s) first input rest old (W.contents writer.old)
+        file.old.begun s) every first input rest old (W.contents writer.old)
         session.old.console (string_bytes session.old.held) session.old.recorded
         → IfSome input (λ bytes.
         HasFailed D.is_honest file.old.journal.sync D.fills_with_zeros (D.may_leave file.new.journal.device) (λ s. IsTrue D.is_honest
         → KeepsConsole D.seen D.may_leave file.new.journal.device file.new.journal.sync file.new.journal.len
         file.new.begun s)
-        first (lines_of bytes) old (W.contents writer.new) e)) }
-    ensures any_moment { IsTrue D.is_honest → (first : AnyConsole) (input rest old : Option (List ℕ))
+        every first (lines_of bytes) old (W.contents writer.new) e)) }
+    ensures any_moment { IsTrue D.is_honest → (every : ℕ) (first : AnyConsole) (input rest old : Option (List ℕ))
         → HasCome (λ s. IsTrue D.is_honest
         → KeepsConsole D.seen D.may_leave file.old.journal.device file.old.journal.sync file.old.journal.len
-        file.old.begun s) first input rest old (W.contents writer.old)
+        file.old.begun s) every first input rest old (W.contents writer.old)
         session.old.console (string_bytes session.old.held) session.old.recorded
         → LeavesOnly D.moment D.left_since file.old.journal.device file.new.journal.device
-        (LeavesRun file.old.journal.sync D.fills_with_zeros first input) }
+        (LeavesRun file.old.journal.sync D.fills_with_zeros every first input) }
     ensures read { IfErr result (λ e. e ≢ DurableFault.Run RunFault.Read) }
 {
     if lines.is_buffered() {
@@ -91,9 +93,10 @@ fn commit_before_read<W: Write, D: Device>(
 
 /// Answers the next line, if there is one; returns whether more may follow. After a fault of the reader, what is held is still
 /// committed.
-fn answer_next<T: Threads + Sync, R: Read, W: Write, D: Device, L: Ledger>(
+fn answer_next<T: Threads + Sync, R: Read, W: Write, D: Replace + Drop, L: Ledger>(
     rt: &T,
     alloc: Global,
+    every: u32,
     session: &mut DurableSession,
     lines: &mut LineReader,
     calls: &mut Calls<R, L>,
@@ -103,7 +106,7 @@ fn answer_next<T: Threads + Sync, R: Read, W: Write, D: Device, L: Ledger>(
     requires { (first : AnyConsole) × (input old : Option (List ℕ))
         × HasCome (λ s. IsTrue D.is_honest
         → KeepsConsole D.seen D.may_leave file.old.journal.device file.old.journal.sync file.old.journal.len
-        file.old.begun s) first input (prepend_known lines.old.chunk (R.remaining calls.old.reader.now)) old (W.contents writer.old)
+        file.old.begun s) every first input (prepend_known lines.old.chunk (R.remaining calls.old.reader.now)) old (W.contents writer.old)
         session.old.console (string_bytes session.old.held) session.old.recorded }
     ensures same_reader { calls.new.reader.ghost_name ≡ calls.old.reader.ghost_name }
     ensures same_steps { calls.new.steps.ghost_name ≡ calls.old.steps.ghost_name }
@@ -114,50 +117,50 @@ fn answer_next<T: Threads + Sync, R: Read, W: Write, D: Device, L: Ledger>(
     ensures done { IfOk result (λ more. (first : AnyConsole) (input old : Option (List ℕ))
         → HasCome (λ s. IsTrue D.is_honest
         → KeepsConsole D.seen D.may_leave file.old.journal.device file.old.journal.sync file.old.journal.len
-        file.old.begun s) first input (prepend_known lines.old.chunk (R.remaining calls.old.reader.now)) old (W.contents writer.old)
+        file.old.begun s) every first input (prepend_known lines.old.chunk (R.remaining calls.old.reader.now)) old (W.contents writer.old)
         session.old.console (string_bytes session.old.held) session.old.recorded
         → MatchBool more
         (HasCome (λ s. IsTrue D.is_honest
         → KeepsConsole D.seen D.may_leave file.new.journal.device file.new.journal.sync file.new.journal.len
-        file.new.begun s) first input (prepend_known lines.new.chunk (R.remaining calls.new.reader.now)) old (W.contents writer.new)
+        file.new.begun s) every first input (prepend_known lines.new.chunk (R.remaining calls.new.reader.now)) old (W.contents writer.new)
         session.new.console (string_bytes session.new.held) session.new.recorded)
         (HasComeToEnd (λ s. IsTrue D.is_honest
         → KeepsConsole D.seen D.may_leave file.new.journal.device file.new.journal.sync file.new.journal.len
-        file.new.begun s) first input old (W.contents writer.new)
+        file.new.begun s) every first input old (W.contents writer.new)
         session.new.console (string_bytes session.new.held) session.new.recorded)) }
     ensures fault { IfErr result (λ e. (first : AnyConsole) (input old : Option (List ℕ))
         → HasCome (λ s. IsTrue D.is_honest
         → KeepsConsole D.seen D.may_leave file.old.journal.device file.old.journal.sync file.old.journal.len
-        file.old.begun s) first input (prepend_known lines.old.chunk (R.remaining calls.old.reader.now)) old (W.contents writer.old)
+        file.old.begun s) every first input (prepend_known lines.old.chunk (R.remaining calls.old.reader.now)) old (W.contents writer.old)
         session.old.console (string_bytes session.old.held) session.old.recorded
         → IfSome input (λ bytes.
         HasFailed D.is_honest file.old.journal.sync D.fills_with_zeros (D.may_leave file.new.journal.device) (λ s. IsTrue D.is_honest
         → KeepsConsole D.seen D.may_leave file.new.journal.device file.new.journal.sync file.new.journal.len
         file.new.begun s)
-        first (lines_of bytes) old (W.contents writer.new) e)) }
+        every first (lines_of bytes) old (W.contents writer.new) e)) }
     ensures read_fault { IsErrOf result (DurableFault.Run RunFault.Read) → (first : AnyConsole) (input old : Option (List ℕ))
         → HasCome (λ s. IsTrue D.is_honest
         → KeepsConsole D.seen D.may_leave file.old.journal.device file.old.journal.sync file.old.journal.len
-        file.old.begun s) first input (prepend_known lines.old.chunk (R.remaining calls.old.reader.now)) old (W.contents writer.old)
+        file.old.begun s) every first input (prepend_known lines.old.chunk (R.remaining calls.old.reader.now)) old (W.contents writer.old)
         session.old.console (string_bytes session.old.held) session.old.recorded
-        → WholeLinesAnswered first input (R.remaining calls.new.reader.now) old (W.contents writer.new) }
+        → WholeLinesAnswered every first input (R.remaining calls.new.reader.now) old (W.contents writer.new) }
     ensures any_moment { IsTrue D.is_honest → (first : AnyConsole) (input old : Option (List ℕ))
         → HasCome (λ s. IsTrue D.is_honest
         → KeepsConsole D.seen D.may_leave file.old.journal.device file.old.journal.sync file.old.journal.len
-        file.old.begun s) first input (prepend_known lines.old.chunk (R.remaining calls.old.reader.now)) old (W.contents writer.old)
+        file.old.begun s) every first input (prepend_known lines.old.chunk (R.remaining calls.old.reader.now)) old (W.contents writer.old)
         session.old.console (string_bytes session.old.held) session.old.recorded
         → LeavesOnly D.moment D.left_since file.old.journal.device file.new.journal.device
-        (LeavesRun file.old.journal.sync D.fills_with_zeros first input) }
+        (LeavesRun file.old.journal.sync D.fills_with_zeros every first input) }
 {
     match next_command_line(lines, calls) {
         Ok(CommandLine::Whole) => {
-            match session.answer_line(rt, alloc, lines.line(), file, writer) {
+            match session.answer_line(rt, alloc, every, lines.line(), file, writer) {
                 Ok(()) => Ok(true),
                 Err(fault) => Err(fault),
             }
         }
         Ok(CommandLine::Last) => {
-            match session.answer_line(rt, alloc, lines.line(), file, writer) {
+            match session.answer_line(rt, alloc, every, lines.line(), file, writer) {
                 Ok(()) => Ok(false),
                 Err(fault) => Err(fault),
             }
@@ -172,9 +175,10 @@ fn answer_next<T: Threads + Sync, R: Read, W: Write, D: Device, L: Ledger>(
 
 /// A run of which nothing was read. `run_from` owns the session and the lines, so that this function, with a loop and many
 /// ends, owns nothing.
-fn run_session<T: Threads + Sync, R: Read, W: Write, D: Device, L: Ledger>(
+fn run_session<T: Threads + Sync, R: Read, W: Write, D: Replace + Drop, L: Ledger>(
     rt: &T,
     alloc: Global,
+    every: u32,
     session: &mut DurableSession,
     lines: &mut LineReader,
     calls: &mut Calls<R, L>,
@@ -182,7 +186,7 @@ fn run_session<T: Threads + Sync, R: Read, W: Write, D: Device, L: Ledger>(
     file: &mut HistoryFile<D>,
 ) -> Result<(), DurableFault>
     requires chunk { lines.old.chunk ≡ [] }
-    requires may_begin { MayBegin session.old.console }
+    requires may_begin { MayBeginRun session.old.console }
     requires held { string_bytes session.old.held ≡ [] }
     requires recorded { session.old.recorded ≡ length (events_of session.old.console) }
     requires kept { IsTrue D.is_honest
@@ -194,22 +198,22 @@ fn run_session<T: Threads + Sync, R: Read, W: Write, D: Device, L: Ledger>(
     ensures done { OnOk result (IfSome (R.remaining calls.old.reader.now) (λ bytes. HasFinished (λ s. IsTrue D.is_honest
         → KeepsConsole D.seen D.may_leave file.new.journal.device file.new.journal.sync file.new.journal.len
         file.new.begun s)
-        session.old.console (lines_of bytes) (W.contents writer.old) (W.contents writer.new))) }
+        every session.old.console (lines_of bytes) (W.contents writer.old) (W.contents writer.new))) }
     ensures fault { IfErr result (λ e. IfSome (R.remaining calls.old.reader.now) (λ bytes.
         HasFailed D.is_honest file.old.journal.sync D.fills_with_zeros (D.may_leave file.new.journal.device) (λ s. IsTrue D.is_honest
         → KeepsConsole D.seen D.may_leave file.new.journal.device file.new.journal.sync file.new.journal.len
         file.new.begun s)
-        session.old.console (lines_of bytes) (W.contents writer.old) (W.contents writer.new) e)) }
+        every session.old.console (lines_of bytes) (W.contents writer.old) (W.contents writer.new) e)) }
     ensures read_fault { IsErrOf result (DurableFault.Run RunFault.Read)
-        → WholeLinesAnswered session.old.console (R.remaining calls.old.reader.now) (R.remaining calls.new.reader.now)
+        → WholeLinesAnswered every session.old.console (R.remaining calls.old.reader.now) (R.remaining calls.new.reader.now)
         (W.contents writer.old) (W.contents writer.new) }
     ensures any_moment { IsTrue D.is_honest
         → LeavesOnly D.moment D.left_since file.old.journal.device file.new.journal.device
-        (LeavesRun file.old.journal.sync D.fills_with_zeros session.old.console (R.remaining calls.old.reader.now)) }
+        (LeavesRun file.old.journal.sync D.fills_with_zeros every session.old.console (R.remaining calls.old.reader.now)) }
 {
     'lines: loop {
         commit_before_read(alloc, session, lines, writer, file)?;
-        if !answer_next(rt, alloc, session, lines, calls, writer, file)? {
+        if !answer_next(rt, alloc, every, session, lines, calls, writer, file)? {
             return session.hand_on(alloc, file, writer);
         }
     }
@@ -234,8 +238,9 @@ fn resumed_session<T: Threads + RandomSource + Sync>(
     options: Options,
 ) -> Result<DurableSession, NoMemory>
     requires options { AreRunOptions options }
-    requires legal { IfSome loaded (λ h. IsLegal h.table h.events.items) }
-    requires at { IfSome loaded (λ h. IsAt h.machine (state h.table h.events.items)) }
+    requires start { IfSome loaded (λ h. MayStart h.table h.checkpoint) }
+    requires legal { IfSome loaded (λ h. IsLegalFrom (start_of h.table h.checkpoint) h.events.items) }
+    requires at { IfSome loaded (λ h. IsAt h.machine (state_from (start_of h.table h.checkpoint) h.events.items)) }
     requires typed { IfSome loaded (λ h. SubmittedAreWellTyped h.events.items) }
     requires fits { IfSome loaded (λ h. length h.events.items ≤ options.max_events) }
     ensures console { IfOk result (λ s. s.console ≡ resumed_console options.max_events loaded) }
@@ -251,16 +256,17 @@ fn resumed_session<T: Threads + RandomSource + Sync>(
 }
 
 /// A run whose session has begun.
-fn run_begun<T: Threads + Sync, R: Read, W: Write, D: Device, L: Ledger>(
+fn run_begun<T: Threads + Sync, R: Read, W: Write, D: Replace + Drop, L: Ledger>(
     rt: &T,
     alloc: Global,
+    every: u32,
     session: &mut DurableSession,
     reader: &mut R,
     writer: &mut W,
     file: &mut HistoryFile<D>,
     blank: Blank,
 ) -> Result<(), DurableFault>
-    requires may_begin { MayBegin session.old.console }
+    requires may_begin { MayBeginRun session.old.console }
     requires held { string_bytes session.old.held ≡ [] }
     requires recorded { session.old.recorded ≡ length (events_of session.old.console) }
     requires kept { IsTrue D.is_honest
@@ -273,23 +279,25 @@ fn run_begun<T: Threads + Sync, R: Read, W: Write, D: Device, L: Ledger>(
     ensures done { OnOk result (IfSome (R.remaining reader.old) (λ bytes. HasFinished (λ s. IsTrue D.is_honest
         → KeepsConsole D.seen D.may_leave file.new.journal.device file.new.journal.sync file.new.journal.len
         file.new.begun s)
-        session.old.console (lines_of bytes) (W.contents writer.old) (W.contents writer.new))) }
+        every session.old.console (lines_of bytes) (W.contents writer.old) (W.contents writer.new))) }
     ensures fault { IfErr result (λ e. IfSome (R.remaining reader.old) (λ bytes.
         HasFailed D.is_honest file.old.journal.sync D.fills_with_zeros (D.may_leave file.new.journal.device) (λ s. IsTrue D.is_honest
         → KeepsConsole D.seen D.may_leave file.new.journal.device file.new.journal.sync file.new.journal.len
         file.new.begun s)
-        session.old.console (lines_of bytes) (W.contents writer.old) (W.contents writer.new) e)) }
+        every session.old.console (lines_of bytes) (W.contents writer.old) (W.contents writer.new) e)) }
     ensures read_fault { IsErrOf result (DurableFault.Run RunFault.Read)
-        → WholeLinesAnswered session.old.console (R.remaining reader.old) (R.remaining reader.new)
+        → WholeLinesAnswered every session.old.console (R.remaining reader.old) (R.remaining reader.new)
         (W.contents writer.old) (W.contents writer.new) }
     ensures any_moment { IsTrue D.is_honest
         → LeavesOnly D.moment D.left_since file.old.journal.device file.new.journal.device
-        (LeavesRun file.old.journal.sync D.fills_with_zeros session.old.console (R.remaining reader.old)) }
+        (LeavesRun file.old.journal.sync D.fills_with_zeros every session.old.console (R.remaining reader.old)) }
 {
     let mut steps = Steps::<L>::new(blank);
     let mut lines = LineReader::new(alloc);
     let mut calls = Calls::new(reader, &mut steps);
-    run_session(rt, alloc, session, &mut lines, &mut calls, writer, file)
+    run_session(
+        rt, alloc, every, session, &mut lines, &mut calls, writer, file,
+    )
 }
 
 /// Does what `stm_run::run` does on a desk whose history is kept in a file: it goes on from the history that was loaded, and writes no
@@ -298,7 +306,10 @@ fn run_begun<T: Threads + Sync, R: Read, W: Write, D: Device, L: Ledger>(
 /// Answers are held until then. They are committed before each call of the reader, at the end, before `history` and `events`, and
 /// as soon as 64 KiB are held. Events are recorded in batches of at most 4,096; an event whose line has more than 1 MiB is
 /// refused as `JournalError::TooLong`. After a fault of the journal the file has to be opened again.
-pub fn run_durable<T: Threads + RandomSource + Sync, R: Read, W: Write, D: Device>(
+///
+/// At a checkpoint a new file takes the place of the old one at once. A line asks for a checkpoint, or one comes by itself after a
+/// line that adds an event, once the history has `checkpoint_every` events.
+pub fn run_durable<T: Threads + RandomSource + Sync, R: Read, W: Write, D: Replace + Drop>(
     rt: &T,
     alloc: Global,
     reader: &mut R,
@@ -309,9 +320,10 @@ pub fn run_durable<T: Threads + RandomSource + Sync, R: Read, W: Write, D: Devic
 ) -> Result<(), DurableFault>
     requires options { AreRunOptions options }
     // As `open_history` returns it.
-    requires legal { IfSome loaded (λ h. IsLegal h.table h.events.items) }
-    requires at { IfSome loaded (λ h. IsAt h.machine (state h.table h.events.items)) }
-    requires lines { IfSome loaded (λ h. HasText h.table h.events.items) }
+    requires start { IfSome loaded (λ h. MayStart h.table h.checkpoint) }
+    requires legal { IfSome loaded (λ h. IsLegalFrom (start_of h.table h.checkpoint) h.events.items) }
+    requires at { IfSome loaded (λ h. IsAt h.machine (state_from (start_of h.table h.checkpoint) h.events.items)) }
+    requires lines { IfSome loaded (λ h. HasText (loaded_start h) h.events.items) }
     requires typed { IfSome loaded (λ h. SubmittedAreWellTyped h.events.items) }
     requires kept { IsTrue D.is_honest → HasLoaded D.seen D.may_leave
         file.old.journal.device file.old.journal.sync file.old.journal.len file.old.begun loaded }
@@ -319,40 +331,41 @@ pub fn run_durable<T: Threads + RandomSource + Sync, R: Read, W: Write, D: Devic
     // The answers to all lines were written.
     ensures answered { OnOk result (IfSome (R.remaining reader.old) (λ input.
         Appends (W.contents writer.old) (W.contents writer.new)
-        (answers_to (resumed_console options.max_events loaded) (lines_of input)))) }
+        (answers_by options.checkpoint_every (resumed_console options.max_events loaded) (lines_of input)))) }
     // After a read fault those to the lines that were whole before.
     ensures read_fault { IsErrOf result (DurableFault.Run RunFault.Read) → IfSome (R.remaining reader.old) (λ input.
         (taken rest : List ℕ) × (input ≡ taken ++ rest) × (R.remaining reader.new ≡ Some rest)
         × Appends (W.contents writer.old) (W.contents writer.new)
-        (answers_to (resumed_console options.max_events loaded) (whole_lines_of taken))) }
+        (answers_by options.checkpoint_every (resumed_console options.max_events loaded) (whole_lines_of taken))) }
     // After any fault a front of the answers was written.
     ensures part { OnErr result (IfSome (R.remaining reader.old) (λ input. (front : List ℕ)
-        × IsPrefixOf front (answers_to (resumed_console options.max_events loaded) (lines_of input))
+        × IsPrefixOf front (answers_by options.checkpoint_every (resumed_console options.max_events loaded) (lines_of input))
         × Appends (W.contents writer.old) (W.contents writer.new) front)) }
     ensures sync { file.new.journal.sync ≡ file.old.journal.sync }
     // At the end the file has exactly the history of all lines.
     ensures kept { IsTrue D.is_honest → OnOk result (IfSome (R.remaining reader.old) (λ input.
         KeepsConsole D.seen D.may_leave file.new.journal.device file.new.journal.sync file.new.journal.len file.new.begun
-        (state_after_lines (resumed_console options.max_events loaded) (lines_of input)))) }
+        (states_after options.checkpoint_every (resumed_console options.max_events loaded) (lines_of input)))) }
     // After any fault but one of the journal it has exactly the history of the lines whose answers were written.
     ensures committed { IsTrue D.is_honest → IsNoJournalFault result → IfSome (R.remaining reader.old) (λ input.
         (written : List ℕ) × Appends (W.contents writer.old) (W.contents writer.new) written
         × HasCommitted D.seen D.may_leave file.new.journal.device file.new.journal.sync file.new.journal.len file.new.begun
-        (resumed_console options.max_events loaded) (lines_of input) written) }
+        options.checkpoint_every (resumed_console options.max_events loaded) (lines_of input) written) }
     // Whatever the result, a crash now leaves a file that covers what was written.
     ensures covered { IsTrue D.is_honest → IfSome (R.remaining reader.old) (λ input.
         (written : List ℕ) × Appends (W.contents writer.old) (W.contents writer.new) written
         × ((c : List ℕ) → D.may_leave file.new.journal.device c
-        → CoversAnswers file.old.journal.sync D.fills_with_zeros (resumed_console options.max_events loaded) (lines_of input) written c)) }
+        → CoversAnswers file.old.journal.sync D.fills_with_zeros options.checkpoint_every (resumed_console options.max_events loaded) (lines_of input) written c)) }
     // A crash at any moment of the run leaves the history from before it, and a front of the events of its lines.
     ensures any_moment { IsTrue D.is_honest → IfSome (R.remaining reader.old) (λ input.
         LeavesOnly D.moment D.left_since file.old.journal.device file.new.journal.device
-        (CoversAnswers file.old.journal.sync D.fills_with_zeros (resumed_console options.max_events loaded) (lines_of input) [])) }
+        (CoversAnswers file.old.journal.sync D.fills_with_zeros options.checkpoint_every (resumed_console options.max_events loaded) (lines_of input) [])) }
 {
     match resumed_session(rt, alloc, loaded, options) {
         Ok(mut session) => run_begun::<T, R, W, D, Brand>(
             rt,
             alloc,
+            options.checkpoint_every,
             &mut session,
             reader,
             writer,

@@ -14,7 +14,7 @@ use Rattle.stm_check.specs.TypedBlock.{Block}
 use Rattle.stm_events.specs.Delivered.{Delivered}
 use Rattle.stm_event_lines.specs.declared.checkpoint.CheckpointHeader.{CheckpointHeader}
 use Rattle.stm_event_lines.specs.declared.checkpoint.WaitingBlock.{WaitingBlock}
-use Rattle.stm_event_lines.specs.CheckpointFields.{checkpoint_header_of, cell_of, waiting_of}
+use Rattle.stm_event_lines.specs.CheckpointFields.{checkpoint_header_of, checkpoint_header_in, cell_of, waiting_of}
 use Rattle.stm_event_lines.specs.CheckpointLines.{checkpoint_format, checkpoint_header_data, checkpoint_header_line, name_data, cell_data, cell_line, waiting_data, waiting_line, FitsName, FitsCell, FitsDelivery, FitsWaiting}
 use Rattle.stm_event_lines.specs.Fields.{write_of, block_of_text}
 use Rattle.stm_event_lines.specs.Fits.{Is32Bit, FitsValue, IsOneLine, BeginsWithBrace}
@@ -126,6 +126,14 @@ pub checkpoint_header_is : (line : List ℕ) (next vars waiting : ℕ) (g : Data
     → checkpoint_header_of g ≡ Some (record { next = next; vars = vars; waiting = waiting })
 unfolding checkpoint_header_line
 checkpoint_header_is line next vars waiting g h i j l some =
+    let same : g ≡ checkpoint_header_data next vars waiting = same_data line (checkpoint_header_data next vars waiting) g (checkpoint_header_reads next vars waiting h i j) l some in
+    rw same (checkpoint_header_back next vars waiting h i j)
+
+-- also where its format is looked at
+pub checkpoint_header_in_is : (line : List ℕ) (next vars waiting : ℕ) (g : Data) → Is32Bit next → Is32Bit vars → Is32Bit waiting → checkpoint_header_line next vars waiting ≡ line → read line ≡ Some g
+    → checkpoint_header_in g ≡ Some (record { next = next; vars = vars; waiting = waiting })
+unfolding checkpoint_header_line
+checkpoint_header_in_is line next vars waiting g h i j l some =
     let same : g ≡ checkpoint_header_data next vars waiting = same_data line (checkpoint_header_data next vars waiting) g (checkpoint_header_reads next vars waiting h i j) l some in
     rw same (checkpoint_header_back next vars waiting h i j)
 

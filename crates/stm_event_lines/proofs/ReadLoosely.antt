@@ -1,14 +1,22 @@
--- A line of an event is read as that event, however loosely lines are read.
+-- A line is read as what it is the line of, however loosely lines are read.
 use Rattle.std.proofs.Common.{◌≡◌, ℕ, List, Option, Some, None, ◌∙◌}
-use Rattle.std.specs.Prelude.{IfOk, Result, Ok, Err}
+use Rattle.std.specs.Prelude.{IfOk, Result, Ok, Err, option_map}
 use Rattle.std.specs.Str.{IsUtf8}
 use Rattle.serde_json.specs.Data.{Data}
 use Rattle.serde_json.specs.Read.{read}
+use Rattle.stm_store.specs.declared.cell.Cell.{Cell}
 use Rattle.stm_store.specs.Tables.{Declared}
+use Rattle.stm_check.specs.TypedBlock.{Block}
+use Rattle.stm_events.specs.Delivered.{Delivered}
 use Rattle.stm_events.specs.declared.event.Event.{Event}
+use Rattle.stm_event_lines.specs.declared.checkpoint.NamedCell.{NamedCell}
+use Rattle.stm_event_lines.specs.declared.checkpoint.WaitingBlock.{WaitingBlock}
+use Rattle.stm_event_lines.specs.CheckpointFields.{cell_of, cell_parts, waiting_of}
+use Rattle.stm_event_lines.specs.CheckpointLines.{cell_line, waiting_line, FitsCell, FitsWaiting}
 use Rattle.stm_event_lines.specs.Fields.{event_of}
 use Rattle.stm_event_lines.specs.Fits.{FitsTable}
 use Rattle.stm_event_lines.specs.Lines.{event_line}
+use Rattle.stm_event_lines.proofs.Checkpoints.{cell_is, waiting_is}
 use Rattle.stm_event_lines.proofs.ReadsBack.{event_is, event_unread}
 
 pub loose_same : {E : Type 0} (r : Result (Option Event) E) (table : List Declared) (line : List ℕ) (json : Data) → read line ≡ Some json → IfOk r (λ o. o ≡ event_of table json)
@@ -18,3 +26,14 @@ loose_same (Err e) table line json ok h = tt
 
 pub loose_none : (table : List Declared) (line : List ℕ) (d : Event) (o : Option Event) → (IsUtf8 line → read line ≡ None) → FitsTable table d → event_line d ≡ line → o ≡ Some d
 loose_none table line d o bad f l = absurd (event_unread table line d f l bad)
+
+pub loose_cell_same : {E : Type 0} (r : Result (Option NamedCell) E) (line : List ℕ) (json : Data) → read line ≡ Some json
+    → IfOk r (λ o. (name : Option (List ℕ)) (c : Cell) → FitsCell name c → cell_of json ≡ Some (name, c) → option_map cell_parts o ≡ Some (name, c))
+    → IfOk r (λ o. (name : Option (List ℕ)) (c : Cell) → FitsCell name c → cell_line name c ≡ line → option_map cell_parts o ≡ Some (name, c))
+loose_cell_same (Ok o) line json ok h = λ name c f l. h name c f (cell_is line name c json f l ok)
+loose_cell_same (Err e) line json ok h = tt
+
+pub loose_waiting_same : {E : Type 0} (r : Result (Option WaitingBlock) E) (table : List Declared) (line : List ℕ) (json : Data) → read line ≡ Some json → IfOk r (λ o. o ≡ waiting_of table json)
+    → IfOk r (λ o. (ticket : ℕ) (b : Block) (d : Option Delivered) → FitsWaiting table ticket b d → waiting_line ticket b.text d ≡ line → o ≡ Some (record { ticket = ticket; block = b; delivery = d }))
+loose_waiting_same (Ok o) table line json ok h = λ ticket b d f l. h ∙ waiting_is table line ticket b d json f l ok
+loose_waiting_same (Err e) table line json ok h = tt

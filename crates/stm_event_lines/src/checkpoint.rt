@@ -213,7 +213,8 @@ pub fn delivered_block_text(
     }
 }
 
-fn header_of(json: &Json) -> Option<CheckpointHeader>
+/// What the value says as a first line, whatever its format.
+pub(crate) fn header_of(json: &Json) -> Option<CheckpointHeader>
     ensures value { result ≡ header_meant (view json.now) }
     ensures fits { IfSome result (λ h. Is32Bit h.next × Is32Bit h.vars × Is32Bit h.waiting) }
 {
@@ -317,7 +318,7 @@ fn counted_cell(
 }
 
 /// The variable that the value represents, if it does.
-fn cell_of(alloc: Global, json: &Json) -> Result<Option<NamedCell>, NoMemory>
+pub(crate) fn cell_of(alloc: Global, json: &Json) -> Result<Option<NamedCell>, NoMemory>
     ensures value { IfOk result (λ o. option_map cell_parts o ≡ cell_meant (view json.now)) }
     ensures fits { IfOk result (λ o. IfSome o (λ c. (c.cell.kind.refs ≤ most_refs)
         × FitsValue c.cell.value × (c.cell.count < 2 ^ 64))) }
@@ -332,7 +333,7 @@ fn cell_of(alloc: Global, json: &Json) -> Result<Option<NamedCell>, NoMemory>
 }
 
 /// The name, if there is one.
-fn name_of_cell(cell: &NamedCell) -> Option<&str>
+pub fn name_of_cell(cell: &NamedCell) -> Option<&str>
     ensures { option_map (λ n. n.now) result ≡ option_map string_bytes cell.now.name }
 {
     match &cell.name {
@@ -342,7 +343,7 @@ fn name_of_cell(cell: &NamedCell) -> Option<&str>
 }
 
 /// Whether the name is one, if there is one.
-fn is_fit_name(name: Option<&str>) -> bool
+pub(crate) fn is_fit_name(name: Option<&str>) -> bool
     ensures { IsTrue result ↔ FitsName (option_map (λ n. n.now) name.entry) }
 {
     match name {
@@ -445,7 +446,11 @@ fn block_at(alloc: Global, table: &Table, json: &Json) -> Result<Option<SharedBl
 }
 
 /// The waiting block that the value represents, if it does.
-fn waiting_of(alloc: Global, table: &Table, json: &Json) -> Result<Option<WaitingBlock>, NoMemory>
+pub(crate) fn waiting_of(
+    alloc: Global,
+    table: &Table,
+    json: &Json,
+) -> Result<Option<WaitingBlock>, NoMemory>
     ensures value { IfOk result (λ o. o ≡ waiting_meant table.now (view json.now)) }
     ensures fits { IfOk result (λ o. IfSome o (λ w.
         FitsWaiting table.now w.ticket w.block w.delivery)) }
@@ -467,7 +472,7 @@ fn waiting_of(alloc: Global, table: &Table, json: &Json) -> Result<Option<Waitin
 }
 
 /// The line of a waiting block.
-fn waiting_text(alloc: Global, waiting: &WaitingBlock) -> Result<String, NoMemory>
+pub fn waiting_text(alloc: Global, waiting: &WaitingBlock) -> Result<String, NoMemory>
     ensures { IfOk result (λ s. string_bytes s
         ≡ waiting_line waiting.now.ticket waiting.now.block.text waiting.now.delivery) }
 {

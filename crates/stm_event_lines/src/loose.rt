@@ -1,13 +1,24 @@
 //! Lines read whether or not their JSON is written as it has to be: with blanks, and with keys in another order.
 
-ghost use Rattle.std.specs.Prelude.{◌≡◌, ◌≤◌, Some, IfOk, IfSome};
+ghost use Rattle.std.specs.Prelude.{◌≡◌, ◌≤◌, ◌<◌, ◌^◌, ℕ, List, Option, Some, IfOk, IfSome, option_map, string_bytes};
+ghost use Rattle.serde_json.specs.View.{view};
+ghost use Rattle.stm_check.specs.TypedBlock.{Block};
 ghost use Rattle.stm_events.specs.declared.event.Event.{Event as AnyEvent};
+ghost use Rattle.stm_events.specs.Delivered.{Delivered};
+ghost use Rattle.stm_store.specs.declared.cell.Cell.{Cell as AnyCell};
 ghost use Rattle.stm_store.specs.Tables.{Declared};
 ghost use Rattle.stm_terms.specs.Limits.{most_refs};
-ghost use Rattle.stm_event_lines.specs.Fits.{FitsTable, FitsValue, FitsVariable};
+ghost use Rattle.stm_event_lines.specs.CheckpointFields.{cell_of as cell_meant, cell_parts, checkpoint_header_in};
+ghost use Rattle.stm_event_lines.specs.CheckpointLines.{checkpoint_header_line, cell_line, waiting_line, FitsCell, FitsWaiting};
+ghost use Rattle.stm_event_lines.specs.Fits.{Is32Bit, FitsTable, FitsValue, FitsVariable};
 ghost use Rattle.stm_event_lines.specs.Lines.{IsFormat, event_line};
 ghost use Rattle.stm_event_lines.specs.Variables.{declared};
 
+use crate::checkpoint::{
+    CHECKPOINT_FORMAT, CheckpointHeader, NamedCell, WaitingBlock, cell_of,
+    header_of as checkpoint_header_of, is_fit_name, name_of_cell, waiting_of,
+};
+use crate::fields::number_at;
 use crate::formats::is_format;
 use crate::read::{Header, LineError, event_of, header_of, json_of, variable_of};
 use crate::variable::Variable;
@@ -85,6 +96,96 @@ pub fn loose_variable(alloc: Global, line: &[u8]) -> Result<Option<Variable>, No
 {
     match json_of(alloc, line) {
         Ok(json) => variable_read(alloc, &json),
+        Err(LineError::Bad) => Ok(None),
+        Err(LineError::NoMemory) => Err(NoMemory),
+    }
+}
+
+/// The first line of a checkpoint that a value represents, if its format is that of checkpoints.
+fn checkpoint_header_read(json: &Json) -> Option<CheckpointHeader>
+    ensures value { result ≡ checkpoint_header_in (view json.now) }
+    ensures fits { IfSome result (λ h. Is32Bit h.next × Is32Bit h.vars × Is32Bit h.waiting) }
+{
+    let format = number_at(json, "format")?;
+    if format == CHECKPOINT_FORMAT {
+        checkpoint_header_of(json)
+    } else {
+        None
+    }
+}
+
+/// The first line of a checkpoint that a line can be read as.
+pub fn loose_checkpoint_header(
+    alloc: Global,
+    line: &[u8],
+) -> Result<Option<CheckpointHeader>, NoMemory>
+    ensures fits { IfOk result (λ o.
+        IfSome o (λ h. Is32Bit h.next × Is32Bit h.vars × Is32Bit h.waiting)) }
+    ensures same { IfOk result (λ o. (next vars waiting : ℕ) → Is32Bit next → Is32Bit vars → Is32Bit waiting
+        → checkpoint_header_line next vars waiting ≡ line.now
+        → o ≡ Some (record { next = next; vars = vars; waiting = waiting })) }
+{
+    match json_of(alloc, line) {
+        Ok(json) => Ok(checkpoint_header_read(&json)),
+        Err(LineError::Bad) => Ok(None),
+        Err(LineError::NoMemory) => Err(NoMemory),
+    }
+}
+
+/// The variable of the store, if it has a name or none.
+fn named_cell(cell: NamedCell) -> Option<NamedCell>
+    requires { (cell.cell.kind.refs ≤ most_refs) × FitsValue cell.cell.value × (cell.cell.count < 2 ^ 64) }
+    ensures fits { IfSome result (λ c. FitsCell (option_map string_bytes c.name) c.cell) }
+    ensures same { FitsCell (option_map string_bytes cell.name) cell.cell → result ≡ Some cell }
+{
+    if is_fit_name(name_of_cell(&cell)) {
+        Some(cell)
+    } else {
+        None
+    }
+}
+
+/// The variable of the store that a value represents, if its name is one or it has none.
+fn cell_read(alloc: Global, json: &Json) -> Result<Option<NamedCell>, NoMemory>
+    ensures fits { IfOk result (λ o.
+        IfSome o (λ c. FitsCell (option_map string_bytes c.name) c.cell)) }
+    ensures same { IfOk result (λ o. (name : Option (List ℕ)) (c : AnyCell) → FitsCell name c
+        → cell_meant (view json.now) ≡ Some (name, c) → option_map cell_parts o ≡ Some (name, c)) }
+{
+    match cell_of(alloc, json)? {
+        Some(cell) => Ok(named_cell(cell)),
+        None => Ok(None),
+    }
+}
+
+/// The variable of the store that a line can be read as.
+pub fn loose_cell(alloc: Global, line: &[u8]) -> Result<Option<NamedCell>, NoMemory>
+    ensures fits { IfOk result (λ o.
+        IfSome o (λ c. FitsCell (option_map string_bytes c.name) c.cell)) }
+    ensures same { IfOk result (λ o. (name : Option (List ℕ)) (c : AnyCell) → FitsCell name c
+        → cell_line name c ≡ line.now → option_map cell_parts o ≡ Some (name, c)) }
+{
+    match json_of(alloc, line) {
+        Ok(json) => cell_read(alloc, &json),
+        Err(LineError::Bad) => Ok(None),
+        Err(LineError::NoMemory) => Err(NoMemory),
+    }
+}
+
+/// The waiting block over the table that a line can be read as.
+pub fn loose_waiting(
+    alloc: Global,
+    table: &Table,
+    line: &[u8],
+) -> Result<Option<WaitingBlock>, NoMemory>
+    ensures fits { IfOk result (λ o. IfSome o (λ w.
+        FitsWaiting table.now w.ticket w.block w.delivery)) }
+    ensures same { IfOk result (λ o. (ticket : ℕ) (block : Block) (d : Option Delivered)
+        → FitsWaiting table.now ticket block d → waiting_line ticket block.text d ≡ line.now
+        → o ≡ Some (record { ticket = ticket; block = block; delivery = d })) }
+{
+    match json_of(alloc, line) {
+        Ok(json) => waiting_of(alloc, table, &json),
         Err(LineError::Bad) => Ok(None),
         Err(LineError::NoMemory) => Err(NoMemory),
     }

@@ -6,7 +6,6 @@ use Rattle.stm_terms.specs.declared.values.Value.{Value}
 use Rattle.stm_terms.specs.declared.verdicts.Verdict.{Verdict}
 use Rattle.stm_terms.specs.UnlessNoMemory.{RefusedAs}
 use Rattle.stm_store.specs.Cells.{plains}
-use Rattle.stm_store.specs.Tables.{Declared}
 use Rattle.stm_check.specs.TypedBlock.{Block}
 use Rattle.stm_eval.specs.declared.message.Evaluated.{Evaluated}
 use Rattle.stm_eval.specs.EvaluatedFields.{message_ticket, message_block, message_reads, message_verdict}
@@ -15,44 +14,51 @@ use Rattle.stm_events.specs.declared.errors.DeliverError.TheVariants as deliver
 use Rattle.stm_events.specs.declared.event.Event.{Event}
 use Rattle.stm_events.specs.declared.event.What.{What}
 use Rattle.stm_events.specs.declared.event.What.TheVariants.{Submitted, Installed, Finished, Cancelled}
-use Rattle.stm_events.specs.declared.staleness.StalenessRule.{StalenessRule}
 use Rattle.stm_events.specs.Refusals.{differing, install_first, DeliveryRefusedAt, DeliveryRefusedAs}
-use Rattle.stm_events.specs.SlowDesk.{Waiter, Slow, under, verdict_on, find_waiter, without_waiter, stale_after, waking, MayInstall, MayFinish, Allows, AllowsEvent, initial_state, state_by, IsLegalBy, max_events, max_clients, after}
-use Rattle.stm_events.proofs.Folds.{legal_split, state-push, is_legal-push}
+use Rattle.stm_events.specs.SlowDesk.{Waiter, Slow, under, verdict_on, find_waiter, without_waiter, stale_after, waking, MayInstall, MayFinish, Allows, AllowsEvent, max_events, max_clients, after}
+use Rattle.stm_events.specs.States.{IsLegalFrom}
+use Rattle.stm_events.proofs.Folds.{legal_split, state-push, legal-push}
 use Rattle.stm_events.proofs.Rising.{next_le}
+use Rattle.stm_machine.specs.Checkpoints.{max_next}
 use Rattle.stm_machine.specs.JobsHandedOut.{IsPresent, block_at}
 use Rattle.stm_machine.specs.Machine.{Parts, IsAt, HasTicketLeft, MovesBy, event}
 use Rattle.stm_machine.specs.Plans.{IsPlan}
 use Rattle.stm_history.specs.declared.files.replayer.Replayer.{Replayer}
 use Rattle.stm_history.specs.Following.{Follows}
+use Rattle.stm_history.specs.Starts.{Start, first_state, state_after_start}
 
 -- ---- a history with one event more
-module _ (rule : StalenessRule) (table : List Declared) (history : List Event) (client : ℕ) (what : What) (a : IsLegalBy rule table (history ++ event client what ∷ [])) where
+module _ (start : Start) (history : List Event) (client : ℕ) (what : What) (a : IsLegalFrom (first_state start) (history ++ event client what ∷ [])) where
   -- the slow desk allows it
-  pub allowed : Allows (state_by rule table history) what
-  allowed = (legal_split (initial_state rule table) history (event client what) a.each).allowed.what
+  pub allowed : Allows (state_after_start start history) what
+  allowed = (legal_split (first_state start) history (event client what) a.each).allowed.what
 
   pub client_low : client < max_clients
-  client_low = (legal_split (initial_state rule table) history (event client what) a.each).allowed.client
+  client_low = (legal_split (first_state start) history (event client what) a.each).allowed.client
 
   pub before_full : length history < max_events
   before_full = let l = length-append history (event client what ∷ []) in omega (arith, a.few, l)
 
 -- it is legal where the event is allowed and there is room for it
-pub legal_next : (rule : StalenessRule) (table : List Declared) (history : List Event) (client : ℕ) (what : What) → IsLegalBy rule table history → length history < max_events → client < max_clients → Allows (state_by rule table history) what
-    → IsLegalBy rule table (history ++ event client what ∷ [])
-legal_next rule table history client what legal room low a = is_legal-push rule table history (event client what) legal (omega arith) (record { client = low; what = a })
+pub legal_next : (start : Start) (history : List Event) (client : ℕ) (what : What) → IsLegalFrom (first_state start) history → length history < max_events → client < max_clients → Allows (state_after_start start history) what
+    → IsLegalFrom (first_state start) (history ++ event client what ∷ [])
+legal_next start history client what legal room low a = record {
+  each = legal-push (first_state start) history (event client what) legal.each (record { client = low; what = a });
+  few = omega (arith, length-append history (event client what ∷ []));
+}
 
-pub ticket_left : (rule : StalenessRule) (table : List Declared) (history : List Event) → IsLegalBy rule table history → HasTicketLeft (state_by rule table history)
-ticket_left rule table history legal = let few = legal.few in let low = next_le (initial_state rule table) history in omega arith
+-- a ticket is left where there is room for an event
+pub ticket_left : (start : Start) (history : List Event) → (first_state start).next ≤ max_next → length history < max_events → HasTicketLeft (state_after_start start history)
+ticket_left start history tickets room = let low = next_le (first_state start) history in omega arith
 
 -- what went through a history went on by an allowed event
-pub follows_next : (rule : StalenessRule) (table : List Declared) (history : List Event) (e : Event) (old new : Replayer) → Follows rule table history old → length history < max_events → e.client < max_clients
-    → Allows (state_by rule table history) e.what → IsAt new.machine (after (state_by rule table history) e.what) → new.events ≡ old.events + 1 → IfSome new.copy (λ cells. cells ≡ plains new.machine.store)
-    → ((es : List Event) → IfSome old.kept (λ events. events.items ≡ es) → IfSome new.kept (λ events. events.items ≡ es ++ e ∷ [])) → Follows rule table (history ++ e ∷ []) new
-follows_next rule table history e old new f room low a at counted copied kept = record {
-  legal = legal_next rule table history e.client e.what f.legal room low a;
-  at = subst (IsAt new.machine) (sym (state-push (initial_state rule table) history e)) at;
+pub follows_next : (start : Start) (history : List Event) (e : Event) (old new : Replayer) → Follows start history old → length history < max_events → e.client < max_clients
+    → Allows (state_after_start start history) e.what → IsAt new.machine (after (state_after_start start history) e.what) → new.events ≡ old.events + 1 → IfSome new.copy (λ cells. cells ≡ plains new.machine.store)
+    → ((es : List Event) → IfSome old.kept (λ events. events.items ≡ es) → IfSome new.kept (λ events. events.items ≡ es ++ e ∷ [])) → Follows start (history ++ e ∷ []) new
+follows_next start history e old new f room low a at counted copied kept = record {
+  legal = legal_next start history e.client e.what f.legal room low a;
+  at = subst (IsAt new.machine) (sym (state-push (first_state start) history e)) at;
+  tickets = f.tickets;
   counted = (let before = f.counted in let longer = length-append history (e ∷ []) in omega arith);
   copied = copied;
   kept = kept history f.kept;

@@ -5,7 +5,8 @@ use Rattle.stm_events.specs.declared.event.Event.{Event}
 use Rattle.stm_events.specs.declared.event.What.{What}
 use Rattle.stm_events.specs.declared.event.What.TheVariants.{Submitted, Installed, Finished, Cancelled}
 use Rattle.serde_json.specs.Written.{compact_text}
-use Rattle.stm_history.specs.FileLaws.{LinesBeginWithBraces}
+use Rattle.stm_event_lines.proofs.Checkpoints.{cell_brace, cell_one_line, checkpoint_header_brace, checkpoint_header_one_line, waiting_brace, waiting_one_line}
+use Rattle.stm_history.specs.FileLaws.{CheckpointsAreLines, CheckpointsBeginWithBraces, LinesBeginWithBraces}
 use Rattle.stm_event_lines.specs.Fits.{BeginsWithBrace}
 use Rattle.stm_event_lines.specs.Lines.{event_line, header_line, variable_line, what_data}
 
@@ -29,3 +30,9 @@ variable_brace d = (_, refl)
 
 pub lines_begin_with_braces : LinesBeginWithBraces
 lines_begin_with_braces = (header_brace, variable_brace, event_brace)
+
+pub checkpoints_begin_with_braces : CheckpointsBeginWithBraces
+checkpoints_begin_with_braces = (checkpoint_header_brace, cell_brace, waiting_brace)
+
+pub checkpoints_are_lines : CheckpointsAreLines
+checkpoints_are_lines = record { headers = checkpoint_header_one_line; cells = cell_one_line; blocks = waiting_one_line }

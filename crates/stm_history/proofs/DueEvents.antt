@@ -6,7 +6,6 @@ use Rattle.stm_terms.specs.declared.values.Value.{Value}
 use Rattle.stm_terms.specs.declared.verdicts.Verdict.{Verdict}
 use Rattle.stm_terms.specs.UnlessNoMemory.{RefusedAs}
 use Rattle.stm_store.specs.declared.cell.Cell.{Cell}
-use Rattle.stm_store.specs.Tables.{Declared}
 use Rattle.stm_check.specs.TypedBlock.{Block}
 use Rattle.stm_eval.specs.declared.message.Evaluated.{Evaluated}
 use Rattle.stm_eval.specs.EvaluatedFields.{message_ticket, message_block, message_reads}
@@ -21,9 +20,9 @@ use Rattle.stm_events.specs.declared.errors.SubmitError.TheVariants as submit
 use Rattle.stm_events.specs.declared.event.Event.{Event}
 use Rattle.stm_events.specs.declared.event.What.{What}
 use Rattle.stm_events.specs.declared.event.What.TheVariants.{Submitted, Installed, Finished, Cancelled}
-use Rattle.stm_events.specs.declared.staleness.StalenessRule.{StalenessRule}
 use Rattle.stm_events.specs.Refusals.{missing, submit_first, submit_refused, cancel_first, cancel_refused, finish_first, finish_refused, differing, overtaken_first, install_first, DeliveryRefusedAt, DeliveryRefusedAs, blocks_there, overflows}
-use Rattle.stm_events.specs.SlowDesk.{Waiter, Slow, Allows, IsLegalBy, under, verdict_on, is_new, is_current, find_waiter, max_clients, max_events, max_waiting, state_by}
+use Rattle.stm_events.specs.SlowDesk.{Waiter, Slow, Allows, under, verdict_on, is_new, is_current, find_waiter, max_clients, max_events, max_waiting}
+use Rattle.stm_events.specs.States.{IsLegalFrom}
 use Rattle.stm_machine.specs.JobsHandedOut.{IsPresent, block_at}
 use Rattle.stm_machine.specs.Machine.{IsAt, MayDeliver}
 use Rattle.stm_history.specs.declared.files.explanation.CallRefusal.{CallRefusal}
@@ -34,25 +33,26 @@ use Rattle.stm_history.specs.declared.files.replayer.Replayer.{Replayer}
 use Rattle.stm_history.specs.Expecting.{IsDueOn, IsDueAfter}
 use Rattle.stm_history.specs.Explanation.{deliver_first, deliver_refused, is_history_full}
 use Rattle.stm_history.specs.Following.{Follows}
+use Rattle.stm_history.specs.Starts.{Start, first_state, state_after_start}
 use Rattle.stm_history.proofs.ExpectedEvents.{due_by}
 use Rattle.stm_history.proofs.AllowedEvents.{legal_next, refused_for}
 
 -- ---- after a history
-has_room : (history : List Event) → is_history_full history ≡ false → length history < max_events
+pub has_room : (history : List Event) → is_history_full history ≡ false → length history < max_events
 has_room history e = grind (arith, nat_tests)
 
-due_after : (rule : StalenessRule) (table : List Declared) (history : List Event) (e : Event) (full : Bool) (x : Expectation) → IsLegalBy rule table history → e.client < max_clients → full ≡ is_history_full history
-    → IsDueOn (state_by rule table history) full e.what x → IsDueAfter rule table history e x
-due_after rule table history e full (Due what) legal low f d = record {
+due_after : (start : Start) (history : List Event) (e : Event) (full : Bool) (x : Expectation) → IsLegalFrom (first_state start) history → e.client < max_clients → full ≡ is_history_full history
+    → IsDueOn (state_after_start start history) full e.what x → IsDueAfter start history e x
+due_after start history e full (Due what) legal low f d = record {
   same = d.1;
-  expected = due_by (state_by rule table history) e.what what d.2 d.1;
-  legal = legal_next rule table history e.client what legal (has_room history (sym f ∙ d.0)) low d.2;
+  expected = due_by (state_after_start start history) e.what what d.2 d.1;
+  legal = legal_next start history e.client what legal (has_room history (sym f ∙ d.0)) low d.2;
 }
-due_after rule table history e full (Refuses r) legal low f d = subst (λ (b : Bool). IsDueOn (state_by rule table history) b e.what (Refuses r)) f d
+due_after start history e full (Refuses r) legal low f d = subst (λ (b : Bool). IsDueOn (state_after_start start history) b e.what (Refuses r)) f d
 
 pub expect_due : {E : Type 0} (r : Result Expectation E) (s : Replayer) (full : Bool) (e : Event) → e.client < max_clients → full ≡ nat_le max_events s.events
-    → IfOk r (λ x. (z : Slow) → IsAt s.machine z → IsDueOn z full e.what x) → IfOk r (λ x. (R : StalenessRule) (T : List Declared) (H : List Event) → Follows R T H s → IsDueAfter R T H e x)
-expect_due (Ok x) s full e low f h = λ R T H g. due_after R T H e full x g.legal low (f ∙ ap (nat_le max_events) g.counted) (h (state_by R T H) g.at)
+    → IfOk r (λ x. (z : Slow) → IsAt s.machine z → IsDueOn z full e.what x) → IfOk r (λ x. (S : Start) (H : List Event) → Follows S H s → IsDueAfter S H e x)
+expect_due (Ok x) s full e low f h = λ S H g. due_after S H e full x g.legal low (f ∙ ap (nat_le max_events) g.counted) (h (state_after_start S H) g.at)
 expect_due (Err x) s full e low f h = tt
 
 -- ---- refusals, if the history may be full: what is refused otherwise is refused for the same reason

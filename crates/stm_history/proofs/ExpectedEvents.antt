@@ -4,17 +4,16 @@ use Rattle.std.specs.Prelude.{IsSomeAnd, nat_le, option_map, option_and_then}
 use Rattle.std.proofs.lemmas.Bool.Decides.{nat_tests}
 use Rattle.stm_terms.specs.declared.verdicts.Verdict.{Verdict}
 use Rattle.stm_store.specs.declared.cell.Cell.{Cell}
-use Rattle.stm_store.specs.Tables.{Declared}
 use Rattle.stm_check.specs.TypedBlock.{Block}
 use Rattle.stm_events.specs.declared.event.Event.{Event}
 use Rattle.stm_events.specs.declared.event.What.{What}
 use Rattle.stm_events.specs.declared.event.What.TheVariants.{Submitted, Installed, Finished, Cancelled}
-use Rattle.stm_events.specs.declared.staleness.StalenessRule.{StalenessRule}
 use Rattle.stm_events.specs.Refusals.{submit_refused, cancel_refused, finish_refused}
-use Rattle.stm_events.specs.SlowDesk.{Waiter, Slow, Allows, MayInstall, MayFinish, find_waiter, max_events, stale_after, state_by, verdict_on, waking, without_waiter}
+use Rattle.stm_events.specs.SlowDesk.{Waiter, Slow, Allows, MayInstall, MayFinish, find_waiter, max_events, stale_after, verdict_on, waking, without_waiter}
 use Rattle.stm_machine.specs.Machine.{event}
 use Rattle.stm_history.specs.declared.files.explanation.CallRefusal.{CallRefusal}
 use Rattle.stm_history.specs.declared.files.explanation.CallRefusal.TheVariants.{Submission, Delivery, Finish, Cancellation}
+use Rattle.stm_history.specs.Starts.{state_after_start}
 use Rattle.stm_history.specs.Explanation.{IsSameCall, deliver_first, deliver_refused, expected_what, finish_with, is_history_full, present_verdict, call_refusal, OneEventOfACall, RefusedAreIllegal}
 use Rattle.stm_history.proofs.AllowedIsNotRefused.{submit_not_refused, cancel_not_refused, finish_not_refused}
 use Rattle.stm_history.proofs.AllowedEvents.{allowed, before_full}
@@ -99,9 +98,9 @@ pub room_left : (history : List Event) → length history < max_events → is_hi
 room_left history h = grind (arith, nat_tests)
 
 pub refused_are_illegal : RefusedAreIllegal
-refused_are_illegal rule table history client a b r refused same legal =
-    let s : Slow = state_by rule table history in
-    let room : is_history_full history ≡ false = room_left history (before_full rule table history client b legal) in
-    let none : call_refusal s false b ≡ None = none_refused s b (allowed rule table history client b legal) in
+refused_are_illegal start history client a b r refused same legal =
+    let s : Slow = state_after_start start history in
+    let room : is_history_full history ≡ false = room_left history (before_full start history client b legal) in
+    let none : call_refusal s false b ≡ None = none_refused s b (allowed start history client b legal) in
     let some : call_refusal s false b ≡ Some r = ap (λ (x : Bool). call_refusal s x b) (sym room) ∙ sym (same_refused s (is_history_full history) a b same) ∙ refused in
     cc

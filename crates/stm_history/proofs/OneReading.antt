@@ -1,16 +1,34 @@
 -- Two readings of the same bytes are one.
-use Rattle.std.proofs.Common.{◌≡◌, ℕ, ◌≤◌, List, [], ◌∷◌, ◌++◌, length, refl, sym, ap, ◌∙◌, subst, arith, append_assoc, length-append}
+use Rattle.std.proofs.Common.{◌≡◌, ℕ, ◌≤◌, List, [], ◌∷◌, ◌++◌, length, Option, Some, None, refl, sym, ap, ◌∙◌, subst, arith, append_assoc, length-append, IsTrue, Bool, false}
+use Rattle.std.proofs.lemmas.List.{length-map}
+use Rattle.std.specs.Prelude.{option_map}
+use Rattle.stm_terms.specs.Names.{is_name_text}
+use Rattle.stm_store.specs.declared.cell.Cell.{Cell}
+use Rattle.stm_store.specs.Cells.{plain}
 use Rattle.stm_store.specs.Tables.{Declared}
+use Rattle.stm_check.specs.TypedBlock.{Block}
+use Rattle.stm_events.specs.Delivered.{Delivered}
 use Rattle.stm_events.specs.declared.event.Event.{Event}
-use Rattle.stm_events.specs.SlowDesk.{IsLegalBy, LegalFrom, Slow, max_cells, max_events, initial_state, after}
-use Rattle.stm_event_lines.specs.Fits.{FitsTable, FitsFormat}
-use Rattle.stm_event_lines.specs.Lines.{IsFormat, rule_of, event_line, header_line, variable_line}
+use Rattle.stm_events.specs.SlowDesk.{LegalFrom, Slow, max_cells, max_events, after}
+use Rattle.stm_events.specs.States.{IsLegalFrom}
+use Rattle.stm_waiting.specs.declared.waiting.Held.{Held}
+use Rattle.stm_machine.specs.declared.checkpoint.CheckpointBlock.{CheckpointBlock}
+use Rattle.stm_machine.specs.Checkpoints.{CheckpointView, AreCheckpointBlocks, IsCheckpoint, IsRightDelivery}
+use Rattle.stm_event_lines.specs.CheckpointLines.{FitsCell, FitsWaiting, cell_line, checkpoint_header_line}
+use Rattle.stm_event_lines.specs.Fits.{FitsTable, FitsFormat, Is32Bit}
+use Rattle.stm_event_lines.specs.Lines.{IsFormat, event_line, header_line, variable_line}
+use Rattle.stm_event_lines.proofs.Checkpoints.{cell_one_line, cell_same, checkpoint_header_new, checkpoint_header_one_line, checkpoint_header_same, waiting_one_line, waiting_same}
 use Rattle.stm_event_lines.proofs.ReadsBack.{event_one_line, header_one_line, variable_one_line, header_same, variable_same, event_same}
 use Rattle.stm_history.specs.declared.files.fault.HistoryFault.TheVariants.{BadHeader}
-use Rattle.stm_history.specs.HistoryText.{head_text, history_text, variable_lines, event_lines}
-use Rattle.stm_history.specs.Judgement.{IsShort, AreVariables, AreVariablesFrom, AreEvents, BeginsWithHistory, NoEventNext, IsIllegalBy, ReportsFault, numbers_by}
+use Rattle.stm_history.specs.Checking.{AreFirstCells}
+use Rattle.stm_history.specs.HistoryText.{block_line, block_lines, cell_lines, cells_text, checkpoint_text, event_lines, head_text, history_text, start_text, text_before, variable_lines}
+use Rattle.stm_history.specs.Judgement.{IsShort, AreVariables, AreVariablesFrom, AreEvents, BeginsWithHistory, FitBlocks, FitCells, IsBefore, IsReadable, IsStart, NoEventNext, IsIllegalFrom, ReportsFault, numbers_from}
 use Rattle.stm_history.specs.FileLaws.{NumbersAreFixed, TextsAreOfOneHistory}
+use Rattle.stm_history.specs.Starts.{Start, delivery_of_block, first_state}
+use Rattle.stm_history.proofs.AlikeTables.{AreAlike}
 use Rattle.stm_history.proofs.CutsAtLineFeeds.{IsCut, cut_unique, no_feed}
+use Rattle.stm_history.proofs.DefaultedTables.{same_defaults}
+use Rattle.stm_history.proofs.StartTypes.{types_of_start}
 use Rattle.stm_history.proofs.WrittenIsTaken.{few_variables}
 
 -- ---- the formats and the tables
@@ -34,18 +52,219 @@ pub record IsOneHead (p q : ℕ) (xs ys : List Declared) (a b : List ℕ) : Type
   pub formats : p ≡ q
   pub variables : IsOneTable xs ys a b
 
-one_head : (p q : ℕ) (T U : List Declared) (H K : List Event) (a b : List ℕ) → IsFormat p → IsFormat q → AreVariables T → AreVariables U → history_text p T H ++ a ≡ history_text q U K ++ b
-    → IsOneHead p q T U (event_lines H ++ a) (event_lines K ++ b)
-one_head p q T U H K a b i j f g e =
-    let flat : (n : ℕ) (V : List Declared) (J : List Event) (r : List ℕ) → history_text n V J ++ r ≡ header_line n (length V) ++ 10 ∷ (variable_lines V ++ (event_lines J ++ r)) = λ n V J r.
-    ap (λ x. x ++ r) (append_assoc (header_line n (length V)) (10 ∷ variable_lines V) (event_lines J)) ∙ append_assoc (header_line n (length V)) (10 ∷ (variable_lines V ++ event_lines J)) r
-    ∙ ap (λ x. header_line n (length V) ++ 10 ∷ x) (append_assoc (variable_lines V) (event_lines J) r) in
+one_head : (p q : ℕ) (T U : List Declared) (a b : List ℕ) → IsFormat p → IsFormat q → AreVariables T → AreVariables U → head_text p (length T) T ++ a ≡ head_text q (length U) U ++ b
+    → IsOneHead p q T U a b
+one_head p q T U a b i j f g e =
     let few : length T ≤ max_cells = few_variables T f in
     let many : length U ≤ max_cells = few_variables U g in
-    let c = cut_unique (header_line p (length T)) _ (header_line q (length U)) _ (no_feed _ (header_one_line p (length T) i (omega (arith, few)))) (no_feed _ (header_one_line q (length U) j (omega (arith, many))))
-    (sym (flat p T H a) ∙ e ∙ flat q U K b) in
+    let c = cut_unique (header_line p (length T)) (variable_lines T ++ a) (header_line q (length U)) (variable_lines U ++ b)
+    (no_feed _ (header_one_line p (length T) i (omega (arith, few)))) (no_feed _ (header_one_line q (length U) j (omega (arith, many))))
+    (sym (append_assoc (header_line p (length T)) (10 ∷ variable_lines T) a) ∙ e ∙ append_assoc (header_line q (length U)) (10 ∷ variable_lines U) b) in
     let same : (p ≡ q) × (length T ≡ length U) = header_same p q (length T) (length U) i j (omega (arith, few)) (omega (arith, many)) c.line in
-    record { formats = same.0; variables = tables [] T U _ _ f g same.1 c.rest }
+    record { formats = same.0; variables = tables [] T U a b f g same.1 c.rest }
+
+-- ---- the variables of a checkpoint
+-- each name is one
+abbrev pub AreNames : List Declared → Type 0
+AreNames [] = Unit {0}
+AreNames (d ∷ ds) = IsTrue (is_name_text d.name) × AreNames ds
+
+pub names_from : (prior ds : List Declared) → AreVariablesFrom prior ds → AreNames ds
+names_from prior [] a = tt
+names_from prior (d ∷ ds) a = let fits = (a.0).fits in (fits.0, names_from (prior ++ d ∷ []) ds a.1)
+
+pub named_fits : (d : Declared) (c : Cell) → IsTrue (is_name_text d.name) → FitsCell None c → FitsCell (Some d.name) c
+named_fits d c n f = (n, f.1, f.2, f.3)
+
+pub record AreOneCells (T U : List Declared) (cs ds : List Cell) (a b : List ℕ) : Type 0 where
+  pub cells : cs ≡ ds
+  pub tables : AreAlike T U
+  pub rest : a ≡ b
+
+pub cells : (T U : List Declared) (cs ds : List Cell) (a b : List ℕ) → AreNames T → AreNames U → AreFirstCells T cs → AreFirstCells U ds → FitCells cs → FitCells ds → length cs ≡ length ds
+    → cell_lines T cs ++ a ≡ cell_lines U ds ++ b → AreOneCells T U cs ds a b
+cells [] [] [] [] a b m n h k f g l e = record { cells = refl; tables = tt; rest = e }
+cells (x ∷ T) U [] [] a b m n h k f g l e = absurd h
+cells [] (y ∷ U) [] [] a b m n h k f g l e = absurd k
+cells T U [] (d ∷ ds) a b m n h k f g l e = absurd (omega (arith, l))
+cells T U (c ∷ cs) [] a b m n h k f g l e = absurd (omega (arith, l))
+cells [] [] (c ∷ cs) (d ∷ ds) a b m n h k f g l e =
+    let cut = cut_unique (cell_line None c) (cell_lines [] cs ++ a) (cell_line None d) (cell_lines [] ds ++ b) (no_feed _ (cell_one_line None c f.0)) (no_feed _ (cell_one_line None d g.0))
+    (sym (append_assoc (cell_line None c) (10 ∷ cell_lines [] cs) a) ∙ e ∙ append_assoc (cell_line None d) (10 ∷ cell_lines [] ds) b) in
+    let same = cell_same None None c d f.0 g.0 cut.line in
+    let first : c ≡ d = same.1 in
+    let r = cells [] [] cs ds a b tt tt tt tt f.1 g.1 (omega (arith, l)) cut.rest in
+    let later : cs ≡ ds = r.cells in
+    record { cells = λ i. first i ∷ later i; tables = tt; rest = r.rest }
+cells (x ∷ T) [] (c ∷ cs) (d ∷ ds) a b m n h k f g l e =
+    let named = named_fits x c m.0 f.0 in
+    let cut = cut_unique (cell_line (Some x.name) c) (cell_lines T cs ++ a) (cell_line None d) (cell_lines [] ds ++ b) (no_feed _ (cell_one_line (Some x.name) c named)) (no_feed _ (cell_one_line None d g.0))
+    (sym (append_assoc (cell_line (Some x.name) c) (10 ∷ cell_lines T cs) a) ∙ e ∙ append_assoc (cell_line None d) (10 ∷ cell_lines [] ds) b) in
+    let same = cell_same (Some x.name) None c d named g.0 cut.line in
+    let names : Some x.name ≡ None = same.0 in
+    absurd cc
+cells [] (y ∷ U) (c ∷ cs) (d ∷ ds) a b m n h k f g l e =
+    let named = named_fits y d n.0 g.0 in
+    let cut = cut_unique (cell_line None c) (cell_lines [] cs ++ a) (cell_line (Some y.name) d) (cell_lines U ds ++ b) (no_feed _ (cell_one_line None c f.0)) (no_feed _ (cell_one_line (Some y.name) d named))
+    (sym (append_assoc (cell_line None c) (10 ∷ cell_lines [] cs) a) ∙ e ∙ append_assoc (cell_line (Some y.name) d) (10 ∷ cell_lines U ds) b) in
+    let same = cell_same None (Some y.name) c d f.0 named cut.line in
+    let names : None ≡ Some y.name = same.0 in
+    absurd cc
+cells (x ∷ T) (y ∷ U) (c ∷ cs) (d ∷ ds) a b m n h k f g l e =
+    let fits = named_fits x c m.0 f.0 in
+    let fits' = named_fits y d n.0 g.0 in
+    let cut = cut_unique (cell_line (Some x.name) c) (cell_lines T cs ++ a) (cell_line (Some y.name) d) (cell_lines U ds ++ b) (no_feed _ (cell_one_line (Some x.name) c fits)) (no_feed _ (cell_one_line (Some y.name) d fits'))
+    (sym (append_assoc (cell_line (Some x.name) c) (10 ∷ cell_lines T cs) a) ∙ e ∙ append_assoc (cell_line (Some y.name) d) (10 ∷ cell_lines U ds) b) in
+    let same = cell_same (Some x.name) (Some y.name) c d fits fits' cut.line in
+    let some : Some x.name ≡ Some y.name = same.0 in
+    let names : x.name ≡ y.name = cc in
+    let first : c ≡ d = same.1 in
+    let kinds : x.kind ≡ y.kind = sym h.0 ∙ ap (λ (z : Cell). z.kind) first ∙ k.0 in
+    let r = cells T U cs ds a b m.1 n.1 h.1 k.1 f.1 g.1 (omega (arith, l)) cut.rest in
+    let later : cs ≡ ds = r.cells in
+    record { cells = λ i. first i ∷ later i; tables = (names, kinds, r.tables); rest = r.rest }
+
+-- ---- the waiting blocks of a checkpoint
+-- new blocks are not stale
+abbrev pub AreMarked : List CheckpointBlock → Type 0
+AreMarked [] = Unit {0}
+AreMarked (b ∷ bs) = (b.waiting.held ≡ None → b.stale ≡ false) × AreMarked bs
+
+marked_by : (store : List Cell) (block : Block) (stale : Bool) (held : Option Held) → IsRightDelivery store block stale held → held ≡ None → stale ≡ false
+marked_by store block stale None r e = r
+marked_by store block stale (Some h) r e = absurd cc
+
+pub marked_from : (store : List Cell) (n k : ℕ) (bs : List CheckpointBlock) → AreCheckpointBlocks store n k bs → AreMarked bs
+marked_from store n k [] h = tt
+marked_from store n k (b ∷ bs) h = (marked_by store b.waiting.block b.stale b.waiting.held (h.2).delivery, marked_from store n b.ticket bs h.3)
+
+abbrev brought : Bool → Option Held → Option Delivered
+brought stale held = option_map (λ h. record { reads = h.reads; verdict = h.verdict; stale = stale }) held
+
+same_parts : (t t' : ℕ) (block block' : Block) (held held' : Option Held) (stale stale' : Bool) → t ≡ t' → block ≡ block' → brought stale held ≡ brought stale' held'
+    → (held ≡ None → stale ≡ false) → (held' ≡ None → stale' ≡ false)
+    → ◌≡◌ {A = CheckpointBlock} (record { ticket = t; waiting = record { block = block; held = held }; stale = stale }) (record { ticket = t'; waiting = record { block = block'; held = held' }; stale = stale' })
+same_parts t t' block block' None None stale stale' p q e m n =
+    let z : stale ≡ stale' = m refl ∙ sym (n refl) in
+    λ i. record { ticket = p i; waiting = record { block = q i; held = None }; stale = z i }
+same_parts t t' block block' None (Some h) stale stale' p q e m n = absurd cc
+same_parts t t' block block' (Some h) None stale stale' p q e m n = absurd cc
+same_parts t t' block block' (Some h) (Some k) stale stale' p q e m n =
+    let d : ◌≡◌ {A = Delivered} (record { reads = h.reads; verdict = h.verdict; stale = stale }) (record { reads = k.reads; verdict = k.verdict; stale = stale' }) = cc in
+    let r = ap (λ (x : Delivered). x.reads) d in
+    let v = ap (λ (x : Delivered). x.verdict) d in
+    let z = ap (λ (x : Delivered). x.stale) d in
+    λ i. record { ticket = p i; waiting = record { block = q i; held = Some (record { reads = r i; verdict = v i }) }; stale = z i }
+
+pub same_block : (T : List Declared) (b c : CheckpointBlock) → FitsWaiting T b.ticket b.waiting.block (delivery_of_block b) → FitsWaiting T c.ticket c.waiting.block (delivery_of_block c)
+    → (b.waiting.held ≡ None → b.stale ≡ false) → (c.waiting.held ≡ None → c.stale ≡ false) → block_line b ≡ block_line c → b ≡ c
+same_block T b c f g m n l =
+    let s = waiting_same T b.ticket c.ticket b.waiting.block c.waiting.block (delivery_of_block b) (delivery_of_block c) f g l in
+    same_parts b.ticket c.ticket b.waiting.block c.waiting.block b.waiting.held c.waiting.held b.stale c.stale s.0 s.1 s.2 m n
+
+pub record AreOneBlocks (bs cs : List CheckpointBlock) (a b : List ℕ) : Type 0 where
+  pub blocks : bs ≡ cs
+  pub rest : a ≡ b
+
+pub blocks : (T : List Declared) (bs cs : List CheckpointBlock) (a b : List ℕ) → FitBlocks T bs → FitBlocks T cs → AreMarked bs → AreMarked cs → length bs ≡ length cs
+    → block_lines bs ++ a ≡ block_lines cs ++ b → AreOneBlocks bs cs a b
+blocks T [] [] a b f g m n l e = record { blocks = refl; rest = e }
+blocks T [] (y ∷ cs) a b f g m n l e = absurd (omega (arith, l))
+blocks T (x ∷ bs) [] a b f g m n l e = absurd (omega (arith, l))
+blocks T (x ∷ bs) (y ∷ cs) a b f g m n l e =
+    let cut = cut_unique (block_line x) (block_lines bs ++ a) (block_line y) (block_lines cs ++ b)
+    (no_feed _ (waiting_one_line T x.ticket x.waiting.block (delivery_of_block x) f.0)) (no_feed _ (waiting_one_line T y.ticket y.waiting.block (delivery_of_block y) g.0))
+    (sym (append_assoc (block_line x) (10 ∷ block_lines bs) a) ∙ e ∙ append_assoc (block_line y) (10 ∷ block_lines cs) b) in
+    let first : x ≡ y = same_block T x y f.0 g.0 m.0 n.0 cut.line in
+    let r = blocks T bs cs a b f.1 g.1 m.1 n.1 (omega (arith, l)) cut.rest in
+    let later : bs ≡ cs = r.blocks in
+    record { blocks = λ i. first i ∷ later i; rest = r.rest }
+
+-- ---- checkpoints
+-- its numbers are those of a first line
+pub record IsHeadOf (c : CheckpointView) : Type 0 where
+  pub next : Is32Bit c.next
+  pub vars : Is32Bit (length c.store)
+  pub waiting : Is32Bit (length c.blocks)
+
+pub head_fits : (c : CheckpointView) → IsCheckpoint c → IsHeadOf c
+head_fits c k =
+    let small = (k.store).small in
+    let l = length-map c.store plain in
+    record { next = omega (arith, k.tickets); vars = omega (arith, small, l); waiting = omega (arith, k.few) }
+
+flat : (w : ℕ) (T : List Declared) (c : CheckpointView) (a : List ℕ) → checkpoint_text w T c ++ a ≡ checkpoint_header_line c.next (length c.store) w ++ 10 ∷ (cell_lines T c.store ++ (block_lines c.blocks ++ a))
+flat w T c a =
+    append_assoc (cells_text c.next (length c.store) w T c.store) (block_lines c.blocks) a
+    ∙ append_assoc (checkpoint_header_line c.next (length c.store) w) (10 ∷ cell_lines T c.store) (block_lines c.blocks ++ a)
+
+pub record IsOneCheckpoint (T U : List Declared) (c d : CheckpointView) (a b : List ℕ) : Type 0 where
+  pub tables : T ≡ U
+  pub checkpoints : c ≡ d
+  pub rest : a ≡ b
+
+pub one_checkpoint : (T U : List Declared) (c d : CheckpointView) (a b : List ℕ) → IsReadable T c → IsReadable U d
+    → checkpoint_text (length c.blocks) T c ++ a ≡ checkpoint_text (length d.blocks) U d ++ b → IsOneCheckpoint T U c d a b
+one_checkpoint T U c d a b f g e =
+    let m = ((f.fits).may).0 in
+    let n = ((g.fits).may).0 in
+    let h = head_fits c m in
+    let k = head_fits d n in
+    let cut = cut_unique (checkpoint_header_line c.next (length c.store) (length c.blocks)) (cell_lines T c.store ++ (block_lines c.blocks ++ a))
+    (checkpoint_header_line d.next (length d.store) (length d.blocks)) (cell_lines U d.store ++ (block_lines d.blocks ++ b))
+    (no_feed _ (checkpoint_header_one_line c.next (length c.store) (length c.blocks) h.next h.vars h.waiting))
+    (no_feed _ (checkpoint_header_one_line d.next (length d.store) (length d.blocks) k.next k.vars k.waiting))
+    (sym (flat (length c.blocks) T c a) ∙ e ∙ flat (length d.blocks) U d b) in
+    let same = checkpoint_header_same c.next d.next (length c.store) (length d.store) (length c.blocks) (length d.blocks) h.next h.vars h.waiting k.next k.vars k.waiting cut.line in
+    let first = cells T U c.store d.store (block_lines c.blocks ++ a) (block_lines d.blocks ++ b) (names_from [] T (f.fits).variables) (names_from [] U (g.fits).variables)
+    (types_of_start T c (f.fits).may) (types_of_start U d (g.fits).may) (f.fits).cells (g.fits).cells same.1 cut.rest in
+    let table : T ≡ U = same_defaults [] T U f.defaults g.defaults first.tables in
+    let then = blocks U c.blocks d.blocks a b (subst (λ (V : List Declared). FitBlocks V c.blocks) table (f.fits).blocks) (g.fits).blocks
+    (marked_from c.store c.next 0 c.blocks m.blocks) (marked_from d.store d.next 0 d.blocks n.blocks) same.2 first.rest in
+    let nexts = same.0 in
+    let stores = first.cells in
+    let waiting = then.blocks in
+    record { tables = table; checkpoints = λ i. record { store = stores i; next = nexts i; blocks = waiting i }; rest = then.rest }
+
+-- ---- starts
+pub record IsOneStart (s t : Start) (a b : List ℕ) : Type 0 where
+  pub starts : s ≡ t
+  pub rest : a ≡ b
+
+-- a checkpoint's first line is none of a table
+no_checkpoint : (p : ℕ) (T U : List Declared) (d : CheckpointView) (a b : List ℕ) → IsFormat p → AreVariables T → IsReadable U d
+    → head_text p (length T) T ++ a ≡ checkpoint_text (length d.blocks) U d ++ b → ⊥
+no_checkpoint p T U d a b i f g e =
+    let few : length T ≤ max_cells = few_variables T f in
+    let n : Is32Bit (length T) = omega (arith, few) in
+    let k = head_fits d ((g.fits).may).0 in
+    let cut = cut_unique (header_line p (length T)) (variable_lines T ++ a) (checkpoint_header_line d.next (length d.store) (length d.blocks)) (cell_lines U d.store ++ (block_lines d.blocks ++ b))
+    (no_feed _ (header_one_line p (length T) i n)) (no_feed _ (checkpoint_header_one_line d.next (length d.store) (length d.blocks) k.next k.vars k.waiting))
+    (sym (append_assoc (header_line p (length T)) (10 ∷ variable_lines T) a) ∙ e ∙ flat (length d.blocks) U d b) in
+    checkpoint_header_new d.next (length d.store) (length d.blocks) p (length T) k.next k.vars k.waiting i n (sym cut.line)
+
+start_by : (p q : ℕ) (T U : List Declared) (o r : Option CheckpointView) (a b : List ℕ) → IsBefore p T o → IsBefore q U r → text_before p T o ++ a ≡ text_before q U r ++ b
+    → IsOneStart (record { format = p; table = T; checkpoint = o }) (record { format = q; table = U; checkpoint = r }) a b
+start_by p q T U None None a b f g e =
+    let h = one_head p q T U a b f.0 g.0 f.2 g.2 e in
+    let formats = h.formats in
+    let table = (h.variables).tables in
+    record { starts = λ i. record { format = formats i; table = table i; checkpoint = None }; rest = (h.variables).rest }
+start_by p q T U None (Some d) a b f g e = absurd (no_checkpoint p T U d a b f.0 f.2 g.1 e)
+start_by p q T U (Some c) None a b f g e = absurd (no_checkpoint q U T c b a g.0 g.2 f.1 (sym e))
+start_by p q T U (Some c) (Some d) a b f g e =
+    let h = one_checkpoint T U c d a b f.1 g.1 e in
+    let formats = f.0 ∙ sym g.0 in
+    let table = h.tables in
+    let checkpoint = h.checkpoints in
+    record { starts = λ i. record { format = formats i; table = table i; checkpoint = Some (checkpoint i) }; rest = h.rest }
+
+pub one_start : (s t : Start) (a b : List ℕ) → IsStart s → IsStart t → start_text s ++ a ≡ start_text t ++ b → IsOneStart s t a b
+one_start s t a b f g e = start_by s.format t.format s.table t.table s.checkpoint t.checkpoint a b f g e
+
+one_history : (s t : Start) (H K : List Event) (a b : List ℕ) → IsStart s → IsStart t → history_text s H ++ a ≡ history_text t K ++ b → IsOneStart s t (event_lines H ++ a) (event_lines K ++ b)
+one_history s t H K a b f g e =
+    one_start s t (event_lines H ++ a) (event_lines K ++ b) f g (sym (append_assoc (start_text s) (event_lines H) a) ∙ e ∙ append_assoc (start_text t) (event_lines K) b)
 
 -- ---- the events
 -- where one reading of the bytes ends, an event of the other comes next
@@ -88,26 +307,16 @@ compared p T (x ∷ H) (y ∷ K) a b h k e =
     let one : x ≡ y = event_same T x y h.0 k.0 c.line in
     subst (λ (z : Event). Compared p T (x ∷ H) (z ∷ K) a b) one (cons_compared p T x H K a b (compared p T H K a b h.3 k.3 c.rest))
 
--- what holds at a format and a table holds at others that are the same
-pub at_same : (P : ℕ → List Declared → Type 0) (p q : ℕ) (T U : List Declared) → p ≡ q → T ≡ U → P p T → P q U
-at_same P p q T U d e h = subst (λ (z : List Declared). P q z) e (subst (λ (z : ℕ). P z T) d h)
-
 -- two readings of the same bytes
-pub record AreCompared (p q : ℕ) (T U : List Declared) (H K : List Event) (a b : List ℕ) : Type 0 where
-  pub formats : p ≡ q
-  pub tables : T ≡ U
-  pub events : Compared q U H K a b
+pub record AreCompared (s t : Start) (H K : List Event) (a b : List ℕ) : Type 0 where
+  pub starts : s ≡ t
+  pub events : Compared t.format t.table H K a b
 
-pub both : (bytes : List ℕ) (p q : ℕ) (T U : List Declared) (H K : List Event) (a b : List ℕ) → IsFormat p → IsFormat q → BeginsWithHistory p bytes T H a → BeginsWithHistory q bytes U K b
-    → AreCompared p q T U H K a b
-both bytes p q T U H K a b i j f g =
-    let t = one_head p q T U H K a b i j f.variables g.variables (sym f.text ∙ g.text) in
-    let tables : T ≡ U = (t.variables).tables in
-    record {
-      formats = t.formats;
-      tables = tables;
-      events = compared q U H K a b (at_same (λ z V. AreEvents z V H) p q T U t.formats tables f.events) g.events (t.variables).rest;
-    }
+pub both : (bytes : List ℕ) (s t : Start) (H K : List Event) (a b : List ℕ) → BeginsWithHistory s bytes H a → BeginsWithHistory t bytes K b → AreCompared s t H K a b
+both bytes s t H K a b f g =
+    let r = one_history s t H K a b f.start g.start (sym f.text ∙ g.text) in
+    let starts : s ≡ t = r.starts in
+    record { starts = starts; events = compared t.format t.table H K a b (subst (λ (z : Start). AreEvents z.format z.table H) starts f.events) g.events r.rest }
 
 -- ---- whole texts
 -- no event comes next where nothing is left
@@ -123,16 +332,15 @@ same_events q U H K (more n) = absurd (nothing_next q U H K [] n)
 same_events q U H K (fewer n) = absurd (nothing_next q U K H [] n)
 
 pub texts_are_of_one_history : TextsAreOfOneHistory
-texts_are_of_one_history p q T U H K i j f g h k e =
-    let t = one_head p q T U H K [] [] i j f g (ap (λ (x : List ℕ). x ++ []) e) in
-    let tables : T ≡ U = (t.variables).tables in
-    (t.formats, tables, same_events q U H K (compared q U H K [] [] (at_same (λ z V. AreEvents z V H) p q T U t.formats tables h) k (t.variables).rest))
+texts_are_of_one_history s t H K f g h k e =
+    let r = one_history s t H K [] [] f g (ap (λ (x : List ℕ). x ++ []) e) in
+    let starts : s ≡ t = r.starts in
+    (starts, same_events t.format t.table H K (compared t.format t.table H K [] [] (subst (λ (z : Start). AreEvents z.format z.table H) starts h) k r.rest))
 
 pub numbers_are_fixed : NumbersAreFixed
 numbers_are_fixed bytes m n a c =
-    let b = both bytes a.0 c.0 a.2 c.2 a.3 c.3 [] [] a.1 c.1 a.4 c.4 in
-    a.5 ∙ ap (λ (z : ℕ). numbers_by (rule_of z) a.2 a.3) b.formats ∙ ap (λ (z : List Declared). numbers_by (rule_of c.0) z a.3) b.tables
-    ∙ ap (numbers_by (rule_of c.0) c.2) (same_events c.0 c.2 a.3 c.3 b.events) ∙ sym c.5
+    let b = both bytes a.0 c.0 a.1 c.1 [] [] a.2 c.2 in
+    a.3 ∙ ap (λ (z : Start). numbers_from z a.1) b.starts ∙ ap (numbers_from c.0) (same_events (c.0).format (c.0).table a.1 c.1 b.events) ∙ sym c.3
 
 -- ---- faults
 -- a legal history goes on legally: each front of it is legal
@@ -145,19 +353,18 @@ pub never_next : (q : ℕ) (U : List Declared) (H K : List Event) (a b : List �
 never_next q U H K a b never n = never n.event n.fits n.may n.short (event_lines n.later ++ a) n.text
 
 -- an event that comes next in a legal history can follow
-pub legal_next : (q : ℕ) (U : List Declared) (H K : List Event) (a b text : List ℕ) (e : Event) → b ≡ event_line e ++ 10 ∷ text → FitsTable U e → IsLegalBy (rule_of q) U H
-    → IsIllegalBy (rule_of q) U K e → IsNext q U H K a b → ⊥
-legal_next q U H K a b text e here fits legal illegal n =
-    let c = cut_unique (event_line e) text (event_line n.event) (event_lines n.later ++ a) (no_feed _ (event_one_line U e fits)) (no_feed _ (event_one_line U n.event n.fits)) (sym here ∙ n.text) in
-    let one : e ≡ n.event = event_same U e n.event fits n.fits c.line in
+pub legal_next : (s : Start) (H K : List Event) (a b text : List ℕ) (e : Event) → b ≡ event_line e ++ 10 ∷ text → FitsTable s.table e → IsLegalFrom (first_state s) H
+    → IsIllegalFrom s K e → IsNext s.format s.table H K a b → ⊥
+legal_next s H K a b text e here fits legal illegal n =
+    let c = cut_unique (event_line e) text (event_line n.event) (event_lines n.later ++ a) (no_feed _ (event_one_line s.table e fits)) (no_feed _ (event_one_line s.table n.event n.fits)) (sym here ∙ n.text) in
+    let one : e ≡ n.event = event_same s.table e n.event fits n.fits c.line in
     let whole : H ≡ K ++ e ∷ n.later = n.whole ∙ ap (λ (z : Event). K ++ z ∷ n.later) (sym one) in
-    let h : LegalFrom (initial_state (rule_of q) U) (K ++ e ∷ n.later) = subst (λ (z : List Event). LegalFrom (initial_state (rule_of q) U) z) whole legal.each in
+    let h : LegalFrom (first_state s) (K ++ e ∷ n.later) = subst (λ (z : List Event). LegalFrom (first_state s) z) whole legal.each in
     let few : length (K ++ e ∷ n.later) ≤ max_events = subst (λ (z : List Event). length z ≤ max_events) whole legal.few in
     let l = length-append K (e ∷ n.later) in
     let m = length-append K (e ∷ []) in
-    illegal (record { each = front_legal (initial_state (rule_of q) U) K n.later e h; few = omega (arith, few, l, m) })
+    illegal (record { each = front_legal (first_state s) K n.later e h; few = omega (arith, few, l, m) })
 
--- the header and the variables of a reading are those of a table
-pub header_by : (bytes : List ℕ) (p : ℕ) (T : List Declared) (H : List Event) (a : List ℕ) → IsFormat p → BeginsWithHistory p bytes T H a → ReportsFault BadHeader bytes → ⊥
-header_by bytes p T H a i f t =
-    t p i T f.few f.variables (event_lines H ++ a) (f.text ∙ append_assoc (head_text p (length T) T) (event_lines H) a)
+-- the lines before the events of a reading are those of a start
+pub header_by : (bytes : List ℕ) (s : Start) (H : List Event) (a : List ℕ) → BeginsWithHistory s bytes H a → ReportsFault BadHeader bytes → ⊥
+header_by bytes s H a f t = t s f.start (event_lines H ++ a) (f.text ∙ append_assoc (start_text s) (event_lines H) a)

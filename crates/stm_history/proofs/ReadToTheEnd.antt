@@ -1,19 +1,25 @@
 -- What was read to the end.
-use Rattle.std.proofs.Common.{◌≡◌, ℕ, List, [], ◌∷◌, Option, Some, None, IfSome, sym, subst, ◌∙◌}
+use Rattle.std.proofs.Common.{◌≡◌, ◌≢◌, ℕ, List, [], ◌∷◌, ◌++◌, Option, Some, None, IfSome, arith, length, refl, sym, ap, subst, ◌∙◌}
 use Rattle.stm_store.specs.Tables.{Declared}
 use Rattle.stm_events.specs.declared.event.Event.{Event}
 use Rattle.stm_events.specs.declared.event.What.{What}
 use Rattle.stm_events.specs.declared.event.What.TheVariants.{Submitted, Installed, Finished, Cancelled}
 use Rattle.stm_events.specs.Laws.{SubmitsWellTyped, SubmittedAreWellTyped}
 use Rattle.stm_event_lines.specs.Fits.{WhatFitsTable}
-use Rattle.stm_events.specs.SlowDesk.{state, state_by}
+use Rattle.stm_events.specs.SlowDesk.{Slow, state_from}
+use Rattle.stm_machine.specs.declared.checkpoint.CheckpointBlock.{CheckpointBlock}
+use Rattle.stm_machine.specs.Checkpoints.{CheckpointView, MayStart, start_of, started_by}
 use Rattle.stm_machine.specs.Machine.{Parts, IsAt}
 use Rattle.stm_event_lines.specs.Lines.{latest_format, rule_of}
 use Rattle.stm_history.specs.declared.files.check.Stage.TheVariants.{Running}
 use Rattle.stm_history.specs.declared.files.replayer.Replayer.{Replayer}
-use Rattle.stm_history.specs.Checking.{CheckerState, at_header, at_variables, at_events}
-use Rattle.stm_history.specs.Judgement.{AreEvents}
-use Rattle.stm_history.specs.Stages.{IsStage}
+use Rattle.stm_history.specs.declared.files.loading.LoadFault.TheVariants.{OldFormat}
+use Rattle.stm_history.specs.Checking.{CheckerState, at_events, LinesUpTo}
+use Rattle.stm_history.specs.Following.{Follows}
+use Rattle.stm_history.specs.Judgement.{AreEvents, FitBlocks, IsBefore, IsStart}
+use Rattle.stm_history.specs.Loading.{IsWholeHistory, ReportsLoadFault}
+use Rattle.stm_history.specs.Stages.{IsLatest, Reached}
+use Rattle.stm_history.specs.Starts.{AreOfText, BlocksAreOfText, Start, first_state, written_start}
 use Rattle.stm_event_lines.proofs.CheckedBlocks.{checked_are_well_typed}
 
 -- what holds of the bytes that were taken holds of the reader's, if those are known
@@ -32,14 +38,86 @@ pub events_typed : (format : ℕ) (table : List Declared) (events : List Event) 
 events_typed format table [] f = tt
 events_typed format table (e ∷ es) f = (what_typed table e.what (f.0).1, events_typed format table es f.3)
 
--- the machine of a stage in the latest format is at the state of its history
-pub running_at : (format : ℕ) (names : List Declared) (r : Replayer) (p : CheckerState) (m : Parts) (table : List Declared) (events : List Event) → IsStage (Running format names r) p → format ≡ latest_format → m ≡ r.machine → table ≡ names
-    → ((history : List Event) → IfSome r.kept (λ kept. kept.items ≡ history) → events ≡ history) → IsAt m (state table events)
-running_at format names r at_header m table events i latest machine tables kept = absurd i
-running_at format names r (at_variables other n more) m table events i latest machine tables kept = absurd i
-running_at format names r (at_events other declared history) m table events i latest machine tables kept =
-    let f = i.2 in
-    subst (λ (x : Parts). IsAt x (state table events)) (sym machine)
-    (subst (λ (x : List Declared). IsAt r.machine (state x events)) (sym (tables ∙ i.1))
-    (subst (λ (x : List Event). IsAt r.machine (state declared x)) (sym (kept history f.kept))
-    (subst (λ (x : ℕ). IsAt r.machine (state_by (rule_of x) declared history)) (sym i.0 ∙ latest) f.at)))
+-- ---- the start of what was read
+-- the present rule is that of the latest format, and of checkpoints
+pub first_is : (format : ℕ) (table : List Declared) (c : Option CheckpointView) → IsLatest format c → first_state (record { format = format; table = table; checkpoint = c }) ≡ start_of table c
+first_is format table None l = ap (λ (f : ℕ). started_by (rule_of f) table None) l
+first_is format table (Some c) l = refl
+
+pub start_is : (format : ℕ) (table : List Declared) (c : Option CheckpointView) → IsBefore format table c → IsLatest format c → record { format = format; table = table; checkpoint = c } ≡ written_start table c
+start_is format table None b l = ap (λ (f : ℕ). record { format = f; table = table; checkpoint = None }) l
+start_is format table (Some c) b l = ap (λ (f : ℕ). record { format = f; table = table; checkpoint = Some c }) b.0
+
+pub written_is : (table : List Declared) (c : Option CheckpointView) → first_state (written_start table c) ≡ start_of table c
+written_is table None = refl
+written_is table (Some c) = refl
+
+pub no_bytes : (line : List ℕ) → length line ≡ 0 → line ≡ []
+no_bytes [] e = refl
+no_bytes (x ∷ line) e = absurd (omega (arith, e))
+
+-- the history of a stage among the events, where no line has begun
+pub record IsRead (start : Start) (taken : List ℕ) (r : Replayer) : Type 0 where
+  pub history : List Event
+  pub whole : IsWholeHistory start taken history
+  pub follows : Follows start history r
+
+pub read_history : (format : ℕ) (table : List Declared) (c : Option CheckpointView) (r : Replayer) (whole : ℕ) (line taken : List ℕ) → Reached (Running format table c r) whole line taken → line ≡ []
+    → IsRead (record { format = format; table = table; checkpoint = c }) taken r
+read_history format table c r whole line taken h none =
+    let start : Start = record { format = format; table = table; checkpoint = c } in
+    let history = (h.stage).0 in
+    let at : h.progress ≡ at_events start history = (h.stage).1 in
+    let held = h.held in
+    let lines : LinesUpTo (at_events start history) held.whole = subst (λ (p : CheckerState). LinesUpTo p held.whole) at held.lines in
+    record {
+      history = history;
+      whole = record { text = held.taken_is ∙ ap (λ x. held.whole ++ x) none ∙ ap (λ x. x ++ []) lines.0; start = lines.1; events = lines.2; legal = lines.3 };
+      follows = (h.stage).2;
+    }
+
+-- and the same as it is loaded
+pub loaded_history : (format : ℕ) (table : List Declared) (c : Option CheckpointView) (r : Replayer) (whole : ℕ) (line taken : List ℕ) (table' : List Declared) (c' : Option CheckpointView) (events : List Event)
+    → Reached (Running format table c r) whole line taken → line ≡ [] → IsLatest format c → table' ≡ table → c' ≡ c
+    → ((history : List Event) → IfSome r.kept (λ kept. kept.items ≡ history) → events ≡ history) → IsWholeHistory (written_start table' c') taken events
+loaded_history format table c r whole line taken table' c' events h none latest tables checkpoints kept =
+    let k = read_history format table c r whole line taken h none in
+    let follows = k.follows in
+    let same : events ≡ k.history = kept k.history follows.kept in
+    let start : record { format = format; table = table; checkpoint = c } ≡ written_start table' c' =
+    start_is format table c (k.whole).start latest ∙ (λ i. written_start ((sym tables) i) ((sym checkpoints) i)) in
+    subst (λ (s : Start). IsWholeHistory s taken events) start (subst (IsWholeHistory (record { format = format; table = table; checkpoint = c }) taken) (sym same) k.whole)
+
+-- the machine is at the state of the history
+pub loaded_at : (format : ℕ) (table : List Declared) (c : Option CheckpointView) (r : Replayer) (whole : ℕ) (line taken : List ℕ) (m : Parts) (table' : List Declared) (c' : Option CheckpointView) (events : List Event)
+    → Reached (Running format table c r) whole line taken → line ≡ [] → IsLatest format c → m ≡ r.machine → table' ≡ table → c' ≡ c
+    → ((history : List Event) → IfSome r.kept (λ kept. kept.items ≡ history) → events ≡ history) → IsAt m (state_from (start_of table' c') events)
+loaded_at format table c r whole line taken m table' c' events h none latest machines tables checkpoints kept =
+    let k = read_history format table c r whole line taken h none in
+    let follows = k.follows in
+    let same : events ≡ k.history = kept k.history follows.kept in
+    let start : first_state (record { format = format; table = table; checkpoint = c }) ≡ start_of table' c' = first_is format table c latest ∙ (λ i. start_of ((sym tables) i) ((sym checkpoints) i)) in
+    subst (λ (x : Parts). IsAt x (state_from (start_of table' c') events)) (sym machines)
+    (subst (λ (s : Slow). IsAt r.machine (state_from s events)) start
+    (subst (λ (x : List Event). IsAt r.machine (state_from (first_state (record { format = format; table = table; checkpoint = c })) x)) (sym same) follows.at))
+
+-- what holds of a loaded history's start
+pub may_start : (table : List Declared) (c : Option CheckpointView) → IsStart (written_start table c) → MayStart table c
+may_start table None s = tt
+may_start table (Some c) s = ((s.1).fits).may
+
+of_text : (table : List Declared) (bs : List CheckpointBlock) → FitBlocks table bs → AreOfText table bs
+of_text table [] f = tt
+of_text table (b ∷ bs) f = ((f.0).1, of_text table bs f.1)
+
+pub blocks_of_text : (table : List Declared) (c : Option CheckpointView) → IsStart (written_start table c) → IfSome c (BlocksAreOfText table)
+blocks_of_text table None s = tt
+blocks_of_text table (Some c) s = of_text table c.blocks ((s.1).fits).blocks
+
+-- an earlier format is that of a table
+pub old_history : (format : ℕ) (table : List Declared) (c : Option CheckpointView) (r : Replayer) (whole : ℕ) (line taken : List ℕ) → Reached (Running format table c r) whole line taken → line ≡ [] → format ≢ latest_format → c ≡ None
+    → ReportsLoadFault (OldFormat format) taken
+old_history format table c r whole line taken h none other without =
+    let k = read_history format table c r whole line taken h none in
+    let is : IsWholeHistory (record { format = format; table = table; checkpoint = None }) taken k.history = subst (λ (o : Option CheckpointView). IsWholeHistory (record { format = format; table = table; checkpoint = o }) taken k.history) without k.whole in
+    ((is.start).0, other, table, k.history, is)

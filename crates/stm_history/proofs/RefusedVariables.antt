@@ -11,8 +11,10 @@ use Rattle.stm_history.specs.Stages.{refused_by}
 
 -- a line of a variable that the table refuses is none of one that it takes
 pub undeclared : (format n : ℕ) (table : List Declared) (c : Declared) (line : List ℕ) (e : DeclareError) → variable_line c ≡ line → FitsVariable c → Some e ≡ declare_refusal table c.name c.kind c.value → IsStrange (at_variables format n table) line
-undeclared format n table c line e l f told = λ d may k.
-    let same : d ≡ c = variable_same d c may.fits f (k ∙ sym l) in
+undeclared format n table c line e l f told = λ q k.
+    let d = k.0 in
+    let may = k.2 in
+    let same : d ≡ c = variable_same d c may.fits f (k.1 ∙ sym l) in
     let none : declare_refusal table c.name c.kind c.value ≡ None = subst (λ (x : Declared). declare_refusal table x.name x.kind x.value ≡ None) same may.may in
     cc
 

@@ -1,5 +1,5 @@
--- The lines of headers and of variables are short.
-use Rattle.std.proofs.Common.{◌≡◌, ℕ, zero, suc, ◌+◌, ◌*◌, ◌/◌, ◌%◌, ◌≤◌, Bool, true, false, cond, List, [], ◌∷◌, ◌++◌, length, refl, arith, length-append, codes, pos, negsuc, IsTrue}
+-- The lines of headers and of variables are short, those of checkpoints too.
+use Rattle.std.proofs.Common.{◌≡◌, ℕ, zero, suc, ◌+◌, ◌*◌, ◌/◌, ◌%◌, ◌≤◌, Bool, true, false, cond, List, [], ◌∷◌, ◌++◌, length, Option, Some, None, refl, arith, length-append, codes, pos, negsuc, IsTrue}
 use Rattle.std.specs.Prelude.{◌&&◌, nat_lt, nat_le, not}
 use Rattle.std.specs.Char.{digit_char}
 use Rattle.std.specs.List.{list_all}
@@ -14,8 +14,10 @@ use Rattle.stm_terms.specs.declared.values.Value.TheVariants as value
 use Rattle.stm_terms.specs.declared.values.Ref.TheVariants.{Old, New}
 use Rattle.stm_terms.specs.Names.{is_name_text, starts_lower, is_word_byte, is_reserved}
 use Rattle.stm_terms.specs.Texts.{refs_text, type_text}
+use Rattle.stm_store.specs.declared.cell.Cell.{Cell}
 use Rattle.stm_store.specs.Tables.{Declared}
-use Rattle.stm_event_lines.specs.Fits.{FitsValue, FitsVariable}
+use Rattle.stm_event_lines.specs.CheckpointLines.{FitsCell, cell_line, checkpoint_format, checkpoint_header_line}
+use Rattle.stm_event_lines.specs.Fits.{FitsValue, FitsVariable, Is32Bit}
 use Rattle.stm_history.specs.Judgement.{IsShort}
 use Rattle.stm_event_lines.specs.Lines.{IsFormat, header_line, variable_line, value_data}
 use Rattle.stm_events.specs.SlowDesk.{max_cells}
@@ -89,3 +91,33 @@ variable_short d f =
     let t = escape_short (refs_text d.kind.base d.kind.refs) in
     let few : d.kind.refs ≤ 8 = f.1 in
     simp length-append (omega (arith, v, n, e, r, t, few))
+
+-- ---- checkpoints
+
+pub checkpoint_header_short : (next vars waiting : ℕ) → Is32Bit next → Is32Bit vars → Is32Bit waiting → IsShort (checkpoint_header_line next vars waiting)
+unfolding checkpoint_header_line escape_byte
+checkpoint_header_short next vars waiting h k l =
+    let d = length-decimal-le 20 next (omega arith) (omega arith) (omega arith) in
+    let e = length-decimal-le 20 vars (omega arith) (omega arith) (omega arith) in
+    let f = length-decimal-le 20 waiting (omega arith) (omega arith) (omega arith) in
+    let g = length-decimal-le 10 checkpoint_format (omega arith) (omega arith) (omega arith) in
+    simp length-append (omega (arith, d, e, f, g))
+
+pub cell_short : (name : Option (List ℕ)) (c : Cell) → FitsCell name c → IsShort (cell_line name c)
+unfolding cell_line escape_byte type_text
+cell_short None c f =
+    let v = value_short c.value f.2 in
+    let d = length-decimal-le 20 c.count (omega arith) (omega arith) (omega (arith, f.3)) in
+    let r = refs_short c.kind.base c.kind.refs in
+    let t = escape_short (refs_text c.kind.base c.kind.refs) in
+    let few : c.kind.refs ≤ 8 = f.1 in
+    simp length-append (omega (arith, v, d, r, t, few))
+cell_short (Some name) c f =
+    let v = value_short c.value f.2 in
+    let d = length-decimal-le 20 c.count (omega arith) (omega arith) (omega (arith, f.3)) in
+    let n = name_short name f.0 in
+    let e = escape_short name in
+    let r = refs_short c.kind.base c.kind.refs in
+    let t = escape_short (refs_text c.kind.base c.kind.refs) in
+    let few : c.kind.refs ≤ 8 = f.1 in
+    simp length-append (omega (arith, v, d, n, e, r, t, few))

@@ -7,4 +7,4 @@ use Rattle.stm_history.specs.Stages.{Reached}
 pub reached_start : (keep : Bool) (line : List ℕ) → line ≡ [] → Reached (Before keep) 0 line []
 reached_start keep line none =
     subst (λ (l : List ℕ). Reached (Before keep) 0 l []) (sym none)
-    (record { progress = at_header; stage = tt; held = record { whole = []; taken_is = refl; lines = refl; one_line = tt; short = omega arith }; counts = refl })
+    (record { progress = at_header; stage = refl; held = record { whole = []; taken_is = refl; lines = refl; one_line = tt; short = omega arith }; counts = refl })

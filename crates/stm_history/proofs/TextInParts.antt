@@ -1,14 +1,18 @@
 -- A text written part by part.
-use Rattle.std.proofs.Common.{ℕ, zero, suc, IfSome, ◌+◌, ◌-◌, List, length, arith, ap, ◌∙◌, ◌++◌, take, drop, Option, Some, sym, subst, append_assoc, [], ◌∷◌, ◌≡◌, ◌<◌, get_or, refl, add-one}
-use Rattle.std.specs.Prelude.{slice_get}
-use Rattle.std.proofs.Math.Seq.{take-length, take-suc, drop-cons}
-use Rattle.std.proofs.lemmas.List.{length-drop, take-append-drop}
+use Rattle.std.proofs.Common.{ℕ, zero, suc, IfSome, None, ◌+◌, ◌-◌, List, length, arith, ap, ◌∙◌, ◌++◌, take, drop, Option, Some, sym, subst, append_assoc, [], ◌∷◌, ◌≡◌, ◌<◌, get_or, refl, add-one}
+use Rattle.std.specs.Prelude.{option_map, slice_get}
+use Rattle.std.proofs.Math.Seq.{take-length, take-suc, drop-cons, drop-nil}
+use Rattle.std.proofs.lemmas.List.{length-drop, length-take, take-append-drop}
 use Rattle.std.proofs.KnownBytes.{Appends-trans}
 use Rattle.std.specs.Io.KnownBytes.{Appends}
+use Rattle.stm_store.specs.declared.cell.Cell.{Cell}
 use Rattle.stm_store.specs.Tables.{Declared}
 use Rattle.stm_events.specs.declared.event.Event.{Event}
+use Rattle.stm_machine.specs.declared.checkpoint.CheckpointBlock.{CheckpointBlock}
+use Rattle.stm_machine.specs.Checkpoints.{CheckpointView}
+use Rattle.stm_event_lines.specs.CheckpointLines.{cell_line, checkpoint_header_line}
 use Rattle.stm_event_lines.specs.Lines.{latest_format, event_line, header_line, variable_line}
-use Rattle.stm_history.specs.HistoryText.{variable_lines, event_lines, history_text, WritesFront}
+use Rattle.stm_history.specs.HistoryText.{block_line, block_lines, cell_lines, checkpoint_text, event_lines, head_text, variable_lines, WritesFront}
 
 -- the rest of a slice
 pub drop-all : (at : ℕ) (text : List ℕ) → take (length text - at) (drop at text) ≡ drop at text
@@ -52,25 +56,65 @@ pub event_lines-append : (xs ys : List Event) → event_lines (xs ++ ys) ≡ eve
 event_lines-append [] ys = refl
 event_lines-append (x ∷ xs) ys = ap (λ l. event_line x ++ 10 ∷ l) (event_lines-append xs ys) ∙ sym (append_assoc (event_line x) (10 ∷ event_lines xs) (event_lines ys))
 
--- the three parts of a history's text
-three : (table : List Declared) (history : List Event) (n : ℕ) → n ≡ length table → history_text latest_format table history ≡ (header_line latest_format n ++ 10 ∷ []) ++ (variable_lines table ++ event_lines history)
-three table history n e =
-    append_assoc (header_line latest_format (length table)) (10 ∷ variable_lines table) (event_lines history) ∙ ap (λ m. header_line latest_format m ++ 10 ∷ (variable_lines table ++ event_lines history)) (sym e)
-    ∙ sym (append_assoc (header_line latest_format n) (10 ∷ []) (variable_lines table ++ event_lines history))
+pub block_lines-append : (xs ys : List CheckpointBlock) → block_lines (xs ++ ys) ≡ block_lines xs ++ block_lines ys
+block_lines-append [] ys = refl
+block_lines-append (x ∷ xs) ys = ap (λ l. block_line x ++ 10 ∷ l) (block_lines-append xs ys) ∙ sym (append_assoc (block_line x) (10 ∷ block_lines xs) (block_lines ys))
 
-pub part_1 : (table : List Declared) (history : List Event) (n : ℕ) (a b : Option (List ℕ)) → n ≡ length table → WritesFront a b (header_line latest_format n ++ 10 ∷ []) → WritesFront a b (history_text latest_format table history)
-part_1 table history n a b e p = subst (WritesFront a b) (sym (three table history n e)) (part_within a b _ _ p)
+-- ---- a line, and what follows its line feed
+line_part : (line more : List ℕ) (a b : Option (List ℕ)) → WritesFront a b (line ++ 10 ∷ []) → WritesFront a b (line ++ 10 ∷ more)
+line_part line more a b p = subst (WritesFront a b) (append_assoc line (10 ∷ []) more) (part_within a b _ _ p)
 
-pub part_2 : (table : List Declared) (history : List Event) (n : ℕ) (a b c : Option (List ℕ)) → n ≡ length table → Appends a b (header_line latest_format n ++ 10 ∷ []) → WritesFront b c (variable_lines table) → WritesFront a c (history_text latest_format table history)
-part_2 table history n a b c e p q = subst (WritesFront a c) (sym (three table history n e)) (part_after a b c _ _ p (part_within b c _ _ q))
+more_part : (line more : List ℕ) (a b c : Option (List ℕ)) → Appends a b (line ++ 10 ∷ []) → WritesFront b c more → WritesFront a c (line ++ 10 ∷ more)
+more_part line more a b c p q = subst (WritesFront a c) (append_assoc line (10 ∷ []) more) (part_after a b c _ _ p q)
 
-pub part_3 : (table : List Declared) (history : List Event) (n : ℕ) (a b c d : Option (List ℕ)) → n ≡ length table → Appends a b (header_line latest_format n ++ 10 ∷ []) → Appends b c (variable_lines table) → WritesFront c d (event_lines history)
-    → WritesFront a d (history_text latest_format table history)
-part_3 table history n a b c d e p q r = subst (WritesFront a d) (sym (three table history n e)) (part_after a b d _ _ p (part_after b c d _ _ q r))
+line_whole : (line more : List ℕ) (a b c : Option (List ℕ)) → Appends a b (line ++ 10 ∷ []) → Appends b c more → Appends a c (line ++ 10 ∷ more)
+line_whole line more a b c p q = subst (Appends a c) (append_assoc line (10 ∷ []) more) (Appends-trans a b c _ _ p q)
 
-pub all_3 : (table : List Declared) (history : List Event) (n : ℕ) (a b c d : Option (List ℕ)) → n ≡ length table → Appends a b (header_line latest_format n ++ 10 ∷ []) → Appends b c (variable_lines table) → Appends c d (event_lines history)
-    → Appends a d (history_text latest_format table history)
-all_3 table history n a b c d e p q r = subst (Appends a d) (sym (three table history n e)) (Appends-trans a b d _ _ p (Appends-trans b c d _ _ q r))
+-- ---- the lines of a table
+head_is : (table : List Declared) (n : ℕ) → n ≡ length table → header_line latest_format n ++ 10 ∷ variable_lines table ≡ head_text latest_format (length table) table
+head_is table n e = ap (λ (m : ℕ). header_line latest_format m ++ 10 ∷ variable_lines table) e
+
+pub table_1 : (table : List Declared) (n : ℕ) (a b : Option (List ℕ)) → n ≡ length table → WritesFront a b (header_line latest_format n ++ 10 ∷ []) → WritesFront a b (head_text latest_format (length table) table)
+table_1 table n a b e p = subst (WritesFront a b) (head_is table n e) (line_part _ _ a b p)
+
+pub table_2 : (table : List Declared) (n : ℕ) (a b c : Option (List ℕ)) → n ≡ length table → Appends a b (header_line latest_format n ++ 10 ∷ []) → WritesFront b c (variable_lines table)
+    → WritesFront a c (head_text latest_format (length table) table)
+table_2 table n a b c e p q = subst (WritesFront a c) (head_is table n e) (more_part _ _ a b c p q)
+
+pub table_whole : (table : List Declared) (n : ℕ) (a b c : Option (List ℕ)) → n ≡ length table → Appends a b (header_line latest_format n ++ 10 ∷ []) → Appends b c (variable_lines table)
+    → Appends a c (head_text latest_format (length table) table)
+table_whole table n a b c e p q = subst (Appends a c) (head_is table n e) (line_whole _ _ a b c p q)
+
+-- ---- the lines of a checkpoint
+-- what its first line, its store and its waiting blocks were written from
+pub record IsWrittenFrom (c : CheckpointView) (k m n : ℕ) (cells : List Cell) (blocks : List CheckpointBlock) : Type 0 where
+  pub next : k ≡ c.next
+  pub vars : m ≡ length c.store
+  pub waiting : n ≡ length c.blocks
+  pub cells_are : cells ≡ c.store
+  pub blocks_are : blocks ≡ c.blocks
+
+checkpoint_is : (table : List Declared) (c : CheckpointView) (k m n : ℕ) (cells : List Cell) (blocks : List CheckpointBlock) → IsWrittenFrom c k m n cells blocks
+    → (checkpoint_header_line k m n ++ 10 ∷ cell_lines table cells) ++ block_lines blocks ≡ checkpoint_text (length c.blocks) table c
+checkpoint_is table c k m n cells blocks w =
+    let p = w.next in let q = w.vars in let r = w.waiting in let s = w.cells_are in let t = w.blocks_are in
+    λ i. (checkpoint_header_line (p i) (q i) (r i) ++ 10 ∷ cell_lines table (s i)) ++ block_lines (t i)
+
+pub checkpoint_1 : (table : List Declared) (v : CheckpointView) (k m n : ℕ) (cells : List Cell) (blocks : List CheckpointBlock) (a b : Option (List ℕ)) → IsWrittenFrom v k m n cells blocks
+    → WritesFront a b (checkpoint_header_line k m n ++ 10 ∷ []) → WritesFront a b (checkpoint_text (length v.blocks) table v)
+checkpoint_1 table v k m n cells blocks a b w p = subst (WritesFront a b) (checkpoint_is table v k m n cells blocks w) (part_within a b _ _ (line_part _ _ a b p))
+
+pub checkpoint_2 : (table : List Declared) (v : CheckpointView) (k m n : ℕ) (cells : List Cell) (blocks : List CheckpointBlock) (a b c : Option (List ℕ)) → IsWrittenFrom v k m n cells blocks
+    → Appends a b (checkpoint_header_line k m n ++ 10 ∷ []) → WritesFront b c (cell_lines table cells) → WritesFront a c (checkpoint_text (length v.blocks) table v)
+checkpoint_2 table v k m n cells blocks a b c w p q = subst (WritesFront a c) (checkpoint_is table v k m n cells blocks w) (part_within a c _ _ (more_part _ _ a b c p q))
+
+pub checkpoint_3 : (table : List Declared) (v : CheckpointView) (k m n : ℕ) (cells : List Cell) (blocks : List CheckpointBlock) (a b c d : Option (List ℕ)) → IsWrittenFrom v k m n cells blocks
+    → Appends a b (checkpoint_header_line k m n ++ 10 ∷ []) → Appends b c (cell_lines table cells) → WritesFront c d (block_lines blocks) → WritesFront a d (checkpoint_text (length v.blocks) table v)
+checkpoint_3 table v k m n cells blocks a b c d w p q r = subst (WritesFront a d) (checkpoint_is table v k m n cells blocks w) (part_after a c d _ _ (line_whole _ _ a b c p q) r)
+
+pub checkpoint_whole : (table : List Declared) (v : CheckpointView) (k m n : ℕ) (cells : List Cell) (blocks : List CheckpointBlock) (a b c d : Option (List ℕ)) → IsWrittenFrom v k m n cells blocks
+    → Appends a b (checkpoint_header_line k m n ++ 10 ∷ []) → Appends b c (cell_lines table cells) → Appends c d (block_lines blocks) → Appends a d (checkpoint_text (length v.blocks) table v)
+checkpoint_whole table v k m n cells blocks a b c d w p q r = subst (Appends a d) (checkpoint_is table v k m n cells blocks w) (Appends-trans a c d _ _ (line_whole _ _ a b c p q) r)
 
 -- ---- the variables of a table
 
@@ -95,3 +139,45 @@ pub whole_at : (table : List Declared) (i : ℕ) (a b c : Option (List ℕ)) →
 whole_at table i a b c h p q =
     let d = item_at table i h in
     whole_of variable_lines variable_lines-append table i d.one h d.same a b c p (subst (λ (o : Option Declared). IfSome o (λ d. Appends b c (variable_lines (d ∷ [])))) d.there q)
+
+-- ---- the variables of a store
+cell_lines-append : (table : List Declared) (xs ys : List Cell) → cell_lines table (xs ++ ys) ≡ cell_lines table xs ++ cell_lines (drop (length xs) table) ys
+cell_lines-append table [] ys = refl
+cell_lines-append [] (c ∷ xs) ys =
+    ap (λ l. cell_line None c ++ 10 ∷ l) (cell_lines-append [] xs ys ∙ ap (λ (t : List Declared). cell_lines [] xs ++ cell_lines t ys) (drop-nil (length xs)))
+    ∙ sym (append_assoc (cell_line None c) (10 ∷ cell_lines [] xs) (cell_lines [] ys))
+cell_lines-append (d ∷ ds) (c ∷ xs) ys =
+    ap (λ l. cell_line (Some d.name) c ++ 10 ∷ l) (cell_lines-append ds xs ys) ∙ sym (append_assoc (cell_line (Some d.name) c) (10 ∷ cell_lines ds xs) (cell_lines (drop (length xs) ds) ys))
+
+abbrev pub name_at : List Declared → ℕ → Option (List ℕ)
+name_at table i = option_map (λ (d : Declared). d.name) (slice_get table i)
+
+one_cell : (table : List Declared) (i : ℕ) (c : Cell) → cell_lines (drop i table) (c ∷ []) ≡ cell_line (name_at table i) c ++ 10 ∷ []
+one_cell [] i c = ap (λ (t : List Declared). cell_lines t (c ∷ [])) (drop-nil i)
+one_cell (d ∷ ds) zero c = refl
+one_cell (d ∷ ds) (suc i) c = one_cell ds i c
+
+cells_next : (table : List Declared) (cells : List Cell) (i : ℕ) (c : Cell) → i < length cells → c ≡ get_or cells i c
+    → cell_lines table (take (i + 1) cells) ≡ cell_lines table (take i cells) ++ (cell_line (name_at table i) c ++ 10 ∷ [])
+cells_next table cells i c h e =
+    let size : length (take i cells) ≡ i = omega (arith, length-take i cells) in
+    ap (cell_lines table) (next_at cells i c h e) ∙ cell_lines-append table (take i cells) (c ∷ [])
+    ∙ ap (λ (n : ℕ). cell_lines table (take i cells) ++ cell_lines (drop n table) (c ∷ [])) size ∙ ap (λ (l : List ℕ). cell_lines table (take i cells) ++ l) (one_cell table i c)
+
+cells_cut : (table : List Declared) (cells : List Cell) (i : ℕ) → cell_lines table cells ≡ cell_lines table (take i cells) ++ cell_lines (drop (length (take i cells)) table) (drop i cells)
+cells_cut table cells i = ap (cell_lines table) (sym (take-append-drop i cells)) ∙ cell_lines-append table (take i cells) (drop i cells)
+
+pub cells_whole_at : (table : List Declared) (cells : List Cell) (i : ℕ) (a b c : Option (List ℕ)) → i < length cells → Appends a b (cell_lines table (take i cells))
+    → IfSome (slice_get cells i) (λ x. Appends b c (cell_line (name_at table i) x ++ 10 ∷ [])) → Appends a c (cell_lines table (take (i + 1) cells))
+cells_whole_at table cells i a b c h p q =
+    let d = item_at cells i h in
+    let more : Appends b c (cell_line (name_at table i) d.one ++ 10 ∷ []) = subst (λ (o : Option Cell). IfSome o (λ x. Appends b c (cell_line (name_at table i) x ++ 10 ∷ []))) d.there q in
+    subst (Appends a c) (sym (cells_next table cells i d.one h d.same)) (Appends-trans a b c _ _ p more)
+
+pub cells_part_at : (table : List Declared) (cells : List Cell) (i : ℕ) (a b c : Option (List ℕ)) → i < length cells → Appends a b (cell_lines table (take i cells))
+    → IfSome (slice_get cells i) (λ x. WritesFront b c (cell_line (name_at table i) x ++ 10 ∷ [])) → WritesFront a c (cell_lines table cells)
+cells_part_at table cells i a b c h p q =
+    let d = item_at cells i h in
+    let more : WritesFront b c (cell_line (name_at table i) d.one ++ 10 ∷ []) = subst (λ (o : Option Cell). IfSome o (λ x. WritesFront b c (cell_line (name_at table i) x ++ 10 ∷ []))) d.there q in
+    subst (WritesFront a c) (sym (cells_cut table cells (i + 1)))
+    (part_within a c _ _ (subst (WritesFront a c) (sym (cells_next table cells i d.one h d.same)) (part_after a b c _ _ p more)))

@@ -10,6 +10,7 @@ use Rattle.stm_history.specs.FileLaws.{WhatIsWrittenIsTaken}
 use Rattle.stm_event_lines.specs.Fits.{AreInRange}
 use Rattle.stm_history.specs.HistoryText.{history_text}
 use Rattle.stm_history.specs.Judgement.{AreVariables, AreVariablesFrom}
+use Rattle.stm_history.specs.Starts.{Start}
 use Rattle.stm_events.specs.SlowDesk.{max_cells}
 
 -- what a variable that is not refused shows
@@ -59,4 +60,5 @@ few_variables table a = let few = few_from [] table a (omega arith) in omega (ar
 pub what_is_written_is_taken : WhatIsWrittenIsTaken
 what_is_written_is_taken format table history read declared range events legal =
     let variables : AreVariables table = variables_from [] table declared range in
-    (format, read, table, history, record { text = sym (append-nil (history_text format table history)); few = few_variables table variables; variables = variables; events = events; legal = legal }, refl)
+    let start : Start = record { format = format; table = table; checkpoint = None } in
+    (start, history, record { text = sym (append-nil (history_text start history)); start = (read, few_variables table variables, variables); events = events; legal = record { each = legal.each; few = legal.few } }, refl)

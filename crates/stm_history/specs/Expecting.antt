@@ -4,14 +4,14 @@ use Rattle.stm_store.specs.Tables.{Declared}
 use Rattle.stm_events.specs.declared.event.Event.{Event}
 use Rattle.stm_events.specs.declared.event.What.{What}
 use Rattle.stm_events.specs.declared.event.What.TheVariants.{Submitted, Installed, Finished, Cancelled}
-use Rattle.stm_events.specs.declared.staleness.StalenessRule.{StalenessRule}
-use Rattle.stm_events.specs.SlowDesk.{Slow, Allows, state_by}
+use Rattle.stm_events.specs.SlowDesk.{Slow, Allows}
 use Rattle.stm_history.specs.declared.files.expecting.Expectation.{Expectation}
 use Rattle.stm_history.specs.declared.files.expecting.Expectation.TheVariants.{Due, Refuses}
 use Rattle.stm_history.specs.declared.files.explanation.Explanation.{Explanation}
 use Rattle.stm_history.specs.declared.files.explanation.Explanation.TheVariants.{Expected, Refused, Unreadable}
 use Rattle.stm_history.specs.Explanation.{CanStand, IsCallDue, IsSameCall, is_history_full, call_refusal}
 use Rattle.stm_history.specs.Judgement.{IsShort}
+use Rattle.stm_history.specs.Starts.{Start, state_after_start}
 use Rattle.stm_event_lines.specs.Lines.{event_line}
 use Rattle.stm_event_lines.specs.WholeBlocks.{checked_block}
 
@@ -21,9 +21,9 @@ IsDueOn s full call (Due what) = (full ≡ false) × IsSameCall call what × All
 IsDueOn s full call (Refuses r) = call_refusal s full call ≡ Some r
 
 -- after a history: the same call as it has to be, or why a desk refuses it
-abbrev pub IsDueAfter : StalenessRule → List Declared → List Event → Event → Expectation → Type 0
-IsDueAfter rule table history e (Due what) = IsCallDue rule table history e what
-IsDueAfter rule table history e (Refuses r) = call_refusal (state_by rule table history) (is_history_full history) e.what ≡ Some r
+abbrev pub IsDueAfter : Start → List Event → Event → Expectation → Type 0
+IsDueAfter start history e (Due what) = IsCallDue start history e what
+IsDueAfter start history e (Refuses r) = call_refusal (state_after_start start history) (is_history_full history) e.what ≡ Some r
 
 -- a block that is submitted is what its text checks to over the table
 abbrev pub HasCheckedBlock : List Declared → What → Type 0

@@ -1,6 +1,6 @@
 -- What is reported of the line at which a checker stopped: the line that would be accepted there for the same call, or why a desk
 -- refuses the call.
-use Rattle.std.specs.Prelude.{◌≡◌, ◌⊎◌, ℕ, ◌<◌, Bool, nat_le, if◌then◌else◌, List, [], ◌∷◌, ◌++◌, length, Option, Some, None, option_map, option_and_then, string_bytes}
+use Rattle.std.specs.Prelude.{◌≡◌, ◌⊎◌, ℕ, ◌+◌, ◌<◌, Bool, nat_le, if◌then◌else◌, List, [], ◌∷◌, ◌++◌, length, Option, Some, None, option_map, option_and_then, string_bytes}
 use Rattle.stm_terms.specs.declared.verdicts.Verdict.{Verdict}
 use Rattle.stm_store.specs.Tables.{Declared}
 use Rattle.stm_events.specs.declared.errors.DeliverError.{DeliverError}
@@ -8,19 +8,20 @@ use Rattle.stm_events.specs.declared.errors.DeliverError.TheVariants.{Gone, Alre
 use Rattle.stm_events.specs.declared.event.Event.{Event}
 use Rattle.stm_events.specs.declared.event.What.{What}
 use Rattle.stm_events.specs.declared.event.What.TheVariants.{Submitted, Installed, Finished, Cancelled}
-use Rattle.stm_events.specs.declared.staleness.StalenessRule.{StalenessRule}
 use Rattle.stm_events.specs.Refusals.{submit_refused, cancel_refused, finish_refused}
-use Rattle.stm_events.specs.SlowDesk.{Waiter, Slow, Allows, IsLegalBy, find_waiter, is_current, max_clients, max_events, stale_after, state_by, verdict_on, waking, without_waiter}
+use Rattle.stm_events.specs.SlowDesk.{Waiter, Slow, Allows, find_waiter, is_current, max_clients, max_events, stale_after, verdict_on, waking, without_waiter}
+use Rattle.stm_events.specs.States.{IsLegalFrom}
 use Rattle.stm_machine.specs.Machine.{event}
 use Rattle.stm_history.specs.declared.files.explanation.CallRefusal.{CallRefusal}
 use Rattle.stm_history.specs.declared.files.explanation.CallRefusal.TheVariants.{Submission, Delivery, Finish, Cancellation}
 use Rattle.stm_history.specs.declared.files.explanation.Explanation.{Explanation}
 use Rattle.stm_history.specs.declared.files.explanation.Explanation.TheVariants.{Expected, Refused, Unreadable}
 use Rattle.stm_history.specs.declared.files.fault.HistoryFault.{HistoryFault}
-use Rattle.stm_history.specs.Checking.{CheckerState, at_header, at_variables, at_events, Forbids, LeadsTo, LinesUpTo, NoFeed, strange}
+use Rattle.stm_history.specs.Checking.{CheckerState, at_header, at_variables, at_cells, at_blocks, at_events, Forbids, LeadsTo, LinesUpTo, NoFeed, strange}
 use Rattle.stm_event_lines.specs.Fits.{FitsTable, FitsFormat}
-use Rattle.stm_history.specs.Judgement.{IsIllegalBy, IsShort, next_line}
-use Rattle.stm_event_lines.specs.Lines.{event_line, rule_of}
+use Rattle.stm_history.specs.Judgement.{IsIllegalFrom, IsShort, next_line}
+use Rattle.stm_history.specs.Starts.{Start, first_state, state_after_start}
+use Rattle.stm_event_lines.specs.Lines.{event_line}
 
 -- ---- calls
 -- the two are one call: a submission of one block, or a delivery, a finish or a cancellation under one ticket
@@ -84,21 +85,20 @@ abbrev pub CanStand : ℕ → List Declared → Event → Type 0
 CanStand format table e = FitsTable table e × FitsFormat format e × IsShort (event_line e)
 
 -- this is what the call of the event has to be after the history, and then it is legal
-pub record IsCallDue (rule : StalenessRule) (table : List Declared) (history : List Event) (e : Event) (what : What) : Type 0 where
+pub record IsCallDue (start : Start) (history : List Event) (e : Event) (what : What) : Type 0 where
   pub same : IsSameCall e.what what
-  pub expected : expected_what (state_by rule table history) e.what ≡ Some what
-  pub legal : IsLegalBy rule table (history ++ event e.client what ∷ [])
+  pub expected : expected_what (state_after_start start history) e.what ≡ Some what
+  pub legal : IsLegalFrom (first_state start) (history ++ event e.client what ∷ [])
 
 -- what is reported of a line that was read as this event: the line of what is due; why a desk refuses the call; nothing if what
 -- is due has no line in the format
-abbrev pub ExplainsEvent : ℕ → List Declared → List Event → Event → Explanation → Type 0
-ExplainsEvent format table history e (Expected text) =
-    (what : What) × IsCallDue (rule_of format) table history e what × CanStand format table (event e.client what)
+abbrev pub ExplainsEvent : Start → List Event → Event → Explanation → Type 0
+ExplainsEvent start history e (Expected text) =
+    (what : What) × IsCallDue start history e what × CanStand start.format start.table (event e.client what)
     × (string_bytes text ≡ event_line (event e.client what))
-ExplainsEvent format table history e (Refused r) =
-    call_refusal (state_by (rule_of format) table history) (is_history_full history) e.what ≡ Some r
-ExplainsEvent format table history e Unreadable =
-    (what : What) × IsCallDue (rule_of format) table history e what × (CanStand format table (event e.client what) → ⊥)
+ExplainsEvent start history e (Refused r) = call_refusal (state_after_start start history) (is_history_full history) e.what ≡ Some r
+ExplainsEvent start history e Unreadable =
+    (what : What) × IsCallDue start history e what × (CanStand start.format start.table (event e.client what) → ⊥)
 
 -- the line was read as this event, though its JSON may be written in another way; the line of an event is read as that event
 abbrev pub IsReadAs : List Declared → List ℕ → Event → Type 0
@@ -114,7 +114,7 @@ IsUnread table line (Expected text) = ⊥
 IsUnread table line (Refused r) = ⊥
 IsUnread table line Unreadable = IsOfNoEvent table line
 
--- what is reported of a header or of a variable: a line that leads on from here; no desk refuses one
+-- what is reported of a line before the events: a line that leads on from here; no desk refuses one
 abbrev pub ExplainsHead : CheckerState → Explanation → Type 0
 ExplainsHead p (Expected text) = ((q : CheckerState) × LeadsTo p (string_bytes text) q) × IsShort (string_bytes text)
 ExplainsHead p (Refused r) = ⊥
@@ -124,14 +124,18 @@ ExplainsHead p Unreadable = Unit {0}
 abbrev pub Explains : CheckerState → List ℕ → Explanation → Type 0
 Explains at_header line x = ExplainsHead at_header x
 Explains (at_variables format n table) line x = ExplainsHead (at_variables format n table) x
-Explains (at_events format table history) line x =
-    ((e : Event) × IsReadAs table line e × ExplainsEvent format table history e x) ⊎ IsUnread table line x
+Explains (at_cells next vars waiting table cells) line x = ExplainsHead (at_cells next vars waiting table cells) x
+Explains (at_blocks waiting table c) line x = ExplainsHead (at_blocks waiting table c) x
+Explains (at_events start history) line x =
+    ((e : Event) × IsReadAs start.table line e × ExplainsEvent start history e x) ⊎ IsUnread start.table line x
 
 -- the number of the line that comes next, the first line being number 1
 abbrev pub line_after : CheckerState → ℕ
 line_after at_header = 1
-line_after (at_variables format n table) = next_line table []
-line_after (at_events format table history) = next_line table history
+line_after (at_variables format n table) = length table + 2
+line_after (at_cells next vars waiting table cells) = length cells + 2
+line_after (at_blocks waiting table c) = length c.store + length c.blocks + 2
+line_after (at_events start history) = next_line start history
 
 -- the rest is empty, or begins with a line feed
 abbrev pub IsAfterLine : List ℕ → Type 0
@@ -161,9 +165,9 @@ OneEventOfACall =
 -- a call that a desk refuses is no event that may follow
 abbrev pub RefusedAreIllegal : Type 0
 RefusedAreIllegal =
-    (rule : StalenessRule) (table : List Declared) (history : List Event) (client : ℕ) (a b : What) (r : CallRefusal) →
-    call_refusal (state_by rule table history) (is_history_full history) a ≡ Some r → IsSameCall a b →
-    IsIllegalBy rule table history (event client b)
+    (start : Start) (history : List Event) (client : ℕ) (a b : What) (r : CallRefusal) →
+    call_refusal (state_after_start start history) (is_history_full history) a ≡ Some r → IsSameCall a b →
+    IsIllegalFrom start history (event client b)
 
 -- the line is expected
 abbrev pub IsExpectedText : Explanation → List ℕ → Type 0

@@ -1,16 +1,23 @@
 -- Laws of histories as text. The clauses of the checker fix its answer: bytes are the text of one history at most, and then no
 -- fault can be reported of them; otherwise they have one first fault. What is written is taken.
-use Rattle.std.specs.Prelude.{◌≡◌, ℕ, List, ⊤}
+use Rattle.std.specs.Prelude.{◌≡◌, ℕ, List, Option, None, ⊤}
+use Rattle.stm_store.specs.declared.cell.Cell.{Cell}
 use Rattle.stm_store.specs.Tables.{Declared, AreDeclared}
+use Rattle.stm_check.specs.TypedBlock.{Block}
+use Rattle.stm_events.specs.Delivered.{Delivered}
 use Rattle.stm_events.specs.declared.event.Event.{Event}
+use Rattle.stm_events.specs.SlowDesk.{IsLegalBy}
+use Rattle.stm_events.specs.States.{IsLegalFrom}
+use Rattle.stm_event_lines.specs.CheckpointLines.{FitsCell, FitsWaiting, cell_line, checkpoint_header_line, waiting_line}
+use Rattle.stm_event_lines.specs.Fits.{FitsTable, AreInRange, Is32Bit, IsOneLine, BeginsWithBrace}
+use Rattle.stm_event_lines.specs.Lines.{IsFormat, rule_of, event_line, header_line, variable_line}
 use Rattle.stm_history.specs.declared.files.fault.HistoryFault.{HistoryFault}
 use Rattle.stm_history.specs.declared.files.fault.HistoryFault.TheVariants.{ReadFault, BadHeader, BadLine, NotLegal, NoMemory}
 use Rattle.stm_history.specs.declared.files.fault.Legal.{Legal}
-use Rattle.stm_event_lines.specs.Fits.{FitsTable, AreInRange, IsOneLine, BeginsWithBrace}
-use Rattle.stm_history.specs.HistoryText.{history_text}
-use Rattle.stm_history.specs.Judgement.{IsHistory, ReportsFault, AreVariables, AreEvents, numbers_by}
-use Rattle.stm_event_lines.specs.Lines.{IsFormat, rule_of, event_line, header_line, variable_line}
-use Rattle.stm_events.specs.SlowDesk.{IsLegalBy}
+use Rattle.stm_history.specs.HistoryText.{history_text, start_text}
+use Rattle.stm_history.specs.Judgement.{IsHistory, IsStart, StartFits, ReportsFault, AreEvents, AreShortLines, numbers_from}
+use Rattle.stm_history.specs.Loading.{IsWholeHistory}
+use Rattle.stm_history.specs.Starts.{Start, first_state, read_back, written_start}
 
 -- different events have different lines, without a line feed
 abbrev pub EachLineIsOneEvent : Type 0
@@ -21,24 +28,37 @@ EachLineIsOneEvent =
 abbrev pub EventsAreLines : Type 0
 EventsAreLines = (table : List Declared) (e : Event) → FitsTable table e → IsOneLine (event_line e)
 
+-- the same of the lines of a checkpoint
+pub record CheckpointsAreLines : Type 0 where
+  pub headers : (next vars waiting : ℕ) → Is32Bit next → Is32Bit vars → Is32Bit waiting → IsOneLine (checkpoint_header_line next vars waiting)
+  pub cells : (name : Option (List ℕ)) (c : Cell) → FitsCell name c → IsOneLine (cell_line name c)
+  pub blocks : (table : List Declared) (ticket : ℕ) (block : Block) (d : Option Delivered) → FitsWaiting table ticket block d
+      → IsOneLine (waiting_line ticket block.text d)
+
 -- each line of a history begins with `{`
 abbrev pub LinesBeginWithBraces : Type 0
 LinesBeginWithBraces =
     ((format n : ℕ) → BeginsWithBrace (header_line format n)) × ((d : Declared) → BeginsWithBrace (variable_line d))
     × ((e : Event) → BeginsWithBrace (event_line e))
 
+-- and so does each line of a checkpoint
+abbrev pub CheckpointsBeginWithBraces : Type 0
+CheckpointsBeginWithBraces =
+    ((next vars waiting : ℕ) → BeginsWithBrace (checkpoint_header_line next vars waiting))
+    × ((name : Option (List ℕ)) (c : Cell) → BeginsWithBrace (cell_line name c))
+    × ((ticket : ℕ) (text : List ℕ) (d : Option Delivered) → BeginsWithBrace (waiting_line ticket text d))
+
 -- the numbers of a history are fixed by its text
 abbrev pub NumbersAreFixed : Type 0
 NumbersAreFixed = (bytes : List ℕ) (m n : Legal) → IsHistory bytes m → IsHistory bytes n → m ≡ n
 
--- No two histories over tables have one text, be they legal or not, and no history has one text in two formats. The variables of
--- each table may be declared in turn, and each event fits its table and its format and has a short line.
+-- No two histories have one text, be they legal or not: neither two over tables, nor two from checkpoints, nor one of each; and no
+-- history has one text in two formats. Each start can be read, and each event fits its table and its format and has a short line.
 abbrev pub TextsAreOfOneHistory : Type 0
 TextsAreOfOneHistory =
-    (format format' : ℕ) (table table' : List Declared) (history history' : List Event) → IsFormat format → IsFormat format'
-    → AreVariables table → AreVariables table' → AreEvents format table history → AreEvents format' table' history'
-    → history_text format table history ≡ history_text format' table' history'
-    → (format ≡ format') × (table ≡ table') × (history ≡ history')
+    (s s' : Start) (history history' : List Event) → IsStart s → IsStart s'
+    → AreEvents s.format s.table history → AreEvents s'.format s'.table history' → history_text s history ≡ history_text s' history'
+    → (s ≡ s') × (history ≡ history')
 
 -- no fault can be reported of the text of a legal history
 abbrev pub HistoriesAreTaken : Type 0
@@ -59,12 +79,21 @@ abbrev pub FaultsAreFixed : Type 0
 FaultsAreFixed =
     (bytes : List ℕ) (f g : HistoryFault) → IsOfBytes f → IsOfBytes g → ReportsFault f bytes → ReportsFault g bytes → f ≡ g
 
--- The text of a history in a format that is read, legal by the rule of the format, is one of its numbers. The table is one that
--- declarations make, and its values are in the range of the program's types; each event fits the table and the format, and its
--- line is short.
+-- The text of a history over a table in a format that is read, legal by the rule of the format, is one of its numbers. The table
+-- is one that declarations make, and its values are in the range of the program's types; each event fits the table and the format,
+-- and its line is short.
 abbrev pub WhatIsWrittenIsTaken : Type 0
 WhatIsWrittenIsTaken =
     (format : ℕ) (table : List Declared) (history : List Event) → IsFormat format → AreDeclared table → AreInRange table
     → AreEvents format table history
     → IsLegalBy (rule_of format) table history
-    → IsHistory (history_text format table history) (numbers_by (rule_of format) table history)
+    → IsHistory (history_text (record { format = format; table = table; checkpoint = None }) history)
+    (numbers_from (record { format = format; table = table; checkpoint = None }) history)
+
+-- The text of a legal history, as it is written, is read as that history. Of a checkpoint's table the first values aren't written,
+-- and are read as the defaults of their types; the history is the same one, and from the same state.
+abbrev pub WhatIsKeptIsTaken : Type 0
+WhatIsKeptIsTaken =
+    (s : Start) (history : List Event) → s ≡ written_start s.table s.checkpoint → StartFits s → AreShortLines (start_text s)
+    → AreEvents s.format s.table history → IsLegalFrom (first_state s) history
+    → IsWholeHistory (read_back s) (history_text s history) history

@@ -1,11 +1,17 @@
--- The text of a whole history: the first line, a line for each declared variable, and a line for each event.
-use Rattle.std.specs.Prelude.{ℕ, List, [], ◌∷◌, ◌++◌, length, MatchResult, Option}
+-- The text of a whole history: the first line, a line for each variable, one for each waiting block of a checkpoint, and one for
+-- each event.
+use Rattle.std.specs.Prelude.{ℕ, List, [], ◌∷◌, ◌++◌, length, MatchResult, Option, Some, None}
 use Rattle.std.specs.Io.KnownBytes.{Appends}
 use Rattle.std.specs.declared.result.Result.{Result}
 use Rattle.stm_terms.specs.Texts.{IsPrefixOf}
+use Rattle.stm_store.specs.declared.cell.Cell.{Cell}
 use Rattle.stm_store.specs.Tables.{Declared}
 use Rattle.stm_events.specs.declared.event.Event.{Event}
+use Rattle.stm_machine.specs.declared.checkpoint.CheckpointBlock.{CheckpointBlock}
+use Rattle.stm_machine.specs.Checkpoints.{CheckpointView}
+use Rattle.stm_event_lines.specs.CheckpointLines.{cell_line, checkpoint_header_line, waiting_line}
 use Rattle.stm_event_lines.specs.Lines.{event_line, header_line, variable_line}
+use Rattle.stm_history.specs.Starts.{Start, delivery_of_block}
 
 -- the lines of declared variables, with their line feeds
 abbrev pub variable_lines : List Declared → List ℕ
@@ -21,9 +27,43 @@ event_lines (e ∷ es) = event_line e ++ 10 ∷ event_lines es
 abbrev pub head_text : ℕ → ℕ → List Declared → List ℕ
 head_text format n table = header_line format n ++ 10 ∷ variable_lines table
 
--- a whole history in a format: the first line, the lines of the variables, and those of the events
-abbrev pub history_text : ℕ → List Declared → List Event → List ℕ
-history_text format table history = head_text format (length table) table ++ event_lines history
+-- ---- a checkpoint
+-- the lines of the variables of a store, with their line feeds: the first are the declared ones, and have names
+abbrev pub cell_lines : List Declared → List Cell → List ℕ
+cell_lines table [] = []
+cell_lines [] (c ∷ cs) = cell_line None c ++ 10 ∷ cell_lines [] cs
+cell_lines (d ∷ ds) (c ∷ cs) = cell_line (Some d.name) c ++ 10 ∷ cell_lines ds cs
+
+-- the line of a waiting block
+abbrev pub block_line : CheckpointBlock → List ℕ
+block_line b = waiting_line b.ticket b.waiting.block.text (delivery_of_block b)
+
+-- the lines of waiting blocks, with their line feeds
+abbrev pub block_lines : List CheckpointBlock → List ℕ
+block_lines [] = []
+block_lines (b ∷ bs) = block_line b ++ 10 ∷ block_lines bs
+
+-- the first line, which announces this many variables and waiting blocks, and the lines of the variables that were read
+abbrev pub cells_text : ℕ → ℕ → ℕ → List Declared → List Cell → List ℕ
+cells_text next vars waiting table cells = checkpoint_header_line next vars waiting ++ 10 ∷ cell_lines table cells
+
+-- the same of a checkpoint, and the lines of its waiting blocks
+abbrev pub checkpoint_text : ℕ → List Declared → CheckpointView → List ℕ
+checkpoint_text waiting table c = cells_text c.next (length c.store) waiting table c.store ++ block_lines c.blocks
+
+-- ---- whole histories
+-- the lines before the events, in a format
+abbrev pub text_before : ℕ → List Declared → Option CheckpointView → List ℕ
+text_before format table None = head_text format (length table) table
+text_before format table (Some c) = checkpoint_text (length c.blocks) table c
+
+-- the lines of a start
+abbrev pub start_text : Start → List ℕ
+start_text s = text_before s.format s.table s.checkpoint
+
+-- a whole history: the lines of its start, and those of the events
+abbrev pub history_text : Start → List Event → List ℕ
+history_text s history = start_text s ++ event_lines history
 
 -- ---- writing it
 

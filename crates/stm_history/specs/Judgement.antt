@@ -1,16 +1,21 @@
 -- What a checker of any bytes, or of a list of events, has to report.
-use Rattle.std.specs.Prelude.{◌≡◌, ◌≢◌, ℕ, ◌+◌, ◌≤◌, ◌<◌, List, [], ◌∷◌, ◌++◌, length, None, ⊤}
+use Rattle.std.specs.Prelude.{◌≡◌, ◌≢◌, ℕ, ◌+◌, ◌≤◌, ◌<◌, Bool, true, ◌&&◌, nat_eq, nat_le, if◌then◌else◌, List, [], ◌∷◌, ◌++◌, length, Option, Some, None, ⊤}
+use Rattle.stm_store.specs.declared.cell.Cell.{Cell}
 use Rattle.stm_store.specs.Tables.{Declared, declare_refusal}
 use Rattle.stm_events.specs.declared.event.Event.{Event}
+use Rattle.stm_events.specs.SlowDesk.{Slow, state, IsLegal, max_cells}
+use Rattle.stm_events.specs.States.{IsLegalFrom}
+use Rattle.stm_machine.specs.declared.checkpoint.CheckpointBlock.{CheckpointBlock}
+use Rattle.stm_machine.specs.Checkpoints.{CheckpointView, MayStart}
+use Rattle.stm_event_lines.specs.CheckpointLines.{FitsCell, FitsWaiting, checkpoint_format}
+use Rattle.stm_event_lines.specs.Fits.{FitsTable, FitsFormat, FitsVariable}
+use Rattle.stm_event_lines.specs.Lines.{IsFormat, event_line}
 use Rattle.stm_history.specs.declared.files.fault.HistoryFault.{HistoryFault}
 use Rattle.stm_history.specs.declared.files.fault.HistoryFault.TheVariants.{ReadFault, BadHeader, BadLine, NotLegal, NoMemory}
 use Rattle.stm_history.specs.declared.files.fault.Legal.{Legal}
-use Rattle.stm_event_lines.specs.Fits.{FitsTable, FitsFormat, FitsVariable}
-use Rattle.stm_history.specs.HistoryText.{head_text, history_text}
-use Rattle.stm_event_lines.specs.Lines.{IsFormat, rule_of, event_line}
-use Rattle.stm_events.specs.declared.staleness.StalenessRule.{StalenessRule}
-use Rattle.stm_events.specs.declared.staleness.StalenessRule.TheVariants.{Changed}
-use Rattle.stm_events.specs.SlowDesk.{state_by, IsLegal, IsLegalBy, max_cells}
+use Rattle.stm_history.specs.Defaults.{HaveDefaults}
+use Rattle.stm_history.specs.HistoryText.{block_line, history_text, start_text}
+use Rattle.stm_history.specs.Starts.{Start, delivery_of_block, first_state, state_after_start}
 
 -- the most bytes of a line, its line feed not counted
 abbrev pub max_line : ℕ
@@ -39,37 +44,95 @@ abbrev pub AreEvents : ℕ → List Declared → List Event → Type 0
 AreEvents format table [] = ⊤
 AreEvents format table (e ∷ es) = FitsTable table e × FitsFormat format e × IsShort (event_line e) × AreEvents format table es
 
--- the bytes are the text of a history in the format, legal by the rule of the format, and then the rest
-pub record BeginsWithHistory
-    (format : ℕ) (bytes : List ℕ) (table : List Declared) (history : List Event) (rest : List ℕ) : Type 0 where
-  pub text : bytes ≡ history_text format table history ++ rest
-  pub few : length table ≤ max_cells
+-- ---- starts
+-- each variable of a store can be in a line
+abbrev pub FitCells : List Cell → Type 0
+FitCells [] = ⊤
+FitCells (c ∷ cs) = FitsCell None c × FitCells cs
+
+-- each waiting block can be in a line over the table
+abbrev pub FitBlocks : List Declared → List CheckpointBlock → Type 0
+FitBlocks table [] = ⊤
+FitBlocks table (b ∷ bs) = FitsWaiting table b.ticket b.waiting.block (delivery_of_block b) × FitBlocks table bs
+
+-- the checkpoint, whose first variables are those of the table, can be written
+pub record CheckpointFits (table : List Declared) (c : CheckpointView) : Type 0 where
   pub variables : AreVariables table
-  pub events : AreEvents format table history
-  pub legal : IsLegalBy (rule_of format) table history
+  pub may : MayStart table (Some c)
+  pub cells : FitCells c.store
+  pub blocks : FitBlocks table c.blocks
+
+-- the table can be written, and the checkpoint, if there is one
+abbrev pub FitsBefore : List Declared → Option CheckpointView → Type 0
+FitsBefore table None = AreVariables table
+FitsBefore table (Some c) = CheckpointFits table c
+
+-- the start can be written, if its lines aren't too long
+abbrev pub StartFits : Start → Type 0
+StartFits s = FitsBefore s.table s.checkpoint
+
+-- the lines of these waiting blocks are short; those of variables always are
+abbrev pub HaveShortLines : List CheckpointBlock → Type 0
+HaveShortLines [] = ⊤
+HaveShortLines (b ∷ bs) = IsShort (block_line b) × HaveShortLines bs
+
+-- the checkpoint can be read, and its text has all that it and the table have: each first value is the default of its type
+pub record IsReadable (table : List Declared) (c : CheckpointView) : Type 0 where
+  pub fits : CheckpointFits table c
+  pub defaults : HaveDefaults table
+  pub short : HaveShortLines c.blocks
+
+-- the table can be read in the format, or the checkpoint, if there is one
+abbrev pub IsBefore : ℕ → List Declared → Option CheckpointView → Type 0
+IsBefore format table None = IsFormat format × (length table ≤ max_cells) × AreVariables table
+IsBefore format table (Some c) = (format ≡ checkpoint_format) × IsReadable table c
+
+-- the start is one that can be read
+abbrev pub IsStart : Start → Type 0
+IsStart s = IsBefore s.format s.table s.checkpoint
+
+-- no line of the text is too long, if this many bytes of its first line came before
+abbrev pub are_short_after : ℕ → List ℕ → Bool
+are_short_after n [] = nat_le n max_line
+are_short_after n (x ∷ xs) = if nat_eq x 10 then nat_le n max_line && are_short_after 0 xs else are_short_after (n + 1) xs
+
+-- no line of the text is too long
+abbrev pub AreShortLines : List ℕ → Type 0
+AreShortLines text = are_short_after 0 text ≡ true
+
+-- ---- histories
+-- the bytes are the text of a history from this start, legal by the rule of its format, and then the rest
+pub record BeginsWithHistory (s : Start) (bytes : List ℕ) (history : List Event) (rest : List ℕ) : Type 0 where
+  pub text : bytes ≡ history_text s history ++ rest
+  pub start : IsStart s
+  pub events : AreEvents s.format s.table history
+  pub legal : IsLegalFrom (first_state s) history
+
+-- how many lines come before the events
+abbrev pub lines_before : List Declared → Option CheckpointView → ℕ
+lines_before table None = length table + 1
+lines_before table (Some c) = length c.store + length c.blocks + 1
 
 -- the number of the line after these, the first line being number 1
-abbrev pub next_line : List Declared → List Event → ℕ
-next_line table history = length table + length history + 2
+abbrev pub next_line : Start → List Event → ℕ
+next_line start history = lines_before start.table start.checkpoint + length history + 1
 
--- how many events there are, how many blocks wait after them, and how many variables the store has
-abbrev pub numbers_by : StalenessRule → List Declared → List Event → Legal
-numbers_by rule table history =
-    record {
-      events = length history;
-      waiting = length (state_by rule table history).waiters;
-      cells = length (state_by rule table history).store;
-    }
+-- how many events there are, how many blocks wait in the state after them, and how many variables its store has
+abbrev pub numbers_at : Slow → List Event → Legal
+numbers_at s history = record { events = length history; waiting = length s.waiters; cells = length s.store }
 
--- the same under the present rule
+-- the same of a history from this start
+abbrev pub numbers_from : Start → List Event → Legal
+numbers_from start history = numbers_at (state_after_start start history) history
+
+-- the same of a history over a table, by the present rule
 abbrev pub numbers : List Declared → List Event → Legal
-numbers = numbers_by Changed
+numbers table history = numbers_at (state table history) history
 
 -- the bytes are the text of a legal history with these numbers, in a format that is read
 abbrev pub IsHistory : List ℕ → Legal → Type 0
 IsHistory bytes n =
-    (format : ℕ) × IsFormat format × (table : List Declared) × (history : List Event)
-    × BeginsWithHistory format bytes table history [] × (n ≡ numbers_by (rule_of format) table history)
+    (start : Start) × (history : List Event) × BeginsWithHistory start bytes history [] × (n ≡ numbers_from start history)
 
 -- no line of an event comes next: a line of no event that the format has, a line too long, or the end in mid-line
 abbrev pub NoEventNext : ℕ → List Declared → List ℕ → Type 0
@@ -78,31 +141,29 @@ NoEventNext format table rest =
     → rest ≢ event_line e ++ 10 ∷ more
 
 -- the event can't follow
-abbrev pub IsIllegalBy : StalenessRule → List Declared → List Event → Event → Type 0
-IsIllegalBy rule table history e = IsLegalBy rule table (history ++ e ∷ []) → ⊥
+abbrev pub IsIllegalFrom : Start → List Event → Event → Type 0
+IsIllegalFrom start history e = IsLegalFrom (first_state start) (history ++ e ∷ []) → ⊥
 
--- the same under the present rule
+-- the same over a table, by the present rule
 abbrev pub IsIllegal : List Declared → List Event → Event → Type 0
-IsIllegal = IsIllegalBy Changed
+IsIllegal table history e = IsLegal table (history ++ e ∷ []) → ⊥
 
 -- What is reported of bytes that are no legal history: the first fault, as a law says (`FileLaws.FaultsAreFixed`). The header is
--- at fault if the bytes begin with the first lines of no table in any format that is read. A later line is at fault if a legal
+-- at fault if the bytes begin with the lines of no start that can be read. A later line is at fault if a legal
 -- history precedes it: it is bad if it is not a short line of an event of the format, and not legal if it is the short line of an
 -- event that cannot follow.
 abbrev pub ReportsFault : HistoryFault → List ℕ → Type 0
 ReportsFault ReadFault bytes = ⊤
 ReportsFault NoMemory bytes = ⊤
-ReportsFault BadHeader bytes =
-    (format : ℕ) → IsFormat format → (table : List Declared) → length table ≤ max_cells → AreVariables table → (more : List ℕ)
-    → bytes ≢ head_text format (length table) table ++ more
+ReportsFault BadHeader bytes = (start : Start) → IsStart start → (more : List ℕ) → bytes ≢ start_text start ++ more
 ReportsFault (BadLine n) bytes =
-    (format : ℕ) × IsFormat format × (table : List Declared) × (history : List Event) × (rest : List ℕ)
-    × BeginsWithHistory format bytes table history rest × (n ≡ next_line table history)
-    × (0 < length rest) × NoEventNext format table rest
+    (start : Start) × (history : List Event) × (rest : List ℕ)
+    × BeginsWithHistory start bytes history rest × (n ≡ next_line start history)
+    × (0 < length rest) × NoEventNext start.format start.table rest
 ReportsFault (NotLegal n) bytes =
-    (format : ℕ) × IsFormat format × (table : List Declared) × (history : List Event) × (e : Event) × (more : List ℕ)
-    × BeginsWithHistory format bytes table history (event_line e ++ 10 ∷ more) × (n ≡ next_line table history) × FitsTable table e
-    × FitsFormat format e × IsShort (event_line e) × IsIllegalBy (rule_of format) table history e
+    (start : Start) × (history : List Event) × (e : Event) × (more : List ℕ)
+    × BeginsWithHistory start bytes history (event_line e ++ 10 ∷ more) × (n ≡ next_line start history)
+    × FitsTable start.table e × FitsFormat start.format e × IsShort (event_line e) × IsIllegalFrom start history e
 
 -- what replaying reports of a list that isn't legal: the first event, counted from 1, that can't follow those before it
 abbrev pub Refuses : HistoryFault → List Declared → List Event → Type 0

@@ -1,24 +1,30 @@
--- What is loaded of bytes, or reported of them: the one history in the latest format whose text they are.
-use Rattle.std.specs.Prelude.{◌≢◌, ℕ, List, []}
+-- What is loaded of bytes, or reported of them: the one history in a format that is written whose text they are.
+use Rattle.std.specs.Prelude.{◌≢◌, ℕ, List, [], None}
 use Rattle.stm_store.specs.Tables.{Declared}
 use Rattle.stm_events.specs.declared.event.Event.{Event}
+use Rattle.stm_event_lines.specs.Lines.{IsFormat, latest_format}
 use Rattle.stm_history.specs.declared.files.loading.LoadFault.{LoadFault}
 use Rattle.stm_history.specs.declared.files.loading.LoadFault.TheVariants.{Fault, OldFormat}
+use Rattle.stm_history.specs.declared.files.loading.Loaded.{Loaded}
 use Rattle.stm_history.specs.Judgement.{BeginsWithHistory, ReportsFault}
-use Rattle.stm_event_lines.specs.Lines.{IsFormat, latest_format}
+use Rattle.stm_history.specs.Starts.{Start, written_start}
 
--- the bytes are the text of this legal history in the format, and nothing else
-abbrev pub IsWholeHistory : ℕ → List ℕ → List Declared → List Event → Type 0
-IsWholeHistory format bytes table history = BeginsWithHistory format bytes table history []
+-- the bytes are the text of this legal history, and nothing else
+abbrev pub IsWholeHistory : Start → List ℕ → List Event → Type 0
+IsWholeHistory start bytes history = BeginsWithHistory start bytes history []
 
--- what is reported of bytes that are no legal history in the latest format: the first error, or that their format is an earlier
--- one
+-- where a loaded history begins
+abbrev pub loaded_start : Loaded → Start
+loaded_start h = written_start h.table h.checkpoint
+
+-- what is reported of bytes that are no legal history in a format that is written: the first error, or that their format is an
+-- earlier one
 abbrev pub ReportsLoadFault : LoadFault → List ℕ → Type 0
 ReportsLoadFault (Fault f) bytes = ReportsFault f bytes
 ReportsLoadFault (OldFormat format) bytes =
     IsFormat format × (format ≢ latest_format) × (table : List Declared) × (history : List Event)
-    × IsWholeHistory format bytes table history
+    × IsWholeHistory (record { format = format; table = table; checkpoint = None }) bytes history
 
 -- the history is legal, and can be written: some text is its text
-abbrev pub HasText : List Declared → List Event → Type 0
-HasText table history = (text : List ℕ) × IsWholeHistory latest_format text table history
+abbrev pub HasText : Start → List Event → Type 0
+HasText start history = (text : List ℕ) × IsWholeHistory start text history

@@ -235,7 +235,7 @@ impl Machine {
     }
 
     /// A machine at the state of a checkpoint, on which each new and each stale block is queued. No block is evaluated.
-    /// It takes memory for each ticket up to the highest that waits.
+    /// Its memory grows with the number of blocks, and not with their tickets.
     pub fn from_checkpoint(alloc: Global, checkpoint: &Checkpoint) -> Result<Machine, NoMemory>
         ensures at { IfOk result (λ m. IsAt m (checkpoint_state checkpoint.now)) }
         ensures none_out { IfOk result (λ m. some_out m.pending ≡ false) }

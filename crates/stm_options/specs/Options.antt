@@ -11,7 +11,9 @@ pub record AreRunOptions (o : Options) : Type 0 where
   pub few_workers : o.workers ≤ max_workers
   pub few_levels : o.levels ≤ max_levels
   pub few_events : o.max_events ≤ max_events
+  pub some_event : 1 ≤ o.checkpoint_every
+  pub few_between : o.checkpoint_every ≤ max_events
 
--- the options where nothing is said
+-- the options if nothing is said
 abbrev pub default_options : Options
-default_options = record { workers = 2; levels = 0; max_events = max_events }
+default_options = record { workers = 2; levels = 0; max_events = max_events; checkpoint_every = 500000 }

@@ -6,13 +6,14 @@ ghost use Rattle.stm_options.specs.Options.{default_options};
 use stm_desk::Desk;
 
 /// How a run works: how many threads evaluate blocks (1 to 64), how deep the branches of `orElse` are evaluated on threads
-/// of their own (0 to 8), and how many events the desk takes (at most 1,048,576). None but the last has a say in what a run
-/// writes.
+/// of their own (0 to 8), how many events the desk takes (at most 1,048,576), and from how many events on a run with a file begins
+/// its history anew by a checkpoint (1 to 1,048,576). Only the last two have a say in what a run writes.
 #[derive(Clone, Copy, PartialEq, Eq, Debug)]
 pub struct Options {
     pub workers: u32,
     pub levels: u32,
     pub max_events: u32,
+    pub checkpoint_every: u32,
 }
 
 impl Options {
@@ -25,7 +26,11 @@ impl Options {
     /// The most events.
     pub const MAX_EVENTS: u32 = Desk::MAX_EVENTS;
 
-    /// Where nothing is said: two threads, no branches on threads of their own, as many events as there may be.
+    /// From how many events on a checkpoint is made if nothing is said.
+    pub const CHECKPOINT_EVERY: u32 = 500_000;
+
+    /// If nothing is said: two threads, no branches on threads of their own, as many events as there may be, and a checkpoint at
+    /// 500,000 events.
     pub fn standard() -> Options
         ensures { result ≡ default_options }
     {
@@ -33,6 +38,7 @@ impl Options {
             workers: 2,
             levels: 0,
             max_events: Options::MAX_EVENTS,
+            checkpoint_every: Options::CHECKPOINT_EVERY,
         }
     }
 }

@@ -2,6 +2,7 @@
 use denote.Ref.{NamedLft}
 use denote.RattleType.{RattleType}
 use denote.Param.Send.{IsSend, IsSync, sendable}
+use denote.Param.SendFields.{declared_send}
 use Rattle.std.specs.declared.sync.ledger.Ledger.{Ghosts}
 use Rattle.std.proofs.sync.ledger.Share.TheSendSync.{the_send as share_send}
 use Rattle.std.proofs.sync.ledger.Book.TheSendSync.{the_send as book_send}
@@ -22,6 +23,8 @@ use Rattle.stm_waiting.specs.contracts.waiting.Held as held
 use Rattle.stm_waiting.specs.contracts.waiting.Waiting as waiting
 use Rattle.stm_waiting.specs.contracts.waiting.WaitingBlocks as blocks
 use Rattle.stm_machine.specs.contracts.machine.Machine as machine
+use Rattle.stm_machine.specs.contracts.checkpoint.CheckpointBlock as checkpoint_block
+use Rattle.stm_machine.specs.contracts.checkpoint.Checkpoint as checkpoint
 use Rattle.stm_store.specs.contracts.table.Table as table
 use Rattle.stm_store.specs.contracts.store.Store as store
 use Rattle.stm_queue.specs.contracts.pending.Pending as pending
@@ -89,8 +92,14 @@ pending_send = search (sendable, crosses) depth 40 fits 100000
 pub machine_send : IsSend machine.the_row
 machine_send = search (sendable, crosses, maps_crosses, store_send, blocks_send, pending_send) depth 40 fits 100000
 
+pub checkpoint_block_send : IsSend checkpoint_block.the_row
+checkpoint_block_send = declared_send checkpoint_block.the_type (search (sendable, crosses), (search (sendable, waiting_send), (search (sendable, crosses), tt)))
+
+pub checkpoint_send : IsSend checkpoint.the_row
+checkpoint_send = search (sendable, crosses, store_send, checkpoint_block_send) depth 40 fits 100000
+
 pub desk_send : IsSend desk.the_row
-desk_send = search (sendable, Vec-send, event_send, table_send, machine_send) depth 40 fits 100000
+desk_send = search (sendable, Vec-send, event_send, table_send, checkpoint_send, machine_send) depth 40 fits 100000
 
 module _ (L : RattleType) (g : Ghosts L.Denot) where
   pub pass_send : IsSend (pass.the_row L g)

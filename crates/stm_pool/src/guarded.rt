@@ -28,7 +28,8 @@ use stm_terms::NoMemory;
 
 /// The desk, whether it was stopped, and the book of all passes' shares.
 ///
-/// Its type keeps that the book counts as many events as the history has. `rest` is the share that
+/// Its type keeps that the history begins with the first values of the variables, and from no
+/// checkpoint, and that the book counts as many events as the history has. `rest` is the share that
 /// is left when each pass has its part; it counts none.
 #[derive(Drop)]
 pub struct Guarded<L: Ledger> {
@@ -36,6 +37,7 @@ pub struct Guarded<L: Ledger> {
     pub stopped: bool,
     pub(crate) book: Book<L>,
     pub(crate) rest: Share<L>,
+    pub ghost from_variables: { is_some desk.checkpoint ≡ false },
     pub ghost counted: { book.total ≡ length desk.history },
     pub ghost no_part: { rest.parts ≡ 0 },
     pub ghost no_amount: { rest.amount ≡ 0 },

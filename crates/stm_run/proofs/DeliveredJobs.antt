@@ -1,6 +1,6 @@
 -- What `take`, `deliver`, `handback` and `eval` do keeps the desk standing: what a job's block does on the job's store it
 -- does on the present one where nothing that it read differs, and it is the block that waits.
-use Rattle.std.proofs.Common.{◌≡◌, ℕ, zero, suc, ◌+◌, Bool, true, false, cond, List, [], ◌∷◌, ◌++◌, Option, Some, None, refl, ap, sym, subst, ◌∙◌, append-nil}
+use Rattle.std.proofs.Common.{◌≡◌, ℕ, zero, suc, ◌+◌, Bool, true, false, cond, List, [], ◌∷◌, ◌++◌, Option, Some, None, refl, ap, sym, subst, ◌∙◌}
 use Rattle.std.specs.Prelude.{IsSomeAnd, codes, option_map, nat_lt, length}
 use Rattle.stm_terms.specs.declared.values.Value.{Value}
 use Rattle.stm_terms.specs.declared.verdicts.Verdict.{Verdict}
@@ -10,17 +10,15 @@ use Rattle.stm_terms.specs.Verdict.{verdict}
 use Rattle.stm_check.specs.TypedBlock.{Block}
 use Rattle.stm_eval.specs.Laws.{VerdictIsStable}
 use Rattle.stm_store.specs.declared.cell.Cell.{Cell}
-use Rattle.stm_store.specs.Tables.{Declared}
-use Rattle.stm_events.specs.declared.staleness.StalenessRule.TheVariants.{Changed}
-use Rattle.stm_events.specs.declared.event.Event.{Event}
 use Rattle.stm_events.specs.declared.event.What.TheVariants.{Installed}
 use Rattle.stm_events.specs.declared.errors.DeliverError.{DeliverError}
 use Rattle.stm_events.specs.declared.errors.DeliverError.TheVariants as deliver
 use Rattle.stm_queue.specs.Queue.{marked}
 use Rattle.stm_machine.specs.JobsHandedOut.{block_at, sent}
-use Rattle.stm_events.specs.Laws.{BlocksStay}
 use Rattle.stm_events.specs.Refusals.{differing, overtaken_first, pending_left}
-use Rattle.stm_events.specs.SlowDesk.{Waiter, under, is_current, find_waiter, state, MayInstall, IsLegal}
+use Rattle.stm_events.specs.SlowDesk.{Waiter, Slow, under, is_current, find_waiter, MayInstall}
+use Rattle.stm_events.specs.States.{IsPossible, IsTicketOf}
+use Rattle.stm_events.proofs.Kept.{ticket_waiting}
 use Rattle.stm_desk.specs.Refusals.{requeued_if_overtaken}
 use Rattle.stm_desk.specs.DeskView.{DeskView, state_of, is_full}
 use Rattle.stm_commands.specs.Evaluation.{DeliveredSoFar, delivered_by, delivered_next, delivered_all, all_queued, evaluated}
@@ -30,7 +28,7 @@ use Rattle.stm_commands.specs.Refusals.{refused}
 use Rattle.stm_run.proofs.ArgumentCases.{either_has}
 use Rattle.stm_run.proofs.AgreeingReads.{agrees_there}
 use Rattle.stm_commands.proofs.KeptQueue.{tickets_left, tickets_marked, tickets_sent}
-use Rattle.stm_run.proofs.StandingDesk.{WasTaken, AllTaken, Stands, stands_event, stands_marked, stands_with, taken_append, taken_at}
+use Rattle.stm_run.proofs.StandingDesk.{AllTaken, Stands, stands_sound, stands_event, stands_marked, stands_with, taken_append, taken_at}
 
 -- ---- refusals
 record MayCome (current : Bool) (o : Option ℕ) (full : Bool) : Type 0 where
@@ -59,16 +57,13 @@ pub refusal_told : (d : DeskView) (j : HandedOut) → delivery_refusal d j ≡ S
 refusal_told d j e = deliver_told (state_of d).store (find_waiter j.ticket (state_of d).waiters) (reads_of (cell_value j.store) j.block.tree) d e
 
 -- ---- jobs
-job_taken : (table : List Declared) (history : List Event) (t : ℕ) (o : Option Waiter) → find_waiter t (state table history).waiters ≡ o
-    → AllTaken table history (job_of (state table history) t (option_map (λ w. w.block) o))
-job_taken table history t None e = tt
-job_taken table history t (Some w) e = (record { before = history; more = []; whole = sym (append-nil history); one = w; found = e; block = refl }, tt)
+job_taken : (s : Slow) (t : ℕ) (o : Option Waiter) → IsPossible s → find_waiter t s.waiters ≡ o → AllTaken s (job_of s t (option_map (λ w. w.block) o))
+job_taken s t None p e = tt
+job_taken s t (Some w) p e = (ticket_waiting s t w p e, tt)
 
-jobs_taken : (table : List Declared) (history : List Event) (ts : List ℕ) → AllTaken table history (jobs_of (state table history) ts)
-jobs_taken table history [] = tt
-jobs_taken table history (t ∷ ts) =
-    taken_append table history (job_of (state table history) t (block_at (state table history) t)) (jobs_of (state table history) ts)
-    (job_taken table history t (find_waiter t (state table history).waiters) refl) (jobs_taken table history ts)
+jobs_taken : (s : Slow) (ts : List ℕ) → IsPossible s → AllTaken s (jobs_of s ts)
+jobs_taken s [] p = tt
+jobs_taken s (t ∷ ts) p = taken_append s (job_of s t (block_at s t)) (jobs_of s ts) (job_taken s t (find_waiter t s.waiters) p refl) (jobs_taken s ts p)
 
 pub take_stands : (d : OpenDesk) (n : ℕ) → Stands d.desk d.jobs → Stands (take_jobs_step d n).0.desk (take_jobs_step d n).0.jobs
 take_stands d n k =
@@ -76,17 +71,21 @@ take_stands d n k =
     let js = jobs_of (state_of d.desk) tickets in
     let pending = sent (length tickets) d.desk.pending in
     either_has (λ (p : OpenDesk × List ℕ). Stands p.0.desk p.0.jobs) (nat_lt max_jobs (n + length d.jobs)) (d, refused (codes "JobsFull")) (with_jobs d tickets, jobs_line (length d.jobs + 1) tickets) k
-    (stands_with (record d.desk { pending = pending }) d.jobs (d.jobs ++ js) (taken_append d.desk.table d.desk.history d.jobs js k.taken (jobs_taken d.desk.table d.desk.history tickets))
+    (stands_with (record d.desk { pending = pending }) d.jobs (d.jobs ++ js) (taken_append (state_of d.desk) d.jobs js k.taken (jobs_taken (state_of d.desk) tickets (stands_sound d.desk d.jobs k).possible))
     (stands_marked d.desk pending d.jobs (tickets_sent (length tickets) d.desk.pending) k))
 
-module _ (stay : BlocksStay) (stable : VerdictIsStable) where
-  -- ---- a delivery
-  same_block : (d : DeskView) (jobs : List HandedOut) (j : HandedOut) (w : Waiter) → WasTaken d.table d.history j → find_waiter j.ticket (state_of d).waiters ≡ Some w → Stands d jobs → w.block ≡ j.block
-  same_block d jobs j w t f k =
-      stay Changed d.table t.before t.more j.ticket t.one w (subst (IsLegal d.table) t.whole k.legal) t.found
-      (subst (λ (h : List Event). find_waiter j.ticket (state d.table h).waiters ≡ Some w) t.whole f) ∙ t.block
+-- all that is queued is taken, to be evaluated at once
+pub queued_stand : (d : DeskView) (jobs : List HandedOut) → Stands d jobs
+    → Stands (record d { pending = sent (length (all_queued d)) d.pending }) (jobs_of (state_of d) (all_queued d) ++ jobs)
+queued_stand d jobs k =
+    let js = jobs_of (state_of d) (all_queued d) in
+    let pending = sent (length (all_queued d)) d.pending in
+    stands_with (record d { pending = pending }) jobs (js ++ jobs) (taken_append (state_of d) js jobs (jobs_taken (state_of d) (all_queued d) (stands_sound d jobs k).possible) k.taken)
+    (stands_marked d pending jobs (tickets_sent (length (all_queued d)) d.pending) k)
 
-  installs_by : (d : DeskView) (jobs : List HandedOut) (j : HandedOut) (w : Waiter) (v : Option Verdict) → WasTaken d.table d.history j → find_waiter j.ticket (state_of d).waiters ≡ Some w
+module _ (stable : VerdictIsStable) where
+  -- ---- a delivery
+  installs_by : (d : DeskView) (jobs : List HandedOut) (j : HandedOut) (w : Waiter) (v : Option Verdict) → IsTicketOf j.block (state_of d) j.ticket → find_waiter j.ticket (state_of d).waiters ≡ Some w
       → verdict (cell_value j.store) j.block.tree ≡ v
       → MayCome (is_current w) (differing (under (state_of d).store) (reads_of (cell_value j.store) j.block.tree)) (is_full d) → Stands d jobs → Stands (installed d j.ticket v) jobs
   installs_by d jobs j w None t f e m k = k
@@ -97,18 +96,18 @@ module _ (stay : BlocksStay) (stable : VerdictIsStable) where
       (stable j.block.tree reads v (cell_value j.store) (under s.store) (record { verdict_is = e; reads_are = refl }) (agrees_there (under s.store) reads m.same)).verdict_is in
       let may : MayInstall s w v = record {
         not_current = m.due;
-        verdict_is = ap (λ (b : Block). verdict (under s.store) b.tree) (same_block d jobs j w t f k) ∙ there;
+        verdict_is = ap (λ (b : Block). verdict (under s.store) b.tree) (t.waits w f) ∙ there;
       } in
       stands_event d jobs (Installed j.ticket v) m.room (subst (λ (o : Option Waiter). IsSomeAnd o (λ x. MayInstall s x v)) (sym f) may) tt k
 
-  installs_of : (d : DeskView) (jobs : List HandedOut) (j : HandedOut) (o : Option Waiter) → WasTaken d.table d.history j → find_waiter j.ticket (state_of d).waiters ≡ o
+  installs_of : (d : DeskView) (jobs : List HandedOut) (j : HandedOut) (o : Option Waiter) → IsTicketOf j.block (state_of d) j.ticket → find_waiter j.ticket (state_of d).waiters ≡ o
       → delivery_first (state_of d).store o (reads_of (cell_value j.store) j.block.tree) d ≡ None → Stands d jobs → Stands (installed d j.ticket (verdict (cell_value j.store) j.block.tree)) jobs
   installs_of d jobs j None t f e k = absurd cc
   installs_of d jobs j (Some w) t f e k =
       let differs = differing (under (state_of d).store) (reads_of (cell_value j.store) j.block.tree) in
       installs_by d jobs j w (verdict (cell_value j.store) j.block.tree) t f refl (may_come (is_current w) differs (is_full d) e) k
 
-  after_stands : (d : DeskView) (jobs : List HandedOut) (j : HandedOut) (o : Option DeliverError) → WasTaken d.table d.history j → delivery_refusal d j ≡ o → Stands d jobs → Stands (delivery_step d j o).0 jobs
+  after_stands : (d : DeskView) (jobs : List HandedOut) (j : HandedOut) (o : Option DeliverError) → IsTicketOf j.block (state_of d) j.ticket → delivery_refusal d j ≡ o → Stands d jobs → Stands (delivery_step d j o).0 jobs
   after_stands d jobs j (Some x) t e k = stands_marked d (pending_left x j.ticket d.pending) jobs (tickets_left x j.ticket d.pending) k
   after_stands d jobs j None t e k = installs_of d jobs j (find_waiter j.ticket (state_of d).waiters) t refl e k
 
@@ -118,17 +117,17 @@ module _ (stay : BlocksStay) (stable : VerdictIsStable) where
       of : (n : ℕ) (o : Option HandedOut) → job_at n jobs ≡ o → Stands (deliver_job_step d o).0 jobs
       of n None e = k
       of zero (Some j) e = absurd cc
-      of (suc n) (Some j) e = after_stands d jobs j (delivery_refusal d j) (taken_at d.table d.history jobs n j k.taken e) refl k
+      of (suc n) (Some j) e = after_stands d jobs j (delivery_refusal d j) (taken_at (state_of d) jobs n j k.taken e) refl k
 
   -- ---- eval
-  by_stands : (d : DeliveredSoFar) (j : HandedOut) (rest : List HandedOut) (o : Option DeliverError) → delivery_refusal d.desk j ≡ o → WasTaken d.desk.table d.desk.history j → Stands d.desk rest
+  by_stands : (d : DeliveredSoFar) (j : HandedOut) (rest : List HandedOut) (o : Option DeliverError) → delivery_refusal d.desk j ≡ o → IsTicketOf j.block (state_of d.desk) j.ticket → Stands d.desk rest
       → Stands (delivered_by d j o).desk rest
   by_stands d j rest None e t k = after_stands d.desk rest j None t e k
   by_stands d j rest (Some x) e t k =
       let left = requeued_if_overtaken x j.ticket d.desk in
       stands_marked left (marked j.ticket false left.pending) rest (tickets_marked j.ticket false left.pending) (after_stands d.desk rest j (Some x) t e k)
 
-  next_stands : (d : DeliveredSoFar) (j : HandedOut) (rest : List HandedOut) (o : Option DeliverError) → Stands d.desk (j ∷ rest) → Stands (delivered_next d j o).desk rest
+  pub next_stands : (d : DeliveredSoFar) (j : HandedOut) (rest : List HandedOut) (o : Option DeliverError) → Stands d.desk (j ∷ rest) → Stands (delivered_next d j o).desk rest
   next_stands d j rest None k = by_stands d j rest (delivery_refusal d.desk j) refl k.taken.0 (stands_with d.desk (j ∷ rest) rest k.taken.1 k)
   next_stands d j rest (Some x) k =
       stands_marked d.desk (marked j.ticket false d.desk.pending) rest (tickets_marked j.ticket false d.desk.pending) (stands_with d.desk (j ∷ rest) rest k.taken.1 k)
@@ -138,11 +137,7 @@ module _ (stay : BlocksStay) (stable : VerdictIsStable) where
   all_stand (j ∷ js) kept d k = all_stand js kept (delivered_next d j d.stop) (next_stands d j (js ++ kept) d.stop k)
 
   pub evaluated_stands : (d : DeskView) (jobs : List HandedOut) → Stands d jobs → Stands (evaluated d).desk jobs
-  evaluated_stands d jobs k =
-      let js = jobs_of (state_of d) (all_queued d) in
-      let pending = sent (length (all_queued d)) d.pending in
-      all_stand js jobs _ (stands_with (record d { pending = pending }) jobs (js ++ jobs) (taken_append d.table d.history js jobs (jobs_taken d.table d.history (all_queued d)) k.taken)
-      (stands_marked d pending jobs (tickets_sent (length (all_queued d)) d.pending) k))
+  evaluated_stands d jobs k = all_stand (jobs_of (state_of d) (all_queued d)) jobs _ (queued_stand d jobs k)
 
 -- ---- what stops an eval is printed
 abbrev IsTold : Option DeliverError → Type 0

@@ -9,16 +9,15 @@ use Rattle.stm_terms.specs.Texts.{list_text, write_text, value_text, verdict_tex
 use Rattle.stm_check.specs.Laws.{VerdictFits}
 use Rattle.stm_check.specs.TypedBlock.{Block}
 use Rattle.stm_store.specs.declared.cell.Cell.{Cell}
-use Rattle.stm_store.specs.Cells.{StoreIsTyped, plains, renumbered, changed_by}
+use Rattle.stm_store.specs.Cells.{plains, renumbered, changed_by}
 use Rattle.stm_store.specs.Tables.{Declared}
-use Rattle.stm_events.specs.declared.staleness.StalenessRule.TheVariants.{Changed}
 use Rattle.stm_events.specs.declared.errors.CancelError.{CancelError}
 use Rattle.stm_events.specs.declared.errors.DeliverError.{DeliverError}
 use Rattle.stm_events.specs.declared.errors.FinishError.{FinishError}
 use Rattle.stm_events.specs.declared.errors.SubmitError.{SubmitError}
 use Rattle.stm_events.specs.declared.event.What.{What}
-use Rattle.stm_events.specs.Laws.{DeclaredAreCovered, WaitingAreWellTyped, StoresAreTyped, BlocksHaveVerdicts}
-use Rattle.stm_event_lines.specs.Lines.{latest_format}
+use Rattle.stm_events.proofs.TypedStores.{typed_verdict}
+use Rattle.stm_history.specs.Starts.{written_start}
 use Rattle.stm_events.specs.Refusals.{missing, blocks_there, overflows, finish_first}
 use Rattle.stm_events.specs.SlowDesk.{Since, Waiter, Slow, under, verdict_on, is_blocks, is_new, is_current, find_waiter, without_waiter, stale_after, max_waiting}
 use Rattle.stm_events.specs.SlowSettle.{Stop, NoRoom, NoCells, finishes, installs}
@@ -27,12 +26,13 @@ use Rattle.stm_desk.specs.Reasons.{WaitReason, reason_of}
 use Rattle.stm_desk.specs.DeskView.{DeskView, state_of, is_full}
 use Rattle.stm_desk.specs.Settling.{slow_settle, slow_stop, requeued_all}
 use Rattle.stm_run.specs.declared.command.Command.{Command}
-use Rattle.stm_run.specs.declared.command.Command.TheVariants.{Tvar, Try, Looks, Submit, Take, Deliver, Handback, Eval, Finish, Cancel, Show, Reads, Store, Settle, History, Ready, Why, Events}
+use Rattle.stm_run.specs.declared.command.Command.TheVariants.{Tvar, Try, Looks, Submit, Take, Deliver, Handback, Eval, Finish, Cancel, Show, Reads, Store, Settle, History, Ready, Why, Events, Checkpoint}
 use Rattle.stm_blocks.specs.declared.refusal.Refusal.{Refusal}
 use Rattle.stm_lines.specs.NumberArgument.{number_argument}
 use Rattle.stm_blocks.specs.CompiledBlock.{compiled_block}
 use Rattle.stm_commands.specs.Arguments.{argument_refused}
 use Rattle.stm_commands.specs.Blocks.{verdict_line, tried_text, try_answer, reads_line, looked_text, looks_answer, ticket_line, submit_block_step, submit_text_step, submit_step}
+use Rattle.stm_commands.specs.Checkpointing.{are_tickets_full, begun_anew, checkpoint_line, checkpoint_now, checkpoint_step}
 use Rattle.stm_commands.specs.Contents.{waiter_lines, show_text, show_answer, read_text, waiter_reads_text, reads_answer, stored_lines, store_text, store_answer, history_answer, events_text}
 use Rattle.stm_commands.specs.Endings.{tickets_text, result_line, finished_line, cancelled_line, settled_line, settle_text, finish_ticket_step, finish_step, cancel_ticket_step, cancel_step, settle_desk_step, settle_step, finish_verdict_step, finish_waiter_step}
 use Rattle.stm_commands.specs.Evaluation.{evaluated_line, evaluated, evaluation_text, eval_step, eval_desk_step}
@@ -45,7 +45,7 @@ use Rattle.stm_run.specs.Laws.{EndsALine}
 use Rattle.stm_run.proofs.ArgumentCases.{either_has, number_has, nothing_has}
 use Rattle.stm_run.proofs.EndedLines.{refused_ends, refusal_ends, submit_error_ends, deliver_error_ends, finish_error_ends, cancel_error_ends, history_ends, counted_end}
 use Rattle.stm_run.proofs.TextsJudged.{BlockOrTold}
-use Rattle.stm_run.proofs.StandingDesk.{Stands}
+use Rattle.stm_run.proofs.StandingDesk.{Stands, stands_sound}
 use Rattle.stm_run.proofs.DeskMoves.{submit_told, cancel_told, finish_told, may_end}
 use Rattle.stm_run.proofs.DeliveredJobs.{refusal_told, evaluated_told}
 use Rattle.stm_queue.specs.Queue.{is_out}
@@ -152,14 +152,19 @@ why_ends t None = refused_ends (codes "NoTicket")
 later_events_end : (d : OpenDesk) (n : ℕ) → EndsALine (later_events_text d n)
 later_events_end d n = counted_end (drop (n - 1) d.desk.history) (codes "events " ++ decimal (length d.desk.history))
 
-module _ (judged : (table : List Declared) (text : List ℕ) → BlockOrTold table (compiled_block table text)) (fits : VerdictFits) (cover : DeclaredAreCovered) (wait : WaitingAreWellTyped) (stay_typed : StoresAreTyped) (verdicts : BlocksHaveVerdicts) where
-  store_typed : (d : DeskView) (jobs : List HandedOut) → Stands d jobs → StoreIsTyped (plains (state_of d).store)
-  store_typed d jobs k = stay_typed Changed d.table d.history k.table_typed k.typed k.legal
+-- ---- checkpoints
+checkpoint_ends : (d : OpenDesk) → Ends (checkpoint_now d)
+unfolding checkpoint_line
+checkpoint_ends d =
+    either_has Ends (are_tickets_full d) (d, refused (codes "TicketsFull")) (begun_anew d, checkpoint_line (length d.desk.history)) (refused_ends (codes "TicketsFull"))
+    (codes "checkpoint " ++ decimal (length d.desk.history), refl)
 
+module _ (judged : (table : List Declared) (text : List ℕ) → BlockOrTold table (compiled_block table text)) (fits : VerdictFits) where
   -- a well typed block whose variables are declared has a verdict on the present store
   tried_ends : (d : OpenDesk) → Stands d.desk d.jobs → (r : Result Block Refusal) → BlockOrTold d.desk.table r → EndsALine (tried_text (present d) r)
   tried_ends d k (Ok b) h =
-      let v = fits (plains (present d)) b.uses b.tree h.0.0 (store_typed d.desk d.jobs k) (cover Changed d.desk.table d.desk.history b.uses k.legal h.1) h.0.1 in
+      let sound = stands_sound d.desk d.jobs k in
+      let v = fits (plains (present d)) b.uses b.tree h.0.0 sound.typed.store (sound.declared b.uses h.1) h.0.1 in
       verdict_ends v.0 (verdict_on (present d) b) v.1
   tried_ends d k (Err x) h = refusal_ends x h
 
@@ -172,8 +177,8 @@ module _ (judged : (table : List Declared) (text : List ℕ) → BlockOrTold tab
   finishing_ends d jobs t None f e k = absurd cc
   finishing_ends d jobs t (Some w) f e k =
       let o = verdict_on (state_of d).store w.block in
-      let typed = wait Changed d.table d.history t w k.typed f in
-      let v = verdicts Changed d.table d.history t w typed.0 k.legal (store_typed d jobs k) f typed.1 in
+      let sound = stands_sound d jobs k in
+      let v = typed_verdict (state_of d) t w sound.possible sound.typed f in
       let may = may_end (is_new w) (is_current w) (blocks_there o) (is_full d) (overflows (state_of d).store o) e in
       ending_ends d t w v.0 o v.1 may.ends
 
@@ -182,7 +187,7 @@ module _ (judged : (table : List Declared) (text : List ℕ) → BlockOrTold tab
   finish_ends d jobs t (Some x) e k = finish_error_ends x (λ m. finish_told (state_of d).store (is_full d) (find_waiter t (state_of d).waiters) (e ∙ ap Some m))
 
   pub desk_ends : (d : OpenDesk) → Stands d.desk d.jobs → (c : Command) (argument : List ℕ) → Ends (desk_step d c argument)
-  unfolding try_answer looks_answer submit_step take_step deliver_step handback_step eval_step finish_step cancel_step show_answer reads_answer store_answer settle_step history_answer ready_answer why_answer events_answer
+  unfolding try_answer looks_answer submit_step checkpoint_step take_step deliver_step handback_step eval_step finish_step cancel_step show_answer reads_answer store_answer settle_step history_answer ready_answer why_answer events_answer
   desk_ends d k Tvar argument = refused_ends (codes "Late")
   desk_ends d k Try argument = tried_ends d k (compiled_block d.desk.table argument) (judged d.desk.table argument)
   desk_ends d k Looks argument = looked_ends d.desk.table (present d) (compiled_block d.desk.table argument) (judged d.desk.table argument)
@@ -205,7 +210,8 @@ module _ (judged : (table : List Declared) (text : List ℕ) → BlockOrTold tab
   desk_ends d k Settle argument =
       let e = requeued_all d.desk in
       nothing_has Ends (on_desk d (settle_desk_step e)) (d, argument_refused) argument (settle_ends (slow_settle e) (slow_stop e)) bad_ends
-  desk_ends d k History argument = nothing_has EndsALine (events_text d) argument_refused argument (history_ends latest_format d.desk.table d.desk.history) bad_ends
+  desk_ends d k History argument = nothing_has EndsALine (events_text d) argument_refused argument (history_ends (written_start d.desk.table d.desk.checkpoint) d.desk.history) bad_ends
   desk_ends d k Ready argument = nothing_has EndsALine (ready_text (state_of d.desk)) argument_refused argument (ready_ends (state_of d.desk)) bad_ends
   desk_ends d k Why argument = number_has EndsALine (λ t. why_line t (reason_of d.desk t)) argument_refused (number_argument argument) (λ t. why_ends t (reason_of d.desk t)) bad_ends
   desk_ends d k Events argument = number_has EndsALine (later_events_text d) argument_refused (number_argument argument) (later_events_end d) bad_ends
+  desk_ends d k Checkpoint argument = nothing_has Ends (checkpoint_now d) (d, argument_refused) argument (checkpoint_ends d) bad_ends

@@ -18,16 +18,14 @@ use Rattle.stm_events.specs.declared.errors.CancelError.{CancelError}
 use Rattle.stm_events.specs.declared.errors.CancelError.TheVariants as cancel
 use Rattle.stm_events.specs.Laws.{IsWellTyped}
 use Rattle.stm_events.specs.Refusals.{missing, submit_first, blocks_there, overflows, finish_first, cancel_first}
-use Rattle.stm_events.specs.SlowDesk.{Waiter, verdict_on, is_new, is_current, find_waiter, without_waiter, stale_after, waking, initial_state, max_cells, max_waiting, MayFinish}
-use Rattle.stm_events.proofs.Folds.{state-rule}
+use Rattle.stm_events.specs.SlowDesk.{Waiter, verdict_on, is_new, is_current, find_waiter, without_waiter, stale_after, waking, max_cells, max_waiting, MayFinish}
 use Rattle.stm_events.specs.declared.staleness.StalenessRule.{StalenessRule}
-use Rattle.stm_events.specs.declared.staleness.StalenessRule.TheVariants.{Changed}
 use Rattle.stm_desk.specs.Refusals.{submit_refusal, finish_refusal, cancel_refusal}
 use Rattle.stm_desk.specs.DeskView.{DeskView, state_of, is_full}
 use Rattle.stm_commands.specs.Blocks.{submit_block_step}
 use Rattle.stm_commands.specs.Endings.{finish_ticket_step, cancel_ticket_step, finish_verdict_step, finish_waiter_step}
 use Rattle.stm_commands.specs.OpenDesk.{HandedOut}
-use Rattle.stm_run.proofs.StandingDesk.{Stands, stands_event}
+use Rattle.stm_run.proofs.StandingDesk.{Stands, stands_sound, stands_event}
 use Rattle.stm_run.proofs.TypedTable.{same_kind}
 
 -- ---- submit
@@ -134,7 +132,7 @@ finishes_by d jobs t w (Some v) f e m k =
       ends = m.ends;
       first_new = refl;
       room = room_for s.store v m.fits;
-      listed = ap (λ (r : StalenessRule). stale_after (waking r s.store v) (without_waiter t s.waiters)) (sym (state-rule (initial_state Changed d.table) d.history));
+      listed = ap (λ (r : StalenessRule). stale_after (waking r s.store v) (without_waiter t s.waiters)) (sym (stands_sound d jobs k).rule);
     } in
     stands_event d jobs (Finished t v (length s.store) stale) m.room
     (subst (λ (o : Option Waiter). IsSomeAnd o (λ x. MayFinish s t x v (length s.store) stale)) (sym f) may) tt k

@@ -10,8 +10,7 @@ use Rattle.stm_queue.specs.SortedTickets.{RisesAbove, IsRising, member}
 use Rattle.stm_queue.proofs.BoolLemmas.{neither}
 use Rattle.stm_queue.proofs.Merging.{itself}
 use Rattle.stm_queue.proofs.SortedInsertion.{absent_above}
-use Rattle.stm_events.specs.declared.staleness.StalenessRule.TheVariants.{Changed}
-use Rattle.stm_events.specs.Laws.{AreRising, TicketsRise, BlocksStay}
+use Rattle.stm_events.specs.Laws.{AreRising}
 use Rattle.stm_event_lines.specs.WholeBlocks.{CheckedAreWellTyped}
 use Rattle.stm_machine.specs.QueueAndIndex.{due_of}
 use Rattle.stm_events.specs.SlowDesk.{Waiter, is_current, find_waiter}
@@ -23,6 +22,7 @@ use Rattle.stm_commands.specs.DueTickets.{due_tickets, tickets_out}
 use Rattle.stm_run.specs.Laws.{QueueIsOfDueTickets, state_after_lines}
 use Rattle.stm_commands.proofs.KeptQueue.{QueueKept, filtered_above, member_tickets}
 use Rattle.stm_run.proofs.ReachedConsole.{present_stands, reached}
+use Rattle.stm_run.proofs.StandingDesk.{stands_sound}
 
 -- ---- rising lists with the same members are equal
 from_above : (k : ℕ) (ts : List ℕ) → RisesAbove k ts → IsRising ts
@@ -138,13 +138,12 @@ pub entries_are : (es : List Entry) → IsRising (tickets es) → es ≡ entries
 entries_are [] r = refl
 entries_are (e ∷ es) r = entries_first e es r (entries_above e.0 es r)
 
-module _ (blocks : BlockAnswersAreRight) (declarations : DeclarationAnswersAreRight) (faults : CheckNeverSaysNoMemory) (stable : VerdictIsStable) (rise : TicketsRise) (stay : BlocksStay) (checked : CheckedAreWellTyped) where
-  pub queue_is_of_due : QueueIsOfDueTickets
-  queue_is_of_due max_events low before =
-      let s = state_after_lines (initial_console max_events) before in
-      let k = present_stands s (reached blocks declarations faults stable rise stay checked max_events low before) in
-      let d = (present_desk s).desk in
-      let r = (rise Changed d.table d.history k.legal).rising in (
-        entries_are d.pending k.queue.rising ∙ ap (entries (tickets_out d.pending)) (tickets_are_due (state_of d).next (state_of d).waiters d.pending r k.queue),
-        due_rising (state_of d).next (state_of d).waiters r,
-      )
+pub queue_is_of_due : BlockAnswersAreRight → DeclarationAnswersAreRight → CheckNeverSaysNoMemory → VerdictIsStable → CheckedAreWellTyped → QueueIsOfDueTickets
+queue_is_of_due blocks declarations faults stable checked max_events low before =
+    let s = state_after_lines (initial_console max_events) before in
+    let k = present_stands s (reached blocks declarations faults stable checked max_events low before) in
+    let d = (present_desk s).desk in
+    let r = (stands_sound d (present_desk s).jobs k).possible.rising in (
+      entries_are d.pending k.queue.rising ∙ ap (entries (tickets_out d.pending)) (tickets_are_due (state_of d).next (state_of d).waiters d.pending r k.queue),
+      due_rising (state_of d).next (state_of d).waiters r,
+    )

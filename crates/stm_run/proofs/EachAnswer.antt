@@ -6,7 +6,6 @@ use Rattle.stm_check.specs.Laws.{CheckNeverSaysNoMemory, VerdictFits}
 use Rattle.stm_eval.specs.Laws.{VerdictIsStable}
 use Rattle.stm_parse.specs.ParseFunction.{BlockAnswersAreRight, DeclarationAnswersAreRight}
 use Rattle.stm_store.specs.Tables.{Declared}
-use Rattle.stm_events.specs.Laws.{TicketsRise, DeclaredAreCovered, BlocksStay, WaitingAreWellTyped, StoresAreTyped, BlocksHaveVerdicts}
 use Rattle.stm_event_lines.specs.WholeBlocks.{CheckedAreWellTyped}
 use Rattle.stm_run.specs.declared.command.Command.{Command}
 use Rattle.stm_run.specs.declared.command.Command.TheVariants.{Tvar}
@@ -30,7 +29,7 @@ unfolding tvar_line
 declare_ends table limit (Ok d) h = (codes "tvar #" ++ decimal (length table) ++ 32 ∷ d.name, refl)
 declare_ends table limit (Err e) h = refusal_ends e h
 
-module _ (blocks : BlockAnswersAreRight) (declarations : DeclarationAnswersAreRight) (faults : CheckNeverSaysNoMemory) (fits : VerdictFits) (stable : VerdictIsStable) (rise : TicketsRise) (cover : DeclaredAreCovered) (stay : BlocksStay) (checked : CheckedAreWellTyped) (wait : WaitingAreWellTyped) (stay_typed : StoresAreTyped) (verdicts : BlocksHaveVerdicts) where
+module _ (blocks : BlockAnswersAreRight) (declarations : DeclarationAnswersAreRight) (faults : CheckNeverSaysNoMemory) (fits : VerdictFits) (stable : VerdictIsStable) (checked : CheckedAreWellTyped) where
   judged : (table : List Declared) (text : List ℕ) → BlockOrTold table (compiled_block table text)
   judged = compiled blocks declarations faults checked
 
@@ -43,7 +42,7 @@ module _ (blocks : BlockAnswersAreRight) (declarations : DeclarationAnswersAreRi
 
   command_ends : (s : Console) → IsReached s → (c : Command) (argument : List ℕ) → EndsALine (command_step s c argument).1
   command_ends s h Tvar argument = tvar_ends s argument
-  command_ends s h c argument = desk_ends judged fits cover wait stay_typed verdicts (present_desk s) (present_stands s h) c argument
+  command_ends s h c argument = desk_ends judged fits (present_desk s) (present_stands s h) c argument
 
   word_ends : (s : Console) → IsReached s → (o : Option Command) (argument : List ℕ) → EndsALine (word_step s o argument).1
   word_ends s h (Some c) argument = command_ends s h c argument
@@ -58,4 +57,4 @@ module _ (blocks : BlockAnswersAreRight) (declarations : DeclarationAnswersAreRi
   pub each_line : EachLineIsAnswered
   unfolding step
   each_line max_events low before line n =
-      class_ends (state_after_lines (initial_console max_events) before) (reached blocks declarations faults stable rise stay checked max_events low before) (line_class line) n
+      class_ends (state_after_lines (initial_console max_events) before) (reached blocks declarations faults stable checked max_events low before) (line_class line) n

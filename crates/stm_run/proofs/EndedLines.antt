@@ -1,5 +1,5 @@
 -- Texts that end with a line feed: each refusal that is printed, and the text of a history.
-use Rattle.std.proofs.Common.{◌≡◌, ◌≢◌, ℕ, List, [], ◌∷◌, ◌++◌, length, refl, sym, subst, append_assoc}
+use Rattle.std.proofs.Common.{◌≡◌, ◌≢◌, ℕ, List, [], ◌∷◌, ◌++◌, length, Option, Some, None, refl, sym, subst, append_assoc}
 use Rattle.std.specs.Prelude.{codes, decimal}
 use Rattle.stm_parse.specs.declared.fault.ParseFault.TheVariants as parse
 use Rattle.stm_check.specs.declared.fault.TypeFault.TheVariants as typed
@@ -14,7 +14,12 @@ use Rattle.stm_events.specs.declared.errors.FinishError.{FinishError}
 use Rattle.stm_events.specs.declared.errors.FinishError.TheVariants as finish
 use Rattle.stm_events.specs.declared.errors.CancelError.{CancelError}
 use Rattle.stm_events.specs.declared.errors.CancelError.TheVariants as cancel
-use Rattle.stm_history.specs.HistoryText.{variable_lines, event_lines, head_text, history_text}
+use Rattle.stm_store.specs.declared.cell.Cell.{Cell}
+use Rattle.stm_machine.specs.declared.checkpoint.CheckpointBlock.{CheckpointBlock}
+use Rattle.stm_machine.specs.Checkpoints.{CheckpointView}
+use Rattle.stm_history.specs.HistoryText.{variable_lines, event_lines, cell_lines, block_line, block_lines, cells_text, text_before, start_text, history_text}
+use Rattle.stm_history.specs.Starts.{Start}
+use Rattle.stm_event_lines.specs.CheckpointLines.{cell_line, checkpoint_header_line}
 use Rattle.stm_event_lines.specs.Lines.{event_line, header_line, variable_line}
 use Rattle.stm_blocks.specs.declared.refusal.Refusal.{Refusal}
 use Rattle.stm_blocks.specs.declared.refusal.Refusal.TheVariants.{Parsing, Typing, Unknown, Declaring}
@@ -93,21 +98,34 @@ variables_end : (table : List Declared) → EndsALine (10 ∷ variable_lines tab
 variables_end [] = ([], refl)
 variables_end (d ∷ ds) = behind (10 ∷ variable_line d) (10 ∷ variable_lines ds) (variables_end ds)
 
+blocks_end : (blocks : List CheckpointBlock) → EndsALine (10 ∷ block_lines blocks)
+blocks_end [] = ([], refl)
+blocks_end (b ∷ bs) = behind (10 ∷ block_line b) (10 ∷ block_lines bs) (blocks_end bs)
+
+cells_end : (table : List Declared) (cells : List Cell) → EndsALine (10 ∷ cell_lines table cells)
+cells_end table [] = ([], refl)
+cells_end [] (c ∷ cs) = behind (10 ∷ cell_line None c) (10 ∷ cell_lines [] cs) (cells_end [] cs)
+cells_end (d ∷ ds) (c ∷ cs) = behind (10 ∷ cell_line (Some d.name) c) (10 ∷ cell_lines ds cs) (cells_end ds cs)
+
 -- lines of events behind a line feed
 events_end : (history : List Event) → EndsALine (10 ∷ event_lines history)
 events_end [] = ([], refl)
 events_end (x ∷ xs) = behind (10 ∷ event_line x) (10 ∷ event_lines xs) (events_end xs)
 
--- and behind a text that ends with one
-followed : (text : List ℕ) (history : List Event) → EndsALine text → EndsALine (text ++ event_lines history)
-followed text history e =
-    let all : e.0 ++ 10 ∷ [] ++ event_lines history ≡ e.0 ++ (10 ∷ event_lines history) = append_assoc e.0 (10 ∷ []) (event_lines history) in
-    subst (λ (t : List ℕ). EndsALine (t ++ event_lines history)) (sym e.1)
-    (subst EndsALine (sym all) (behind e.0 (10 ∷ event_lines history) (events_end history)))
+-- lines behind a text that ends with one
+joined : (text lines : List ℕ) → EndsALine text → EndsALine (10 ∷ lines) → EndsALine (text ++ lines)
+joined text lines e more =
+    let all : e.0 ++ 10 ∷ [] ++ lines ≡ e.0 ++ (10 ∷ lines) = append_assoc e.0 (10 ∷ []) lines in
+    subst (λ (t : List ℕ). EndsALine (t ++ lines)) (sym e.1) (subst EndsALine (sym all) (behind e.0 (10 ∷ lines) more))
 
-pub history_ends : (format : ℕ) (table : List Declared) (history : List Event) → EndsALine (history_text format table history)
-history_ends format table history =
-    followed (head_text format (length table) table) history (behind (header_line format (length table)) (10 ∷ variable_lines table) (variables_end table))
+before_end : (format : ℕ) (table : List Declared) (o : Option CheckpointView) → EndsALine (text_before format table o)
+before_end format table None = behind (header_line format (length table)) (10 ∷ variable_lines table) (variables_end table)
+before_end format table (Some c) =
+    joined (cells_text c.next (length c.store) (length c.blocks) table c.store) (block_lines c.blocks)
+    (behind (checkpoint_header_line c.next (length c.store) (length c.blocks)) (10 ∷ cell_lines table c.store) (cells_end table c.store)) (blocks_end c.blocks)
+
+pub history_ends : (start : Start) (history : List Event) → EndsALine (history_text start history)
+history_ends start history = joined (start_text start) (event_lines history) (before_end start.format start.table start.checkpoint) (events_end history)
 
 -- and so does a line behind the lines of events
 pub counted_end : (history : List Event) (line : List ℕ) → EndsALine (event_lines history ++ (line ++ 10 ∷ []))

@@ -1,7 +1,8 @@
--- Each event of a console's desk is of client 0, each block that was submitted is what its text checks to, and the declared
+-- Each event of a console's desk is of client 0, each block that was submitted or waits is what its text checks to, and the declared
 -- variables can be in lines.
-use Rattle.std.proofs.Common.{◌≡◌, ℕ, zero, suc, ◌+◌, ◌-◌, List, [], ◌∷◌, ◌++◌, length, Option, Some, None, IfSome, Result, Ok, Err, refl, ap, sym, ◌∙◌, subst, arith, length-append, append_assoc, append-nil}
-use Rattle.std.specs.Prelude.{nat_lt}
+use Rattle.std.proofs.Common.{◌≡◌, ◌≢◌, ℕ, zero, suc, ◌+◌, ◌-◌, Bool, true, false, cond, not, List, [], ◌∷◌, ◌++◌, length, Option, Some, None, IfSome, Result, Ok, Err, refl, ap, sym, ◌∙◌, subst, arith, length-append, append_assoc, append-nil}
+use Rattle.std.specs.Prelude.{nat_lt, ◌==◌, MatchBool, map}
+use Rattle.stm_store.specs.declared.cell.Cell.{Cell}
 use Rattle.stm_terms.specs.Ast.{Act}
 use Rattle.stm_terms.specs.ParsedAst as raw
 use Rattle.stm_terms.specs.Changes.{cell_value}
@@ -22,39 +23,46 @@ use Rattle.stm_events.specs.declared.errors.SubmitError.{SubmitError}
 use Rattle.stm_events.specs.declared.event.Event.{Event}
 use Rattle.stm_events.specs.declared.event.What.{What}
 use Rattle.stm_events.specs.declared.event.What.TheVariants.{Submitted, Installed, Finished, Cancelled}
-use Rattle.stm_events.specs.SlowDesk.{Waiter, Slow, verdict_on, find_waiter, after}
+use Rattle.stm_events.specs.SlowDesk.{Waiter, Slow, verdict_on, find_waiter, without_waiter, delivered as delivered_to, after_writes, with_delivery, after, state_from, waking}
+use Rattle.std.specs.Prelude.{nat_eq}
+use Rattle.stm_events.proofs.Folds.{state-append}
 use Rattle.stm_events.specs.SlowSettle.{lowest, is_due, can_end, installing, ending, next_of, next_what, has_cells, settle_on, settling}
 use Rattle.stm_machine.specs.Machine.{event}
+use Rattle.stm_machine.specs.Checkpoints.{CheckpointView, waiter_of, checkpoint_state, block_of_waiter, checkpoint_of, start_of, max_next}
+use Rattle.stm_machine.specs.declared.checkpoint.CheckpointBlock.{CheckpointBlock}
 use Rattle.stm_machine.specs.JobsHandedOut.{sent}
 use Rattle.stm_event_lines.specs.WholeBlocks.{BlockFault, NotParsed, NotTyped, given_type, block_if_typed, block_if_parsed, checked_block}
 use Rattle.stm_desk.specs.Refusals.{submit_refusal, finish_refusal, cancel_refusal}
-use Rattle.stm_desk.specs.DeskView.{DeskView, state_of, with_event}
+use Rattle.stm_desk.specs.DeskView.{DeskView, start_state, state_of, with_event}
 use Rattle.stm_desk.specs.Settling.{slow_settle, requeued_all, with_whats}
 use Rattle.stm_blocks.specs.declared.refusal.Refusal.{Refusal}
 use Rattle.stm_blocks.specs.CompiledBlock.{block_or_refusal, compiled_block}
 use Rattle.stm_blocks.specs.DeclaredVariable.{variable_of}
 use Rattle.stm_lines.specs.NumberArgument.{number_argument}
 use Rattle.stm_lines.specs.LineClass.{LineClass, TooLong, Silent, NotAscii, Words, line_class}
-use Rattle.stm_commands.specs.Arguments.{argument_refused}
+use Rattle.stm_commands.specs.Arguments.{argument_refused, with_nothing}
 use Rattle.stm_commands.specs.Blocks.{submit_block_step, submit_text_step, submit_step}
+use Rattle.stm_commands.specs.Checkpointing.{are_tickets_full, begun_anew, checkpoint_line, checkpoint_now, checkpoint_step, makes_checkpoint}
 use Rattle.stm_commands.specs.Endings.{finish_verdict_step, finish_waiter_step, finish_ticket_step, finish_step, cancel_ticket_step, cancel_step, settle_desk_step, settle_step}
 use Rattle.stm_commands.specs.Evaluation.{DeliveredSoFar, delivered_by, delivered_next, delivered_all, all_queued, eval_desk_step, eval_step}
 use Rattle.stm_commands.specs.Jobs.{max_jobs, taken, with_jobs, jobs_of, jobs_line, take_jobs_step, take_step, delivery_refusal, installed, delivery_step, job_at, deliver_job_step, deliver_step, queued_line, handed_back, handback_ticket_step, handback_step}
 use Rattle.stm_commands.specs.OpenDesk.{HandedOut, OpenDesk, on_desk}
 use Rattle.stm_commands.specs.Refusals.{refused}
 use Rattle.stm_run.specs.declared.command.Command.{Command}
-use Rattle.stm_run.specs.declared.command.Command.TheVariants.{Tvar, Submit, Take, Deliver, Handback, Eval, Finish, Cancel, Settle}
+use Rattle.stm_run.specs.declared.command.Command.TheVariants.{Tvar, Submit, Take, Deliver, Handback, Eval, Finish, Cancel, Settle, Checkpoint}
 use Rattle.stm_run.specs.declared.console.Console.{Console}
 use Rattle.stm_run.specs.declared.console.Console.TheVariants.{Declaring, Open}
-use Rattle.stm_run.specs.Console.{command_named, state_after, initial_console, desk_step, command_step, word_step, class_step, step}
-use Rattle.stm_run.specs.ConsoleState.{present_desk, table_of, events_of}
+use Rattle.stm_run.specs.Console.{command_named, state_after, initial_console, desk_step, on_console, command_step, word_step, class_step, step}
+use Rattle.stm_run.specs.ConsoleState.{present_desk, table_of, checkpoint_of_console, events_of, with_checkpoint}
 use Rattle.stm_run.specs.Declaring.{declare_step, tvar_step}
-use Rattle.stm_run.specs.Fitting.{IsOfText, AreOfConsole, EventsAreOfConsole, VariablesFit, VariablesFitLines, VariablesStayFit}
+use Rattle.stm_run.specs.Fitting.{IsOfText, AreOfConsole, IsOfConsole, EventsAreOfConsole, AreOfTheirTexts, WaitAsTheirTexts, WaitingStayOfText, VariablesFit, VariablesFitLines, VariablesStayFit}
 use Rattle.stm_run.specs.Growing.{Grows, ConsolesGrow}
 use Rattle.stm_run.specs.Laws.{state_after_lines}
+use Rattle.stm_run.specs.LineCheckpoints.{command_checkpoints, word_checkpoints, class_checkpoints, line_checkpoints, auto_checkpoint}
 use Rattle.stm_run.proofs.DeclaredVariables.{MayBeNext, may_be_next}
 use Rattle.stm_parse.specs.ParseFunction.{DeclarationAnswersAreRight}
 use Rattle.stm_history.specs.Judgement.{MayDeclare, AreVariablesFrom}
+use Rattle.stm_history.specs.Starts.{AreOfText, BlocksAreOfText}
 use Rattle.stm_run.proofs.ArgumentCases.{either_has, number_has, nothing_has}
 use Rattle.std.specs.Prelude.{codes}
 
@@ -96,9 +104,12 @@ event_more : (table : List Declared) (es : List Event) (what : What) → AreOfCo
 event_more table [] what h k = (refl, k, tt)
 event_more table (e ∷ es) what h k = (h.0, h.1, event_more table es what h.2 k)
 
--- The table is this one, and the events came after these, each of the console.
-pub record Added (table : List Declared) (before : List Event) (same : List Declared) (history : List Event) : Type 0 where
+-- The table is this one, the history begins from this checkpoint, and the events came after these, each of the console.
+pub record Added
+    (table : List Declared) (checkpoint : Option CheckpointView) (before : List Event) (same : List Declared) (start : Option CheckpointView) (history : List Event)
+    : Type 0 where
   pub same_table : same ≡ table
+  pub same_start : start ≡ checkpoint
   pub added : List Event
   pub events : history ≡ before ++ added
   pub of_console : AreOfConsole table added
@@ -143,13 +154,14 @@ settling_quiet zero s = tt
 settling_quiet (suc room) s =
     settles_quiet room s (next_what s) (settling_quiet room) (next_quiet s (lowest is_due s.waiters) (lowest (can_end s.store) s.waiters))
 
-module _ (table : List Declared) (before : List Event) where
+module _ (table : List Declared) (checkpoint : Option CheckpointView) (before : List Event) where
   abbrev Holds : DeskView → Type 0
-  Holds d = Added table before d.table d.history
+  Holds d = Added table checkpoint before d.table d.checkpoint d.history
 
   more : (d : DeskView) (what : What) → Holds d → IsOfText d.table what → Holds (with_event d 0 what)
   more d what k f = record {
     same_table = k.same_table;
+    same_start = k.same_start;
     added = k.added ++ event 0 what ∷ [];
     events = ap (λ (es : List Event). es ++ event 0 what ∷ []) k.events ∙ append_assoc before k.added (event 0 what ∷ []);
     of_console = event_more table k.added what k.of_console (subst (λ (t : List Declared). IsOfText t what) k.same_table f);
@@ -227,35 +239,37 @@ module _ (table : List Declared) (before : List Event) where
   abbrev After : OpenDesk × List ℕ → Type 0
   After p = Holds p.0.desk
 
-  desk_after : (d : OpenDesk) → Holds d.desk → (c : Command) (argument : List ℕ) → After (desk_step d c argument)
+  desk_after : (d : OpenDesk) → Holds d.desk → (c : Command) → c ≢ Checkpoint → (argument : List ℕ) → After (desk_step d c argument)
   unfolding submit_step take_step deliver_step handback_step eval_step finish_step cancel_step settle_step
-  desk_after d k Submit argument = submits d.desk (compiled_block d.desk.table argument) (λ b e. of_text d.desk.table argument b e) k
-  desk_after d k Take argument = number_has After (take_jobs_step d) (d, argument_refused) (number_argument argument) (λ n. takes d n k) k
-  desk_after d k Deliver argument =
+  desk_after d k Submit n argument = submits d.desk (compiled_block d.desk.table argument) (λ b e. of_text d.desk.table argument b e) k
+  desk_after d k Take n argument = number_has After (take_jobs_step d) (d, argument_refused) (number_argument argument) (λ n. takes d n k) k
+  desk_after d k Deliver n argument =
       number_has After (λ n. on_desk d (deliver_job_step d.desk (job_at n d.jobs))) (d, argument_refused) (number_argument argument) (λ n. delivers d.desk (job_at n d.jobs) k) k
-  desk_after d k Handback argument =
+  desk_after d k Handback n argument =
       number_has After (λ t. on_desk d (handback_ticket_step d.desk t)) (d, argument_refused) (number_argument argument) (λ t. hands_back d.desk t k) k
-  desk_after d k Eval argument = nothing_has After (on_desk d (eval_desk_step d.desk)) (d, argument_refused) argument (evaluates d.desk k) k
-  desk_after d k Finish argument =
+  desk_after d k Eval n argument = nothing_has After (on_desk d (eval_desk_step d.desk)) (d, argument_refused) argument (evaluates d.desk k) k
+  desk_after d k Finish n argument =
       number_has After (λ t. on_desk d (finish_ticket_step d.desk t (finish_refusal d.desk t))) (d, argument_refused) (number_argument argument) (λ t. finishes d.desk t (finish_refusal d.desk t) k) k
-  desk_after d k Cancel argument =
+  desk_after d k Cancel n argument =
       number_has After (λ t. on_desk d (cancel_ticket_step d.desk t (cancel_refusal d.desk t))) (d, argument_refused) (number_argument argument) (λ t. cancels d.desk t (cancel_refusal d.desk t) k) k
-  desk_after d k Settle argument =
+  desk_after d k Settle n argument =
       nothing_has After (on_desk d (settle_desk_step (requeued_all d.desk))) (d, argument_refused) argument (settles (requeued_all d.desk) k) k
-  desk_after d k c argument = k
+  desk_after d k Checkpoint n argument = absurd (n refl)
+  desk_after d k c n argument = k
 
 -- ---- a console only adds events
-kept_here : (d : DeskView) → Added d.table d.history d.table d.history
-kept_here d = record { same_table = refl; added = []; events = sym (append-nil d.history); of_console = tt }
+kept_here : (d : DeskView) → Added d.table d.checkpoint d.history d.table d.checkpoint d.history
+kept_here d = record { same_table = refl; same_start = refl; added = []; events = sym (append-nil d.history); of_console = tt }
 
 pub grows_not : (s : Console) → Grows s s
-grows_not s = record { added = []; events = sym (append-nil (events_of s)); of_console = tt; opened = λ e. (e, refl) }
+grows_not s = record { added = []; events = sym (append-nil (events_of s)); of_console = tt; same_start = refl; opened = λ e. (e, refl) }
 
-opens : (s : Console) (d : OpenDesk) → Added (table_of s) (events_of s) d.desk.table d.desk.history → Grows s (Open d)
+opens : (s : Console) (d : OpenDesk) → Added (table_of s) (checkpoint_of_console s) (events_of s) d.desk.table d.desk.checkpoint d.desk.history → Grows s (Open d)
 opens s d a = record {
   added = a.added;
   events = a.events;
   of_console = subst (λ (t : List Declared). AreOfConsole t a.added) (sym a.same_table) a.of_console;
+  same_start = a.same_start;
   opened = λ e. (refl, a.same_table);
 }
 
@@ -278,47 +292,184 @@ grows_trans s t u g h = record {
   added = g.added ++ h.added;
   events = h.events ∙ ap (λ (es : List Event). es ++ h.added) g.events ∙ append_assoc (events_of s) g.added h.added;
   of_console = of_append (table_of u) g.added h.added (added_first s t u g h) h.of_console;
+  same_start = h.same_start ∙ g.same_start;
   opened = λ e. let a = g.opened e in let b = h.opened a.0 in (b.0, b.1 ∙ a.1);
 }
 
 declare_grows : (table : List Declared) (limit : ℕ) (r : Result Declared Refusal) → Grows (Declaring table limit) (declare_step table limit r).0
-declare_grows table limit (Ok d) = record { added = []; events = refl; of_console = tt; opened = λ e. absurd (cc e) }
+declare_grows table limit (Ok d) = record { added = []; events = refl; of_console = tt; same_start = refl; opened = λ e. absurd (cc e) }
 declare_grows table limit (Err e) = grows_not (Declaring table limit)
 
 tvar_grows : (s : Console) (argument : List ℕ) → Grows s (tvar_step s argument).0
 tvar_grows (Declaring table limit) argument = declare_grows table limit (variable_of table argument)
 tvar_grows (Open d) argument = grows_not (Open d)
 
-desk_added : (s : Console) (c : Command) (argument : List ℕ) → Added (table_of s) (events_of s) (desk_step (present_desk s) c argument).0.desk.table (desk_step (present_desk s) c argument).0.desk.history
-desk_added s c argument = desk_after (table_of s) (events_of s) (present_desk s) (kept_here (present_desk s).desk) c argument
+-- ---- or makes a checkpoint
+-- each line makes one, or lets the console grow
+abbrev MovesTo : Bool → Console → Console → Type 0
+MovesTo b s t = MatchBool b (t ≡ with_checkpoint s) (Grows s t)
 
-command_grows : (s : Console) (c : Command) (argument : List ℕ) → Grows s (command_step s c argument).0
-command_grows s Tvar argument = tvar_grows s argument
-command_grows s c argument = opens s (desk_step (present_desk s) c argument).0 (desk_added s c argument)
+opens_not : (s : Console) → Grows s (Open (present_desk s))
+opens_not s = opens s (present_desk s) (kept_here (present_desk s).desk)
 
-word_grows : (s : Console) (o : Option Command) (argument : List ℕ) → Grows s (word_step s o argument).0
-word_grows s (Some c) argument = command_grows s c argument
-word_grows s None argument = grows_not s
+step_by : Console → Bool → Bool → OpenDesk × List ℕ
+step_by s full empty =
+    cond {A = OpenDesk × List ℕ} empty
+    (cond {A = OpenDesk × List ℕ} full (present_desk s, refused (codes "TicketsFull")) (begun_anew (present_desk s), checkpoint_line (length (present_desk s).desk.history)))
+    (present_desk s, argument_refused)
 
-class_grows : (s : Console) (j : LineClass) → Grows s (class_step s j).0
-class_grows s TooLong = grows_not s
-class_grows s Silent = grows_not s
-class_grows s NotAscii = grows_not s
-class_grows s (Words word argument) = word_grows s (command_named word) argument
+checkpoint_by : (s : Console) (full empty : Bool) → MovesTo (cond empty (not full) false) s (Open (step_by s full empty).0)
+unfolding step_by
+checkpoint_by s true true = opens_not s
+checkpoint_by s false true = refl
+checkpoint_by s true false = opens_not s
+checkpoint_by s false false = opens_not s
 
-line_grows : (s : Console) (line : List ℕ) → Grows s (state_after s line)
-unfolding step
-line_grows s line = class_grows s (line_class line)
+checkpoint_moves : (s : Console) (argument : List ℕ) → MovesTo (makes_checkpoint (present_desk s) argument) s (command_step s Checkpoint argument).0
+unfolding checkpoint_step step_by
+checkpoint_moves s argument = checkpoint_by s (are_tickets_full (present_desk s)) (length argument == 0)
+
+desk_added : (s : Console) (c : Command) → c ≢ Checkpoint → (argument : List ℕ)
+    → Added (table_of s) (checkpoint_of_console s) (events_of s) (desk_step (present_desk s) c argument).0.desk.table (desk_step (present_desk s) c argument).0.desk.checkpoint
+    (desk_step (present_desk s) c argument).0.desk.history
+desk_added s c n argument = desk_after (table_of s) (checkpoint_of_console s) (events_of s) (present_desk s) (kept_here (present_desk s).desk) c n argument
+
+command_grows : (s : Console) (c : Command) → c ≢ Checkpoint → (argument : List ℕ) → Grows s (on_console (desk_step (present_desk s) c argument)).0
+command_grows s c n argument = opens s (desk_step (present_desk s) c argument).0 (desk_added s c n argument)
+
+command_moves : (s : Console) (c : Command) (argument : List ℕ) → MovesTo (command_checkpoints s c argument) s (command_step s c argument).0
+command_moves s Tvar argument = tvar_grows s argument
+command_moves s Checkpoint argument = checkpoint_moves s argument
+command_moves s c argument = command_grows s c (λ e. cc e) argument
+
+word_moves : (s : Console) (o : Option Command) (argument : List ℕ) → MovesTo (word_checkpoints s o argument) s (word_step s o argument).0
+word_moves s (Some c) argument = command_moves s c argument
+word_moves s None argument = grows_not s
+
+class_moves : (s : Console) (j : LineClass) → MovesTo (class_checkpoints s j) s (class_step s j).0
+class_moves s TooLong = grows_not s
+class_moves s Silent = grows_not s
+class_moves s NotAscii = grows_not s
+class_moves s (Words word argument) = word_moves s (command_named word) argument
 
 pub consoles_grow : ConsolesGrow
-consoles_grow s [] = grows_not s
-consoles_grow s (line ∷ rest) = grows_trans s (state_after s line) (state_after_lines (state_after s line) rest) (line_grows s line) (consoles_grow (state_after s line) rest)
+unfolding step line_checkpoints
+consoles_grow s line = class_moves s (line_class line)
+
+-- ---- what waits is of its text
+texts_push : (table : List Declared) (ws : List Waiter) (w : Waiter) → AreOfTheirTexts table ws → checked_block table w.block.text ≡ Ok w.block → AreOfTheirTexts table (ws ++ w ∷ [])
+texts_push table [] w h e = (e, tt)
+texts_push table (x ∷ ws) w h e = (h.0, texts_push table ws w h.1 e)
+
+texts_delivered : (table : List Declared) (t : ℕ) (store : List Cell) (ws : List Waiter) → AreOfTheirTexts table ws → AreOfTheirTexts table (delivered_to t store ws)
+texts_delivered table t store [] h = tt
+texts_delivered table t store (w ∷ ws) h =
+    either_has (AreOfTheirTexts table) (nat_eq t w.ticket) (with_delivery store w ∷ ws) (w ∷ delivered_to t store ws) h (h.0, texts_delivered table t store ws h.1)
+
+texts_without : (table : List Declared) (t : ℕ) (ws : List Waiter) → AreOfTheirTexts table ws → AreOfTheirTexts table (without_waiter t ws)
+texts_without table t [] h = tt
+texts_without table t (w ∷ ws) h = either_has (AreOfTheirTexts table) (nat_eq t w.ticket) ws (w ∷ without_waiter t ws) h.1 (h.0, texts_without table t ws h.1)
+
+texts_marked : (table : List Declared) (woken : List ℕ) (ws : List Waiter) → AreOfTheirTexts table ws → AreOfTheirTexts table (map (after_writes woken) ws)
+texts_marked table woken [] h = tt
+texts_marked table woken (w ∷ ws) h = (h.0, texts_marked table woken ws h.1)
+
+pub texts_after : (table : List Declared) (s : Slow) (what : What) → IsOfText table what → AreOfTheirTexts table s.waiters → AreOfTheirTexts table (after s what).waiters
+texts_after table s (Submitted t b) o h = texts_push table s.waiters (record { ticket = t; block = b; since = None }) h o
+texts_after table s (Installed t v) o h = texts_delivered table t s.store s.waiters h
+texts_after table s (Finished t v n stale) o h = texts_marked table (waking s.rule s.store v) (without_waiter t s.waiters) (texts_without table t s.waiters h)
+texts_after table s (Cancelled t) o h = texts_without table t s.waiters h
+
+pub texts_from : (table : List Declared) (s : Slow) (es : List Event) → AreOfConsole table es → AreOfTheirTexts table s.waiters → AreOfTheirTexts table (state_from s es).waiters
+texts_from table s [] o h = h
+texts_from table s (e ∷ es) o h = texts_from table (after s e.what) es o.2 (texts_after table s e.what o.1 h)
+
+blocks_of_text : (table : List Declared) (store : List Cell) (next : ℕ) (ws : List Waiter) → AreOfTheirTexts table ws
+    → BlocksAreOfText table (record { store = store; next = next; blocks = map block_of_waiter ws })
+blocks_of_text table store next ws h = blocks ws h
+  where
+    blocks : (ws : List Waiter) → AreOfTheirTexts table ws → AreOfText table (map block_of_waiter ws)
+    blocks [] h = tt
+    blocks (w ∷ ws) h = (h.0, blocks ws h.1)
+
+waiters_of_text : (table : List Declared) (store : List Cell) (bs : List CheckpointBlock) → AreOfText table bs → AreOfTheirTexts table (map (waiter_of store) bs)
+waiters_of_text table store [] h = tt
+waiters_of_text table store (b ∷ bs) h = (h.0, waiters_of_text table store bs h.1)
+
+-- a checkpoint has the blocks that wait
+pub checkpoint_texts : (s : Console) → WaitAsTheirTexts s → IfSome (checkpoint_of_console (with_checkpoint s)) (BlocksAreOfText (table_of s))
+unfolding checkpoint_of
+checkpoint_texts s h = let x = state_of (present_desk s).desk in blocks_of_text (table_of s) x.store x.next x.waiters h
+
+pub with_checkpoint_texts : (s : Console) → WaitAsTheirTexts s → WaitAsTheirTexts (with_checkpoint s)
+unfolding checkpoint_of
+with_checkpoint_texts s h = let x = state_of (present_desk s).desk in again x.waiters h
+  where
+    again : (ws : List Waiter) → AreOfTheirTexts (table_of s) ws → AreOfTheirTexts (table_of s) (map (waiter_of (state_of (present_desk s).desk).store) (map block_of_waiter ws))
+    again [] k = tt
+    again (w ∷ ws) k = (k.0, again ws k.1)
+
+pub start_texts : (table : List Declared) (o : Option CheckpointView) → IfSome o (BlocksAreOfText table) → AreOfTheirTexts table (start_of table o).waiters
+start_texts table None h = tt
+start_texts table (Some c) h = waiters_of_text table c.store c.blocks h
+
+-- ---- so it is after every line
+-- what a console's desk has is of its table; while variables are declared it has nothing
+grown_texts : (s t : Console) → Grows s t → WaitAsTheirTexts s → WaitAsTheirTexts t
+grown_texts s t g h =
+    let first = start_of (table_of t) (checkpoint_of_console t) in
+    subst (λ (es : List Event). AreOfTheirTexts (table_of t) (state_from first es).waiters) (sym g.events)
+    (subst (λ (x : Slow). AreOfTheirTexts (table_of t) x.waiters) (sym (state-append first (events_of s) g.added))
+    (texts_from (table_of t) (state_from first (events_of s)) g.added g.of_console (before s g h)))
+  where
+    before : (s : Console) (g : Grows s t) → WaitAsTheirTexts s → AreOfTheirTexts (table_of t) (state_from (start_of (table_of t) (checkpoint_of_console t)) (events_of s)).waiters
+    before (Declaring table limit) g h = subst (λ (o : Option CheckpointView). AreOfTheirTexts (table_of t) (start_of (table_of t) o).waiters) (sym g.same_start) tt
+    before (Open d) g h =
+        subst (λ (o : Option CheckpointView). AreOfTheirTexts (table_of t) (state_from (start_of (table_of t) o) d.desk.history).waiters) (sym g.same_start)
+        (subst (λ (x : List Declared). AreOfTheirTexts x (state_from (start_of x d.desk.checkpoint) d.desk.history).waiters) (sym (g.opened refl).1) h)
+
+pub moved_texts : (b : Bool) (s t : Console) → MovesTo b s t → WaitAsTheirTexts s → WaitAsTheirTexts t
+moved_texts true s t m h = subst WaitAsTheirTexts (sym m) (with_checkpoint_texts s h)
+moved_texts false s t m h = grown_texts s t m h
+
+pub waiting_stay_of_text : WaitingStayOfText
+waiting_stay_of_text = record {
+  line = λ s line. moved_texts (line_checkpoints s line) s (state_after s line) (consoles_grow s line);
+  checkpoint = checkpoint_texts;
+}
+
+-- the events and the checkpoint of a console are its own
+abbrev IsOwn : Console → Type 0
+IsOwn s = IsOfConsole (present_desk s).desk
+
+own_waits : (s : Console) → IsOwn s → WaitAsTheirTexts s
+own_waits s h = texts_from (table_of s) (start_state (present_desk s).desk) (events_of s) h.0 (start_texts (table_of s) (checkpoint_of_console s) h.1)
+
+grown_own : (s t : Console) → Grows s t → IsOwn s → IsOwn t
+grown_own s t g h = (
+  subst (AreOfConsole (table_of t)) (sym g.events) (of_append (table_of t) (events_of s) g.added (events s g h) g.of_console),
+  subst (λ (o : Option CheckpointView). IfSome o (BlocksAreOfText (table_of t))) (sym g.same_start) (start s g h),
+)
+  where
+    events : (s : Console) → Grows s t → IsOwn s → AreOfConsole (table_of t) (events_of s)
+    events (Declaring table limit) g h = tt
+    events (Open d) g h = subst (λ (x : List Declared). AreOfConsole x d.desk.history) (sym (g.opened refl).1) h.0
+
+    start : (s : Console) → Grows s t → IsOwn s → IfSome (checkpoint_of_console s) (BlocksAreOfText (table_of t))
+    start (Declaring table limit) g h = tt
+    start (Open d) g h = subst (λ (x : List Declared). IfSome d.desk.checkpoint (BlocksAreOfText x)) (sym (g.opened refl).1) h.1
+
+moved_own : (b : Bool) (s t : Console) → MovesTo b s t → IsOwn s → IsOwn t
+moved_own true s t m h = subst IsOwn (sym m) (tt, checkpoint_texts s (own_waits s h))
+moved_own false s t m h = grown_own s t m h
+
+lines_own : (s : Console) (lines : List (List ℕ)) → IsOwn s → IsOwn (state_after_lines s lines)
+lines_own s [] h = h
+lines_own s (line ∷ rest) h = lines_own (state_after s line) rest (moved_own (line_checkpoints s line) s (state_after s line) (consoles_grow s line) h)
 
 pub events_are_of_console : EventsAreOfConsole
 unfolding initial_console
-events_are_of_console max_events before =
-    let g = consoles_grow (initial_console max_events) before in
-    subst (AreOfConsole (table_of (state_after_lines (initial_console max_events) before))) (sym g.events) g.of_console
+events_are_of_console max_events before = lines_own (initial_console max_events) before (tt, tt)
 
 -- ---- the declared variables
 variables_push : (prior ds : List Declared) (d : Declared) → AreVariablesFrom prior ds → MayDeclare (prior ++ ds) d → AreVariablesFrom prior (ds ++ d ∷ [])
@@ -326,13 +477,20 @@ variables_push prior [] d a m = (subst (λ (x : List Declared). MayDeclare x d) 
 variables_push prior (c ∷ ds) d a m =
     (a.0, variables_push (prior ++ c ∷ []) ds d a.1 (subst (λ (x : List Declared). MayDeclare x d) (sym (append_assoc prior (c ∷ []) ds)) m))
 
+pub fits_more : (table : List Declared) (d : Declared) → VariablesFit table → MayBeNext table d → VariablesFit (table ++ d ∷ [])
+fits_more table d v n = let low = n.room in (omega (arith, low, length-append table (d ∷ [])), variables_push [] table d v.1 n.may)
+
+-- a checkpoint keeps the table
+checkpoint_fits : (d : OpenDesk) (argument : List ℕ) → VariablesFit d.desk.table → VariablesFit (checkpoint_step d argument).0.desk.table
+unfolding checkpoint_step
+checkpoint_fits d argument h =
+    nothing_has (λ (p : OpenDesk × List ℕ). VariablesFit p.0.desk.table) (checkpoint_now d) (d, argument_refused) argument
+    (either_has (λ (p : OpenDesk × List ℕ). VariablesFit p.0.desk.table) (are_tickets_full d) (d, refused (codes "TicketsFull")) (begun_anew d, checkpoint_line (length d.desk.history)) h h) h
+
 module _ (declarations : DeclarationAnswersAreRight) where
   declare_fits : (table : List Declared) (limit : ℕ) (r : Result Declared Refusal) → VariablesFit table → ((d : Declared) → r ≡ Ok d → MayBeNext table d)
       → VariablesFit (table_of (declare_step table limit r).0)
-  declare_fits table limit (Ok d) v next =
-      let n = next d refl in
-      let low = n.room in
-      (omega (arith, low, length-append table (d ∷ [])), variables_push [] table d v.1 n.may)
+  declare_fits table limit (Ok d) v next = fits_more table d v (next d refl)
   declare_fits table limit (Err e) v next = v
 
   tvar_fits : (s : Console) (argument : List ℕ) → VariablesFit (table_of s) → VariablesFit (table_of (tvar_step s argument).0)
@@ -341,7 +499,8 @@ module _ (declarations : DeclarationAnswersAreRight) where
 
   command_fits : (s : Console) (c : Command) (argument : List ℕ) → VariablesFit (table_of s) → VariablesFit (table_of (command_step s c argument).0)
   command_fits s Tvar argument h = tvar_fits s argument h
-  command_fits s c argument h = subst VariablesFit (sym (desk_added s c argument).same_table) h
+  command_fits s Checkpoint argument h = checkpoint_fits (present_desk s) argument h
+  command_fits s c argument h = subst VariablesFit (sym (desk_added s c (λ e. cc e) argument).same_table) h
 
   word_fits : (s : Console) (o : Option Command) (argument : List ℕ) → VariablesFit (table_of s) → VariablesFit (table_of (word_step s o argument).0)
   word_fits s (Some c) argument h = command_fits s c argument h

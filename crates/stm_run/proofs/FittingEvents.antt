@@ -23,4 +23,4 @@ all_fit table (e ∷ es) t n v = ((omega (arith, t.0), what_fits table e.what t.
 pub events_fit : EventsAreOfConsole → NumbersAreSmall → EventsFitLines
 events_fit of_console small max_events low before verdicts =
     let d = (present_desk (state_after_lines (initial_console max_events) before)).desk in
-    all_fit d.table d.history (of_console max_events before) (small max_events low before) verdicts
+    all_fit d.table d.history (of_console max_events before).0 (small max_events low before) verdicts

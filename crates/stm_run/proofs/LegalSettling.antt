@@ -4,17 +4,16 @@ use Rattle.std.specs.Prelude.{nat_eq, nat_le, IsSomeAnd}
 use Rattle.std.proofs.lemmas.Bool.Decides.{nat_tests}
 use Rattle.stm_terms.specs.declared.verdicts.Verdict.{Verdict}
 use Rattle.stm_store.specs.Cells.{made_by}
-use Rattle.stm_events.specs.declared.staleness.StalenessRule.TheVariants.{Changed}
 use Rattle.stm_events.specs.declared.event.What.{What}
 use Rattle.stm_events.specs.declared.event.What.TheVariants.{Finished}
-use Rattle.stm_events.specs.Laws.{AreRising, TicketsRise, SubmitsWellTyped}
+use Rattle.stm_events.specs.Laws.{AreRising, SubmitsWellTyped}
 use Rattle.stm_machine.specs.Machine.{event}
-use Rattle.stm_events.specs.SlowDesk.{Waiter, Slow, verdict_on, is_blocks, is_current, find_waiter, without_waiter, stale_after, waking, max_cells, after, Allows, MayInstall, MayFinish, initial_state}
+use Rattle.stm_events.specs.SlowDesk.{Waiter, Slow, verdict_on, is_blocks, is_current, find_waiter, without_waiter, stale_after, waking, max_cells, after, Allows, MayInstall, MayFinish}
 use Rattle.stm_events.specs.SlowSettle.{lowest, is_due, ends, can_end, installing, ending, next_of, next_what, has_cells, settle_on, settling}
-use Rattle.stm_desk.specs.DeskView.{DeskView, state_of, with_event}
+use Rattle.stm_desk.specs.DeskView.{DeskView, start_state, state_of, with_event}
 use Rattle.stm_desk.specs.Settling.{with_whats}
 use Rattle.stm_commands.specs.OpenDesk.{HandedOut}
-use Rattle.stm_run.proofs.StandingDesk.{Stands, stands_event, state_later}
+use Rattle.stm_run.proofs.StandingDesk.{Stands, stands_sound, stands_event, state_later}
 
 -- ---- the lowest waiting block of a test
 -- it waits under its ticket
@@ -56,7 +55,7 @@ lowest_none p (x ∷ xs) t w e f = none_first p x xs t w (p x) (nat_eq t x.ticke
 
 -- ---- what settling does next
 -- where the store has room for its new variables, it is allowed
-abbrev IsAllowed : Slow → Option What → Type 0
+abbrev pub IsAllowed : Slow → Option What → Type 0
 IsAllowed s None = Unit {0}
 IsAllowed s (Some what) = has_cells s what ≡ true → Allows s what × SubmitsWellTyped what
 
@@ -100,7 +99,7 @@ next_by s None (Some w) r p q =
     ends_next s w (verdict_on s.store w.block) l.found (lowest_none is_due s.waiters w.ticket w p l.found) l.holds refl
 next_by s None None r p q = tt
 
-next_allowed : (s : Slow) → AreRising s.next 0 s.waiters → IsAllowed s (next_what s)
+pub next_allowed : (s : Slow) → AreRising s.next 0 s.waiters → IsAllowed s (next_what s)
 next_allowed s r = next_by s (lowest is_due s.waiters) (lowest (can_end s.store) s.waiters) r refl refl
 
 -- ---- all of it
@@ -121,10 +120,9 @@ settles_on room d jobs (Some what) more h a k = by (has_cells (state_of d) what)
         let next = with_event d 0 what in
         let stood : Stands next jobs = stands_event d jobs what (not_full d.limit (length d.history) room h) (a e).0 (a e).1 k in
         let low : room ≤ next.limit - length next.history = omega (arith, length-append d.history (event 0 what ∷ []), h) in
-        subst (λ (s : Slow). Stands (with_whats next 0 (settling room s)) jobs) (state_later (initial_state Changed d.table) d.history (event 0 what)) (more next low stood)
+        subst (λ (s : Slow). Stands (with_whats next 0 (settling room s)) jobs) (state_later (start_state d) d.history (event 0 what)) (more next low stood)
 
-module _ (rise : TicketsRise) where
-  pub settled_stands : (room : ℕ) (jobs : List HandedOut) → StandsAfter room jobs
-  settled_stands zero jobs d h k = k
-  settled_stands (suc room) jobs d h k =
-      settles_on room d jobs (next_what (state_of d)) (settled_stands room jobs) h (next_allowed (state_of d) (rise Changed d.table d.history k.legal).rising) k
+pub settled_stands : (room : ℕ) (jobs : List HandedOut) → StandsAfter room jobs
+settled_stands zero jobs d h k = k
+settled_stands (suc room) jobs d h k =
+    settles_on room d jobs (next_what (state_of d)) (settled_stands room jobs) h (next_allowed (state_of d) (stands_sound d jobs k).possible.rising) k

@@ -1,4 +1,5 @@
 pub mod AgreeingReads
+pub mod AlikeSteps
 pub mod ArgumentCases
 pub mod CommandWords
 pub mod DeclaredVariables
@@ -9,13 +10,17 @@ pub mod DueQueue
 pub mod EachAnswer
 pub mod EndedLines
 pub mod EventsOfConsole
+pub mod FitTables
 pub mod FittingEvents
 pub mod InputInParts
 pub mod LegalSettling
+pub mod LookingAlike
 pub mod ReachedConsole
 pub mod Running
 pub mod ShownVerdicts
 pub mod SmallNumbers
+pub mod SoundStates
 pub mod StandingDesk
 pub mod TextsJudged
+pub mod UnseenCheckpoints
 pub mod TypedTable

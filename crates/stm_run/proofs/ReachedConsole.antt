@@ -1,21 +1,21 @@
--- What a console that has taken some lines stands on: a well typed table, and a desk that stands once it is open.
-use Rattle.std.proofs.Common.{ℕ, ◌≤◌, false, List, [], ◌∷◌, length, Option, Some, None, Result, Ok, Err, refl, arith}
-use Rattle.std.specs.Prelude.{◌-◌, codes}
+-- What a console that has taken some lines stands on: declared variables that can be in lines, and a desk that stands once it is open.
+use Rattle.std.proofs.Common.{◌≡◌, ℕ, ◌≤◌, Bool, true, false, cond, List, [], ◌∷◌, length, Option, Some, None, Result, Ok, Err, refl, arith}
+use Rattle.std.specs.Prelude.{◌-◌, ◌&&◌, nat_lt, nat_le, codes}
+use Rattle.std.proofs.lemmas.Bool.Decides.{nat_tests}
 use Rattle.stm_check.specs.Laws.{CheckNeverSaysNoMemory}
 use Rattle.stm_check.specs.TypedBlock.{Block}
 use Rattle.stm_eval.specs.Laws.{VerdictIsStable}
 use Rattle.stm_parse.specs.ParseFunction.{BlockAnswersAreRight, DeclarationAnswersAreRight}
 use Rattle.stm_queue.specs.Queue.{is_out, marked, recalled}
-use Rattle.stm_store.specs.Cells.{StoreIsTyped}
-use Rattle.stm_store.specs.Tables.{Declared, declared_cells}
-use Rattle.stm_events.specs.Laws.{TicketsRise, BlocksStay}
+use Rattle.stm_store.specs.Tables.{Declared}
 use Rattle.stm_event_lines.specs.WholeBlocks.{CheckedAreWellTyped}
 use Rattle.stm_events.specs.SlowDesk as slow
 use Rattle.stm_desk.specs.Refusals.{submit_refusal, finish_refusal, cancel_refusal}
-use Rattle.stm_desk.specs.DeskView.{DeskView}
+use Rattle.stm_machine.specs.Checkpoints.{max_next}
+use Rattle.stm_desk.specs.DeskView.{DeskView, state_of}
 use Rattle.stm_desk.specs.Settling.{requeued_all}
 use Rattle.stm_run.specs.declared.command.Command.{Command}
-use Rattle.stm_run.specs.declared.command.Command.TheVariants.{Tvar, Submit, Take, Deliver, Handback, Eval, Finish, Cancel, Settle}
+use Rattle.stm_run.specs.declared.command.Command.TheVariants.{Tvar, Submit, Take, Deliver, Handback, Eval, Finish, Cancel, Settle, Checkpoint}
 use Rattle.stm_run.specs.declared.console.Console.{Console}
 use Rattle.stm_run.specs.declared.console.Console.TheVariants.{Declaring, Open}
 use Rattle.stm_blocks.specs.declared.refusal.Refusal.{Refusal}
@@ -25,6 +25,7 @@ use Rattle.stm_blocks.specs.DeclaredVariable.{variable_of}
 use Rattle.stm_lines.specs.LineClass.{LineClass, TooLong, Silent, NotAscii, Words, line_class}
 use Rattle.stm_commands.specs.Arguments.{argument_refused}
 use Rattle.stm_commands.specs.Blocks.{submit_text_step, submit_step}
+use Rattle.stm_commands.specs.Checkpointing.{are_tickets_full, begun_anew, checkpoint_line, checkpoint_now, checkpoint_step}
 use Rattle.stm_commands.specs.Endings.{finish_ticket_step, finish_step, cancel_ticket_step, cancel_step, settle_desk_step, settle_step}
 use Rattle.stm_commands.specs.Evaluation.{eval_step, eval_desk_step}
 use Rattle.stm_commands.specs.Jobs.{take_jobs_step, take_step, job_at, deliver_job_step, deliver_step, queued_line, handed_back, handback_ticket_step, handback_step}
@@ -33,24 +34,29 @@ use Rattle.stm_commands.specs.Refusals.{refused}
 use Rattle.stm_run.specs.Console.{command_named, state_after, initial_console, desk_step, command_step, word_step, class_step, step}
 use Rattle.stm_run.specs.ConsoleState.{present_desk}
 use Rattle.stm_run.specs.Declaring.{declare_step, tvar_step}
+use Rattle.stm_run.specs.Fitting.{VariablesFit}
 use Rattle.stm_run.specs.Laws.{state_after_lines}
+use Rattle.stm_run.specs.LineCheckpoints.{auto_checkpoint}
 use Rattle.stm_run.proofs.ArgumentCases.{either_has, number_has, nothing_has}
 use Rattle.stm_run.proofs.DeliveredJobs.{take_stands, delivered_stands, evaluated_stands}
 use Rattle.stm_run.proofs.DeskMoves.{submitted_stands, finished_stands, cancelled_stands}
+use Rattle.stm_run.proofs.DeclaredVariables.{MayBeNext, may_be_next}
+use Rattle.stm_run.proofs.EventsOfConsole.{fits_more}
+use Rattle.stm_run.proofs.FitTables.{table_sound}
 use Rattle.stm_run.proofs.LegalSettling.{settled_stands}
 use Rattle.stm_commands.proofs.KeptQueue.{tickets_marked, tickets_recalled}
-use Rattle.stm_run.proofs.StandingDesk.{Stands, stands_marked}
-use Rattle.stm_run.proofs.TextsJudged.{MayHoldOrTold, declares, BlockOrTold, compiled}
-use Rattle.stm_run.proofs.TypedTable.{typed_more}
+use Rattle.stm_run.proofs.StandingDesk.{Stands, stands_marked, stands_checkpointed}
+use Rattle.stm_run.proofs.TextsJudged.{BlockOrTold, compiled}
 
 -- what holds of a console that has taken some lines
 abbrev pub IsReached : Console → Type 0
-IsReached (Declaring table limit) = StoreIsTyped (declared_cells table) × (limit ≤ slow.max_events)
+IsReached (Declaring table limit) = VariablesFit table × (limit ≤ slow.max_events)
 IsReached (Open d) = Stands d.desk d.jobs
 
 pub present_stands : (s : Console) → IsReached s → Stands (present_desk s).desk (present_desk s).jobs
 present_stands (Declaring table limit) h = record {
-  table_typed = h.0;
+  start = table_sound table h.0;
+  low = omega arith;
   legal = record { each = tt; few = omega arith };
   typed = tt;
   limit_low = h.1;
@@ -60,9 +66,9 @@ present_stands (Declaring table limit) h = record {
 present_stands (Open d) h = h
 
 -- ---- declarations
-declare_reached : (table : List Declared) (limit : ℕ) (r : Result Declared Refusal) → StoreIsTyped (declared_cells table) → limit ≤ slow.max_events → MayHoldOrTold table r → IsReached (declare_step table limit r).0
-declare_reached table limit (Ok d) t low h = (typed_more table d t h, low)
-declare_reached table limit (Err e) t low h = (t, low)
+declare_reached : (table : List Declared) (limit : ℕ) (r : Result Declared Refusal) → VariablesFit table → limit ≤ slow.max_events → ((d : Declared) → r ≡ Ok d → MayBeNext table d) → IsReached (declare_step table limit r).0
+declare_reached table limit (Ok d) v low next = (fits_more table d v (next d refl), low)
+declare_reached table limit (Err e) v low next = (v, low)
 
 -- ---- commands
 abbrev StandsAfter : OpenDesk × List ℕ → Type 0
@@ -77,34 +83,54 @@ handback_stands d jobs t k =
     either_has (λ (p : DeskView × List ℕ). Stands p.0 jobs) (is_out t d.pending) (handed_back d t, queued_line t) (d, refused (codes "NotOut"))
     (stands_marked d (marked t false d.pending) jobs (tickets_marked t false d.pending) k) k
 
-module _ (blocks : BlockAnswersAreRight) (declarations : DeclarationAnswersAreRight) (faults : CheckNeverSaysNoMemory) (stable : VerdictIsStable) (rise : TicketsRise) (stay : BlocksStay) (checked : CheckedAreWellTyped) where
+-- ---- checkpoints
+low_by : (n : ℕ) → nat_lt max_next n ≡ false → n ≤ max_next
+low_by n e = grind (arith, nat_tests)
+
+checkpoint_stands : (d : OpenDesk) → Stands d.desk d.jobs → StandsAfter (checkpoint_now d)
+checkpoint_stands d k = by (nat_lt max_next (state_of d.desk).next) refl
+  where
+    by : (b : Bool) → nat_lt max_next (state_of d.desk).next ≡ b
+        → StandsAfter (cond b (d, refused (codes "TicketsFull")) (begun_anew d, checkpoint_line (length d.desk.history)))
+    by true e = k
+    by false e = stands_checkpointed d.desk d.jobs (low_by (state_of d.desk).next e) k
+
+due_stands : (d : OpenDesk) (a b : Bool) → nat_le (state_of d.desk).next max_next ≡ b → Stands d.desk d.jobs
+    → Stands (cond (a && b) (begun_anew d) d).desk (cond (a && b) (begun_anew d) d).jobs
+due_stands d false b e k = k
+due_stands d true false e k = k
+due_stands d true true e k = stands_checkpointed d.desk d.jobs (grind (arith, nat_tests)) k
+
+pub auto_reached : (every : ℕ) (s : Console) → IsReached s → IsReached (auto_checkpoint every s)
+auto_reached every (Declaring table limit) h = h
+auto_reached every (Open d) h = due_stands d (nat_le every (length d.desk.history)) (nat_le (state_of d.desk).next max_next) refl h
+
+module _ (blocks : BlockAnswersAreRight) (declarations : DeclarationAnswersAreRight) (faults : CheckNeverSaysNoMemory) (stable : VerdictIsStable) (checked : CheckedAreWellTyped) where
   judged : (table : List Declared) (text : List ℕ) → BlockOrTold table (compiled_block table text)
   judged = compiled blocks declarations faults checked
 
-  declared : (table : List Declared) (text : List ℕ) → MayHoldOrTold table (variable_of table text)
-  declared = declares blocks declarations faults checked
-
   desk_stands : (d : OpenDesk) → Stands d.desk d.jobs → (c : Command) (argument : List ℕ) → StandsAfter (desk_step d c argument)
-  unfolding submit_step take_step deliver_step handback_step eval_step finish_step cancel_step settle_step
+  unfolding submit_step take_step deliver_step handback_step eval_step finish_step cancel_step settle_step checkpoint_step
   desk_stands d k Submit argument = submit_stands d.desk d.jobs (compiled_block d.desk.table argument) (judged d.desk.table argument) k
   desk_stands d k Take argument = number_has StandsAfter (take_jobs_step d) (d, argument_refused) (number_argument argument) (λ n. take_stands d n k) k
   desk_stands d k Deliver argument =
-      number_has StandsAfter (λ n. on_desk d (deliver_job_step d.desk (job_at n d.jobs))) (d, argument_refused) (number_argument argument) (λ n. delivered_stands stay stable d.desk d.jobs n k) k
+      number_has StandsAfter (λ n. on_desk d (deliver_job_step d.desk (job_at n d.jobs))) (d, argument_refused) (number_argument argument) (λ n. delivered_stands stable d.desk d.jobs n k) k
   desk_stands d k Handback argument =
       number_has StandsAfter (λ t. on_desk d (handback_ticket_step d.desk t)) (d, argument_refused) (number_argument argument) (λ t. handback_stands d.desk d.jobs t k) k
   desk_stands d k Eval argument =
-      nothing_has StandsAfter (on_desk d (eval_desk_step d.desk)) (d, argument_refused) argument (evaluated_stands stay stable d.desk d.jobs k) k
+      nothing_has StandsAfter (on_desk d (eval_desk_step d.desk)) (d, argument_refused) argument (evaluated_stands stable d.desk d.jobs k) k
   desk_stands d k Finish argument =
       number_has StandsAfter (λ t. on_desk d (finish_ticket_step d.desk t (finish_refusal d.desk t))) (d, argument_refused) (number_argument argument) (λ t. finished_stands d.desk d.jobs t (finish_refusal d.desk t) refl k) k
   desk_stands d k Cancel argument =
       number_has StandsAfter (λ t. on_desk d (cancel_ticket_step d.desk t (cancel_refusal d.desk t))) (d, argument_refused) (number_argument argument) (λ t. cancelled_stands d.desk d.jobs t (cancel_refusal d.desk t) refl k) k
   desk_stands d k Settle argument =
-      nothing_has StandsAfter (on_desk d (settle_desk_step (requeued_all d.desk))) (d, argument_refused) argument (settled_stands rise (d.desk.limit - length d.desk.history) d.jobs (requeued_all d.desk) (omega arith)
+      nothing_has StandsAfter (on_desk d (settle_desk_step (requeued_all d.desk))) (d, argument_refused) argument (settled_stands (d.desk.limit - length d.desk.history) d.jobs (requeued_all d.desk) (omega arith)
       (stands_marked d.desk (recalled d.desk.pending) d.jobs (tickets_recalled d.desk.pending) k)) k
+  desk_stands d k Checkpoint argument = nothing_has StandsAfter (checkpoint_now d) (d, argument_refused) argument (checkpoint_stands d k) k
   desk_stands d k c argument = k
 
   tvar_reached : (s : Console) → IsReached s → (argument : List ℕ) → IsReached (tvar_step s argument).0
-  tvar_reached (Declaring table limit) h argument = declare_reached table limit (variable_of table argument) h.0 h.1 (declared table argument)
+  tvar_reached (Declaring table limit) h argument = declare_reached table limit (variable_of table argument) h.0 h.1 (λ d e. may_be_next declarations table argument d h.0.0 e)
   tvar_reached (Open d) h argument = h
 
   command_reached : (s : Console) → IsReached s → (c : Command) (argument : List ℕ) → IsReached (command_step s c argument).0
@@ -121,7 +147,7 @@ module _ (blocks : BlockAnswersAreRight) (declarations : DeclarationAnswersAreRi
   class_reached s h NotAscii = h
   class_reached s h (Words word argument) = word_reached s h (command_named word) argument
 
-  line_reached : (s : Console) → IsReached s → (line : List ℕ) → IsReached (state_after s line)
+  pub line_reached : (s : Console) → IsReached s → (line : List ℕ) → IsReached (state_after s line)
   unfolding step
   line_reached s h line = class_reached s h (line_class line)
 
@@ -129,9 +155,9 @@ module _ (blocks : BlockAnswersAreRight) (declarations : DeclarationAnswersAreRi
   lines_reached s h [] = h
   lines_reached s h (line ∷ rest) = lines_reached (state_after s line) (line_reached s h line) rest
 
-  start_reached : (max_events : ℕ) → max_events ≤ slow.max_events → IsReached (initial_console max_events)
+  pub start_reached : (max_events : ℕ) → max_events ≤ slow.max_events → IsReached (initial_console max_events)
   unfolding initial_console
-  start_reached max_events low = (λ i c e. absurd cc, low)
+  start_reached max_events low = ((omega arith, tt), low)
 
   pub reached : (max_events : ℕ) → max_events ≤ slow.max_events → (lines : List (List ℕ)) → IsReached (state_after_lines (initial_console max_events) lines)
   reached max_events low lines = lines_reached (initial_console max_events) (start_reached max_events low) lines

@@ -1,4 +1,4 @@
--- The numbers of the events of a legal history are small.
+-- The numbers of the events of a legal history are small, wherever it begins.
 use Rattle.std.proofs.Common.{◌≡◌, ℕ, ◌≤◌, ◌<◌, ◌^◌, Bool, true, false, cond, List, [], ◌∷◌, ◌++◌, length, map, Option, Some, None, refl, sym, subst, arith, append_assoc, length-append}
 use Rattle.std.specs.Prelude.{IsSomeAnd, filter, nat_eq}
 use Rattle.std.proofs.lemmas.Bool.Decides.{nat_tests}
@@ -6,14 +6,17 @@ use Rattle.stm_terms.specs.declared.verdicts.Verdict.{Verdict}
 use Rattle.stm_check.specs.Laws.{CheckNeverSaysNoMemory}
 use Rattle.stm_eval.specs.Laws.{VerdictIsStable}
 use Rattle.stm_parse.specs.ParseFunction.{BlockAnswersAreRight, DeclarationAnswersAreRight}
-use Rattle.stm_store.specs.Tables.{Declared}
 use Rattle.stm_events.specs.declared.event.Event.{Event}
 use Rattle.stm_events.specs.declared.event.What.{What}
 use Rattle.stm_events.specs.declared.event.What.TheVariants.{Submitted, Installed, Finished, Cancelled}
-use Rattle.stm_events.specs.declared.staleness.StalenessRule.TheVariants.{Changed}
-use Rattle.stm_events.specs.Laws.{AreRising, TicketsAreRight, TicketsRise, BlocksStay}
-use Rattle.stm_events.specs.SlowDesk.{Waiter, Slow, find_waiter, without_waiter, stale_after, becomes_stale, MayInstall, MayFinish, Allows, IsLegal, LegalFrom, initial_state, state, max_events, after}
+use Rattle.stm_events.specs.Laws.{AreRising}
+use Rattle.stm_events.specs.SlowDesk.{Waiter, Slow, find_waiter, without_waiter, stale_after, becomes_stale, MayInstall, MayFinish, Allows, LegalFrom, state_from, max_events, max_cells, after}
+use Rattle.stm_events.specs.States.{IsPossible, IsLegalFrom}
 use Rattle.stm_events.proofs.Folds.{legal_split}
+use Rattle.stm_events.proofs.Possible.{possible_from}
+use Rattle.stm_events.proofs.Rising.{next_le}
+use Rattle.stm_machine.specs.Checkpoints.{max_next}
+use Rattle.stm_desk.specs.DeskView.{start_state}
 use Rattle.stm_event_lines.specs.Fits.{Is32Bit, FitNumbers}
 use Rattle.stm_event_lines.specs.WholeBlocks.{CheckedAreWellTyped}
 use Rattle.stm_run.specs.Console.{initial_console}
@@ -36,10 +39,14 @@ below_without : (n t : ℕ) (ws : List Waiter) → AreBelow n ws → AreBelow n 
 below_without n t [] b = tt
 below_without n t (w ∷ ws) b = either_has (AreBelow n) (nat_eq t w.ticket) ws (w ∷ without_waiter t ws) b.1 (b.0, below_without n t ws b.1)
 
-small_of : (n t : ℕ) → t < n → n ≤ 2 ^ 21 → Is32Bit t
+-- the next ticket is never above this one
+abbrev most_next : ℕ
+most_next = 4294967294
+
+small_of : (n t : ℕ) → t < n → n ≤ most_next → Is32Bit t
 small_of n t l s = omega (arith, l, s)
 
-stale_small : (n : ℕ) (woken : List ℕ) (ws : List Waiter) → n ≤ 2 ^ 21 → AreBelow n ws → FitNumbers (stale_after woken ws)
+stale_small : (n : ℕ) (woken : List ℕ) (ws : List Waiter) → n ≤ most_next → AreBelow n ws → FitNumbers (stale_after woken ws)
 stale_small n woken [] s b = tt
 stale_small n woken (w ∷ ws) s b =
     let rest = stale_small n woken ws s b.1 in
@@ -59,7 +66,7 @@ waits_below : (P : Waiter → Type 0) (n t : ℕ) (ws : List Waiter) (o : Option
 waits_below P n t ws None b e h = absurd h
 waits_below P n t ws (Some w) b e h = found_below n t ws w b e
 
-finish_small : (s : Slow) (t n : ℕ) (v : Verdict) (stale : List ℕ) (o : Option Waiter) → s.next ≤ 2 ^ 21 → AreBelow s.next s.waiters → find_waiter t s.waiters ≡ o → IsSomeAnd o (λ w. MayFinish s t w v n stale)
+finish_small : (s : Slow) (t n : ℕ) (v : Verdict) (stale : List ℕ) (o : Option Waiter) → s.next ≤ most_next → AreBelow s.next s.waiters → find_waiter t s.waiters ≡ o → IsSomeAnd o (λ w. MayFinish s t w v n stale)
     → AreNumbersSmall (Finished t v n stale)
 finish_small s t n v stale None small b e h = absurd h
 finish_small s t n v stale (Some w) small b e h = (
@@ -69,7 +76,7 @@ finish_small s t n v stale (Some w) small b e h = (
 )
 
 -- what may happen has small numbers
-allowed_small : (s : Slow) (what : What) → s.next ≤ 2 ^ 21 → AreBelow s.next s.waiters → Allows s what → AreNumbersSmall what
+allowed_small : (s : Slow) (what : What) → s.next ≤ most_next → AreBelow s.next s.waiters → Allows s what → AreNumbersSmall what
 allowed_small s (Submitted t block) small b a = omega (arith, a.0, small)
 allowed_small s (Installed t v) small b a = small_of s.next t (waits_below (λ w. MayInstall s w v) s.next t s.waiters (find_waiter t s.waiters) b refl a) small
 allowed_small s (Finished t v n stale) small b a = finish_small s t n v stale (find_waiter t s.waiters) small b refl a
@@ -79,26 +86,26 @@ legal_front : (s : Slow) (xs ys : List Event) → LegalFrom s (xs ++ ys) → Leg
 legal_front s [] ys l = tt
 legal_front s (x ∷ xs) ys l = (l.0, legal_front (after s x.what) xs ys l.1)
 
-pub front_is_legal : (table : List Declared) (xs ys : List Event) → IsLegal table (xs ++ ys) → IsLegal table xs
-front_is_legal table xs ys l = record { each = legal_front (initial_state Changed table) xs ys l.each; few = omega (arith, l.few, length-append xs ys) }
+pub front_is_legal : (s : Slow) (xs ys : List Event) → IsLegalFrom s (xs ++ ys) → IsLegalFrom s xs
+front_is_legal s xs ys l = record { each = legal_front s xs ys l.each; few = omega (arith, l.few, length-append xs ys) }
 
-module _ (rise : TicketsRise) where
-  pub rest_small : (table : List Declared) (front rest : List Event) → IsLegal table (front ++ rest) → HaveSmallNumbers rest
-  rest_small table front [] l = tt
-  rest_small table front (e ∷ es) l =
-      let parts : front ++ e ∷ es ≡ (front ++ e ∷ []) ++ es = sym (append_assoc front (e ∷ []) es) in
-      let whole : IsLegal table ((front ++ e ∷ []) ++ es) = subst (IsLegal table) parts l in
-      let one : IsLegal table (front ++ e ∷ []) = front_is_legal table (front ++ e ∷ []) es whole in
-      let before : IsLegal table front = front_is_legal table front (e ∷ es) l in
-      let tickets : TicketsAreRight (state table front) (length front) = rise Changed table front before in
-      let split = legal_split (initial_state Changed table) front e one.each in
-      let allowed : Allows (state table front) e.what = (split.allowed).what in
-      let few = before.few in
-      let small : (state table front).next ≤ 2 ^ 21 = omega (arith, tickets.few, few) in
-      (allowed_small (state table front) e.what small (below (state table front).next 0 (state table front).waiters tickets.rising) allowed, rest_small table (front ++ e ∷ []) es whole)
+-- a history begins from a state with a low next ticket
+pub rest_small : (first : Slow) → IsPossible first → first.next ≤ max_next → (front rest : List Event) → IsLegalFrom first (front ++ rest) → HaveSmallNumbers rest
+rest_small first p low front [] l = tt
+rest_small first p low front (e ∷ es) l =
+    let parts : front ++ e ∷ es ≡ (front ++ e ∷ []) ++ es = sym (append_assoc front (e ∷ []) es) in
+    let whole : IsLegalFrom first ((front ++ e ∷ []) ++ es) = subst (IsLegalFrom first) parts l in
+    let one : IsLegalFrom first (front ++ e ∷ []) = front_is_legal first (front ++ e ∷ []) es whole in
+    let split = legal_split first front e one.each in
+    let s = state_from first front in
+    let allowed : Allows s e.what = (split.allowed).what in
+    let few = one.few in
+    let next = next_le first front in
+    let small : s.next ≤ most_next = omega (arith, next, few, low, length-append front (e ∷ [])) in
+    (allowed_small s e.what small (below s.next 0 s.waiters (possible_from first front p split.before).rising) allowed, rest_small first p low (front ++ e ∷ []) es whole)
 
-  pub numbers_are_small : BlockAnswersAreRight → DeclarationAnswersAreRight → CheckNeverSaysNoMemory → VerdictIsStable → BlocksStay → CheckedAreWellTyped → NumbersAreSmall
-  numbers_are_small blocks declarations faults stable stay checked max_events low before =
-      let s = state_after_lines (initial_console max_events) before in
-      let stands = present_stands s (reached blocks declarations faults stable rise stay checked max_events low before) in
-      rest_small (present_desk s).desk.table [] (present_desk s).desk.history stands.legal
+pub numbers_are_small : BlockAnswersAreRight → DeclarationAnswersAreRight → CheckNeverSaysNoMemory → VerdictIsStable → CheckedAreWellTyped → NumbersAreSmall
+numbers_are_small blocks declarations faults stable checked max_events low before =
+    let s = state_after_lines (initial_console max_events) before in
+    let stands = present_stands s (reached blocks declarations faults stable checked max_events low before) in
+    rest_small (start_state (present_desk s).desk) stands.start.possible stands.low [] (present_desk s).desk.history stands.legal

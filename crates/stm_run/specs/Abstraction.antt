@@ -22,6 +22,7 @@ abbrev pub IsReply : Reply → List ℕ → List ℕ → Console → List ℕ �
 IsReply reply.Text old new c answer = new ≡ old ++ answer
 IsReply reply.History old new c answer = (new ≡ old) × (answer ≡ history_of c)
 IsReply (reply.Events n) old new c answer = (new ≡ old) × (answer ≡ later_events_of c n)
+IsReply reply.Checkpoint old new c answer = new ≡ old ++ answer
 
 -- this is the console after a step, and the reply is what the step writes
 abbrev pub IsStep : Reply → List ℕ → List ℕ → Console → Console × List ℕ → Type 0

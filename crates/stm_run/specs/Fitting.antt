@@ -1,5 +1,5 @@
--- The events of a console's desk can be in lines of a history.
-use Rattle.std.specs.Prelude.{◌≡◌, ◌≤◌, ℕ, List, [], ◌∷◌, length, Ok, ⊤}
+-- The events of a console's desk, and its checkpoint, can be in lines of a history.
+use Rattle.std.specs.Prelude.{◌≡◌, ◌≤◌, ℕ, List, [], ◌∷◌, length, IfSome, Ok, ⊤}
 use Rattle.stm_store.specs.Tables.{Declared}
 use Rattle.stm_events.specs.declared.event.Event.{Event}
 use Rattle.stm_events.specs.declared.event.What.{What}
@@ -7,10 +7,11 @@ use Rattle.stm_events.specs.declared.event.What.TheVariants.{Submitted, Installe
 use Rattle.stm_events.specs.SlowDesk as slow
 use Rattle.stm_event_lines.specs.Fits.{Is32Bit, FitNumbers, FitsVerdict, FitsTable}
 use Rattle.stm_history.specs.Judgement.{AreVariables}
+use Rattle.stm_history.specs.Starts.{BlocksAreOfText}
 use Rattle.stm_event_lines.specs.WholeBlocks.{checked_block}
-use Rattle.stm_desk.specs.DeskView.{DeskView}
-use Rattle.stm_run.specs.Console.{initial_console}
-use Rattle.stm_run.specs.ConsoleState.{present_desk, table_of}
+use Rattle.stm_desk.specs.DeskView.{DeskView, state_of}
+use Rattle.stm_run.specs.Console.{initial_console, state_after}
+use Rattle.stm_run.specs.ConsoleState.{present_desk, table_of, checkpoint_of_console, with_checkpoint}
 use Rattle.stm_run.specs.declared.console.Console.{Console}
 use Rattle.stm_run.specs.Laws.{state_after_lines}
 
@@ -27,15 +28,29 @@ abbrev pub AreOfConsole : List Declared → List Event → Type 0
 AreOfConsole table [] = ⊤
 AreOfConsole table (e ∷ es) = (e.client ≡ 0) × IsOfText table e.what × AreOfConsole table es
 
--- the events of a desk are
+-- the events of a desk since its last checkpoint are, and each waiting block of that checkpoint is of its text
 abbrev pub IsOfConsole : DeskView → Type 0
-IsOfConsole d = AreOfConsole d.table d.history
+IsOfConsole d = AreOfConsole d.table d.history × IfSome d.checkpoint (BlocksAreOfText d.table)
 
 -- whatever lines came before, and however many events the history may have
 abbrev pub EventsAreOfConsole : Type 0
 EventsAreOfConsole =
     (max_events : ℕ) (before : List (List ℕ))
     → IsOfConsole (present_desk (state_after_lines (initial_console max_events) before)).desk
+
+-- each waiting block is what its text checks to over the table
+abbrev pub AreOfTheirTexts : List Declared → List slow.Waiter → Type 0
+AreOfTheirTexts table [] = ⊤
+AreOfTheirTexts table (w ∷ ws) = (checked_block table w.block.text ≡ Ok w.block) × AreOfTheirTexts table ws
+
+-- so is each that waits on the desk of a console
+abbrev pub WaitAsTheirTexts : Console → Type 0
+WaitAsTheirTexts s = AreOfTheirTexts (table_of s) (state_of (present_desk s).desk).waiters
+
+-- and stays so, whatever line comes; so a checkpoint that is made then has blocks of their texts
+pub record WaitingStayOfText : Type 0 where
+  pub line : (s : Console) (line : List ℕ) → WaitAsTheirTexts s → WaitAsTheirTexts (state_after s line)
+  pub checkpoint : (s : Console) → WaitAsTheirTexts s → IfSome (checkpoint_of_console (with_checkpoint s)) (BlocksAreOfText (table_of s))
 
 -- ---- their numbers
 -- the ticket, the first new variable and the stale tickets have at most 32 bits

@@ -5,6 +5,8 @@ pub mod Declaring
 pub mod Fitting
 pub mod Growing
 pub mod Laws
+pub mod LineCheckpoints
+pub mod Unseen
 -- The words inside, for what the code keeps between two steps, and for inputs that it takes in parts.
 pub mod Abstraction
 pub mod LentDesk

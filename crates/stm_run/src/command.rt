@@ -24,6 +24,7 @@ pub enum Command {
     Ready,
     Why,
     Events,
+    Checkpoint,
 }
 
 // The command of a word, of the first six.
@@ -76,8 +77,8 @@ fn of_next_six(word: &[u8]) -> Option<Command>
     None
 }
 
-// The command of a word, of the last six.
-fn of_last_six(word: &[u8]) -> Option<Command>
+// The command of a word, of the last seven.
+fn of_last_seven(word: &[u8]) -> Option<Command>
     ensures { result ≡ command_in (drop 12 command_words) word.now }
 {
     if word == b"deliver".as_slice() {
@@ -98,6 +99,9 @@ fn of_last_six(word: &[u8]) -> Option<Command>
     if word == b"settle".as_slice() {
         return Some(Command::Settle);
     }
+    if word == b"checkpoint".as_slice() {
+        return Some(Command::Checkpoint);
+    }
     None
 }
 
@@ -111,5 +115,5 @@ pub fn command_of(word: &[u8]) -> Option<Command>
     if let Some(command) = of_next_six(word) {
         return Some(command);
     }
-    of_last_six(word)
+    of_last_seven(word)
 }

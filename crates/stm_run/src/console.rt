@@ -1,13 +1,15 @@
 //! What the console knows, and its answer to a line.
 
-ghost use Rattle.std.specs.Prelude.{◌≡◌, ◌++◌, [], Some, string_bytes, OnOk, OnErr, IfOk};
+ghost use Rattle.std.specs.Prelude.{◌≡◌, ◌++◌, [], true, false, length, Some, string_bytes, OnOk, OnErr, IfOk};
 ghost use Rattle.stm_history.specs.HistoryText.{WritesText};
 ghost use Rattle.stm_commands.specs.Contents.{history_answer};
 ghost use Rattle.stm_commands.specs.OpenDesk.{Steps};
 ghost use Rattle.stm_commands.specs.Questions.{events_answer};
 ghost use Rattle.stm_run.specs.Abstraction.{IsReply, IsStep, history_of, later_events_of};
 ghost use Rattle.stm_run.specs.Console.{initial_console, command_named, desk_step, on_console, word_step, step};
-ghost use Rattle.stm_run.specs.ConsoleState.{present_desk};
+ghost use Rattle.stm_commands.specs.Checkpointing.{checkpoint_step, makes_checkpoint};
+ghost use Rattle.stm_run.specs.ConsoleState.{present_desk, events_of, with_checkpoint};
+ghost use Rattle.stm_run.specs.LineCheckpoints.{tells_checkpoint, is_streamed, command_checkpoints, word_checkpoints, line_checkpoints, auto_checkpoint};
 ghost use Rattle.stm_run.specs.Declaring.{tvar_line, tvar_step};
 ghost use Rattle.stm_run.specs.declared.console.Console.TheVariants.{Open as IsOpen};
 
@@ -47,8 +49,9 @@ fn write_declared(number: u32, name: &str, out: &mut String) -> Result<(), NoMem
 /// Answers `history`.
 #[tactic(auto, unfolding(stm_commands::specs::Contents::history_answer))]
 fn answer_history(desk: &OpenDesk, argument: &str, out: &mut String) -> Result<Reply, NoMemory>
-    ensures { IfOk result (λ r. IsReply r (string_bytes out.old) (string_bytes out.new)
+    ensures reply { IfOk result (λ r. IsReply r (string_bytes out.old) (string_bytes out.new)
         (IsOpen desk.now) (history_answer desk.now argument.now)) }
+    ensures made { IfOk result (λ r. tells_checkpoint r ≡ false) }
 {
     if argument.is_empty() {
         return Ok(Reply::History);
@@ -59,12 +62,32 @@ fn answer_history(desk: &OpenDesk, argument: &str, out: &mut String) -> Result<R
 /// Answers `events`.
 #[tactic(auto, unfolding(stm_commands::specs::Questions::events_answer))]
 fn answer_events(desk: &OpenDesk, argument: &str, out: &mut String) -> Result<Reply, NoMemory>
-    ensures { IfOk result (λ r. IsReply r (string_bytes out.old) (string_bytes out.new)
+    ensures reply { IfOk result (λ r. IsReply r (string_bytes out.old) (string_bytes out.new)
         (IsOpen desk.now) (events_answer desk.now argument.now)) }
+    ensures made { IfOk result (λ r. tells_checkpoint r ≡ false) }
 {
     match number_of(argument.as_bytes()) {
         Some(n) => Ok(Reply::Events(n)),
         None => refuse_argument(out).and(Ok(Reply::Text)),
+    }
+}
+
+/// Answers `checkpoint`.
+fn answer_checkpoint(
+    desk: &mut OpenDesk,
+    argument: &str,
+    out: &mut String,
+) -> Result<Reply, NoMemory>
+    ensures step { IfOk result (λ r. IsStep r (string_bytes out.old) (string_bytes out.new)
+        (IsOpen desk.new) (on_console (checkpoint_step desk.old argument.now))) }
+    ensures made { IfOk result (λ r. tells_checkpoint r ≡ makes_checkpoint desk.old argument.now) }
+    ensures streamed { IfOk result (λ r. is_streamed r ≡ true
+        → desk.new.desk.history ≡ desk.old.desk.history) }
+{
+    if desk.answer_checkpoint(argument, out)? {
+        Ok(Reply::Checkpoint)
+    } else {
+        Ok(Reply::Text)
     }
 }
 
@@ -78,10 +101,15 @@ fn answer_on_desk<T: Threads + Sync>(
     argument: &str,
     out: &mut String,
 ) -> Result<Reply, NoMemory>
-    ensures { IfOk result (λ r. IsStep r (string_bytes out.old) (string_bytes out.new)
+    ensures step { IfOk result (λ r. IsStep r (string_bytes out.old) (string_bytes out.new)
         (IsOpen desk.new) (on_console (desk_step desk.old command argument.now))) }
+    ensures made { IfOk result (λ r. tells_checkpoint r
+        ≡ command_checkpoints (IsOpen desk.old) command argument.now) }
+    ensures streamed { IfOk result (λ r. is_streamed r ≡ true
+        → desk.new.desk.history ≡ desk.old.desk.history) }
 {
     let done = match command {
+        Command::Checkpoint => return answer_checkpoint(desk, argument, out),
         Command::History => return answer_history(desk, argument, out),
         Command::Events => return answer_events(desk, argument, out),
         Command::Tvar => refuse("Late", out),
@@ -180,8 +208,12 @@ impl Console {
         argument: &str,
         out: &mut String,
     ) -> Result<Reply, NoMemory>
-        ensures { IfOk result (λ r. IsStep r (string_bytes out.old) (string_bytes out.new)
+        ensures step { IfOk result (λ r. IsStep r (string_bytes out.old) (string_bytes out.new)
             self.new (word_step self.old (command_named word.now) argument.now)) }
+        ensures made { IfOk result (λ r. tells_checkpoint r
+            ≡ word_checkpoints self.old (command_named word.now) argument.now) }
+        ensures streamed { IfOk result (λ r. is_streamed r ≡ true
+            → events_of self.new ≡ events_of self.old) }
     {
         match command_of(word) {
             None => refuse("Command", out).and(Ok(Reply::Text)),
@@ -193,8 +225,8 @@ impl Console {
         }
     }
 
-    /// Appends the answer to a line, or says that it is the history.
-    #[tactic(auto, unfolding(crate::specs::Console::step))]
+    /// Appends the answer to a line, or says that it is the history. Tells whether a checkpoint was made.
+    #[tactic(auto, unfolding(crate::specs::Console::step, crate::specs::LineCheckpoints::line_checkpoints))]
     pub fn answer<T: Threads + Sync>(
         &mut self,
         rt: &T,
@@ -203,8 +235,12 @@ impl Console {
         line: &[u8],
         out: &mut String,
     ) -> Result<Reply, NoMemory>
-        ensures { IfOk result (λ r. IsStep r (string_bytes out.old) (string_bytes out.new)
+        ensures step { IfOk result (λ r. IsStep r (string_bytes out.old) (string_bytes out.new)
             self.new (step self.old line.now)) }
+        ensures made { IfOk result (λ r. tells_checkpoint r ≡ line_checkpoints self.old line.now) }
+        // What is still to be written is the answer to a line that adds no event.
+        ensures streamed { IfOk result (λ r. is_streamed r ≡ true
+            → events_of self.new ≡ events_of self.old) }
     {
         match judge(line) {
             Judgement::TooLong => refuse("LineTooLong", out).and(Ok(Reply::Text)),
@@ -214,6 +250,30 @@ impl Console {
                 Ok(argument) => self.answer_command(rt, alloc, threading, word, argument, out),
                 Err(_) => unreachable!(),
             },
+        }
+    }
+
+    /// How many events the history has.
+    pub fn event_count(&self) -> usize
+        ensures { result ≡ length (events_of self.now) }
+    {
+        match self {
+            Console::Declaring { .. } => 0,
+            Console::Open(desk) => desk.history().len(),
+        }
+    }
+
+    /// Makes a checkpoint if the desk is open, its history has at least `every` events, and no tickets could run out after it.
+    /// Returns whether it was made.
+    pub fn checkpoint(&mut self, every: u32) -> Result<bool, NoMemory>
+        ensures state { OnOk result (self.new ≡ auto_checkpoint every self.old) }
+        ensures begun { IfOk result (λ made. made ≡ true → self.new ≡ with_checkpoint self.old) }
+        ensures same { IfOk result (λ made. made ≡ false → self.new ≡ self.old) }
+        ensures unchanged { OnErr result (self.new ≡ self.old) }
+    {
+        match self {
+            Console::Declaring { .. } => Ok(false),
+            Console::Open(desk) => desk.checkpoint_if(every),
         }
     }
 

@@ -1,10 +1,11 @@
 //! What holds of the events of a console's desk, so that they can be in lines of a history: each function's contract is a law.
 
-ghost use Rattle.stm_run.specs.Fitting.{EventsAreOfConsole, EventsFitLines, NumbersAreSmall, VariablesFitLines, VariablesStayFit};
+ghost use Rattle.stm_run.specs.Fitting.{EventsAreOfConsole, EventsFitLines, NumbersAreSmall, VariablesFitLines, VariablesStayFit, WaitingStayOfText};
 ghost use Rattle.stm_run.specs.Growing.{ConsolesGrow};
 
-/// Each event of the desk is of client 0, and each block that was submitted is what its text checks to over the declared
-/// variables, whatever lines came before. So when a history is read again, its blocks are the same.
+/// Each event of the desk since its last checkpoint is of client 0, and each block that was submitted, and each that waits at the
+/// checkpoint, is what its text checks to over the declared variables, whatever lines came before. So when a history is read again,
+/// its blocks are the same.
 pub fn events_are_of_console()
     ensures { EventsAreOfConsole }
 {}
@@ -24,9 +25,14 @@ pub fn variables_stay_fit()
 }
 
 /// A console only adds events, each of client 0 and of a block of its text, and a desk that is open stays open on its table,
-/// whatever lines come.
+/// whatever line comes; except that a line may make a checkpoint.
 pub fn consoles_grow()
     ensures { ConsolesGrow }
+{}
+
+/// Waiting blocks stay what their texts check to, whatever line comes, and a checkpoint has those that wait.
+pub fn waiting_stay_of_text()
+    ensures { WaitingStayOfText }
 {}
 
 /// The tickets of the events, the numbers of their first new variables and the tickets that they make stale have at most 32
@@ -37,8 +43,6 @@ pub fn numbers_are_small()
     stm_parse::laws::answers_are_right();
     stm_check::laws::check_never_says_no_memory();
     stm_eval::laws::verdict_is_stable();
-    stm_events::laws::tickets_rise();
-    stm_events::laws::blocks_stay();
     stm_history::files::laws::checked_are_well_typed();
 }
 

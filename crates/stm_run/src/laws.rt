@@ -3,6 +3,7 @@
 
 ghost use Rattle.stm_commands.specs.DueTickets.{OutTicketsAreASet};
 ghost use Rattle.stm_run.specs.Laws.{EachLineIsAnswered, QueueIsOfDueTickets, VerdictsAreShown};
+ghost use Rattle.stm_run.specs.Unseen.{CheckpointsAreUnseenByCommands};
 
 /// A line that is neither blank nor a comment is answered by a text that ends with a line feed, whatever lines came before
 /// it. So `try` always has a verdict to tell, `finish` an effect, and an out-of-memory error is the text of no refusal.
@@ -13,13 +14,7 @@ pub fn each_line_is_answered()
     stm_check::laws::check_never_says_no_memory();
     stm_check::laws::verdict_fits();
     stm_eval::laws::verdict_is_stable();
-    stm_events::laws::tickets_rise();
-    stm_events::laws::declared_are_covered();
-    stm_events::laws::blocks_stay();
     stm_history::files::laws::checked_are_well_typed();
-    stm_events::laws::waiting_are_well_typed();
-    stm_events::laws::stores_are_typed();
-    stm_events::laws::blocks_have_verdicts();
 }
 
 /// Each waiting block that isn't new stands with a verdict, whatever lines came before: so none that `show` has to tell is
@@ -30,11 +25,7 @@ pub fn verdicts_are_shown()
     stm_parse::laws::answers_are_right();
     stm_check::laws::check_never_says_no_memory();
     stm_eval::laws::verdict_is_stable();
-    stm_events::laws::tickets_rise();
-    stm_events::laws::blocks_stay();
     stm_history::files::laws::checked_are_well_typed();
-    stm_events::laws::waiting_are_well_typed();
-    stm_events::laws::weak_is_present();
 }
 
 /// The queue of the desk is no more than a set of tickets that are out: whatever lines came before, it has the tickets of the new
@@ -48,8 +39,16 @@ pub fn queue_is_a_set_of_tickets()
     stm_parse::laws::answers_are_right();
     stm_check::laws::check_never_says_no_memory();
     stm_eval::laws::verdict_is_stable();
-    stm_events::laws::tickets_rise();
-    stm_events::laws::blocks_stay();
     stm_history::files::laws::checked_are_well_typed();
-    stm_events::laws::waiting_are_well_typed();
+}
+
+/// No answer differs by a checkpoint, whatever lines came before it and after it: but for the commands that speak of the history, and
+/// but for the room that it has for events.
+pub fn no_answer_differs()
+    ensures { CheckpointsAreUnseenByCommands }
+{
+    stm_parse::laws::answers_are_right();
+    stm_check::laws::check_never_says_no_memory();
+    stm_eval::laws::verdict_is_stable();
+    stm_history::files::laws::checked_are_well_typed();
 }

@@ -9,4 +9,6 @@ pub enum Reply {
     History,
     /// It is the events from the one with this number on, counted from 1, and how many there are: still to be written, too.
     Events(u32),
+    /// In the text that was appended; and a checkpoint was made, from which the history begins.
+    Checkpoint,
 }

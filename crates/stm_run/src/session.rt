@@ -93,7 +93,7 @@ impl Session {
             Err(_) => return Err(RunFault::NoMemory),
         };
         match reply {
-            Reply::Text => self.write_answer(writer),
+            Reply::Text | Reply::Checkpoint => self.write_answer(writer),
             Reply::History => match self.console.write_history(alloc, writer) {
                 Ok(()) => Ok(()),
                 Err(fault) => Err(fault_of(fault)),

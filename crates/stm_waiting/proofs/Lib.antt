@@ -1,2 +1,3 @@
--- The waiting blocks as their places have them.
+-- The waiting blocks as their places have them, and the search of a place.
 pub mod Placed
+pub mod Searched

@@ -1,16 +1,14 @@
 -- The waiting blocks as their places have them.
-use Rattle.std.proofs.Common.{◌≡◌, ℕ, zero, suc, ◌+◌, ◌-◌, ◌*◌, ◌/◌, ◌^◌, ◌<◌, ◌≤◌, Bool, true, false, ◌&&◌, ◌||◌, cond, List, [], ◌∷◌, ◌++◌, length, get_or, take, drop, Option, Some, None, Bor, refl, sym, ap, ap₂, subst, ◌∙◌, add-one, drop-cons, length-append, length-set, arith}
-use Rattle.std.specs.Prelude.{nat_eq, nat_lt, slice_get, option_map, is_some, replicate}
-use Rattle.std.specs.Option.{option_copied}
-use Rattle.std.proofs.Math.ListN.{set}
-use Rattle.std.proofs.lemmas.Bool.{false≢true}
+use Rattle.std.proofs.Common.{◌≡◌, ℕ, zero, suc, ◌+◌, ◌*◌, ◌<◌, ◌≤◌, Bool, true, false, cond, List, [], ◌∷◌, ◌++◌, length, Option, Some, None, refl, sym, ap, ap₂, subst, ◌∙◌, add-one, length-append, arith}
+use Rattle.std.specs.Prelude.{nat_eq, slice_get, option_map, is_some}
+use Rattle.std.specs.List.{filter}
 use Rattle.std.proofs.lemmas.Bool.Decides.{nat_tests}
-use Rattle.std.proofs.lemmas.List.{drop_all, take_all}
 use Rattle.stm_waiting.specs.declared.waiting.Held.{Held}
 use Rattle.stm_waiting.specs.declared.waiting.Waiting.{Waiting}
 use Rattle.stm_waiting.specs.declared.places.Slot.{Slot}
-use Rattle.stm_waiting.specs.Entries.{kept_at, kept, lose, with_held, AllBelow, first_above}
-use Rattle.stm_waiting.specs.Places.{waiting_in, waiting_found, held_at, listed, entries_from, OtherTicketsStay, one_of, chunk_count, AreInPlace}
+use Rattle.stm_waiting.specs.declared.table.TicketPlace.{TicketPlace}
+use Rattle.stm_waiting.specs.Entries.{kept_at, kept, lose, with_held, AllBelow}
+use Rattle.stm_waiting.specs.Places.{waiting_in, waiting_found, held_at, listed, entries_at, OtherTicketsStay, place_in, AscendFrom, PlacesAreBelow, AreInPlace, is_used}
 use Rattle.stm_terms.specs.declared.verdicts.Verdict.{Verdict}
 
 -- ---- one step of the lists, by whether the ticket is that of the head
@@ -39,137 +37,108 @@ hold_here t n held None es h g = g
 hold_here t n held (Some w) es h g = rw h refl
 
 -- ---- a ticket below all
-kept_above : (t n : ℕ) (ps : List ℕ) (s : List Slot) → t < n → kept_at t (entries_from n ps s) ≡ None
-kept_above t n [] s h = refl
-kept_above t n (p ∷ ps) s h =
-    let e : nat_eq t n ≡ false = grind (arith, nat_tests) in
-    kept_other t n (held_at n p s) (entries_from (suc n) ps s) e ∙ kept_above t (suc n) ps s (omega arith)
+kept_above : (t n : ℕ) (ps : List TicketPlace) (s : List Slot) → t < n → AscendFrom n ps → kept_at t (entries_at ps s) ≡ None
+kept_above t n [] s h a = refl
+kept_above t n (p ∷ ps) s h a =
+    let l : n ≤ p.ticket = a.0 in
+    let e : nat_eq t p.ticket ≡ false = grind (arith, nat_tests) in
+    kept_other t p.ticket (held_at p.ticket p.place s) (entries_at ps s) e ∙ kept_above t (suc p.ticket) ps s (omega arith) a.1
 
-lose_above : (t n : ℕ) (ps : List ℕ) (s : List Slot) → t < n → lose t (entries_from n ps s) ≡ entries_from n ps s
-lose_above t n [] s h = refl
-lose_above t n (p ∷ ps) s h =
-    let e : nat_eq t n ≡ false = grind (arith, nat_tests) in
-    lose_other t n (held_at n p s) (entries_from (suc n) ps s) e ∙ ap (listed n (held_at n p s)) (lose_above t (suc n) ps s (omega arith))
+lose_above : (t n : ℕ) (ps : List TicketPlace) (s : List Slot) → t < n → AscendFrom n ps → lose t (entries_at ps s) ≡ entries_at ps s
+lose_above t n [] s h a = refl
+lose_above t n (p ∷ ps) s h a =
+    let l : n ≤ p.ticket = a.0 in
+    let e : nat_eq t p.ticket ≡ false = grind (arith, nat_tests) in
+    lose_other t p.ticket (held_at p.ticket p.place s) (entries_at ps s) e ∙ ap (listed p.ticket (held_at p.ticket p.place s)) (lose_above t (suc p.ticket) ps s (omega arith) a.1)
 
-hold_above : (t n : ℕ) (held : Held) (ps : List ℕ) (s : List Slot) → t < n → with_held t held (entries_from n ps s) ≡ entries_from n ps s
-hold_above t n held [] s h = refl
-hold_above t n held (p ∷ ps) s h =
-    let e : nat_eq t n ≡ false = grind (arith, nat_tests) in
-    hold_other t n held (held_at n p s) (entries_from (suc n) ps s) e ∙ ap (listed n (held_at n p s)) (hold_above t (suc n) held ps s (omega arith))
+hold_above : (t n : ℕ) (held : Held) (ps : List TicketPlace) (s : List Slot) → t < n → AscendFrom n ps → with_held t held (entries_at ps s) ≡ entries_at ps s
+hold_above t n held [] s h a = refl
+hold_above t n held (p ∷ ps) s h a =
+    let l : n ≤ p.ticket = a.0 in
+    let e : nat_eq t p.ticket ≡ false = grind (arith, nat_tests) in
+    hold_other t p.ticket held (held_at p.ticket p.place s) (entries_at ps s) e ∙ ap (listed p.ticket (held_at p.ticket p.place s)) (hold_above t (suc p.ticket) held ps s (omega arith) a.1)
 
-stay_above : (t n : ℕ) (ps : List ℕ) (s r : List Slot) → OtherTicketsStay t s r → t < n → entries_from n ps r ≡ entries_from n ps s
-stay_above t n [] s r o h = refl
-stay_above t n (p ∷ ps) s r o h =
-    let e : nat_eq n t ≡ false = grind (arith, nat_tests) in
-    ap₂ (listed n) (o n p e) (stay_above t (suc n) ps s r o (omega arith))
+stay_above : (t n : ℕ) (ps : List TicketPlace) (s r : List Slot) → OtherTicketsStay t s r → t < n → AscendFrom n ps → entries_at ps r ≡ entries_at ps s
+stay_above t n [] s r o h a = refl
+stay_above t n (p ∷ ps) s r o h a =
+    let l : n ≤ p.ticket = a.0 in
+    let e : nat_eq p.ticket t ≡ false = grind (arith, nat_tests) in
+    ap₂ (listed p.ticket) (o p.ticket p.place e) (stay_above t (suc p.ticket) ps s r o (omega arith) a.1)
 
 -- ---- what is found, lost, held
-kept_from : (t n k : ℕ) (ps : List ℕ) (s : List Slot) → t ≡ n + k → kept_at t (entries_from n ps s) ≡ held_at t (get_or ps k 0) s
-kept_from t n k [] s h = refl
-kept_from t n zero (p ∷ ps) s h =
-    let e : nat_eq t n ≡ true = grind (arith, nat_tests) in
-    let same : n ≡ t = omega arith in
-    kept_here t n (held_at n p s) (entries_from (suc n) ps s) e (kept_above t (suc n) ps s (omega arith)) ∙ ap (λ (m : ℕ). held_at m p s) same
-kept_from t n (suc k) (p ∷ ps) s h =
-    let e : nat_eq t n ≡ false = grind (arith, nat_tests) in
-    kept_other t n (held_at n p s) (entries_from (suc n) ps s) e ∙ kept_from t (suc n) k ps s (omega arith)
+kept_step : (c : Bool) (t : ℕ) (p : TicketPlace) (ps : List TicketPlace) (s : List Slot) → nat_eq t p.ticket ≡ c → AscendFrom (suc p.ticket) ps → kept_at t (entries_at ps s) ≡ held_at t (place_in t ps) s
+    → kept_at t (listed p.ticket (held_at p.ticket p.place s) (entries_at ps s)) ≡ held_at t (cond c p.place (place_in t ps)) s
+kept_step true t p ps s h a more =
+    let same : p.ticket ≡ t = grind (arith, nat_tests) in
+    kept_here t p.ticket (held_at p.ticket p.place s) (entries_at ps s) h (kept_above t (suc p.ticket) ps s (omega arith) a) ∙ ap (λ (m : ℕ). held_at m p.place s) same
+kept_step false t p ps s h a more = kept_other t p.ticket (held_at p.ticket p.place s) (entries_at ps s) h ∙ more
 
-pub kept_entries : (t : ℕ) (ps : List ℕ) (s : List Slot) → kept_at t (entries_from 0 ps s) ≡ held_at t (get_or ps t 0) s
-kept_entries t ps s = kept_from t 0 t ps s (omega arith)
+kept_entries : (t n : ℕ) (ps : List TicketPlace) (s : List Slot) → AscendFrom n ps → kept_at t (entries_at ps s) ≡ held_at t (place_in t ps) s
+kept_entries t n [] s a = refl
+kept_entries t n (p ∷ ps) s a = kept_step (nat_eq t p.ticket) t p ps s refl a.1 (kept_entries t (suc p.ticket) ps s a.1)
 
-lost_from : (t n k : ℕ) (ps : List ℕ) (s r : List Slot) → t ≡ n + k → OtherTicketsStay t s r → held_at t (get_or ps k 0) r ≡ None → entries_from n ps r ≡ lose t (entries_from n ps s)
-lost_from t n k [] s r h o g = refl
-lost_from t n zero (p ∷ ps) s r h o g =
-    let e : nat_eq t n ≡ true = grind (arith, nat_tests) in
-    let same : n ≡ t = omega arith in
-    let none : held_at n p r ≡ None = ap (λ (m : ℕ). held_at m p r) same ∙ g in
-    rw none (stay_above t (suc n) ps s r o (omega arith)
-    ∙ sym (lose_here t n (held_at n p s) (entries_from (suc n) ps s) e (lose_above t (suc n) ps s (omega arith))))
-lost_from t n (suc k) (p ∷ ps) s r h o g =
-    let e : nat_eq t n ≡ false = grind (arith, nat_tests) in
-    let f : nat_eq n t ≡ false = grind (arith, nat_tests) in
-    ap₂ (listed n) (o n p f) (lost_from t (suc n) k ps s r (omega arith) o g)
-    ∙ sym (lose_other t n (held_at n p s) (entries_from (suc n) ps s) e)
+lost_at : (c : Bool) (t : ℕ) (p : TicketPlace) (ps : List TicketPlace) (s r : List Slot) → nat_eq t p.ticket ≡ c → AscendFrom (suc p.ticket) ps → OtherTicketsStay t s r
+    → held_at t (cond c p.place (place_in t ps)) r ≡ None → (held_at t (place_in t ps) r ≡ None → entries_at ps r ≡ lose t (entries_at ps s))
+    → listed p.ticket (held_at p.ticket p.place r) (entries_at ps r) ≡ lose t (listed p.ticket (held_at p.ticket p.place s) (entries_at ps s))
+lost_at true t p ps s r h a o g more =
+    let same : p.ticket ≡ t = grind (arith, nat_tests) in
+    let none : held_at p.ticket p.place r ≡ None = ap (λ (m : ℕ). held_at m p.place r) same ∙ g in
+    rw none (stay_above t (suc p.ticket) ps s r o (omega arith) a
+    ∙ sym (lose_here t p.ticket (held_at p.ticket p.place s) (entries_at ps s) h (lose_above t (suc p.ticket) ps s (omega arith) a)))
+lost_at false t p ps s r h a o g more =
+    let f : nat_eq p.ticket t ≡ false = grind (arith, nat_tests) in
+    ap₂ (listed p.ticket) (o p.ticket p.place f) (more g)
+    ∙ sym (lose_other t p.ticket (held_at p.ticket p.place s) (entries_at ps s) h)
 
-pub lost_entries : (t : ℕ) (ps : List ℕ) (s r : List Slot) → OtherTicketsStay t s r → held_at t (get_or ps t 0) r ≡ None → entries_from 0 ps r ≡ lose t (entries_from 0 ps s)
-lost_entries t ps s r o g = lost_from t 0 t ps s r (omega arith) o g
+lost_entries : (t n : ℕ) (ps : List TicketPlace) (s r : List Slot) → AscendFrom n ps → OtherTicketsStay t s r → held_at t (place_in t ps) r ≡ None → entries_at ps r ≡ lose t (entries_at ps s)
+lost_entries t n [] s r a o g = refl
+lost_entries t n (p ∷ ps) s r a o g = lost_at (nat_eq t p.ticket) t p ps s r refl a.1 o g (lost_entries t (suc p.ticket) ps s r a.1 o)
 
-held_from : (t n k : ℕ) (held : Held) (ps : List ℕ) (s r : List Slot) → t ≡ n + k → OtherTicketsStay t s r → held_at t (get_or ps k 0) r ≡ option_map (kept held) (held_at t (get_or ps k 0) s)
-    → entries_from n ps r ≡ with_held t held (entries_from n ps s)
-held_from t n k held [] s r h o g = refl
-held_from t n zero held (p ∷ ps) s r h o g =
-    let e : nat_eq t n ≡ true = grind (arith, nat_tests) in
-    let same : t ≡ n = omega arith in
-    let here : held_at n p r ≡ option_map (kept held) (held_at n p s) = subst (λ (m : ℕ). held_at m p r ≡ option_map (kept held) (held_at m p s)) same g in
-    ap₂ (listed n) here (stay_above t (suc n) ps s r o (omega arith))
-    ∙ sym (hold_here t n held (held_at n p s) (entries_from (suc n) ps s) e (hold_above t (suc n) held ps s (omega arith)))
-held_from t n (suc k) held (p ∷ ps) s r h o g =
-    let e : nat_eq t n ≡ false = grind (arith, nat_tests) in
-    let f : nat_eq n t ≡ false = grind (arith, nat_tests) in
-    ap₂ (listed n) (o n p f) (held_from t (suc n) k held ps s r (omega arith) o g)
-    ∙ sym (hold_other t n held (held_at n p s) (entries_from (suc n) ps s) e)
+hold_at : (c : Bool) (t : ℕ) (held : Held) (p : TicketPlace) (ps : List TicketPlace) (s r : List Slot) → nat_eq t p.ticket ≡ c → AscendFrom (suc p.ticket) ps → OtherTicketsStay t s r
+    → held_at t (cond c p.place (place_in t ps)) r ≡ option_map (kept held) (held_at t (cond c p.place (place_in t ps)) s)
+    → (held_at t (place_in t ps) r ≡ option_map (kept held) (held_at t (place_in t ps) s) → entries_at ps r ≡ with_held t held (entries_at ps s))
+    → listed p.ticket (held_at p.ticket p.place r) (entries_at ps r) ≡ with_held t held (listed p.ticket (held_at p.ticket p.place s) (entries_at ps s))
+hold_at true t held p ps s r h a o g more =
+    let same : t ≡ p.ticket = grind (arith, nat_tests) in
+    let here : held_at p.ticket p.place r ≡ option_map (kept held) (held_at p.ticket p.place s) = subst (λ (m : ℕ). held_at m p.place r ≡ option_map (kept held) (held_at m p.place s)) same g in
+    ap₂ (listed p.ticket) here (stay_above t (suc p.ticket) ps s r o (omega arith) a)
+    ∙ sym (hold_here t p.ticket held (held_at p.ticket p.place s) (entries_at ps s) h (hold_above t (suc p.ticket) held ps s (omega arith) a))
+hold_at false t held p ps s r h a o g more =
+    let f : nat_eq p.ticket t ≡ false = grind (arith, nat_tests) in
+    ap₂ (listed p.ticket) (o p.ticket p.place f) (more g)
+    ∙ sym (hold_other t p.ticket held (held_at p.ticket p.place s) (entries_at ps s) h)
 
-pub held_entries : (t : ℕ) (held : Held) (ps : List ℕ) (s r : List Slot) → OtherTicketsStay t s r → held_at t (get_or ps t 0) r ≡ option_map (kept held) (held_at t (get_or ps t 0) s)
-    → entries_from 0 ps r ≡ with_held t held (entries_from 0 ps s)
-held_entries t held ps s r o g = held_from t 0 t held ps s r (omega arith) o g
+held_entries : (t n : ℕ) (held : Held) (ps : List TicketPlace) (s r : List Slot) → AscendFrom n ps → OtherTicketsStay t s r → held_at t (place_in t ps) r ≡ option_map (kept held) (held_at t (place_in t ps) s)
+    → entries_at ps r ≡ with_held t held (entries_at ps s)
+held_entries t n held [] s r a o g = refl
+held_entries t n held (p ∷ ps) s r a o g = hold_at (nat_eq t p.ticket) t held p ps s r refl a.1 o g (held_entries t (suc p.ticket) held ps s r a.1 o)
 
--- ---- one more, behind the others
-none_head : (t n : ℕ) (o : Option Waiting) (es : List (ℕ × Waiting)) → AllBelow t (listed n o es) → t ≤ n → o ≡ None
-none_head t n None es b h = refl
-none_head t n (Some w) es b h = let low : n < t = b.0 in absurd (omega arith)
-
-below_rest : (t n : ℕ) (o : Option Waiting) (es : List (ℕ × Waiting)) → AllBelow t (listed n o es) → AllBelow t es
-below_rest t n None es b = b
-below_rest t n (Some w) es b = b.1
-
-none_from : (t n : ℕ) (ps : List ℕ) (s : List Slot) → AllBelow t (entries_from n ps s) → t ≤ n → entries_from n ps s ≡ []
-none_from t n [] s b h = refl
-none_from t n (p ∷ ps) s b h =
-    let none : held_at n p s ≡ None = none_head t n (held_at n p s) (entries_from (suc n) ps s) b h in
-    let rest : entries_from (suc n) ps s ≡ [] = none_from t (suc n) ps s (below_rest t n (held_at n p s) (entries_from (suc n) ps s) b) (omega arith) in
-    rw none rest
-
+-- ---- one more, after the others
 listed_append : (n : ℕ) (o : Option Waiting) (es fs : List (ℕ × Waiting)) → listed n o (es ++ fs) ≡ listed n o es ++ fs
 listed_append n None es fs = refl
 listed_append n (Some w) es fs = refl
 
-added_from : (t n k p : ℕ) (w : Waiting) (ps : List ℕ) (s r : List Slot) → t ≡ n + k → k < length ps → OtherTicketsStay t s r → held_at t p r ≡ Some w → AllBelow t (entries_from n ps s)
-    → entries_from n (set ps k p) r ≡ entries_from n ps s ++ (t, w) ∷ []
-added_from t n k p w [] s r h l o g b = absurd (omega arith)
-added_from t n zero p w (q ∷ ps) s r h l o g b =
-    let same : n ≡ t = omega arith in
-    let low : t ≤ n = omega arith in
-    let here : held_at n p r ≡ Some w = ap (λ (m : ℕ). held_at m p r) same ∙ g in
-    let none : held_at n q s ≡ None = none_head t n (held_at n q s) (entries_from (suc n) ps s) b low in
-    let rest : entries_from (suc n) ps s ≡ [] = none_from t (suc n) ps s (below_rest t n (held_at n q s) (entries_from (suc n) ps s) b) (omega arith) in
-    let new : entries_from (suc n) ps r ≡ [] = stay_above t (suc n) ps s r o (omega arith) ∙ rest in
-    rw (here, none, rest, new) (ap (λ (m : ℕ). (m, w) ∷ []) same)
-added_from t n (suc k) p w (q ∷ ps) s r h l o g b =
-    let f : nat_eq n t ≡ false = grind (arith, nat_tests) in
-    ap₂ (listed n) (o n q f) (added_from t (suc n) k p w ps s r (omega arith) (omega arith) o g (below_rest t n (held_at n q s) (entries_from (suc n) ps s) b))
-    ∙ listed_append n (held_at n q s) (entries_from (suc n) ps s) ((t, w) ∷ [])
+added_entries : (t p : ℕ) (w : Waiting) (ps : List TicketPlace) (s r : List Slot) → PlacesAreBelow t ps → OtherTicketsStay t s r → held_at t p r ≡ Some w
+    → entries_at (ps ++ record { ticket = t; place = p } ∷ []) r ≡ entries_at ps s ++ (t, w) ∷ []
+added_entries t p w [] s r b o g = rw g refl
+added_entries t p w (q ∷ ps) s r b o g =
+    let l : q.ticket < t = b.0 in
+    let e : nat_eq q.ticket t ≡ false = grind (arith, nat_tests) in
+    ap₂ (listed q.ticket) (o q.ticket q.place e) (added_entries t p w ps s r b.1 o g)
+    ∙ listed_append q.ticket (held_at q.ticket q.place s) (entries_at ps s) ((t, w) ∷ [])
 
-pub added_entries : (t p : ℕ) (w : Waiting) (ps : List ℕ) (s r : List Slot) → t < length ps → OtherTicketsStay t s r → held_at t p r ≡ Some w → AllBelow t (entries_from 0 ps s)
-    → entries_from 0 (set ps t p) r ≡ entries_from 0 ps s ++ (t, w) ∷ []
-added_entries t p w ps s r l o g b = added_from t 0 t p w ps s r (omega arith) l o g b
-
--- ---- longer lists of places
-reached_from : (n k : ℕ) (ps : List ℕ) (s : List Slot) → entries_from n (ps ++ replicate k 0) s ≡ entries_from n ps s
-reached_from n zero [] s = refl
-reached_from n (suc k) [] s = reached_from (suc n) k [] s
-reached_from n k (p ∷ ps) s = ap (listed n (held_at n p s)) (reached_from (suc n) k ps s)
-
-pub reached_entries : (n k : ℕ) (ps qs : List ℕ) (s : List Slot) → qs ≡ take n ps ++ replicate k 0 → length ps ≤ n → entries_from 0 qs s ≡ entries_from 0 ps s
-reached_entries n k ps qs s e h = rw (e, take_all n ps h) (reached_from 0 k ps s)
+added_ascend : (t p n : ℕ) (ps : List TicketPlace) → PlacesAreBelow t ps → n ≤ t → AscendFrom n ps → AscendFrom n (ps ++ record { ticket = t; place = p } ∷ [])
+added_ascend t p n [] b l a = (l, tt)
+added_ascend t p n (q ∷ ps) b l a = let m : q.ticket < t = b.0 in (a.0, added_ascend t p (suc q.ticket) ps b.1 (omega arith) a.1)
 
 -- ---- how many
 listed_length : (n m : ℕ) (o : Option Waiting) (es : List (ℕ × Waiting)) → length es ≤ m → length (listed n o es) ≤ suc m
 listed_length n m None es h = omega arith
 listed_length n m (Some w) es h = omega arith
 
-pub entries_length : (n : ℕ) (ps : List ℕ) (s : List Slot) → length (entries_from n ps s) ≤ length ps
-entries_length n [] s = omega arith
-entries_length n (p ∷ ps) s = listed_length n (length ps) (held_at n p s) (entries_from (suc n) ps s) (entries_length (suc n) ps s)
+pub entries_length : (ps : List TicketPlace) (s : List Slot) → length (entries_at ps s) ≤ length ps
+entries_length [] s = omega arith
+entries_length (p ∷ ps) s = listed_length p.ticket (length ps) (held_at p.ticket p.place s) (entries_at ps s) (entries_length ps s)
 
 lost_step : (b : Bool) (e : ℕ × Waiting) (es xs : List (ℕ × Waiting)) (o : Option Waiting) (w : Waiting) → cond b (Some e.1) o ≡ Some w → (o ≡ Some w → length xs + 1 ≡ length es) → length (cond b es (e ∷ xs)) + 1 ≡ length (e ∷ es)
 lost_step true e es xs o w h more = omega arith
@@ -220,182 +189,108 @@ pub last_others : (x : Slot) (s : List Slot) → OtherTicketsStay x.number s (s 
 last_others x s u zero h = refl
 last_others x s u (suc p) h = last_other u p x s h
 
--- ---- the first above a ticket
-low_step : (a n : ℕ) (o : Option Waiting) (es : List (ℕ × Waiting)) → n ≤ a → first_above a (listed n o es) ≡ first_above a es
-low_step a n None es h = refl
-low_step a n (Some w) es h = let e : nat_lt a n ≡ false = grind (arith, nat_tests) in rw e refl
+-- ---- without those whose blocks have left
+used_step : (o : Option Waiting) (p : TicketPlace) (ps qs : List TicketPlace) (s : List Slot) → held_at p.ticket p.place s ≡ o → entries_at qs s ≡ entries_at ps s
+    → entries_at (cond (is_some o) (p ∷ qs) qs) s ≡ listed p.ticket o (entries_at ps s)
+used_step None p ps qs s h more = more
+used_step (Some w) p ps qs s h more = rw h (ap (λ (es : List (ℕ × Waiting)). (p.ticket, w) ∷ es) more)
 
-low_from : (a n m k : ℕ) (ps : List ℕ) (s : List Slot) → m ≡ n + k → m ≤ a + 1 → first_above a (entries_from n ps s) ≡ first_above a (entries_from m (drop k ps) s)
-low_from a n m zero ps s e h = let same : n ≡ m = omega arith in ap (λ (i : ℕ). first_above a (entries_from i ps s)) same
-low_from a n m (suc k) [] s e h = refl
-low_from a n m (suc k) (p ∷ ps) s e h =
-    low_step a n (held_at n p s) (entries_from (suc n) ps s) (omega arith) ∙ low_from a (suc n) m k ps s (omega arith) h
+pub used_entries : (ps : List TicketPlace) (s : List Slot) → entries_at (filter (is_used s) ps) s ≡ entries_at ps s
+used_entries [] s = refl
+used_entries (p ∷ ps) s = used_step (held_at p.ticket p.place s) p ps (filter (is_used s) ps) s refl (used_entries ps s)
 
-pub above_start : (a m : ℕ) (ps : List ℕ) (s : List Slot) → m ≡ a + 1 → first_above a (entries_from m (drop m ps) s) ≡ first_above a (entries_from 0 ps s)
-above_start a m ps s e = sym (low_from a 0 m m ps s (omega arith) (omega arith))
+used_one : (o : Option Waiting) (p : TicketPlace) (qs : List TicketPlace) (es : List (ℕ × Waiting)) → length qs ≡ length es → length (cond (is_some o) (p ∷ qs) qs) ≡ length (listed p.ticket o es)
+used_one None p qs es h = h
+used_one (Some w) p qs es h = omega arith
 
-unlisted : (n : ℕ) (o : Option Waiting) (es : List (ℕ × Waiting)) → is_some o ≡ false → listed n o es ≡ es
-unlisted n None es h = refl
-unlisted n (Some w) es h = cc
+pub used_length : (ps : List TicketPlace) (s : List Slot) → length (filter (is_used s) ps) ≡ length (entries_at ps s)
+used_length [] s = refl
+used_length (p ∷ ps) s = used_one (held_at p.ticket p.place s) p (filter (is_used s) ps) (entries_at ps s) (used_length ps s)
 
-pub above_more : (a i : ℕ) (ps : List ℕ) (s : List Slot) → i < length ps → is_some (held_at i (get_or ps i 0) s) ≡ false → first_above a (entries_from (i + 1) (drop (i + 1) ps) s) ≡ first_above a (entries_from i (drop i ps) s)
-above_more a i ps s h none =
-    let d : drop i ps ≡ get_or ps i 0 ∷ drop (suc i) ps = drop-cons ps i 0 h in
-    rw (add-one i, d) (ap (first_above a) (sym (unlisted i (held_at i (get_or ps i 0) s) (entries_from (suc i) (drop (suc i) ps) s) none)))
+ascend_lower : (n m : ℕ) (ps : List TicketPlace) → n ≤ m → AscendFrom m ps → AscendFrom n ps
+ascend_lower n m [] l a = tt
+ascend_lower n m (p ∷ ps) l a = let k : m ≤ p.ticket = a.0 in (omega arith, a.1)
 
-pub above_end : (a i : ℕ) (ps : List ℕ) (s : List Slot) → length ps ≤ i → first_above a (entries_from i (drop i ps) s) ≡ None
-above_end a i ps s h = rw (drop_all i ps h) refl
+ascend_step : (c : Bool) (n : ℕ) (p : TicketPlace) (qs : List TicketPlace) → n ≤ p.ticket → AscendFrom (suc p.ticket) qs → AscendFrom n (cond c (p ∷ qs) qs)
+ascend_step true n p qs l a = (l, a)
+ascend_step false n p qs l a = ascend_lower n (suc p.ticket) qs (omega arith) a
 
--- ---- the calls, at the place that a ticket has
-pub kept_at_place : (t p : ℕ) (ps : List ℕ) (s : List Slot) → p ≡ get_or ps t 0 → held_at t p s ≡ kept_at t (entries_from 0 ps s)
-kept_at_place t p ps s e = ap (λ (q : ℕ). held_at t q s) e ∙ sym (kept_entries t ps s)
+pub used_ascend : (n : ℕ) (ps : List TicketPlace) (s : List Slot) → AscendFrom n ps → AscendFrom n (filter (is_used s) ps)
+used_ascend n [] s a = tt
+used_ascend n (p ∷ ps) s a = ascend_step (is_used s p) n p (filter (is_used s) ps) a.0 (used_ascend (suc p.ticket) ps s a.1)
 
-pub lost_at_place : (t p : ℕ) (ps : List ℕ) (s r : List Slot) → p ≡ get_or ps t 0 → OtherTicketsStay t s r → held_at t p r ≡ None → entries_from 0 ps r ≡ lose t (entries_from 0 ps s)
-lost_at_place t p ps s r e o g = lost_entries t ps s r o (ap (λ (q : ℕ). held_at t q r) (sym e) ∙ g)
+below_step : (o : Option Waiting) (t : ℕ) (p : TicketPlace) (qs : List TicketPlace) (es : List (ℕ × Waiting)) → AllBelow t (listed p.ticket o es) → (AllBelow t es → PlacesAreBelow t qs) → PlacesAreBelow t (cond (is_some o) (p ∷ qs) qs)
+below_step None t p qs es b more = more b
+below_step (Some w) t p qs es b more = (b.0, more b.1)
 
-pub held_at_place : (t p : ℕ) (held : Held) (ps : List ℕ) (s r : List Slot) → p ≡ get_or ps t 0 → OtherTicketsStay t s r → held_at t p r ≡ option_map (kept held) (held_at t p s)
-    → entries_from 0 ps r ≡ with_held t held (entries_from 0 ps s)
-held_at_place t p held ps s r e o g =
-    held_entries t held ps s r o (subst (λ (q : ℕ). held_at t q r ≡ option_map (kept held) (held_at t q s)) e g)
+pub used_below : (t : ℕ) (ps : List TicketPlace) (s : List Slot) → AllBelow t (entries_at ps s) → PlacesAreBelow t (filter (is_used s) ps)
+used_below t [] s b = tt
+used_below t (p ∷ ps) s b = below_step (held_at p.ticket p.place s) t p (filter (is_used s) ps) (entries_at ps s) b (used_below t ps s)
 
--- ---- how many of 1,024 tickets
-chunk_count_more : (b t : ℕ) (w : Waiting) (es : List (ℕ × Waiting)) → chunk_count b (es ++ (t, w) ∷ []) ≡ chunk_count b es + one_of t b
-chunk_count_more b t w [] = omega arith
-chunk_count_more b t w (e ∷ es) = let m : chunk_count b (es ++ (t, w) ∷ []) ≡ chunk_count b es + one_of t b = chunk_count_more b t w es in omega arith
-
-one_same : (t u b : ℕ) → nat_eq t u ≡ true → one_of t b ≡ one_of u b
-one_same t u b h = let e : t ≡ u = grind (arith, nat_tests) in ap (λ (n : ℕ). one_of n b) e
-
-less_step : (c : Bool) (b t : ℕ) (e : ℕ × Waiting) (es xs : List (ℕ × Waiting)) (o : Option Waiting) (w : Waiting) → nat_eq t e.0 ≡ c → cond c (Some e.1) o ≡ Some w
-    → (o ≡ Some w → chunk_count b xs + one_of t b ≡ chunk_count b es) → chunk_count b (cond c es (e ∷ xs)) + one_of t b ≡ one_of e.0 b + chunk_count b es
-less_step true b t e es xs o w h f more = let s : one_of t b ≡ one_of e.0 b = one_same t e.0 b h in omega arith
-less_step false b t e es xs o w h f more = let m : chunk_count b xs + one_of t b ≡ chunk_count b es = more f in omega arith
-
-chunk_count_less : (b t : ℕ) (w : Waiting) (es : List (ℕ × Waiting)) → kept_at t es ≡ Some w → chunk_count b (lose t es) + one_of t b ≡ chunk_count b es
-chunk_count_less b t w [] h = cc
-chunk_count_less b t w (e ∷ es) h = less_step (nat_eq t e.0) b t e es (lose t es) (kept_at t es) w refl h (chunk_count_less b t w es)
-
-chunk_count_step : (c : Bool) (b : ℕ) (d e : ℕ × Waiting) (es xs : List (ℕ × Waiting)) → d.0 ≡ e.0 → chunk_count b xs ≡ chunk_count b es → chunk_count b (cond c (d ∷ es) (e ∷ xs)) ≡ one_of e.0 b + chunk_count b es
-chunk_count_step true b d e es xs s h = ap (λ (n : ℕ). one_of n b + chunk_count b es) s
-chunk_count_step false b d e es xs s h = ap (λ (n : ℕ). one_of e.0 b + n) h
-
-chunk_count_held : (b t : ℕ) (held : Held) (es : List (ℕ × Waiting)) → chunk_count b (with_held t held es) ≡ chunk_count b es
-chunk_count_held b t held [] = refl
-chunk_count_held b t held (e ∷ es) = chunk_count_step (nat_eq t e.0) b (e.0, kept held e.1) e es (with_held t held es) refl (chunk_count_held b t held es)
-
-one_here : (t b : ℕ) → nat_eq (t / 1024) b ≡ true → one_of t b ≡ 1
-one_here t b h = rw h refl
-
-pub chunk_count_some : (t : ℕ) (w : Waiting) (es : List (ℕ × Waiting)) → kept_at t es ≡ Some w → 1 ≤ chunk_count (t / 1024) es
-chunk_count_some t w es h =
-    let l : chunk_count (t / 1024) (lose t es) + one_of t (t / 1024) ≡ chunk_count (t / 1024) es = chunk_count_less (t / 1024) t w es h in
-    let o : one_of t (t / 1024) ≡ 1 = one_here t (t / 1024) (grind (arith, nat_tests)) in
+pub used_short : (ps : List TicketPlace) (s : List Slot) → length (filter (is_used s) ps) ≤ length ps
+used_short ps s =
+    let e : length (filter (is_used s) ps) ≡ length (entries_at ps s) = used_length ps s in
+    let l : length (entries_at ps s) ≤ length ps = entries_length ps s in
     omega arith
 
-none_of : (t : ℕ) (o : Option Waiting) (es : List (ℕ × Waiting)) → kept_at t es ≡ o → chunk_count (t / 1024) es ≡ 0 → is_some o ≡ false
-none_of t None es h e = refl
-none_of t (Some w) es h e = let l : 1 ≤ chunk_count (t / 1024) es = chunk_count_some t w es h in absurd (omega arith)
+-- ---- the calls, at the place that a ticket has
+pub kept_at_place : (t p : ℕ) (ps : List TicketPlace) (s : List Slot) → p ≡ place_in t ps → AscendFrom 0 ps → held_at t p s ≡ kept_at t (entries_at ps s)
+kept_at_place t p ps s e a = ap (λ (q : ℕ). held_at t q s) e ∙ sym (kept_entries t 0 ps s a)
 
-chunk_count_length : (b : ℕ) (es : List (ℕ × Waiting)) → chunk_count b es ≤ length es
-chunk_count_length b [] = omega arith
-chunk_count_length b (e ∷ es) = let m : chunk_count b es ≤ length es = chunk_count_length b es in let o : one_of e.0 b ≤ 1 = one_small (nat_eq (e.0 / 1024) b) in omega arith where
-  one_small : (c : Bool) → cond c 1 0 ≤ 1
-  one_small true = omega arith
-  one_small false = omega arith
+pub lost_at_place : (t p : ℕ) (ps : List TicketPlace) (s r : List Slot) → p ≡ place_in t ps → AscendFrom 0 ps → OtherTicketsStay t s r → held_at t p r ≡ None → entries_at ps r ≡ lose t (entries_at ps s)
+lost_at_place t p ps s r e a o g = lost_entries t 0 ps s r a o (ap (λ (q : ℕ). held_at t q r) (sym e) ∙ g)
 
-skip_from : (a i j k : ℕ) (ps : List ℕ) (s : List Slot) → j ≡ i + k → ((u : ℕ) → i ≤ u → u < j → is_some (held_at u (get_or ps u 0) s) ≡ false)
-    → first_above a (entries_from j (drop j ps) s) ≡ first_above a (entries_from i (drop i ps) s)
-skip_from a i j zero ps s e none = let same : j ≡ i = omega arith in ap (λ (m : ℕ). first_above a (entries_from m (drop m ps) s)) same
-skip_from a i j (suc k) ps s e none =
-    skip_from a (i + 1) j k ps s (omega arith) (λ u l m. none u (omega arith) m) ∙ one_step (nat_lt i (length ps)) refl where
-      one_step : (c : Bool) → nat_lt i (length ps) ≡ c → first_above a (entries_from (i + 1) (drop (i + 1) ps) s) ≡ first_above a (entries_from i (drop i ps) s)
-      one_step true h = let l : i < length ps = grind (arith, nat_tests) in above_more a i ps s l (none i (omega arith) (omega arith))
-      one_step false h = let l : length ps ≤ i = grind (arith, nat_tests) in above_end a (i + 1) ps s (omega arith) ∙ sym (above_end a i ps s l)
-
-pub above_skip : (a i : ℕ) (ps : List ℕ) (s : List Slot) → chunk_count (i / 1024) (entries_from 0 ps s) ≡ 0
-    → first_above a (entries_from ((i / 1024 + 1) * 1024) (drop ((i / 1024 + 1) * 1024) ps) s) ≡ first_above a (entries_from i (drop i ps) s)
-above_skip a i ps s e =
-    skip_from a i ((i / 1024 + 1) * 1024) ((i / 1024 + 1) * 1024 - i) ps s (omega arith)
-    (λ u l m.
-    let same : u / 1024 ≡ i / 1024 = omega arith in
-    none_of u (held_at u (get_or ps u 0) s) (entries_from 0 ps s) (kept_entries u ps s) (ap (λ (b : ℕ). chunk_count b (entries_from 0 ps s)) same ∙ e))
+pub held_at_place : (t p : ℕ) (held : Held) (ps : List TicketPlace) (s r : List Slot) → p ≡ place_in t ps → AscendFrom 0 ps → OtherTicketsStay t s r → held_at t p r ≡ option_map (kept held) (held_at t p s)
+    → entries_at ps r ≡ with_held t held (entries_at ps s)
+held_at_place t p held ps s r e a o g =
+    held_entries t 0 held ps s r a o (subst (λ (q : ℕ). held_at t q r ≡ option_map (kept held) (held_at t q s)) e g)
 
 -- ---- what is kept
-pub kept_lost : (t p count : ℕ) (chunk_counts left : List ℕ) (blocks : Verdict) (w : Waiting) (ps : List ℕ) (s r : List Slot) → p ≡ get_or ps t 0 → OtherTicketsStay t s r → held_at t p r ≡ None → Some w ≡ held_at t p s
-    → ((b : ℕ) → get_or left b 0 + one_of t b ≡ get_or chunk_counts b 0) → AreInPlace ps s count chunk_counts blocks → AreInPlace ps r (count - 1) left blocks
-kept_lost t p count chunk_counts left blocks w ps s r e o g f c k =
-    let is = lost_at_place t p ps s r e o g in
-    let here : kept_at t (entries_from 0 ps s) ≡ Some w = sym (kept_at_place t p ps s e) ∙ sym f in
-    let less : length (lose t (entries_from 0 ps s)) + 1 ≡ length (entries_from 0 ps s) = lost_length t w (entries_from 0 ps s) here in
-    let same : length (entries_from 0 ps r) ≡ length (lose t (entries_from 0 ps s)) = ap length is in
-    let n : count ≡ length (entries_from 0 ps s) = k.counted in
+pub kept_none : (t p count : ℕ) (verdict : Verdict) (ps : List TicketPlace) (s r : List Slot) → p ≡ place_in t ps → OtherTicketsStay t s r → held_at t p r ≡ None → None ≡ held_at t p s
+    → AreInPlace ps s count verdict → AreInPlace ps r count verdict
+kept_none t p count verdict ps s r e o g f k =
+    let is = lost_at_place t p ps s r e k.ascend o g ∙ lost_none t (entries_at ps s) (sym (kept_at_place t p ps s e k.ascend) ∙ sym f) in
+    record { ascend = k.ascend; counted = k.counted ∙ sym (ap length is); short = k.short; lent = k.lent }
+
+pub kept_held : (t p count : ℕ) (held : Held) (verdict : Verdict) (ps : List TicketPlace) (s r : List Slot) → p ≡ place_in t ps → OtherTicketsStay t s r → held_at t p r ≡ option_map (kept held) (held_at t p s)
+    → AreInPlace ps s count verdict → AreInPlace ps r count verdict
+kept_held t p count held verdict ps s r e o g k =
+    let is = held_at_place t p held ps s r e k.ascend o g in
     record {
-      counted = omega arith;
-      by_chunk = λ b.
-          let x : get_or left b 0 + one_of t b ≡ get_or chunk_counts b 0 = c b in
-          let y : get_or chunk_counts b 0 ≡ chunk_count b (entries_from 0 ps s) = k.by_chunk b in
-          let z : chunk_count b (lose t (entries_from 0 ps s)) + one_of t b ≡ chunk_count b (entries_from 0 ps s) = chunk_count_less b t w (entries_from 0 ps s) here in
-          let q : chunk_count b (entries_from 0 ps r) ≡ chunk_count b (lose t (entries_from 0 ps s)) = ap (chunk_count b) is in
-          omega arith;
+      ascend = k.ascend;
+      counted = k.counted ∙ sym (ap length is ∙ held_length t held (entries_at ps s));
       short = k.short;
       lent = k.lent;
     }
 
 -- the block that leaves is counted
-pub lost_counts : (t p count : ℕ) (chunk_counts : List ℕ) (blocks : Verdict) (w : Waiting) (ps : List ℕ) (s : List Slot) → p ≡ get_or ps t 0 → Some w ≡ held_at t p s
-    → AreInPlace ps s count chunk_counts blocks → (1 ≤ count) × (1 ≤ get_or chunk_counts (t / 1024) 0)
-lost_counts t p count chunk_counts blocks w ps s e f k =
-    let here : kept_at t (entries_from 0 ps s) ≡ Some w = sym (kept_at_place t p ps s e) ∙ sym f in
-    let less : length (lose t (entries_from 0 ps s)) + 1 ≡ length (entries_from 0 ps s) = lost_length t w (entries_from 0 ps s) here in
-    let n : count ≡ length (entries_from 0 ps s) = k.counted in
-    let m : 1 ≤ chunk_count (t / 1024) (entries_from 0 ps s) = chunk_count_some t w (entries_from 0 ps s) here in
-    let y : get_or chunk_counts (t / 1024) 0 ≡ chunk_count (t / 1024) (entries_from 0 ps s) = k.by_chunk (t / 1024) in
-    (omega arith, omega arith)
+pub lost_count : (t p count : ℕ) (verdict : Verdict) (w : Waiting) (ps : List TicketPlace) (s r : List Slot) → p ≡ place_in t ps → OtherTicketsStay t s r → held_at t p r ≡ None → Some w ≡ held_at t p s
+    → AreInPlace ps s count verdict → length (entries_at ps r) + 1 ≡ count
+lost_count t p count verdict w ps s r e o g f k =
+    let is = lost_at_place t p ps s r e k.ascend o g in
+    let here : kept_at t (entries_at ps s) ≡ Some w = sym (kept_at_place t p ps s e k.ascend) ∙ sym f in
+    let less : length (lose t (entries_at ps s)) + 1 ≡ length (entries_at ps s) = lost_length t w (entries_at ps s) here in
+    let same : length (entries_at ps r) ≡ length (lose t (entries_at ps s)) = ap length is in
+    let n : count ≡ length (entries_at ps s) = k.counted in
+    omega arith
 
-pub kept_none : (t p count : ℕ) (chunk_counts : List ℕ) (blocks : Verdict) (ps : List ℕ) (s r : List Slot) → p ≡ get_or ps t 0 → OtherTicketsStay t s r → held_at t p r ≡ None → None ≡ held_at t p s
-    → AreInPlace ps s count chunk_counts blocks → AreInPlace ps r count chunk_counts blocks
-kept_none t p count chunk_counts blocks ps s r e o g f k =
-    let is = lost_at_place t p ps s r e o g ∙ lost_none t (entries_from 0 ps s) (sym (kept_at_place t p ps s e) ∙ sym f) in
-    record { counted = k.counted ∙ sym (ap length is); by_chunk = λ b. k.by_chunk b ∙ sym (ap (chunk_count b) is); short = k.short; lent = k.lent }
+pub added_at : (t p : ℕ) (w : Waiting) (first ps qs : List TicketPlace) (s r : List Slot) (es : List (ℕ × Waiting)) → entries_at first s ≡ es → entries_at ps s ≡ entries_at first s
+    → qs ≡ ps ++ record { ticket = t; place = p } ∷ [] → PlacesAreBelow t ps → OtherTicketsStay t s r → held_at t p r ≡ Some w → entries_at qs r ≡ es ++ (t, w) ∷ []
+added_at t p w first ps qs s r es e same is b o g =
+    ap (λ (xs : List TicketPlace). entries_at xs r) is ∙ added_entries t p w ps s r b o g ∙ ap (λ (xs : List (ℕ × Waiting)). xs ++ (t, w) ∷ []) (same ∙ e)
 
-pub kept_held : (t p count : ℕ) (chunk_counts : List ℕ) (held : Held) (blocks : Verdict) (ps : List ℕ) (s r : List Slot) → p ≡ get_or ps t 0 → OtherTicketsStay t s r → held_at t p r ≡ option_map (kept held) (held_at t p s)
-    → AreInPlace ps s count chunk_counts blocks → AreInPlace ps r count chunk_counts blocks
-kept_held t p count chunk_counts held blocks ps s r e o g k =
-    let is = held_at_place t p held ps s r e o g in
-    record {
-      counted = k.counted ∙ sym (ap length is ∙ held_length t held (entries_from 0 ps s));
-      by_chunk = λ b. k.by_chunk b ∙ sym (ap (chunk_count b) is ∙ chunk_count_held b t held (entries_from 0 ps s));
-      short = k.short;
-      lent = k.lent;
-    }
-
-pub added_at : (t p : ℕ) (w : Waiting) (first ps : List ℕ) (s r : List Slot) (es : List (ℕ × Waiting)) → entries_from 0 first s ≡ es → ((q : List Slot) → entries_from 0 ps q ≡ entries_from 0 first q)
-    → t < length ps → OtherTicketsStay t s r → held_at t p r ≡ Some w → AllBelow t es → entries_from 0 (set ps t p) r ≡ es ++ (t, w) ∷ []
-added_at t p w first ps s r es e same l o g b =
-    let is : entries_from 0 ps s ≡ es = same s ∙ e in
-    let below : AllBelow t (entries_from 0 ps s) = rw is b in
-    added_entries t p w ps s r l o g below ∙ ap (λ (xs : List (ℕ × Waiting)). xs ++ (t, w) ∷ []) is
-
-pub kept_added : (t p count : ℕ) (chunk_counts more : List ℕ) (w : Waiting) (blocks : Verdict) (first ps : List ℕ) (s r : List Slot) (es : List (ℕ × Waiting)) → entries_from 0 first s ≡ es
-    → ((q : List Slot) → entries_from 0 ps q ≡ entries_from 0 first q) → length ps ≤ 2 ^ 32
-    → t < length ps → OtherTicketsStay t s r → held_at t p r ≡ Some w → AllBelow t es → ((b : ℕ) → get_or more b 0 ≡ get_or chunk_counts b 0 + one_of t b) → AreInPlace first s count chunk_counts blocks → AreInPlace (set ps t p) r (count + 1) more blocks
-kept_added t p count chunk_counts more w blocks first ps s r es e same short l o g b c k =
-    let is = added_at t p w first ps s r es e same l o g b in
-    let long : length (entries_from 0 (set ps t p) r) ≡ length es + 1 = ap length is ∙ length-append es ((t, w) ∷ []) in
+pub kept_added : (t p count : ℕ) (w : Waiting) (verdict : Verdict) (first ps qs : List TicketPlace) (s r : List Slot) (es : List (ℕ × Waiting)) → entries_at first s ≡ es → entries_at ps s ≡ entries_at first s
+    → qs ≡ ps ++ record { ticket = t; place = p } ∷ [] → PlacesAreBelow t ps → AscendFrom 0 ps → length ps ≤ length first → OtherTicketsStay t s r → held_at t p r ≡ Some w
+    → AreInPlace first s count verdict → AreInPlace qs r (count + 1) verdict
+kept_added t p count w verdict first ps qs s r es e same is b a short o g k =
+    let more = added_at t p w first ps qs s r es e same is b o g in
+    let long : length (entries_at qs r) ≡ length es + 1 = ap length more ∙ length-append es ((t, w) ∷ []) in
     let n : count ≡ length es = k.counted ∙ ap length e in
-    let len : length (set ps t p) ≡ length ps = length-set ps t p in
+    let len : length qs ≡ length ps + 1 = ap length is ∙ length-append ps (record { ticket = t; place = p } ∷ []) in
+    let few : length first ≤ 2 * count + 1024 = k.short in
     record {
+      ascend = subst (AscendFrom 0) (sym is) (added_ascend t p 0 ps b (omega arith) a);
       counted = omega arith;
-      by_chunk = λ x. c x ∙ ap (λ (m : ℕ). m + one_of t x) (k.by_chunk x ∙ ap (chunk_count x) e) ∙ sym (chunk_count_more x t w es) ∙ sym (ap (chunk_count x) is);
       short = omega arith;
       lent = k.lent;
     }
-
-pub count_small : (t count : ℕ) (chunk_counts : List ℕ) (blocks : Verdict) (ps : List ℕ) (s : List Slot) → AreInPlace ps s count chunk_counts blocks → (count ≤ 2 ^ 32) × (get_or chunk_counts (t / 1024) 0 ≤ 2 ^ 32)
-count_small t count chunk_counts blocks ps s k =
-    let n : count ≡ length (entries_from 0 ps s) = k.counted in
-    let m : length ps ≤ 2 ^ 32 = k.short in
-    let y : get_or chunk_counts (t / 1024) 0 ≡ chunk_count (t / 1024) (entries_from 0 ps s) = k.by_chunk (t / 1024) in
-    let z : chunk_count (t / 1024) (entries_from 0 ps s) ≤ length (entries_from 0 ps s) = chunk_count_length (t / 1024) (entries_from 0 ps s) in
-    let x : length (entries_from 0 ps s) ≤ length ps = entries_length 0 ps s in
-    (omega arith, omega arith)

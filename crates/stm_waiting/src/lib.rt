@@ -1,10 +1,12 @@
 //! The waiting blocks by their tickets, each with what its last delivery brought.
 //!
-//! `WaitingBlocks` finds, adds and removes the block of a ticket in constant time, and the lowest ticket above another one in a bounded
-//! time. Contracts see a list of tickets with blocks, ascending. `TicketSet` is a set of tickets that keeps room for more.
+//! `WaitingBlocks` finds the block of a ticket by a binary search, and mostly at once; it adds and removes one in constant time. Its memory
+//! grows with the number of blocks that wait at once, and not with the number of tickets. Contracts see a list of tickets with blocks,
+//! ascending. `TicketSet` is a set of tickets that keeps room for more.
 #![tactic(auto)]
 
 mod places;
+mod table;
 pub mod ticket_set;
 pub mod waiting;
 

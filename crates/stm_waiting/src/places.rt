@@ -1,14 +1,14 @@
-//! Slots for the waiting blocks, and a table from tickets to slots.
+//! Slots for the waiting blocks.
 //!
 //! A place is the number of a slot, counted from 1; 0 is none. A slot belongs to a ticket only if the ticket's number is in it, so
-//! the table may hold a place that was given to another ticket since, and no invariant has to rule that out.
+//! the table of tickets may hold a place that was given to another ticket since, and no invariant has to rule that out.
 
-ghost use Rattle.std.specs.Prelude.{◌≡◌, ℕ, List, ◌+◌, ◌/◌, ◌<◌, ◌≤◌, ◌^◌, ◌&&◌, ◌||◌, Some, None, true, false, nat_eq, length, max, slice_index_or, option_map, IsTrue, IfOk, OnOk, OnErr};
+ghost use Rattle.std.specs.Prelude.{◌≡◌, ℕ, ◌<◌, ◌≤◌, Some, None, false, nat_eq, length, option_map, IsTrue, IfOk, OnOk, OnErr};
 ghost use Rattle.std.specs.Option.{option_copied};
 ghost use Rattle.std.specs.Vec.{vec_len};
-ghost use Rattle.stm_waiting.specs.Entries.{kept, first_above};
+ghost use Rattle.stm_waiting.specs.Entries.{kept};
 ghost use Rattle.stm_waiting.specs.FreshReads.{AreFresh, AreFreshFor};
-ghost use Rattle.stm_waiting.specs.Places.{waiting_in, with_owned, held_at, entries_from, OtherTicketsStay, one_of, chunk_count};
+ghost use Rattle.stm_waiting.specs.Places.{waiting_in, with_owned, held_at, OtherTicketsStay};
 ghost use Rattle.stm_waiting.specs.declared.places.Slot.{Slot};
 
 use crate::waiting::{Held, Waiting, keep, keep_reads};
@@ -33,16 +33,6 @@ fn waiting_in(slot: &Slot, ticket: u32) -> Option<&Waiting>
         slot.waiting.as_ref()
     } else {
         None
-    }
-}
-
-/// The place that the table has for a ticket.
-pub(crate) fn place_of(places: &[u32], ticket: u32) -> u32
-    ensures { result ≡ slice_index_or places.now ticket 0 }
-{
-    match places.get(ticket as usize) {
-        Some(place) => *place,
-        None => 0,
     }
 }
 
@@ -256,93 +246,4 @@ pub(crate) fn put(
     }
     let place = put_last(slots, ticket, waiting)?;
     Ok((place, 0))
-}
-
-/// Makes the table long enough for a ticket.
-pub(crate) fn reach(places: &mut Vec<u32>, ticket: u32) -> Result<(), NoMemory>
-    requires { vec_len places.old ≤ 2 ^ 32 }
-    ensures reached { OnOk result (ticket < vec_len places.new) }
-    ensures little { vec_len places.new ≤ max (vec_len places.old) (ticket + 1) }
-    ensures short { vec_len places.new ≤ 2 ^ 32 }
-    ensures same { (slots : List Slot) → entries_from 0 places.new.items slots
-        ≡ entries_from 0 places.old.items slots }
-{
-    let len = ticket as usize + 1;
-    if places.len() < len {
-        places.resize(len, 0)?;
-    }
-    Ok(())
-}
-
-/// A chunk is this many tickets in a row; for each the number of its waiting blocks is kept.
-const CHUNK: usize = 1_024;
-
-/// Makes the list of counts long enough for a ticket.
-pub(crate) fn reach_chunk(chunk_counts: &mut Vec<usize>, ticket: u32) -> Result<(), NoMemory>
-    ensures reached { OnOk result (ticket / 1024 < vec_len chunk_counts.new) }
-    ensures same { (b : ℕ) → slice_index_or chunk_counts.new.items b 0 ≡ slice_index_or chunk_counts.old.items b 0 }
-{
-    let len = ticket as usize / CHUNK + 1;
-    if chunk_counts.len() < len {
-        chunk_counts.resize(len, 0)?;
-    }
-    Ok(())
-}
-
-/// Counts one waiting block more in the chunk of a ticket.
-pub(crate) fn increment_chunk(chunk_counts: &mut Vec<usize>, ticket: u32)
-    requires reached { ticket / 1024 < vec_len chunk_counts.old }
-    requires small { slice_index_or chunk_counts.old.items (ticket / 1024) 0 ≤ 2 ^ 32 }
-    ensures { (b : ℕ) → slice_index_or chunk_counts.new.items b 0
-        ≡ slice_index_or chunk_counts.old.items b 0 + one_of ticket b }
-{
-    chunk_counts[ticket as usize / CHUNK] += 1;
-}
-
-/// Counts one waiting block less in the chunk of a ticket.
-pub(crate) fn decrement_chunk(chunk_counts: &mut Vec<usize>, ticket: u32)
-    requires { 1 ≤ slice_index_or chunk_counts.old.items (ticket / 1024) 0 }
-    ensures { (b : ℕ) → slice_index_or chunk_counts.new.items b 0 + one_of ticket b
-        ≡ slice_index_or chunk_counts.old.items b 0 }
-{
-    let at = ticket as usize / CHUNK;
-    if at < chunk_counts.len() {
-        chunk_counts[at] -= 1;
-    }
-}
-
-/// Whether a block waits in the chunk of this ticket.
-fn chunk_has_waiting(chunk_counts: &[usize], ticket: usize) -> bool
-    ensures { result ≡ false → slice_index_or chunk_counts.now (ticket / 1024) 0 ≡ 0 }
-{
-    match chunk_counts.get(ticket / CHUNK) {
-        Some(waiting) => *waiting != 0,
-        None => false,
-    }
-}
-
-/// The least ticket above `after` under which a block waits. Chunks in which none waits are skipped.
-pub(crate) fn next_held(
-    places: &[u32],
-    slots: &[Slot],
-    chunk_counts: &[usize],
-    after: u32,
-) -> Option<u32>
-    requires short { length places.now ≤ 2 ^ 32 }
-    requires by_chunk { (b : ℕ) → slice_index_or chunk_counts.now b 0
-        ≡ chunk_count b (entries_from 0 places.now slots.now) }
-    ensures { result ≡ first_above after (entries_from 0 places.now slots.now) }
-{
-    let mut ticket = after as usize + 1;
-    while ticket < places.len() {
-        if chunk_has_waiting(chunk_counts, ticket) {
-            if held_at(slots, places[ticket], ticket as u32).is_some() {
-                return Some(ticket as u32);
-            }
-            ticket += 1;
-        } else {
-            ticket = (ticket / CHUNK + 1) * CHUNK;
-        }
-    }
-    None
 }

@@ -5,10 +5,8 @@ ghost use Rattle.std.specs.Option.{option_copied};
 ghost use Rattle.stm_waiting.specs.Entries.{kept_at, kept, lose, with_held, AllBelow, held_reads, first_above};
 ghost use Rattle.stm_waiting.specs.FreshReads.{AreFresh, AreFreshFor};
 
-use crate::places::{
-    Slot, decrement_chunk, fresh_at, held_at, hold_at, hold_reads_at, increment_chunk, next_held,
-    place_of, put, reach, reach_chunk, take_at,
-};
+use crate::places::{Slot, fresh_at, held_at, hold_at, hold_reads_at, put, take_at};
+use crate::table::Table;
 use std::alloc::{AllocError as NoMemory, Global};
 use std::marker::Model;
 use stm_check::SharedBlock;
@@ -45,16 +43,14 @@ impl Waiting {
 }
 
 /// The waiting blocks. Each is in a slot, and a table has the place of each ticket's slot. A slot that is left is used again.
+/// The memory that they take grows with the most blocks that ever waited at once, and not with the number of tickets.
 #[derive(Drop)]
 pub struct WaitingBlocks {
-    // By ticket: the place of its slot, or 0. The slot is the ticket's only if it has the ticket's number.
-    places: Vec<u32>,
+    table: Table,
     slots: Vec<Slot>,
     // A place that may be unused; its slot has the next such place.
     free: u32,
     count: usize,
-    // How many blocks wait in each chunk of 1,024 tickets.
-    chunk_counts: Vec<usize>,
     // Lent for each verdict `Blocks` that is held.
     blocks: Verdict,
 }
@@ -65,15 +61,15 @@ impl Model for WaitingBlocks {
     ghost use Rattle.stm_terms.specs.TreeEncoding.{act_code};
     ghost use Rattle.stm_terms.specs.declared.verdicts.Verdict.TheVariants.{Blocks};
     ghost use Rattle.stm_waiting.specs.declared.waiting.Waiting.{Waiting as AnyWaiting};
-    ghost use Rattle.stm_waiting.specs.Places.{entries_from, AreInPlace};
+    ghost use Rattle.stm_waiting.specs.Places.{entries_at, AreInPlace};
 
     ghost Value = { List (ℕ × AnyWaiting) };
 
     ghost coded = { Prim.hlevel (codes, act_code) };
 
-    ghost view = { λ w. entries_from 0 w.places.items w.slots.items };
+    ghost view = { λ w. entries_at w.table.places.items w.slots.items };
 
-    ghost invariant = { λ w. AreInPlace w.places.items w.slots.items w.count w.chunk_counts.items w.blocks };
+    ghost invariant = { λ w. AreInPlace w.table.places.items w.slots.items w.count w.blocks };
 }
 
 impl WaitingBlocks {
@@ -82,11 +78,10 @@ impl WaitingBlocks {
         ensures { result ≡ [] }
     {
         WaitingBlocks {
-            places: Vec::new(alloc),
+            table: Table::empty(alloc),
             slots: Vec::new(alloc),
             free: 0,
             count: 0,
-            chunk_counts: Vec::new(alloc),
             blocks: Verdict::Blocks,
         }
     }
@@ -102,7 +97,7 @@ impl WaitingBlocks {
     pub fn get(&self, ticket: u32) -> Option<&Waiting>
         ensures { option_copied result ≡ kept_at ticket self.now }
     {
-        held_at(&self.slots, place_of(&self.places, ticket), ticket)
+        held_at(&self.slots, self.table.place_of(ticket), ticket)
     }
 
     /// The verdict that a delivery to one of the blocks brought.
@@ -116,7 +111,7 @@ impl WaitingBlocks {
     pub fn first_above(&self, after: u32) -> Option<u32>
         ensures { result ≡ first_above after self.now }
     {
-        next_held(&self.places, &self.slots, &self.chunk_counts, after)
+        self.table.next_held(&self.slots, after)
     }
 
     /// One block more, after the others.
@@ -126,14 +121,12 @@ impl WaitingBlocks {
             ≡ self.old ++ (ticket, record { block = block; held = None }) ∷ []) }
         ensures err { OnErr result (self.new ≡ self.old) }
     {
-        reach(&mut self.places, ticket)?;
-        reach_chunk(&mut self.chunk_counts, ticket)?;
+        self.table.make_room(&self.slots, ticket)?;
         let waiting = Waiting { block, held: None };
         let (place, free) = put(&mut self.slots, self.free, ticket, waiting)?;
-        self.places[ticket as usize] = place;
+        self.table.push(ticket, place);
         self.free = free;
         self.count += 1;
-        increment_chunk(&mut self.chunk_counts, ticket);
         Ok(())
     }
 
@@ -144,7 +137,7 @@ impl WaitingBlocks {
         requires { kept_at ticket self.old ≢ None }
         ensures { self.new ≡ with_held ticket held self.old }
     {
-        let place = place_of(&self.places, ticket);
+        let place = self.table.place_of(ticket);
         hold_at(&mut self.slots, place, ticket, held);
     }
 
@@ -152,7 +145,7 @@ impl WaitingBlocks {
     pub fn fresh_reads(&self, ticket: u32, scratch: &Scratch) -> Result<Option<Reads>, NoMemory>
         ensures { IfOk result (λ fresh. AreFreshFor fresh (kept_at ticket self.now) scratch.now) }
     {
-        fresh_at(&self.slots, place_of(&self.places, ticket), ticket, scratch)
+        fresh_at(&self.slots, self.table.place_of(ticket), ticket, scratch)
     }
 
     /// A verdict of a block that waits, and what was read for it. It takes no memory.
@@ -168,7 +161,7 @@ impl WaitingBlocks {
         ensures { self.new
             ≡ with_held ticket (record { reads = scratch.now; verdict = verdict }) self.old }
     {
-        let place = place_of(&self.places, ticket);
+        let place = self.table.place_of(ticket);
         hold_reads_at(&mut self.slots, place, ticket, fresh, scratch, verdict);
     }
 
@@ -177,12 +170,12 @@ impl WaitingBlocks {
         ensures was { result ≡ kept_at ticket self.old }
         ensures gone { self.new ≡ lose ticket self.old }
     {
-        let place = place_of(&self.places, ticket);
+        let place = self.table.place_of(ticket);
         match take_at(&mut self.slots, place, ticket, self.free) {
             Some(waiting) => {
                 self.free = place;
                 self.count -= 1;
-                decrement_chunk(&mut self.chunk_counts, ticket);
+                self.table.shorten(&self.slots, self.count);
                 Some(waiting)
             }
             None => None,

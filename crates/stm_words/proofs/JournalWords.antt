@@ -19,7 +19,7 @@ use Rattle.stm_journal.specs.declared.sync_mode.SyncMode.{SyncMode}
 use Rattle.stm_journal.specs.declared.sync_mode.SyncMode.TheVariants.{Full, Append, Never}
 use Rattle.stm_options.specs.declared.options.Options.{Options}
 use Rattle.stm_options.specs.Options.{default_options}
-use Rattle.stm_words.proofs.StormWords.{enters_run, entered_words, journal, program, rows, run_answers, run_said, run_shape, run_kinds, sync, kinds_after, kinds_of_run}
+use Rattle.stm_words.proofs.StormWords.{above_passed, both_taken, enters_run, entered_words, first_turn, first_wrong, journal, last_turn, level_mistaken, level_passed, program, rows, run_answers, run_said, run_shape, run_kinds, second_turn, second_walk, sync, every, kinds_after, kinds_of_run}
 use Rattle.stm_words.proofs.WordAnswers.{mistaken_words, request_kinds}
 
 some : (first : ℕ) (rest : List ℕ) → nat_lt 0 (length (first ∷ rest)) ≡ true
@@ -126,10 +126,6 @@ apart_level word is h =
     ap (λ (k : Kinds). or_else k (kinds_of_end (walk c [] nothing_held (words_of word)).held)) (apart_walk_fault word is)
     ∙ ap (λ (w : Walk). kinds_of_end w.held) (apart_walk word is) ∙ end_passed word h
 
-above_passed : kinds_after program true ≡ []
-unfolding clap_on_literals
-above_passed = refl
-
 apart_kinds : (name word : List ℕ) → IsPlain word → nat_lt 0 (length word) ≡ true → run_kinds name (words_of word) ≡ []
 apart_kinds name word is h =
     entered_words program (codes "run") (words_of word) enters_run ∙ ap (λ (k : Kinds). or_else k (kinds_after program true)) (apart_level word is h) ∙ above_passed
@@ -143,6 +139,10 @@ no_mode_said : (word : List ℕ) → first_of (codes "sync") (finished c (after 
 unfolding clap_on_literals
 no_mode_said word = refl
 
+no_checkpoint_said : (word : List ℕ) → first_of (codes "checkpoint-every") (finished c (after word).held) ≡ None
+unfolding clap_on_literals
+no_checkpoint_said word = refl
+
 no_others_said : (word : List ℕ) → options_said (finished c (after word).held) ≡ default_options
 unfolding clap_on_literals
 no_others_said word = refl
@@ -155,9 +155,11 @@ apart_taken : (name word : List ℕ) → IsPlain word → nat_lt 0 (length word)
 apart_taken name word is h =
     let file : journal (words_of word) ≡ Some word = ap (first_of (codes "journal")) (apart_rows word is) ∙ file_said word in
     let mode : sync (words_of word) ≡ None = ap (first_of (codes "sync")) (apart_rows word is) ∙ no_mode_said word in
+    let none : every (words_of word) ≡ None = ap (first_of (codes "checkpoint-every")) (apart_rows word is) ∙ no_checkpoint_said word in
     let others : options_said (rows (words_of word)) ≡ default_options = ap options_said (apart_rows word is) ∙ no_others_said word in (
-      run_answers name (words_of word) ∙ ap (λ (k : Kinds). kinds_of_run k (journal (words_of word)) (sync (words_of word))) (apart_kinds name word is h)
-          ∙ ap (λ (o : Option (List ℕ)). kinds_of_run [] (journal (words_of word)) o) mode,
+      run_answers name (words_of word) ∙ ap (λ (k : Kinds). kinds_of_run k (journal (words_of word)) (sync (words_of word)) (every (words_of word))) (apart_kinds name word is h)
+          ∙ ap (λ (o : Option (List ℕ)). kinds_of_run [] (journal (words_of word)) o (every (words_of word))) mode
+          ∙ ap (λ (o : Option (List ℕ)). kinds_of_run [] (journal (words_of word)) None o) none,
       run_said name (words_of word) ∙ ap (λ (o : Option (List ℕ)). run_on o (mode_said (sync (words_of word))) (options_said (rows (words_of word)))) file
           ∙ ap (λ (o : Option (List ℕ)). run_on (Some word) (mode_said o) (options_said (rows (words_of word)))) mode ∙ ap (λ (o : Options). RunOn o Full word) others,
     )
@@ -187,13 +189,35 @@ empty_names_are_refused name = (
 
 -- ---- `--sync=MODE`
 
-synced_passed : (name file mode : List ℕ) → nat_lt 0 (length file) ≡ true → fault_of command_line (run_synced name file mode) ≡ []
+synced_first : (file : List ℕ) → nat_lt 0 (length file) ≡ true → first_turn (codes "--journal=" ++ file) ≡ []
 unfolding clap_on_literals
-synced_passed name file mode h = rw h refl
+synced_first file h = rw h refl
+
+synced_wrong : (file : List ℕ) → nat_lt 0 (length file) ≡ false → are_mistakes (first_turn (codes "--journal=" ++ file)) ≡ true
+unfolding clap_on_literals
+synced_wrong file h = rw h refl
+
+synced_second : (file mode : List ℕ) → second_turn (codes "--journal=" ++ file) (codes "--sync=" ++ mode) ≡ []
+unfolding clap_on_literals walked
+synced_second file mode = refl
+
+synced_last : (file mode : List ℕ) → last_turn (second_walk (codes "--journal=" ++ file) (codes "--sync=" ++ mode)) ≡ []
+unfolding clap_on_literals walked
+synced_last file mode = refl
+
+synced_passed : (name file mode : List ℕ) → nat_lt 0 (length file) ≡ true → fault_of command_line (run_synced name file mode) ≡ []
+synced_passed name file mode h =
+    level_passed name ((codes "--journal=" ++ file) ∷ (codes "--sync=" ++ mode) ∷ [])
+    (both_taken (codes "--journal=" ++ file) (codes "--sync=" ++ mode) (synced_first file h) (synced_second file mode) (synced_last file mode))
+
+-- nothing more is to be said
+no_more : (k : Kinds) → or_else k [] ≡ k
+no_more [] = refl
+no_more (x ∷ xs) = refl
 
 synced_faulted : (name file mode : List ℕ) → request_fault (subcommand_of command_line (run_synced name file mode)) ≡ sync_fault (Some mode) true
 unfolding clap_on_literals
-synced_faulted name file mode = refl
+synced_faulted name file mode = no_more (sync_fault (Some mode) true)
 
 full_asked : (name file : List ℕ) → request_of (run_synced name file (codes "full")) ≡ RunOn default_options Full file
 unfolding request_of clap_on_literals
@@ -234,8 +258,9 @@ mode_refused : (o : Option SyncMode) (has_journal : Bool) → o ≡ None
 mode_refused o has_journal e = rw e refl
 
 synced_unnamed : (name file mode : List ℕ) → nat_lt 0 (length file) ≡ false → are_mistakes (fault_of command_line (run_synced name file mode)) ≡ true
-unfolding clap_on_literals
-synced_unnamed name file mode h = rw h refl
+synced_unnamed name file mode h =
+    level_mistaken name ((codes "--journal=" ++ file) ∷ (codes "--sync=" ++ mode) ∷ [])
+    (first_wrong (codes "--journal=" ++ file) (codes "--sync=" ++ mode) (synced_wrong file h))
 
 pub other_modes_are_refused : OtherModesAreRefused
 other_modes_are_refused name file mode full append none = go (nat_lt 0 (length file)) refl
@@ -257,7 +282,7 @@ unkept_passed name mode = refl
 
 unkept_faulted : (name mode : List ℕ) → request_fault (subcommand_of command_line (unkept name mode)) ≡ sync_fault (Some mode) false
 unfolding clap_on_literals
-unkept_faulted name mode = refl
+unkept_faulted name mode = no_more (sync_fault (Some mode) false)
 
 unkept_refused : (b : Bool) → are_mistakes (cond (not b) (InvalidValue ∷ []) (MissingRequiredArgument ∷ [])) ≡ true
 unkept_refused true = refl

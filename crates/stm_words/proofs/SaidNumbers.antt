@@ -1,6 +1,6 @@
 -- Numbers that words say for the options of a run.
-use Rattle.std.proofs.Common.{◌≡◌, ◌<◌, ◌≤◌, ◌^◌, ◌==◌, ◌∙◌, ℕ, Bool, true, false, List, [], ◌∷◌, ◌++◌, codes, refl, sym, ap, subst, arith, decimal}
-use Rattle.std.proofs.lemmas.Bool.{ne_eqb, le-leb, leb-true}
+use Rattle.std.proofs.Common.{◌≡◌, ◌⊎◌, inl, inr, ◌<◌, ◌≤◌, ◌^◌, ◌==◌, ◌∙◌, ℕ, Bool, true, false, List, [], ◌∷◌, ◌++◌, codes, refl, sym, ap, subst, arith, decimal}
+use Rattle.std.proofs.lemmas.Bool.{ne_eqb, le-leb, leb-true, lt-ltb}
 use Rattle.std.proofs.lemmas.Fmt.{decimal_is_IsNumeral}
 use Rattle.std.specs.Char.{digit_value}
 use Rattle.std.specs.Int.{w64}
@@ -9,16 +9,20 @@ use lib.Dec.{T}
 use Rattle.std.specs.Prelude.{Option, Some, nat_le, nat_lt, length, ℤ, pos, FitsSigned, ◌≤ℤ◌}
 use Rattle.std.specs.Str.Parse.{IsNumeral, digits_value, signed_digits_value, without_leading_plus, without_leading_sign}
 use Rattle.clap.specs.ValueTests.{accepts, is_unsigned_in}
+use Rattle.clap.specs.Walk.{walked}
 use Rattle.clap.specs.Lexer.{without_minus}
 use Rattle.clap.specs.declared.builder.value_parser.ValueParser.TheVariants.{Signed, Unsigned}
 use Rattle.clap.specs.Words.{fault_of, subcommand_of}
+use Rattle.clap.specs.declared.error.kind.ErrorKind.TheVariants.{MissingRequiredArgument}
 use Rattle.clap.proofs.OnLiterals.{clap_on_literals}
 use Rattle.clap.proofs.ValueTestLemmas.{accepts-Accepts, Accepts-accepts}
 use Rattle.stm_words.specs.CommandLine.{answers_of, are_mistakes, command_line, number_of_text, number_within, request_fault, request_of}
-use Rattle.stm_words.specs.WordLaws.{NumbersAreTaken, OthersAreRefused, NoOptionTwice, OptionsNeedRun, run_twice, run_with}
+use Rattle.stm_words.specs.WordLaws.{NumbersAreTaken, OthersAreRefused, NoOptionTwice, OptionsNeedRun, CheckpointsAreTaken, OtherCheckpointsAreRefused, CheckpointsNeedJournals, run_twice, run_with, run_checkpointed}
 use Rattle.stm_words.proofs.WordAnswers.{mistaken_words, request_kinds}
+use Rattle.stm_words.proofs.StormWords.{both_taken, first_turn, last_turn, level_mistaken, level_passed, second_mistaken, second_turn, second_walk}
 use Rattle.stm_options.specs.Options.{default_options}
-use Rattle.stm_words.specs.declared.command_line.Request.TheVariants.{Run}
+use Rattle.stm_words.specs.declared.command_line.Request.TheVariants.{Run, RunOn}
+use Rattle.stm_journal.specs.declared.sync_mode.SyncMode.TheVariants.{Full}
 
 -- ---- a number in digits
 
@@ -118,13 +122,22 @@ workers_said name text n h least most =
     workers_asked name text ∙ ap (λ (k : ℕ). Run (record default_options { workers = k })) (within_said 1 64 2 (number_of_text (without_minus text)) n h least most)
 
 -- twice
-workers_twice : (name first second : List ℕ) → are_mistakes (fault_of command_line (name ∷ codes "run" ∷ (codes "--workers=" ++ first) ∷ (codes "--workers=" ++ second) ∷ [])) ≡ true
+workers_first : (first : List ℕ) → (first_turn (codes "--workers=" ++ first) ≡ []) ⊎ (are_mistakes (first_turn (codes "--workers=" ++ first)) ≡ true)
 unfolding clap_on_literals
-workers_twice name first second = go (accepts false (Signed (pos 1) (pos 64)) first) refl
+workers_first first = go (accepts false (Signed (pos 1) (pos 64)) first) refl
   where
-    go : (b : Bool) → accepts false (Signed (pos 1) (pos 64)) first ≡ b → are_mistakes (fault_of command_line (name ∷ codes "run" ∷ (codes "--workers=" ++ first) ∷ (codes "--workers=" ++ second) ∷ [])) ≡ true
-    go true is = rw is refl
-    go false is = rw is refl
+    go : (b : Bool) → accepts false (Signed (pos 1) (pos 64)) first ≡ b → (first_turn (codes "--workers=" ++ first) ≡ []) ⊎ (are_mistakes (first_turn (codes "--workers=" ++ first)) ≡ true)
+    go true is = inl (rw is refl)
+    go false is = inr (rw is refl)
+
+workers_second : (first second : List ℕ) → are_mistakes (second_turn (codes "--workers=" ++ first) (codes "--workers=" ++ second)) ≡ true
+unfolding clap_on_literals walked
+workers_second first second = refl
+
+workers_twice : (name first second : List ℕ) → are_mistakes (fault_of command_line (name ∷ codes "run" ∷ (codes "--workers=" ++ first) ∷ (codes "--workers=" ++ second) ∷ [])) ≡ true
+workers_twice name first second =
+    level_mistaken name ((codes "--workers=" ++ first) ∷ (codes "--workers=" ++ second) ∷ [])
+    (second_mistaken (codes "--workers=" ++ first) (codes "--workers=" ++ second) (workers_first first) (workers_second first second))
 
 -- without `run`
 workers_alone : (name : List ℕ) (rest : List (List ℕ)) → are_mistakes (fault_of command_line (name ∷ codes "--workers" ∷ rest)) ≡ true
@@ -159,13 +172,22 @@ levels_said name text n h least most =
     levels_asked name text ∙ ap (λ (k : ℕ). Run (record default_options { levels = k })) (within_said 0 8 0 (number_of_text (without_minus text)) n h least most)
 
 -- twice
-levels_twice : (name first second : List ℕ) → are_mistakes (fault_of command_line (name ∷ codes "run" ∷ (codes "--levels=" ++ first) ∷ (codes "--levels=" ++ second) ∷ [])) ≡ true
+levels_first : (first : List ℕ) → (first_turn (codes "--levels=" ++ first) ≡ []) ⊎ (are_mistakes (first_turn (codes "--levels=" ++ first)) ≡ true)
 unfolding clap_on_literals
-levels_twice name first second = go (accepts false (Signed (pos 0) (pos 8)) first) refl
+levels_first first = go (accepts false (Signed (pos 0) (pos 8)) first) refl
   where
-    go : (b : Bool) → accepts false (Signed (pos 0) (pos 8)) first ≡ b → are_mistakes (fault_of command_line (name ∷ codes "run" ∷ (codes "--levels=" ++ first) ∷ (codes "--levels=" ++ second) ∷ [])) ≡ true
-    go true is = rw is refl
-    go false is = rw is refl
+    go : (b : Bool) → accepts false (Signed (pos 0) (pos 8)) first ≡ b → (first_turn (codes "--levels=" ++ first) ≡ []) ⊎ (are_mistakes (first_turn (codes "--levels=" ++ first)) ≡ true)
+    go true is = inl (rw is refl)
+    go false is = inr (rw is refl)
+
+levels_second : (first second : List ℕ) → are_mistakes (second_turn (codes "--levels=" ++ first) (codes "--levels=" ++ second)) ≡ true
+unfolding clap_on_literals walked
+levels_second first second = refl
+
+levels_twice : (name first second : List ℕ) → are_mistakes (fault_of command_line (name ∷ codes "run" ∷ (codes "--levels=" ++ first) ∷ (codes "--levels=" ++ second) ∷ [])) ≡ true
+levels_twice name first second =
+    level_mistaken name ((codes "--levels=" ++ first) ∷ (codes "--levels=" ++ second) ∷ [])
+    (second_mistaken (codes "--levels=" ++ first) (codes "--levels=" ++ second) (levels_first first) (levels_second first second))
 
 -- without `run`
 levels_alone : (name : List ℕ) (rest : List (List ℕ)) → are_mistakes (fault_of command_line (name ∷ codes "--levels" ∷ rest)) ≡ true
@@ -200,13 +222,22 @@ max_events_said name text n h least most =
     max_events_asked name text ∙ ap (λ (k : ℕ). Run (record default_options { max_events = k })) (within_said 0 1048576 1048576 (number_of_text (without_minus text)) n h least most)
 
 -- twice
-max_events_twice : (name first second : List ℕ) → are_mistakes (fault_of command_line (name ∷ codes "run" ∷ (codes "--max-events=" ++ first) ∷ (codes "--max-events=" ++ second) ∷ [])) ≡ true
+max_events_first : (first : List ℕ) → (first_turn (codes "--max-events=" ++ first) ≡ []) ⊎ (are_mistakes (first_turn (codes "--max-events=" ++ first)) ≡ true)
 unfolding clap_on_literals
-max_events_twice name first second = go (accepts false (Signed (pos 0) (pos 1048576)) first) refl
+max_events_first first = go (accepts false (Signed (pos 0) (pos 1048576)) first) refl
   where
-    go : (b : Bool) → accepts false (Signed (pos 0) (pos 1048576)) first ≡ b → are_mistakes (fault_of command_line (name ∷ codes "run" ∷ (codes "--max-events=" ++ first) ∷ (codes "--max-events=" ++ second) ∷ [])) ≡ true
-    go true is = rw is refl
-    go false is = rw is refl
+    go : (b : Bool) → accepts false (Signed (pos 0) (pos 1048576)) first ≡ b → (first_turn (codes "--max-events=" ++ first) ≡ []) ⊎ (are_mistakes (first_turn (codes "--max-events=" ++ first)) ≡ true)
+    go true is = inl (rw is refl)
+    go false is = inr (rw is refl)
+
+max_events_second : (first second : List ℕ) → are_mistakes (second_turn (codes "--max-events=" ++ first) (codes "--max-events=" ++ second)) ≡ true
+unfolding clap_on_literals walked
+max_events_second first second = refl
+
+max_events_twice : (name first second : List ℕ) → are_mistakes (fault_of command_line (name ∷ codes "run" ∷ (codes "--max-events=" ++ first) ∷ (codes "--max-events=" ++ second) ∷ [])) ≡ true
+max_events_twice name first second =
+    level_mistaken name ((codes "--max-events=" ++ first) ∷ (codes "--max-events=" ++ second) ∷ [])
+    (second_mistaken (codes "--max-events=" ++ first) (codes "--max-events=" ++ second) (max_events_first first) (max_events_second first second))
 
 -- without `run`
 max_events_alone : (name : List ℕ) (rest : List (List ℕ)) → are_mistakes (fault_of command_line (name ∷ codes "--max-events" ∷ rest)) ≡ true
@@ -214,20 +245,48 @@ unfolding clap_on_literals
 max_events_alone name rest = refl
 
 -- `--journal=TEXT` and `--sync=TEXT` twice
-journal_twice : (name first second : List ℕ) → are_mistakes (fault_of command_line (name ∷ codes "run" ∷ (codes "--journal=" ++ first) ∷ (codes "--journal=" ++ second) ∷ [])) ≡ true
+journal_first : (first : List ℕ) → (first_turn (codes "--journal=" ++ first) ≡ []) ⊎ (are_mistakes (first_turn (codes "--journal=" ++ first)) ≡ true)
 unfolding clap_on_literals
-journal_twice name first second = go (nat_lt 0 (length first)) refl
+journal_first first = go (nat_lt 0 (length first)) refl
   where
-    go : (b : Bool) → nat_lt 0 (length first) ≡ b
-        → are_mistakes (fault_of command_line (name ∷ codes "run" ∷ (codes "--journal=" ++ first) ∷ (codes "--journal=" ++ second) ∷ [])) ≡ true
-    go true is = rw is refl
-    go false is = rw is refl
+    go : (b : Bool) → nat_lt 0 (length first) ≡ b → (first_turn (codes "--journal=" ++ first) ≡ []) ⊎ (are_mistakes (first_turn (codes "--journal=" ++ first)) ≡ true)
+    go true is = inl (rw is refl)
+    go false is = inr (rw is refl)
+
+journal_second : (first second : List ℕ) → are_mistakes (second_turn (codes "--journal=" ++ first) (codes "--journal=" ++ second)) ≡ true
+unfolding clap_on_literals walked
+journal_second first second = refl
+
+journal_twice : (name first second : List ℕ) → are_mistakes (fault_of command_line (name ∷ codes "run" ∷ (codes "--journal=" ++ first) ∷ (codes "--journal=" ++ second) ∷ [])) ≡ true
+journal_twice name first second =
+    level_mistaken name ((codes "--journal=" ++ first) ∷ (codes "--journal=" ++ second) ∷ [])
+    (second_mistaken (codes "--journal=" ++ first) (codes "--journal=" ++ second) (journal_first first) (journal_second first second))
 
 sync_twice : (name first second : List ℕ) → are_mistakes (fault_of command_line (name ∷ codes "run" ∷ (codes "--sync=" ++ first) ∷ (codes "--sync=" ++ second) ∷ [])) ≡ true
 unfolding clap_on_literals
 sync_twice name first second = refl
 
--- without `run`
+checkpoint_first : (first : List ℕ) → (first_turn (codes "--checkpoint-every=" ++ first) ≡ []) ⊎ (are_mistakes (first_turn (codes "--checkpoint-every=" ++ first)) ≡ true)
+unfolding clap_on_literals
+checkpoint_first first = go (accepts false (Signed (pos 1) (pos 1048576)) first) refl
+  where
+    go : (b : Bool) → accepts false (Signed (pos 1) (pos 1048576)) first ≡ b → (first_turn (codes "--checkpoint-every=" ++ first) ≡ []) ⊎ (are_mistakes (first_turn (codes "--checkpoint-every=" ++ first)) ≡ true)
+    go true is = inl (rw is refl)
+    go false is = inr (rw is refl)
+
+checkpoint_second : (first second : List ℕ) → are_mistakes (second_turn (codes "--checkpoint-every=" ++ first) (codes "--checkpoint-every=" ++ second)) ≡ true
+unfolding clap_on_literals walked
+checkpoint_second first second = refl
+
+checkpoint_twice : (name first second : List ℕ) → are_mistakes (fault_of command_line (name ∷ codes "run" ∷ (codes "--checkpoint-every=" ++ first) ∷ (codes "--checkpoint-every=" ++ second) ∷ [])) ≡ true
+checkpoint_twice name first second =
+    level_mistaken name ((codes "--checkpoint-every=" ++ first) ∷ (codes "--checkpoint-every=" ++ second) ∷ [])
+    (second_mistaken (codes "--checkpoint-every=" ++ first) (codes "--checkpoint-every=" ++ second) (checkpoint_first first) (checkpoint_second first second))
+
+checkpoint_alone : (name : List ℕ) (rest : List (List ℕ)) → are_mistakes (fault_of command_line (name ∷ codes "--checkpoint-every" ∷ rest)) ≡ true
+unfolding clap_on_literals
+checkpoint_alone name rest = refl
+
 journal_alone : (name : List ℕ) (rest : List (List ℕ)) → are_mistakes (fault_of command_line (name ∷ codes "--journal" ∷ rest)) ≡ true
 unfolding clap_on_literals
 journal_alone name rest = refl
@@ -268,6 +327,7 @@ no_option_twice name first second = (
   mistaken_words (run_twice name (codes "--max-events=") first second) (max_events_twice name first second),
   mistaken_words (run_twice name (codes "--journal=") first second) (journal_twice name first second),
   mistaken_words (run_twice name (codes "--sync=") first second) (sync_twice name first second),
+  mistaken_words (run_twice name (codes "--checkpoint-every=") first second) (checkpoint_twice name first second),
 )
 
 pub options_need_run : OptionsNeedRun
@@ -277,4 +337,84 @@ options_need_run name rest = (
   mistaken_words (name ∷ codes "--max-events" ∷ rest) (max_events_alone name rest),
   mistaken_words (name ∷ codes "--journal" ∷ rest) (journal_alone name rest),
   mistaken_words (name ∷ codes "--sync" ∷ rest) (sync_alone name rest),
+  mistaken_words (name ∷ codes "--checkpoint-every" ∷ rest) (checkpoint_alone name rest),
 )
+
+-- ---- `--journal=FILE --checkpoint-every=TEXT`
+
+abbrev kept : List ℕ → List ℕ → List ℕ → List (List ℕ)
+kept name file text = name ∷ codes "run" ∷ (codes "--journal=" ++ file) ∷ (codes "--checkpoint-every=" ++ text) ∷ []
+
+kept_first : (file : List ℕ) → nat_lt 0 (length file) ≡ true → first_turn (codes "--journal=" ++ file) ≡ []
+unfolding clap_on_literals
+kept_first file h = rw h refl
+
+kept_second : (file text : List ℕ) → accepts false (Signed (pos 1) (pos 1048576)) text ≡ true → second_turn (codes "--journal=" ++ file) (codes "--checkpoint-every=" ++ text) ≡ []
+unfolding clap_on_literals walked
+kept_second file text h = rw h refl
+
+kept_last : (file text : List ℕ) → last_turn (second_walk (codes "--journal=" ++ file) (codes "--checkpoint-every=" ++ text)) ≡ []
+unfolding clap_on_literals walked
+kept_last file text = refl
+
+kept_passed : (name file text : List ℕ) → nat_lt 0 (length file) ≡ true → accepts false (Signed (pos 1) (pos 1048576)) text ≡ true → fault_of command_line (kept name file text) ≡ []
+kept_passed name file text f h =
+    level_passed name ((codes "--journal=" ++ file) ∷ (codes "--checkpoint-every=" ++ text) ∷ [])
+    (both_taken (codes "--journal=" ++ file) (codes "--checkpoint-every=" ++ text) (kept_first file f) (kept_second file text h) (kept_last file text))
+
+kept_unfaulted : (name file text : List ℕ) → request_fault (subcommand_of command_line (kept name file text)) ≡ []
+unfolding clap_on_literals
+kept_unfaulted name file text = refl
+
+kept_asked : (name file text : List ℕ)
+    → request_of (kept name file text) ≡ RunOn (record default_options { checkpoint_every = number_within 1 1048576 500000 (number_of_text (without_minus text)) }) Full file
+unfolding request_of clap_on_literals
+kept_asked name file text = refl
+
+kept_wrong : (file text : List ℕ) → accepts false (Signed (pos 1) (pos 1048576)) text ≡ false
+    → are_mistakes (second_turn (codes "--journal=" ++ file) (codes "--checkpoint-every=" ++ text)) ≡ true
+unfolding clap_on_literals walked
+kept_wrong file text h = rw h refl
+
+kept_refused : (name file text : List ℕ) → accepts false (Signed (pos 1) (pos 1048576)) text ≡ false → are_mistakes (fault_of command_line (kept name file text)) ≡ true
+kept_refused name file text h =
+    level_mistaken name ((codes "--journal=" ++ file) ∷ (codes "--checkpoint-every=" ++ text) ∷ [])
+    (second_mistaken (codes "--journal=" ++ file) (codes "--checkpoint-every=" ++ text) (journal_first file) (kept_wrong file text h))
+
+pub checkpoints_are_taken : CheckpointsAreTaken
+checkpoints_are_taken name first rest n least most = (
+  request_kinds (run_checkpointed name (first ∷ rest) n) []
+      (kept_passed name (first ∷ rest) (decimal n) (lt-ltb 0 (length (first ∷ rest)) (omega arith)) (accepted 1 1048576 n (omega arith) least most))
+      (kept_unfaulted name (first ∷ rest) (decimal n)),
+  kept_asked name (first ∷ rest) (decimal n)
+      ∙ ap (λ (k : ℕ). RunOn (record default_options { checkpoint_every = k }) Full (first ∷ rest))
+      (within_said 1 1048576 500000 (number_of_text (without_minus (decimal n))) n (said n (omega arith)) (le-leb 1 n least) (le-leb n 1048576 most)),
+)
+
+pub other_checkpoints_are_refused : OtherCheckpointsAreRefused
+other_checkpoints_are_refused name file n h outside =
+    mistaken_words (run_checkpointed name file n) (kept_refused name file (decimal n) (refused 1 1048576 n h outside))
+
+-- ---- `--checkpoint-every=TEXT` alone
+
+abbrev unkept : List ℕ → List ℕ → List (List ℕ)
+unkept name text = name ∷ codes "run" ∷ (codes "--checkpoint-every=" ++ text) ∷ []
+
+unkept_passed : (name text : List ℕ) → accepts false (Signed (pos 1) (pos 1048576)) text ≡ true → fault_of command_line (unkept name text) ≡ []
+unfolding clap_on_literals
+unkept_passed name text h = rw h refl
+
+unkept_faulted : (name text : List ℕ) → request_fault (subcommand_of command_line (unkept name text)) ≡ MissingRequiredArgument ∷ []
+unfolding clap_on_literals
+unkept_faulted name text = refl
+
+unkept_refused : (name text : List ℕ) → accepts false (Signed (pos 1) (pos 1048576)) text ≡ false → are_mistakes (fault_of command_line (unkept name text)) ≡ true
+unfolding clap_on_literals
+unkept_refused name text h = rw h refl
+
+pub checkpoints_need_journals : CheckpointsNeedJournals
+checkpoints_need_journals name text = go (accepts false (Signed (pos 1) (pos 1048576)) text) refl
+  where
+    go : (b : Bool) → accepts false (Signed (pos 1) (pos 1048576)) text ≡ b → are_mistakes (answers_of (unkept name text)) ≡ true
+    go true is = ap are_mistakes (request_kinds (unkept name text) (MissingRequiredArgument ∷ []) (unkept_passed name text is) (unkept_faulted name text))
+    go false is = mistaken_words (unkept name text) (unkept_refused name text is)

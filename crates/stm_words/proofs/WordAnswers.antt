@@ -249,12 +249,14 @@ within low high otherwise (Some n) least most = go (nat_le low n) (nat_le n high
 abbrev number : List ℕ → List Row → Option ℕ
 number name rows = option_and_then number_of_text (one_of name rows)
 
-said_in_range : (rows : List Row) → AreRunOptions (options_said rows)
+pub said_in_range : (rows : List Row) → AreRunOptions (options_said rows)
 said_in_range rows = record {
   some_worker = (within 1 64 2 (number (codes "workers") rows) (omega arith) (omega arith)).0;
   few_workers = (within 1 64 2 (number (codes "workers") rows) (omega arith) (omega arith)).1;
   few_levels = (within 0 8 0 (number (codes "levels") rows) (omega arith) (omega arith)).1;
   few_events = (within 0 1048576 1048576 (number (codes "max-events") rows) (omega arith) (omega arith)).1;
+  some_event = (within 1 1048576 500000 (number (codes "checkpoint-every") rows) (omega arith) (omega arith)).0;
+  few_between = (within 1 1048576 500000 (number (codes "checkpoint-every") rows) (omega arith) (omega arith)).1;
 }
 
 default_in_range : AreRunOptions default_options
@@ -263,6 +265,8 @@ default_in_range = record {
   few_workers = omega arith;
   few_levels = omega arith;
   few_events = omega arith;
+  some_event = omega arith;
+  few_between = omega arith;
 }
 
 run_in_range : (file : Option (List ℕ)) (sync : SyncMode) (options : Options) → AreRunOptions options → HasOptionsInRange (run_on file sync options)

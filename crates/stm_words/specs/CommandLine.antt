@@ -53,6 +53,14 @@ journal_option = record (new_rule (codes "journal")) {
 abbrev pub sync_option : Rule
 sync_option = record (new_rule (codes "sync")) { long = Some (codes "sync"); value_names = 1 }
 
+-- the option `--checkpoint-every`, which takes a number of events
+abbrev pub checkpoint_option : Rule
+checkpoint_option = record (new_rule (codes "checkpoint-every")) {
+  long = Some (codes "checkpoint-every");
+  value_names = 1;
+  parser = Some (Signed (pos 1) (pos max_events));
+}
+
 -- a command with the options of a run that take numbers: `--workers`, `--levels` and `--max-events`
 abbrev pub with_numbers : App → App
 with_numbers command = with_rule (with_rule (with_rule command
@@ -62,7 +70,7 @@ with_numbers command = with_rule (with_rule (with_rule command
 
 -- a command with all options of a run
 abbrev pub with_options : App → App
-with_options command = with_rule (with_rule (with_numbers command) journal_option) sync_option
+with_options command = with_rule (with_rule (with_rule (with_numbers command) journal_option) sync_option) checkpoint_option
 
 -- `run` with its options
 abbrev pub run_command : App
@@ -118,17 +126,25 @@ sync_fault (Some word) has_journal =
 abbrev pub is_said : List ℕ → List Row → Bool
 is_said name rows = is_some (first_of name rows)
 
+-- what is wrong with `--checkpoint-every` if it is said: there is no journal
+abbrev pub checkpoint_fault : Bool → Bool → Kinds
+checkpoint_fault has_checkpoint has_journal = if has_checkpoint && not has_journal then MissingRequiredArgument ∷ [] else []
+
 -- what is wrong with the options of a run that clap takes
 abbrev pub run_fault : List Row → Kinds
-run_fault rows = sync_fault (first_of (codes "sync") rows) (is_said (codes "journal") rows)
+run_fault rows =
+    or_else (sync_fault (first_of (codes "sync") rows) (is_said (codes "journal") rows))
+    (checkpoint_fault (is_said (codes "checkpoint-every") rows) (is_said (codes "journal") rows))
 
 -- what is wrong with the options of a journal where there can be none
-abbrev pub journal_fault : Bool → Bool → Kinds
-journal_fault has_journal has_sync = if has_journal || has_sync then UnknownArgument ∷ [] else []
+abbrev pub journal_fault : Bool → Bool → Bool → Kinds
+journal_fault has_journal has_sync has_checkpoint =
+    if has_journal || (has_sync || has_checkpoint) then UnknownArgument ∷ [] else []
 
 -- what is wrong with the options of a storm that clap takes
 abbrev pub storm_fault : List Row → Kinds
-storm_fault rows = journal_fault (is_said (codes "journal") rows) (is_said (codes "sync") rows)
+storm_fault rows =
+    journal_fault (is_said (codes "journal") rows) (is_said (codes "sync") rows) (is_said (codes "checkpoint-every") rows)
 
 -- what is wrong with a subcommand and its options that clap takes
 abbrev pub request_fault : Option (List ℕ × List Row) → Kinds
@@ -202,6 +218,7 @@ options_said rows = record {
   workers = number_said (codes "workers") 1 max_workers 2 rows;
   levels = number_said (codes "levels") 0 max_levels 0 rows;
   max_events = number_said (codes "max-events") 0 max_events max_events rows;
+  checkpoint_every = number_said (codes "checkpoint-every") 1 max_events 500000 rows;
 }
 
 -- whether an option is said that takes no number: clap keeps `true` or `false` of it

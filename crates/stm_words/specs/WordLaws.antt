@@ -101,6 +101,7 @@ NoOptionTwice = (name first second : List ℕ)
     × IsTrue (has_mistake (run_twice name (codes "--max-events=") first second))
     × IsTrue (has_mistake (run_twice name (codes "--journal=") first second))
     × IsTrue (has_mistake (run_twice name (codes "--sync=") first second))
+    × IsTrue (has_mistake (run_twice name (codes "--checkpoint-every=") first second))
 
 -- an option that comes first is refused, whatever follows it
 abbrev pub OptionsNeedRun : Type 0
@@ -110,6 +111,7 @@ OptionsNeedRun = (name : List ℕ) (rest : List (List ℕ))
     × IsTrue (has_mistake (name ∷ codes "--max-events" ∷ rest))
     × IsTrue (has_mistake (name ∷ codes "--journal" ∷ rest))
     × IsTrue (has_mistake (name ∷ codes "--sync" ∷ rest))
+    × IsTrue (has_mistake (name ∷ codes "--checkpoint-every" ∷ rest))
 
 -- ---- journals
 
@@ -148,3 +150,26 @@ OtherModesAreRefused = (name file mode : List ℕ)
 -- and so is a mode without a journal
 abbrev pub ModesNeedJournals : Type 0
 ModesNeedJournals = (name mode : List ℕ) → IsTrue (has_mistake (name ∷ codes "run" ∷ (codes "--sync=" ++ mode) ∷ []))
+
+-- ---- checkpoints
+
+-- the words of a run on a file that makes a checkpoint at this many events
+abbrev pub run_checkpointed : List ℕ → List ℕ → ℕ → List (List ℕ)
+run_checkpointed name file n =
+    name ∷ codes "run" ∷ (codes "--journal=" ++ file) ∷ (codes "--checkpoint-every=" ++ decimal n) ∷ []
+
+-- a number in the option's range is taken, and is that of the run
+abbrev pub CheckpointsAreTaken : Type 0
+CheckpointsAreTaken = (name : List ℕ) (first : ℕ) (rest : List ℕ) (n : ℕ) → 1 ≤ n → n ≤ slow.max_events
+    → (answers_of (run_checkpointed name (first ∷ rest) n) ≡ [])
+    × (request_of (run_checkpointed name (first ∷ rest) n) ≡ RunOn (record default_options { checkpoint_every = n }) Full (first ∷ rest))
+
+-- any other of 64 bits is refused
+abbrev pub OtherCheckpointsAreRefused : Type 0
+OtherCheckpointsAreRefused = (name file : List ℕ) (n : ℕ) → n < 2 ^ 64 → (1 ≤ n → n ≤ slow.max_events → ⊥)
+    → IsTrue (has_mistake (run_checkpointed name file n))
+
+-- and so is any without a journal
+abbrev pub CheckpointsNeedJournals : Type 0
+CheckpointsNeedJournals = (name text : List ℕ)
+    → IsTrue (has_mistake (name ∷ codes "run" ∷ (codes "--checkpoint-every=" ++ text) ∷ []))

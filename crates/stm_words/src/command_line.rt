@@ -6,7 +6,7 @@ ghost use Rattle.clap.specs.Values.{kind_of};
 ghost use Rattle.clap.specs.Walk.{first_of, one_of, rows_of, rule_of};
 ghost use Rattle.clap.specs.Words.{app_of, found_of, new_app, with_subcommand, FailsBy, HasKind};
 ghost use Rattle.clap.specs.declared.builder.command.Command.TheViews.{out-Command as fields_of};
-ghost use Rattle.stm_words.specs.CommandLine.{answers_of, asks_for_run, check_command, check_said, command_line, explore_command, explore_options_said, flag_option, flag_said, journal_fault, journal_option, mode_of, mode_said, number_of_text, number_option, number_said, number_within, options_said, request_fault, request_of, request_said, run_command, run_fault, run_on, run_said, storm_command, storm_fault, sync_fault, sync_option, with_numbers, with_options, with_version, AreExploreOptions, HasOptionsInRange};
+ghost use Rattle.stm_words.specs.CommandLine.{answers_of, asks_for_run, check_command, checkpoint_fault, checkpoint_option, check_said, command_line, explore_command, explore_options_said, flag_option, flag_said, is_said, journal_fault, journal_option, mode_of, mode_said, number_of_text, number_option, number_said, number_within, options_said, request_fault, request_of, request_said, run_command, run_fault, run_on, run_said, storm_command, storm_fault, sync_fault, sync_option, with_numbers, with_options, with_version, AreExploreOptions, HasOptionsInRange};
 ghost use Rattle.stm_options.specs.Options.{AreRunOptions};
 
 use crate::file_name::FileName;
@@ -93,7 +93,8 @@ Commands on standard input, one per line. A line that begins with `--` is a comm
   reads T                  Prints what the block under a ticket read at its last evaluation: `reads #0=1`
       reads 1
   why T                    Prints what the block under a ticket waits for: `why 1 new`, `why 1 waits #0=1`, `why 1 ready`, or
-                           `why 1 stale 3 #0=1->2` if the finish of ticket 3 changed a variable that it had read
+                           `why 1 stale 3 #0=1->2` if the finish of ticket 3 changed a variable that it had read (or
+                           `why 1 stale checkpoint` if that was before a checkpoint)
       why 1
   store                    Prints each variable with its value and how often it changed, then `cells 1`
       store
@@ -103,6 +104,8 @@ Commands on standard input, one per line. A line that begins with `--` is a comm
       history
   events N                 Prints the history's events from the N-th on, counted from 1, then how many there are: `events 12`
       events 1
+  checkpoint               Lets the events so far go: the history begins again from where the desk is: `checkpoint 12`
+      checkpoint
 
 A verdict is `commits writes W news N result V` (#0=2 writes 2 to variable 0), `throws 4`, `throws overflow`, or `blocks` if
 the block retries. A ticket is new until its first delivery, then current, and stale after a finish changed a variable that
@@ -117,6 +120,8 @@ its events are in the file and, as `--sync` says, on the disk:
   full    Three syncs a batch of answers: a crash leaves each batch of events whole or not at all
   append  One sync a batch: a crash leaves all events that were answered, and of the next batch perhaps some
   none    No sync: a crash of the program loses no event that was answered, but a crash of the system may lose any
+When the history has 500000 events, or as many as `--checkpoint-every` says, a checkpoint is made: the history in the file begins
+again from where the desk is, so that neither the file nor memory grows for ever.
 
 docs/CONSOLE.md describes the commands in full, docs/LANGUAGE.md blocks, and docs/JOURNAL.md journals.";
 
@@ -178,7 +183,7 @@ docs/EXPLORE.md describes explorations in full.";
 const FINDINGS: &str = "\
 Prints one line:
   legal N events   A desk can have accepted the N events; status 0
-  bad header       The first line or the line of a variable is wrong; status 3
+  bad header       The first line, or the line of a variable or of a block before the events, is wrong; status 3
   bad line N       Line N is not the line of an event; status 3
   not legal N      The event in line N can't follow the events before it; status 3
 
@@ -211,6 +216,9 @@ const JOURNAL: &str = "Keeps the history in FILE, and goes on from what is in it
 
 const SYNC: &str =
     "What is synced before an answer is written: full, append or none [default: full]";
+
+const CHECKPOINT_EVERY: &str =
+    "Makes a checkpoint when the history has N events, from 1 to 1048576 [default: 500000]";
 
 const WHY: &str = "Also prints what would be accepted instead, or why nothing would be";
 
@@ -271,6 +279,20 @@ fn sync_option<'a>(alloc: Global, is_hidden: bool) -> Arg<'a>
         .hide(is_hidden)
 }
 
+/// The option of how many events a file's history has before a checkpoint.
+fn checkpoint_option<'a>(alloc: Global, is_hidden: bool) -> Arg<'a>
+    ensures rule { rule_of result ≡ checkpoint_option }
+    ensures local { result.global ≡ false }
+{
+    let numbers = value_parser!(u32).range(1..=i64::from(Options::MAX_EVENTS));
+    Arg::new(alloc, "checkpoint-every")
+        .long("checkpoint-every")
+        .value_name("N")
+        .value_parser(numbers)
+        .help(CHECKPOINT_EVERY)
+        .hide(is_hidden)
+}
+
 /// A command with the options of a run that take numbers.
 fn with_numbers<'a>(
     alloc: Global,
@@ -313,9 +335,11 @@ fn with_options<'a>(
 {
     let journal = journal_option(alloc, is_storm);
     let sync = sync_option(alloc, is_storm);
+    let checkpoint = checkpoint_option(alloc, is_storm);
     with_numbers(alloc, name, about, after_help)?
         .arg(journal)?
-        .arg(sync)
+        .arg(sync)?
+        .arg(checkpoint)
 }
 
 /// `run` with its options.
@@ -469,6 +493,13 @@ fn options_of(matches: &ArgMatches) -> Options
             0,
             Options::MAX_EVENTS,
             otherwise.max_events,
+        ),
+        checkpoint_every: number_of(
+            matches,
+            "checkpoint-every",
+            1,
+            Options::MAX_EVENTS,
+            otherwise.checkpoint_every,
         ),
     }
 }
@@ -654,9 +685,29 @@ fn check_sync(alloc: Global, word: Option<&str>, has_journal: bool) -> Result<()
     }
 }
 
+/// Refuses `--checkpoint-every` without a journal.
+fn check_checkpoint(alloc: Global, has_checkpoint: bool, has_journal: bool) -> Result<(), Error>
+    ensures { FailsBy (checkpoint_fault has_checkpoint has_journal) result }
+{
+    if has_checkpoint && !has_journal {
+        return Err(refusal(
+            alloc,
+            false,
+            ErrorKind::MissingRequiredArgument,
+            "the argument '--checkpoint-every <N>' cannot be used without '--journal <FILE>'",
+        ));
+    }
+    Ok(())
+}
+
 /// Refuses the options of a journal after `storm`.
-fn check_alone(alloc: Global, has_journal: bool, has_sync: bool) -> Result<(), Error>
-    ensures { FailsBy (journal_fault has_journal has_sync) result }
+fn check_alone(
+    alloc: Global,
+    has_journal: bool,
+    has_sync: bool,
+    has_checkpoint: bool,
+) -> Result<(), Error>
+    ensures { FailsBy (journal_fault has_journal has_sync has_checkpoint) result }
 {
     if has_journal {
         return Err(refusal(
@@ -674,15 +725,33 @@ fn check_alone(alloc: Global, has_journal: bool, has_sync: bool) -> Result<(), E
             "unexpected argument '--sync' found",
         ));
     }
+    if has_checkpoint {
+        return Err(refusal(
+            alloc,
+            true,
+            ErrorKind::UnknownArgument,
+            "unexpected argument '--checkpoint-every' found",
+        ));
+    }
     Ok(())
 }
 
-/// Refuses what clap takes after `run`: a wrong mode, and one without a journal.
+/// Whether the option of checkpoints was said.
+fn has_checkpoint(matches: &ArgMatches) -> bool
+    ensures { result ≡ is_said (codes "checkpoint-every") (rows_of (found_of matches.now)) }
+{
+    text_given(matches, "checkpoint-every").is_some()
+}
+
+/// Refuses what clap takes after `run`: a wrong mode, and options of a journal without one.
 fn check_run(alloc: Global, matches: &ArgMatches) -> Result<(), Error>
     ensures { FailsBy (run_fault (rows_of (found_of matches.now))) result }
 {
     let has_journal = text_given(matches, "journal").is_some();
-    check_sync(alloc, text_given(matches, "sync"), has_journal)
+    match check_sync(alloc, text_given(matches, "sync"), has_journal) {
+        Ok(()) => check_checkpoint(alloc, has_checkpoint(matches), has_journal),
+        Err(error) => Err(error),
+    }
 }
 
 /// Refuses what clap takes after `storm`: a journal.
@@ -691,7 +760,7 @@ fn check_storm(alloc: Global, matches: &ArgMatches) -> Result<(), Error>
 {
     let has_journal = text_given(matches, "journal").is_some();
     let has_sync = text_given(matches, "sync").is_some();
-    check_alone(alloc, has_journal, has_sync)
+    check_alone(alloc, has_journal, has_sync, has_checkpoint(matches))
 }
 
 /// Refuses what clap takes and no request has.

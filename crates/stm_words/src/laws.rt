@@ -1,6 +1,6 @@
 //! What holds of the program's words. Each function is a law: its contract says it.
 
-ghost use Rattle.stm_words.specs.WordLaws.{RunsAreAccepted, LastDashesChangeNothing, RunsHaveDefaults, OptionsAreInRange, StormsAreAccepted, StormsAreAsRuns, StormsHaveNoJournal, ChecksAreAccepted, ChecksWithReasonsAreAccepted, VersionsAreAskedFor, NumbersAreTaken, OthersAreRefused, NoOptionTwice, OptionsNeedRun, JournalsAreTaken, EmptyNamesAreRefused, ModesAreTaken, OtherModesAreRefused, ModesNeedJournals};
+ghost use Rattle.stm_words.specs.WordLaws.{RunsAreAccepted, LastDashesChangeNothing, RunsHaveDefaults, OptionsAreInRange, StormsAreAccepted, StormsAreAsRuns, StormsHaveNoJournal, ChecksAreAccepted, ChecksWithReasonsAreAccepted, VersionsAreAskedFor, NumbersAreTaken, OthersAreRefused, NoOptionTwice, OptionsNeedRun, JournalsAreTaken, EmptyNamesAreRefused, ModesAreTaken, OtherModesAreRefused, ModesNeedJournals, CheckpointsAreTaken, OtherCheckpointsAreRefused, CheckpointsNeedJournals};
 
 /// The program's name alone, and `run` after it, ask for a run with the default options, also with a last word `--`. No
 /// words give a run, a storm or an exploration options that are out of their ranges.
@@ -51,4 +51,12 @@ pub fn journals_are_taken()
     ensures modes { ModesAreTaken }
     ensures others { OtherModesAreRefused }
     ensures alone { ModesNeedJournals }
+{}
+
+/// With `--journal`, `--checkpoint-every` is taken with a number in its range, and refused with another one; without `--journal` it is
+/// refused.
+pub fn checkpoints_need_journals()
+    ensures taken { CheckpointsAreTaken }
+    ensures others { OtherCheckpointsAreRefused }
+    ensures alone { CheckpointsNeedJournals }
 {}

@@ -2,12 +2,12 @@
 
 ghost use Rattle.std.specs.Prelude.{None};
 
-use std::fs;
 use std::fs::{File, OpenOptions, TryLockError};
 use std::io::ErrorKind;
 use std::path::Path;
+use std::{fs, io};
 use stm_console::{JournalFiles, OpenError};
-use stm_journal::FileDevice;
+use stm_journal::{JournalError, NamedFile, leads_to};
 
 /// The files of the system, by their paths. No contract says what they have.
 #[derive(Drop)]
@@ -58,24 +58,54 @@ fn sync_folder(rt: &HostRuntime, path: &str) -> Result<(), OpenError> {
     Ok(())
 }
 
-impl JournalFiles for SystemFiles<'_> {
-    type File = FileDevice;
+/// How often a file is opened at most if another one takes its place each time.
+const ATTEMPTS: usize = 100;
+
+/// Opens a file and takes its lock; none if another file has taken its place meanwhile, as at a checkpoint of another run that then
+/// ended.
+fn open_locked(rt: &HostRuntime, name: &str) -> Result<Option<File>, OpenError> {
+    check_kind(rt, name)?;
+    let file = OpenOptions::new()
+        .read(true)
+        .write(true)
+        .create(true)
+        .open(rt, name)?;
+    // Something else may have taken its place.
+    if !file.metadata()?.is_file() {
+        return Err(OpenError::NotRegular);
+    }
+    lock(&file)?;
+    if leads_to(rt, name, &file)? {
+        Ok(Some(file))
+    } else {
+        Ok(None)
+    }
+}
+
+/// What the error of a journal means for opening it.
+fn open_error(error: JournalError) -> OpenError {
+    match error {
+        JournalError::NoMemory => OpenError::NoMemory,
+        JournalError::NoSpace => OpenError::System(io::Error::from(ErrorKind::StorageFull)),
+        _ => OpenError::System(io::Error::from(ErrorKind::Other)),
+    }
+}
+
+impl<'a> JournalFiles for SystemFiles<'a> {
+    type File = NamedFile<'a>;
 
     ghost contents = { λ files name. None };
 
-    fn open(&self, name: &str) -> Result<FileDevice, OpenError> {
-        check_kind(self.rt, name)?;
-        let file = OpenOptions::new()
-            .read(true)
-            .write(true)
-            .create(true)
-            .open(self.rt, name)?;
-        // Another file may have taken its place.
-        if !file.metadata()?.is_file() {
-            return Err(OpenError::NotRegular);
+    fn open(&self, name: &str) -> Result<NamedFile<'a>, OpenError> {
+        for _ in 0..ATTEMPTS {
+            if let Some(file) = open_locked(self.rt, name)? {
+                sync_folder(self.rt, name)?;
+                return match NamedFile::new(self.rt, name, file) {
+                    Ok(file) => Ok(file),
+                    Err(error) => Err(open_error(error)),
+                };
+            }
         }
-        lock(&file)?;
-        sync_folder(self.rt, name)?;
-        Ok(FileDevice::new(file))
+        Err(OpenError::InUse)
     }
 }

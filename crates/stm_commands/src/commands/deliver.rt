@@ -1,8 +1,9 @@
 //! `deliver`: what a job's block does is delivered.
 
 ghost use Rattle.std.specs.Prelude.{◌≡◌, ◌+◌, ◌++◌, Some, string_bytes, OnOk};
-ghost use Rattle.stm_events.specs.SlowDesk.{IsLegal};
-ghost use Rattle.stm_desk.specs.DeskView.{state_of};
+ghost use Rattle.stm_events.specs.States.{IsLegalFrom};
+ghost use Rattle.stm_machine.specs.Checkpoints.{MayStart};
+ghost use Rattle.stm_desk.specs.DeskView.{start_state, state_of};
 ghost use Rattle.stm_commands.specs.Jobs.{job_at, delivered_line, deliver_job_step, deliver_step};
 ghost use Rattle.stm_commands.specs.OpenDesk.{on_desk, Steps};
 ghost use Rattle.stm_commands.specs.OpenInvariant.{job_kept, HasStore, JobStands, HasGrown};
@@ -31,7 +32,8 @@ fn deliver_kept(
     kept: &KeptJob,
     out: &mut String,
 ) -> Result<(), NoMemory>
-    requires legal { IsLegal desk.old.table desk.old.history }
+    requires start { MayStart desk.old.table desk.old.checkpoint }
+    requires legal { IsLegalFrom (start_state desk.old) desk.old.history }
     requires stands { JobStands desk.old (job_kept kept.now) }
     requires stored { HasStore (state_of desk.old).waiters kept.now }
     ensures step { OnOk result (Steps desk.new (string_bytes out.old) (string_bytes out.new)

@@ -1,4 +1,4 @@
-//! `history` and `events`: what happened, and what happened since.
+//! `history` and `events`: what happened, and what happened since an event.
 
 ghost use Rattle.std.specs.Prelude.{◌≡◌, ◌++◌, ◌∷◌, [], ◌-◌, drop, codes, decimal};
 ghost use Rattle.stm_history.specs.HistoryText.{WritesText, event_lines};
@@ -68,12 +68,13 @@ fn write_events_from<W: Write>(
 }
 
 impl OpenDesk {
-    /// Writes the history.
+    /// Writes the history: where it begins, and the events.
     pub fn write_history<W: Write>(&self, alloc: Global, writer: &mut W) -> Result<(), WriteFault>
         ensures { WritesText result (W.contents writer.old) (W.contents writer.new)
             (events_text self.now) }
     {
-        write_history(alloc, writer, self.desk.table(), self.desk.history())
+        let start = self.desk.begins_from();
+        write_history(alloc, writer, self.desk.table(), start, self.desk.history())
     }
 
     /// Writes the lines of the events from the n-th on, counted from 1, and how many events there are.

@@ -1,6 +1,7 @@
 //! The commands, each in a file of its own: `OpenDesk::answer_..` prints the answer, and makes the step.
 
 mod cancel;
+mod checkpoint;
 mod deliver;
 mod eval;
 mod events;

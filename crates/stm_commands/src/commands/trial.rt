@@ -13,7 +13,6 @@ use crate::refusals::write_refusal;
 use std::alloc::Global;
 use stm_check::Typed;
 use stm_eval::try_block;
-use stm_events::laws::declared_are_covered;
 use stm_terms::NoMemory;
 use stm_terms::text::{write_verdict, write_writes};
 use stm_terms::values::Value;
@@ -52,7 +51,6 @@ impl OpenDesk {
             ≡ string_bytes out.old ++ verdict_line (verdict_on (present self.old) block.now)) }
         ensures same { self.new ≡ self.old }
     {
-        declared_are_covered();
         let copy = self.take_copy()?;
         let (verdict, _reads) = try_block(alloc, &copy, block)?;
         self.keep_copy(copy);
@@ -71,7 +69,6 @@ impl OpenDesk {
             ++ reads_line (reads_of (under (present self.old)) block.now.tree)) }
         ensures same { self.new ≡ self.old }
     {
-        declared_are_covered();
         let copy = self.take_copy()?;
         let (_verdict, reads) = try_block(alloc, &copy, block)?;
         self.keep_copy(copy);

@@ -48,6 +48,7 @@ fn write_reason(reason: &Reason<'_>, out: &mut String) -> Result<(), NoMemory>
             write!(out, "stale {finish}")?;
             write_changes(changes, out)
         }
+        Reason::WasStale => out.push_str("stale checkpoint"),
         Reason::Waits(reads) => {
             out.push_str("waits ")?;
             write_writes(reads, out)

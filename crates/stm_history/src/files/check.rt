@@ -1,9 +1,7 @@
 //! Whole files, judged line by line.
 
-ghost use Rattle.std.specs.Prelude.{◌≡◌, ◌++◌, ◌∷◌, [], ◌+◌, ◌≤◌, ◌<◌, ◌^◌, ℕ, List, OnOk, IfOk, IfErr, IfSome, MatchBool, Ok, true, length, is_some};
-ghost use Rattle.stm_store.specs.Tables.{Declared};
+ghost use Rattle.std.specs.Prelude.{◌≡◌, ◌++◌, ◌∷◌, [], ◌+◌, ◌≤◌, ◌<◌, ◌^◌, ℕ, List, None, OnOk, IfOk, IfErr, IfSome, MatchBool, Ok, true, length, is_some};
 ghost use Rattle.stm_events.specs.declared.event.Event.{Event as AnyEvent};
-ghost use Rattle.stm_events.specs.declared.staleness.StalenessRule.{StalenessRule as AnyRule};
 ghost use Rattle.std.specs.Io.KnownBytes.{prepend_known};
 ghost use Rattle.stm_lines.specs.Lines.{NoLineFeed};
 ghost use Rattle.stm_lines.specs.TakenLines.{bytes_to_come};
@@ -11,12 +9,14 @@ ghost use Rattle.stm_history.specs.Checking.{CheckerState, at_header, at_variabl
 ghost use Rattle.stm_history.specs.Reading.{FailsIn, IsReadingFault, TakesLine, TakesRest};
 ghost use Rattle.stm_event_lines.specs.Fits.{FitsTable, FitsFormat};
 ghost use Rattle.stm_history.specs.Following.{Follows};
-ghost use Rattle.stm_history.specs.Judgement.{IsHistory, IsShort, ReportsFault, next_line};
-ghost use Rattle.stm_event_lines.specs.Lines.{event_line, rule_of};
-ghost use Rattle.stm_events.specs.SlowDesk.{max_cells, max_events, IsLegal};
+ghost use Rattle.stm_history.specs.Judgement.{IsHistory, IsShort, ReportsFault, lines_before, next_line};
+ghost use Rattle.stm_history.specs.Starts.{Start};
+ghost use Rattle.stm_event_lines.specs.Lines.{event_line};
+ghost use Rattle.stm_history.specs.declared.files.check.Stage.TheVariants.{Running};
 ghost use Rattle.stm_history.specs.Stages.{keeps, IsRunning, IsStage, CountsWithinLimits, LeadsToStage, Reached, refused_by};
 ghost use Rattle.stm_history.specs.Checking.{with_table as progress_with};
 
+use crate::files::beginning::{take_block, take_cell, take_checkpoint_header};
 use crate::files::fault::{HistoryFault, Legal};
 use crate::files::replayer::Replayer;
 use crate::files::stepping::StepError;
@@ -25,14 +25,16 @@ use std::io::Read;
 use std::marker::Brand;
 use std::mem;
 use std::sync::ledger::{Blank, Ledger};
-use stm_event_lines::formats::{fits_format, staleness_rule};
+use stm_event_lines::checkpoint::CheckpointHeader;
+use stm_event_lines::formats::fits_format;
 use stm_event_lines::read::{LineError, read_event, read_header, read_variable};
 use stm_event_lines::variable::Variable;
 use stm_events::event::Event;
 use stm_lines::calls::Calls;
 use stm_lines::line_reader::Line;
 use stm_lines::{LineReader, RunFault, Steps};
-use stm_store::{DeclareError, Seed, Table};
+use stm_machine::checkpoint::Checkpoint;
+use stm_store::{Cell, DeclareError, Seed, Table};
 
 /// The most bytes of a line.
 pub(crate) const MAX_LINE: usize = 1_048_576;
@@ -40,8 +42,9 @@ pub(crate) const MAX_LINE: usize = 1_048_576;
 /// The most variables of a table.
 pub(crate) const MAX_CELLS: u32 = Table::LIMIT as u32;
 
-/// How far the lines have come: before the first; in a format, among the variables, of which this many were announced; in a
-/// format, among the events. Each stage has whether the events are kept.
+/// How far the lines have come: before the first; in a format, among the variables, of which this many were announced; among the
+/// variables of a checkpoint, of which the table has those with a name; among its waiting blocks, of which this many were announced;
+/// in a format, among the events. Each stage has whether the events are kept.
 #[derive(Drop)]
 pub(crate) enum Stage {
     Before {
@@ -53,9 +56,22 @@ pub(crate) enum Stage {
         vars: u32,
         table: Table,
     },
+    AtCells {
+        keep: bool,
+        header: CheckpointHeader,
+        table: Table,
+        cells: Vec<Cell>,
+    },
+    AtBlocks {
+        keep: bool,
+        waiting: u32,
+        table: Table,
+        checkpoint: Checkpoint,
+    },
     Running {
         format: u32,
         table: Table,
+        checkpoint: Option<Checkpoint>,
         replayer: Replayer,
     },
 }
@@ -81,10 +97,11 @@ fn with_table(
             table,
         });
     }
-    match Replayer::open(alloc, staleness_rule(format), &table, keep) {
+    match Replayer::open(alloc, format, &table, keep) {
         Ok(replayer) => Ok(Stage::Running {
             format,
             table,
+            checkpoint: None,
             replayer,
         }),
         Err(_) => Err(HistoryFault::NoMemory),
@@ -106,12 +123,12 @@ fn take_header(alloc: Global, seed: Seed, keep: bool, line: &[u8]) -> Result<Sta
                 Err(HistoryFault::BadHeader)
             }
         }
-        Err(LineError::Bad) => Err(HistoryFault::BadHeader),
+        Err(LineError::Bad) => take_checkpoint_header(alloc, seed, keep, line),
         Err(LineError::NoMemory) => Err(HistoryFault::NoMemory),
     }
 }
 
-fn declare_refused(error: DeclareError) -> HistoryFault
+pub(crate) fn declare_refused(error: DeclareError) -> HistoryFault
     ensures { result ≡ refused_by error }
 {
     match error {
@@ -148,13 +165,32 @@ fn take_variable(
     }
 }
 
-/// The number of the line that comes next.
-pub(crate) fn line_number(table: &Table, replayer: &Replayer) -> u32
-    requires { (R : AnyRule) × (H : List AnyEvent) × Follows R table.now H replayer.now }
-    ensures { (R : AnyRule) (H : List AnyEvent) → Follows R table.now H replayer.now
-        → result ≡ next_line table.now H }
+/// How many lines come before the events.
+fn lines_before(table: &Table, checkpoint: &Option<Checkpoint>) -> u32
+    ensures lines { result ≡ lines_before table.now checkpoint.now }
+    ensures few { result ≤ 1065537 }
 {
-    table.len() as u32 + replayer.events + 2
+    match checkpoint {
+        Some(checkpoint) => {
+            // The store and the waiting blocks are known to be few by this.
+            let _next = checkpoint.next();
+            checkpoint.store().len() as u32 + checkpoint.blocks().len() as u32 + 1
+        }
+        None => table.len() as u32 + 1,
+    }
+}
+
+/// The number of the line that comes next.
+pub(crate) fn line_number(
+    table: &Table,
+    checkpoint: &Option<Checkpoint>,
+    replayer: &Replayer,
+) -> u32
+    requires { (S : Start) × (H : List AnyEvent) × Follows S H replayer.now }
+    ensures { (S : Start) (H : List AnyEvent) → S.table ≡ table.now → S.checkpoint ≡ checkpoint.now
+        → Follows S H replayer.now → result ≡ next_line S H }
+{
+    lines_before(table, checkpoint) + replayer.events + 1
 }
 
 /// Takes an event that was read from the line of this number.
@@ -164,14 +200,13 @@ fn take_event(
     event: &Event,
     number: u32,
 ) -> Result<(), HistoryFault>
-    requires { (T : List Declared) × (H : List AnyEvent) × Follows (rule_of format) T H replayer.old }
-    ensures done { OnOk result ((T : List Declared) (H : List AnyEvent)
-        → Follows (rule_of format) T H replayer.old
-        → Follows (rule_of format) T (H ++ event.now ∷ []) replayer.new) }
+    requires { (S : Start) × (H : List AnyEvent) × Follows S H replayer.old }
+    ensures done { OnOk result ((S : Start) (H : List AnyEvent)
+        → Follows S H replayer.old → Follows S (H ++ event.now ∷ []) replayer.new) }
     ensures fits { OnOk result (FitsFormat format event.now) }
-    ensures refused { IfErr result (λ e. (T : List Declared) (H : List AnyEvent)
-        → Follows (rule_of format) T H replayer.old → FitsTable T event.now → number ≡ next_line T H
-        → MayRefuse (at_events format T H) (event_line event.now) e) }
+    ensures refused { IfErr result (λ e. (S : Start) (H : List AnyEvent) → S.format ≡ format
+        → Follows S H replayer.old → FitsTable S.table event.now → number ≡ next_line S H
+        → MayRefuse (at_events S H) (event_line event.now) e) }
     ensures keeps { OnOk result (is_some replayer.new.kept ≡ is_some replayer.old.kept) }
 {
     if !fits_format(format, event) {
@@ -189,20 +224,22 @@ fn take_event_line(
     alloc: Global,
     format: u32,
     table: &Table,
+    checkpoint: &Option<Checkpoint>,
     replayer: &mut Replayer,
     line: &[u8],
 ) -> Result<(), HistoryFault>
-    requires { (H : List AnyEvent) × Follows (rule_of format) table.now H replayer.old }
-    ensures leads { OnOk result ((H : List AnyEvent) → Follows (rule_of format) table.now H replayer.old
-        → (e : AnyEvent)
-        × LeadsTo (at_events format table.now H) line.now (at_events format table.now (H ++ e ∷ []))
-        × Follows (rule_of format) table.now (H ++ e ∷ []) replayer.new) }
-    ensures refused { IfErr result (λ e. (H : List AnyEvent)
-        → Follows (rule_of format) table.now H replayer.old
-        → MayRefuse (at_events format table.now H) line.now e) }
+    requires { (S : Start) × (H : List AnyEvent) × Follows S H replayer.old }
+    ensures leads { OnOk result ((S : Start) (H : List AnyEvent)
+        → S.format ≡ format → S.table ≡ table.now → S.checkpoint ≡ checkpoint.now
+        → Follows S H replayer.old
+        → (e : AnyEvent) × LeadsTo (at_events S H) line.now (at_events S (H ++ e ∷ []))
+        × Follows S (H ++ e ∷ []) replayer.new) }
+    ensures refused { IfErr result (λ e. (S : Start) (H : List AnyEvent)
+        → S.format ≡ format → S.table ≡ table.now → S.checkpoint ≡ checkpoint.now
+        → Follows S H replayer.old → MayRefuse (at_events S H) line.now e) }
     ensures keeps { OnOk result (is_some replayer.new.kept ≡ is_some replayer.old.kept) }
 {
-    let number = line_number(table, replayer);
+    let number = line_number(table, checkpoint, replayer);
     match read_event(alloc, table, line) {
         Ok(event) => take_event(format, replayer, &event, number),
         Err(LineError::Bad) => Err(HistoryFault::BadLine(number)),
@@ -215,20 +252,22 @@ fn run_on(
     alloc: Global,
     format: u32,
     table: Table,
+    checkpoint: Option<Checkpoint>,
     mut replayer: Replayer,
     line: &[u8],
 ) -> Result<Stage, HistoryFault>
-    requires { (H : List AnyEvent) × Follows (rule_of format) table H replayer }
-    ensures leads { IfOk result (λ s. (H : List AnyEvent) → Follows (rule_of format) table H replayer
-        → LeadsToStage (at_events format table H) line.now s) }
-    ensures refused { IfErr result (λ e. (H : List AnyEvent) → Follows (rule_of format) table H replayer
-        → MayRefuse (at_events format table H) line.now e) }
+    requires { (S : Start) × (H : List AnyEvent) × Follows S H replayer }
+    ensures leads { IfOk result (λ s. (p : CheckerState)
+        → IsStage (Running format table checkpoint replayer) p → LeadsToStage p line.now s) }
+    ensures refused { IfErr result (λ e. (p : CheckerState)
+        → IsStage (Running format table checkpoint replayer) p → MayRefuse p line.now e) }
     ensures keeps { IfOk result (λ s. keeps s ≡ is_some replayer.kept) }
 {
-    match take_event_line(alloc, format, &table, &mut replayer, line) {
+    match take_event_line(alloc, format, &table, &checkpoint, &mut replayer, line) {
         Ok(()) => Ok(Stage::Running {
             format,
             table,
+            checkpoint,
             replayer,
         }),
         Err(error) => Err(error),
@@ -252,11 +291,24 @@ fn take_line(alloc: Global, seed: Seed, stage: Stage, line: &[u8]) -> Result<Sta
             vars,
             table,
         } => take_variable(alloc, keep, format, vars, table, line),
+        Stage::AtCells {
+            keep,
+            header,
+            table,
+            cells,
+        } => take_cell(alloc, keep, header, table, cells, line),
+        Stage::AtBlocks {
+            keep,
+            waiting,
+            table,
+            checkpoint,
+        } => take_block(alloc, keep, waiting, table, checkpoint, line),
         Stage::Running {
             format,
             table,
+            checkpoint,
             replayer,
-        } => run_on(alloc, format, table, replayer, line),
+        } => run_on(alloc, format, table, checkpoint, replayer, line),
     }
 }
 
@@ -268,11 +320,14 @@ fn strange_fault(stage: &Stage) -> HistoryFault
     match stage {
         Stage::Before { .. } => HistoryFault::BadHeader,
         Stage::Declaring { .. } => HistoryFault::BadHeader,
+        Stage::AtCells { .. } => HistoryFault::BadHeader,
+        Stage::AtBlocks { .. } => HistoryFault::BadHeader,
         Stage::Running {
             table,
+            checkpoint,
             replayer,
             ..
-        } => HistoryFault::BadLine(line_number(table, replayer)),
+        } => HistoryFault::BadLine(line_number(table, checkpoint, replayer)),
     }
 }
 
@@ -374,6 +429,8 @@ impl Checker {
         match &self.stage {
             Stage::Before { .. } => Err(HistoryFault::BadHeader),
             Stage::Declaring { .. } => Err(HistoryFault::BadHeader),
+            Stage::AtCells { .. } => Err(HistoryFault::BadHeader),
+            Stage::AtBlocks { .. } => Err(HistoryFault::BadHeader),
             Stage::Running { replayer, .. } => Ok(replayer.numbers()),
         }
     }
@@ -507,7 +564,7 @@ fn check_rest<R: Read>(checker: &mut Checker, reader: &mut R) -> Result<Legal, H
     }
 }
 
-/// Judges the bytes of a reader as a history of format 1, 2 or 3, line by line; docs/HISTORY.md has the formats. Of a line no more
+/// Judges the bytes of a reader as a history of format 1, 2, 3 or 4, line by line; docs/HISTORY.md has the formats. Of a line no more
 /// than 1,048,577 bytes are kept, and the reader is called 4,294,967,295 times at most. `ReadFault` if the reader fails.
 pub fn check_history<R: Read>(alloc: Global, reader: &mut R) -> Result<Legal, HistoryFault>
     // The bytes are the text of a legal history, and the numbers are its own.

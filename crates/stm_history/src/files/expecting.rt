@@ -2,11 +2,9 @@
 //! to have.
 
 ghost use Rattle.std.specs.Prelude.{◌≡◌, ◌≢◌, ◌<◌, false, true, ℕ, List, IfOk, None, Some, if◌then◌else◌};
-ghost use Rattle.stm_store.specs.Tables.{Declared};
 ghost use Rattle.stm_eval.specs.EvaluatedFields.{message_ticket};
 ghost use Rattle.stm_events.specs.declared.event.Event.{Event as AnyEvent};
 ghost use Rattle.stm_events.specs.declared.event.What.TheVariants.{Submitted, Installed, Finished, Cancelled};
-ghost use Rattle.stm_events.specs.declared.staleness.StalenessRule.{StalenessRule};
 ghost use Rattle.stm_events.specs.Refusals.{submit_refused, finish_refused};
 ghost use Rattle.stm_events.specs.SlowDesk.{Slow, max_clients};
 ghost use Rattle.stm_terms.specs.declared.verdicts.Verdict.{Verdict};
@@ -16,6 +14,7 @@ ghost use Rattle.stm_history.specs.declared.files.explanation.CallRefusal.TheVar
 ghost use Rattle.stm_history.specs.declared.files.expecting.Expectation.TheVariants.{Refuses};
 ghost use Rattle.stm_history.specs.Expecting.{IsDueOn, IsDueAfter};
 ghost use Rattle.stm_history.specs.Following.{Follows};
+ghost use Rattle.stm_history.specs.Starts.{Start};
 
 use crate::files::explanation::CallRefusal;
 use crate::files::replayer::{MAX_EVENTS, Replayer};
@@ -104,7 +103,7 @@ fn submission(
     full: bool,
     block: &SharedBlock,
 ) -> Result<Expectation, NoMemory>
-    requires { (s : Slow) × IsAt machine.old s × HasTicketLeft s }
+    requires { (s : Slow) × IsAt machine.old s × (full ≡ false → HasTicketLeft s) }
     ensures { IfOk result (λ x. (s : Slow) (t : ℕ) → IsAt machine.old s
         → IsDueOn s full (Submitted t block.now) x) }
 {
@@ -244,7 +243,7 @@ fn delivery(machine: &mut Machine, full: bool, ticket: u32) -> Result<Expectatio
 
 /// What is due in place of what happens.
 fn due(machine: &mut Machine, full: bool, what: &What) -> Result<Expectation, NoMemory>
-    requires { (s : Slow) × IsAt machine.old s × HasTicketLeft s }
+    requires { (s : Slow) × IsAt machine.old s × (full ≡ false → HasTicketLeft s) }
     ensures { IfOk result (λ x. (s : Slow) → IsAt machine.old s → IsDueOn s full what.now x) }
 {
     match what {
@@ -258,11 +257,10 @@ fn due(machine: &mut Machine, full: bool, what: &What) -> Result<Expectation, No
 impl Replayer {
     /// What is due in place of the event. Nothing is promised of what goes through the history afterwards.
     pub(crate) fn expect(&mut self, event: &Event) -> Result<Expectation, NoMemory>
-        requires follows { (R : StalenessRule) × (T : List Declared) × (H : List AnyEvent)
-            × Follows R T H self.old }
+        requires follows { (S : Start) × (H : List AnyEvent) × Follows S H self.old }
         requires client { event.now.client < max_clients }
-        ensures { IfOk result (λ x. (R : StalenessRule) (T : List Declared) (H : List AnyEvent)
-            → Follows R T H self.old → IsDueAfter R T H event.now x) }
+        ensures { IfOk result (λ x. (S : Start) (H : List AnyEvent)
+            → Follows S H self.old → IsDueAfter S H event.now x) }
     {
         let full = self.events >= MAX_EVENTS;
         due(&mut self.machine, full, &event.what)

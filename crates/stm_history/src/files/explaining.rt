@@ -1,35 +1,48 @@
 //! A line that is not accepted, explained at the stage before it.
 
-ghost use Rattle.std.specs.Prelude.{◌≡◌, ◌↔◌, ◌≤◌, ◌∷◌, [], ◌<◌, ℕ, List, IfOk, IsTrue, length, string_bytes};
+ghost use Rattle.std.specs.Prelude.{◌≡◌, ◌↔◌, ◌+◌, ◌++◌, ◌∷◌, [], ◌<◌, ℕ, List, IfOk, IsTrue, length, option_map, string_bytes};
+ghost use Rattle.stm_store.specs.Cells.{plains, IsStore};
 ghost use Rattle.stm_store.specs.Tables.{Declared};
 ghost use Rattle.stm_events.specs.declared.event.Event.{Event as AnyEvent};
 ghost use Rattle.stm_events.specs.SlowDesk.{max_clients};
 ghost use Rattle.stm_terms.specs.declared.verdicts.Verdict.TheVariants.{Throws};
 ghost use Rattle.stm_machine.specs.Machine.{event};
-ghost use Rattle.stm_history.specs.Checking.{CheckerState, at_header, at_variables, at_events, LeadsTo};
+ghost use Rattle.stm_history.specs.Checking.{CheckerState, at_header, at_variables, at_cells, at_blocks, at_events};
 ghost use Rattle.stm_history.specs.Expecting.{HasCheckedBlock, IsLineOf, IsShortOr};
 ghost use Rattle.stm_history.specs.Explanation.{Explains, ExplainsEvent, ExplainsHead};
-ghost use Rattle.stm_event_lines.specs.Fits.{FitsTable, FitsVerdict, FitNews, FitsVariable, FitsFormat, WhatFitsTable};
+ghost use Rattle.stm_event_lines.specs.CheckpointLines.{FitsCell, FitsWaiting, cell_line};
+ghost use Rattle.stm_event_lines.specs.Fits.{FitsTable, FitsVerdict, FitNews, FitsVariable, WhatFitsTable};
 ghost use Rattle.stm_history.specs.Following.{Follows};
-ghost use Rattle.stm_event_lines.specs.Lines.{IsFormat, header_line, rule_of, variable_line};
-ghost use Rattle.stm_history.specs.Stages.{IsStage, CountsWithinLimits};
+ghost use Rattle.stm_history.specs.Starts.{Start};
+ghost use Rattle.stm_event_lines.specs.Lines.{IsFormat, variable_line};
+ghost use Rattle.stm_history.specs.Stages.{IsStage};
 ghost use Rattle.stm_event_lines.specs.Variables.{declared};
 
+use crate::files::beginning::{add_block, is_head, name_cell};
 use crate::files::check::{MAX_CELLS, MAX_LINE, Stage};
 use crate::files::expecting::Expectation;
 use crate::files::explanation::Explanation;
+use crate::files::fault::HistoryFault;
 use crate::files::replayer::Replayer;
 use std::alloc::Global;
+use std::mem;
+use stm_event_lines::checkpoint::{
+    NamedCell, WaitingBlock, cell_text, checkpoint_header_text, name_of_cell, waiting_text,
+};
 use stm_event_lines::drafted::{
     number_in_range, numbers_in_range, value_in_range, writes_in_range,
 };
 use stm_event_lines::formats::fits_format;
-use stm_event_lines::loose::{loose_event, loose_header, loose_variable};
+use stm_event_lines::loose::{
+    loose_cell, loose_checkpoint_header, loose_event, loose_header, loose_variable, loose_waiting,
+};
+use stm_event_lines::read::Header;
 use stm_event_lines::variable::Variable;
 use stm_event_lines::write::{event_text, header_text, variable_text};
 use stm_events::event::{Event, What};
 use stm_events::shared_verdict::SharedVerdict;
-use stm_store::{DeclareError, Table};
+use stm_machine::checkpoint::Checkpoint;
+use stm_store::{Cell, DeclareError, Store, StoreError, Table};
 use stm_terms::NoMemory;
 use stm_terms::kinds::Ty;
 use stm_terms::values::{Fault, Value};
@@ -164,11 +177,10 @@ fn explain_event(
     replayer: &mut Replayer,
     event: &Event,
 ) -> Result<Explanation, NoMemory>
-    requires { (T : List Declared) × (H : List AnyEvent) × Follows (rule_of format) T H replayer.old
-        × FitsTable T event.now }
-    ensures { IfOk result (λ x. (T : List Declared) (H : List AnyEvent)
-        → Follows (rule_of format) T H replayer.old → FitsTable T event.now
-        → ExplainsEvent format T H event.now x) }
+    requires { (S : Start) × (H : List AnyEvent) × Follows S H replayer.old × FitsTable S.table event.now }
+    ensures { IfOk result (λ x. (S : Start) (H : List AnyEvent) → S.format ≡ format
+        → Follows S H replayer.old → FitsTable S.table event.now
+        → ExplainsEvent S H event.now x) }
 {
     match replayer.expect(event) {
         Ok(Expectation::Refuses(refusal)) => Ok(Explanation::Refused(refusal)),
@@ -185,9 +197,9 @@ fn explain_event_line(
     replayer: &mut Replayer,
     line: &[u8],
 ) -> Result<Explanation, NoMemory>
-    requires { (H : List AnyEvent) × Follows (rule_of format) table.now H replayer.old }
-    ensures { IfOk result (λ x. (H : List AnyEvent) → Follows (rule_of format) table.now H replayer.old
-        → Explains (at_events format table.now H) line.now x) }
+    requires { (S : Start) × (H : List AnyEvent) × (S.table ≡ table.now) × Follows S H replayer.old }
+    ensures { IfOk result (λ x. (S : Start) (H : List AnyEvent) → S.format ≡ format → S.table ≡ table.now
+        → Follows S H replayer.old → Explains (at_events S H) line.now x) }
 {
     match loose_event(alloc, table, line)? {
         Some(event) => explain_event(alloc, format, replayer, &event),
@@ -195,18 +207,40 @@ fn explain_event_line(
     }
 }
 
-/// What is reported of a line before the first.
-fn explain_header(alloc: Global, line: &[u8]) -> Result<Explanation, NoMemory>
+/// The first line of a table's history, if there may be as many variables.
+fn header_due(alloc: Global, header: Header) -> Result<Explanation, NoMemory>
+    requires { IsFormat header.format }
     ensures { IfOk result (λ x. ExplainsHead at_header x) }
 {
-    let Some(header) = loose_header(alloc, line)? else {
-        return Ok(Explanation::Unreadable);
-    };
     if header.vars > MAX_CELLS {
         return Ok(Explanation::Unreadable);
     }
     let text = header_text(alloc, header.format, header.vars)?;
     Ok(short_line(text))
+}
+
+/// What is reported of a line before the first, if it is no first line of a table's history.
+fn explain_checkpoint_header(alloc: Global, line: &[u8]) -> Result<Explanation, NoMemory>
+    ensures { IfOk result (λ x. ExplainsHead at_header x) }
+{
+    let Some(header) = loose_checkpoint_header(alloc, line)? else {
+        return Ok(Explanation::Unreadable);
+    };
+    if !is_head(&header) {
+        return Ok(Explanation::Unreadable);
+    }
+    let text = checkpoint_header_text(alloc, header.next, header.vars, header.waiting)?;
+    Ok(short_line(text))
+}
+
+/// What is reported of a line before the first.
+fn explain_header(alloc: Global, line: &[u8]) -> Result<Explanation, NoMemory>
+    ensures { IfOk result (λ x. ExplainsHead at_header x) }
+{
+    match loose_header(alloc, line)? {
+        Some(header) => header_due(alloc, header),
+        None => explain_checkpoint_header(alloc, line),
+    }
 }
 
 /// The line of a variable, if it is no longer than one may be.
@@ -245,6 +279,120 @@ fn explain_variable(alloc: Global, table: &mut Table, line: &[u8]) -> Result<Exp
     }
 }
 
+/// The line of a checkpoint's variable, if it is no longer than one may be.
+fn cell_written(alloc: Global, cell: &NamedCell) -> Result<Explanation, NoMemory>
+    ensures { IfOk result (λ x.
+        IsShortOr (cell_line (option_map string_bytes cell.now.name) cell.now.cell) x) }
+{
+    let text = cell_text(alloc, name_of_cell(cell), cell.cell)?;
+    Ok(short_line(text))
+}
+
+/// Whether the variables are a store.
+fn is_store(alloc: Global, cells: Vec<Cell>) -> Result<bool, NoMemory>
+    ensures { IfOk result (λ b. IsTrue b → IsStore (plains cells.items)) }
+{
+    match Store::of_cells(alloc, cells) {
+        Ok(store) => {
+            // It is known to be one by this.
+            let _count = store.len();
+            Ok(true)
+        }
+        Err(StoreError::NotStore) => Ok(false),
+        Err(StoreError::NoMemory) => Err(NoMemory),
+    }
+}
+
+/// Whether the variable may follow these, of as many as were announced: with the last one they have to be a store.
+fn may_follow(alloc: Global, vars: u32, cells: &mut Vec<Cell>, cell: Cell) -> Result<bool, NoMemory>
+    ensures { IfOk result (λ b. IsTrue b → length cells.old.items + 1 ≡ vars
+        → IsStore (plains (cells.old.items ++ cell ∷ []))) }
+{
+    let mut all = mem::replace(cells, Vec::new(alloc));
+    all.push(cell)?;
+    if all.len() == vars as usize {
+        is_store(alloc, all)
+    } else {
+        Ok(true)
+    }
+}
+
+/// The line of a checkpoint's variable that may come next, of as many as were announced.
+fn cell_due(
+    alloc: Global,
+    vars: u32,
+    table: &mut Table,
+    cells: &mut Vec<Cell>,
+    cell: &NamedCell,
+) -> Result<Explanation, NoMemory>
+    requires { FitsCell (option_map string_bytes cell.now.name) cell.now.cell }
+    ensures { IfOk result (λ x. (next waiting : ℕ)
+        → ExplainsHead (at_cells next vars waiting table.old cells.old.items) x) }
+{
+    match name_cell(table, cells.len(), cell) {
+        Ok(()) => {}
+        Err(HistoryFault::NoMemory) => return Err(NoMemory),
+        Err(_) => return Ok(Explanation::Unreadable),
+    }
+    let follows = may_follow(alloc, vars, cells, cell.cell)?;
+    if follows {
+        cell_written(alloc, cell)
+    } else {
+        Ok(Explanation::Unreadable)
+    }
+}
+
+/// What is reported of a line among the variables of a checkpoint, of which this many were announced.
+fn explain_cell(
+    alloc: Global,
+    vars: u32,
+    table: &mut Table,
+    cells: &mut Vec<Cell>,
+    line: &[u8],
+) -> Result<Explanation, NoMemory>
+    ensures { IfOk result (λ x. (next waiting : ℕ)
+        → ExplainsHead (at_cells next vars waiting table.old cells.old.items) x) }
+{
+    match loose_cell(alloc, line)? {
+        Some(cell) => cell_due(alloc, vars, table, cells, &cell),
+        None => Ok(Explanation::Unreadable),
+    }
+}
+
+/// The line of a waiting block that may be added to the checkpoint.
+fn block_due(
+    alloc: Global,
+    checkpoint: &mut Checkpoint,
+    block: WaitingBlock,
+) -> Result<Explanation, NoMemory>
+    ensures { IfOk result (λ x. (waiting : ℕ) (T : List Declared)
+        → FitsWaiting T block.ticket block.block block.delivery
+        → ExplainsHead (at_blocks waiting T checkpoint.old) x) }
+{
+    let text = waiting_text(alloc, &block)?;
+    match add_block(alloc, checkpoint, block) {
+        Ok(()) => Ok(short_line(text)),
+        Err(HistoryFault::NoMemory) => Err(NoMemory),
+        Err(_) => Ok(Explanation::Unreadable),
+    }
+}
+
+/// What is reported of a line among the waiting blocks of a checkpoint.
+fn explain_block(
+    alloc: Global,
+    table: &Table,
+    checkpoint: &mut Checkpoint,
+    line: &[u8],
+) -> Result<Explanation, NoMemory>
+    ensures { IfOk result (λ x. (waiting : ℕ)
+        → ExplainsHead (at_blocks waiting table.now checkpoint.old) x) }
+{
+    match loose_waiting(alloc, table, line)? {
+        Some(block) => block_due(alloc, checkpoint, block),
+        None => Ok(Explanation::Unreadable),
+    }
+}
+
 /// What is reported of a line that is not accepted at this stage. Nothing is promised of the stage afterwards.
 pub(crate) fn explain(
     alloc: Global,
@@ -258,10 +406,22 @@ pub(crate) fn explain(
     match stage {
         Stage::Before { .. } => explain_header(alloc, line),
         Stage::Declaring { table, .. } => explain_variable(alloc, table, line),
+        Stage::AtCells {
+            header,
+            table,
+            cells,
+            ..
+        } => explain_cell(alloc, header.vars, table, cells, line),
+        Stage::AtBlocks {
+            table,
+            checkpoint,
+            ..
+        } => explain_block(alloc, table, checkpoint, line),
         Stage::Running {
             format,
             table,
             replayer,
+            ..
         } => explain_event_line(alloc, *format, table, replayer, line),
     }
 }

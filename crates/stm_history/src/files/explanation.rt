@@ -19,8 +19,8 @@ pub enum Explanation {
     Expected(String),
     /// Why a desk refuses the call at this place.
     Refused(CallRefusal),
-    /// The line can't be read as a header, a variable or an event, whichever is due, or what would be accepted has no line: a
-    /// block with a `catch` in format 1, or a line of more than 1,048,576 bytes.
+    /// The line can't be read as a header, a variable, a waiting block of a checkpoint or an event, whichever is due, or what would be
+    /// accepted has no line: a block with a `catch` in format 1, or a line of more than 1,048,576 bytes.
     Unreadable,
 }
 

@@ -2,13 +2,15 @@
 
 ghost use Rattle.stm_history.specs.Explanation.{ExpectedLeadsOn, OneEventOfACall, RefusedAreIllegal};
 ghost use Rattle.stm_event_lines.specs.WholeBlocks.{CheckedAreWellTyped};
-ghost use Rattle.stm_history.specs.FileLaws.{EachLineIsOneEvent, EventsAreLines, LinesBeginWithBraces, NumbersAreFixed, TextsAreOfOneHistory, HistoriesAreTaken, FaultsAreFixed, WhatIsWrittenIsTaken};
+ghost use Rattle.stm_history.specs.FileLaws.{EachLineIsOneEvent, EventsAreLines, CheckpointsAreLines, LinesBeginWithBraces, CheckpointsBeginWithBraces, NumbersAreFixed, TextsAreOfOneHistory, HistoriesAreTaken, FaultsAreFixed, WhatIsWrittenIsTaken, WhatIsKeptIsTaken};
 
 /// Different events have different lines, and none has a line feed or a 0. Each line of a history begins with `{`.
 pub fn each_line_is_one_event()
     ensures one { EachLineIsOneEvent }
     ensures lines { EventsAreLines }
+    ensures checkpoints { CheckpointsAreLines }
     ensures braces { LinesBeginWithBraces }
+    ensures checkpoint_braces { CheckpointsBeginWithBraces }
 {}
 
 /// The numbers of a text are fixed: bytes are the text of legal histories with the same numbers only.
@@ -16,7 +18,7 @@ pub fn numbers_are_fixed()
     ensures { NumbersAreFixed }
 {}
 
-/// No two histories over tables have one text, and no history has one text in two formats.
+/// No two histories have one text, and no history has one text in two formats.
 pub fn texts_are_of_one_history()
     ensures { TextsAreOfOneHistory }
 {}
@@ -32,9 +34,15 @@ pub fn faults_are_fixed()
     ensures { FaultsAreFixed }
 {}
 
-/// What `write_history` writes of a legal history, `check_history` takes, and so its text in each format that is read.
+/// What `write_history` writes of a legal history over a table, `check_history` takes, and so its text in each format that is read.
 pub fn what_is_written_is_taken()
     ensures { WhatIsWrittenIsTaken }
+{}
+
+/// What `write_history` writes of a legal history, from a checkpoint or not, `load_history` loads as that history if no line is too
+/// long.
+pub fn what_is_kept_is_taken()
+    ensures { WhatIsKeptIsTaken }
 {}
 
 /// A block that a text parses and checks to is well typed.

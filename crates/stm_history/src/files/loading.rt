@@ -1,12 +1,15 @@
 //! Whole files, read to go on from.
 
-ghost use Rattle.std.specs.Prelude.{◌≡◌, [], true, ℕ, List, OnOk, IfOk, IfErr, IfSome, is_some};
+ghost use Rattle.std.specs.Prelude.{◌≡◌, ◌≢◌, [], true, ℕ, List, None, OnOk, IfOk, IfErr, IfSome, is_some};
 ghost use Rattle.stm_events.specs.Laws.{SubmittedAreWellTyped};
 ghost use Rattle.stm_events.specs.declared.event.Event.{Event as AnyEvent};
+ghost use Rattle.stm_events.specs.States.{IsLegalFrom};
 ghost use Rattle.stm_event_lines.specs.Lines.{latest_format};
-ghost use Rattle.stm_history.specs.Loading.{HasText, IsWholeHistory, ReportsLoadFault};
-ghost use Rattle.stm_history.specs.Stages.{keeps, Reached, IsLoaded};
-ghost use Rattle.stm_events.specs.SlowDesk.{IsLegal, state};
+ghost use Rattle.stm_machine.specs.Checkpoints.{MayStart, start_of};
+ghost use Rattle.stm_history.specs.Loading.{HasText, IsWholeHistory, ReportsLoadFault, loaded_start};
+ghost use Rattle.stm_history.specs.Starts.{BlocksAreOfText};
+ghost use Rattle.stm_history.specs.Stages.{keeps, Reached, IsLatest, IsLoaded};
+ghost use Rattle.stm_events.specs.SlowDesk.{state_from};
 ghost use Rattle.stm_machine.specs.Machine.{IsAt};
 
 use crate::files::check::{Checker, Stage, read_all};
@@ -16,6 +19,7 @@ use std::alloc::Global;
 use std::io::Read;
 use stm_event_lines::formats::LATEST_FORMAT;
 use stm_events::event::Event;
+use stm_machine::checkpoint::Checkpoint;
 use stm_machine::machine::Machine;
 use stm_store::{Seed, Table};
 
@@ -24,13 +28,14 @@ use stm_store::{Seed, Table};
 pub enum LoadFault {
     /// It is no legal history: its first error.
     Fault(HistoryFault),
-    /// It is legal, in an earlier format, whose rule of what becomes stale no desk goes by.
+    /// It is legal, in format 1 or 2, by whose rule of what becomes stale no desk goes.
     OldFormat(u32),
 }
 
-/// A legal history: its table, its events, and the machine that they lead to.
+/// A legal history: its table, the checkpoint that it begins from if it does, its events, and the machine that they lead to.
 pub struct Loaded {
     pub table: Table,
+    pub checkpoint: Option<Checkpoint>,
     pub events: Vec<Event>,
     pub machine: Machine,
 }
@@ -40,6 +45,7 @@ impl Drop for Loaded {
     fn drop(self) {
         let Loaded {
             table: _,
+            checkpoint: _,
             events: _,
             machine: _,
         } = self;
@@ -47,25 +53,28 @@ impl Drop for Loaded {
 }
 
 impl Loaded {
-    /// The table, the events and the machine.
-    pub fn into_parts(self) -> (Table, Vec<Event>, Machine)
+    /// The table, the checkpoint, the events and the machine.
+    pub fn into_parts(self) -> (Table, Option<Checkpoint>, Vec<Event>, Machine)
         ensures table { result.0 ≡ self.table }
-        ensures events { result.1 ≡ self.events }
-        ensures machine { result.2 ≡ self.machine }
+        ensures checkpoint { result.1 ≡ self.checkpoint }
+        ensures events { result.2 ≡ self.events }
+        ensures machine { result.3 ≡ self.machine }
     {
         let Loaded {
             table,
+            checkpoint,
             events,
             machine,
         } = self;
-        (table, events, machine)
+        (table, checkpoint, events, machine)
     }
 }
 
 /// What a replayer that keeps the events has come to.
-fn loaded_of(table: Table, replayer: Replayer) -> Loaded
+fn loaded_of(table: Table, checkpoint: Option<Checkpoint>, replayer: Replayer) -> Loaded
     requires { is_some replayer.kept ≡ true }
     ensures table { result.table ≡ table }
+    ensures checkpoint { result.checkpoint ≡ checkpoint }
     ensures machine { result.machine ≡ replayer.machine }
     ensures events { (H : List AnyEvent) → IfSome replayer.kept (λ events. events.items ≡ H)
         → result.events.items ≡ H }
@@ -79,10 +88,29 @@ fn loaded_of(table: Table, replayer: Replayer) -> Loaded
     match kept {
         Some(events) => Loaded {
             table,
+            checkpoint,
             events,
             machine,
         },
         None => unreachable!(),
+    }
+}
+
+/// Whether a history may go on from its format, or begins from a checkpoint; `OldFormat` if not.
+fn is_latest(format: u32, checkpoint: &Option<Checkpoint>) -> Result<(), LoadFault>
+    ensures ok { OnOk result (IsLatest format checkpoint.now) }
+    ensures fault { IfErr result (λ e. (e ≡ LoadFault.OldFormat format) × (format ≢ latest_format)
+        × (checkpoint.now ≡ None)) }
+{
+    match checkpoint {
+        Some(_) => Ok(()),
+        None => {
+            if format == LATEST_FORMAT {
+                Ok(())
+            } else {
+                Err(LoadFault::OldFormat(format))
+            }
+        }
     }
 }
 
@@ -103,13 +131,13 @@ impl Checker {
         match &self.stage {
             Stage::Before { .. } => unreachable!(),
             Stage::Declaring { .. } => unreachable!(),
-            Stage::Running { format, .. } => {
-                if *format == LATEST_FORMAT {
-                    Ok(())
-                } else {
-                    Err(LoadFault::OldFormat(*format))
-                }
-            }
+            Stage::AtCells { .. } => unreachable!(),
+            Stage::AtBlocks { .. } => unreachable!(),
+            Stage::Running {
+                format,
+                checkpoint,
+                ..
+            } => is_latest(*format, checkpoint),
         }
     }
 
@@ -119,9 +147,8 @@ impl Checker {
         requires stage { IsLoaded self.stage }
         requires line { self.line.items ≡ [] }
         ensures history { (taken : List ℕ) → Reached self.stage self.whole self.line.items taken
-            → IsWholeHistory latest_format taken result.table result.events.items }
-        ensures legal { IsLegal result.table result.events.items }
-        ensures at { IsAt result.machine (state result.table result.events.items) }
+            → IsWholeHistory (loaded_start result) taken result.events.items }
+        ensures at { IsAt result.machine (state_from (start_of result.table result.checkpoint) result.events.items) }
     {
         let Checker {
             alloc: _,
@@ -133,11 +160,14 @@ impl Checker {
         match stage {
             Stage::Before { .. } => unreachable!(),
             Stage::Declaring { .. } => unreachable!(),
+            Stage::AtCells { .. } => unreachable!(),
+            Stage::AtBlocks { .. } => unreachable!(),
             Stage::Running {
                 format: _,
                 table,
+                checkpoint,
                 replayer,
-            } => loaded_of(table, replayer),
+            } => loaded_of(table, checkpoint, replayer),
         }
     }
 }
@@ -160,18 +190,21 @@ fn load_rest<R: Read>(checker: &mut Checker, reader: &mut R) -> Result<(), LoadF
     }
 }
 
-/// Reads the text of a legal history of the latest format to its end, line by line, and keeps what it read. It judges as
+/// Reads the text of a legal history of format 3 or 4 to its end, line by line, and keeps what it read. It judges as
 /// `check_history_with` does, and evaluates each installed verdict once. The names of variables are looked up under the seed.
 pub fn load_history<R: Read>(alloc: Global, seed: Seed, reader: &mut R) -> Result<Loaded, LoadFault>
     // The bytes are the text of the history.
     ensures ok { IfOk result (λ h. IfSome (R.remaining reader.old) (λ bytes.
-        IsWholeHistory latest_format bytes h.table h.events.items)) }
-    // It is legal, whatever the reader was, and the machine is at the state that it leads to.
-    ensures legal { IfOk result (λ h. IsLegal h.table h.events.items) }
-    ensures at { IfOk result (λ h. IsAt h.machine (state h.table h.events.items)) }
-    ensures text { IfOk result (λ h. HasText h.table h.events.items) }
-    // Each block that is submitted in it is well typed.
+        IsWholeHistory (loaded_start h) bytes h.events.items)) }
+    // It may begin where it does, and is legal from there, whatever the reader was; and the machine is at the state that it leads to.
+    ensures start { IfOk result (λ h. MayStart h.table h.checkpoint) }
+    ensures legal { IfOk result (λ h. IsLegalFrom (start_of h.table h.checkpoint) h.events.items) }
+    ensures at { IfOk result (λ h. IsAt h.machine
+        (state_from (start_of h.table h.checkpoint) h.events.items)) }
+    ensures text { IfOk result (λ h. HasText (loaded_start h) h.events.items) }
+    // Each block that is submitted in it is well typed, and each waiting block of the checkpoint is that of its text.
     ensures typed { IfOk result (λ h. SubmittedAreWellTyped h.events.items) }
+    ensures blocks { IfOk result (λ h. IfSome h.checkpoint (BlocksAreOfText h.table)) }
     // Otherwise the first error of the bytes is reported, or their format.
     ensures fault { IfErr result (λ e.
         IfSome (R.remaining reader.old) (λ bytes. ReportsLoadFault e bytes)) }

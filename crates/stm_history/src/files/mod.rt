@@ -1,6 +1,8 @@
 //! Whole histories: written, checked line by line, and replayed.
 
+pub mod beginning;
 pub mod check;
+pub mod defaults;
 pub mod expecting;
 pub mod explaining;
 pub mod explanation;

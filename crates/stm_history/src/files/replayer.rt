@@ -1,11 +1,12 @@
 //! What goes through a history: the machine that the events so far lead to, and a list of them if it is to keep one.
 
-ghost use Rattle.std.specs.Prelude.{◌≡◌, List, [], IfOk, IfSome, is_some};
+ghost use Rattle.std.specs.Prelude.{◌≡◌, List, [], None, Some, IfOk, IfSome, is_some};
 
 use crate::files::fault::Legal;
 use std::alloc::Global;
+use stm_event_lines::formats::staleness_rule;
 use stm_events::event::Event as OneEvent;
-use stm_events::staleness::StalenessRule;
+use stm_machine::checkpoint::Checkpoint;
 use stm_machine::machine::Machine;
 use stm_store::{Frozen, Table};
 use stm_terms::NoMemory;
@@ -34,22 +35,44 @@ fn none_kept(alloc: Global, keep: bool) -> Option<Vec<OneEvent>>
 impl Replayer {
     ghost use Rattle.stm_store.specs.Tables.{Declared};
     ghost use Rattle.stm_events.specs.declared.event.Event.{Event};
-    ghost use Rattle.stm_events.specs.declared.staleness.StalenessRule.{StalenessRule as AnyRule};
     ghost use Rattle.stm_history.specs.Following.{Follows};
-    ghost use Rattle.stm_history.specs.Judgement.{numbers_by};
+    ghost use Rattle.stm_event_lines.specs.CheckpointLines.{checkpoint_format};
+    ghost use Rattle.stm_history.specs.Judgement.{numbers_from};
+    ghost use Rattle.stm_history.specs.Starts.{Start};
 
-    /// The variables of a table, and no event. The caller says whether events are to be kept.
+    /// The variables of a table, in a format, and no event. The caller says whether events are to be kept.
     pub(crate) fn open(
         alloc: Global,
-        rule: StalenessRule,
+        format: u32,
         table: &Table,
         keep: bool,
     ) -> Result<Replayer, NoMemory>
-        ensures follows { IfOk result (λ r. Follows rule table.now [] r) }
+        ensures follows { IfOk result (λ r.
+            Follows (record { format = format; table = table.now; checkpoint = None }) [] r) }
         ensures keeps { IfOk result (λ r. is_some r.kept ≡ keep) }
     {
         Ok(Replayer {
-            machine: Machine::open(alloc, rule, table)?,
+            machine: Machine::open(alloc, staleness_rule(format), table)?,
+            events: 0,
+            copy: None,
+            kept: none_kept(alloc, keep),
+        })
+    }
+
+    /// A checkpoint, and no event. The caller says whether events are to be kept.
+    pub(crate) fn open_from(
+        alloc: Global,
+        checkpoint: &Checkpoint,
+        keep: bool,
+    ) -> Result<Replayer, NoMemory>
+        ensures follows { IfOk result (λ r. (T : List Declared)
+            → Follows (record { format = checkpoint_format; table = T; checkpoint = Some checkpoint.now }) [] r) }
+        ensures keeps { IfOk result (λ r. is_some r.kept ≡ keep) }
+    {
+        // The next ticket is known to be low by this.
+        let _next = checkpoint.next();
+        Ok(Replayer {
+            machine: Machine::from_checkpoint(alloc, checkpoint)?,
             events: 0,
             copy: None,
             kept: none_kept(alloc, keep),
@@ -58,9 +81,8 @@ impl Replayer {
 
     /// The numbers of the history so far.
     pub(crate) fn numbers(&self) -> Legal
-        requires { (R : AnyRule) × (T : List Declared) × (H : List Event) × Follows R T H self.now }
-        ensures { (R : AnyRule) (T : List Declared) (H : List Event) → Follows R T H self.now
-            → result ≡ numbers_by R T H }
+        requires { (S : Start) × (H : List Event) × Follows S H self.now }
+        ensures { (S : Start) (H : List Event) → Follows S H self.now → result ≡ numbers_from S H }
     {
         Legal {
             events: self.events,

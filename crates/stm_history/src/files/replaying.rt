@@ -1,27 +1,28 @@
 //! Lists of events, judged.
 
-ghost use Rattle.std.specs.Prelude.{◌≡◌, [], List, IfOk, IfErr, OnOk};
+ghost use Rattle.std.specs.Prelude.{◌≡◌, [], List, None, IfOk, IfErr, OnOk};
 ghost use Rattle.stm_store.specs.Tables.{Declared};
 ghost use Rattle.stm_history.specs.Following.{Follows};
 ghost use Rattle.stm_history.specs.Judgement.{numbers, Refuses};
+ghost use Rattle.stm_history.specs.Starts.{written_start};
 ghost use Rattle.stm_events.specs.SlowDesk.{IsLegal};
 
 use crate::files::fault::{HistoryFault, Legal};
 use crate::files::replayer::Replayer;
 use crate::files::stepping::StepError;
 use std::alloc::Global;
+use stm_event_lines::formats::LATEST_FORMAT;
 use stm_events::event::Event;
-use stm_events::staleness::StalenessRule;
 use stm_store::Table;
 
 /// Takes the events of a list, one after another, before any of which was taken. `NotLegal` counts them from 1.
 fn step_all(replayer: &mut Replayer, history: &[Event]) -> Result<(), HistoryFault>
-    requires { (T : List Declared) × Follows StalenessRule.Changed T [] replayer.old }
+    requires { (T : List Declared) × Follows (written_start T None) [] replayer.old }
     ensures done { OnOk result ((T : List Declared)
-        → Follows StalenessRule.Changed T [] replayer.old
-        → Follows StalenessRule.Changed T history.now replayer.new) }
+        → Follows (written_start T None) [] replayer.old
+        → Follows (written_start T None) history.now replayer.new) }
     ensures fault { IfErr result (λ e. (T : List Declared)
-        → Follows StalenessRule.Changed T [] replayer.old → Refuses e T history.now) }
+        → Follows (written_start T None) [] replayer.old → Refuses e T history.now) }
 {
     for event in history {
         let number = replayer.events + 1;
@@ -42,7 +43,7 @@ pub fn replay(alloc: Global, table: &Table, history: &[Event]) -> Result<Legal, 
     // Otherwise the first event that isn't allowed is reported.
     ensures fault { IfErr result (λ e. Refuses e table.now history.now) }
 {
-    let mut replayer = match Replayer::open(alloc, StalenessRule::Changed, table, false) {
+    let mut replayer = match Replayer::open(alloc, LATEST_FORMAT, table, false) {
         Ok(replayer) => replayer,
         Err(_) => return Err(HistoryFault::NoMemory),
     };

@@ -2,17 +2,16 @@
 
 ghost use Rattle.std.specs.Prelude.{◌≡◌, ◌↔◌, ◌++◌, ◌∷◌, [], List, OnOk, IfSome, IsErrOf, IsTrue, is_some, Some};
 ghost use Rattle.stm_store.specs.Cells.{plains};
-ghost use Rattle.stm_store.specs.Tables.{Declared};
 ghost use Rattle.stm_eval.specs.EvaluatedFields.{message_ticket, message_verdict};
 ghost use Rattle.stm_events.specs.declared.event.Event.{Event as AnyEvent};
 ghost use Rattle.stm_events.specs.declared.event.What.TheVariants.{Submitted, Installed, Finished, Cancelled};
-ghost use Rattle.stm_events.specs.declared.staleness.StalenessRule.{StalenessRule};
 ghost use Rattle.stm_events.specs.SlowDesk.{Slow};
 ghost use Rattle.stm_machine.specs.JobsHandedOut.{IsPresent};
 ghost use Rattle.stm_machine.specs.Machine.{IsAt, HasTicketLeft, MayDeliver, MovesBy};
 ghost use Rattle.stm_machine.specs.Plans.{IsPlan};
 ghost use Rattle.stm_history.specs.Following.{IsForbidden, Follows};
-ghost use Rattle.stm_history.specs.Judgement.{IsIllegalBy};
+ghost use Rattle.stm_history.specs.Judgement.{IsIllegalFrom};
+ghost use Rattle.stm_history.specs.Starts.{Start};
 
 use crate::files::replayer::{MAX_EVENTS, Replayer};
 use stm_check::SharedBlock;
@@ -345,13 +344,11 @@ impl Replayer {
 
     /// One event more, exactly where it may follow. After an error nothing is promised.
     pub(crate) fn step(&mut self, event: &Event) -> Result<(), StepError>
-        requires { (R : StalenessRule) × (T : List Declared) × (H : List AnyEvent)
-            × Follows R T H self.old }
-        ensures done { OnOk result ((R : StalenessRule) (T : List Declared) (H : List AnyEvent)
-            → Follows R T H self.old → Follows R T (H ++ event.now ∷ []) self.new) }
+        requires { (S : Start) × (H : List AnyEvent) × Follows S H self.old }
+        ensures done { OnOk result ((S : Start) (H : List AnyEvent)
+            → Follows S H self.old → Follows S (H ++ event.now ∷ []) self.new) }
         ensures not_allowed { IsErrOf result StepError.NotAllowed
-            → (R : StalenessRule) (T : List Declared) (H : List AnyEvent) → Follows R T H self.old
-            → IsIllegalBy R T H event.now }
+            → (S : Start) (H : List AnyEvent) → Follows S H self.old → IsIllegalFrom S H event.now }
         ensures keeps { OnOk result (is_some self.new.kept ≡ is_some self.old.kept) }
     {
         if event.client >= Event::MAX_CLIENTS || self.events >= MAX_EVENTS {

@@ -49,11 +49,16 @@ fn next_number(stage: &Stage) -> u32
     match stage {
         Stage::Before { .. } => 1,
         Stage::Declaring { table, .. } => table.len() as u32 + 2,
+        Stage::AtCells { cells, .. } => cells.len() as u32 + 2,
+        Stage::AtBlocks { checkpoint, .. } => {
+            checkpoint.store().len() as u32 + checkpoint.blocks().len() as u32 + 2
+        }
         Stage::Running {
             table,
+            checkpoint,
             replayer,
             ..
-        } => line_number(table, replayer),
+        } => line_number(table, checkpoint, replayer),
     }
 }
 

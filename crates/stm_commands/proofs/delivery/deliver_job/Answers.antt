@@ -3,12 +3,12 @@ use Rattle.stm_commands.proofs.delivery.deliver_job.Goals as goal
 
 pub returns-in-Ok-clause-told : goal.returns-in-Ok-clause-told
 returns-in-Ok-clause-told c =
-    reason_if_ok c.blocks_stay.ensures c.args.desk.now c.args.store.now c.args.job c.in-Ok.message c.deliver_message.result c.requires.legal c.requires.stands
+    reason_if_ok c.args.desk.now c.args.store.now c.args.job c.in-Ok.message c.deliver_message.result c.requires.stands
     c.in-Ok.ensures.job.0 c.in-Ok.ensures.job.1 c.in-Ok.ensures.reads c.deliver_message.ensures.refused
 
 pub returns-in-Ok-clause-done : goal.returns-in-Ok-clause-done
 returns-in-Ok-clause-done c =
     done_if_ok c.args.desk.now _ c.args.store.now c.args.job c.in-Ok.message c.deliver_message.result c.in-Ok.ensures.job.0 c.in-Ok.ensures.verdict
-    (reason_if_ok c.blocks_stay.ensures c.args.desk.now c.args.store.now c.args.job c.in-Ok.message c.deliver_message.result c.requires.legal c.requires.stands
+    (reason_if_ok c.args.desk.now c.args.store.now c.args.job c.in-Ok.message c.deliver_message.result c.requires.stands
     c.in-Ok.ensures.job.0 c.in-Ok.ensures.job.1 c.in-Ok.ensures.reads c.deliver_message.ensures.refused)
     c.deliver_message.ensures.done

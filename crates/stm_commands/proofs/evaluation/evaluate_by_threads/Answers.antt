@@ -1,8 +1,9 @@
 use Rattle.stm_commands.proofs.Deliveries.{evaluated_all, given_queued}
+use Rattle.stm_commands.proofs.LegalDesks.{desk_possible}
 use Rattle.stm_commands.proofs.evaluation.evaluate_by_threads.Goals as goal
 
 pub evaluate_jobs-requires-clause-stand : goal.evaluate_jobs-requires-clause-stand
-evaluate_jobs-requires-clause-stand g c = λ κs lives. given_queued c.args.desk.now _ _ _ c.in-Ok.ensures.out c.in-Ok.ensures.blocks c.in-Ok.ensures.covered
+evaluate_jobs-requires-clause-stand g c = λ κs lives. given_queued c.args.desk.now _ _ _ (desk_possible c.args.desk.now c.requires.start c.requires.legal) c.in-Ok.ensures.out c.in-Ok.ensures.blocks c.in-Ok.ensures.covered
 
 pub returns-in-Ok-clause-done : goal.returns-in-Ok-clause-done
 returns-in-Ok-clause-done g c =

@@ -6,7 +6,7 @@ pub returns-in-Ok-clause-done : goal.returns-in-Ok-clause-done
 returns-in-Ok-clause-done c = evaluated_here c.args.desk.now _ _ 65536 _ refl c.in-Ok.ensures.done c.history-events.ensures.queue c.history-events.ensures.rising c.history-events.ensures.verdicts
 
 pub returns-in-Ok-clause-grown : goal.returns-in-Ok-clause-grown
-returns-in-Ok-clause-grown c = evaluated_grown c.args.desk.now 65536 _ c.in-Ok.ensures.done c.history-after.ensures.legal
+returns-in-Ok-clause-grown c = evaluated_grown c.args.desk.now 65536 _ c.in-Ok.ensures.done c.history-after.ensures.start c.history-after.ensures.legal
 
 pub returns-in-Err-clause-grown : goal.returns-in-Err-clause-grown
-returns-in-Err-clause-grown c = evaluated_grown c.args.desk.now _ _ (sym c.in-Err.ensures.stopped.done) c.history-after.ensures.legal
+returns-in-Err-clause-grown c = evaluated_grown c.args.desk.now _ _ (sym c.in-Err.ensures.stopped.done) c.history-after.ensures.start c.history-after.ensures.legal

@@ -14,7 +14,7 @@ loop-job-init g c =
       left = subst (AreLeft c.args.store.now (record { desk = c.args.desk.now; count = 0; stop = None })
           (delivered_all (record { desk = c.args.desk.now; count = 0; stop = None }) (map (handed_out c.args.store.now) c.args.jobs.items))) (sym e)
           (record { covered = c.requires.covered; stand = c.requires.stand; done = refl });
-      grown = grown_same _ _ refl c.requires.legal;
+      grown = grown_same _ _ refl c.requires.start c.requires.legal;
       same_store = refl;
       few = let n : length (c.new-batch.result.items ++ c.into_iter-job-iterator.result.rest.items) ≡ length c.args.jobs.items = ap (λ (js : List Job). length js) e in omega (arith, n);
     }
@@ -28,6 +28,9 @@ evaluate_batch-requires-clause-few g c κs within =
     let f = batch_fits c.loop-job.so_far.count (length c.args.jobs.items) 65536 c.replace-full.result.items c.next.new.self.rest.items
     (subst (λ (js : List Job). c.loop-job.so_far.count + length js ≤ length c.args.jobs.items) q c.loop-job.invariant.few) (search rules) in
     omega (arith, f, m)
+
+pub evaluate_batch-requires-clause-start : goal.evaluate_batch-requires-clause-start
+evaluate_batch-requires-clause-start g c κs within = c.loop-job.invariant.grown.start
 
 pub evaluate_batch-requires-clause-legal : goal.evaluate_batch-requires-clause-legal
 evaluate_batch-requires-clause-legal g c κs within = c.loop-job.invariant.grown.legal
@@ -97,6 +100,9 @@ evaluate_batch-requires-2-clause-few g c κs within =
     let m : length c.loop-job.batch.items ≡ vec_len c.loop-job.batch = search rules in
     let f = batch_fits c.loop-job.so_far.count (length c.args.jobs.items) 65536 c.loop-job.batch.items c.loop-job.job-iterator.rest.items c.loop-job.invariant.few (search rules) in
     omega (arith, f, m)
+
+pub evaluate_batch-requires-2-clause-start : goal.evaluate_batch-requires-2-clause-start
+evaluate_batch-requires-2-clause-start g c κs within = c.loop-job.invariant.grown.start
 
 pub evaluate_batch-requires-2-clause-legal : goal.evaluate_batch-requires-2-clause-legal
 evaluate_batch-requires-2-clause-legal g c κs within = c.loop-job.invariant.grown.legal

@@ -1,5 +1,5 @@
 use Rattle.std.proofs.Common.{rules}
-use Rattle.stm_durable_run.proofs.VerdictsInRange.{range_more}
+use Rattle.stm_durable_run.proofs.RangesSoFar.{range_more}
 use Rattle.stm_durable_run.proofs.ranges.are_in_range.Goals as goal
 
 pub loop-event-preserved : goal.loop-event-preserved

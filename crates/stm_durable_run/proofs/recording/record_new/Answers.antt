@@ -2,8 +2,8 @@ use Rattle.std.proofs.Common.{IsTrue, sym, subst}
 use Rattle.stm_journal.specs.Device.{LeavesOnly}
 use Rattle.stm_run.specs.declared.console.Console.{Console}
 use Rattle.stm_durable_run.specs.DurableRun.{KeepsConsole, LeavesBetween}
-use Rattle.stm_durable_run.specs.Committing.{MayCommit, committed}
-use Rattle.stm_durable_run.proofs.RecordedEvents.{grown, between_still, declaring_count, declaring_kept}
+use Rattle.stm_durable_run.specs.Committing.{MayCommit}
+use Rattle.stm_durable_run.proofs.RecordedEvents.{between_still, declaring_count, declaring_kept}
 use Rattle.stm_durable_run.proofs.recording.record_new.Goals as goal
 
 pub returns-in-Declaring-clause-count : goal.returns-in-Declaring-clause-count
@@ -14,13 +14,13 @@ returns-in-Declaring-clause-recorded g c = λ honest.
     let D = g.D.Device in
     let f = c.args.file.now in
     let m = c.requires in
-    declaring_kept D.seen D.may_leave f.journal.device f.journal.sync f.journal.len f.begun (committed m) _ _ _ c.in-Declaring.is (grown _ _ _ m) (m.kept honest)
+    declaring_kept D.seen D.may_leave f.journal.device f.journal.sync f.journal.len f.begun m.committed _ _ _ c.in-Declaring.is m.grows (m.kept honest)
 
 pub returns-in-Declaring-clause-any_moment : goal.returns-in-Declaring-clause-any_moment
 returns-in-Declaring-clause-any_moment g c = λ honest m.
     let D = g.D.Device in
     let f = c.args.file.now in
-    between_still D.seen D.may_leave D.moment D.left_since f.journal.device f.journal.sync f.journal.len f.begun D.fills_with_zeros (committed m) c.args.console.now (grown _ _ _ m) (m.kept honest)
+    between_still D.seen D.may_leave D.moment D.left_since f.journal.device f.journal.sync f.journal.len f.begun D.fills_with_zeros m.committed c.args.console.now m.grows (m.kept honest)
     (g.met.D.Device.only_now f.journal.device)
 
 pub returns-in-Open-clause-any_moment : goal.returns-in-Open-clause-any_moment
@@ -28,4 +28,4 @@ returns-in-Open-clause-any_moment g c = λ honest.
     let D = g.D.Device in
     let f = c.args.file.now in
     subst (λ (t : Console). (m : MayCommit (λ s. IsTrue D.is_honest → KeepsConsole D.seen D.may_leave f.journal.device f.journal.sync f.journal.len f.begun s) t c.args.recorded)
-    → LeavesOnly D.moment D.left_since f.journal.device c.record_open.new.file.journal.device (LeavesBetween f.journal.sync D.fills_with_zeros (committed m) t)) (sym c.in-Open.is) (c.record_open.ensures.any_moment honest)
+    → LeavesOnly D.moment D.left_since f.journal.device c.record_open.new.file.journal.device (LeavesBetween f.journal.sync D.fills_with_zeros m.committed t)) (sym c.in-Open.is) (c.record_open.ensures.any_moment honest)

@@ -1,4 +1,4 @@
-use Rattle.std.proofs.Common.{◌≡◌, ℕ, List, [], ◌∷◌, ◌++◌, Err, IsTrue, ap, ◌∙◌}
+use Rattle.std.proofs.Common.{◌≡◌, inr, ℕ, List, [], ◌∷◌, ◌++◌, Err, IsTrue, ap, ◌∙◌}
 use Rattle.std.specs.Io.KnownBytes.{prepend_known}
 use Rattle.std.proofs.KnownBytes.{prepend_known-nil}
 use Rattle.stm_lines.specs.LineClass.{line_class}
@@ -7,7 +7,7 @@ use Rattle.stm_lines.specs.declared.run_fault.RunFault.TheVariants.{Read}
 use Rattle.stm_durable_run.specs.declared.fault.DurableFault.TheVariants.{Run}
 use Rattle.stm_durable_run.specs.DurableRun.{KeepsConsole}
 use Rattle.stm_durable_run.proofs.Committing.{may_commit, finished, stopped_after, failed}
-use Rattle.stm_durable_run.proofs.RunCrashes.{input_run, lines_run, lines_still}
+use Rattle.stm_durable_run.proofs.RunCrashes.{input_run, events_run, lines_still}
 use Rattle.stm_durable_run.proofs.Running.{come_begins, comes_on, on_begins, last_lines, last_begins, ends_with, ends_here, whole_answered, failed_run}
 use Rattle.stm_durable_run.proofs.streams.answer_next.Goals as goal
 
@@ -16,7 +16,7 @@ pub returns-in-Ok-clause-done : goal.returns-in-Ok-clause-done
 returns-in-Ok-clause-done g c = λ first input old h.
     let w = rw c.in-Ok-Whole.field-0-is at c.in-Ok-Whole.ensures.line in
     let same : line_class c.line.result.now ≡ line_class (drop_return w.0) = ap line_class c.line.ensures ∙ w.2 in
-    comes_on _ first input _ old _ _ _ _ h _ w.0 _ _ _ _ _ w.1 (c.in-Ok.ensures.done first h.lines old (drop_return w.0) same h.after)
+    comes_on _ c.args.every first input _ old _ _ _ _ h _ w.0 _ _ _ _ _ w.1 (c.in-Ok.ensures.done first h.lines old (drop_return w.0) same h.after)
 
 pub returns-in-Ok-clause-any_moment : goal.returns-in-Ok-clause-any_moment
 returns-in-Ok-clause-any_moment g c = λ honest first input old h.
@@ -24,16 +24,16 @@ returns-in-Ok-clause-any_moment g c = λ honest first input old h.
     let f = c.args.file.now in
     let w = rw c.in-Ok-Whole.field-0-is at c.in-Ok-Whole.ensures.line in
     let same : line_class c.line.result.now ≡ line_class (drop_return w.0) = ap line_class c.line.ensures ∙ w.2 in
-    input_run D.moment D.left_since f.journal.sync D.fills_with_zeros first (h.lines ++ drop_return w.0 ∷ []) input f.journal.device c.answer_line.new.file.journal.device
-    (on_begins _ first input _ old _ _ _ _ h _ w.0 w.1) (c.answer_line.ensures.any_moment honest first h.lines old (drop_return w.0) same h.after)
+    input_run D.moment D.left_since f.journal.sync D.fills_with_zeros c.args.every first (h.lines ++ drop_return w.0 ∷ []) input f.journal.device c.answer_line.new.file.journal.device
+    (on_begins _ c.args.every first input _ old _ _ _ _ h _ w.0 w.1) (c.answer_line.ensures.any_moment honest first h.lines old (drop_return w.0) same h.after)
 
 pub returns-in-Err-answer_line-clause-fault : goal.returns-in-Err-answer_line-clause-fault
 returns-in-Err-answer_line-clause-fault g c = λ first input old h.
     let D = g.D.Device in
     let w = rw c.in-Ok-Whole.field-0-is at c.in-Ok-Whole.ensures.line in
     let same : line_class c.line.result.now ≡ line_class (drop_return w.0) = ap line_class c.line.ensures ∙ w.2 in
-    failed_run D.is_honest c.args.file.now.journal.sync D.fills_with_zeros (D.may_leave c.answer_line.new.file.journal.device) _ first (h.lines ++ drop_return w.0 ∷ []) input old _ _
-    (on_begins _ first input _ old _ _ _ _ h _ w.0 w.1) (c.in-Err-answer_line.ensures.fault first h.lines old (drop_return w.0) same h.after)
+    failed_run D.is_honest c.args.file.now.journal.sync D.fills_with_zeros (D.may_leave c.answer_line.new.file.journal.device) _ c.args.every first (h.lines ++ drop_return w.0 ∷ []) input old _ _
+    (on_begins _ c.args.every first input _ old _ _ _ _ h _ w.0 w.1) (c.in-Err-answer_line.ensures.fault first h.lines old (drop_return w.0) same h.after)
 
 pub returns-in-Err-answer_line-clause-any_moment : goal.returns-in-Err-answer_line-clause-any_moment
 returns-in-Err-answer_line-clause-any_moment g c = λ honest first input old h.
@@ -41,15 +41,15 @@ returns-in-Err-answer_line-clause-any_moment g c = λ honest first input old h.
     let f = c.args.file.now in
     let w = rw c.in-Ok-Whole.field-0-is at c.in-Ok-Whole.ensures.line in
     let same : line_class c.line.result.now ≡ line_class (drop_return w.0) = ap line_class c.line.ensures ∙ w.2 in
-    input_run D.moment D.left_since f.journal.sync D.fills_with_zeros first (h.lines ++ drop_return w.0 ∷ []) input f.journal.device c.answer_line.new.file.journal.device
-    (on_begins _ first input _ old _ _ _ _ h _ w.0 w.1) (c.answer_line.ensures.any_moment honest first h.lines old (drop_return w.0) same h.after)
+    input_run D.moment D.left_since f.journal.sync D.fills_with_zeros c.args.every first (h.lines ++ drop_return w.0 ∷ []) input f.journal.device c.answer_line.new.file.journal.device
+    (on_begins _ c.args.every first input _ old _ _ _ _ h _ w.0 w.1) (c.answer_line.ensures.any_moment honest first h.lines old (drop_return w.0) same h.after)
 
 -- ---- the last line
 pub returns-in-Ok-answer_line-clause-done : goal.returns-in-Ok-answer_line-clause-done
 returns-in-Ok-answer_line-clause-done g c = λ first input old h.
     let w = rw c.in-Ok-Last.field-0-is at c.in-Ok-Last.ensures.line in
     let same : line_class c.line-in-Ok-Last.result.now ≡ line_class w.0 = ap line_class c.line-in-Ok-Last.ensures ∙ w.3 in
-    ends_with _ first input _ old _ _ _ _ h _ w.0 _ _ _ _ _ w.1 w.2 (c.in-Ok-answer_line.ensures.done first h.lines old w.0 same h.after)
+    ends_with _ c.args.every first input _ old _ _ _ _ h _ w.0 _ _ _ _ _ w.1 w.2 (c.in-Ok-answer_line.ensures.done first h.lines old w.0 same h.after)
 
 pub returns-in-Ok-answer_line-clause-any_moment : goal.returns-in-Ok-answer_line-clause-any_moment
 returns-in-Ok-answer_line-clause-any_moment g c = λ honest first input old h.
@@ -57,16 +57,16 @@ returns-in-Ok-answer_line-clause-any_moment g c = λ honest first input old h.
     let f = c.args.file.now in
     let w = rw c.in-Ok-Last.field-0-is at c.in-Ok-Last.ensures.line in
     let same : line_class c.line-in-Ok-Last.result.now ≡ line_class w.0 = ap line_class c.line-in-Ok-Last.ensures ∙ w.3 in
-    input_run D.moment D.left_since f.journal.sync D.fills_with_zeros first (h.lines ++ w.0 ∷ []) input f.journal.device c.answer_line-in-Ok-Last.new.file.journal.device
-    (last_begins (h.lines ++ w.0 ∷ []) input (last_lines _ first input _ old _ _ _ _ h _ w.0 w.1 w.2)) (c.answer_line-in-Ok-Last.ensures.any_moment honest first h.lines old w.0 same h.after)
+    input_run D.moment D.left_since f.journal.sync D.fills_with_zeros c.args.every first (h.lines ++ w.0 ∷ []) input f.journal.device c.answer_line-in-Ok-Last.new.file.journal.device
+    (last_begins (h.lines ++ w.0 ∷ []) input (last_lines _ c.args.every first input _ old _ _ _ _ h _ w.0 w.1 w.2)) (c.answer_line-in-Ok-Last.ensures.any_moment honest first h.lines old w.0 same h.after)
 
 pub returns-in-Err-answer_line-2-clause-fault : goal.returns-in-Err-answer_line-2-clause-fault
 returns-in-Err-answer_line-2-clause-fault g c = λ first input old h.
     let D = g.D.Device in
     let w = rw c.in-Ok-Last.field-0-is at c.in-Ok-Last.ensures.line in
     let same : line_class c.line-in-Ok-Last.result.now ≡ line_class w.0 = ap line_class c.line-in-Ok-Last.ensures ∙ w.3 in
-    failed_run D.is_honest c.args.file.now.journal.sync D.fills_with_zeros (D.may_leave c.answer_line-in-Ok-Last.new.file.journal.device) _ first (h.lines ++ w.0 ∷ []) input old _ _
-    (last_begins (h.lines ++ w.0 ∷ []) input (last_lines _ first input _ old _ _ _ _ h _ w.0 w.1 w.2)) (c.in-Err-answer_line-2.ensures.fault first h.lines old w.0 same h.after)
+    failed_run D.is_honest c.args.file.now.journal.sync D.fills_with_zeros (D.may_leave c.answer_line-in-Ok-Last.new.file.journal.device) _ c.args.every first (h.lines ++ w.0 ∷ []) input old _ _
+    (last_begins (h.lines ++ w.0 ∷ []) input (last_lines _ c.args.every first input _ old _ _ _ _ h _ w.0 w.1 w.2)) (c.in-Err-answer_line-2.ensures.fault first h.lines old w.0 same h.after)
 
 pub returns-in-Err-answer_line-2-clause-any_moment : goal.returns-in-Err-answer_line-2-clause-any_moment
 returns-in-Err-answer_line-2-clause-any_moment g c = λ honest first input old h.
@@ -74,21 +74,21 @@ returns-in-Err-answer_line-2-clause-any_moment g c = λ honest first input old h
     let f = c.args.file.now in
     let w = rw c.in-Ok-Last.field-0-is at c.in-Ok-Last.ensures.line in
     let same : line_class c.line-in-Ok-Last.result.now ≡ line_class w.0 = ap line_class c.line-in-Ok-Last.ensures ∙ w.3 in
-    input_run D.moment D.left_since f.journal.sync D.fills_with_zeros first (h.lines ++ w.0 ∷ []) input f.journal.device c.answer_line-in-Ok-Last.new.file.journal.device
-    (last_begins (h.lines ++ w.0 ∷ []) input (last_lines _ first input _ old _ _ _ _ h _ w.0 w.1 w.2)) (c.answer_line-in-Ok-Last.ensures.any_moment honest first h.lines old w.0 same h.after)
+    input_run D.moment D.left_since f.journal.sync D.fills_with_zeros c.args.every first (h.lines ++ w.0 ∷ []) input f.journal.device c.answer_line-in-Ok-Last.new.file.journal.device
+    (last_begins (h.lines ++ w.0 ∷ []) input (last_lines _ c.args.every first input _ old _ _ _ _ h _ w.0 w.1 w.2)) (c.answer_line-in-Ok-Last.ensures.any_moment honest first h.lines old w.0 same h.after)
 
 -- ---- no line is left
 pub returns-in-Ok-End-clause-done : goal.returns-in-Ok-End-clause-done
 returns-in-Ok-End-clause-done g c = λ first input old h.
-    ends_here _ first input _ old _ _ _ _ h _ (rw c.in-Ok-End.field-0-is at c.in-Ok-End.ensures.line)
+    ends_here _ c.args.every first input _ old _ _ _ _ h _ (rw c.in-Ok-End.field-0-is at c.in-Ok-End.ensures.line)
 
 pub returns-in-Ok-End-clause-any_moment : goal.returns-in-Ok-End-clause-any_moment
 returns-in-Ok-End-clause-any_moment g c = λ honest first input old h.
     let D = g.D.Device in
     let f = c.args.file.now in
     let a = h.after in
-    input_run D.moment D.left_since f.journal.sync D.fills_with_zeros first h.lines input f.journal.device f.journal.device (come_begins _ first input _ old _ _ _ _ h)
-    (lines_still D.moment D.left_since f.journal.sync D.fills_with_zeros first _ h.lines old _ _ _ _ a D.seen D.may_leave f.journal.device f.journal.len f.begun (a.kept honest) (g.met.D.Device.only_now f.journal.device))
+    input_run D.moment D.left_since f.journal.sync D.fills_with_zeros c.args.every first h.lines input f.journal.device f.journal.device (come_begins _ c.args.every first input _ old _ _ _ _ h)
+    (lines_still D.moment D.left_since f.journal.sync D.fills_with_zeros c.args.every first _ h.lines old _ _ _ _ a.behind D.seen D.may_leave f.journal.device f.journal.len f.begun (a.behind.kept honest) (g.met.D.Device.only_now f.journal.device))
 
 -- ---- the reader failed
 pub returns-in-Ok-commit-clause-fault : goal.returns-in-Ok-commit-clause-fault
@@ -96,9 +96,9 @@ returns-in-Ok-commit-clause-fault g c = λ first input old h.
     let D = g.D.Device in
     let f = c.commit.new.file in
     failed_run D.is_honest c.args.file.now.journal.sync D.fills_with_zeros (D.may_leave f.journal.device)
-    (λ s. IsTrue D.is_honest → KeepsConsole D.seen D.may_leave f.journal.device f.journal.sync f.journal.len f.begun s) first h.lines input old (g.W.Write.contents c.commit.new.writer) (Run c.in-Err.fault)
-    (come_begins _ first input _ old _ _ _ _ h)
-    (stopped_after _ first h.lines old _ _ _ _ h.after (λ s. IsTrue D.is_honest → KeepsConsole D.seen D.may_leave f.journal.device f.journal.sync f.journal.len f.begun s) _
+    (λ s. IsTrue D.is_honest → KeepsConsole D.seen D.may_leave f.journal.device f.journal.sync f.journal.len f.begun s) c.args.every first h.lines input old (g.W.Write.contents c.commit.new.writer) (Run c.in-Err.fault)
+    (come_begins _ c.args.every first input _ old _ _ _ _ h)
+    (stopped_after _ c.args.every first h.lines old _ _ _ _ h.after.behind (λ s. IsTrue D.is_honest → KeepsConsole D.seen D.may_leave f.journal.device f.journal.sync f.journal.len f.begun s) _
     c.in-Ok-commit.ensures.done c.in-Ok-commit.ensures.kept)
 
 pub returns-in-Ok-commit-clause-read_fault : goal.returns-in-Ok-commit-clause-read_fault
@@ -107,35 +107,38 @@ returns-in-Ok-commit-clause-read_fault g c = λ e first input old h.
     let none = c.in-Err.ensures.read_fault (ap (λ x. Err x) same) in
     let left = g.R.Read.remaining c.next_command_line.new.calls.reader.now in
     let part = c.in-Err.ensures.begun in
-    whole_answered _ first input _ old _ _ _ _ h _ _ _ part.0 part.1 (ap (λ (l : List ℕ). prepend_known l left) none ∙ prepend_known-nil left)
-    (finished _ first h.lines old _ _ _ _ h.after (λ s. Unit {0}) _ c.in-Ok-commit.ensures.done tt).appended
+    whole_answered _ c.args.every first input _ old _ _ _ _ h _ _ _ part.0 part.1 (ap (λ (l : List ℕ). prepend_known l left) none ∙ prepend_known-nil left)
+    (finished _ c.args.every first h.lines old _ _ _ _ h.after.behind (λ s. Unit {0}) _ c.in-Ok-commit.ensures.done tt).appended
 
 pub returns-in-Ok-commit-clause-any_moment : goal.returns-in-Ok-commit-clause-any_moment
 returns-in-Ok-commit-clause-any_moment g c = λ honest first input old h.
     let D = g.D.Device in
     let f = c.args.file.now in
     let a = h.after in
-    input_run D.moment D.left_since f.journal.sync D.fills_with_zeros first h.lines input f.journal.device c.commit.new.file.journal.device (come_begins _ first input _ old _ _ _ _ h)
-    (lines_run D.moment D.left_since f.journal.sync D.fills_with_zeros first _ h.lines old _ _ _ _ a f.journal.device c.commit.new.file.journal.device
-    (c.commit.ensures.any_moment honest (may_commit _ _ _ _ _ _ _ _ a)))
+    input_run D.moment D.left_since f.journal.sync D.fills_with_zeros c.args.every first h.lines input f.journal.device c.commit.new.file.journal.device (come_begins _ c.args.every first input _ old _ _ _ _ h)
+    (events_run D.moment D.left_since f.journal.sync D.fills_with_zeros c.args.every first _ h.lines old _ _ _ _ a.behind f.journal.device c.commit.new.file.journal.device
+    ((c.commit.ensures.any_moment honest (may_commit _ _ _ _ _ _ _ _ _ a))))
 
 pub returns-in-Err-commit-clause-fault : goal.returns-in-Err-commit-clause-fault
 returns-in-Err-commit-clause-fault g c = λ first input old h.
     let D = g.D.Device in
     let f = c.commit.new.file in
     let a = h.after in
-    failed_run D.is_honest c.args.file.now.journal.sync D.fills_with_zeros (D.may_leave f.journal.device) _ first h.lines input old _ _ (come_begins _ first input _ old _ _ _ _ h)
-    (failed _ first h.lines old _ _ _ _ a D.is_honest c.args.file.now.journal.sync D.fills_with_zeros (D.may_leave f.journal.device)
+    failed_run D.is_honest c.args.file.now.journal.sync D.fills_with_zeros (D.may_leave f.journal.device) _ c.args.every first h.lines input old _ _ (come_begins _ c.args.every first input _ old _ _ _ _ h)
+    (failed _ c.args.every first h.lines old _ _ _ _ a.behind D.is_honest c.args.file.now.journal.sync D.fills_with_zeros (D.may_leave f.journal.device)
     (λ s. IsTrue D.is_honest → KeepsConsole D.seen D.may_leave f.journal.device f.journal.sync f.journal.len f.begun s) _ _ c.in-Err-commit.ensures.fault
     (λ honest o left.
-    let run = c.commit.ensures.any_moment honest (may_commit _ _ _ _ _ _ _ _ a) in
-    run.each o (g.met.D.Device.counts_now f.journal.device (D.moment c.args.file.now.journal.device) o run.later left)))
+    let run = c.commit.ensures.any_moment honest (may_commit _ _ _ _ _ _ _ _ _ a) in
+    inr (run.each o (g.met.D.Device.counts_now f.journal.device (D.moment c.args.file.now.journal.device) o run.later left))))
 
 pub returns-in-Err-commit-clause-any_moment : goal.returns-in-Err-commit-clause-any_moment
 returns-in-Err-commit-clause-any_moment g c = λ honest first input old h.
     let D = g.D.Device in
     let f = c.args.file.now in
     let a = h.after in
-    input_run D.moment D.left_since f.journal.sync D.fills_with_zeros first h.lines input f.journal.device c.commit.new.file.journal.device (come_begins _ first input _ old _ _ _ _ h)
-    (lines_run D.moment D.left_since f.journal.sync D.fills_with_zeros first _ h.lines old _ _ _ _ a f.journal.device c.commit.new.file.journal.device
-    (c.commit.ensures.any_moment honest (may_commit _ _ _ _ _ _ _ _ a)))
+    input_run D.moment D.left_since f.journal.sync D.fills_with_zeros c.args.every first h.lines input f.journal.device c.commit.new.file.journal.device (come_begins _ c.args.every first input _ old _ _ _ _ h)
+    (events_run D.moment D.left_since f.journal.sync D.fills_with_zeros c.args.every first _ h.lines old _ _ _ _ a.behind f.journal.device c.commit.new.file.journal.device
+    ((c.commit.ensures.any_moment honest (may_commit _ _ _ _ _ _ _ _ _ a))))
+
+pub commit-requires : goal.commit-requires
+commit-requires g c = may_commit _ _ _ _ _ _ _ _ _ c.requires.3.after

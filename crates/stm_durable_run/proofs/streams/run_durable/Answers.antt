@@ -3,15 +3,15 @@ use Rattle.std.specs.Io.KnownBytes.{Appends}
 use Rattle.stm_terms.specs.Texts.{IsPrefixOf}
 use Rattle.stm_lines.specs.Lines.{lines_of}
 use Rattle.stm_run.specs.declared.console.Console.{Console}
-use Rattle.stm_run.specs.Console.{answers_to}
+use Rattle.stm_run.specs.LineCheckpoints.{answers_by}
 use Rattle.stm_durable_run.specs.DurableRun.{resumed_console, KeepsConsole, HasCommitted, CoversAnswers}
-use Rattle.stm_durable_run.specs.Committing.{MayBegin}
+use Rattle.stm_durable_run.specs.NewEvents.{MayBeginRun}
 use Rattle.stm_durable_run.proofs.Ended.{loaded_kept, may_begin, part_answered, is_committed, is_covered, committed_still, covered_still, leaves_still, if_some}
 use Rattle.stm_durable_run.proofs.streams.run_durable.Goals as goal
 
 pub run_begun-requires-clause-may_begin : goal.run_begun-requires-clause-may_begin
 run_begun-requires-clause-may_begin g c κs within =
-    subst MayBegin (sym c.in-Ok.ensures.console) (may_begin c.args.options.max_events c.args.loaded c.requires.lines c.requires.typed)
+    subst MayBeginRun (sym c.in-Ok.ensures.console) (may_begin c.args.options.max_events c.args.loaded c.requires.lines)
 
 pub run_begun-requires-clause-kept : goal.run_begun-requires-clause-kept
 run_begun-requires-clause-kept g c κs within = λ honest.
@@ -27,8 +27,8 @@ returns-in-Ok-clause-part g c =
     let input = g.R.Read.remaining c.args.reader.now in
     let old = g.W.Write.contents c.args.writer.now in
     let new = g.W.Write.contents c.run_begun.new.writer in
-    subst (λ (s : Console). OnErr c.run_begun.result (IfSome input (λ bytes. (front : List ℕ) × IsPrefixOf front (answers_to s (lines_of bytes)) × Appends old new front))) c.in-Ok.ensures.console
-    (part_answered D.is_honest D.seen D.may_leave f.journal.device f.journal.sync c.args.file.now.journal.sync c.run_begun.ensures.sync f.journal.len f.begun D.fills_with_zeros _ input old new c.run_begun.result
+    subst (λ (s : Console). OnErr c.run_begun.result (IfSome input (λ bytes. (front : List ℕ) × IsPrefixOf front (answers_by c.args.options.checkpoint_every s (lines_of bytes)) × Appends old new front))) c.in-Ok.ensures.console
+    (part_answered D.is_honest D.seen D.may_leave f.journal.device f.journal.sync c.args.file.now.journal.sync c.run_begun.ensures.sync f.journal.len f.begun D.fills_with_zeros c.args.options.checkpoint_every _ input old new c.run_begun.result
     c.run_begun.ensures.fault)
 
 pub returns-in-Ok-clause-committed : goal.returns-in-Ok-clause-committed
@@ -38,9 +38,9 @@ returns-in-Ok-clause-committed g c = λ honest none.
     let input = g.R.Read.remaining c.args.reader.now in
     let old = g.W.Write.contents c.args.writer.now in
     let new = g.W.Write.contents c.run_begun.new.writer in
-    subst (λ (s : Console). IfSome input (λ bytes. (written : List ℕ) × Appends old new written × HasCommitted D.seen D.may_leave f.journal.device f.journal.sync f.journal.len f.begun s (lines_of bytes) written))
+    subst (λ (s : Console). IfSome input (λ bytes. (written : List ℕ) × Appends old new written × HasCommitted D.seen D.may_leave f.journal.device f.journal.sync f.journal.len f.begun c.args.options.checkpoint_every s (lines_of bytes) written))
     c.in-Ok.ensures.console
-    (is_committed D.is_honest D.seen D.may_leave f.journal.device f.journal.sync c.args.file.now.journal.sync c.run_begun.ensures.sync f.journal.len f.begun D.fills_with_zeros _ input old new honest c.run_begun.result none
+    (is_committed D.is_honest D.seen D.may_leave f.journal.device f.journal.sync c.args.file.now.journal.sync c.run_begun.ensures.sync f.journal.len f.begun D.fills_with_zeros c.args.options.checkpoint_every _ input old new honest c.run_begun.result none
     c.run_begun.ensures.done c.run_begun.ensures.fault)
 
 pub returns-in-Ok-clause-covered : goal.returns-in-Ok-clause-covered
@@ -51,8 +51,8 @@ returns-in-Ok-clause-covered g c = λ honest.
     let old = g.W.Write.contents c.args.writer.now in
     let new = g.W.Write.contents c.run_begun.new.writer in
     subst (λ (s : Console). IfSome input (λ bytes. (written : List ℕ) × Appends old new written × ((o : List ℕ) → D.may_leave f.journal.device o
-    → CoversAnswers c.args.file.now.journal.sync D.fills_with_zeros s (lines_of bytes) written o))) c.in-Ok.ensures.console
-    (is_covered D.is_honest D.seen D.may_leave f.journal.device f.journal.sync c.args.file.now.journal.sync c.run_begun.ensures.sync f.journal.len f.begun D.fills_with_zeros _ input old new honest c.run_begun.result
+    → CoversAnswers c.args.file.now.journal.sync D.fills_with_zeros c.args.options.checkpoint_every s (lines_of bytes) written o))) c.in-Ok.ensures.console
+    (is_covered D.is_honest D.seen D.may_leave f.journal.device f.journal.sync c.args.file.now.journal.sync c.run_begun.ensures.sync f.journal.len f.begun D.fills_with_zeros c.args.options.checkpoint_every _ input old new honest c.run_begun.result
     c.run_begun.ensures.done c.run_begun.ensures.fault)
 
 pub returns-in-Err-clause-committed : goal.returns-in-Err-clause-committed
@@ -60,19 +60,19 @@ returns-in-Err-clause-committed g c = λ honest none.
     let D = g.D.Device in
     let f = c.args.file.now in
     let k = loaded_kept D.seen D.may_leave f.journal.device f.journal.sync f.journal.len f.begun c.args.options.max_events c.args.loaded (c.requires.kept honest) in
-    if_some _ _ (λ bytes. committed_still (resumed_console c.args.options.max_events c.args.loaded) (lines_of bytes) D.seen D.may_leave f.journal.device f.journal.sync f.journal.len f.begun _ k)
+    if_some _ _ (λ bytes. committed_still c.args.options.checkpoint_every (resumed_console c.args.options.max_events c.args.loaded) (lines_of bytes) D.seen D.may_leave f.journal.device f.journal.sync f.journal.len f.begun _ k)
 
 pub returns-in-Err-clause-covered : goal.returns-in-Err-clause-covered
 returns-in-Err-clause-covered g c = λ honest.
     let D = g.D.Device in
     let f = c.args.file.now in
     let k = loaded_kept D.seen D.may_leave f.journal.device f.journal.sync f.journal.len f.begun c.args.options.max_events c.args.loaded (c.requires.kept honest) in
-    if_some _ _ (λ bytes. covered_still (resumed_console c.args.options.max_events c.args.loaded) (lines_of bytes) D.seen D.may_leave f.journal.device f.journal.sync f.journal.len f.begun D.fills_with_zeros _ k)
+    if_some _ _ (λ bytes. covered_still c.args.options.checkpoint_every (resumed_console c.args.options.max_events c.args.loaded) (lines_of bytes) D.seen D.may_leave f.journal.device f.journal.sync f.journal.len f.begun D.fills_with_zeros _ k)
 
 pub returns-in-Err-clause-any_moment : goal.returns-in-Err-clause-any_moment
 returns-in-Err-clause-any_moment g c = λ honest.
     let D = g.D.Device in
     let f = c.args.file.now in
     let k = loaded_kept D.seen D.may_leave f.journal.device f.journal.sync f.journal.len f.begun c.args.options.max_events c.args.loaded (c.requires.kept honest) in
-    if_some _ _ (λ bytes. leaves_still (resumed_console c.args.options.max_events c.args.loaded) (lines_of bytes) D.seen D.may_leave D.moment D.left_since f.journal.device f.journal.sync f.journal.len f.begun D.fills_with_zeros k
+    if_some _ _ (λ bytes. leaves_still c.args.options.checkpoint_every (resumed_console c.args.options.max_events c.args.loaded) (lines_of bytes) D.seen D.may_leave D.moment D.left_since f.journal.device f.journal.sync f.journal.len f.begun D.fills_with_zeros k
     (g.met.D.Device.only_now f.journal.device))

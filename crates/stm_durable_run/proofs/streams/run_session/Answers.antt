@@ -1,4 +1,4 @@
-use Rattle.std.proofs.Common.{◌≡◌, ℕ, List, Err, IsTrue, refl, ap, ◌∙◌}
+use Rattle.std.proofs.Common.{◌≡◌, inr, ℕ, List, Err, IsTrue, refl, ap, ◌∙◌}
 use Rattle.std.specs.Io.KnownBytes.{prepend_known}
 use Rattle.std.proofs.KnownBytes.{prepend_known-nil}
 use Rattle.std.proofs.lemmas.Result.{err_from_is_err_and}
@@ -6,7 +6,7 @@ use Rattle.stm_lines.specs.declared.run_fault.RunFault.TheVariants.{Read}
 use Rattle.stm_durable_run.specs.declared.fault.DurableFault.TheVariants.{Run}
 use Rattle.stm_durable_run.specs.DurableRun.{KeepsConsole}
 use Rattle.stm_durable_run.proofs.Committing.{may_commit, finished, failed, on_done, on_fault}
-use Rattle.stm_durable_run.proofs.RunCrashes.{input_run, lines_run, run_still, runs_on}
+use Rattle.stm_durable_run.proofs.RunCrashes.{input_run, events_run, run_still, runs_on}
 use Rattle.stm_durable_run.proofs.Running.{comes_first, last_begins, all_finished, failed_run, failed_synced}
 use Rattle.stm_durable_run.proofs.streams.run_session.Goals as goal
 
@@ -18,8 +18,8 @@ lines-init g c =
     let s = c.args.session.now.console in
     let input = g.R.Read.remaining c.args.calls.now.reader.now in
     record {
-      come = comes_first _ s input _ _ _ _ r.may_begin r.held r.recorded r.kept (ap (λ (l : List ℕ). prepend_known l input) r.chunk ∙ prepend_known-nil input);
-      moment = λ honest. run_still D.moment D.left_since f.journal.sync D.fills_with_zeros s input D.seen D.may_leave f.journal.device f.journal.len f.begun (r.kept honest) (g.met.D.Device.only_now f.journal.device);
+      come = comes_first _ c.args.every s input _ _ _ _ r.may_begin r.held r.recorded r.kept (ap (λ (l : List ℕ). prepend_known l input) r.chunk ∙ prepend_known-nil input);
+      moment = λ honest. run_still D.moment D.left_since f.journal.sync D.fills_with_zeros c.args.every s input D.seen D.may_leave f.journal.device f.journal.len f.begun (r.kept honest) (g.met.D.Device.only_now f.journal.device);
       sync = refl;
       same_reader = refl;
       same_steps = refl;
@@ -29,31 +29,31 @@ pub returns-in_err-commit_before_read-clause-fault : goal.returns-in_err-commit_
 returns-in_err-commit_before_read-clause-fault g c =
     let p = err_from_is_err_and c.from_residual.result c.from_residual.ensures.1 in
     let i = c.lines.invariant in
-    rw (p.1, p.2) (failed_synced _ _ _ _ _ _ _ _ _ _ _ i.sync (c.in_err-commit_before_read.ensures.fault _ _ _ _ i.come))
+    rw (p.1, p.2) (failed_synced _ _ _ _ _ _ _ _ _ _ _ _ i.sync (c.in_err-commit_before_read.ensures.fault _ _ _ _ _ i.come))
 
 pub returns-in_err-commit_before_read-clause-any_moment : goal.returns-in_err-commit_before_read-clause-any_moment
 returns-in_err-commit_before_read-clause-any_moment g c = λ honest.
     let D = g.D.Device in
     let i = c.lines.invariant in
-    runs_on D.moment D.left_since _ D.fills_with_zeros _ _ _ _ _ _ i.sync (i.moment honest) (c.commit_before_read.ensures.any_moment honest _ _ _ _ i.come)
+    runs_on D.moment D.left_since _ D.fills_with_zeros _ _ _ _ _ _ _ i.sync (i.moment honest) (c.commit_before_read.ensures.any_moment honest _ _ _ _ _ i.come)
 
 pub answer_next-requires-after_bounds : goal.answer_next-requires-after_bounds
 answer_next-requires-after_bounds g c κs within =
     let i = c.lines.invariant in
-    (_, _, _, c.in_ok-commit_before_read.ensures.done _ _ _ _ i.come)
+    (_, _, _, c.in_ok-commit_before_read.ensures.done _ _ _ _ _ i.come)
 
 pub returns-in_err-answer_next-clause-fault : goal.returns-in_err-answer_next-clause-fault
 returns-in_err-answer_next-clause-fault g c =
     let p = err_from_is_err_and c.from_residual-in_err-answer_next.result c.from_residual-in_err-answer_next.ensures.1 in
     let i = c.lines.invariant in
-    let come = c.in_ok-commit_before_read.ensures.done _ _ _ _ i.come in
-    rw (p.1, p.2) (failed_synced _ _ _ _ _ _ _ _ _ _ _ (c.commit_before_read.ensures.sync ∙ i.sync) (c.in_err-answer_next.ensures.fault _ _ _ come))
+    let come = c.in_ok-commit_before_read.ensures.done _ _ _ _ _ i.come in
+    rw (p.1, p.2) (failed_synced _ _ _ _ _ _ _ _ _ _ _ _ (c.commit_before_read.ensures.sync ∙ i.sync) (c.in_err-answer_next.ensures.fault _ _ _ come))
 
 pub returns-in_err-answer_next-clause-read_fault : goal.returns-in_err-answer_next-clause-read_fault
 returns-in_err-answer_next-clause-read_fault g c = λ e.
     let p = err_from_is_err_and c.from_residual-in_err-answer_next.result c.from_residual-in_err-answer_next.ensures.1 in
     let i = c.lines.invariant in
-    let come = c.in_ok-commit_before_read.ensures.done _ _ _ _ i.come in
+    let come = c.in_ok-commit_before_read.ensures.done _ _ _ _ _ i.come in
     let same : c.in_err-answer_next.field-0.0 ≡ Run Read = cc (p.1, p.2, e) in
     c.in_err-answer_next.ensures.read_fault (ap (λ x. Err x) same) _ _ _ come
 
@@ -61,29 +61,29 @@ pub returns-in_err-answer_next-clause-any_moment : goal.returns-in_err-answer_ne
 returns-in_err-answer_next-clause-any_moment g c = λ honest.
     let D = g.D.Device in
     let i = c.lines.invariant in
-    let come = c.in_ok-commit_before_read.ensures.done _ _ _ _ i.come in
-    let before = runs_on D.moment D.left_since _ D.fills_with_zeros _ _ _ _ _ _ i.sync (i.moment honest) (c.commit_before_read.ensures.any_moment honest _ _ _ _ i.come) in
-    runs_on D.moment D.left_since _ D.fills_with_zeros _ _ _ _ _ _ (c.commit_before_read.ensures.sync ∙ i.sync) before (c.answer_next.ensures.any_moment honest _ _ _ come)
+    let come = c.in_ok-commit_before_read.ensures.done _ _ _ _ _ i.come in
+    let before = runs_on D.moment D.left_since _ D.fills_with_zeros _ _ _ _ _ _ _ i.sync (i.moment honest) (c.commit_before_read.ensures.any_moment honest _ _ _ _ _ i.come) in
+    runs_on D.moment D.left_since _ D.fills_with_zeros _ _ _ _ _ _ _ (c.commit_before_read.ensures.sync ∙ i.sync) before (c.answer_next.ensures.any_moment honest _ _ _ come)
 
 pub hand_on-requires : goal.hand_on-requires
 hand_on-requires g c =
     let i = c.lines.invariant in
-    let come = c.in_ok-commit_before_read.ensures.done _ _ _ _ i.come in
+    let come = c.in_ok-commit_before_read.ensures.done _ _ _ _ _ i.come in
     let last = rw c.if-not-branch.true at c.in_ok-answer_next.ensures.done in
-    may_commit _ _ _ _ _ _ _ _ (last _ _ _ come).after
+    may_commit _ _ _ _ _ _ _ _ _ (last _ _ _ come).after
 
 pub returns-then-not-branch-clause-done : goal.returns-then-not-branch-clause-done
 returns-then-not-branch-clause-done g c =
     let D = g.D.Device in
     let f = c.hand_on.new.file in
     let i = c.lines.invariant in
-    let come = c.in_ok-commit_before_read.ensures.done _ _ _ _ i.come in
+    let come = c.in_ok-commit_before_read.ensures.done _ _ _ _ _ i.come in
     let last = rw c.if-not-branch.true at c.in_ok-answer_next.ensures.done in
     let end = last _ _ _ come in
     let e = c.hand_on.ensures in
     on_done (IsTrue D.is_honest) c.hand_on.result e.done e.none e.count e.kept _ (λ w n m k.
-    all_finished _ _ end.lines _ _ _ end.lines_are
-    (finished _ _ end.lines _ _ _ _ _ end.after (λ s. IsTrue D.is_honest → KeepsConsole D.seen D.may_leave f.journal.device f.journal.sync f.journal.len f.begun s) _ w k))
+    all_finished _ _ _ end.lines _ _ _ end.lines_are
+    (finished _ _ _ end.lines _ _ _ _ _ end.after.behind (λ s. IsTrue D.is_honest → KeepsConsole D.seen D.may_leave f.journal.device f.journal.sync f.journal.len f.begun s) _ w k))
 
 pub returns-then-not-branch-clause-fault : goal.returns-then-not-branch-clause-fault
 returns-then-not-branch-clause-fault g c =
@@ -91,45 +91,48 @@ returns-then-not-branch-clause-fault g c =
     let f = c.hand_on.new.file in
     let mid = c.answer_next.new.file in
     let i = c.lines.invariant in
-    let come = c.in_ok-commit_before_read.ensures.done _ _ _ _ i.come in
+    let come = c.in_ok-commit_before_read.ensures.done _ _ _ _ _ i.come in
     let last = rw c.if-not-branch.true at c.in_ok-answer_next.ensures.done in
     let end = last _ _ _ come in
     on_fault c.hand_on.result _ _ c.hand_on.ensures.fault (λ x p.
-    failed_synced D.is_honest mid.journal.sync _ D.fills_with_zeros (D.may_leave f.journal.device) _ _ _ _ _ x (c.answer_next.ensures.sync ∙ c.commit_before_read.ensures.sync ∙ i.sync)
-    (failed_run D.is_honest mid.journal.sync D.fills_with_zeros (D.may_leave f.journal.device) _ _ end.lines _ _ _ x (last_begins end.lines _ end.lines_are)
-    (failed _ _ end.lines _ _ _ _ _ end.after D.is_honest mid.journal.sync D.fills_with_zeros (D.may_leave f.journal.device)
+    failed_synced D.is_honest mid.journal.sync _ D.fills_with_zeros (D.may_leave f.journal.device) _ _ _ _ _ _ x (c.answer_next.ensures.sync ∙ c.commit_before_read.ensures.sync ∙ i.sync)
+    (failed_run D.is_honest mid.journal.sync D.fills_with_zeros (D.may_leave f.journal.device) _ _ _ end.lines _ _ _ x (last_begins end.lines _ end.lines_are)
+    (failed _ _ _ end.lines _ _ _ _ _ end.after.behind D.is_honest mid.journal.sync D.fills_with_zeros (D.may_leave f.journal.device)
     (λ s. IsTrue D.is_honest → KeepsConsole D.seen D.may_leave f.journal.device f.journal.sync f.journal.len f.begun s) _ x p
     (λ honest o left.
-    let run = c.hand_on.ensures.any_moment honest (may_commit _ _ _ _ _ _ _ _ end.after) in
-    run.each o (g.met.D.Device.counts_now f.journal.device (D.moment mid.journal.device) o run.later left)))))
+    let run = c.hand_on.ensures.any_moment honest (may_commit _ _ _ _ _ _ _ _ _ end.after) in
+    inr (run.each o (g.met.D.Device.counts_now f.journal.device (D.moment mid.journal.device) o run.later left))))))
 
 pub returns-then-not-branch-clause-any_moment : goal.returns-then-not-branch-clause-any_moment
 returns-then-not-branch-clause-any_moment g c = λ honest.
     let D = g.D.Device in
     let mid = c.answer_next.new.file in
     let i = c.lines.invariant in
-    let come = c.in_ok-commit_before_read.ensures.done _ _ _ _ i.come in
+    let come = c.in_ok-commit_before_read.ensures.done _ _ _ _ _ i.come in
     let last = rw c.if-not-branch.true at c.in_ok-answer_next.ensures.done in
     let end = last _ _ _ come in
-    let before = runs_on D.moment D.left_since _ D.fills_with_zeros _ _ _ _ _ _ i.sync (i.moment honest) (c.commit_before_read.ensures.any_moment honest _ _ _ _ i.come) in
-    let answered = runs_on D.moment D.left_since _ D.fills_with_zeros _ _ _ _ _ _ (c.commit_before_read.ensures.sync ∙ i.sync) before (c.answer_next.ensures.any_moment honest _ _ _ come) in
-    runs_on D.moment D.left_since _ D.fills_with_zeros _ _ _ _ _ _ (c.answer_next.ensures.sync ∙ c.commit_before_read.ensures.sync ∙ i.sync) answered
-    (input_run D.moment D.left_since mid.journal.sync D.fills_with_zeros _ end.lines _ mid.journal.device c.hand_on.new.file.journal.device (last_begins end.lines _ end.lines_are)
-    (lines_run D.moment D.left_since mid.journal.sync D.fills_with_zeros _ _ end.lines _ _ _ _ _ end.after mid.journal.device c.hand_on.new.file.journal.device
-    (c.hand_on.ensures.any_moment honest (may_commit _ _ _ _ _ _ _ _ end.after))))
+    let before = runs_on D.moment D.left_since _ D.fills_with_zeros _ _ _ _ _ _ _ i.sync (i.moment honest) (c.commit_before_read.ensures.any_moment honest _ _ _ _ _ i.come) in
+    let answered = runs_on D.moment D.left_since _ D.fills_with_zeros _ _ _ _ _ _ _ (c.commit_before_read.ensures.sync ∙ i.sync) before (c.answer_next.ensures.any_moment honest _ _ _ come) in
+    runs_on D.moment D.left_since _ D.fills_with_zeros _ _ _ _ _ _ _ (c.answer_next.ensures.sync ∙ c.commit_before_read.ensures.sync ∙ i.sync) answered
+    (input_run D.moment D.left_since mid.journal.sync D.fills_with_zeros _ _ end.lines _ mid.journal.device c.hand_on.new.file.journal.device (last_begins end.lines _ end.lines_are)
+    (events_run D.moment D.left_since mid.journal.sync D.fills_with_zeros _ _ _ end.lines _ _ _ _ _ end.after.behind mid.journal.device c.hand_on.new.file.journal.device
+    (c.hand_on.ensures.any_moment honest (may_commit _ _ _ _ _ _ _ _ _ end.after))))
 
 pub lines-preserved : goal.lines-preserved
 lines-preserved g c =
     let D = g.D.Device in
     let i = c.lines.invariant in
-    let come = c.in_ok-commit_before_read.ensures.done _ _ _ _ i.come in
+    let come = c.in_ok-commit_before_read.ensures.done _ _ _ _ _ i.come in
     let next = rw c.if-not-branch.false at c.in_ok-answer_next.ensures.done in
     record {
       come = next _ _ _ come;
       moment = λ honest.
-          let before = runs_on D.moment D.left_since _ D.fills_with_zeros _ _ _ _ _ _ i.sync (i.moment honest) (c.commit_before_read.ensures.any_moment honest _ _ _ _ i.come) in
-          runs_on D.moment D.left_since _ D.fills_with_zeros _ _ _ _ _ _ (c.commit_before_read.ensures.sync ∙ i.sync) before (c.answer_next.ensures.any_moment honest _ _ _ come);
+          let before = runs_on D.moment D.left_since _ D.fills_with_zeros _ _ _ _ _ _ _ i.sync (i.moment honest) (c.commit_before_read.ensures.any_moment honest _ _ _ _ _ i.come) in
+          runs_on D.moment D.left_since _ D.fills_with_zeros _ _ _ _ _ _ _ (c.commit_before_read.ensures.sync ∙ i.sync) before (c.answer_next.ensures.any_moment honest _ _ _ come);
       sync = c.answer_next.ensures.sync ∙ c.commit_before_read.ensures.sync ∙ i.sync;
       same_reader = c.answer_next.ensures.same_reader ∙ i.same_reader;
       same_steps = c.answer_next.ensures.same_steps ∙ i.same_steps;
     }
+
+pub commit_before_read-requires : goal.commit_before_read-requires
+commit_before_read-requires g c = (_, _, _, _, _, c.lines.invariant.come)

@@ -10,10 +10,10 @@ abbrev pub invariant-lines : goal.invariant-lines
 invariant-lines g l = record {
   come : HasCome
       (λ s. IsTrue g.D.Device.is_honest → KeepsConsole g.D.Device.seen g.D.Device.may_leave l.file.journal.device l.file.journal.sync l.file.journal.len l.file.begun s)
-      l.initial.session.console (g.R.Read.remaining l.initial.calls.reader.now) (prepend_known l.lines.chunk (g.R.Read.remaining l.calls.reader.now))
+      l.fn.every l.initial.session.console (g.R.Read.remaining l.initial.calls.reader.now) (prepend_known l.lines.chunk (g.R.Read.remaining l.calls.reader.now))
       (g.W.Write.contents l.initial.writer) (g.W.Write.contents l.writer) l.session.console (string_bytes l.session.held) l.session.recorded;
   moment : IsTrue g.D.Device.is_honest → LeavesOnly g.D.Device.moment g.D.Device.left_since l.initial.file.journal.device l.file.journal.device
-      (LeavesRun l.initial.file.journal.sync g.D.Device.fills_with_zeros l.initial.session.console (g.R.Read.remaining l.initial.calls.reader.now));
+      (LeavesRun l.initial.file.journal.sync g.D.Device.fills_with_zeros l.fn.every l.initial.session.console (g.R.Read.remaining l.initial.calls.reader.now));
   sync : l.file.journal.sync ≡ l.initial.file.journal.sync;
   same_reader : l.calls.reader.ghost_name ≡ l.initial.calls.reader.ghost_name;
   same_steps : l.calls.steps.ghost_name ≡ l.initial.calls.steps.ghost_name;

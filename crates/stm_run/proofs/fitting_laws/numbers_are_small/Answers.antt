@@ -3,5 +3,5 @@ use Rattle.stm_run.proofs.fitting_laws.numbers_are_small.Goals as goal
 
 pub returns : goal.returns
 returns c =
-    numbers_are_small c.tickets_rise.ensures c.answers_are_right.ensures.blocks c.answers_are_right.ensures.declarations
-    c.check_never_says_no_memory.ensures c.verdict_is_stable.ensures c.blocks_stay.ensures c.checked_are_well_typed.ensures
+    numbers_are_small c.answers_are_right.ensures.blocks c.answers_are_right.ensures.declarations c.check_never_says_no_memory.ensures
+    c.verdict_is_stable.ensures c.checked_are_well_typed.ensures

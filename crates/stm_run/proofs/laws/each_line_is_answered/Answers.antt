@@ -4,6 +4,4 @@ use Rattle.stm_run.proofs.laws.each_line_is_answered.Goals as goal
 pub returns : goal.returns
 returns c =
     each_line c.answers_are_right.ensures.blocks c.answers_are_right.ensures.declarations c.check_never_says_no_memory.ensures
-    c.verdict_fits.ensures c.verdict_is_stable.ensures c.tickets_rise.ensures c.declared_are_covered.ensures c.blocks_stay.ensures
-    c.checked_are_well_typed.ensures c.waiting_are_well_typed.ensures c.stores_are_typed.ensures
-    c.blocks_have_verdicts.ensures
+    c.verdict_fits.ensures c.verdict_is_stable.ensures c.checked_are_well_typed.ensures

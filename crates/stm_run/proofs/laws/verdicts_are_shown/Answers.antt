@@ -3,5 +3,5 @@ use Rattle.stm_run.proofs.laws.verdicts_are_shown.Goals as goal
 
 pub returns : goal.returns
 returns c =
-    shown c.tickets_rise.ensures c.weak_is_present.ensures c.answers_are_right.ensures.blocks c.answers_are_right.ensures.declarations
-    c.check_never_says_no_memory.ensures c.verdict_is_stable.ensures c.blocks_stay.ensures c.checked_are_well_typed.ensures
+    shown c.answers_are_right.ensures.blocks c.answers_are_right.ensures.declarations c.check_never_says_no_memory.ensures
+    c.verdict_is_stable.ensures c.checked_are_well_typed.ensures

@@ -1,25 +1,25 @@
 use Rattle.std.proofs.Common.{◌++◌, List, ap, string_bytes}
-use Rattle.stm_events.specs.declared.staleness.StalenessRule.TheVariants.{Changed}
 use Rattle.stm_events.specs.SlowDesk.{Waiter}
 use Rattle.stm_desk.specs.DeskView.{state_of}
 use Rattle.stm_commands.specs.Contents.{waiter_lines}
 use Rattle.stm_commands.proofs.WaiterLines.{all_waiters, fewer, one_more, no_more}
+use Rattle.stm_commands.proofs.LegalDesks.{desk_possible}
 use Rattle.stm_commands.proofs.commands.show.write_waiters.Goals as goal
 
 pub loop-ticket-init : goal.loop-ticket-init
 loop-ticket-init c =
     let d = c.args.desk.now in
-    ap (λ (ws : List Waiter). string_bytes c.args.out.now ++ waiter_lines (state_of d).store ws) (all_waiters _ (state_of d).waiters (c.tickets_rise.ensures Changed d.table d.history c.requires).rising)
+    ap (λ (ws : List Waiter). string_bytes c.args.out.now ++ waiter_lines (state_of d).store ws) (all_waiters _ (state_of d).waiters (desk_possible d c.history-events.ensures.start c.history-events.ensures.legal).rising)
 
 pub loop-ticket-smaller : goal.loop-ticket-smaller
 loop-ticket-smaller c =
     let d = c.args.desk.now in
-    fewer _ c.loop-ticket.last c.in-Some.ticket (state_of d).waiters (c.tickets_rise.ensures Changed d.table d.history c.requires).rising c.in-Some.ensures
+    fewer _ c.loop-ticket.last c.in-Some.ticket (state_of d).waiters (desk_possible d c.history-events.ensures.start c.history-events.ensures.legal).rising c.in-Some.ensures
 
 pub loop-ticket-preserved : goal.loop-ticket-preserved
 loop-ticket-preserved c =
     let d = c.args.desk.now in
-    one_more _ c.loop-ticket.last c.in-Some.ticket (state_of d).store (state_of d).waiters _ _ _ (c.tickets_rise.ensures Changed d.table d.history c.requires).rising c.in-Some.ensures c.in_ok-write_waiter.ensures c.loop-ticket.invariant
+    one_more _ c.loop-ticket.last c.in-Some.ticket (state_of d).store (state_of d).waiters _ _ _ (desk_possible d c.history-events.ensures.start c.history-events.ensures.legal).rising c.in-Some.ensures c.in_ok-write_waiter.ensures c.loop-ticket.invariant
 
 pub returns : goal.returns
 returns c =

@@ -4,7 +4,7 @@ use Rattle.stm_commands.proofs.open_desk.OpenDesk.submit.Goals.{in-Ok, in-Err}
 use Rattle.stm_commands.proofs.open_desk.OpenDesk.submit.Goals as goal
 
 pub invariant_of-self : goal.invariant_of-self
-invariant_of-self c = kept_submitted _ _ _ _ _ c.submit-answer.result c.submit-answer.ensures.accepted c.submit-answer.ensures.unchanged c.history-events.ensures.legal c.self.invariant
+invariant_of-self c = kept_submitted _ _ _ _ _ c.submit-answer.result c.submit-answer.ensures.accepted c.submit-answer.ensures.unchanged c.history-events.ensures.start c.history-events.ensures.legal c.self.invariant
 
 pub returns : goal.returns
 returns c = rw (← c.self.view_is) (elim c.match-answer.branch [

@@ -2,7 +2,8 @@ use Rattle.std.proofs.Common.{◌≡◌, List, [], ◌∷◌, ◌++◌, None, fa
 use Rattle.stm_events.specs.declared.errors.CancelError.TheVariants.{NoMemory}
 use Rattle.stm_events.specs.declared.event.Event.{Event}
 use Rattle.stm_events.specs.declared.event.What.TheVariants.{Cancelled}
-use Rattle.stm_events.specs.SlowDesk.{state}
+use Rattle.stm_events.specs.SlowDesk.{state_from}
+use Rattle.stm_machine.specs.Checkpoints.{start_of}
 use Rattle.stm_machine.specs.Machine.{event}
 use Rattle.stm_desk.specs.Kept.{DeskInvariant}
 use Rattle.stm_desk.specs.DeskView.{DeskView, is_full}
@@ -14,11 +15,11 @@ pub cancel-requires : goal.cancel-requires
 cancel-requires c =
     let e = subst (λ (d : DeskView). cancel_refusal d c.args.ticket ≡ None) (sym c.self.view_is) (accepted NoMemory (cancel_refusal c.args.self.now c.args.ticket) _ c.in-Ok.ensures.refused) in
     let r = subst (λ (d : DeskView). is_full d ≡ false) (sym c.self.view_is) c.in-Ok.ensures.room in
-    (state c.self.inside.table c.self.inside.history.items, c.self.invariant.at, may_cancel _ _ _ _ c.self.invariant c.args.ticket r e)
+    (state_from (start_of c.self.inside.table c.self.inside.checkpoint) c.self.inside.history.items, c.self.invariant.at, may_cancel _ _ _ _ _ c.self.invariant c.args.ticket r e)
 
 pub invariant_of-self-2 : goal.invariant_of-self-2
 invariant_of-self-2 c =
     let r = subst (λ (d : DeskView). is_full d ≡ false) (sym c.self.view_is) c.in-Ok.ensures.room in
     let is : c.push_reserved.new.self.items ≡ c.self.inside.history.items ++ event c.args.client (Cancelled c.args.ticket) ∷ [] = search rules in
-    subst (λ (es : List Event). DeskInvariant c.self.inside.table c.self.inside.limit es c.cancel.new.self) (sym is)
-    (kept_move _ _ _ _ c.self.invariant c.args.client (Cancelled c.args.ticket) c.cancel.new.self c.requires r tt c.cancel.ensures.moved)
+    subst (λ (es : List Event). DeskInvariant c.self.inside.table c.self.inside.checkpoint c.self.inside.limit es c.cancel.new.self) (sym is)
+    (kept_move _ _ _ _ _ c.self.invariant c.args.client (Cancelled c.args.ticket) c.cancel.new.self c.requires r tt c.cancel.ensures.moved)

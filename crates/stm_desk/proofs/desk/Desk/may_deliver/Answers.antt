@@ -1,7 +1,7 @@
 use Rattle.std.proofs.Common.{subst}
 use Rattle.std.specs.Prelude.{Result, Ok, Err, OnOk}
 use Rattle.stm_eval.specs.EvaluatedFields.{message_ticket, message_block, message_reads}
-use Rattle.stm_events.specs.SlowDesk.{Slow, state, find_waiter}
+use Rattle.stm_events.specs.SlowDesk.{Slow, find_waiter}
 use Rattle.stm_machine.specs.Machine.{Parts, IsAt, MayDeliver}
 use Rattle.stm_eval.specs.declared.message.Evaluated.{Evaluated}
 use Rattle.stm_desk.specs.DeskView.{DeskView, state_of, is_full}
@@ -16,8 +16,8 @@ at_state (Err e) m s message k h = tt
 
 pub returns-clause-refused : goal.returns-clause-refused
 returns-clause-refused c =
-    let d : DeskView = record { table = c.self.inside.table; limit = c.self.inside.limit; history = c.self.inside.history.items; pending = c.self.inside.machine.pending } in
-    let s = state d.table d.history in
+    let d : DeskView = record { table = c.self.inside.table; checkpoint = c.self.inside.checkpoint; limit = c.self.inside.limit; history = c.self.inside.history.items; pending = c.self.inside.machine.pending } in
+    let s = state_of d in
     let m = c.args.message.now in
     let g : RefusesDelivery (limited_delivery (is_full d) c.may_deliver.result) d m =
     delivery_limited s.store (is_full d) (find_waiter (message_ticket m) s.waiters) (message_block m) (message_reads m) c.may_deliver.result (c.may_deliver.ensures.refused s c.self.invariant.at) in
@@ -25,7 +25,7 @@ returns-clause-refused c =
 
 pub returns-clause-allowed : goal.returns-clause-allowed
 returns-clause-allowed c =
-    let d : DeskView = record { table = c.self.inside.table; limit = c.self.inside.limit; history = c.self.inside.history.items; pending = c.self.inside.machine.pending } in
+    let d : DeskView = record { table = c.self.inside.table; checkpoint = c.self.inside.checkpoint; limit = c.self.inside.limit; history = c.self.inside.history.items; pending = c.self.inside.machine.pending } in
     let m = c.args.message.now in
     let g : OnOk (limited_delivery (is_full d) c.may_deliver.result) (MayDeliver (state_of d) m) =
     delivery_allowed (MayDeliver (state_of d) m) (is_full d) c.may_deliver.result (at_state c.may_deliver.result c.self.inside.machine (state_of d) m c.self.invariant.at c.may_deliver.ensures.allowed) in

@@ -4,8 +4,8 @@ use Rattle.stm_store.specs.Cells.{plains}
 use Rattle.stm_terms.specs.UnlessNoMemory.{RefusedAs}
 use Rattle.stm_events.specs.declared.errors.SubmitError.TheVariants.{NoMemory}
 use Rattle.stm_events.specs.Refusals.{missing}
-use Rattle.stm_events.specs.SlowDesk.{state, max_waiting}
-use Rattle.stm_desk.specs.DeskView.{DeskView, is_full}
+use Rattle.stm_events.specs.SlowDesk.{max_waiting}
+use Rattle.stm_desk.specs.DeskView.{DeskView, state_of, is_full}
 use Rattle.stm_desk.specs.Limit.{limited_submit}
 use Rattle.stm_desk.specs.Refusals.{submit_refusal}
 use Rattle.stm_desk.proofs.Limit.{submit_limited, submit_room}
@@ -13,8 +13,8 @@ use Rattle.stm_desk.proofs.desk.Desk.may_submit.Goals as goal
 
 pub returns-clause-refused : goal.returns-clause-refused
 returns-clause-refused c =
-    let d : DeskView = record { table = c.self.inside.table; limit = c.self.inside.limit; history = c.self.inside.history.items; pending = c.self.inside.machine.pending } in
-    let s = state d.table d.history in
+    let d : DeskView = record { table = c.self.inside.table; checkpoint = c.self.inside.checkpoint; limit = c.self.inside.limit; history = c.self.inside.history.items; pending = c.self.inside.machine.pending } in
+    let s = state_of d in
     let block = c.args.block.now in
     let h = c.may_submit.ensures s c.self.invariant.at in
     let g : RefusedAs NoMemory (submit_refusal d block) (limited_submit (is_full d) c.may_submit.result) =

@@ -8,4 +8,4 @@ use Rattle.stm_desk.proofs.desk.Desk.next_end.Goals as goal
 pub returns : goal.returns
 returns c =
     let d = c.args.self.now in
-    c.next_ready.ensures ∙ ready_finishes_next (state_of d) (rising_now d c.requires.legal) (none_at is_due (state_of d) c.requires.none_due)
+    c.next_ready.ensures ∙ ready_finishes_next (state_of d) (rising_now d c.requires.possible) (none_at is_due (state_of d) c.requires.none_due)

@@ -2,7 +2,8 @@ use Rattle.std.proofs.Common.{◌≡◌, ℕ, Option, Some, None, true, subst}
 use Rattle.std.specs.Prelude.{IfSome}
 use Rattle.stm_machine.specs.Machine.{Parts, IsAt}
 use Rattle.stm_machine.specs.QueueAndIndex.{due_of}
-use Rattle.stm_events.specs.SlowDesk.{Slow, find_waiter, state}
+use Rattle.stm_events.specs.SlowDesk.{Slow, find_waiter, state_from}
+use Rattle.stm_machine.specs.Checkpoints.{start_of}
 use Rattle.stm_desk.specs.DeskView.{DeskView, state_of}
 use Rattle.stm_desk.proofs.desk.Desk.next_queued.Goals as goal
 
@@ -13,4 +14,4 @@ due_now m s (Some t) k h = h s k
 pub returns-clause-due : goal.returns-clause-due
 returns-clause-due c =
     subst (λ (d : DeskView). IfSome c.next_queued.result (λ t. due_of (find_waiter t (state_of d).waiters) ≡ true)) c.self.view_is
-    (due_now c.self.inside.machine (state c.self.inside.table c.self.inside.history.items) c.next_queued.result c.self.invariant.at c.next_queued.ensures.due)
+    (due_now c.self.inside.machine (state_from (start_of c.self.inside.table c.self.inside.checkpoint) c.self.inside.history.items) c.next_queued.result c.self.invariant.at c.next_queued.ensures.due)

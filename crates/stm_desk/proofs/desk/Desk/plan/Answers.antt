@@ -3,7 +3,7 @@ use Rattle.std.specs.Prelude.{Result, Ok, Err, IfOk}
 use Rattle.stm_terms.specs.UnlessNoMemory.{RefusedAs}
 use Rattle.stm_events.specs.declared.errors.FinishError.{FinishError}
 use Rattle.stm_events.specs.declared.errors.FinishError.TheVariants.{NoMemory}
-use Rattle.stm_events.specs.SlowDesk.{Slow, state, find_waiter}
+use Rattle.stm_events.specs.SlowDesk.{Slow, find_waiter}
 use Rattle.stm_machine.specs.declared.finish.Plan.{Plan}
 use Rattle.stm_machine.specs.Machine.{Parts, IsAt}
 use Rattle.stm_machine.specs.Plans.{IsPlan}
@@ -19,8 +19,8 @@ at_state (Err e) m s t k h = tt
 
 pub returns-clause-refused : goal.returns-clause-refused
 returns-clause-refused c =
-    let d : DeskView = record { table = c.self.inside.table; limit = c.self.inside.limit; history = c.self.inside.history.items; pending = c.self.inside.machine.pending } in
-    let s = state d.table d.history in
+    let d : DeskView = record { table = c.self.inside.table; checkpoint = c.self.inside.checkpoint; limit = c.self.inside.limit; history = c.self.inside.history.items; pending = c.self.inside.machine.pending } in
+    let s = state_of d in
     let t = c.args.ticket in
     let g : RefusedAs NoMemory (finish_refusal d t) (limited_plan (is_full d) c.plan.result) =
     finish_limited s.store (is_full d) (find_waiter t s.waiters) c.plan.result (c.plan.ensures.refused s c.self.invariant.at) in
@@ -28,7 +28,7 @@ returns-clause-refused c =
 
 pub returns-clause-plan : goal.returns-clause-plan
 returns-clause-plan c =
-    let d : DeskView = record { table = c.self.inside.table; limit = c.self.inside.limit; history = c.self.inside.history.items; pending = c.self.inside.machine.pending } in
+    let d : DeskView = record { table = c.self.inside.table; checkpoint = c.self.inside.checkpoint; limit = c.self.inside.limit; history = c.self.inside.history.items; pending = c.self.inside.machine.pending } in
     let t = c.args.ticket in
     let g : IfOk (limited_plan (is_full d) c.plan.result) (λ p. IsPlan (state_of d) t p.verdict p.first_new p.stale) =
     plan_limited (λ p. IsPlan (state_of d) t p.verdict p.first_new p.stale) (is_full d) c.plan.result (at_state c.plan.result c.self.inside.machine (state_of d) t c.self.invariant.at c.plan.ensures.plan) in

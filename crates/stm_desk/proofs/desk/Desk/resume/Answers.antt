@@ -1,5 +1,6 @@
 use Rattle.std.proofs.Common.{◌∙◌, [], ap}
-use Rattle.stm_events.specs.SlowDesk.{state}
+use Rattle.stm_events.specs.SlowDesk.{state_from}
+use Rattle.stm_machine.specs.Checkpoints.{start_of}
 use Rattle.stm_machine.specs.Machine.{Parts}
 use Rattle.stm_machine.specs.SettleChoices.{some_out}
 use Rattle.stm_desk.specs.DeskView.{DeskView}
@@ -7,9 +8,9 @@ use Rattle.stm_desk.proofs.Runs.{out_back}
 use Rattle.stm_desk.proofs.desk.Desk.resume.Goals as goal
 
 pub returns-clause-queue : goal.returns-clause-queue
-returns-clause-queue c = (c.recall.ensures.kept (state c.args.table c.args.events.items) c.requires.at).stands.queue
+returns-clause-queue c = (c.recall.ensures.kept (state_from (start_of c.args.table c.args.checkpoint) c.args.events.items) c.requires.at).stands.queue
 
 pub returns-clause-none_out : goal.returns-clause-none_out
 returns-clause-none_out c =
-    let before : DeskView = record { table = c.args.table; limit = 0; history = []; pending = c.args.machine.pending } in
+    let before : DeskView = record { table = c.args.table; checkpoint = c.args.checkpoint; limit = 0; history = []; pending = c.args.machine.pending } in
     ap (λ (m : Parts). some_out m.pending) c.recall.ensures.recalled ∙ out_back before

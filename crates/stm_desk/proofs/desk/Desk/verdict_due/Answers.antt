@@ -10,7 +10,7 @@ use Rattle.stm_desk.proofs.desk.Desk.verdict_due.Goals as goal
 
 pub verdict_in-requires-clause-waits : goal.verdict_in-requires-clause-waits
 verdict_in-requires-clause-waits c =
-    let d : DeskView = record { table = c.self.inside.table; limit = c.self.inside.limit; history = c.self.inside.history.items; pending = c.self.inside.machine.pending } in
+    let d : DeskView = record { table = c.self.inside.table; checkpoint = c.self.inside.checkpoint; limit = c.self.inside.limit; history = c.self.inside.history.items; pending = c.self.inside.machine.pending } in
     let n = subst (λ (d : DeskView). due_of (find_waiter c.args.ticket (state_of d).waiters) ≡ true) (sym c.self.view_is) c.requires.due in
     (state_of d, c.self.invariant.at, due_is_there (find_waiter c.args.ticket (state_of d).waiters) n)
 
@@ -21,6 +21,6 @@ verdict_in-requires-clause-store c =
 
 pub returns-clause-verdict : goal.returns-clause-verdict
 returns-clause-verdict c =
-    let d : DeskView = record { table = c.self.inside.table; limit = c.self.inside.limit; history = c.self.inside.history.items; pending = c.self.inside.machine.pending } in
+    let d : DeskView = record { table = c.self.inside.table; checkpoint = c.self.inside.checkpoint; limit = c.self.inside.limit; history = c.self.inside.history.items; pending = c.self.inside.machine.pending } in
     subst (λ (d : DeskView). IfOk c.verdict_in.result (λ v. IsVerdictUnder (state_of d) c.args.ticket v c.verdict_in.new.scratch)) c.self.view_is
     (if_told (state_of d) c.self.inside.machine c.args.ticket c.verdict_in.new.scratch c.verdict_in.result c.self.invariant.at c.verdict_in.ensures)

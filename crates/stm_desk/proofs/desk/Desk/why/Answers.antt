@@ -1,66 +1,66 @@
 use Rattle.std.proofs.Common.{◌≡◌, ◌∙◌, List, Option, Some, None, sym, ap, subst}
 use Rattle.std.specs.Prelude.{IfOk, is_some, option_map, if◌then◌else◌}
+use Rattle.std.specs.Option.{option_copied}
 use Rattle.stm_events.specs.declared.event.Event.{Event}
 use Rattle.stm_events.specs.declared.status.Status.{Status}
 use Rattle.stm_events.specs.BlockStatus.{shown}
 use Rattle.stm_events.specs.SlowDesk.{is_blocks, find_waiter}
+use Rattle.stm_machine.specs.Checkpoints.{CheckpointView, start_of}
 use Rattle.stm_desk.specs.DeskView.{DeskView, state_of}
-use Rattle.stm_desk.specs.Reasons.{WaitReason, NotEvaluated, IsStale, Waits, CanFinish, reason_of}
-use Rattle.stm_desk.specs.ReasonsTold.{EachIsWritable, events_since, cause_told, told_reason}
-use Rattle.stm_desk.proofs.Causes.{IsTypedHistory, each_is_writable}
-use Rattle.stm_desk.proofs.EventsSince.{since_writable}
+use Rattle.stm_desk.specs.Reasons.{WaitReason, NotEvaluated, Waits, CanFinish, reason_of}
+use Rattle.stm_desk.specs.ReasonsTold.{EachIsWritable, events_since, stale_at, stale_told, told_reason}
+use Rattle.stm_desk.proofs.Causes.{each_is_writable}
+use Rattle.stm_desk.proofs.Starts.{typed_history}
 use Rattle.stm_desk.proofs.ReasonsTold.{no_waiter, no_reason, unread, stands_new, IsStaleReason, stands_stale, stands_current, has_reason}
 use Rattle.stm_desk.proofs.desk.Desk.why.Goals as goal
 
 pub returns-in_default-clause-reason : goal.returns-in_default-clause-reason
 returns-in_default-clause-reason c =
-    let d : DeskView = record { table = c.self.inside.table; limit = c.self.inside.limit; history = c.self.inside.history.items; pending = c.self.inside.machine.pending } in
+    let d : DeskView = record { table = c.self.inside.table; checkpoint = c.self.inside.checkpoint; limit = c.self.inside.limit; history = c.self.inside.history.items; pending = c.self.inside.machine.pending } in
     let k = c.self.invariant in
     let none : None ≡ reason_of d c.args.ticket = no_reason d c.args.ticket (no_waiter d c.args.ticket (c.in_default.ensures (state_of d) k.at)) in
     subst (λ (x : DeskView). None ≡ reason_of x c.args.ticket) c.self.view_is none
 
 pub returns-in_default-reads-clause-reason : goal.returns-in_default-reads-clause-reason
 returns-in_default-reads-clause-reason c =
-    let d : DeskView = record { table = c.self.inside.table; limit = c.self.inside.limit; history = c.self.inside.history.items; pending = c.self.inside.machine.pending } in
+    let d : DeskView = record { table = c.self.inside.table; checkpoint = c.self.inside.checkpoint; limit = c.self.inside.limit; history = c.self.inside.history.items; pending = c.self.inside.machine.pending } in
     let k = c.self.invariant in
     subst (λ (x : DeskView). Some NotEvaluated ≡ reason_of x c.args.ticket) c.self.view_is
     (unread d c.args.ticket (shown c.in-Some.status) (c.in-Some.ensures (state_of d) k.at) (c.in_default-reads.ensures.then (state_of d) k.at))
 
 pub returns-in-New-clause-reason : goal.returns-in-New-clause-reason
 returns-in-New-clause-reason c =
-    let d : DeskView = record { table = c.self.inside.table; limit = c.self.inside.limit; history = c.self.inside.history.items; pending = c.self.inside.machine.pending } in
+    let d : DeskView = record { table = c.self.inside.table; checkpoint = c.self.inside.checkpoint; limit = c.self.inside.limit; history = c.self.inside.history.items; pending = c.self.inside.machine.pending } in
     let k = c.self.invariant in
     subst (λ (x : DeskView). Some NotEvaluated ≡ reason_of x c.args.ticket) c.self.view_is
     (stands_new d c.args.ticket (ap (λ (s : Status). Some (shown s)) (sym c.in-New.is) ∙ c.in-Some.ensures (state_of d) k.at))
 
 pub stale_reason-requires : goal.stale_reason-requires
 stale_reason-requires c =
-    let k = c.self.invariant in
     let history = c.self.inside.history.items in
-    let typed : IsTypedHistory c.self.inside.table history = record { legal = k.legal; typed = k.typed; cells = c.len-variables.ensures.typed } in
-    subst (λ (h : List Event). EachIsWritable (events_since c.args.ticket h)) (sym c.deref.ensures.value)
-    (since_writable c.args.ticket history (each_is_writable c.self.inside.table history typed))
+    let start = start_of c.self.inside.table c.self.inside.checkpoint in
+    subst EachIsWritable (sym c.deref.ensures.value) (each_is_writable start history (typed_history _ _ _ _ _ c.self.invariant c.len-variables.ensures.typed))
 
 pub returns-in-Stale-clause-reason : goal.returns-in-Stale-clause-reason
 returns-in-Stale-clause-reason c =
-    let d : DeskView = record { table = c.self.inside.table; limit = c.self.inside.limit; history = c.self.inside.history.items; pending = c.self.inside.machine.pending } in
+    let d : DeskView = record { table = c.self.inside.table; checkpoint = c.self.inside.checkpoint; limit = c.self.inside.limit; history = c.self.inside.history.items; pending = c.self.inside.machine.pending } in
     let k = c.self.invariant in
     let reads = c.in-Some-reads.reads.now in
-    let typed : IsTypedHistory d.table d.history = record { legal = k.legal; typed = k.typed; cells = c.len-variables.ensures.typed } in
     let p : IsStaleReason d c.args.ticket reads =
-    stands_stale d c.args.ticket (Some c.in-Stale.field-0.now) reads typed
+    stands_stale d c.args.ticket (Some c.in-Stale.field-0.now) reads k.start (typed_history _ _ _ _ _ k c.len-variables.ensures.typed)
     (ap (λ (s : Status). Some (shown s)) (sym c.in-Stale.is) ∙ c.in-Some.ensures (state_of d) k.at)
     (c.in-Some-reads.ensures.then (state_of d) k.at)
     in
-    let same : option_map IsStale (cause_told reads (events_since c.args.ticket c.deref.result.now)) ≡ reason_of c.args.self.now c.args.ticket =
-    ap (λ (h : List Event). option_map IsStale (cause_told reads (events_since c.args.ticket h))) c.deref.ensures.value
-    ∙ subst (λ (x : DeskView). option_map IsStale (cause_told reads (events_since c.args.ticket d.history)) ≡ reason_of x c.args.ticket) c.self.view_is p
+    let same : stale_told (stale_at c.args.ticket (option_copied c.as_ref.result)) reads c.deref.result.now (events_since c.args.ticket c.deref.result.now) ≡ reason_of c.args.self.now c.args.ticket =
+    ap (λ (h : List Event). stale_told (stale_at c.args.ticket (option_copied c.as_ref.result)) reads h (events_since c.args.ticket h)) c.deref.ensures.value
+    ∙ ap (λ (o : Option CheckpointView). stale_told (stale_at c.args.ticket o) reads d.history (events_since c.args.ticket d.history)) c.as_ref.ensures.value
+    ∙ subst (λ (x : DeskView). stale_told (stale_at c.args.ticket d.checkpoint) reads d.history (events_since c.args.ticket d.history) ≡ reason_of x c.args.ticket) c.self.view_is p
     in
     subst (λ (x : Option WaitReason). IfOk c.stale_reason.result (λ r. option_map told_reason r ≡ x)) same c.stale_reason.ensures
 
 pub returns-in-Current-clause-reason : goal.returns-in-Current-clause-reason
 returns-in-Current-clause-reason c =
-    let d : DeskView = record { table = c.self.inside.table; limit = c.self.inside.limit; history = c.self.inside.history.items; pending = c.self.inside.machine.pending } in
+    let d : DeskView = record { table = c.self.inside.table; checkpoint = c.self.inside.checkpoint; limit = c.self.inside.limit; history = c.self.inside.history.items; pending = c.self.inside.machine.pending } in
     let k = c.self.invariant in
     let reads = c.in-Some-reads.reads.now in
     let verdict = c.in-Current.verdict.now in
@@ -72,35 +72,35 @@ returns-in-Current-clause-reason c =
 
 pub returns-in_default-clause-waits : goal.returns-in_default-clause-waits
 returns-in_default-clause-waits c =
-    let d : DeskView = record { table = c.self.inside.table; limit = c.self.inside.limit; history = c.self.inside.history.items; pending = c.self.inside.machine.pending } in
+    let d : DeskView = record { table = c.self.inside.table; checkpoint = c.self.inside.checkpoint; limit = c.self.inside.limit; history = c.self.inside.history.items; pending = c.self.inside.machine.pending } in
     let k = c.self.invariant in
     subst (λ (x : DeskView). is_some (reason_of x c.args.ticket) ≡ is_some (find_waiter c.args.ticket (state_of x).waiters)) c.self.view_is
-    (has_reason d c.args.ticket (record { legal = k.legal; typed = k.typed; cells = c.len-variables.ensures.typed }))
+    (has_reason d c.args.ticket k.start (typed_history _ _ _ _ _ k c.len-variables.ensures.typed))
 
 pub returns-in_default-reads-clause-waits : goal.returns-in_default-reads-clause-waits
 returns-in_default-reads-clause-waits c =
-    let d : DeskView = record { table = c.self.inside.table; limit = c.self.inside.limit; history = c.self.inside.history.items; pending = c.self.inside.machine.pending } in
+    let d : DeskView = record { table = c.self.inside.table; checkpoint = c.self.inside.checkpoint; limit = c.self.inside.limit; history = c.self.inside.history.items; pending = c.self.inside.machine.pending } in
     let k = c.self.invariant in
     subst (λ (x : DeskView). is_some (reason_of x c.args.ticket) ≡ is_some (find_waiter c.args.ticket (state_of x).waiters)) c.self.view_is
-    (has_reason d c.args.ticket (record { legal = k.legal; typed = k.typed; cells = c.len-variables.ensures.typed }))
+    (has_reason d c.args.ticket k.start (typed_history _ _ _ _ _ k c.len-variables.ensures.typed))
 
 pub returns-in-New-clause-waits : goal.returns-in-New-clause-waits
 returns-in-New-clause-waits c =
-    let d : DeskView = record { table = c.self.inside.table; limit = c.self.inside.limit; history = c.self.inside.history.items; pending = c.self.inside.machine.pending } in
+    let d : DeskView = record { table = c.self.inside.table; checkpoint = c.self.inside.checkpoint; limit = c.self.inside.limit; history = c.self.inside.history.items; pending = c.self.inside.machine.pending } in
     let k = c.self.invariant in
     subst (λ (x : DeskView). is_some (reason_of x c.args.ticket) ≡ is_some (find_waiter c.args.ticket (state_of x).waiters)) c.self.view_is
-    (has_reason d c.args.ticket (record { legal = k.legal; typed = k.typed; cells = c.len-variables.ensures.typed }))
+    (has_reason d c.args.ticket k.start (typed_history _ _ _ _ _ k c.len-variables.ensures.typed))
 
 pub returns-in-Stale-clause-waits : goal.returns-in-Stale-clause-waits
 returns-in-Stale-clause-waits c =
-    let d : DeskView = record { table = c.self.inside.table; limit = c.self.inside.limit; history = c.self.inside.history.items; pending = c.self.inside.machine.pending } in
+    let d : DeskView = record { table = c.self.inside.table; checkpoint = c.self.inside.checkpoint; limit = c.self.inside.limit; history = c.self.inside.history.items; pending = c.self.inside.machine.pending } in
     let k = c.self.invariant in
     subst (λ (x : DeskView). is_some (reason_of x c.args.ticket) ≡ is_some (find_waiter c.args.ticket (state_of x).waiters)) c.self.view_is
-    (has_reason d c.args.ticket (record { legal = k.legal; typed = k.typed; cells = c.len-variables.ensures.typed }))
+    (has_reason d c.args.ticket k.start (typed_history _ _ _ _ _ k c.len-variables.ensures.typed))
 
 pub returns-in-Current-clause-waits : goal.returns-in-Current-clause-waits
 returns-in-Current-clause-waits c =
-    let d : DeskView = record { table = c.self.inside.table; limit = c.self.inside.limit; history = c.self.inside.history.items; pending = c.self.inside.machine.pending } in
+    let d : DeskView = record { table = c.self.inside.table; checkpoint = c.self.inside.checkpoint; limit = c.self.inside.limit; history = c.self.inside.history.items; pending = c.self.inside.machine.pending } in
     let k = c.self.invariant in
     subst (λ (x : DeskView). is_some (reason_of x c.args.ticket) ≡ is_some (find_waiter c.args.ticket (state_of x).waiters)) c.self.view_is
-    (has_reason d c.args.ticket (record { legal = k.legal; typed = k.typed; cells = c.len-variables.ensures.typed }))
+    (has_reason d c.args.ticket k.start (typed_history _ _ _ _ _ k c.len-variables.ensures.typed))

@@ -1,8 +1,8 @@
-use Rattle.std.proofs.Common.{[], ◌∷◌, ◌++◌, refl}
-use Rattle.stm_history.specs.Checking.{at_events}
+use Rattle.stm_history.proofs.ReachedStages.{run_leads, run_refused}
 use Rattle.stm_history.proofs.files.check.run_on.Goals as goal
 
 pub returns-in-Ok-clause-leads : goal.returns-in-Ok-clause-leads
-returns-in-Ok-clause-leads c = λ H h.
-    let k = c.in-Ok.ensures.leads H h in
-    (at_events c.args.format c.args.table (H ++ k.0 ∷ []), k.1, (refl, refl, k.2))
+returns-in-Ok-clause-leads c = run_leads c.args.format c.args.table c.args.checkpoint c.args.replayer _ c.args.line.now c.in-Ok.ensures.leads
+
+pub returns-in-Err-clause-refused : goal.returns-in-Err-clause-refused
+returns-in-Err-clause-refused c = run_refused c.args.format c.args.table c.args.checkpoint c.args.replayer c.args.line.now c.in-Err.error c.in-Err.ensures.refused

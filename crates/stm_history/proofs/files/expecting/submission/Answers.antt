@@ -12,7 +12,7 @@ use Rattle.stm_history.proofs.DueEvents.{refused_due, submit_when_full, submit_a
 use Rattle.stm_history.proofs.files.expecting.submission.Goals as goal
 
 pub submit_next-requires : goal.submit_next-requires
-submit_next-requires c = let here = c.requires in (here.0, here.1, here.2, not_refused NoMemory _ _ (c.in-Ok.ensures here.0 here.1))
+submit_next-requires c = let here = c.requires in (here.0, here.1, here.2 c.if-full.false, not_refused NoMemory _ _ (c.in-Ok.ensures here.0 here.1))
 
 pub returns-then-full : goal.returns-then-full
 returns-then-full c =

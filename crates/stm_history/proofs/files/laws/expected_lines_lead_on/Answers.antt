@@ -1,4 +1,4 @@
-use Rattle.stm_history.proofs.Explanations.{expected_leads_on}
+use Rattle.stm_history.proofs.ExpectedLines.{expected_leads_on}
 use Rattle.stm_history.proofs.files.laws.expected_lines_lead_on.Goals as goal
 
 pub returns : goal.returns

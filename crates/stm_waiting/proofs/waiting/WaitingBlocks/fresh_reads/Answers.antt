@@ -9,5 +9,5 @@ use Rattle.stm_waiting.proofs.waiting.WaitingBlocks.fresh_reads.Goals as goal
 pub returns : goal.returns
 returns c =
     subst (λ (o : Option Waiting). IfOk c.fresh_at.result (λ fresh. AreFreshFor fresh o c.args.scratch.now))
-    (kept_at_place c.args.ticket c.place_of.result c.self.inside.places.items c.self.inside.slots.items (rw c.deref-2.ensures.value at c.place_of.ensures) ∙ ap (kept_at c.args.ticket) c.self.view_is)
+    (kept_at_place c.args.ticket c.place_of.result c.self.inside.table.places.items c.self.inside.slots.items c.place_of.ensures c.self.invariant.ascend ∙ ap (kept_at c.args.ticket) c.self.view_is)
     (rw c.deref.ensures.value at c.fresh_at.ensures)

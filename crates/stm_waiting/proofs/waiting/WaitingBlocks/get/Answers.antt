@@ -5,4 +5,4 @@ use Rattle.stm_waiting.proofs.waiting.WaitingBlocks.get.Goals as goal
 pub returns : goal.returns
 returns c =
     rw (← c.self.view_is) (rw c.deref.ensures.value at c.held_at.ensures
-    ∙ kept_at_place c.args.ticket c.place_of.result c.self.inside.places.items c.self.inside.slots.items (rw c.deref-2.ensures.value at c.place_of.ensures))
+    ∙ kept_at_place c.args.ticket c.place_of.result c.self.inside.table.places.items c.self.inside.slots.items c.place_of.ensures c.self.invariant.ascend)

@@ -1,12 +1,20 @@
-use Rattle.std.proofs.Common.{subst}
+use Rattle.std.proofs.Common.{ℕ, List, subst}
 use Rattle.stm_history.specs.declared.files.check.Stage.{Stage}
-use Rattle.stm_history.specs.Stages.{IsStage, IsLoaded}
-use Rattle.stm_history.proofs.ReadToTheEnd.{running_at}
+use Rattle.stm_history.specs.Stages.{IsLoaded, Reached}
+use Rattle.stm_history.proofs.ReadToTheEnd.{loaded_at, loaded_history}
 use Rattle.stm_history.proofs.files.check.Checker.into_loaded.Goals as goal
+
+pub returns-clause-history : goal.returns-clause-history
+returns-clause-history c = λ taken h.
+    let stage = c.in-Running.is in
+    let reached = subst (λ (s : Stage). Reached s c.args.self.whole c.args.self.line.items taken) stage h in
+    let loaded = subst IsLoaded stage c.requires.stage in
+    loaded_history c.in-Running.format c.in-Running.table c.in-Running.checkpoint c.in-Running.replayer _ _ taken _ _ _ reached c.requires.line loaded.0 c.loaded_of.ensures.table c.loaded_of.ensures.checkpoint c.loaded_of.ensures.events
 
 pub returns-clause-at : goal.returns-clause-at
 returns-clause-at c =
-    let reached = (c.requires.reached).1 in
-    let stage = subst (λ (s : Stage). IsStage s reached.progress) c.in-Running.is reached.stage in
-    let loaded = subst IsLoaded c.in-Running.is c.requires.stage in
-    running_at c.in-Running.format c.in-Running.table c.in-Running.replayer reached.progress _ _ _ stage loaded.0 c.loaded_of.ensures.machine c.loaded_of.ensures.table c.loaded_of.ensures.events
+    let stage = c.in-Running.is in
+    let taken = (c.requires.reached).0 in
+    let reached = subst (λ (s : Stage). Reached s c.args.self.whole c.args.self.line.items taken) stage (c.requires.reached).1 in
+    let loaded = subst IsLoaded stage c.requires.stage in
+    loaded_at c.in-Running.format c.in-Running.table c.in-Running.checkpoint c.in-Running.replayer _ _ taken _ _ _ _ reached c.requires.line loaded.0 c.loaded_of.ensures.machine c.loaded_of.ensures.table c.loaded_of.ensures.checkpoint c.loaded_of.ensures.events

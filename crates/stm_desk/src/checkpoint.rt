@@ -1,0 +1,47 @@
+//! A history that begins from where the desk is.
+
+ghost use Rattle.std.specs.Prelude.{◌≡◌, ◌<◌, ◌≤◌, ◌↔◌, length, option_map, IfOk, OnOk, OnErr, IsErrOf};
+ghost use Rattle.stm_events.specs.States.{observed};
+ghost use Rattle.stm_machine.specs.Checkpoints.{max_next};
+ghost use Rattle.stm_desk.specs.DeskView.{state_of, checkpointed};
+
+use crate::desk::Desk;
+use stm_machine::{Checkpoint, CheckpointError};
+
+impl Desk {
+    /// Makes a checkpoint: from now on the history is empty, and begins from the present state. Returns how many events it had.
+    /// No answer to any later call differs, except that the history has room for as many events as the desk takes, and that `why` no
+    /// longer knows why a block became stale before. Queued tickets stay queued, and tickets that are out stay out.
+    pub fn checkpoint(&mut self) -> Result<u32, CheckpointError>
+        ensures events { IfOk result (λ n. n ≡ length self.old.history) }
+        ensures taken { OnOk result (self.new ≡ checkpointed self.old) }
+        // The same is observed of the state before and of the state after, so no later event or question tells them apart.
+        ensures unseen { OnOk result (observed (state_of self.new) ≡ observed (state_of self.old)) }
+        // Refused if and only if tickets could run out in a history from here, or for lack of memory.
+        ensures room { OnOk result ((state_of self.old).next ≤ max_next) }
+        ensures full { IsErrOf result CheckpointError.TicketsFull → max_next < (state_of self.old).next }
+        ensures first { IsErrOf result CheckpointError.NoMemory → (state_of self.old).next ≤ max_next }
+        ensures unchanged { OnErr result (self.new ≡ self.old) }
+    {
+        // The variables are known to be well typed by this.
+        let _variables = self.table.len();
+        let alloc = *self.history.allocator();
+        let checkpoint = match self.machine.checkpoint(alloc) {
+            Ok(checkpoint) => checkpoint,
+            Err(refused) => return Err(refused),
+        };
+        // It is known to be a checkpoint by this.
+        let _next = checkpoint.next();
+        let events = self.history.len() as u32;
+        self.history = Vec::new(alloc);
+        self.checkpoint = Some(checkpoint);
+        Ok(events)
+    }
+
+    /// The checkpoint that the history begins from; none if it begins with the first values of the variables.
+    pub fn begins_from(&self) -> Option<&Checkpoint>
+        ensures { option_map (λ c. c.now) result ≡ self.now.checkpoint }
+    {
+        self.checkpoint.as_ref()
+    }
+}

@@ -1,0 +1,336 @@
+-- Consoles that look alike answer alike, and a console looks like itself with a checkpoint.
+use Rattle.std.proofs.Common.{◌≡◌, ℕ, ◌+◌, ◌≤◌, Bool, true, false, cond, not, List, [], ◌∷◌, ◌++◌, length, Option, Some, None, Result, Ok, Err, refl, sym, ap, ap₂, ◌∙◌, subst, arith}
+use Rattle.std.specs.Prelude.{◌==◌, ◌&&◌, nat_lt, nat_le, codes}
+use Rattle.std.proofs.lemmas.Bool.Decides.{nat_tests}
+use Rattle.stm_terms.specs.Texts.{list_text}
+use Rattle.stm_check.specs.Laws.{CheckNeverSaysNoMemory}
+use Rattle.stm_check.specs.TypedBlock.{Block}
+use Rattle.stm_eval.specs.Laws.{VerdictIsStable}
+use Rattle.stm_parse.specs.ParseFunction.{BlockAnswersAreRight, DeclarationAnswersAreRight}
+use Rattle.stm_store.specs.declared.cell.Cell.{Cell}
+use Rattle.stm_store.specs.Tables.{Declared}
+use Rattle.stm_queue.specs.Queue.{Entry, queued, recalled}
+use Rattle.stm_events.specs.SlowDesk as slow
+use Rattle.stm_events.specs.SlowDesk.{Slow, find_waiter}
+use Rattle.stm_events.specs.States.{observed}
+use Rattle.stm_event_lines.specs.WholeBlocks.{CheckedAreWellTyped}
+use Rattle.stm_machine.specs.Checkpoints.{checkpoint_state, checkpoint_of, max_next}
+use Rattle.stm_machine.specs.JobsHandedOut.{sent}
+use Rattle.stm_desk.specs.DeskView.{DeskView, start_state, state_of, checkpointed}
+use Rattle.stm_desk.specs.Refusals.{finish_refusal, cancel_refusal}
+use Rattle.stm_desk.specs.Settling.{requeued_all}
+use Rattle.stm_lines.specs.LineClass.{LineClass, TooLong, Silent, NotAscii, Words, line_class}
+use Rattle.stm_lines.specs.NumberArgument.{number_argument}
+use Rattle.stm_blocks.specs.declared.refusal.Refusal.{Refusal}
+use Rattle.stm_blocks.specs.CompiledBlock.{compiled_block}
+use Rattle.stm_commands.specs.Arguments.{with_number, with_nothing, argument_refused}
+use Rattle.stm_commands.specs.Blocks.{tried_text, try_answer, looked_text, looks_answer, submit_text_step, submit_step}
+use Rattle.stm_commands.specs.Checkpointing.{are_tickets_full, begun_anew, is_due_checkpoint, checkpoint_if}
+use Rattle.stm_commands.specs.Contents.{show_text, show_answer, waiter_reads_text, reads_answer, store_text, store_answer}
+use Rattle.stm_commands.specs.Endings.{finish_ticket_step, finish_step, cancel_ticket_step, cancel_step, settle_desk_step, settle_step}
+use Rattle.stm_commands.specs.Evaluation.{eval_desk_step, eval_step}
+use Rattle.stm_commands.specs.Jobs.{max_jobs, taken, jobs_of, with_jobs, jobs_line, take_jobs_step, take_step, job_at, deliver_job_step, deliver_step, handback_ticket_step, handback_step}
+use Rattle.stm_commands.specs.OpenDesk.{HandedOut, OpenDesk, present, on_desk}
+use Rattle.stm_commands.specs.Questions.{ready_text, ready_answer}
+use Rattle.stm_commands.specs.Refusals.{refused}
+use Rattle.stm_commands.proofs.KeptQueue.{tickets_recalled}
+use Rattle.stm_run.specs.declared.command.Command.{Command}
+use Rattle.stm_run.specs.declared.command.Command.TheVariants.{Tvar, Try, Looks, Submit, Take, Deliver, Handback, Eval, Finish, Cancel, Show, Reads, Store, Settle, History, Ready, Why, Events, Checkpoint}
+use Rattle.stm_run.specs.declared.console.Console.{Console}
+use Rattle.stm_run.specs.declared.console.Console.TheVariants.{Declaring, Open}
+use Rattle.stm_run.specs.Console.{command_named, answer_to, answers_to, state_after, initial_console, desk_step, command_step, word_step, class_step, step}
+use Rattle.stm_run.specs.ConsoleState.{present_desk, is_open, table_of, events_of, with_checkpoint}
+use Rattle.stm_run.specs.Laws.{state_after_lines}
+use Rattle.stm_run.specs.LineCheckpoints.{auto_checkpoint, auto_step, answers_by}
+use Rattle.stm_run.specs.Unseen.{LookAlike, is_of_history, word_is_of_history, class_is_of_history, line_is_of_history, TellsFull, HaveRoom, AnswersTheSame, CheckpointsAreUnseenByCommands}
+use Rattle.stm_run.proofs.AlikeSteps.{AlikeSteps, NotFull, submit_alike, cancel_alike, finish_alike, handback_alike, deliver_alike, eval_alike, settle_alike}
+use Rattle.stm_run.proofs.DeliveredJobs.{delivered_stands}
+use Rattle.stm_run.proofs.LookingAlike.{AlikeDesks, same_store, same_found, alike_pending, show_alike, reads_alike, ready_alike, jobs_alike}
+use Rattle.stm_run.proofs.ReachedConsole.{IsReached, present_stands, auto_reached, line_reached, start_reached, reached}
+use Rattle.stm_run.proofs.SoundStates.{unseen}
+use Rattle.stm_run.proofs.StandingDesk.{Stands, stands_sound, stands_marked, stands_checkpointed}
+use Rattle.stm_run.proofs.TextsJudged.{BlockOrTold, compiled}
+
+-- ---- open desks
+pub record AlikeOpen (b : Bool) (d d' : OpenDesk) : Type 0 where
+  pub desks : AlikeDesks b d.desk d'.desk
+  pub jobs : d.jobs ≡ d'.jobs
+
+pub record AlikeResults (b : Bool) (p p' : OpenDesk × List ℕ) : Type 0 where
+  pub after : AlikeOpen b p.0 p'.0
+  pub text : p.1 ≡ p'.1
+
+-- consoles whose desks are open and alike
+abbrev pub AlikeConsoles : Bool → Console → Console → Type 0
+AlikeConsoles b (Open d) (Open d') = AlikeOpen b d d'
+AlikeConsoles b (Declaring table limit) s' = ⊥
+AlikeConsoles b (Open d) (Declaring table limit) = ⊥
+
+-- what follows if neither answer tells that its history is full
+abbrev Follows : Bool → OpenDesk × List ℕ → OpenDesk × List ℕ → Type 0
+Follows b p p' = NotFull b p.1 p'.1 → AlikeResults b p p'
+
+by_number : (b : Bool) (f f' : ℕ → OpenDesk × List ℕ) (x x' : OpenDesk × List ℕ) (o : Option ℕ) → ((n : ℕ) → Follows b (f n) (f' n)) → Follows b x x' → Follows b (with_number f x o) (with_number f' x' o)
+by_number b f f' x x' (Some n) h k = h n
+by_number b f f' x x' None h k = k
+
+by_empty : (b c : Bool) (p p' x x' : OpenDesk × List ℕ) → Follows b p p' → Follows b x x' → Follows b (cond {A = OpenDesk × List ℕ} c p x) (cond {A = OpenDesk × List ℕ} c p' x')
+by_empty b true p p' x x' h k = h
+by_empty b false p p' x x' h k = k
+
+by_nothing : (b : Bool) (p p' x x' : OpenDesk × List ℕ) (argument : List ℕ) → Follows b p p' → Follows b x x' → Follows b (with_nothing p x argument) (with_nothing p' x' argument)
+by_nothing b p p' x x' argument h k = by_empty b (length argument == 0) p p' x x' h k
+
+-- an answer alone
+abbrev said : (b : Bool) (d d' : OpenDesk) (x x' : List ℕ) → AlikeOpen b d d' → x ≡ x' → Follows b (d, x) (d', x')
+said b d d' x x' k e = λ n. record { after = k; text = e }
+
+-- a step of the desk
+stepped : (b : Bool) (d d' : OpenDesk) (p p' : DeskView × List ℕ) → AlikeOpen b d d' → AlikeSteps b p p' → AlikeResults b (on_desk d p) (on_desk d' p')
+stepped b d d' p p' k s = record { after = record { desks = s.desks; jobs = k.jobs }; text = s.text }
+
+number_text : (f f' : ℕ → List ℕ) (o : Option ℕ) → ((n : ℕ) → f n ≡ f' n) → with_number f argument_refused o ≡ with_number f' argument_refused o
+number_text f f' (Some n) h = h n
+number_text f f' None h = refl
+
+taken_alike : (b c : Bool) (d d' : DeskView) (jobs : List HandedOut) (ts : List ℕ) → AlikeDesks b d d' → (x : List ℕ)
+    → AlikeResults b (cond {A = OpenDesk × List ℕ} c (record { desk = d; jobs = jobs }, refused (codes "JobsFull")) (with_jobs (record { desk = d; jobs = jobs }) ts, x))
+    (cond {A = OpenDesk × List ℕ} c (record { desk = d'; jobs = jobs }, refused (codes "JobsFull")) (with_jobs (record { desk = d'; jobs = jobs }) ts, x))
+taken_alike b true d d' jobs ts k x = record { after = record { desks = k; jobs = refl }; text = refl }
+taken_alike b false d d' jobs ts k x = record {
+  after = record {
+    desks = alike_pending b d d' (sent (length ts) d.pending) (sent (length ts) d'.pending) (ap (sent (length ts)) k.pending) k;
+    jobs = ap (λ (js : List HandedOut). jobs ++ js) (jobs_alike b d d' ts k);
+  };
+  text = refl;
+}
+
+take_alike : (b : Bool) (d d' : DeskView) (jobs : List HandedOut) (n : ℕ) → AlikeDesks b d d' → AlikeResults b (take_jobs_step (record { desk = d; jobs = jobs }) n) (take_jobs_step (record { desk = d'; jobs = jobs }) n)
+take_alike b d d' jobs n k =
+    let c = nat_lt max_jobs (n + length jobs) in
+    let tickets : taken d n ≡ taken d' n = ap (λ (es : List Entry). taken (record d { pending = es }) n) k.pending in
+    subst (λ (ts : List ℕ). AlikeResults b (take_jobs_step (record { desk = d; jobs = jobs }) n)
+    (cond {A = OpenDesk × List ℕ} c (record { desk = d'; jobs = jobs }, refused (codes "JobsFull")) (with_jobs (record { desk = d'; jobs = jobs }) ts, jobs_line (length jobs + 1) ts))) tickets
+    (taken_alike b c d d' jobs (taken d n) k (jobs_line (length jobs + 1) (taken d n)))
+
+module _ (judged : (table : List Declared) (text : List ℕ) → BlockOrTold table (compiled_block table text)) (stable : VerdictIsStable) where
+  -- with the same jobs
+  desk_alike : (b : Bool) (d d' : DeskView) (jobs : List HandedOut) → Stands d jobs → AlikeDesks b d d' → (c : Command) → is_of_history c ≡ false → (argument : List ℕ)
+      → Follows b (desk_step (record { desk = d; jobs = jobs }) c argument) (desk_step (record { desk = d'; jobs = jobs }) c argument)
+  unfolding try_answer looks_answer submit_step take_step deliver_step handback_step eval_step finish_step cancel_step show_answer reads_answer store_answer settle_step ready_answer
+  desk_alike b d d' jobs st k Tvar h argument = said b _ _ _ _ (record { desks = k; jobs = refl }) refl
+  desk_alike b d d' jobs st k Try h argument =
+      said b _ _ _ _ (record { desks = k; jobs = refl }) (ap₂ (λ (cells : List Cell) (t : List Declared). tried_text cells (compiled_block t argument)) (same_store b d d' k) k.table)
+  desk_alike b d d' jobs st k Looks h argument =
+      said b _ _ _ _ (record { desks = k; jobs = refl }) (ap₂ (λ (cells : List Cell) (t : List Declared). looked_text cells (compiled_block t argument)) (same_store b d d' k) k.table)
+  desk_alike b d d' jobs st k Submit h argument = λ n.
+      subst (λ (r : Result Block Refusal). NotFull b (submit_text_step d (compiled_block d.table argument)).1 (submit_text_step d' r).1
+      → AlikeResults b (on_desk (record { desk = d; jobs = jobs }) (submit_text_step d (compiled_block d.table argument))) (on_desk (record { desk = d'; jobs = jobs }) (submit_text_step d' r)))
+      (ap (λ (t : List Declared). compiled_block t argument) k.table)
+      (λ m. stepped b _ _ _ _ (record { desks = k; jobs = refl }) (submit_alike b d d' jobs (compiled_block d.table argument) (judged d.table argument) st k m)) n
+  desk_alike b d d' jobs st k Take h argument =
+      by_number b (take_jobs_step (record { desk = d; jobs = jobs })) (take_jobs_step (record { desk = d'; jobs = jobs })) _ _ (number_argument argument)
+      (λ n m. take_alike b d d' jobs n k) (said b _ _ _ _ (record { desks = k; jobs = refl }) refl)
+  desk_alike b d d' jobs st k Deliver h argument =
+      by_number b (λ n. on_desk (record { desk = d; jobs = jobs }) (deliver_job_step d (job_at n jobs))) (λ n. on_desk (record { desk = d'; jobs = jobs }) (deliver_job_step d' (job_at n jobs))) _ _ (number_argument argument)
+      (λ n m. stepped b _ _ _ _ (record { desks = k; jobs = refl }) (deliver_alike b d d' jobs (job_at n jobs) (delivered_stands stable d jobs n st) k m)) (said b _ _ _ _ (record { desks = k; jobs = refl }) refl)
+  desk_alike b d d' jobs st k Handback h argument =
+      by_number b (λ t. on_desk (record { desk = d; jobs = jobs }) (handback_ticket_step d t)) (λ t. on_desk (record { desk = d'; jobs = jobs }) (handback_ticket_step d' t)) _ _ (number_argument argument)
+      (λ t m. stepped b _ _ _ _ (record { desks = k; jobs = refl }) (handback_alike b d d' t k)) (said b _ _ _ _ (record { desks = k; jobs = refl }) refl)
+  desk_alike b d d' jobs st k Eval h argument =
+      by_nothing b (on_desk (record { desk = d; jobs = jobs }) (eval_desk_step d)) (on_desk (record { desk = d'; jobs = jobs }) (eval_desk_step d')) _ _ argument
+      (λ m. stepped b _ _ _ _ (record { desks = k; jobs = refl }) (eval_alike stable b d d' jobs st k m)) (said b _ _ _ _ (record { desks = k; jobs = refl }) refl)
+  desk_alike b d d' jobs st k Finish h argument =
+      by_number b (λ t. on_desk (record { desk = d; jobs = jobs }) (finish_ticket_step d t (finish_refusal d t))) (λ t. on_desk (record { desk = d'; jobs = jobs }) (finish_ticket_step d' t (finish_refusal d' t))) _ _
+      (number_argument argument) (λ t m. stepped b _ _ _ _ (record { desks = k; jobs = refl }) (finish_alike b d d' jobs t st k m)) (said b _ _ _ _ (record { desks = k; jobs = refl }) refl)
+  desk_alike b d d' jobs st k Cancel h argument =
+      by_number b (λ t. on_desk (record { desk = d; jobs = jobs }) (cancel_ticket_step d t (cancel_refusal d t))) (λ t. on_desk (record { desk = d'; jobs = jobs }) (cancel_ticket_step d' t (cancel_refusal d' t))) _ _
+      (number_argument argument) (λ t m. stepped b _ _ _ _ (record { desks = k; jobs = refl }) (cancel_alike b d d' jobs t st k m)) (said b _ _ _ _ (record { desks = k; jobs = refl }) refl)
+  desk_alike b d d' jobs st k Show h argument =
+      said b _ _ _ _ (record { desks = k; jobs = refl }) (ap (λ (t : List ℕ). with_nothing t argument_refused argument) (show_alike b d d' k))
+  desk_alike b d d' jobs st k Reads h argument =
+      said b _ _ _ _ (record { desks = k; jobs = refl })
+      (number_text (λ t. waiter_reads_text (find_waiter t (state_of d).waiters)) (λ t. waiter_reads_text (find_waiter t (state_of d').waiters)) (number_argument argument)
+      (λ t. reads_alike (find_waiter t (state_of d).waiters) (find_waiter t (state_of d').waiters) (same_found b d d' t k)))
+  desk_alike b d d' jobs st k Store h argument =
+      said b _ _ _ _ (record { desks = k; jobs = refl })
+      (ap₂ (λ (t : List Declared) (cells : List Cell). with_nothing (store_text t cells) argument_refused argument) k.table (same_store b d d' k))
+  desk_alike b d d' jobs st k Settle h argument =
+      by_nothing b (on_desk (record { desk = d; jobs = jobs }) (settle_desk_step (requeued_all d))) (on_desk (record { desk = d'; jobs = jobs }) (settle_desk_step (requeued_all d'))) _ _ argument
+      (λ m. stepped b _ _ _ _ (record { desks = k; jobs = refl })
+      (settle_alike b (requeued_all d) (requeued_all d') (alike_pending b d d' (recalled d.pending) (recalled d'.pending) (ap recalled k.pending) k) m)) (said b _ _ _ _ (record { desks = k; jobs = refl }) refl)
+  desk_alike b d d' jobs st k Ready h argument =
+      said b _ _ _ _ (record { desks = k; jobs = refl }) (ap (λ (t : List ℕ). with_nothing t argument_refused argument) (ready_alike b d d' k))
+  desk_alike b d d' jobs st k History h argument = absurd (cc h)
+  desk_alike b d d' jobs st k Why h argument = absurd (cc h)
+  desk_alike b d d' jobs st k Events h argument = absurd (cc h)
+  desk_alike b d d' jobs st k Checkpoint h argument = absurd (cc h)
+
+  open_alike : (b : Bool) (d d' : OpenDesk) → Stands d.desk d.jobs → AlikeOpen b d d' → (c : Command) → is_of_history c ≡ false → (argument : List ℕ) → Follows b (desk_step d c argument) (desk_step d' c argument)
+  open_alike b d d' st k c h argument =
+      subst (λ (js : List HandedOut). Follows b (desk_step d c argument) (desk_step (record { desk = d'.desk; jobs = js }) c argument)) k.jobs (desk_alike b d.desk d'.desk d.jobs st k.desks c h argument)
+
+  -- ---- lines
+  -- what two open consoles come to
+  abbrev LineFollows : Bool → Console × List ℕ → Console × List ℕ → Type 0
+  LineFollows b p p' = NotFull b p.1 p'.1 → AlikeConsoles b p.0 p'.0 × (p.1 ≡ p'.1)
+
+  command_alike : (b : Bool) (d d' : OpenDesk) → Stands d.desk d.jobs → AlikeOpen b d d' → (c : Command) → is_of_history c ≡ false → (argument : List ℕ) → LineFollows b (command_step (Open d) c argument) (command_step (Open d') c argument)
+  command_alike b d d' st k Tvar h argument = λ n. (k, refl)
+  command_alike b d d' st k c h argument = λ n. let r = open_alike b d d' st k c h argument n in (r.after, r.text)
+
+  word_alike : (b : Bool) (d d' : OpenDesk) → Stands d.desk d.jobs → AlikeOpen b d d' → (o : Option Command) → word_is_of_history o ≡ false → (argument : List ℕ) → LineFollows b (word_step (Open d) o argument) (word_step (Open d') o argument)
+  word_alike b d d' st k (Some c) h argument = command_alike b d d' st k c h argument
+  word_alike b d d' st k None h argument = λ n. (k, refl)
+
+  class_alike : (b : Bool) (d d' : OpenDesk) → Stands d.desk d.jobs → AlikeOpen b d d' → (j : LineClass) → class_is_of_history j ≡ false → LineFollows b (class_step (Open d) j) (class_step (Open d') j)
+  class_alike b d d' st k TooLong h = λ n. (k, refl)
+  class_alike b d d' st k Silent h = λ n. (k, refl)
+  class_alike b d d' st k NotAscii h = λ n. (k, refl)
+  class_alike b d d' st k (Words word argument) h = word_alike b d d' st k (command_named word) h argument
+
+  pub line_alike : (b : Bool) (d d' : OpenDesk) → Stands d.desk d.jobs → AlikeOpen b d d' → (line : List ℕ) → line_is_of_history line ≡ false → LineFollows b (step (Open d) line) (step (Open d') line)
+  unfolding step
+  line_alike b d d' st k line h = class_alike b d d' st k (line_class line) h
+
+-- ---- checkpoints
+low_next : (d : OpenDesk) → are_tickets_full d ≡ false → (state_of d.desk).next ≤ max_next
+low_next d e = grind (arith, nat_tests)
+
+-- a desk that looks like another one looks like it after a checkpoint, too
+checkpoint_alike : (b : Bool) (d d' : DeskView) (jobs : List HandedOut) → Stands d' jobs → (state_of d').next ≤ max_next → AlikeDesks b d d' → AlikeDesks true d (checkpointed d')
+checkpoint_alike b d d' jobs st low k = record {
+  table = k.table;
+  limit = k.limit;
+  pending = k.pending;
+  possible = k.possible;
+  possible_too = (stands_sound (checkpointed d') jobs (stands_checkpointed d' jobs low st)).possible;
+  same = k.same ∙ sym (unseen d'.table (state_of d') (stands_sound d' jobs st) low);
+  fewer = λ e. omega arith;
+}
+
+itself_alike : (b : Bool) (d : DeskView) (jobs : List HandedOut) → Stands d jobs → AlikeDesks b d d
+itself_alike b d jobs st =
+    let p = (stands_sound d jobs st).possible in
+    record { table = refl; limit = refl; pending = refl; possible = p; possible_too = p; same = refl; fewer = λ e. omega arith }
+
+-- ---- consoles that look alike
+from_look : (s s' : Console) → IsReached s → IsReached s' → LookAlike s s' → AlikeConsoles false s s'
+from_look (Declaring table limit) s' r r' k = absurd (cc k.opened)
+from_look (Open d) (Declaring table limit) r r' k = absurd (cc k.opened_too)
+from_look (Open d) (Open d') r r' k = record {
+  desks = record {
+    table = k.table;
+    limit = k.limit;
+    pending = k.pending;
+    possible = (stands_sound d.desk d.jobs r).possible;
+    possible_too = (stands_sound d'.desk d'.jobs r').possible;
+    same = k.observed_is;
+    fewer = λ e. absurd (cc e);
+  };
+  jobs = k.jobs;
+}
+
+to_look : (b : Bool) (s s' : Console) → AlikeConsoles b s s' → LookAlike s s'
+to_look b (Declaring table limit) s' k = absurd k
+to_look b (Open d) (Declaring table limit) k = absurd k
+to_look b (Open d) (Open d') k = record {
+  opened = refl;
+  opened_too = refl;
+  table = k.desks.table;
+  limit = k.desks.limit;
+  pending = k.desks.pending;
+  jobs = k.jobs;
+  observed_is = k.desks.same;
+}
+
+module _ (blocks : BlockAnswersAreRight) (declarations : DeclarationAnswersAreRight) (faults : CheckNeverSaysNoMemory) (stable : VerdictIsStable) (checked : CheckedAreWellTyped) where
+  judged : (table : List Declared) (text : List ℕ) → BlockOrTold table (compiled_block table text)
+  judged = compiled blocks declarations faults checked
+
+  after_line : (s : Console) → IsReached s → (line : List ℕ) → IsReached (state_after s line)
+  after_line = line_reached blocks declarations faults stable checked
+
+  -- a line on consoles that are alike
+  one_line : (b : Bool) (s s' : Console) → IsReached s → AlikeConsoles b s s' → (line : List ℕ) → line_is_of_history line ≡ false → NotFull b (answer_to s line) (answer_to s' line)
+      → AlikeConsoles b (state_after s line) (state_after s' line) × (answer_to s line ≡ answer_to s' line)
+  one_line b (Declaring table limit) s' r k line h n = absurd k
+  one_line b (Open d) (Declaring table limit) r k line h n = absurd k
+  one_line b (Open d) (Open d') r k line h n = line_alike judged stable b d d' r k line h n
+
+  checkpoint_seen : (s : Console) → IsReached s → is_open s ≡ true → are_tickets_full (present_desk s) ≡ false → LookAlike s (with_checkpoint s)
+  checkpoint_seen (Declaring table limit) r o e = absurd (cc o)
+  checkpoint_seen (Open d) r o e =
+      to_look true (Open d) (with_checkpoint (Open d))
+      (record { desks = checkpoint_alike false d.desk d.desk d.jobs r (low_next d e) (itself_alike false d.desk d.jobs r); jobs = refl })
+
+  -- ---- a run that makes checkpoints by itself
+  -- both are open and alike, or both declare the same
+  abbrev Related : Console → Console → Type 0
+  Related (Declaring table limit) s = s ≡ Declaring table limit
+  Related (Open d) s = AlikeConsoles true (Open d) s
+
+  due_related : (d d' : OpenDesk) (x y : Bool) → nat_le (state_of d'.desk).next max_next ≡ y → Stands d'.desk d'.jobs → AlikeOpen true d d' → AlikeOpen true d (cond (x && y) (begun_anew d') d')
+  due_related d d' false y e st k = k
+  due_related d d' true false e st k = k
+  due_related d d' true true e st k = record { desks = checkpoint_alike true d.desk d'.desk d'.jobs st (grind (arith, nat_tests)) k.desks; jobs = k.jobs }
+
+  auto_related : (every : ℕ) (t s : Console) → IsReached s → AlikeConsoles true t s → AlikeConsoles true t (auto_checkpoint every s)
+  auto_related every (Declaring table limit) s r k = absurd k
+  auto_related every (Open d) (Declaring table limit) r k = absurd k
+  auto_related every (Open d) (Open d') r k = due_related d d' (nat_le every (length d'.desk.history)) (nat_le (state_of d'.desk).next max_next) refl r k
+
+  step_related : (every : ℕ) (c : Bool) (t s : Console) → IsReached s → AlikeConsoles true t s → AlikeConsoles true t (cond c (auto_checkpoint every s) s)
+  step_related every true t s r k = auto_related every t s r k
+  step_related every false t s r k = k
+
+  step_reached : (every : ℕ) (c : Bool) (s : Console) → IsReached s → IsReached (cond c (auto_checkpoint every s) s)
+  step_reached every true s r = auto_reached every s r
+  step_reached every false s r = r
+
+  -- after the first line on the same console
+  opened_related : (every : ℕ) (c : Bool) (x : Console) → IsReached x → Related x (cond c (auto_checkpoint every x) x)
+  opened_related every true (Declaring table limit) r = refl
+  opened_related every false (Declaring table limit) r = refl
+  opened_related every c (Open d) r = step_related every c (Open d) (Open d) r (record { desks = itself_alike true d.desk d.jobs r; jobs = refl })
+
+  from_related : (t s : Console) → is_open t ≡ true → Related t s → AlikeConsoles true t s
+  from_related (Declaring table limit) s e k = absurd (cc e)
+  from_related (Open d) s e k = k
+
+  to_related : (t s : Console) → AlikeConsoles true t s → Related t s
+  to_related (Declaring table limit) s k = absurd k
+  to_related (Open d) s k = k
+
+  answers_alike : (every : ℕ) (lines : List (List ℕ)) (t s : Console) → IsReached t → IsReached s → Related t s → HaveRoom t lines → answers_by every s lines ≡ answers_to t lines
+  answers_alike every [] t s r r' k room = refl
+  answers_alike every (line ∷ rest) (Declaring table limit) s r r' k room =
+      let t : Console = Declaring table limit in
+      let c = nat_lt (length (events_of t)) (length (events_of (state_after t line))) in
+      let after = after_line t r line in
+      subst (λ (x : Console). answers_by every x (line ∷ rest) ≡ answers_to t (line ∷ rest)) (sym k)
+      (ap (λ (more : List ℕ). answer_to t line ++ more)
+      (answers_alike every rest (state_after t line) (auto_step every t (state_after t line)) after (step_reached every c (state_after t line) after) (opened_related every c (state_after t line) after) room.2))
+  answers_alike every (line ∷ rest) (Open d) s r r' k room =
+      let t : Console = Open d in
+      let next = one_line true t s r k line room.0 (room.1, λ e. absurd (cc e)) in
+      let c = nat_lt (length (events_of s)) (length (events_of (state_after s line))) in
+      let after = after_line s r' line in
+      ap₂ (λ (x y : List ℕ). x ++ y) (sym next.1)
+      (answers_alike every rest (state_after t line) (auto_step every s (state_after s line)) (after_line t r line) (step_reached every c (state_after s line) after)
+      (to_related (state_after t line) _ (step_related every c (state_after t line) (state_after s line) after next.0)) room.2)
+
+  pub unseen_by_commands : CheckpointsAreUnseenByCommands
+  unfolding initial_console
+  unseen_by_commands = record {
+    checkpoint = λ m low before. checkpoint_seen (state_after_lines (initial_console m) before) (reached blocks declarations faults stable checked m low before);
+    line = λ m low before before' line k h n n'.
+        let s = state_after_lines (initial_console m) before in
+        let s' = state_after_lines (initial_console m) before' in
+        let r = reached blocks declarations faults stable checked m low before in
+        let next = one_line false s s' r (from_look s s' r (reached blocks declarations faults stable checked m low before') k) line h (n, λ e. n') in
+        record { answer = next.1; after = to_look false (state_after s line) (state_after s' line) next.0 };
+    automatic = λ m low every lines room.
+        let first = start_reached blocks declarations faults stable checked m low in
+        answers_alike every lines (initial_console m) (initial_console m) first first refl room;
+  }
