@@ -40,7 +40,7 @@ import stmdesk
 from stmdesk import (
     BadAnswer, Blocks, Cancellation, Cell, Change, ClientAt, Commits, Current, Delivery, Desk, Ended, FinalCell, Finish, Finished,
     FinishedThrows, Job, JournalError, New, NewRef, Ready, Ref, Refused, ScriptRefused, Settled, Stale, StaleBefore, StaleBy, Stopped,
-    Submission, Throws, Waits, _commands, _hints, _program, aio, check, explore, find_program,
+    Submission, Throws, Waits, _commands, _helper, _hints, _program, aio, check, explore, find_program,
 )  # fmt: skip
 
 HERE = pathlib.Path(__file__).resolve().parent
@@ -1912,6 +1912,27 @@ class Asynchronous(OnProgram):
         with self.assertRaises(ValueError):
             asyncio.run(desk.eval())
         self.assert_gone(desk.pid)
+
+
+class Helpers(OnProgram):
+    def test_what_comes_while_the_end_is_noticed(self):
+        """It runs after all that came before it, and not at once."""
+        ran, is_noticed, is_given, is_done = [], threading.Event(), threading.Event(), threading.Event()
+
+        def on_end():
+            is_noticed.set()
+            is_given.wait()
+            ran.append("the end")
+
+        output, program_end = os.pipe()
+        helper = _helper.Helper(output, on_end)
+        os.close(program_end)
+        is_noticed.wait()
+        helper.run(lambda: ran.append("first"))
+        helper.run(lambda: (ran.append("second"), is_done.set()))
+        is_given.set()
+        is_done.wait()
+        self.assertEqual(ran, ["the end", "first", "second"])
 
 
 class Choices(OnProgram):

@@ -14,7 +14,8 @@ class Helper:
     """A thread that runs the functions that it is given, in their order, and `on_end` when the program prints no more.
 
     Python runs signal handlers in the main thread, so no Ctrl-C breaks off what this thread does. The functions must not
-    raise. The thread ends with the program; functions that come later run at once, in the caller's thread.
+    raise. The thread ends with the program, when it has run `on_end` and then what it was given meanwhile; functions that come
+    later run at once, in the caller's thread.
     """
 
     def __init__(self, output: int, on_end: Callable[[], None]) -> None:
@@ -46,10 +47,11 @@ class Helper:
         while self._output not in (it for it, _ in poll.poll()):
             os.read(self._woken, 4096)  # before the functions are run, so that one that comes meanwhile wakes the thread again
             self._run_all()
-        with self._ending:
-            self._is_over = True
         self._on_end()
-        self._run_all()
+        while not self._is_over:
+            self._run_all()
+            with self._ending:
+                self._is_over = not self._functions
         for it in (self._output, self._woken, self._wake):
             os.close(it)
 
