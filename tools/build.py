@@ -22,8 +22,8 @@ from concurrent.futures import FIRST_COMPLETED, ThreadPoolExecutor, wait
 
 ROOT = pathlib.Path(__file__).resolve().parent.parent
 TEXTS = "src", "specs", "proofs"
-SECONDS = 0.14  # of processor time that the proof of a line of src/ takes, about (2.5 GHz); and that a program takes for
-BELOW = 0.0045  # each line of the crates below, which are compiled with it
+SECONDS = 0.16  # of processor time that the proof of a line of src/ takes, about (2.5 GHz); and that a crate takes for
+BELOW = 0.006  # each line of the crates below, which are read; a program takes it twice, since they are compiled with it
 GAINS = {1: 1.0, 2: 1.2, 3: 1.4}  # how much faster a chain of crates is proved on N processors; on more than 3:
 MOST_GAIN = 1.5
 MEMORY = 3 << 30  # bytes that one check may take
@@ -37,7 +37,7 @@ class Crate:
         self.name, self.line, self.below, self.folder = name, line, below, ROOT / "crates" / name
         self.is_program = (self.folder / "src" / "main.rt").exists()
         self.lines = sum(it.read_bytes().count(b"\n") for it in self.folder.glob("src/**/*.rt"))
-        self.seconds = SECONDS * self.lines + BELOW * self.is_program * sum(it.lines for it in below)
+        self.seconds = SECONDS * self.lines + BELOW * (1 + self.is_program) * sum(it.lines for it in below)
 
     def is_fresh(self):
         """Whether a library is there that is newer than all texts that it depends on."""
