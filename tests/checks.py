@@ -110,17 +110,17 @@ def example():
 
 
 def cuts(lines, before):
-    """A history cut after each line, within it and before its line feed. So many lines come before the events."""
+    """A history cut after each line, within it and before its line feed. `before` is the number of lines before the events."""
     for number, line in enumerate(lines, 1):
         front = "".join(lines[: number - 1])
         place = f"line {number} " if number <= before else ""
         if number < before:
-            yield f"cut behind line {number}", front + line, "bad header", f"line {number + 1} unreadable"
+            yield f"cut after line {number}", front + line, "bad header", f"line {number + 1} unreadable"
         else:
-            yield f"cut behind line {number}", front + line, f"legal {number - before} events", ""
+            yield f"cut after line {number}", front + line, f"legal {number - before} events", ""
         inside = "bad header" if number <= before else f"bad line {number}"
         for length in (1, len(line) // 2):
-            yield f"cut behind {length} bytes of line {number}", front + line[:length], inside, place + UNREADABLE
+            yield f"cut after {length} bytes of line {number}", front + line[:length], inside, place + UNREADABLE
         yield f"cut before the line feed of line {number}", front + line[:-1], inside, f"{place}expected {line[:-1]}"
 
 

@@ -6,8 +6,8 @@ ghost use Rattle.stm_options.specs.Options.{default_options};
 use stm_desk::Desk;
 
 /// How a run works: how many threads evaluate blocks (1 to 64), how deep the branches of `orElse` are evaluated on threads
-/// of their own (0 to 8), how many events the desk takes (at most 1,048,576), and from how many events on a run with a file begins
-/// its history anew by a checkpoint (1 to 1,048,576). Only the last two have a say in what a run writes.
+/// of their own (0 to 8), how many events the desk takes (at most 1,048,576), and at how many events a run with a file makes a
+/// checkpoint by itself (1 to 1,048,576). Only the last two change what a run writes.
 #[derive(Clone, Copy, PartialEq, Eq, Debug)]
 pub struct Options {
     pub workers: u32,
@@ -26,7 +26,7 @@ impl Options {
     /// The most events.
     pub const MAX_EVENTS: u32 = Desk::MAX_EVENTS;
 
-    /// From how many events on a checkpoint is made if nothing is said.
+    /// At how many events a checkpoint is made by default.
     pub const CHECKPOINT_EVERY: u32 = 500_000;
 
     /// If nothing is said: two threads, no branches on threads of their own, as many events as there may be, and a checkpoint at
