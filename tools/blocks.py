@@ -12,6 +12,7 @@ Expression = Callable[[Locals], Value]
 sys.setrecursionlimit(max(sys.getrecursionlimit(), 5000))  # 64 brackets, each within all operators
 TOKEN = re.compile(r"[A-Za-z][A-Za-z0-9_']*|[0-9]+|<-|<=|==|&&|\|\||[{}();:<=+*-]")
 LEAST, MOST = -(1 << 63), (1 << 63) - 1
+MOST_TOKENS = 4096  # of a block
 OVERFLOW = "overflow"
 
 
@@ -90,6 +91,8 @@ def in_range(number: int) -> int:
 def parsed(text: str, declared: Mapping[str, Value]) -> Action:
     """The action of a block's text, in which these names are variables. Raises ValueError or LookupError if it is none."""
     parser = Parser(text, declared)
+    if len(parser.words) - 1 > MOST_TOKENS:
+        raise ValueError
     action = parser.action()
     if parser.at != len(parser.words) - 1:
         raise ValueError

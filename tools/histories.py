@@ -2,8 +2,9 @@
 
 import itertools
 import json
+import os
 import sys
-from collections.abc import Iterable, Iterator
+from collections.abc import Callable, Iterable, Iterator
 from dataclasses import dataclass, field
 from typing import Any
 
@@ -27,10 +28,9 @@ def value_text(value: Any, first_new: int | None) -> str:
     """A value as the program prints it: `7`, `True`, `()`, `#0`, `new0`."""
     if isinstance(value, dict):
         if "old" in value:
-            return f"#{int(value['old'])}"
-        number = int(value["new"])
-        return f"new{number}" if first_new is None else f"#{first_new + number}"
-    return "()" if value is None else clean(value)
+            return f"#{value['old']}"
+        return f"new{value['new']}" if first_new is None else f"#{first_new + value['new']}"
+    return "()" if value is None else str(value)
 
 
 def objects(lines: Iterable[bytes]) -> Iterator[tuple[int, Object]]:
@@ -75,19 +75,111 @@ def head(found: Iterator[tuple[int, Object]]) -> Head:
     """Takes the header, the lines of the variables, and those of the blocks that wait already."""
     nothing: tuple[int, Object] = (0, {})
     _, header = next(found, nothing)
-    is_head = header.get("format") in (1, 2, 3, 4) and isinstance(header.get("vars"), int)
-    if not is_head or (header["format"] == 4 and not isinstance(header.get("waiting"), int)):
+    kind = header.get("format")
+    counts = (kind, header.get("vars"), header.get("waiting") if kind == 4 else 0)
+    if not all(type(it) is int and it >= 0 for it in counts) or kind not in (1, 2, 3, 4):
         raise NotDrawn(f"this is no history of format 1 to 4; {JUDGE}")
-    variables = taken(found, header["vars"], "name", "variables")
-    return Head(header["format"], variables, taken(found, header["waiting"] if header["format"] == 4 else 0, "ticket", "waiting blocks"))
+    variables = taken(found, header["vars"], "name", "variable", need_variable)
+    waiting = taken(found, header["waiting"], "ticket", "waiting block", need_waiting) if kind == 4 else []
+    return Head(kind, variables, waiting)
 
 
-def taken(found: Iterator[tuple[int, Object]], count: int, key: str, what: str) -> list[Object]:
-    """The next lines, each of which has a key."""
-    lines = [line for _, line in itertools.islice(found, min(max(count, 0), sys.maxsize)) if key in line]
+def taken(found: Iterator[tuple[int, Object]], count: int, key: str, what: str, need_line: Callable[[Object], None]) -> list[Object]:
+    """The next lines, each of which has a key and the shape that is needed there."""
+    lines: list[Object] = []
+    for number, line in itertools.islice(found, min(count, sys.maxsize)):
+        if key not in line:
+            break
+        try:
+            need_line(line)
+        except NOT_AN_EVENT:
+            raise NotDrawn(f"line {number} is no {what} that can be drawn here; {JUDGE}") from None
+        lines.append(line)
     if len(lines) < count:
-        raise NotDrawn(f"the lines of its {count} {what} are not whole; {JUDGE}")
+        raise NotDrawn(f"the lines of its {count} {what}s are not whole; {JUDGE}")
     return lines
+
+
+# ---- The shapes of lines, as docs/HISTORY.md has them. What has another one raises one of NOT_AN_EVENT. --------------
+
+
+def need(is_so: bool) -> None:
+    if not is_so:
+        raise ValueError
+
+
+def need_number(it: Any) -> None:
+    """The number of a ticket, a client or a variable."""
+    need(type(it) is int and 0 <= it < 1 << 32)
+
+
+def need_value(it: Any) -> None:
+    if isinstance(it, dict):
+        ((kind, number),) = it.items()
+        need(kind in ("old", "new"))
+        need_number(number)
+    else:
+        need(it is None or isinstance(it, (bool, int)))
+
+
+def need_pairs(them: Any, need_first: Callable[[Any], None]) -> None:
+    """The pairs of a list, of something and a value."""
+    need(isinstance(them, list))
+    for first, value in them:
+        need_first(first)
+        need_value(value)
+
+
+def need_text(it: Any) -> None:
+    need(isinstance(it, str))
+
+
+def need_verdict(it: Any) -> None:
+    if it == "blocks":
+        return
+    need(isinstance(it, dict))
+    ((kind, told),) = it.items()
+    if kind == "throws":
+        need(told == "overflow" or type(told) is int)
+        return
+    need(kind == "commits" and isinstance(told, dict))
+    need_pairs(told["news"], need_text)
+    need_pairs(told["writes"], need_number)
+    need_value(told["result"])
+
+
+def need_variable(it: Object) -> None:
+    need(it["name"] is None or isinstance(it["name"], str))
+    need_text(it["type"])
+    need_value(it["init"])
+
+
+def need_waiting(it: Object) -> None:
+    need_number(it["ticket"])
+    need_text(it["block"])
+    if "verdict" in it:
+        need_verdict(it["verdict"])
+        need_pairs(it["reads"], need_number)
+        need(isinstance(it["stale"], bool))
+
+
+def need_event(it: Object) -> None:
+    kind = it["event"]
+    need(kind in ("submitted", "installed", "finished", "cancelled"))
+    need_number(it["ticket"])
+    need_number(it.get("client", 0))
+    if kind == "submitted":
+        need_text(it["block"])
+    elif kind != "cancelled":
+        need_verdict(it["verdict"])
+    if kind == "finished":
+        need_number(it["first_new"])
+        need(isinstance(it["stale"], list))
+        for ticket in it["stale"]:
+            need_number(ticket)
+
+
+# ---- What happens ----------------------------------------------------------------------------------------------------
 
 
 @dataclass
@@ -120,12 +212,11 @@ class Replay:
         self.actions: dict[str, blocks.Action | None] = {}
         self.texts: dict[int, str] = {}
         self.reads: dict[int, frozenset[int] | None] = {}
-        try:
-            for it in found.waiting:
-                self.texts[int(it["ticket"])] = str(it["block"])
-                self.reads[int(it["ticket"])] = frozenset(int(variable) for variable, _ in it["reads"]) if "reads" in it else None
-        except NOT_AN_EVENT:
-            raise NotDrawn(f"the lines of its waiting blocks can't be read; {JUDGE}") from None
+        for it in found.waiting:
+            if it["ticket"] in self.texts:
+                raise NotDrawn(f"ticket {it['ticket']} waits twice; {JUDGE}")
+            self.texts[it["ticket"]] = it["block"]
+            self.reads[it["ticket"]] = frozenset(variable for variable, _ in it["reads"]) if "reads" in it else None
 
     @staticmethod
     def value(value: Any, first_new: int | None) -> blocks.Value:
@@ -133,16 +224,16 @@ class Replay:
         if not isinstance(value, dict):
             return value
         if "old" in value:
-            return ("old", int(value["old"]))
-        return ("new", int(value["new"])) if first_new is None else ("old", first_new + int(value["new"]))
+            return ("old", value["old"])
+        return ("new", value["new"]) if first_new is None else ("old", first_new + value["new"])
 
     def step(self, event: Object) -> Effect:
         """Takes in an event. Raises one of NOT_AN_EVENT if it is none."""
-        kind, ticket, effect = event["event"], int(event["ticket"]), Effect()
-        if (kind == "submitted") == (ticket in self.texts) or kind not in ("submitted", "installed", "finished", "cancelled"):
-            raise ValueError
+        need_event(event)
+        kind, ticket, effect = event["event"], event["ticket"], Effect()
+        need((kind == "submitted") == (ticket not in self.texts))
         if kind == "submitted":
-            self.texts[ticket], self.reads[ticket] = str(event["block"]), None
+            self.texts[ticket], self.reads[ticket] = event["block"], None
         elif kind == "installed":
             effect.reads = self.reads[ticket] = self.reads_of(self.texts[ticket], event["verdict"])
         else:
@@ -200,3 +291,33 @@ def shown(value: blocks.Value) -> str:
     if isinstance(value, tuple):
         return f"#{value[1]}" if value[0] == "old" else f"new{value[1]}"
     return "()" if value is None else clean(value)
+
+
+# ---- The command -----------------------------------------------------------------------------------------------------
+
+
+def run(tool: str, path: str | None, draw: Callable[[Iterator[bytes]], str]) -> int:
+    """Reads a history from the file of this path, or from standard input, and writes what `draw` makes of its lines. Returns the exit
+    status, and says on standard error why it isn't 0."""
+    try:
+        with open(0 if path is None else path, "rb", closefd=path is not None) as source:
+            left = draw(iter(source)).encode(errors="replace")
+    except NotDrawn as why:
+        print(f"{tool}: {why}", file=sys.stderr)
+        return 3
+    except OSError as error:
+        print(f"{tool}: read fault: {reason(error)}", file=sys.stderr)
+        return 1
+    try:
+        while left:
+            left = left[os.write(1, left) :]
+    except OSError as error:
+        print(f"{tool}: write fault: {reason(error)}", file=sys.stderr)
+        return 1
+    return 0
+
+
+def reason(error: OSError) -> str:
+    """What an error of a file says, without its number."""
+    said = error.strerror or str(error)
+    return said if error.filename is None else f"{error.filename}: {said}"
