@@ -13,6 +13,7 @@ import contextlib
 import doctest
 import fcntl
 import gc
+import multiprocessing
 import os
 import pathlib
 import pickle
@@ -1734,6 +1735,304 @@ class Interrupted(InThreads):
         self.assert_gone(desk.pid)
 
 
+class Forks(InThreads):
+    """A desk belongs to the process that started it: a forked one can't use it, and disturbs nothing."""
+
+    CALLS = {
+        "tvar": ("y : Int = 1",), "try_": ("retry",), "looks": ("retry",), "submit": ("retry",), "take": (1,), "deliver": (1,),
+        "handback": (1,), "eval": (), "finish": (1,), "cancel": (1,), "show": (), "ready": (), "reads": (1,), "why": (1,), "store": (),
+        "settle": (), "history": (), "events": (), "checkpoint": (), "value": ("x",), "variable": ("x : Int = 1",), "batch": (),
+        "atomically": ("retry",),
+    }  # fmt: skip
+
+    def fork(self):
+        """As os.fork. The child is killed by an alarm if it doesn't end."""
+        with warnings.catch_warnings():
+            warnings.simplefilter("ignore", DeprecationWarning)  # of forks while there are threads
+            child = os.fork()
+        if not child:
+            signal.signal(signal.SIGALRM, signal.SIG_DFL)
+            signal.alarm(SECONDS // 2)
+        return child
+
+    def in_child(self, function):
+        """What the function returns in a forked process, as a text."""
+        ours, theirs = os.pipe()
+        child = self.fork()
+        if not child:
+            try:
+                os.write(theirs, repr(function()).encode())
+            finally:
+                os._exit(0)
+        os.close(theirs)
+        with open(ours) as file:
+            said = file.read()
+        os.waitpid(child, 0)
+        return said
+
+    def outcome(self, call, *given, **named):
+        """What comes of a call."""
+        try:
+            call(*given, **named)
+        except RuntimeError as error:
+            return f"RuntimeError of {re.findall('[0-9]+', str(error))}"
+        except BaseException as error:
+            return repr(error)
+        return "no error"
+
+    def refused_in(self, child, owner):
+        """What `outcome` has to be in a child of this process."""
+        return f"RuntimeError of {[str(owner), str(child)]}"
+
+    def assert_refused_in_child(self, calls):
+        """Each of these calls, pairs of a name and a function, raises RuntimeError in a child, with the numbers of both processes."""
+        owner = os.getpid()
+
+        def wrong():
+            wanted = self.refused_in(os.getpid(), owner)
+            return [(name, got) for name, call in calls if (got := self.outcome(call)) != wanted]
+
+        self.assertEqual(self.in_child(wrong), "[]")
+
+    def calls_of(self, desk):
+        public = {name for name in dir(desk) if not name.startswith("_") and callable(getattr(desk, name))}
+        self.assertEqual(public - {"close"}, set(self.CALLS))
+        found = [(name, partial(getattr(desk, name), *given)) for name, given in self.CALLS.items()]
+        return [*found, ("atomically with a timeout", partial(desk.atomically, "retry", timeout=0.01))]
+
+    def test_each_call_raises(self):
+        for is_begun in (False, True):  # whether the desk has a thread
+            desk = self.start()
+            if is_begun:
+                desk.atomically("writeTVar x 7")
+
+            def batch(begun):
+                with begun:
+                    pass
+
+            with desk.batch() as answers:
+                answer = answers.eval()
+                calls = [*self.calls_of(desk), ("a batch that began before", partial(batch, answers)), ("its answer", answer.result)]
+                self.assert_refused_in_child(calls[:-1])
+            self.assert_is(answer.result(), 0)
+            self.assert_is(desk.value("x"), 7 if is_begun else 1)
+            self.assert_is(desk.show(), [])
+
+    def test_each_call_of_asyncio_raises(self):
+        for is_begun in (False, True):
+            desk = aio.Desk(program)
+            if is_begun:
+                asyncio.run(desk.tvar("x : Int = 1"))
+
+            def awaited(call):
+                async def main():
+                    found = call()
+                    if asyncio.iscoroutine(found):
+                        await found
+
+                asyncio.run(main())
+
+            async def within():
+                async with desk:
+                    pass
+
+            calls = [(name, partial(awaited, call)) for name, call in self.calls_of(desk)]
+            self.assert_refused_in_child([*calls, ("async with", lambda: asyncio.run(within()))])
+            self.assertEqual(self.in_child(lambda: asyncio.run(desk.close())), "None")
+            self.assert_is(asyncio.run(desk.eval()), 0)
+            asyncio.run(desk.close())
+
+    def test_it_raises_while_the_owner_is_in_a_call(self):
+        desk = Desk(self.stand_in("read line", "sleep 1000"), patience=0)
+        call = self.begin(desk.eval)
+        while not desk._caller:  # the thread has the lock of the desk
+            time.sleep(0.001)
+        self.assert_refused_in_child([*self.calls_of(desk), ("again", desk.eval)])
+        self.assertFalse(call.done())
+        with self.assertRaises(Ended):
+            desk.close()
+        self.assertIsInstance(call.exception(), Ended)
+
+    def test_the_owner_loses_no_answer(self):
+        desk, count = self.start(), 40
+
+        def work():
+            for _ in range(100):
+                desk.atomically(INCREMENT)
+
+        threads = [self.begin(work) for _ in range(4)]
+        for _ in range(count):
+            self.assert_refused_in_child([("value", lambda: desk.value("x")), ("atomically", lambda: desk.atomically(INCREMENT, timeout=1))])
+        for it in threads:
+            it.result()
+        self.assert_is(desk.value("x"), 401)
+
+    def test_what_a_child_leaves_goes_on(self):
+        desk = self.start()
+        (waiting,) = self.waiting(desk, waits_for(5))
+
+        def leaves(how):
+            def end():
+                with contextlib.suppress(SystemExit), desk:
+                    how()
+
+            return end
+
+        def close():
+            desk.close()
+            desk.close()
+
+        def collect():
+            self.__dict__.clear()  # what refers to the desk
+            gc.collect()
+
+        for end in (leaves(lambda: None), leaves(lambda: sys.exit(3)), close, collect):
+            self.assertEqual(self.in_child(end), "None")
+            self.assert_is(desk.try_("return 1"), Commits({}, [], 1))
+        self.assertFalse(waiting.done())
+        desk.atomically("writeTVar x 5")
+        self.assert_is(waiting.result(), 5)
+
+    def test_a_child_that_ends_as_a_program(self):
+        code = [
+            "import os, sys, warnings",
+            "from stmdesk import Desk",
+            "warnings.simplefilter('ignore', DeprecationWarning)",
+            "with Desk(sys.argv[1]) as desk:",
+            "    x = desk.tvar('x : Int = 1')",
+            "    desk.atomically('writeTVar x 2')",
+            "    child = os.fork()",
+            "    if not child:",
+            "        sys.exit(7)  # through the end of the `with`, and of the interpreter",
+            "    print(os.waitstatus_to_exitcode(os.waitpid(child, 0)[1]), desk.value('x'))",
+        ]
+        command = [sys.executable, "-B", "-c", "\n".join(code), program]
+        done = subprocess.run(command, capture_output=True, text=True, timeout=SECONDS, cwd=HERE)
+        self.assertEqual((done.returncode, done.stdout, done.stderr), (0, "7 2\n", ""))
+
+    def test_the_program_ends_though_a_child_lives(self):
+        for is_begun in (False, True):
+            ours, theirs = os.pipe()
+            desk = self.start(patience=10**6)
+            if is_begun:
+                desk.atomically("writeTVar x 2")
+            child = self.fork()
+            if not child:
+                os.close(theirs)
+                os.read(ours, 1)  # until the owner has closed the desk
+                os._exit(0)
+            desk.close()  # would wait for the child, if that kept the program's input open
+            self.assert_gone(desk.pid)
+            os.close(theirs)
+            os.close(ours)
+            os.waitpid(child, 0)
+
+    def test_the_program_ends_after_its_owner_though_a_child_lives(self):
+        code = [
+            "import os, sys, signal, warnings",
+            "from stmdesk import Desk",
+            "warnings.simplefilter('ignore', DeprecationWarning)",
+            "desk = Desk(sys.argv[1], journal=sys.argv[2], sync='none')",
+            "desk.submit('retry')",
+            "child = os.fork()",
+            "if child:",
+            "    print(child, flush=True)",
+            "signal.alarm(60)",
+            "signal.pause()",
+        ]
+        with tempfile.TemporaryDirectory() as folder:
+            path = pathlib.Path(folder) / "journal"
+            command = [sys.executable, "-B", "-c", "\n".join(code), program, path]
+            owner = subprocess.Popen(command, stdout=subprocess.PIPE, text=True, cwd=HERE)
+            child = int(owner.stdout.readline())
+            owner.kill()
+            owner.wait()
+            with path.open() as file:
+                fcntl.flock(file, fcntl.LOCK_SH)  # waits for the program's end
+            os.kill(child, signal.SIGKILL)
+            owner.stdout.close()
+            with Desk(program, journal=path) as desk:
+                self.assert_is(desk.show(), [New(1)])
+
+    def test_a_signal_handler_forks(self):
+        owner, children = os.getpid(), []
+
+        def handle(number, frame):
+            children.append(self.fork())
+
+        def end_child(got):
+            """Ends the child, if this is one."""
+            if os.getpid() != owner:
+                os._exit(0 if got == self.refused_in(os.getpid(), owner) else 1)
+
+        def assert_ended_well():
+            self.assertEqual(os.waitstatus_to_exitcode(os.waitpid(children.pop(), 0)[1]), 0)
+
+        signal.signal(signal.SIGUSR1, handle)
+        for timeout in (None, 10**6):
+            desk = self.start()
+
+            def send(desk=desk):
+                self.until_blocked(desk, 1)
+                signal.pthread_kill(threading.main_thread().ident, signal.SIGUSR1)
+                while not children:
+                    time.sleep(0.001)
+                desk.atomically("writeTVar x 5")
+
+            sender = self.begin(send)
+            got = self.outcome(desk.atomically, waits_for(5), timeout=timeout)
+            end_child(got)
+            self.assertEqual(got, "no error")
+            sender.result()
+            assert_ended_well()
+        with tempfile.TemporaryDirectory() as folder:
+            has_forked = pathlib.Path(folder) / "has_forked"
+
+            def handle_and_say(number, frame):
+                handle(number, frame)
+                has_forked.touch()
+
+            signal.signal(signal.SIGUSR1, handle_and_say)
+            until = f"until [ -e {has_forked} ]; do sleep 0.01; done"
+            desk = Desk(self.stand_in("read line", "kill -USR1 $PPID", until, "echo evaluated 0", "cat >/dev/null"))
+            got = self.outcome(desk.eval)
+            end_child(got)
+            self.assertEqual(got, "no error")
+            assert_ended_well()
+            desk.close()
+
+    def test_a_child_has_a_desk_of_its_own(self):
+        desk = self.start()
+
+        def other():
+            with Desk(program) as mine:
+                mine.tvar("x : Int = 8")
+                return mine.atomically(INCREMENT), mine.value("x")
+
+        self.assertEqual(self.in_child(other), "(8, 9)")
+        self.assert_is(desk.value("x"), 1)
+
+    def test_multiprocessing(self):
+        desk, forks = self.start(), multiprocessing.get_context("fork")
+        desk.atomically("writeTVar x 2")
+        queue = forks.SimpleQueue()
+
+        def work():
+            queue.put((os.getpid(), self.outcome(desk.atomically, INCREMENT, timeout=3)))
+
+        workers = [forks.Process(target=work) for _ in range(4)]
+        with warnings.catch_warnings():
+            warnings.simplefilter("ignore", DeprecationWarning)  # of forks while there are threads
+            for it in workers:
+                it.start()
+        for it in workers:
+            it.join()
+        got = dict(queue.get() for _ in workers)
+        self.assertEqual(got, {it.pid: self.refused_in(it.pid, os.getpid()) for it in workers})
+        self.assertEqual([it.exitcode for it in workers], [0] * 4)
+        self.assert_is(desk.value("x"), 2)
+
+
 class Asynchronous(OnProgram):
     """The package's `aio`."""
 
@@ -2364,6 +2663,17 @@ class Journals(OnProgram):
                 self.assert_is(desk.settle(), Settled(1, 1))
                 self.assert_is(desk.submit("retry"), 4)
             self.assertEqual(check(self.path, program=program).events, 12)
+
+    def test_a_path_of_bytes(self):
+        class Path:
+            def __fspath__(self):
+                return os.fsencode(path)
+
+        path = self.path.with_name("caf\udce9")  # a byte that isn't UTF-8
+        for number, given in enumerate((path, str(path), os.fsencode(path), Path())):
+            with Desk(program, journal=given) as desk:
+                self.assert_is((desk.is_resumed, desk.submit("retry")), (number > 0, number + 1))
+        self.assertEqual(os.listdir(os.fsencode(path.parent)), [b"caf\xe9"])
 
     def test_variables_of_a_desk_without_events(self):
         with self.open() as desk:

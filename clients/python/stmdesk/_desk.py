@@ -52,7 +52,7 @@ class Desk:
         self,
         program: str | os.PathLike[str] | None = None,
         *,
-        journal: str | os.PathLike[str] | None = None,
+        journal: str | bytes | os.PathLike[str] | os.PathLike[bytes] | None = None,
         sync: Sync | None = None,
         checkpoint_every: int | None = None,
         workers: int | None = None,
@@ -81,7 +81,7 @@ class Desk:
         given = {"--workers": workers, "--levels": levels, "--max-events": max_events, "--checkpoint-every": checkpoint_every}
         options = [word for name, value in given.items() if value is not None for word in (name, decimal(value))]
         if journal is not None:
-            options.append(f"--journal={os.fspath(journal)}")
+            options.append(f"--journal={os.fsdecode(journal)}")
         if sync is not None:
             options.append(f"--sync={sync}")
         path = find_program() if program is None else os.fspath(program)
@@ -326,6 +326,7 @@ class Desk:
         >>> desk.variable("x : Int = 0"), desk.variable("y : Int = 0")
         (Ref(0, 'x'), Ref(1, 'y'))
         """
+        self._process.check_owner()
         name, _, rest = declaration.partition(":")
         found = self._answers.named.get(name.strip())
         if found is not None and _one_text(rest.partition("=")[0]) == _one_text(self._answers.types[name.strip()]):
@@ -349,6 +350,7 @@ class Desk:
         >>> waiting.join()
         5
         """
+        self._process.check_owner()
         if self._caller == get_ident():
             raise RuntimeError("a signal handler called the desk in the midst of another call")
         over = threading.Lock()
@@ -373,6 +375,7 @@ class Desk:
 
     def _begin_waits(self) -> Waits:
         """The waits of this desk, and their thread. Raises ValueError if the desk is closed, and `Ended`."""
+        self._process.check_owner()
         with self._beginning:
             if self._is_closed:
                 raise ValueError("the desk is closed")
@@ -389,6 +392,7 @@ class Desk:
         >>> [ticket.result() for ticket in tickets], evaluated.result()
         ([1, 2, 3], 3)
         """
+        self._process.check_owner()
         return Batch(self._run)
 
     # The process.
@@ -419,12 +423,13 @@ class Desk:
     def close(self) -> None:
         """Ends the program's input and waits for the program to end; kills it if that takes more than `patience` seconds.
 
-        Raises `Ended` if the exit status isn't 0 and no call has raised `Ended` yet. A second `close` does nothing.
+        Raises `Ended` if the exit status isn't 0 and no call has raised `Ended` yet. A second `close` does nothing, and neither does one
+        in a forked process.
 
         >>> other = Desk()
         >>> other.close()
         """
-        if self._is_closed:
+        if self._is_closed or not self._process.is_owner():
             return
         self._is_closed = True
         ended_before = self._process.end
@@ -438,7 +443,7 @@ class Desk:
     def __exit__(self, kind: type[BaseException] | None, error: BaseException | None, trace: TracebackType | None) -> None:
         if kind is None:
             self.close()
-        else:
+        elif self._process.is_owner():
             self._is_closed = True
             self._process.kill()
 
@@ -452,6 +457,7 @@ class Desk:
 
     def _run(self, answers: Sequence[Answer[Any]]) -> None:
         """Gives commands, with none of another thread between them, and sets their answers."""
+        self._process.check_owner()
         with self._calls:
             if self._caller == get_ident():
                 raise RuntimeError("a signal handler called the desk in the midst of another call")

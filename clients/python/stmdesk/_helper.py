@@ -9,8 +9,10 @@ from collections import deque
 from collections.abc import Callable
 from contextlib import suppress
 
+from ._fork import Owned
 
-class Helper:
+
+class Helper(Owned):
     """A thread that runs the functions that it is given, in their order, and `on_end` when the program prints no more.
 
     Python runs signal handlers in the main thread, so no Ctrl-C breaks off what this thread does. The functions must not
@@ -26,7 +28,9 @@ class Helper:
         self._ending = threading.Lock()
         self._output = output
         self._woken, self._wake = os.pipe()
+        self._open = [self._output, self._woken, self._wake]
         os.set_blocking(self._wake, False)
+        super().__init__()
         threading.Thread(target=self._work, name="stmdesk", daemon=True).start()
 
     def run(self, function: Callable[[], None]) -> None:
@@ -52,8 +56,11 @@ class Helper:
             self._run_all()
             with self._ending:
                 self._is_over = not self._functions
-        for it in (self._output, self._woken, self._wake):
-            os.close(it)
+        while self._open:
+            os.close(self._open.pop())
+
+    def descriptors(self) -> list[int]:
+        return self._open
 
     def _run_all(self) -> None:
         while self._functions:

@@ -15,8 +15,10 @@ from contextlib import suppress
 from copy import copy
 from io import BufferedReader, BufferedWriter
 from pathlib import Path
+from typing import Any
 
 from ._errors import JOURNAL_FAULT, Ended, JournalError
+from ._fork import Owned
 
 PIECE = 1 << 16  # bytes that are read at a time: what a pipe holds
 LINE_LIMIT = 16 << 20  # bytes of a line; stmdesk's longest have some 2 MiB
@@ -98,7 +100,7 @@ def is_ours(error: BaseException) -> bool:
     return trace is not None and trace.tb_frame.f_globals.get("__package__") == __package__
 
 
-class Process:
+class Process(Owned):
     """The running program, with pipes to its standard input and output."""
 
     def __init__(self, command: Sequence[str], *, is_opening: bool = False) -> None:
@@ -124,6 +126,14 @@ class Process:
         assert isinstance(self._process.stdin, BufferedWriter) and isinstance(self._process.stdout, BufferedReader)
         self._input, self._output = self._process.stdin.raw, self._process.stdout
         os.set_blocking(self._input.fileno(), False)
+        super().__init__()
+
+    def descriptors(self) -> list[int]:
+        files: tuple[Any, ...] = (self._input, self._output, self._errors)
+        return [it.fileno() for it in files if not it.closed]
+
+    def forked(self) -> None:
+        self._process.returncode = 0  # so that nobody waits for it here, where it is no child
 
     @property
     def pid(self) -> int:
@@ -191,6 +201,7 @@ class Process:
 
     def wait(self, patience: float) -> Ended:
         """Ends the program's input and waits for the program to end. Kills it after `patience` seconds."""
+        self.check_owner()
         try:
             with suppress(OSError), self._sending:
                 self._input.close()
@@ -202,6 +213,7 @@ class Process:
 
     def kill(self) -> Ended:
         """Kills the program, and all that it started, if it still runs. Closes its files and returns how it ended."""
+        self.check_owner()
         with self._ending:
             if self.end is None:
                 if self._process.poll() is None:

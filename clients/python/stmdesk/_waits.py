@@ -11,6 +11,7 @@ from typing import Any
 
 from ._commands import CANCEL, EVAL, FINISH, HANDBACK, SUBMIT, Answer
 from ._errors import Cancelled, DeskError, Refused, Thrown
+from ._fork import Owned
 from ._helper import Helper
 from ._program import Process
 from ._values import Finished, FinishedThrows, Value
@@ -41,7 +42,7 @@ class Wait:
         return self.result
 
 
-class Waits:
+class Waits(Owned):
     """All blocks of one desk's `atomically`.
 
     A turn submits, evaluates and finishes them in rounds, no matter who asked. Each caller runs a turn in its own thread until
@@ -85,6 +86,11 @@ class Waits:
                 waits._program_ended()
 
         self.helper = Helper(process.output_again(), on_end)
+        super().__init__()
+
+    def forked(self) -> None:
+        """Ends what waits, in case that a signal handler forked while its thread waited."""
+        self._fail(self.not_owner())
 
     def ask(self, wait: Wait, *, by_helper: bool) -> None:
         """Runs a block in this thread or by the helper, and waits while it blocks. `wait.end` is called with the outcome."""
@@ -140,7 +146,7 @@ class Waits:
             if self._waiting or self._asked or self._given_up:  # else nobody sees it yet, and `close` has to raise it
                 self._fail(self._process.wait(self._patience))
 
-    def _fail(self, error: DeskError) -> None:
+    def _fail(self, error: Exception) -> None:
         """Ends every wait with the error."""
         failed = [*self._waiting.values(), *self._new, *self._asked, *self._given_up]
         self._waiting.clear()

@@ -70,7 +70,7 @@ class Desk:
         self,
         program: str | os.PathLike[str] | None = None,
         *,
-        journal: str | os.PathLike[str] | None = None,
+        journal: str | bytes | os.PathLike[str] | os.PathLike[bytes] | None = None,
         sync: _desk.Sync | None = None,
         checkpoint_every: int | None = None,
         workers: int | None = None,
@@ -310,6 +310,7 @@ class Desk:
         >>> run(main())
         [1, 2, 3]
         """
+        self._desk._process.check_owner()
         return Batch(self)
 
     @property
