@@ -13,6 +13,7 @@ import contextlib
 import doctest
 import fcntl
 import gc
+import io
 import multiprocessing
 import os
 import pathlib
@@ -3030,9 +3031,9 @@ class Pages(OnProgram):
         done = subprocess.run(command, capture_output=True, text=True, timeout=SECONDS)
         self.assertEqual((done.stdout, done.stderr), ((folder / "engine.out").read_text(), ""))
 
-    def killed(self, command):
-        """Starts the command with a journal again and again, and kills it at a random moment, until it ends by itself; after
-        the fourth kill it is let be. Does so twice. Yields what it prints at last, the journal's path, and how often it was
+    def killed(self, command, *more):
+        """Starts the command with a journal, and more words after it, again and again, and kills it at a random moment, until it ends by
+        itself; after the fourth kill it is let be. Does so twice. Yields what it prints at last, the journal's path, and how often it was
         killed."""
         signal.alarm(5 * SECONDS)
         begun = time.monotonic()
@@ -3041,11 +3042,11 @@ class Pages(OnProgram):
         for _ in range(2):
             with tempfile.TemporaryDirectory() as folder:
                 moments = [chance.uniform(0.2, 0.9) * seconds for _ in range(4)]
-                yield self.run_killed(command, pathlib.Path(folder) / "journal", moments)
+                yield self.run_killed(command, pathlib.Path(folder) / "journal", more, moments)
 
-    def run_killed(self, command, path, moments):
+    def run_killed(self, command, path, more, moments):
         for kills, moment in enumerate([*moments, None]):
-            running = subprocess.Popen([*command, path], stdout=subprocess.PIPE, stderr=subprocess.PIPE, text=True)
+            running = subprocess.Popen([*command, path, *more], stdout=subprocess.PIPE, stderr=subprocess.PIPE, text=True)
             with contextlib.suppress(subprocess.TimeoutExpired):
                 running.communicate(timeout=moment)
             running.kill()
@@ -3067,19 +3068,86 @@ class Pages(OnProgram):
             self.assertEqual(printed, (folder / "engine.out").read_text())
             self.assertTrue(check(path, program=program))
 
+    def assert_went_on(self, printed, again):
+        """Each job was taken once, and each result came once. What is printed again is the same without what isn't known any more."""
+        took = re.findall(r"(?m)^  (?:ann|bob) finishes with (\d+)", printed)
+        self.assertEqual(sorted(took), ["11", "12", "13"])
+        ends = ["report finishes with 3", "put 0 throws 400", "put 11 finishes", "put 12 finishes", "put 13 finishes"]
+        lines = re.sub(r"(?m)^.* waits, having read .*\n|; stale: .*|, by \d+ evaluations", "", printed)
+        self.assertEqual([lines.count(f"  {it}\n") for it in ends], [1] * len(ends))
+        self.assertTrue(lines.endswith("\n10 blocks, of which 8 finished.\n"))
+        self.assertEqual(again, lines)
+
     def test_the_job_engine_goes_on(self):
         command = [sys.executable, "-B", str(HERE / "job_engine.py"), program]
-        for printed, path, kills in self.killed(command):
-            self.assertTrue(check(path, program=program))
-            if kills == 0:
-                self.assertEqual(printed, (HERE / "job_engine.out").read_text())
-            took = re.findall(r"(?m)^  (?:ann|bob) finishes with (\d+)", printed)
-            self.assertEqual(sorted(took), ["11", "12", "13"])
-            for line in ("report finishes with 3", "put 0 throws 400"):
-                self.assertEqual(printed.count(f"  {line}\n"), 1)
-            again = subprocess.run([*command, path], capture_output=True, text=True, timeout=SECONDS)
-            lines = re.sub(r"(?m)^.* waits, having read .*\n", "", printed)
-            self.assertEqual((again.stdout, again.stderr), (lines, ""))
+        for more in ([], ["4"], ["1"]):
+            for printed, path, kills in self.killed(command, *more):
+                self.assertTrue(check(path, program=program))
+                if kills == 0:
+                    self.assertEqual(printed, (HERE / "job_engine.out").read_text())
+                again = subprocess.run([*command, path, *more], capture_output=True, text=True, timeout=SECONDS)
+                self.assertEqual(again.stderr, "")
+                self.assert_went_on(printed, again.stdout)
+
+    def test_the_job_engine_goes_on_after_each_command(self):
+        class Crash(Exception):
+            pass
+
+        class Crashing(Desk):
+            left = 0  # how many commands are given; then there is a crash, before the next one or after it
+            is_after = False
+
+            def _ask(self, command, text=""):
+                Crashing.left -= 1
+                if Crashing.left < 0 and not self.is_after:
+                    raise Crash
+                answer = super()._ask(command, text)
+                if Crashing.left < 0:
+                    raise Crash
+                return answer
+
+        def run(path, left):
+            Crashing.left, printed = left, io.StringIO()
+            with mock.patch.object(job_engine, "Desk", Crashing), contextlib.redirect_stdout(printed):
+                job_engine.main(program, path, "4")
+            return printed.getvalue()
+
+        signal.alarm(5 * SECONDS)
+        for Crashing.is_after in (False, True):
+            for left in range(1000):
+                with tempfile.TemporaryDirectory() as folder:
+                    path = f"{folder}/journal"
+                    try:
+                        run(path, left)
+                    except Crash:
+                        with contextlib.suppress(Crash):
+                            run(path, 7)
+                        self.assert_went_on(run(path, 1000), run(path, 1000))
+                    else:
+                        break
+            self.assertGreater(left, 40)
+
+    def test_notes_of_the_job_engine_that_do_not_fit(self):
+        with tempfile.TemporaryDirectory() as folder, contextlib.redirect_stdout(None):
+            path, notes = pathlib.Path(folder) / "journal", pathlib.Path(folder) / "journal.notes"
+            job_engine.main(program, path)
+            text = notes.read_text()
+            with notes.open("a") as file:
+                file.write('{"event": "asked", "tick')  # a crash tore the line
+            job_engine.main(program, path)
+            self.assertEqual(notes.read_text(), text)
+            lines = text.splitlines(keepends=True)
+            for wrong in ("", "".join(lines[:5]), "".join(lines[:-1])):
+                notes.write_text(wrong)
+                with self.assertRaisesRegex(RuntimeError, "the notes .* are of another journal"):
+                    job_engine.main(program, path)
+                self.assertEqual(notes.read_text(), wrong)
+            notes.write_text(text.replace("writeTVar normal 12", "writeTVar normal 14"))
+            with self.assertRaisesRegex(RuntimeError, "the journal is of other calls: .*14.* isn't what put 12 asks"):
+                job_engine.main(program, path)
+            path.unlink()
+            with self.assertRaisesRegex(RuntimeError, "the notes .* are of another journal"):
+                job_engine.main(program, path)
 
     def test_the_docstrings(self):
         finder = doctest.DocTestFinder()
