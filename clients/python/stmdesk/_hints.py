@@ -260,7 +260,18 @@ class _Tokens:
 
     # The rules.
 
+    def _hyphened(self, index: int) -> str | None:
+        """The hint for a `-` in what was meant as one name: no blank is beside it, and what comes before it isn't known."""
+        before, after = self._get(index - 1), self._get(index + 1)
+        if self._get(index) != "-" or not after or not self._is_name(before) or before in set(self.types) | self._locals():
+            return None
+        is_joined = self.spans[index - 1][1] == self.spans[index][0] and self.spans[index][1] == self.spans[index + 1][0]
+        return f"a name has no `-`: write `{before}_{after}`" if is_joined else None
+
     def declaration(self) -> str:
+        hyphened = self._hyphened(self.at) if self.at == 1 else None
+        if hyphened:
+            return hyphened
         if self.word == "-" and self.after.isdigit():
             return f"a negative number needs brackets: write `(-{self.after})`"
         if self.at == 0 and self.word in _RESERVED:
@@ -284,6 +295,9 @@ class _Tokens:
             return f"only a number can follow `(-`: write `(0 - {self.word})`"
         if self.word not in _OPERATORS:
             return None
+        hyphened = self._hyphened(self.at)
+        if hyphened:
+            return hyphened
         if self.word == "-" and self.after == "-" and self.spans[self.at][1] == self.spans[self.at + 1][0]:
             return "a block has no comments"
         atom = self._atom_before(self.at)
@@ -305,7 +319,9 @@ class _Tokens:
         return None
 
     def _brackets(self) -> str | None:
-        """Missing braces of `do`, brackets of `orElse` and `catch`, a missing `else`, a `;` too many."""
+        """Missing braces of `do`, brackets of `orElse` and `catch`, a missing `else`, a `;` too many, and `()` as an action."""
+        if self.before == "(" and self.word == ")":
+            return "`()` is a value, and an action is needed here: write `return ()`"
         if self.before == "do" and self.word != "{":
             return "`do` needs braces and semicolons: `do { a <- readTVar x; return a }`"
         if self.word == "}" and self.before in (";", "{"):
@@ -410,13 +426,18 @@ class _Tokens:
         return None
 
     def not_a_variable(self) -> str | None:
-        if self._is_name(self.word) and self.word in self._locals():
-            return f"`{self.word}` is a value, not a variable: use it as it is"
-        return None
+        if not self._is_name(self.word) or self.word not in self._locals():
+            return None
+        if self.word in self.types:
+            return f"this block binds the name `{self.word}`, which hides the variable: bind another name, `a <- readTVar {self.word}`"
+        return f"`{self.word}` is a value, not a variable" + (": use it as it is" if self.before == "readTVar" else "")
 
     def unknown(self) -> str:
         if self.word in _WORDS and self.word not in self.types:
             return _WORDS[self.word]
+        hyphened = self._hyphened(self.at + 1)
+        if hyphened:
+            return hyphened
         known = sorted(set(self.types) | self._locals()) if len(self.types) <= 1000 else []
         close = [it for it in known if it.lower() == self.word.lower() or _differ_by_one(it, self.word)]
         if close:
