@@ -8,6 +8,7 @@ lines stands in for it. The last line is 'N passed, M failed'.
 
 import argparse
 import asyncio
+import collections
 import concurrent.futures
 import contextlib
 import doctest
@@ -2193,6 +2194,104 @@ class Asynchronous(OnProgram):
             self.assert_gone(desk.pid)
 
         asyncio.run(main())
+
+    def test_calls_come_between_turns(self):
+        """A plain call waits for the blocks that were given before it, and not for all that other tasks give meanwhile."""
+        tasks = 4
+
+        async def main(desk):
+            done, is_over = 0, False
+
+            async def work():
+                nonlocal done
+                while not is_over:
+                    await desk.atomically(INCREMENT)
+                    done += 1
+
+            workers = [asyncio.create_task(work()) for _ in range(tasks)]
+            for _ in range(20):
+                before = done
+                while done < before + 100:
+                    await asyncio.sleep(0)
+                before = done
+                value = await desk.value("x")
+                # Before the call come those that were finished already, and at most two turns of one block for each task.
+                self.assertLessEqual(value - 1 - before, 3 * tasks)
+            is_over = True
+            await asyncio.gather(*workers)
+            self.assert_is(await desk.value("x"), done + 1)
+
+        self.run_on_desk(main)
+
+    def test_why_while_blocks_run(self):
+        """What `why` says of the blocks of `atomically` is what their texts say on the store of that moment, which `looks` and `try_` of
+        the same batch show."""
+        slots, found, blocks = 10, collections.Counter(), {}
+
+        def take(slot):
+            reads = "".join(f"v{it} <- readTVar s{it}; " for it in range(slots))
+            free = f"(0 < p) && (v{slot} == 0) && (v{(slot + 1) % slots} == 0)"
+            changes = f"writeTVar permits (p - 1); writeTVar s{slot} 1"
+            return f"do {{ {reads}p <- readTVar permits; if {free} then do {{ {changes} }} else retry }}"
+
+        def give(slot):
+            return f"do {{ p <- readTVar permits; writeTVar permits (p + 1); writeTVar s{slot} 0 }}"
+
+        def judge(ticket, reason, looks, reads, verdict):
+            found[type(reason)] += 1
+            self.assertEqual(reason.ticket, ticket)
+            if isinstance(reason, Waits):
+                self.assert_is((reason.reads, verdict), (looks, Blocks()))
+            elif isinstance(reason, Ready):
+                self.assertIsInstance(verdict, Commits)
+            elif isinstance(reason, StaleBy):
+                self.assertTrue(reason.changes)
+                self.assertEqual({it: change.read for it, change in reason.changes.items()}, {it: reads[it] for it in reason.changes})
+
+        async def ask(desk, number):
+            """Asks of all tickets in a batch, and of the last one by a call; that is judged if nothing happened meanwhile."""
+            events = await desk.events(number)
+            blocks.update((it.ticket, it.block) for it in events if isinstance(it, Submission))
+            tickets = [it.ticket for it in await desk.show() if it.ticket in blocks]
+            async with desk.batch() as batch:
+                asked = [(it, batch.why(it), batch.looks(blocks[it]), batch.reads(it), batch.try_(blocks[it])) for it in tickets]
+            for ticket, reason, looks, reads, verdict in asked:
+                if reason.error is None:  # else it finished meanwhile
+                    was_read = {} if isinstance(reason.result(), New) else reads.result()
+                    judge(ticket, reason.result(), looks.result(), was_read, verdict.result())
+            begun = (await desk.events(events.next)).next
+            with contextlib.suppress(Refused):
+                reason, block = await desk.why(tickets[-1]), blocks[tickets[-1]]
+                answers = (await desk.looks(block), await desk.reads(tickets[-1]), await desk.try_(block))
+                if (await desk.events(begun)).next == begun:
+                    judge(tickets[-1], reason, *answers)
+            return events.next
+
+        async def main(desk):
+            for it in ("permits : Int = 3", *(f"s{slot} : Int = 0" for slot in range(slots))):
+                await desk.tvar(it)
+            is_over, number = False, 1
+
+            async def work(slot):
+                while not is_over:
+                    await desk.atomically(take(slot))
+                    await asyncio.sleep(0)
+                    await desk.atomically(give(slot))
+
+            # This one waits until all is over, so that there is always one to ask of.
+            last = asyncio.create_task(desk.atomically("do { a <- readTVar x; p <- readTVar permits; if a == 5 then return p else retry }"))
+            await self.until_blocked(desk, 1)
+            workers = [asyncio.create_task(work(slot)) for slot in range(slots)]
+            for _ in range(100):
+                number = await ask(desk, number)
+            is_over = True
+            await asyncio.gather(*workers)
+            self.assert_is(await desk.why(1), Waits(1, {X: 1, Ref(1, "permits"): 3}))
+            await desk.atomically("writeTVar x 5")
+            self.assert_is(await last, 3)
+            self.assertGreater(found[Waits], 0)
+
+        self.run_on_desk(main)
 
     def test_the_loop_goes_on_meanwhile(self):
         async def main(call):

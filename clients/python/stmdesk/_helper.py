@@ -24,6 +24,7 @@ class Helper(Owned):
         """`output` is a descriptor of the pipe from the program, which the thread closes."""
         self._on_end = on_end
         self._functions: deque[Callable[[], None]] = deque()
+        self._queued: set[Callable[[], None]] = set()  # the same, for `once`
         self._is_over = False
         self._ending = threading.Lock()
         self._output = output
@@ -33,16 +34,21 @@ class Helper(Owned):
         super().__init__()
         threading.Thread(target=self._work, name="stmdesk", daemon=True).start()
 
-    def run(self, function: Callable[[], None]) -> None:
-        """Lets the thread run the function soon."""
+    def run(self, function: Callable[[], None], *, once: bool = False) -> None:
+        """Lets the thread run the function soon. With `once` not a second time, if it waits for its turn already."""
         with self._ending:
             is_over = self._is_over
-            if not is_over:
+            if not is_over and not (once and function in self._queued):
                 self._functions.append(function)
                 with suppress(BlockingIOError):  # a full pipe wakes the thread as well
                     os.write(self._wake, b"\0")
+                self._queued.add(function)  # at last: a signal handler may raise before, and then the caller tries again
         if is_over:
             function()
+
+    def has_more(self) -> bool:
+        """Whether a function waits for its turn."""
+        return bool(self._functions)
 
     def _work(self) -> None:
         poll = select.poll()
@@ -64,4 +70,7 @@ class Helper(Owned):
 
     def _run_all(self) -> None:
         while self._functions:
-            self._functions.popleft()()
+            with self._ending:
+                function = self._functions.popleft()
+                self._queued.discard(function)
+            function()

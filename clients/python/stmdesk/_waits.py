@@ -96,7 +96,7 @@ class Waits(Owned):
         """Runs a block in this thread or by the helper, and waits while it blocks. `wait.end` is called with the outcome."""
         self._asked.append(wait)
         if by_helper:
-            self.helper.run(self._turn)
+            self.helper.run(self._turn, once=True)
         else:
             self._turn(wait)
 
@@ -105,7 +105,7 @@ class Waits(Owned):
         else tried once."""
         wait.is_withdrawn = withdraw
         self._given_up.append(wait)
-        self.helper.run(self._turn)
+        self.helper.run(self._turn, once=True)
 
     def is_any(self) -> bool:
         """Whether a block waits. Needs the lock."""
@@ -123,15 +123,18 @@ class Waits(Owned):
             elif answer.command is SUBMIT:
                 self._last = answer.result()
         if self._due:
-            self.helper.run(self._turn)
+            self.helper.run(self._turn, once=True)
 
     def _turn(self, only: Wait | None = None) -> None:
         """Does what there is to do, until each block that still waits blocks. If a wait is given, stops when that was tried,
-        and leaves the rest to the helper."""
+        and leaves the rest to the helper. The helper leaves it to a later turn if it has something else to do: while tasks give
+        blocks without end, their turns would go on, and a plain call of another task would wait as long."""
+        is_first = True
         while self._asked or self._due or self._given_up:
-            if only is not None and (only.is_over or only.ticket is not None):
-                self.helper.run(self._turn)
+            if only is not None and (only.is_over or only.ticket is not None) or only is None and not is_first and self.helper.has_more():
+                self.helper.run(self._turn, once=True)
                 return
+            is_first = False
             with self._lock:  # for each round by itself, so that other calls come between
                 try:
                     self._round()
