@@ -263,7 +263,7 @@ class _Tokens:
     def _hyphened(self, index: int) -> str | None:
         """The hint for a `-` in what was meant as one name: no blank is beside it, and what comes before it isn't known."""
         before, after = self._get(index - 1), self._get(index + 1)
-        if self._get(index) != "-" or not after or not self._is_name(before) or before in set(self.types) | self._locals():
+        if self._get(index) != "-" or not after[:1].isalnum() or not self._is_name(before) or before in set(self.types) | self._locals():
             return None
         is_joined = self.spans[index - 1][1] == self.spans[index][0] and self.spans[index][1] == self.spans[index + 1][0]
         return f"a name has no `-`: write `{before}_{after}`" if is_joined else None
