@@ -1,6 +1,7 @@
 pub mod Calls
 pub mod Causes
 pub mod Checkpointed
+pub mod DrainServes
 pub mod Evaluating
 pub mod EventsSince
 pub mod FoundWrites
@@ -13,3 +14,4 @@ pub mod StaleBefore
 pub mod Starts
 pub mod Turns
 pub mod Verdicts
+pub mod WorkOrders

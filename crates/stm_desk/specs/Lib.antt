@@ -11,3 +11,4 @@ pub mod Kept
 pub mod Limit
 pub mod ReasonsTold
 pub mod Steps
+pub mod WorkOrders

@@ -1,13 +1,16 @@
-//! Settling: all that can run, in a fixed order.
+//! Settling and draining: all that can run, in a fixed order.
 
-ghost use Rattle.std.specs.Prelude.{◌≡◌, ◌<◌, ◌≤◌, false, None, Some, length, IfOk, OnOk, IfErr, OnErr};
+ghost use Rattle.std.specs.Prelude.{◌≡◌, ◌<◌, ◌≤◌, true, false, None, Some, length, IfOk, OnOk, IfErr, OnErr};
 ghost use Rattle.stm_store.specs.Cells.{plains};
-ghost use Rattle.stm_events.specs.SlowDesk.{max_clients};
-ghost use Rattle.stm_events.specs.States.{IsPossible, IsLegalFrom};
-ghost use Rattle.stm_machine.specs.SettleChoices.{some_out, next_due, next_end};
+ghost use Rattle.stm_events.specs.SlowDesk.{find_waiter, max_clients};
+ghost use Rattle.stm_events.specs.SlowSettle.{AllBlock, Order as AnyOrder};
+ghost use Rattle.stm_events.specs.States.{IsPossible, IsTypedState, IsLegalFrom};
+ghost use Rattle.stm_machine.specs.QueueAndIndex.{due_of};
+ghost use Rattle.stm_machine.specs.SettleChoices.{some_out, next_due};
 ghost use Rattle.stm_desk.specs.DeskView.{start_state, state_of};
-ghost use Rattle.stm_desk.specs.Settling.{requeued_all, HasBegun, SettlesAs, AllBlock};
-ghost use Rattle.stm_desk.specs.Steps.{IsNextEvent, StopsFor, StopsFinish, finish_why};
+ghost use Rattle.stm_desk.specs.Settling.{requeued_all, slow_drain, HasBegun, RunsAs, SettlesAs, DrainsAs, ServesAsSettling};
+ghost use Rattle.stm_desk.specs.Steps.{ready_there, InstallsNext, FinishesNext, IsNextEvent, StopsFor, StopsFinish, finish_why};
+ghost use Rattle.stm_desk.specs.WorkOrders.{order_of, due_in, end_in, unless_below};
 
 use crate::desk::Desk;
 use crate::errors::{SettleStop, SettleWhy};
@@ -15,7 +18,26 @@ use stm_eval::Scratch;
 use stm_events::FinishError;
 use stm_store::Frozen;
 
-/// How much settling did.
+/// In which order the work is done.
+#[derive(Clone, Copy, Drop)]
+enum WorkOrder {
+    /// All blocks that are new or stale are evaluated before one is finished.
+    Rounds,
+    /// The lowest block that is new or stale or can finish is evaluated or finished.
+    Lowest,
+}
+
+/// A ticket, unless the other one is below it.
+fn unless_below(ticket: u32, other: Option<u32>) -> Option<u32>
+    ensures { result ≡ unless_below ticket other }
+{
+    match other {
+        Some(other) => { if other < ticket { None } else { Some(ticket) } }
+        None => Some(ticket),
+    }
+}
+
+/// How much settling or draining did.
 #[derive(Clone, Copy, Debug, PartialEq, Eq, Drop)]
 pub struct Settled {
     /// How many blocks finished.
@@ -58,7 +80,35 @@ impl Desk {
         self.machine.first_queued()
     }
 
-    /// The block of the lowest ticket that is new or stale is evaluated and delivered.
+    /// The lowest ticket of a block that is new or stale, unless a block below it could finish.
+    fn next_due_below(&self) -> Option<u32>
+        requires { some_out self.now.pending ≡ false }
+        ensures first { result ≡ due_in WorkOrder.Lowest (state_of self.now) }
+        ensures possible { IsPossible (state_of self.now) }
+        ensures legal { IsLegalFrom (start_state self.now) self.now.history }
+        ensures few { length self.now.history ≤ self.now.limit }
+    {
+        match self.next_due() {
+            Some(due) => unless_below(due, self.next_ready(0)),
+            None => None,
+        }
+    }
+
+    /// The ticket that is evaluated next, if the next thing is an evaluation.
+    fn next_evaluated(&self, order: WorkOrder) -> Option<u32>
+        requires { some_out self.now.pending ≡ false }
+        ensures first { result ≡ due_in order (state_of self.now) }
+        ensures possible { IsPossible (state_of self.now) }
+        ensures legal { IsLegalFrom (start_state self.now) self.now.history }
+        ensures few { length self.now.history ≤ self.now.limit }
+    {
+        match order {
+            WorkOrder::Rounds => self.next_due(),
+            WorkOrder::Lowest => self.next_due_below(),
+        }
+    }
+
+    /// The block of a ticket that is new or stale is evaluated and delivered, in any order of work in which that comes next.
     fn deliver_next(
         &mut self,
         client: u32,
@@ -67,11 +117,12 @@ impl Desk {
         ticket: u32,
     ) -> Result<(), SettleWhy>
         requires client { client < max_clients }
-        requires next { next_due (state_of self.old) ≡ Some ticket }
+        requires due { due_of (find_waiter ticket (state_of self.old).waiters) ≡ true }
         requires store { frozen.now ≡ plains (state_of self.old).store }
-        requires possible { IsPossible (state_of self.old) }
-        ensures done { OnOk result (IsNextEvent client 0 1 self.old self.new) }
-        ensures why { IfErr result (λ why. StopsFor why self.old) }
+        ensures done { OnOk result ((next : AnyOrder) → InstallsNext next (state_of self.old) ticket
+            → IsNextEvent next client 0 1 self.old self.new) }
+        ensures why { IfErr result (λ why. (next : AnyOrder) → InstallsNext next (state_of self.old) ticket
+            → StopsFor next why self.old) }
         ensures unchanged { OnErr result (self.new ≡ self.old) }
         ensures store { (state_of self.new).store ≡ (state_of self.old).store }
     {
@@ -88,21 +139,27 @@ impl Desk {
         }
     }
 
-    /// A round of deliveries: all blocks that are new or stale, rising. How many they were, also at a stop.
-    fn deliver_all(&mut self, client: u32, scratch: &mut Scratch) -> Result<u32, (u32, SettleWhy)>
+    /// Evaluations in an order of work, until the next thing is none. How many they were, also at a stop.
+    fn deliver_all(
+        &mut self,
+        order: WorkOrder,
+        client: u32,
+        scratch: &mut Scratch,
+    ) -> Result<u32, (u32, SettleWhy)>
         requires client { client < max_clients }
         requires none_out { some_out self.old.pending ≡ false }
-        ensures begun { IfOk result (λ n. HasBegun client self.old self.new 0 n) }
-        ensures none_due { OnOk result (next_due (state_of self.new) ≡ None) }
-        ensures stopped { IfErr result (λ e. HasBegun client self.old self.new 0 e.0) }
-        ensures why { IfErr result (λ e. StopsFor e.1 self.new) }
+        ensures begun { IfOk result (λ n. HasBegun (order_of order) client self.old self.new 0 n) }
+        ensures none_due { OnOk result (due_in order (state_of self.new) ≡ None) }
+        ensures stopped { IfErr result (λ e.
+            HasBegun (order_of order) client self.old self.new 0 e.0) }
+        ensures why { IfErr result (λ e. StopsFor (order_of order) e.1 self.new) }
         ensures none_out { some_out self.new.pending ≡ false }
         ensures possible { IsPossible (state_of self.new) }
         ensures legal { IsLegalFrom (start_state self.new) self.new.history }
         ensures few { OnOk result (length self.new.history ≤ self.new.limit) }
     {
         let mut delivered = 0;
-        if self.next_due().is_none() {
+        if self.next_evaluated(order).is_none() {
             return Ok(delivered);
         }
         let frozen = match self.store().freeze() {
@@ -110,7 +167,7 @@ impl Desk {
             Err(_) => return Err((delivered, SettleWhy::NoMemory)),
         };
         loop {
-            let ticket = match self.next_due() {
+            let ticket = match self.next_evaluated(order) {
                 Some(ticket) => ticket,
                 None => return Ok(delivered),
             };
@@ -122,24 +179,25 @@ impl Desk {
         }
     }
 
-    /// The lowest ticket of a block that doesn't block, where none is new or stale.
-    fn next_end(&self) -> Option<u32>
+    /// The ticket that is finished next, if the next thing isn't an evaluation.
+    fn next_end(&self, order: WorkOrder) -> Option<u32>
         requires possible { IsPossible (state_of self.now) }
-        requires none_due { next_due (state_of self.now) ≡ None }
-        ensures { result ≡ next_end (state_of self.now) }
+        requires none_due { due_in order (state_of self.now) ≡ None }
+        ensures { result ≡ end_in order (state_of self.now) }
     {
         self.next_ready(0)
     }
 
-    /// The block of that ticket is finished.
+    /// The block of a ticket that could finish is finished, in any order of work in which that comes next.
     fn finish_next(&mut self, client: u32, ticket: u32) -> Result<(), SettleWhy>
         requires client { client < max_clients }
-        requires none_due { next_due (state_of self.old) ≡ None }
-        requires next { next_end (state_of self.old) ≡ Some ticket }
-        requires possible { IsPossible (state_of self.old) }
+        requires ready { ready_there (state_of self.old).store
+            (find_waiter ticket (state_of self.old).waiters) ≡ true }
         requires few { length self.old.history ≤ self.old.limit }
-        ensures done { OnOk result (IsNextEvent client 1 0 self.old self.new) }
-        ensures why { IfErr result (λ why. StopsFor why self.old) }
+        ensures done { OnOk result ((next : AnyOrder) → FinishesNext next (state_of self.old) ticket
+            → IsNextEvent next client 1 0 self.old self.new) }
+        ensures why { IfErr result (λ why. (next : AnyOrder) → FinishesNext next (state_of self.old) ticket
+            → StopsFor next why self.old) }
         ensures unchanged { OnErr result (self.new ≡ self.old) }
     {
         match self.finish(client, ticket) {
@@ -148,15 +206,12 @@ impl Desk {
         }
     }
 
-    /// Evaluates and delivers what is new or stale, and finishes the lowest block that doesn't block, until nothing is left
-    /// to do or something can't be done. The caller's number is below 128. First each ticket that is out is queued.
-    pub fn settle(&mut self, client: u32) -> Result<Settled, SettleStop>
+    /// Evaluates, delivers and finishes in an order of work, until nothing is left to do or something can't be done. First each
+    /// ticket that is out is queued.
+    fn run(&mut self, order: WorkOrder, client: u32) -> Result<Settled, SettleStop>
         requires { client < max_clients }
-        // It did what the definition of settling does, and returns its counts or why it stopped.
-        ensures done { SettlesAs client (requeued_all self.old) self.new result }
-        // After `Ok` each waiting block is current and blocks.
+        ensures done { RunsAs (order_of order) client (requeued_all self.old) self.new result }
         ensures settled { OnOk result (AllBlock (state_of self.new)) }
-        // No ticket is out, whatever the result.
         ensures none_out { some_out self.new.pending ≡ false }
     {
         self.call_back();
@@ -164,7 +219,7 @@ impl Desk {
         let mut evaluations = 0;
         let mut scratch = Scratch::new(*self.history.allocator());
         loop {
-            match self.deliver_all(client, &mut scratch) {
+            match self.deliver_all(order, client, &mut scratch) {
                 Ok(delivered) => evaluations += delivered,
                 Err((delivered, why)) => {
                     return Err(SettleStop {
@@ -174,7 +229,7 @@ impl Desk {
                     });
                 }
             }
-            let ticket = match self.next_end() {
+            let ticket = match self.next_end(order) {
                 Some(ticket) => ticket,
                 None => {
                     // Each waiting block is known to have a verdict by this.
@@ -196,5 +251,49 @@ impl Desk {
                 }
             }
         }
+    }
+
+    /// Evaluates and delivers what is new or stale, and finishes the lowest block that doesn't block, until nothing is left
+    /// to do or something can't be done. The caller's number is below 128. First each ticket that is out is queued.
+    pub fn settle(&mut self, client: u32) -> Result<Settled, SettleStop>
+        requires { client < max_clients }
+        // It did what the definition of settling does, and returns its counts or why it stopped.
+        ensures done { SettlesAs client (requeued_all self.old) self.new result }
+        // After `Ok` each waiting block is current and blocks.
+        ensures settled { OnOk result (AllBlock (state_of self.new)) }
+        // No ticket is out, whatever the result.
+        ensures none_out { some_out self.new.pending ≡ false }
+    {
+        self.run(WorkOrder::Rounds, client)
+    }
+
+    /// The state is one that events may go on from, and all in it is well typed.
+    fn know_typed(&self)
+        ensures possible { IsPossible (state_of self.now) }
+        ensures typed { IsTypedState (state_of self.now) }
+    {
+        // The state is known to be possible by this, and the variables to be well typed by the next call.
+        let _waiting = self.machine.waiting();
+        let _variables = self.table.len();
+    }
+
+    /// Finishes the same blocks in the same order as `settle`, and evaluates a block only once those below it have come to rest: the
+    /// lowest block that is new or stale, or doesn't block, is evaluated if it is new or stale and finished if not, until nothing is
+    /// left to do or something can't be done. The caller's number is below 128. First each ticket that is out is queued.
+    pub fn drain(&mut self, client: u32) -> Result<Settled, SettleStop>
+        requires { client < max_clients }
+        // It did what the definition of draining does, and returns its counts or why it stopped.
+        ensures done { DrainsAs client (requeued_all self.old) self.new result }
+        // After `Ok` each waiting block is current and blocks.
+        ensures settled { OnOk result (AllBlock (state_of self.new)) }
+        // It finished what `settle` would have finished, in the same order and with the same verdicts, and the store is the same; it
+        // evaluated no more than `settle` would have.
+        ensures serves { OnOk result
+            (ServesAsSettling (state_of self.old) (slow_drain (requeued_all self.old))) }
+        // No ticket is out, whatever the result.
+        ensures none_out { some_out self.new.pending ≡ false }
+    {
+        self.know_typed();
+        self.run(WorkOrder::Lowest, client)
     }
 }

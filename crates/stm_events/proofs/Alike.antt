@@ -210,7 +210,7 @@ marks_by woken b None (Some s') h h' e r = absurd cc
 marks_by woken b (Some s) None h h' e r = absurd cc
 marks_by woken b (Some s) (Some s') h h' e r = let q : reads_of (under s.store_then) b.tree ≡ reads_of (under s'.store_then) b.tree = cc in stands_more woken b s s' h h' e q
 
-alike_marked : (woken : List ℕ) (w w' : Waiter) → IsAlike w w' → HadVerdict w.block w.since → HadVerdict w'.block w'.since → IsAlike (after_writes woken w) (after_writes woken w')
+pub alike_marked : (woken : List ℕ) (w w' : Waiter) → IsAlike w w' → HadVerdict w.block w.since → HadVerdict w'.block w'.since → IsAlike (after_writes woken w) (after_writes woken w')
 alike_marked woken w w' k h h' = record {
   ticket = k.ticket;
   block = k.block;

@@ -27,7 +27,7 @@ fresh_without_cons : (b : Bool) (s : List Cell) (w : Waiter) (ws vs : List Waite
 fresh_without_cons true s w ws vs c cs ds = cs
 fresh_without_cons false s w ws vs c cs ds = (c, ds)
 
-fresh_without : (t : ℕ) (s : List Cell) (ws : List Waiter) → AreUnwoken s ws → AreUnwoken s (without_waiter t ws)
+pub fresh_without : (t : ℕ) (s : List Cell) (ws : List Waiter) → AreUnwoken s ws → AreUnwoken s (without_waiter t ws)
 fresh_without t s [] c = tt
 fresh_without t s (w ∷ ws) c = fresh_without_cons (nat_eq t w.ticket) s w ws (without_waiter t ws) c.0 c.1 (fresh_without t s ws c.1)
 

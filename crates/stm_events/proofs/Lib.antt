@@ -1,5 +1,8 @@
 pub mod Alike
 pub mod Covered
+pub mod DrainCounts
+pub mod Draining
+pub mod DrainLists
 pub mod Few
 pub mod Folds
 pub mod Fresh
@@ -11,6 +14,7 @@ pub mod Possible
 pub mod Ready
 pub mod Rising
 pub mod Rounds
+pub mod Running
 pub mod Serial
 pub mod SettlingAllowed
 pub mod Since

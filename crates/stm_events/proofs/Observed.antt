@@ -1,5 +1,5 @@
 -- Two possible states of which the same is observed allow the same, after it the same is observed of them, and they answer alike.
-use Rattle.std.proofs.Common.{◌≡◌, ℕ, zero, suc, ◌+◌, ◌<◌, Bool, true, false, not, ◌&&◌, cond, List, [], ◌∷◌, length, Option, Some, None, refl, sym, ap, subst, ◌∙◌}
+use Rattle.std.proofs.Common.{◌≡◌, ℕ, zero, suc, ◌+◌, ◌<◌, Bool, true, false, not, ◌||◌, ◌&&◌, cond, List, [], ◌∷◌, length, Option, Some, None, refl, sym, ap, subst, ◌∙◌}
 use Rattle.std.specs.Prelude.{nat_lt, nat_le, is_some, option_map, IsSomeAnd}
 use Rattle.stm_terms.specs.declared.values.Value.{Value}
 use Rattle.stm_terms.specs.declared.verdicts.Verdict.{Verdict}
@@ -15,7 +15,10 @@ use Rattle.stm_events.specs.BlockStatus.{read_then}
 use Rattle.stm_events.specs.Ready.{is_ready}
 use Rattle.stm_events.specs.Refusals.{missing, submit_first, cancel_first, differing, overtaken_first, blocks_there, overflows, finish_first}
 use Rattle.stm_events.specs.SlowDesk.{Waiter, Slow, under, verdict_on, waking, is_current, standing, find_waiter, without_waiter, stale_after, max_waiting, MayInstall, MayFinish, after, Allows, state_from, LegalFrom}
-use Rattle.stm_events.specs.SlowSettle.{Stop, NoRoom, NoCells, lowest, is_due, ends, can_end, installing, ending, next_of, next_what, has_cells, settle_on, settling, stop_on, settle_stop}
+use Rattle.stm_events.specs.SlowSettle.{Stop, NoRoom, NoCells, lowest, is_due, ends, can_end, installing, ending, next_of, Order, next_what, has_cells, settle_on, running, stop_on, run_stop}
+use Rattle.stm_events.specs.SlowDrain.{is_next, drain_of, next_drain}
+use Rattle.stm_events.specs.Laws.{AreRising}
+use Rattle.stm_events.proofs.Draining.{drain_allowed}
 use Rattle.stm_events.specs.States.{HadVerdicts, IsPossible, ObservedWaiter, observed, ObservationsDecide}
 use Rattle.stm_events.proofs.Alike.{IsAlike, AreAlike, MayBeAlike, alike_from, alike_to, same_current, same_new, same_standing, same_verdict, with_waiters, alike_after, same_length, alike_found, alike_lowest, same_stales, alike_without}
 use Rattle.stm_events.proofs.Possible.{had_without, possible_after}
@@ -147,6 +150,9 @@ same_due w w' a = ap not (same_current w w' a)
 same_end : (store : List Cell) (w w' : Waiter) → IsAlike w w' → can_end store w ≡ can_end store w'
 same_end store w w' a = ap ends (same_verdict store w w' a)
 
+same_next : (store : List Cell) (w w' : Waiter) → IsAlike w w' → is_next store w ≡ is_next store w'
+same_next store w w' a = let due = same_due w w' a in let end = same_end store w w' a in λ i. due i || end i
+
 same_ready : (t : ℕ) (store : List Cell) (w w' : Waiter) → IsAlike w w' → (nat_lt t w.ticket && is_ready store w) ≡ (nat_lt t w'.ticket && is_ready store w')
 same_ready t store w w' a = let current = same_current w w' a in let end = same_end store w w' a in λ i. nat_lt t (a.ticket i) && (current i && end i)
 
@@ -170,8 +176,24 @@ module _ (s : Slow) (ws' : List Waiter) (k : AreAlike s.waiters ws') (h : HadVer
       next_by (lowest is_due s.waiters) (lowest is_due ws') (lowest (can_end s.store) s.waiters) (lowest (can_end s.store) ws') (alike_lowest is_due s.waiters ws' same_due k)
       (alike_lowest (can_end s.store) s.waiters ws' (same_end s.store) k)
 
+  drain_by : (o o' : Option Waiter) → MayBeAlike o o' → drain_of s o ≡ drain_of (with_waiters s ws') o'
+  drain_by None None m = refl
+  drain_by None (Some w') m = absurd m
+  drain_by (Some w) None m = absurd m
+  drain_by (Some w) (Some w') m =
+      let due = same_due w w' m in
+      let v = same_verdict s.store w w' m in
+      (λ i. cond (due i) (installing (m.ticket i) (v i)) (ending s (m.ticket i) (v i)))
+      ∙ ap (λ (x : Option What). cond (is_due w') (installing w'.ticket (verdict_on s.store w'.block)) x) (ending_by w'.ticket (verdict_on s.store w'.block))
+
+  drain_with : next_drain s ≡ next_drain (with_waiters s ws')
+  drain_with = drain_by (lowest (is_next s.store) s.waiters) (lowest (is_next s.store) ws') (alike_lowest (is_next s.store) s.waiters ws' (same_next s.store) k)
+
 next_alike : (s s' : Slow) → IsPossible s → IsPossible s' → observed s ≡ observed s' → next_what s ≡ next_what s'
 next_alike s s' p p' e = next_with s s'.waiters (alike_of s s' e) p.evaluated p'.evaluated ∙ ap next_what (same_state s s' e)
+
+drain_alike : (s s' : Slow) → IsPossible s → IsPossible s' → observed s ≡ observed s' → next_drain s ≡ next_drain s'
+drain_alike s s' p p' e = drain_with s s'.waiters (alike_of s s' e) p.evaluated p'.evaluated ∙ ap next_drain (same_state s s' e)
 
 cells_with : (s : Slow) (ws' : List Waiter) (d : What) → has_cells s d ≡ has_cells (with_waiters s ws') d
 cells_with s ws' (Submitted t b) = refl
@@ -182,7 +204,7 @@ cells_with s ws' (Cancelled t) = refl
 cells_alike : (s s' : Slow) (d : What) → observed s ≡ observed s' → has_cells s d ≡ has_cells s' d
 cells_alike s s' d e = cells_with s s'.waiters d ∙ ap (λ (x : Slow). has_cells x d) (same_state s s' e)
 
--- ---- settling
+-- ---- settling and draining
 -- a function of states gives the same for two possible ones of which the same is observed
 abbrev IsObservable : (A : Type 0) → (Slow → A) → Type 0
 IsObservable A f = (s s' : Slow) → IsPossible s → IsPossible s' → observed s ≡ observed s' → f s ≡ f s'
@@ -198,28 +220,34 @@ later_alike A f same s s' d p p' e allowed room =
     let r = observed_after s s' d p p' e a in
     same (after s d) (after s' d) (possible_after s d p a) (possible_after s' d p' r.0) r.1
 
-settles_on : (room : ℕ) (s s' : Slow) (o : Option What) → IsObservable (List What) (settling room) → IsPossible s → IsPossible s' → observed s ≡ observed s' → IsAllowed s o → settle_on (settling room) s o ≡ settle_on (settling room) s' o
-settles_on room s s' None same p p' e a = refl
-settles_on room s s' (Some d) same p p' e a =
-    same_if (List What) (has_cells s d) (d ∷ settling room (after s d)) (d ∷ settling room (after s' d)) []
-    (λ r. ap (λ (ds : List What). d ∷ ds) (later_alike (List What) (settling room) same s s' d p p' e a r))
-    ∙ ap (λ (b : Bool). cond b (d ∷ settling room (after s' d)) []) (cells_alike s s' d e)
+runs_on : (next : Order) (room : ℕ) (s s' : Slow) (o : Option What) → IsObservable (List What) (running next room) → IsPossible s → IsPossible s' → observed s ≡ observed s' → IsAllowed s o
+    → settle_on (running next room) s o ≡ settle_on (running next room) s' o
+runs_on next room s s' None same p p' e a = refl
+runs_on next room s s' (Some d) same p p' e a =
+    same_if (List What) (has_cells s d) (d ∷ running next room (after s d)) (d ∷ running next room (after s' d)) []
+    (λ r. ap (λ (ds : List What). d ∷ ds) (later_alike (List What) (running next room) same s s' d p p' e a r))
+    ∙ ap (λ (b : Bool). cond b (d ∷ running next room (after s' d)) []) (cells_alike s s' d e)
 
-settling_alike : (room : ℕ) → IsObservable (List What) (settling room)
-settling_alike zero s s' p p' e = refl
-settling_alike (suc room) s s' p p' e =
-    settles_on room s s' (next_what s) (settling_alike room) p p' e (next_allowed s p.rising) ∙ ap (settle_on (settling room) s') (next_alike s s' p p' e)
+-- an order of work of which each next thing is allowed
+abbrev IsLawful : Order → Type 0
+IsLawful next = (s : Slow) → AreRising s.next 0 s.waiters → IsAllowed s (next s)
 
-stops_on : (room : ℕ) (s s' : Slow) (o : Option What) → IsObservable (Option Stop) (settle_stop room) → IsPossible s → IsPossible s' → observed s ≡ observed s' → IsAllowed s o → stop_on (settle_stop room) s o ≡ stop_on (settle_stop room) s' o
-stops_on room s s' None same p p' e a = refl
-stops_on room s s' (Some d) same p p' e a =
-    same_if (Option Stop) (has_cells s d) (settle_stop room (after s d)) (settle_stop room (after s' d)) (Some NoCells) (later_alike (Option Stop) (settle_stop room) same s s' d p p' e a)
-    ∙ ap (λ (b : Bool). cond b (settle_stop room (after s' d)) (Some NoCells)) (cells_alike s s' d e)
+running_alike : (next : Order) → IsLawful next → IsObservable (Option What) next → (room : ℕ) → IsObservable (List What) (running next room)
+running_alike next lawful alike zero s s' p p' e = refl
+running_alike next lawful alike (suc room) s s' p p' e =
+    runs_on next room s s' (next s) (running_alike next lawful alike room) p p' e (lawful s p.rising) ∙ ap (settle_on (running next room) s') (alike s s' p p' e)
 
-stop_alike : (room : ℕ) → IsObservable (Option Stop) (settle_stop room)
-stop_alike zero s s' p p' e = ap (λ (o : Option What). cond (is_some o) (Some NoRoom) None) (next_alike s s' p p' e)
-stop_alike (suc room) s s' p p' e =
-    stops_on room s s' (next_what s) (stop_alike room) p p' e (next_allowed s p.rising) ∙ ap (stop_on (settle_stop room) s') (next_alike s s' p p' e)
+stops_on : (next : Order) (room : ℕ) (s s' : Slow) (o : Option What) → IsObservable (Option Stop) (run_stop next room) → IsPossible s → IsPossible s' → observed s ≡ observed s' → IsAllowed s o
+    → stop_on (run_stop next room) s o ≡ stop_on (run_stop next room) s' o
+stops_on next room s s' None same p p' e a = refl
+stops_on next room s s' (Some d) same p p' e a =
+    same_if (Option Stop) (has_cells s d) (run_stop next room (after s d)) (run_stop next room (after s' d)) (Some NoCells) (later_alike (Option Stop) (run_stop next room) same s s' d p p' e a)
+    ∙ ap (λ (b : Bool). cond b (run_stop next room (after s' d)) (Some NoCells)) (cells_alike s s' d e)
+
+stop_alike : (next : Order) → IsLawful next → IsObservable (Option What) next → (room : ℕ) → IsObservable (Option Stop) (run_stop next room)
+stop_alike next lawful alike zero s s' p p' e = ap (λ (o : Option What). cond (is_some o) (Some NoRoom) None) (alike s s' p p' e)
+stop_alike next lawful alike (suc room) s s' p p' e =
+    stops_on next room s s' (next s) (stop_alike next lawful alike room) p p' e (lawful s p.rising) ∙ ap (stop_on (run_stop next room) s') (alike s s' p p' e)
 
 -- ---- all of them
 answers_with : (s : Slow) (ws' : List Waiter) → AreAlike s.waiters ws' → IsPossible s → IsPossible (with_waiters s ws') → observed s ≡ observed (with_waiters s ws') → AnswersAlike s (with_waiters s ws')
@@ -238,8 +266,11 @@ answers_with s ws' k p p' e =
           (alike_lowest (λ w. nat_lt t w.ticket && is_ready s.store w) s.waiters ws' (same_ready t s.store) k);
       waiting = same_length s.waiters ws' k;
       next = next_alike s (with_waiters s ws') p p' e;
-      settling = λ room. settling_alike room s (with_waiters s ws') p p' e;
-      stop = λ room. stop_alike room s (with_waiters s ws') p p' e;
+      settling = λ room. running_alike next_what next_allowed next_alike room s (with_waiters s ws') p p' e;
+      stop = λ room. stop_alike next_what next_allowed next_alike room s (with_waiters s ws') p p' e;
+      next_drain = drain_alike s (with_waiters s ws') p p' e;
+      draining = λ room. running_alike next_drain drain_allowed drain_alike room s (with_waiters s ws') p p' e;
+      drain_stop = λ room. stop_alike next_drain drain_allowed drain_alike room s (with_waiters s ws') p p' e;
     }
 
 pub observed_answers : ObservedAnswerAlike

@@ -45,7 +45,7 @@ meets-nothing : (is : List ℕ) → intersects [] is ≡ false
 meets-nothing [] = refl
 meets-nothing (i ∷ is) = meets-nothing is
 
-not_due : (store : List Cell) (w : Waiter) → is_due (with_delivery store w) ≡ false
+pub not_due : (store : List Cell) (w : Waiter) → is_due (with_delivery store w) ≡ false
 not_due store w = rw (meets-nothing (looked_on store w.block)) refl
 
 abbrev with_waiters : Slow → List Waiter → Slow

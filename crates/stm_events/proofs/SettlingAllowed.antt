@@ -61,7 +61,7 @@ not_false : (b : Bool) → not b ≡ false → b ≡ true
 not_false true e = refl
 not_false false e = cc
 
-installs_next : (s : Slow) (w : Waiter) (v : Option Verdict) → find_waiter w.ticket s.waiters ≡ Some w → is_due w ≡ true → verdict_on s.store w.block ≡ v → IsAllowed s (installing w.ticket v)
+pub installs_next : (s : Slow) (w : Waiter) (v : Option Verdict) → find_waiter w.ticket s.waiters ≡ Some w → is_due w ≡ true → verdict_on s.store w.block ≡ v → IsAllowed s (installing w.ticket v)
 installs_next s w None f h e = tt
 installs_next s w (Some v) f h e = λ room.
     let may : MayInstall s w v = record { not_current = not_true (is_current w) h; verdict_is = e } in
@@ -70,7 +70,7 @@ installs_next s w (Some v) f h e = λ room.
 room_by : (s : Slow) (t : ℕ) (v : Verdict) (stale : List ℕ) → has_cells s (Finished t v (length s.store) stale) ≡ true → length s.store + length (made_by v) ≤ max_cells
 room_by s t v stale e = grind (arith, nat_tests)
 
-ends_next : (s : Slow) (w : Waiter) (v : Option Verdict) → find_waiter w.ticket s.waiters ≡ Some w → is_due w ≡ false → ends v ≡ true → verdict_on s.store w.block ≡ v → IsAllowed s (ending s w.ticket v)
+pub ends_next : (s : Slow) (w : Waiter) (v : Option Verdict) → find_waiter w.ticket s.waiters ≡ Some w → is_due w ≡ false → ends v ≡ true → verdict_on s.store w.block ≡ v → IsAllowed s (ending s w.ticket v)
 ends_next s w None f h g e = tt
 ends_next s w (Some v) f h g e = λ room.
     let stale = stale_after (waking s.rule s.store v) (without_waiter w.ticket s.waiters) in

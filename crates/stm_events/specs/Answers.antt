@@ -8,6 +8,7 @@ use Rattle.stm_events.specs.BlockStatus.{read_then}
 use Rattle.stm_events.specs.Ready.{next_ready}
 use Rattle.stm_events.specs.Refusals.{submit_refused, cancel_refused, install_first, finish_refused}
 use Rattle.stm_events.specs.SlowDesk.{Waiter, Slow, standing, is_current, find_waiter}
+use Rattle.stm_events.specs.SlowDrain.{next_drain, draining, drain_stop}
 use Rattle.stm_events.specs.SlowSettle.{next_what, settling, settle_stop}
 use Rattle.stm_events.specs.States.{IsPossible, observed}
 
@@ -32,6 +33,9 @@ pub record AnswersAlike (s s' : Slow) : Type 0 where
   pub next : next_what s ≡ next_what s'
   pub settling : (room : ℕ) → settling room s ≡ settling room s'
   pub stop : (room : ℕ) → settle_stop room s ≡ settle_stop room s'
+  pub next_drain : next_drain s ≡ next_drain s'
+  pub draining : (room : ℕ) → draining room s ≡ draining room s'
+  pub drain_stop : (room : ℕ) → drain_stop room s ≡ drain_stop room s'
 
 -- two possible states of which the same is observed answer alike
 abbrev pub ObservedAnswerAlike : Type 0

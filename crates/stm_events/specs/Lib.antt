@@ -2,6 +2,7 @@
 -- history may begin from.
 pub mod Answers
 pub mod Delivered
+pub mod DrainCounts
 pub mod Headline
 pub mod HeadlineFrom
 pub mod Laws
@@ -9,6 +10,7 @@ pub mod Ready
 pub mod Refusals
 pub mod Rounds
 pub mod SlowDesk
+pub mod SlowDrain
 pub mod SlowSettle
 pub mod States
 -- The words inside.

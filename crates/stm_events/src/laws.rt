@@ -6,6 +6,8 @@ ghost use Rattle.stm_events.specs.Headline.{Headline, HeadlineBy};
 ghost use Rattle.stm_events.specs.HeadlineFrom.{HeadlineFrom};
 ghost use Rattle.stm_events.specs.Ready.{ReadyFinishesNext};
 ghost use Rattle.stm_events.specs.Rounds.{SettlingIsRounds};
+ghost use Rattle.stm_events.specs.SlowDrain.{DrainsAsSettling};
+ghost use Rattle.stm_events.specs.DrainCounts.{DrainingRunsWhatIsDue};
 ghost use Rattle.stm_events.specs.Laws.{TicketsRise, BlocksAreCovered, CurrentHolds, StoreIsSerial, WeakIsPresent};
 ghost use Rattle.stm_events.specs.Laws.{DeclaredAreCovered, BlocksStay};
 ghost use Rattle.stm_events.specs.States.{PossibleStatesStay, VariablesStayCovered, TicketsStay, TypedStatesStay, ObservationsDecide};
@@ -50,6 +52,17 @@ pub fn weak_is_present()
 /// the lowest block that doesn't block is finished.
 pub fn settling_is_rounds()
     ensures { SettlingIsRounds }
+{}
+
+/// Draining finishes the same blocks in the same order with the same verdicts as settling, leads to the same store, and runs no
+/// more blocks. What can be observed at the end is the same.
+pub fn drains_as_settling()
+    ensures { DrainsAsSettling }
+{}
+
+/// Draining that comes to rest runs the blocks that are new or stale, and those that its finishes make stale, once each.
+pub fn draining_runs_what_is_due()
+    ensures { DrainingRunsWhatIsDue }
 {}
 
 /// While no block is new or stale, the lowest block that could finish now is the one that settling finishes.

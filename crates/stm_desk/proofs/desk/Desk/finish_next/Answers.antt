@@ -3,12 +3,12 @@ use Rattle.stm_desk.proofs.desk.Desk.finish_next.Goals as goal
 use Rattle.stm_desk.proofs.desk.Desk.finish_next.Goals.{in-Ok, in-Err}
 
 pub why_of_finish-requires : goal.why_of_finish-requires
-why_of_finish-requires c = stops_finish c.args.self.now c.args.ticket c.in-Err.refusal c.requires.possible c.requires.none_due c.requires.next c.in-Err.ensures.refused
+why_of_finish-requires c = stops_finish c.args.self.now c.args.ticket c.in-Err.refusal c.requires.ready c.in-Err.ensures.refused
 
 pub returns-clause-done : goal.returns-clause-done
 returns-clause-done c =
     elim c.match-finish.branch [
-      | in-Ok w ↦ rw w.result-is (next_finish c.args.self.now c.finish.new.self c.args.client c.args.ticket _ c.requires.possible c.requires.none_due c.requires.next w.in-Ok.ensures.accepted w.in-Ok.ensures.plan w.in-Ok.ensures.refused)
+      | in-Ok w ↦ rw w.result-is (next_finish c.args.self.now c.finish.new.self c.args.client c.args.ticket _ c.requires.ready w.in-Ok.ensures.accepted w.in-Ok.ensures.plan w.in-Ok.ensures.refused)
       | in-Err w ↦ rw w.result-is tt
     ]
 
@@ -16,5 +16,5 @@ pub returns-clause-why : goal.returns-clause-why
 returns-clause-why c =
     elim c.match-finish.branch [
       | in-Ok w ↦ rw w.result-is tt
-      | in-Err w ↦ rw (w.result-is, w.why_of_finish.ensures) (why_finish c.args.self.now c.args.ticket w.in-Err.refusal c.requires.possible c.requires.few c.requires.none_due c.requires.next w.in-Err.ensures.refused)
+      | in-Err w ↦ rw (w.result-is, w.why_of_finish.ensures) (why_finish c.args.self.now c.args.ticket w.in-Err.refusal c.requires.ready c.requires.few w.in-Err.ensures.refused)
     ]

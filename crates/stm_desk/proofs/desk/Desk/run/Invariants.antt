@@ -1,11 +1,12 @@
 use Rattle.std.proofs.Common.{◌≡◌, ◌-◌, false, length}
 use Rattle.stm_machine.specs.SettleChoices.{some_out}
 use Rattle.stm_desk.specs.Settling.{requeued_all, HasBegun}
-use Rattle.stm_desk.proofs.desk.Desk.settle.Given as goal
+use Rattle.stm_desk.specs.WorkOrders.{order_of}
+use Rattle.stm_desk.proofs.desk.Desk.run.Given as goal
 
 abbrev pub invariant-loop-delivered : goal.invariant-loop-delivered
 invariant-loop-delivered l = record {
-  begun : HasBegun l.client (requeued_all l.fn.self) l.self l.finished l.evaluations;
+  begun : HasBegun (order_of l.order) l.client (requeued_all l.fn.self) l.self l.finished l.evaluations;
   none_out : some_out l.self.pending ≡ false;
 }
 
