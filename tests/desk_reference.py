@@ -1,9 +1,11 @@
-"""A slow desk with no limit: the answers of the console's commands, by the rules of docs/CONSOLE.md, with an evaluator of its own.
+"""A slow desk, whose one limit is how many events its history has room for: the answers of the console's commands, by the rules of
+docs/CONSOLE.md, with an evaluator of its own.
 
 It keeps the whole past: of each waiting block the store of its last delivery, and of each stale one the finish that made it so. A checkpoint
 does nothing to it, but that `why` of a block that is stale already and the number of events are as after one.
 """
 
+import math
 import sys
 from pathlib import Path
 
@@ -14,6 +16,9 @@ import blocks
 from histories import shown
 from questions_reference import applied, is_same
 
+
+class Full(Exception):
+    """The history has no room for an event. Nothing was changed."""
 
 
 def value_of(text, names):
@@ -56,14 +61,14 @@ class Waiter:
 class Desk:
     """The desk. `answer` takes a line and returns the lines of its answer."""
 
-    def __init__(self, variables):
+    def __init__(self, variables, limit=math.inf):
         self.names, self.cells, self.kinds, self.counts, self.declared = {}, [], [], [], list(variables)
         for number, (name, (kind, first)) in enumerate(variables.items()):
             self.cells.append(value_of(first, self.names))
             self.kinds.append(kind)
             self.counts.append(0)
             self.names[name] = ("old", number)
-        self.waiters, self.out, self.jobs, self.next, self.events = {}, set(), [], 1, 0
+        self.waiters, self.out, self.jobs, self.next, self.events, self.limit = {}, set(), [], 1, 0, limit
 
     # -- what it does
 
@@ -74,11 +79,20 @@ class Desk:
     def queued(self):
         return [it for it, waiter in sorted(self.waiters.items()) if not waiter.is_current and it not in self.out]
 
+    def ready(self):
+        return [it for it, waiter in sorted(self.waiters.items()) if waiter.can_finish]
+
+    def record(self):
+        """One event more. Raises `Full`."""
+        if self.events >= self.limit:
+            raise Full
+        self.events += 1
+
     def deliver_to(self, ticket, verdict, reads):
+        self.record()
         waiter = self.waiters[ticket]
         waiter.verdict, waiter.reads, waiter.stale = verdict, reads, None
         self.out.discard(ticket)
-        self.events += 1
 
     def evaluate(self):
         queued = self.queued()
@@ -88,9 +102,9 @@ class Desk:
 
     def end(self, ticket):
         """Finishes a block that can finish. Returns the tickets that become stale."""
+        self.record()
         verdict = self.waiters.pop(ticket).verdict
         before, self.cells = self.cells, applied(self.cells, verdict)
-        self.events += 1
         for value in self.cells[len(before):]:
             self.kinds.append(self.kind(value))
             self.counts.append(0)
@@ -106,6 +120,24 @@ class Desk:
                 stale.append(other)
         return stale
 
+    def run(self, word, choose):
+        """Evaluates the ticket that `choose` returns, or finishes it if it is current, until that is none or the history is full."""
+        self.out.clear()
+        finished = evaluations = 0
+        stopped = ""
+        try:
+            while (ticket := choose()) is not None:
+                waiter = self.waiters[ticket]
+                if waiter.is_current:
+                    self.end(ticket)
+                    finished += 1
+                else:
+                    self.deliver_to(ticket, *self.outcome(waiter.action, self.cells))
+                    evaluations += 1
+        except Full:
+            stopped = "stopped HistoryFull "
+        return [f"{stopped}{word} {finished} evaluations {evaluations}"]
+
     def kind(self, value):
         """The text of a value's type."""
         if isinstance(value, tuple):
@@ -117,12 +149,15 @@ class Desk:
 
     def answer(self, line):
         word, _, argument = line.partition(" ")
-        return getattr(self, f"do_{word}")(argument)
+        try:
+            return getattr(self, f"do_{word}")(argument)
+        except Full:
+            return ["refused HistoryFull"]
 
     def do_submit(self, text):
+        self.record()
         ticket, self.next = self.next, self.next + 1
         self.waiters[ticket] = Waiter(blocks.parsed(text, self.names))
-        self.events += 1
         return [f"ticket {ticket}"]
 
     def do_take(self, count):
@@ -180,21 +215,16 @@ class Desk:
     def do_cancel(self, ticket):
         if int(ticket) not in self.waiters:
             return ["refused NoTicket"]
+        self.record()
         del self.waiters[int(ticket)]
         self.out.discard(int(ticket))
-        self.events += 1
         return [f"cancelled {ticket}"]
 
     def do_settle(self, _):
-        self.out.clear()
-        finished = evaluations = 0
-        while True:
-            evaluations += self.evaluate()
-            ready = [it for it, waiter in sorted(self.waiters.items()) if waiter.can_finish]
-            if not ready:
-                return [f"settled {finished} evaluations {evaluations}"]
-            self.end(ready[0])
-            finished += 1
+        return self.run("settled", lambda: next(iter(self.queued() or self.ready()), None))
+
+    def do_drain(self, _):
+        return self.run("drained", lambda: min(self.queued() + self.ready(), default=None))
 
     def do_show(self, _):
         lines = []
@@ -210,7 +240,7 @@ class Desk:
         return ["refused NotEvaluated" if waiter.is_new else f"reads {reads_text(waiter.reads)}"]
 
     def do_ready(self, _):
-        return ["ready " + (" ".join(str(it) for it, waiter in sorted(self.waiters.items()) if waiter.can_finish) or "none")]
+        return ["ready " + (" ".join(map(str, self.ready())) or "none")]
 
     def do_why(self, ticket):
         waiter = self.waiters.get(int(ticket))

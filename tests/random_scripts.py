@@ -80,6 +80,7 @@ def command(chance, reference, jobs):
             f"handback {some}",
             f"cancel {some}",
             "settle",
+            "drain",
         ],
-        [9, 5, 9, 1, 3, 4 if jobs else 0, 1, 1, 0.3],
+        [9, 5, 9, 1, 3, 4 if jobs else 0, 1, 1, 0.3, 0.3],
     )[0]

@@ -18,6 +18,7 @@ FAULTS = [  # a script, and the number of its first faulty line
     ("client\n-- \xff\n\xff\n", 3),
     ("client\nstore\n", 2),
     ("client\nsettle\n", 2),
+    ("client\ndrain\n", 2),
     ("client\ntry return 1\n", 2),
     ("store\nclient\n", 1),
     # declarations

@@ -14,7 +14,7 @@ VERSION_FILE = ROOT / "crates" / "stm_words" / "src" / "version.rt"
 ARGUMENTS = {  # of each command of the console
     **{"tvar": "NAME : TYPE = INIT", "try": "BLOCK", "looks": "BLOCK", "submit": "BLOCK", "take": "N", "deliver": "J"},
     **{"handback": "T", "eval": "", "finish": "T", "cancel": "T", "show": "", "reads": "T", "store": "", "settle": ""},
-    **{"history": "", "ready": "", "events": "N", "why": "T", "checkpoint": ""},
+    **{"drain": "", "history": "", "ready": "", "events": "N", "why": "T", "checkpoint": ""},
 }
 COMMANDS = [rf"  {word} ?{argument}( .*)?" for word, argument in ARGUMENTS.items()]
 HELP = [r"Usage: stmdesk \[COMMAND\]", r"Commands:", *(rf"  {word} +.*" for word in ("run", "storm", "explore", "check", "help"))]

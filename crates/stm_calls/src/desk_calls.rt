@@ -77,11 +77,11 @@ pub fn cancel(desk: &mut Desk, client: u32, ticket: u32, out: &mut String) -> Re
     }
 }
 
-/// Prints all that settling did, with the calls that ran out of memory.
+/// Prints all that settling or draining did, with the calls that ran out of memory.
 fn say_settled(
     settled: &mut Counts,
     done: Settled,
-    stopped: &str,
+    word: &str,
     out: &mut String,
 ) -> Result<(), AllocError> {
     let finished = settled.finished.saturating_add(done.finished);
@@ -90,17 +90,28 @@ fn say_settled(
         finished: 0,
         evaluations: 0,
     };
-    writeln!(out, "{stopped}settled {finished} evaluations {evaluations}")
+    writeln!(out, "{word} {finished} evaluations {evaluations}")
 }
 
-fn say_stop(settled: &mut Counts, stop: SettleStop, out: &mut String) -> Result<(), AllocError> {
+fn say_stop(
+    settled: &mut Counts,
+    stop: SettleStop,
+    word: &str,
+    out: &mut String,
+) -> Result<(), AllocError> {
     let done = Settled {
         finished: stop.finished,
         evaluations: stop.evaluations,
     };
     match stop.why {
-        SettleWhy::HistoryFull => say_settled(settled, done, "stopped HistoryFull ", out),
-        SettleWhy::CellsFull => say_settled(settled, done, "stopped CellsFull ", out),
+        SettleWhy::HistoryFull => {
+            out.push_str("stopped HistoryFull ")?;
+            say_settled(settled, done, word, out)
+        }
+        SettleWhy::CellsFull => {
+            out.push_str("stopped CellsFull ")?;
+            say_settled(settled, done, word, out)
+        }
         SettleWhy::NoMemory => {
             settled.finished = settled.finished.saturating_add(done.finished);
             settled.evaluations = settled.evaluations.saturating_add(done.evaluations);
@@ -109,18 +120,26 @@ fn say_stop(settled: &mut Counts, stop: SettleStop, out: &mut String) -> Result<
     }
 }
 
-/// Settles the desk.
-pub fn settle(
+/// Settles the desk, or drains it.
+pub fn settle_or_drain(
     desk: &mut Desk,
     settled: &mut Counts,
     client: u32,
+    call: &str,
     out: &mut String,
 ) -> Result<(), AllocError>
     requires { client < max_clients }
 {
-    match desk.settle(client) {
-        Ok(done) => say_settled(settled, done, "", out),
-        Err(stop) => say_stop(settled, stop, out),
+    let is_drain = call == "drain";
+    let word = if is_drain { "drained" } else { "settled" };
+    let answer = if is_drain {
+        desk.drain(client)
+    } else {
+        desk.settle(client)
+    };
+    match answer {
+        Ok(done) => say_settled(settled, done, word, out),
+        Err(stop) => say_stop(settled, stop, word, out),
     }
 }
 

@@ -34,7 +34,7 @@ impl Drop for Desks {
     }
 }
 
-/// The finishes and the deliveries of settling, over calls that ran out of memory.
+/// The finishes and the deliveries of settling or draining, over calls that ran out of memory.
 #[derive(Clone, Copy)]
 pub struct Counts {
     pub finished: u32,
@@ -122,7 +122,7 @@ fn answer_change(
         "evaluate_queued" => desk_work::evaluate_queued(desk, client, number(rest), out),
         "finish" => desk_calls::finish(desk, client, number(rest), out),
         "cancel" => desk_calls::cancel(desk, client, number(rest), out),
-        "settle" => desk_calls::settle(desk, settled, client, out),
+        "settle" | "drain" => desk_calls::settle_or_drain(desk, settled, client, call, out),
         "checkpoint" => desk_calls::checkpoint(desk, out),
         "hand_back" => say_whether(desk.hand_back(number(rest)), out),
         _ => desk_show::answer(desk, call, number(rest), out),

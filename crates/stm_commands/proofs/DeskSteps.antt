@@ -17,7 +17,7 @@ use Rattle.stm_events.specs.declared.errors.FinishError.TheVariants as finish
 use Rattle.stm_events.specs.declared.event.What.TheVariants.{Submitted, Finished, Cancelled}
 use Rattle.stm_events.specs.declared.staleness.StalenessRule.{StalenessRule}
 use Rattle.stm_events.specs.SlowDesk.{Waiter, verdict_on, find_waiter, without_waiter, stale_after, waking}
-use Rattle.stm_events.specs.SlowSettle.{finishes}
+use Rattle.stm_events.specs.SlowSettle.{Order, finishes}
 use Rattle.stm_events.proofs.Folds.{state-rule}
 use Rattle.stm_machine.specs.Plans.{IsPlan}
 use Rattle.stm_desk.specs.declared.errors.SettleWhy.{SettleWhy}
@@ -28,9 +28,9 @@ use Rattle.stm_desk.proofs.Starts.{start_rule}
 use Rattle.stm_desk.specs.declared.finish.Finish.{Finish}
 use Rattle.stm_desk.specs.Events.{finish_of}
 use Rattle.stm_desk.specs.DeskView.{DeskView, start_state, state_of, with_event}
-use Rattle.stm_desk.specs.Settling.{with_whats, requeued_all, slow_settle, slow_stop, HasSettled, HasStopped}
+use Rattle.stm_desk.specs.Settling.{with_whats, requeued_all, slow_run, slow_run_stop, HasRun, HasHalted}
 use Rattle.stm_commands.specs.Blocks.{ticket_line, submit_block_step}
-use Rattle.stm_commands.specs.Endings.{finished_line, finish_verdict_step, finish_waiter_step, finish_ticket_step, cancelled_line, cancel_ticket_step, settled_line, why_text, settle_text, settle_desk_step}
+use Rattle.stm_commands.specs.Endings.{finished_line, finish_verdict_step, finish_waiter_step, finish_ticket_step, cancelled_line, cancel_ticket_step, why_text, run_text, run_desk_step}
 use Rattle.stm_commands.specs.declared.evaluation.Progress.{Progress}
 use Rattle.stm_commands.specs.Evaluation.{DeliveredSoFar, evaluated, evaluation_text, eval_desk_step}
 use Rattle.stm_commands.specs.Jobs.{max_jobs, jobs_of, taken, jobs_line, with_jobs, take_jobs_step, delivery_refusal, delivery_step, deliver_job_step, queued_line, handed_back, handback_ticket_step}
@@ -140,31 +140,32 @@ finish_err d e js t x old new (Ok y) p n m h =
     subst (λ (o : Option FinishError). Steps (opened_as js e) old new (on_desk (opened_as js d) (finish_ticket_step d t o))) (sym (refusal_is Finish finish.NoMemory (finish_refusal d t) x n m)) (ap (opened_as js) p, h)
 finish_err d e js t x old new (Err y) p n m h = tt
 
--- ---- settle
-pub settle_ok : {A E : Type 0} → (d e : DeskView) (js : List HandedOut) (f n : ℕ) (old new : List ℕ) (r : Result A E) → HasSettled 0 (requeued_all d) e f n None → OnOk r (new ≡ old ++ settled_line f n)
-    → OnOk r (Steps (opened_as js e) old new (on_desk (opened_as js d) (settle_desk_step (requeued_all d))))
-settle_ok d e js f n old new (Ok x) s p =
+-- ---- settle and drain
+pub run_ok : {A E : Type 0} → (next : Order) (line : ℕ → ℕ → List ℕ) (d e : DeskView) (js : List HandedOut) (f n : ℕ) (old new : List ℕ) (r : Result A E) → HasRun next 0 (requeued_all d) e f n None → OnOk r (new ≡ old ++ line f n)
+    → OnOk r (Steps (opened_as js e) old new (on_desk (opened_as js d) (run_desk_step next line (requeued_all d))))
+run_ok next line d e js f n old new (Ok x) s p =
     let c = requeued_all d in (
       ap (opened_as js) s.grown,
-      p ∙ ap (λ (t : List ℕ). old ++ t) (ap (λ (k : ℕ). settled_line k n) s.finished ∙ ap (λ (k : ℕ). settled_line (finishes (slow_settle c)) k) s.evaluated ∙ ap (settle_text (slow_settle c)) (sym s.stopped)),
+      p ∙ ap (λ (t : List ℕ). old ++ t) (ap (λ (k : ℕ). line k n) s.finished ∙ ap (λ (k : ℕ). line (finishes (slow_run next c)) k) s.evaluated ∙ ap (run_text line (slow_run next c)) (sym s.stopped)),
     )
-settle_ok d e js f n old new (Err x) s p = tt
+run_ok next line d e js f n old new (Err x) s p = tt
 
--- settling that stopped, by what was told of it
-stopped_told : (d e : DeskView) (w : SettleWhy) (f n : ℕ) → HasStopped w 0 d e f n → w ≢ NoMemory → (e ≡ with_whats d 0 (slow_settle d)) × (why_text w ++ settled_line f n ≡ settle_text (slow_settle d) (slow_stop d))
-stopped_told d e HistoryFull f n s h = (
+-- a run that stopped, by what was told of it
+stopped_told : (next : Order) (line : ℕ → ℕ → List ℕ) (d e : DeskView) (w : SettleWhy) (f n : ℕ) → HasHalted next w 0 d e f n → w ≢ NoMemory
+    → (e ≡ with_whats d 0 (slow_run next d)) × (why_text w ++ line f n ≡ run_text line (slow_run next d) (slow_run_stop next d))
+stopped_told next line d e HistoryFull f n s h = (
   s.0.grown,
-  ap (λ k. why_text HistoryFull ++ settled_line k n) s.0.finished ∙ ap (λ k. why_text HistoryFull ++ settled_line (finishes (slow_settle d)) k) s.0.evaluated ∙ ap (settle_text (slow_settle d)) (sym s.0.stopped),
+  ap (λ k. why_text HistoryFull ++ line k n) s.0.finished ∙ ap (λ k. why_text HistoryFull ++ line (finishes (slow_run next d)) k) s.0.evaluated ∙ ap (run_text line (slow_run next d)) (sym s.0.stopped),
 )
-stopped_told d e CellsFull f n s h = (
+stopped_told next line d e CellsFull f n s h = (
   s.0.grown,
-  ap (λ k. why_text CellsFull ++ settled_line k n) s.0.finished ∙ ap (λ k. why_text CellsFull ++ settled_line (finishes (slow_settle d)) k) s.0.evaluated ∙ ap (settle_text (slow_settle d)) (sym s.0.stopped),
+  ap (λ k. why_text CellsFull ++ line k n) s.0.finished ∙ ap (λ k. why_text CellsFull ++ line (finishes (slow_run next d)) k) s.0.evaluated ∙ ap (run_text line (slow_run next d)) (sym s.0.stopped),
 )
-stopped_told d e NoMemory f n s h = absurd (h refl)
+stopped_told next line d e NoMemory f n s h = absurd (h refl)
 
-pub settle_err : {A E : Type 0} → (d e : DeskView) (js : List HandedOut) (w : SettleWhy) (f n : ℕ) (old new : List ℕ) (r : Result A E) → HasStopped w 0 (requeued_all d) e f n → OnOk r (new ≡ old ++ why_text w ++ settled_line f n)
-    → OnOk r (w ≢ NoMemory) → OnOk r (Steps (opened_as js e) old new (on_desk (opened_as js d) (settle_desk_step (requeued_all d))))
-settle_err d e js w f n old new (Ok x) s p h =
-    let t = stopped_told (requeued_all d) e w f n s h in
-    (ap (opened_as js) t.0, p ∙ append_assoc old (why_text w) (settled_line f n) ∙ ap (λ (line : List ℕ). old ++ line) t.1)
-settle_err d e js w f n old new (Err x) s p h = tt
+pub run_err : {A E : Type 0} → (next : Order) (line : ℕ → ℕ → List ℕ) (d e : DeskView) (js : List HandedOut) (w : SettleWhy) (f n : ℕ) (old new : List ℕ) (r : Result A E) → HasHalted next w 0 (requeued_all d) e f n
+    → OnOk r (new ≡ old ++ why_text w ++ line f n) → OnOk r (w ≢ NoMemory) → OnOk r (Steps (opened_as js e) old new (on_desk (opened_as js d) (run_desk_step next line (requeued_all d))))
+run_err next line d e js w f n old new (Ok x) s p h =
+    let t = stopped_told next line (requeued_all d) e w f n s h in
+    (ap (opened_as js) t.0, p ∙ append_assoc old (why_text w) (line f n) ∙ ap (λ (line : List ℕ). old ++ line) t.1)
+run_err next line d e js w f n old new (Err x) s p h = tt

@@ -27,7 +27,8 @@ use Rattle.stm_desk.specs.declared.errors.SettleWhy.TheVariants.{HistoryFull, Ce
 use Rattle.stm_desk.specs.declared.finish.Finish.{Finish}
 use Rattle.stm_desk.specs.declared.settle.Settled.{Settled}
 use Rattle.stm_desk.specs.Events.{finish_of}
-use Rattle.stm_desk.specs.Settling.{with_whats, requeued_all, slow_settle, HasStopped, SettlesAs}
+use Rattle.stm_desk.specs.Settling.{with_whats, requeued_all, slow_run, HasHalted, RunsAs}
+use Rattle.stm_events.specs.SlowSettle.{Order}
 use Rattle.stm_commands.specs.declared.jobs.KeptJob.{KeptJob}
 use Rattle.stm_commands.specs.Jobs.{job_of, jobs_of}
 use Rattle.stm_commands.specs.OpenDesk.{HandedOut}
@@ -223,14 +224,14 @@ pub kept_finished : {table : List Declared} → (d e : DeskView) (copy : Option 
     → IfOk r (λ f. e ≡ with_event d 0 (finish_of t f)) → OnErr r (e ≡ d) → MayStart e.table e.checkpoint → IsLegalFrom (start_state e) e.history → OpenInvariant d copy ks table → OpenInvariant e None ks table
 kept_finished d e copy ks t r p q start legal k = kept_without d e copy ks (finished_grown d e t r p q start legal) k
 
-stopped_grown : (d e : DeskView) (w : SettleWhy) (f n : ℕ) → HasStopped w 0 (requeued_all d) e f n → MayStart e.table e.checkpoint → IsLegalFrom (start_state e) e.history → HasGrown d e
-stopped_grown d e HistoryFull f n s start legal = grown_whats d e 0 (slow_settle (requeued_all d)) s.0.grown start legal
-stopped_grown d e CellsFull f n s start legal = grown_whats d e 0 (slow_settle (requeued_all d)) s.0.grown start legal
-stopped_grown d e NoMemory f n s start legal = grown_whats d e 0 s.done s.grown start legal
+halted_grown : (next : Order) (d e : DeskView) (w : SettleWhy) (f n : ℕ) → HasHalted next w 0 (requeued_all d) e f n → MayStart e.table e.checkpoint → IsLegalFrom (start_state e) e.history → HasGrown d e
+halted_grown next d e HistoryFull f n s start legal = grown_whats d e 0 (slow_run next (requeued_all d)) s.0.grown start legal
+halted_grown next d e CellsFull f n s start legal = grown_whats d e 0 (slow_run next (requeued_all d)) s.0.grown start legal
+halted_grown next d e NoMemory f n s start legal = grown_whats d e 0 s.done s.grown start legal
 
-settled_grown : (d e : DeskView) (r : Result Settled SettleStop) → SettlesAs 0 (requeued_all d) e r → MayStart e.table e.checkpoint → IsLegalFrom (start_state e) e.history → HasGrown d e
-settled_grown d e (Ok s) p start legal = grown_whats d e 0 (slow_settle (requeued_all d)) p.grown start legal
-settled_grown d e (Err s) p start legal = stopped_grown d e s.why s.finished s.evaluations p start legal
+run_grown : (next : Order) (d e : DeskView) (r : Result Settled SettleStop) → RunsAs next 0 (requeued_all d) e r → MayStart e.table e.checkpoint → IsLegalFrom (start_state e) e.history → HasGrown d e
+run_grown next d e (Ok s) p start legal = grown_whats d e 0 (slow_run next (requeued_all d)) p.grown start legal
+run_grown next d e (Err s) p start legal = halted_grown next d e s.why s.finished s.evaluations p start legal
 
-pub kept_settled : {table : List Declared} → (d e : DeskView) (copy : Option (List (Ty × Value))) (ks : List KeptJob) (r : Result Settled SettleStop) → SettlesAs 0 (requeued_all d) e r → MayStart e.table e.checkpoint → IsLegalFrom (start_state e) e.history → OpenInvariant d copy ks table → OpenInvariant e None ks table
-kept_settled d e copy ks r p start legal k = kept_without d e copy ks (settled_grown d e r p start legal) k
+pub kept_run : {table : List Declared} → (next : Order) (d e : DeskView) (copy : Option (List (Ty × Value))) (ks : List KeptJob) (r : Result Settled SettleStop) → RunsAs next 0 (requeued_all d) e r → MayStart e.table e.checkpoint → IsLegalFrom (start_state e) e.history → OpenInvariant d copy ks table → OpenInvariant e None ks table
+kept_run next d e copy ks r p start legal k = kept_without d e copy ks (run_grown next d e r p start legal) k

@@ -1,4 +1,4 @@
--- `finish`, `cancel` and `settle`: blocks take effect, or wait no more.
+-- `finish`, `cancel`, `settle` and `drain`: blocks take effect, or wait no more.
 use Rattle.std.specs.Prelude.{ℕ, List, [], ◌∷◌, ◌++◌, Option, Some, None, codes, decimal, length}
 use Rattle.stm_terms.specs.declared.values.Value.{Value}
 use Rattle.stm_terms.specs.declared.verdicts.Verdict.{Verdict}
@@ -10,12 +10,13 @@ use Rattle.stm_events.specs.declared.errors.FinishError.{FinishError}
 use Rattle.stm_events.specs.declared.event.What.{What}
 use Rattle.stm_events.specs.declared.event.What.TheVariants.{Finished, Cancelled}
 use Rattle.stm_events.specs.SlowDesk.{Waiter, verdict_on, find_waiter, without_waiter, stale_after}
-use Rattle.stm_events.specs.SlowSettle.{finishes, installs, Stop, NoRoom, NoCells}
+use Rattle.stm_events.specs.SlowDrain.{next_drain}
+use Rattle.stm_events.specs.SlowSettle.{Order, next_what, finishes, installs, Stop, NoRoom, NoCells}
 use Rattle.stm_desk.specs.declared.errors.SettleWhy.{SettleWhy}
 use Rattle.stm_desk.specs.declared.errors.SettleWhy.TheVariants.{HistoryFull, CellsFull, NoMemory}
 use Rattle.stm_desk.specs.Refusals.{finish_refusal, cancel_refusal}
 use Rattle.stm_desk.specs.DeskView.{DeskView, state_of, with_event}
-use Rattle.stm_desk.specs.Settling.{slow_settle, slow_stop, requeued_all, with_whats}
+use Rattle.stm_desk.specs.Settling.{slow_run, slow_run_stop, requeued_all, with_whats}
 use Rattle.stm_lines.specs.NumberArgument.{number_argument}
 use Rattle.stm_commands.specs.Arguments.{with_number, with_nothing, argument_refused}
 use Rattle.stm_commands.specs.OpenDesk.{OpenDesk, on_desk}
@@ -79,15 +80,16 @@ cancel_step d argument =
     with_number (λ t. on_desk d (cancel_ticket_step d.desk t (cancel_refusal d.desk t))) (d, argument_refused)
     (number_argument argument)
 
--- ---- settle
+-- ---- settle and drain
 -- how many blocks finished, and how many were run
 unfoldable pub settled_line : ℕ → ℕ → List ℕ
 settled_line finished evaluations =
     codes "settled " ++ decimal finished ++ codes " evaluations " ++ decimal evaluations ++ 10 ∷ []
 
--- the line that tells how many blocks finished, and how many were run, in some events
-abbrev pub counts_line : List What → List ℕ
-counts_line whats = settled_line (finishes whats) (installs whats)
+-- the same of draining
+unfoldable pub drained_line : ℕ → ℕ → List ℕ
+drained_line finished evaluations =
+    codes "drained " ++ decimal finished ++ codes " evaluations " ++ decimal evaluations ++ 10 ∷ []
 
 -- why settling stopped, before the counts; no line tells an out-of-memory error
 abbrev pub why_text : SettleWhy → List ℕ
@@ -100,15 +102,27 @@ abbrev pub stop_why : Stop → SettleWhy
 stop_why NoRoom = HistoryFull
 stop_why NoCells = CellsFull
 
--- what `settle` tells: the counts, and why it stopped, if it did
-abbrev pub settle_text : List What → Option Stop → List ℕ
-settle_text whats None = counts_line whats
-settle_text whats (Some stop) = why_text (stop_why stop) ++ counts_line whats
+-- what is told of a run: the counts, in a line of this kind, and why it stopped, if it did
+abbrev pub run_text : (ℕ → ℕ → List ℕ) → List What → Option Stop → List ℕ
+run_text line whats None = line (finishes whats) (installs whats)
+run_text line whats (Some stop) = why_text (stop_why stop) ++ line (finishes whats) (installs whats)
+
+-- a run of a desk with no ticket out, in an order of work
+abbrev pub run_desk_step : Order → (ℕ → ℕ → List ℕ) → DeskView → DeskView × List ℕ
+run_desk_step next line d = (with_whats d 0 (slow_run next d), run_text line (slow_run next d) (slow_run_stop next d))
 
 -- `settle` of a desk with no ticket out
 abbrev pub settle_desk_step : DeskView → DeskView × List ℕ
-settle_desk_step d = (with_whats d 0 (slow_settle d), settle_text (slow_settle d) (slow_stop d))
+settle_desk_step d = run_desk_step next_what settled_line d
 
 -- `settle`: all that can run does, in a fixed order; first each ticket that is out is queued
 unfoldable pub settle_step : OpenDesk → List ℕ → OpenDesk × List ℕ
 settle_step d argument = with_nothing (on_desk d (settle_desk_step (requeued_all d.desk))) (d, argument_refused) argument
+
+-- `drain` of a desk with no ticket out
+abbrev pub drain_desk_step : DeskView → DeskView × List ℕ
+drain_desk_step d = run_desk_step next_drain drained_line d
+
+-- `drain`: all that can run does, the lowest block first; first each ticket that is out is queued
+unfoldable pub drain_step : OpenDesk → List ℕ → OpenDesk × List ℕ
+drain_step d argument = with_nothing (on_desk d (drain_desk_step (requeued_all d.desk))) (d, argument_refused) argument

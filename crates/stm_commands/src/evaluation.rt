@@ -214,7 +214,7 @@ fn evaluate_by_threads<T: Threads + Sync>(
 }
 
 /// Evaluates all that is queued on the desk itself, in ascending order of the tickets.
-fn evaluate_here(desk: &mut Desk) -> Result<Progress, NoMemory>
+pub fn evaluate_here(desk: &mut Desk) -> Result<Progress, NoMemory>
     ensures done { IfOk result (λ p. delivered_so_far desk.new p ≡ evaluated desk.old) }
     ensures grown { HasGrown desk.old desk.new }
     ensures store { (state_of desk.new).store ≡ (state_of desk.old).store }

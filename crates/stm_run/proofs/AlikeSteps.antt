@@ -26,7 +26,8 @@ use Rattle.stm_events.specs.Answers.{AnswersAlike, install_answer}
 use Rattle.stm_events.specs.Laws.{IsWellTyped}
 use Rattle.stm_events.specs.Refusals.{missing, submit_first, submit_refused, cancel_first, cancel_refused, differing, overtaken_first, install_first, pending_left, blocks_there, overflows, finish_first, finish_refused}
 use Rattle.stm_events.specs.SlowDesk.{Waiter, Slow, under, verdict_on, is_new, is_current, find_waiter, without_waiter, stale_after, max_waiting, after, Allows, LegalFrom}
-use Rattle.stm_events.specs.SlowSettle.{next_what, has_cells, settle_on, settling, Stop, NoRoom, NoCells, stop_on, settle_stop}
+use Rattle.stm_events.specs.SlowSettle.{Order, next_what, has_cells, settle_on, running, Stop, NoRoom, NoCells, stop_on, run_stop, finishes, installs}
+use Rattle.stm_events.specs.SlowDrain.{next_drain}
 use Rattle.stm_events.specs.States.{IsPossible}
 use Rattle.stm_events.proofs.Alike.{MayBeAlike, alike_without, same_stales, same_verdict}
 use Rattle.stm_events.proofs.Possible.{had_without, possible_after}
@@ -34,10 +35,10 @@ use Rattle.stm_machine.specs.Machine.{event}
 use Rattle.stm_machine.specs.JobsHandedOut.{sent}
 use Rattle.stm_desk.specs.Refusals.{submit_refusal, finish_refusal, cancel_refusal, requeued_if_overtaken}
 use Rattle.stm_desk.specs.DeskView.{DeskView, start_state, state_of, is_full, with_event}
-use Rattle.stm_desk.specs.Settling.{slow_settle, slow_stop, requeued_all, with_whats}
+use Rattle.stm_desk.specs.Settling.{slow_run, slow_run_stop, with_whats}
 use Rattle.stm_blocks.specs.declared.refusal.Refusal.{Refusal}
 use Rattle.stm_commands.specs.Blocks.{ticket_line, submit_block_step, submit_text_step}
-use Rattle.stm_commands.specs.Endings.{finish_verdict_step, finish_waiter_step, finish_ticket_step, finished_line, cancel_ticket_step, settle_text, counts_line, settle_desk_step}
+use Rattle.stm_commands.specs.Endings.{finish_verdict_step, finish_waiter_step, finish_ticket_step, finished_line, cancel_ticket_step, run_text, run_desk_step}
 use Rattle.stm_commands.specs.Evaluation.{DeliveredSoFar, delivered_by, delivered_next, delivered_all, all_queued, evaluated, evaluation_text, eval_desk_step}
 use Rattle.stm_commands.specs.Jobs.{jobs_of, taken, delivery_first, delivery_refusal, installed, delivery_step, deliver_job_step, handed_back, queued_line, handback_ticket_step}
 use Rattle.stm_commands.specs.OpenDesk.{HandedOut}
@@ -45,7 +46,7 @@ use Rattle.stm_commands.specs.Refusals.{refused, submit_error_text, deliver_erro
 use Rattle.stm_run.specs.Unseen.{TellsFull}
 use Rattle.stm_run.proofs.DeliveredJobs.{next_stands, queued_stand}
 use Rattle.stm_run.proofs.DeskMoves.{submitted_stands, finished_stands, cancelled_stands}
-use Rattle.stm_run.proofs.LegalSettling.{IsAllowed, next_allowed}
+use Rattle.stm_run.proofs.LegalSettling.{IsAllowed, IsLawful, next_allowed, drain_allowed}
 use Rattle.stm_run.proofs.LookingAlike.{AlikeDesks, same_store, same_next, same_waiters, same_found, same_answers, alike_event, allowed_by, alike_pending, full_too, same_refusal, jobs_alike}
 use Rattle.stm_run.proofs.StandingDesk.{Stands, state_later}
 use Rattle.stm_run.proofs.TextsJudged.{BlockOrTold}
@@ -329,70 +330,70 @@ module _ (stable : VerdictIsStable) where
       (λ q e. n.1 q (inl (ap (evaluation_text (evaluated d').count) (ap (λ x. x.stop) (sym there) ∙ e))))) in
       record { desks = done.desks; text = ap₂ evaluation_text done.count done.stop }
 
--- ---- settle
+-- ---- settle and drain
 some_left : (o : Option What) → (cond (is_some o) (Some NoRoom) None ≡ Some NoRoom → ⊥) → o ≡ None
 some_left None h = refl
 some_left (Some w) h = absurd (h refl)
 
-record SameSettling (s : Slow) (room room' : ℕ) : Type 0 where
-  pub whats : settling room s ≡ settling room' s
-  pub stop : settle_stop room s ≡ settle_stop room' s
+record SameRun (next : Order) (s : Slow) (room room' : ℕ) : Type 0 where
+  pub whats : running next room s ≡ running next room' s
+  pub stop : run_stop next room s ≡ run_stop next room' s
 
-none_settles : (room : ℕ) (s : Slow) → next_what s ≡ None → SameSettling s zero room
-none_settles zero s e = record { whats = refl; stop = refl }
-none_settles (suc room) s e = record {
-  whats = ap (settle_on (settling room) s) (sym e);
-  stop = ap (λ (o : Option What). cond {A = Option Stop} (is_some o) (Some NoRoom) None) e ∙ ap (stop_on (settle_stop room) s) (sym e);
+none_runs : (next : Order) (room : ℕ) (s : Slow) → next s ≡ None → SameRun next s zero room
+none_runs next zero s e = record { whats = refl; stop = refl }
+none_runs next (suc room) s e = record {
+  whats = ap (settle_on (running next room) s) (sym e);
+  stop = ap (λ (o : Option What). cond {A = Option Stop} (is_some o) (Some NoRoom) None) e ∙ ap (stop_on (run_stop next room) s) (sym e);
 }
 
--- what settling does after an event, if the store has room for it
-abbrev AfterIt : Bool → Slow → ℕ → What → List What
-AfterIt c s room what = cond {A = List What} c (what ∷ settling room (after s what)) []
+-- what a run does after an event, if the store has room for it
+abbrev AfterIt : Order → Bool → Slow → ℕ → What → List What
+AfterIt next c s room what = cond {A = List What} c (what ∷ running next room (after s what)) []
 
-abbrev StopAfterIt : Bool → Slow → ℕ → What → Option Stop
-StopAfterIt c s room what = cond {A = Option Stop} c (settle_stop room (after s what)) (Some NoCells)
+abbrev StopAfterIt : Order → Bool → Slow → ℕ → What → Option Stop
+StopAfterIt next c s room what = cond {A = Option Stop} c (run_stop next room (after s what)) (Some NoCells)
 
 -- neither stops for want of room
 abbrev NeverStops : Bool → Option Stop → Option Stop → Type 0
 NeverStops b o o' = (o ≡ Some NoRoom → ⊥) × (b ≡ false → o' ≡ Some NoRoom → ⊥)
 
-after_same : (b : Bool) (s : Slow) (room room' : ℕ) (what : What) (c : Bool) → (NeverStops b (settle_stop room (after s what)) (settle_stop room' (after s what)) → SameSettling (after s what) room room')
-    → NeverStops b (StopAfterIt c s room what) (StopAfterIt c s room' what) → (AfterIt c s room what ≡ AfterIt c s room' what) × (StopAfterIt c s room what ≡ StopAfterIt c s room' what)
-after_same b s room room' what true more n = let x = more n in (ap (λ (xs : List What). what ∷ xs) x.whats, x.stop)
-after_same b s room room' what false more n = (refl, refl)
+after_same : (next : Order) (b : Bool) (s : Slow) (room room' : ℕ) (what : What) (c : Bool) → (NeverStops b (run_stop next room (after s what)) (run_stop next room' (after s what)) → SameRun next (after s what) room room')
+    → NeverStops b (StopAfterIt next c s room what) (StopAfterIt next c s room' what) → (AfterIt next c s room what ≡ AfterIt next c s room' what) × (StopAfterIt next c s room what ≡ StopAfterIt next c s room' what)
+after_same next b s room room' what true more n = let x = more n in (ap (λ (xs : List What). what ∷ xs) x.whats, x.stop)
+after_same next b s room room' what false more n = (refl, refl)
 
-next_same : (b : Bool) (s : Slow) (room room' : ℕ) (o : Option What) → ((what : What) → NeverStops b (settle_stop room (after s what)) (settle_stop room' (after s what)) → SameSettling (after s what) room room')
-    → NeverStops b (stop_on (settle_stop room) s o) (stop_on (settle_stop room') s o)
-    → (settle_on (settling room) s o ≡ settle_on (settling room') s o) × (stop_on (settle_stop room) s o ≡ stop_on (settle_stop room') s o)
-next_same b s room room' None more n = (refl, refl)
-next_same b s room room' (Some what) more n = after_same b s room room' what (has_cells s what) (more what) n
+next_same : (next : Order) (b : Bool) (s : Slow) (room room' : ℕ) (o : Option What) → ((what : What) → NeverStops b (run_stop next room (after s what)) (run_stop next room' (after s what)) → SameRun next (after s what) room room')
+    → NeverStops b (stop_on (run_stop next room) s o) (stop_on (run_stop next room') s o)
+    → (settle_on (running next room) s o ≡ settle_on (running next room') s o) × (stop_on (run_stop next room) s o ≡ stop_on (run_stop next room') s o)
+next_same next b s room room' None more n = (refl, refl)
+next_same next b s room room' (Some what) more n = after_same next b s room room' what (has_cells s what) (more what) n
 
 lower_room : (b : Bool) (room room' : ℕ) → (b ≡ true → suc room ≤ suc room') → b ≡ true → room ≤ room'
 lower_room b room room' l e = let low : suc room ≤ suc room' = l e in omega (arith, low)
 
-settle_same : (b : Bool) (room room' : ℕ) (s : Slow) → (b ≡ true → room ≤ room') → NeverStops b (settle_stop room s) (settle_stop room' s) → SameSettling s room room'
-settle_same b zero room' s l n = none_settles room' s (some_left (next_what s) n.0)
-settle_same true (suc room) zero s l n = let low : suc room ≤ zero = l refl in absurd (omega (arith, low))
-settle_same false (suc room) zero s l n =
-    let e = none_settles (suc room) s (some_left (next_what s) (n.1 refl)) in
+run_same : (next : Order) (b : Bool) (room room' : ℕ) (s : Slow) → (b ≡ true → room ≤ room') → NeverStops b (run_stop next room s) (run_stop next room' s) → SameRun next s room room'
+run_same next b zero room' s l n = none_runs next room' s (some_left (next s) n.0)
+run_same next true (suc room) zero s l n = let low : suc room ≤ zero = l refl in absurd (omega (arith, low))
+run_same next false (suc room) zero s l n =
+    let e = none_runs next (suc room) s (some_left (next s) (n.1 refl)) in
     record { whats = sym e.whats; stop = sym e.stop }
-settle_same b (suc room) (suc room') s l n =
-    let p = next_same b s room room' (next_what s) (λ what. settle_same b room room' (after s what) (lower_room b room room' l)) n in
+run_same next b (suc room) (suc room') s l n =
+    let p = next_same next b s room room' (next s) (λ what. run_same next b room room' (after s what) (lower_room b room room' l)) n in
     record { whats = p.0; stop = p.1 }
 
-after_legal : (s : Slow) (room : ℕ) (what : What) (c : Bool) → has_cells s what ≡ c → IsAllowed s (Some what) → (Allows s what → LegalFrom (after s what) (map (event 0) (settling room (after s what))))
-    → LegalFrom s (map (event 0) (AfterIt c s room what))
-after_legal s room what true e a more = (record { client = omega arith; what = (a e).0 }, more (a e).0)
-after_legal s room what false e a more = tt
+after_legal : (next : Order) (s : Slow) (room : ℕ) (what : What) (c : Bool) → has_cells s what ≡ c → IsAllowed s (Some what) → (Allows s what → LegalFrom (after s what) (map (event 0) (running next room (after s what))))
+    → LegalFrom s (map (event 0) (AfterIt next c s room what))
+after_legal next s room what true e a more = (record { client = omega arith; what = (a e).0 }, more (a e).0)
+after_legal next s room what false e a more = tt
 
-next_legal : (s : Slow) (room : ℕ) (o : Option What) → IsAllowed s o → ((what : What) → Allows s what → LegalFrom (after s what) (map (event 0) (settling room (after s what))))
-    → LegalFrom s (map (event 0) (settle_on (settling room) s o))
-next_legal s room None a more = tt
-next_legal s room (Some what) a more = after_legal s room what (has_cells s what) refl a (more what)
+next_legal : (next : Order) (s : Slow) (room : ℕ) (o : Option What) → IsAllowed s o → ((what : What) → Allows s what → LegalFrom (after s what) (map (event 0) (running next room (after s what))))
+    → LegalFrom s (map (event 0) (settle_on (running next room) s o))
+next_legal next s room None a more = tt
+next_legal next s room (Some what) a more = after_legal next s room what (has_cells s what) refl a (more what)
 
-settle_legal : (room : ℕ) (s : Slow) → IsPossible s → LegalFrom s (map (event 0) (settling room s))
-settle_legal zero s p = tt
-settle_legal (suc room) s p = next_legal s room (next_what s) (next_allowed s p.rising) (λ what a. settle_legal room (after s what) (possible_after s what p a))
+run_legal : (next : Order) → IsLawful next → (room : ℕ) (s : Slow) → IsPossible s → LegalFrom s (map (event 0) (running next room s))
+run_legal next lawful zero s p = tt
+run_legal next lawful (suc room) s p = next_legal next s room (next s) (lawful s p.rising) (λ what a. run_legal next lawful room (after s what) (possible_after s what p a))
 
 whats_alike : (b : Bool) (xs : List What) (d d' : DeskView) → LegalFrom (state_of d) (map (event 0) xs) → AlikeDesks b d d' → AlikeDesks b (with_whats d 0 xs) (with_whats d' 0 xs)
 whats_alike b [] d d' l k = k
@@ -403,21 +404,35 @@ whats_alike b (x ∷ xs) d d' l k =
 fewer_room : (l m n : ℕ) → m ≤ n → l - n ≤ l - m
 fewer_room l m n h = omega arith
 
-settle_full : (whats : List What) (o : Option Stop) → o ≡ Some NoRoom → TellsFull (settle_text whats o)
-settle_full whats o e = inr (counts_line whats, ap (settle_text whats) e)
+run_full : (line : ℕ → ℕ → List ℕ) (whats : List What) (o : Option Stop) → o ≡ Some NoRoom → TellsFull (run_text line whats o)
+run_full line whats o e = inr (line (finishes whats) (installs whats), ap (run_text line whats) e)
 
-pub settle_alike : (b : Bool) (d d' : DeskView) → AlikeDesks b d d' → NotFull b (settle_desk_step d).1 (settle_desk_step d').1 → AlikeSteps b (settle_desk_step d) (settle_desk_step d')
-settle_alike b d d' k n =
+-- an order of work that does the same on two states that look alike
+pub record IsAlikeOrder (next : Order) : Type 0 where
+  pub lawful : IsLawful next
+  pub whats : (s s' : Slow) → AnswersAlike s s' → (room : ℕ) → running next room s ≡ running next room s'
+  pub stops : (s s' : Slow) → AnswersAlike s s' → (room : ℕ) → run_stop next room s ≡ run_stop next room s'
+
+pub settle_order : IsAlikeOrder next_what
+settle_order = record { lawful = next_allowed; whats = λ s s' a. a.settling; stops = λ s s' a. a.stop }
+
+pub drain_order : IsAlikeOrder next_drain
+drain_order = record { lawful = drain_allowed; whats = λ s s' a. a.draining; stops = λ s s' a. a.drain_stop }
+
+pub run_alike : (next : Order) → IsAlikeOrder next → (line : ℕ → ℕ → List ℕ) (b : Bool) (d d' : DeskView) → AlikeDesks b d d' → NotFull b (run_desk_step next line d).1 (run_desk_step next line d').1
+    → AlikeSteps b (run_desk_step next line d) (run_desk_step next line d')
+run_alike next order line b d d' k n =
     let s = state_of d in
+    let s' = state_of d' in
     let room = d.limit - length d.history in
     let room' = d'.limit - length d'.history in
     let answers = same_answers b d d' k in
     let low : b ≡ true → room ≤ room' = λ e. subst (λ (l : ℕ). room ≤ l - length d'.history) k.limit (fewer_room d.limit (length d'.history) (length d.history) (k.fewer e)) in
-    let same : SameSettling s room room' =
-    settle_same b room room' s low (λ e. n.0 (settle_full (slow_settle d) (slow_stop d) e), λ q e. n.1 q (settle_full (slow_settle d') (slow_stop d') (sym (answers.stop room') ∙ e))) in
-    let whats : slow_settle d ≡ slow_settle d' = same.whats ∙ answers.settling room' in
-    let stop : slow_stop d ≡ slow_stop d' = same.stop ∙ answers.stop room' in
+    let same : SameRun next s room room' =
+    run_same next b room room' s low (λ e. n.0 (run_full line (slow_run next d) (slow_run_stop next d) e), λ q e. n.1 q (run_full line (slow_run next d') (slow_run_stop next d') (sym (order.stops s s' answers room') ∙ e))) in
+    let whats : slow_run next d ≡ slow_run next d' = same.whats ∙ order.whats s s' answers room' in
+    let stop : slow_run_stop next d ≡ slow_run_stop next d' = same.stop ∙ order.stops s s' answers room' in
     record {
-      desks = subst (λ (xs : List What). AlikeDesks b (with_whats d 0 (slow_settle d)) (with_whats d' 0 xs)) whats (whats_alike b (slow_settle d) d d' (settle_legal room s k.possible) k);
-      text = ap₂ settle_text whats stop;
+      desks = subst (λ (xs : List What). AlikeDesks b (with_whats d 0 (slow_run next d)) (with_whats d' 0 xs)) whats (whats_alike b (slow_run next d) d d' (run_legal next order.lawful room s k.possible) k);
+      text = ap₂ (run_text line) whats stop;
     }

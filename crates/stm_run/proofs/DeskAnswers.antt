@@ -24,9 +24,9 @@ use Rattle.stm_events.specs.SlowSettle.{Stop, NoRoom, NoCells, finishes, install
 use Rattle.stm_desk.specs.Refusals.{submit_refusal, finish_refusal, cancel_refusal}
 use Rattle.stm_desk.specs.Reasons.{WaitReason, reason_of}
 use Rattle.stm_desk.specs.DeskView.{DeskView, state_of, is_full}
-use Rattle.stm_desk.specs.Settling.{slow_settle, slow_stop, requeued_all}
+use Rattle.stm_desk.specs.Settling.{slow_settle, slow_stop, slow_drain, slow_drain_stop, requeued_all}
 use Rattle.stm_run.specs.declared.command.Command.{Command}
-use Rattle.stm_run.specs.declared.command.Command.TheVariants.{Tvar, Try, Looks, Submit, Take, Deliver, Handback, Eval, Finish, Cancel, Show, Reads, Store, Settle, History, Ready, Why, Events, Checkpoint}
+use Rattle.stm_run.specs.declared.command.Command.TheVariants.{Tvar, Try, Looks, Submit, Take, Deliver, Handback, Eval, Finish, Cancel, Show, Reads, Store, Settle, Drain, History, Ready, Why, Events, Checkpoint}
 use Rattle.stm_blocks.specs.declared.refusal.Refusal.{Refusal}
 use Rattle.stm_lines.specs.NumberArgument.{number_argument}
 use Rattle.stm_blocks.specs.CompiledBlock.{compiled_block}
@@ -34,7 +34,7 @@ use Rattle.stm_commands.specs.Arguments.{argument_refused}
 use Rattle.stm_commands.specs.Blocks.{verdict_line, tried_text, try_answer, reads_line, looked_text, looks_answer, ticket_line, submit_block_step, submit_text_step, submit_step}
 use Rattle.stm_commands.specs.Checkpointing.{are_tickets_full, begun_anew, checkpoint_line, checkpoint_now, checkpoint_step}
 use Rattle.stm_commands.specs.Contents.{waiter_lines, show_text, show_answer, read_text, waiter_reads_text, reads_answer, stored_lines, store_text, store_answer, history_answer, events_text}
-use Rattle.stm_commands.specs.Endings.{tickets_text, result_line, finished_line, cancelled_line, settled_line, settle_text, finish_ticket_step, finish_step, cancel_ticket_step, cancel_step, settle_desk_step, settle_step, finish_verdict_step, finish_waiter_step}
+use Rattle.stm_commands.specs.Endings.{tickets_text, result_line, finished_line, cancelled_line, settled_line, drained_line, run_text, finish_ticket_step, finish_step, cancel_ticket_step, cancel_step, settle_desk_step, settle_step, drain_desk_step, drain_step, finish_verdict_step, finish_waiter_step}
 use Rattle.stm_commands.specs.Evaluation.{evaluated_line, evaluated, evaluation_text, eval_step, eval_desk_step}
 use Rattle.stm_commands.specs.Jobs.{max_jobs, taken, job_text, numbered, jobs_line, delivery_refusal, delivered_line, job_at, queued_line, with_jobs, take_jobs_step, take_step, delivery_step, deliver_job_step, deliver_step, handed_back, handback_ticket_step, handback_step}
 use Rattle.stm_commands.specs.OpenDesk.{HandedOut, OpenDesk, present, on_desk}
@@ -116,11 +116,17 @@ unfolding cancelled_line
 cancel_ends d t None e = (codes "cancelled " ++ decimal t, refl)
 cancel_ends d t (Some x) e = cancel_error_ends x (λ m. cancel_told (find_waiter t (state_of d).waiters) (is_full d) (e ∙ ap Some m))
 
-settle_ends : (whats : List What) (o : Option Stop) → EndsALine (settle_text whats o)
+settle_ends : (whats : List What) (o : Option Stop) → EndsALine (run_text settled_line whats o)
 unfolding settled_line
 settle_ends whats None = (codes "settled " ++ decimal (finishes whats) ++ codes " evaluations " ++ decimal (installs whats), refl)
 settle_ends whats (Some NoRoom) = (codes "stopped HistoryFull settled " ++ decimal (finishes whats) ++ codes " evaluations " ++ decimal (installs whats), refl)
 settle_ends whats (Some NoCells) = (codes "stopped CellsFull settled " ++ decimal (finishes whats) ++ codes " evaluations " ++ decimal (installs whats), refl)
+
+drain_ends : (whats : List What) (o : Option Stop) → EndsALine (run_text drained_line whats o)
+unfolding drained_line
+drain_ends whats None = (codes "drained " ++ decimal (finishes whats) ++ codes " evaluations " ++ decimal (installs whats), refl)
+drain_ends whats (Some NoRoom) = (codes "stopped HistoryFull drained " ++ decimal (finishes whats) ++ codes " evaluations " ++ decimal (installs whats), refl)
+drain_ends whats (Some NoCells) = (codes "stopped CellsFull drained " ++ decimal (finishes whats) ++ codes " evaluations " ++ decimal (installs whats), refl)
 
 -- ---- what there is
 show_ends : (s : Slow) → EndsALine (show_text s)
@@ -187,7 +193,7 @@ module _ (judged : (table : List Declared) (text : List ℕ) → BlockOrTold tab
   finish_ends d jobs t (Some x) e k = finish_error_ends x (λ m. finish_told (state_of d).store (is_full d) (find_waiter t (state_of d).waiters) (e ∙ ap Some m))
 
   pub desk_ends : (d : OpenDesk) → Stands d.desk d.jobs → (c : Command) (argument : List ℕ) → Ends (desk_step d c argument)
-  unfolding try_answer looks_answer submit_step checkpoint_step take_step deliver_step handback_step eval_step finish_step cancel_step show_answer reads_answer store_answer settle_step history_answer ready_answer why_answer events_answer
+  unfolding try_answer looks_answer submit_step checkpoint_step take_step deliver_step handback_step eval_step finish_step cancel_step show_answer reads_answer store_answer settle_step drain_step history_answer ready_answer why_answer events_answer
   desk_ends d k Tvar argument = refused_ends (codes "Late")
   desk_ends d k Try argument = tried_ends d k (compiled_block d.desk.table argument) (judged d.desk.table argument)
   desk_ends d k Looks argument = looked_ends d.desk.table (present d) (compiled_block d.desk.table argument) (judged d.desk.table argument)
@@ -210,6 +216,9 @@ module _ (judged : (table : List Declared) (text : List ℕ) → BlockOrTold tab
   desk_ends d k Settle argument =
       let e = requeued_all d.desk in
       nothing_has Ends (on_desk d (settle_desk_step e)) (d, argument_refused) argument (settle_ends (slow_settle e) (slow_stop e)) bad_ends
+  desk_ends d k Drain argument =
+      let e = requeued_all d.desk in
+      nothing_has Ends (on_desk d (drain_desk_step e)) (d, argument_refused) argument (drain_ends (slow_drain e) (slow_drain_stop e)) bad_ends
   desk_ends d k History argument = nothing_has EndsALine (events_text d) argument_refused argument (history_ends (written_start d.desk.table d.desk.checkpoint) d.desk.history) bad_ends
   desk_ends d k Ready argument = nothing_has EndsALine (ready_text (state_of d.desk)) argument_refused argument (ready_ends (state_of d.desk)) bad_ends
   desk_ends d k Why argument = number_has EndsALine (λ t. why_line t (reason_of d.desk t)) argument_refused (number_argument argument) (λ t. why_ends t (reason_of d.desk t)) bad_ends

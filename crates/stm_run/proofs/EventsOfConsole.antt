@@ -26,7 +26,8 @@ use Rattle.stm_events.specs.declared.event.What.TheVariants.{Submitted, Installe
 use Rattle.stm_events.specs.SlowDesk.{Waiter, Slow, verdict_on, find_waiter, without_waiter, delivered as delivered_to, after_writes, with_delivery, after, state_from, waking}
 use Rattle.std.specs.Prelude.{nat_eq}
 use Rattle.stm_events.proofs.Folds.{state-append}
-use Rattle.stm_events.specs.SlowSettle.{lowest, is_due, can_end, installing, ending, next_of, next_what, has_cells, settle_on, settling}
+use Rattle.stm_events.specs.SlowSettle.{lowest, is_due, can_end, installing, ending, next_of, Order, next_what, has_cells, settle_on, running}
+use Rattle.stm_events.specs.SlowDrain.{is_next, drain_of, next_drain}
 use Rattle.stm_machine.specs.Machine.{event}
 use Rattle.stm_machine.specs.Checkpoints.{CheckpointView, waiter_of, checkpoint_state, block_of_waiter, checkpoint_of, start_of, max_next}
 use Rattle.stm_machine.specs.declared.checkpoint.CheckpointBlock.{CheckpointBlock}
@@ -34,7 +35,7 @@ use Rattle.stm_machine.specs.JobsHandedOut.{sent}
 use Rattle.stm_event_lines.specs.WholeBlocks.{BlockFault, NotParsed, NotTyped, given_type, block_if_typed, block_if_parsed, checked_block}
 use Rattle.stm_desk.specs.Refusals.{submit_refusal, finish_refusal, cancel_refusal}
 use Rattle.stm_desk.specs.DeskView.{DeskView, start_state, state_of, with_event}
-use Rattle.stm_desk.specs.Settling.{slow_settle, requeued_all, with_whats}
+use Rattle.stm_desk.specs.Settling.{slow_run, requeued_all, with_whats}
 use Rattle.stm_blocks.specs.declared.refusal.Refusal.{Refusal}
 use Rattle.stm_blocks.specs.CompiledBlock.{block_or_refusal, compiled_block}
 use Rattle.stm_blocks.specs.DeclaredVariable.{variable_of}
@@ -43,13 +44,13 @@ use Rattle.stm_lines.specs.LineClass.{LineClass, TooLong, Silent, NotAscii, Word
 use Rattle.stm_commands.specs.Arguments.{argument_refused, with_nothing}
 use Rattle.stm_commands.specs.Blocks.{submit_block_step, submit_text_step, submit_step}
 use Rattle.stm_commands.specs.Checkpointing.{are_tickets_full, begun_anew, checkpoint_line, checkpoint_now, checkpoint_step, makes_checkpoint}
-use Rattle.stm_commands.specs.Endings.{finish_verdict_step, finish_waiter_step, finish_ticket_step, finish_step, cancel_ticket_step, cancel_step, settle_desk_step, settle_step}
+use Rattle.stm_commands.specs.Endings.{finish_verdict_step, finish_waiter_step, finish_ticket_step, finish_step, cancel_ticket_step, cancel_step, settled_line, drained_line, run_desk_step, settle_desk_step, settle_step, drain_desk_step, drain_step}
 use Rattle.stm_commands.specs.Evaluation.{DeliveredSoFar, delivered_by, delivered_next, delivered_all, all_queued, eval_desk_step, eval_step}
 use Rattle.stm_commands.specs.Jobs.{max_jobs, taken, with_jobs, jobs_of, jobs_line, take_jobs_step, take_step, delivery_refusal, installed, delivery_step, job_at, deliver_job_step, deliver_step, queued_line, handed_back, handback_ticket_step, handback_step}
 use Rattle.stm_commands.specs.OpenDesk.{HandedOut, OpenDesk, on_desk}
 use Rattle.stm_commands.specs.Refusals.{refused}
 use Rattle.stm_run.specs.declared.command.Command.{Command}
-use Rattle.stm_run.specs.declared.command.Command.TheVariants.{Tvar, Submit, Take, Deliver, Handback, Eval, Finish, Cancel, Settle, Checkpoint}
+use Rattle.stm_run.specs.declared.command.Command.TheVariants.{Tvar, Submit, Take, Deliver, Handback, Eval, Finish, Cancel, Settle, Drain, Checkpoint}
 use Rattle.stm_run.specs.declared.console.Console.{Console}
 use Rattle.stm_run.specs.declared.console.Console.TheVariants.{Declaring, Open}
 use Rattle.stm_run.specs.Console.{command_named, state_after, initial_console, desk_step, on_console, command_step, word_step, class_step, step}
@@ -145,14 +146,30 @@ next_quiet s (Some w) e = installing_quiet w.ticket (verdict_on s.store w.block)
 next_quiet s None (Some w) = ending_quiet s w.ticket (verdict_on s.store w.block)
 next_quiet s None None = tt
 
-settles_quiet : (room : ℕ) (s : Slow) (o : Option What) → ((x : Slow) → AreQuiet (settling room x)) → IfSome o IsQuiet → AreQuiet (settle_on (settling room) s o)
-settles_quiet room s None more q = tt
-settles_quiet room s (Some what) more q = either_has AreQuiet (has_cells s what) (what ∷ settling room (after s what)) [] (q, more (after s what)) tt
+either_quiet : (s : Slow) (w : Waiter) (b : Bool) → IfSome (cond b (installing w.ticket (verdict_on s.store w.block)) (ending s w.ticket (verdict_on s.store w.block))) IsQuiet
+either_quiet s w true = installing_quiet w.ticket (verdict_on s.store w.block)
+either_quiet s w false = ending_quiet s w.ticket (verdict_on s.store w.block)
 
-settling_quiet : (room : ℕ) (s : Slow) → AreQuiet (settling room s)
-settling_quiet zero s = tt
-settling_quiet (suc room) s =
-    settles_quiet room s (next_what s) (settling_quiet room) (next_quiet s (lowest is_due s.waiters) (lowest (can_end s.store) s.waiters))
+drain_quiet : (s : Slow) (o : Option Waiter) → IfSome (drain_of s o) IsQuiet
+drain_quiet s None = tt
+drain_quiet s (Some w) = either_quiet s w (is_due w)
+
+abbrev IsQuietOrder : Order → Type 0
+IsQuietOrder next = (s : Slow) → IfSome (next s) IsQuiet
+
+settle_is_quiet : IsQuietOrder next_what
+settle_is_quiet s = next_quiet s (lowest is_due s.waiters) (lowest (can_end s.store) s.waiters)
+
+drain_is_quiet : IsQuietOrder next_drain
+drain_is_quiet s = drain_quiet s (lowest (is_next s.store) s.waiters)
+
+runs_quiet : (next : Order) (room : ℕ) (s : Slow) (o : Option What) → ((x : Slow) → AreQuiet (running next room x)) → IfSome o IsQuiet → AreQuiet (settle_on (running next room) s o)
+runs_quiet next room s None more q = tt
+runs_quiet next room s (Some what) more q = either_has AreQuiet (has_cells s what) (what ∷ running next room (after s what)) [] (q, more (after s what)) tt
+
+running_quiet : (next : Order) → IsQuietOrder next → (room : ℕ) (s : Slow) → AreQuiet (running next room s)
+running_quiet next quiet zero s = tt
+running_quiet next quiet (suc room) s = runs_quiet next room s (next s) (running_quiet next quiet room) (quiet s)
 
 module _ (table : List Declared) (checkpoint : Option CheckpointView) (before : List Event) where
   abbrev Holds : DeskView → Type 0
@@ -232,15 +249,15 @@ module _ (table : List Declared) (checkpoint : Option CheckpointView) (before : 
   whats_more d [] q k = k
   whats_more d (x ∷ xs) q k = whats_more (with_event d 0 x) xs q.1 (more d x k (quiet_text d.table x q.0))
 
-  settles : (d : DeskView) → Holds d → Holds (settle_desk_step d).0
-  settles d k = whats_more d (slow_settle d) (settling_quiet (d.limit - length d.history) (state_of d)) k
+  runs : (next : Order) → IsQuietOrder next → (line : ℕ → ℕ → List ℕ) (d : DeskView) → Holds d → Holds (run_desk_step next line d).0
+  runs next quiet line d k = whats_more d (slow_run next d) (running_quiet next quiet (d.limit - length d.history) (state_of d)) k
 
   -- ---- commands and lines
   abbrev After : OpenDesk × List ℕ → Type 0
   After p = Holds p.0.desk
 
   desk_after : (d : OpenDesk) → Holds d.desk → (c : Command) → c ≢ Checkpoint → (argument : List ℕ) → After (desk_step d c argument)
-  unfolding submit_step take_step deliver_step handback_step eval_step finish_step cancel_step settle_step
+  unfolding submit_step take_step deliver_step handback_step eval_step finish_step cancel_step settle_step drain_step
   desk_after d k Submit n argument = submits d.desk (compiled_block d.desk.table argument) (λ b e. of_text d.desk.table argument b e) k
   desk_after d k Take n argument = number_has After (take_jobs_step d) (d, argument_refused) (number_argument argument) (λ n. takes d n k) k
   desk_after d k Deliver n argument =
@@ -253,7 +270,9 @@ module _ (table : List Declared) (checkpoint : Option CheckpointView) (before : 
   desk_after d k Cancel n argument =
       number_has After (λ t. on_desk d (cancel_ticket_step d.desk t (cancel_refusal d.desk t))) (d, argument_refused) (number_argument argument) (λ t. cancels d.desk t (cancel_refusal d.desk t) k) k
   desk_after d k Settle n argument =
-      nothing_has After (on_desk d (settle_desk_step (requeued_all d.desk))) (d, argument_refused) argument (settles (requeued_all d.desk) k) k
+      nothing_has After (on_desk d (settle_desk_step (requeued_all d.desk))) (d, argument_refused) argument (runs next_what settle_is_quiet settled_line (requeued_all d.desk) k) k
+  desk_after d k Drain n argument =
+      nothing_has After (on_desk d (drain_desk_step (requeued_all d.desk))) (d, argument_refused) argument (runs next_drain drain_is_quiet drained_line (requeued_all d.desk) k) k
   desk_after d k Checkpoint n argument = absurd (n refl)
   desk_after d k c n argument = k
 

@@ -1,5 +1,5 @@
 -- Each event of settling is allowed, so the desk goes on standing.
-use Rattle.std.proofs.Common.{◌≡◌, ℕ, zero, suc, ◌+◌, ◌-◌, ◌<◌, ◌≤◌, Bool, true, false, cond, not, List, [], ◌∷◌, length, Option, Some, None, refl, sym, subst, arith, length-append}
+use Rattle.std.proofs.Common.{◌≡◌, ℕ, zero, suc, ◌+◌, ◌-◌, ◌<◌, ◌≤◌, Bool, true, false, cond, not, ◌||◌, List, [], ◌∷◌, length, Option, Some, None, refl, sym, subst, arith, length-append}
 use Rattle.std.specs.Prelude.{nat_eq, nat_le, IsSomeAnd}
 use Rattle.std.proofs.lemmas.Bool.Decides.{nat_tests}
 use Rattle.stm_terms.specs.declared.verdicts.Verdict.{Verdict}
@@ -9,7 +9,8 @@ use Rattle.stm_events.specs.declared.event.What.TheVariants.{Finished}
 use Rattle.stm_events.specs.Laws.{AreRising, SubmitsWellTyped}
 use Rattle.stm_machine.specs.Machine.{event}
 use Rattle.stm_events.specs.SlowDesk.{Waiter, Slow, verdict_on, is_blocks, is_current, find_waiter, without_waiter, stale_after, waking, max_cells, after, Allows, MayInstall, MayFinish}
-use Rattle.stm_events.specs.SlowSettle.{lowest, is_due, ends, can_end, installing, ending, next_of, next_what, has_cells, settle_on, settling}
+use Rattle.stm_events.specs.SlowSettle.{lowest, is_due, ends, can_end, installing, ending, next_of, Order, next_what, has_cells, settle_on, running}
+use Rattle.stm_events.specs.SlowDrain.{is_next, drain_of, next_drain}
 use Rattle.stm_desk.specs.DeskView.{DeskView, start_state, state_of, with_event}
 use Rattle.stm_desk.specs.Settling.{with_whats}
 use Rattle.stm_commands.specs.OpenDesk.{HandedOut}
@@ -102,27 +103,47 @@ next_by s None None r p q = tt
 pub next_allowed : (s : Slow) → AreRising s.next 0 s.waiters → IsAllowed s (next_what s)
 next_allowed s r = next_by s (lowest is_due s.waiters) (lowest (can_end s.store) s.waiters) r refl refl
 
+-- ---- what draining does next is allowed
+right_of : (a b : Bool) → a ≡ false → (a || b) ≡ true → b ≡ true
+right_of true b e h = cc
+right_of false b e h = h
+
+drain_one : (s : Slow) (w : Waiter) (b : Bool) → is_due w ≡ b → find_waiter w.ticket s.waiters ≡ Some w → is_next s.store w ≡ true
+    → IsAllowed s (cond b (installing w.ticket (verdict_on s.store w.block)) (ending s w.ticket (verdict_on s.store w.block)))
+drain_one s w true h f e = installs_next s w (verdict_on s.store w.block) f h refl
+drain_one s w false h f e = ends_next s w (verdict_on s.store w.block) f h (right_of (is_due w) (can_end s.store w) h e) refl
+
+drain_by : (s : Slow) (o : Option Waiter) → AreRising s.next 0 s.waiters → lowest (is_next s.store) s.waiters ≡ o → IsAllowed s (drain_of s o)
+drain_by s None r e = tt
+drain_by s (Some w) r e = let l = lowest_there (is_next s.store) s.next 0 s.waiters w r e in drain_one s w (is_due w) refl l.found l.holds
+
+pub drain_allowed : (s : Slow) → AreRising s.next 0 s.waiters → IsAllowed s (next_drain s)
+drain_allowed s r = drain_by s (lowest (is_next s.store) s.waiters) r refl
+
 -- ---- all of it
 not_full : (limit n room : ℕ) → suc room ≤ limit - n → nat_le limit n ≡ false
 not_full limit n room h = let l : n < limit = omega arith in grind (arith, nat_tests)
 
-abbrev StandsAfter : ℕ → List HandedOut → Type 0
-StandsAfter room jobs = (d : DeskView) → room ≤ d.limit - length d.history → Stands d jobs → Stands (with_whats d 0 (settling room (state_of d))) jobs
+-- an order of work of which each next thing is allowed
+abbrev pub IsLawful : Order → Type 0
+IsLawful next = (s : Slow) → AreRising s.next 0 s.waiters → IsAllowed s (next s)
 
-settles_on : (room : ℕ) (d : DeskView) (jobs : List HandedOut) (o : Option What) → StandsAfter room jobs → suc room ≤ d.limit - length d.history → IsAllowed (state_of d) o → Stands d jobs
-    → Stands (with_whats d 0 (settle_on (settling room) (state_of d) o)) jobs
-settles_on room d jobs None more h a k = k
-settles_on room d jobs (Some what) more h a k = by (has_cells (state_of d) what) refl
+abbrev StandsAfter : Order → ℕ → List HandedOut → Type 0
+StandsAfter next room jobs = (d : DeskView) → room ≤ d.limit - length d.history → Stands d jobs → Stands (with_whats d 0 (running next room (state_of d))) jobs
+
+runs_on : (next : Order) (room : ℕ) (d : DeskView) (jobs : List HandedOut) (o : Option What) → StandsAfter next room jobs → suc room ≤ d.limit - length d.history → IsAllowed (state_of d) o → Stands d jobs
+    → Stands (with_whats d 0 (settle_on (running next room) (state_of d) o)) jobs
+runs_on next room d jobs None more h a k = k
+runs_on next room d jobs (Some what) more h a k = by (has_cells (state_of d) what) refl
   where
-    by : (b : Bool) → has_cells (state_of d) what ≡ b → Stands (with_whats d 0 (cond b (what ∷ settling room (after (state_of d) what)) [])) jobs
+    by : (b : Bool) → has_cells (state_of d) what ≡ b → Stands (with_whats d 0 (cond b (what ∷ running next room (after (state_of d) what)) [])) jobs
     by false e = k
     by true e =
-        let next = with_event d 0 what in
-        let stood : Stands next jobs = stands_event d jobs what (not_full d.limit (length d.history) room h) (a e).0 (a e).1 k in
-        let low : room ≤ next.limit - length next.history = omega (arith, length-append d.history (event 0 what ∷ []), h) in
-        subst (λ (s : Slow). Stands (with_whats next 0 (settling room s)) jobs) (state_later (start_state d) d.history (event 0 what)) (more next low stood)
+        let then = with_event d 0 what in
+        let stood : Stands then jobs = stands_event d jobs what (not_full d.limit (length d.history) room h) (a e).0 (a e).1 k in
+        let low : room ≤ then.limit - length then.history = omega (arith, length-append d.history (event 0 what ∷ []), h) in
+        subst (λ (s : Slow). Stands (with_whats then 0 (running next room s)) jobs) (state_later (start_state d) d.history (event 0 what)) (more then low stood)
 
-pub settled_stands : (room : ℕ) (jobs : List HandedOut) → StandsAfter room jobs
-settled_stands zero jobs d h k = k
-settled_stands (suc room) jobs d h k =
-    settles_on room d jobs (next_what (state_of d)) (settled_stands room jobs) h (next_allowed (state_of d) (stands_sound d jobs k).possible.rising) k
+pub run_stands : (next : Order) → IsLawful next → (room : ℕ) (jobs : List HandedOut) → StandsAfter next room jobs
+run_stands next lawful zero jobs d h k = k
+run_stands next lawful (suc room) jobs d h k = runs_on next room d jobs (next (state_of d)) (run_stands next lawful room jobs) h (lawful (state_of d) (stands_sound d jobs k).possible.rising) k

@@ -15,7 +15,7 @@ use Rattle.stm_machine.specs.Checkpoints.{max_next}
 use Rattle.stm_desk.specs.DeskView.{DeskView, state_of}
 use Rattle.stm_desk.specs.Settling.{requeued_all}
 use Rattle.stm_run.specs.declared.command.Command.{Command}
-use Rattle.stm_run.specs.declared.command.Command.TheVariants.{Tvar, Submit, Take, Deliver, Handback, Eval, Finish, Cancel, Settle, Checkpoint}
+use Rattle.stm_run.specs.declared.command.Command.TheVariants.{Tvar, Submit, Take, Deliver, Handback, Eval, Finish, Cancel, Settle, Drain, Checkpoint}
 use Rattle.stm_run.specs.declared.console.Console.{Console}
 use Rattle.stm_run.specs.declared.console.Console.TheVariants.{Declaring, Open}
 use Rattle.stm_blocks.specs.declared.refusal.Refusal.{Refusal}
@@ -26,7 +26,9 @@ use Rattle.stm_lines.specs.LineClass.{LineClass, TooLong, Silent, NotAscii, Word
 use Rattle.stm_commands.specs.Arguments.{argument_refused}
 use Rattle.stm_commands.specs.Blocks.{submit_text_step, submit_step}
 use Rattle.stm_commands.specs.Checkpointing.{are_tickets_full, begun_anew, checkpoint_line, checkpoint_now, checkpoint_step}
-use Rattle.stm_commands.specs.Endings.{finish_ticket_step, finish_step, cancel_ticket_step, cancel_step, settle_desk_step, settle_step}
+use Rattle.stm_events.specs.SlowSettle.{next_what}
+use Rattle.stm_events.specs.SlowDrain.{next_drain}
+use Rattle.stm_commands.specs.Endings.{finish_ticket_step, finish_step, cancel_ticket_step, cancel_step, settle_desk_step, settle_step, drain_desk_step, drain_step}
 use Rattle.stm_commands.specs.Evaluation.{eval_step, eval_desk_step}
 use Rattle.stm_commands.specs.Jobs.{take_jobs_step, take_step, job_at, deliver_job_step, deliver_step, queued_line, handed_back, handback_ticket_step, handback_step}
 use Rattle.stm_commands.specs.OpenDesk.{HandedOut, OpenDesk, on_desk}
@@ -43,7 +45,7 @@ use Rattle.stm_run.proofs.DeskMoves.{submitted_stands, finished_stands, cancelle
 use Rattle.stm_run.proofs.DeclaredVariables.{MayBeNext, may_be_next}
 use Rattle.stm_run.proofs.EventsOfConsole.{fits_more}
 use Rattle.stm_run.proofs.FitTables.{table_sound}
-use Rattle.stm_run.proofs.LegalSettling.{settled_stands}
+use Rattle.stm_run.proofs.LegalSettling.{next_allowed, drain_allowed, run_stands}
 use Rattle.stm_commands.proofs.KeptQueue.{tickets_marked, tickets_recalled}
 use Rattle.stm_run.proofs.StandingDesk.{Stands, stands_marked, stands_checkpointed}
 use Rattle.stm_run.proofs.TextsJudged.{BlockOrTold, compiled}
@@ -110,7 +112,7 @@ module _ (blocks : BlockAnswersAreRight) (declarations : DeclarationAnswersAreRi
   judged = compiled blocks declarations faults checked
 
   desk_stands : (d : OpenDesk) → Stands d.desk d.jobs → (c : Command) (argument : List ℕ) → StandsAfter (desk_step d c argument)
-  unfolding submit_step take_step deliver_step handback_step eval_step finish_step cancel_step settle_step checkpoint_step
+  unfolding submit_step take_step deliver_step handback_step eval_step finish_step cancel_step settle_step drain_step checkpoint_step
   desk_stands d k Submit argument = submit_stands d.desk d.jobs (compiled_block d.desk.table argument) (judged d.desk.table argument) k
   desk_stands d k Take argument = number_has StandsAfter (take_jobs_step d) (d, argument_refused) (number_argument argument) (λ n. take_stands d n k) k
   desk_stands d k Deliver argument =
@@ -124,7 +126,10 @@ module _ (blocks : BlockAnswersAreRight) (declarations : DeclarationAnswersAreRi
   desk_stands d k Cancel argument =
       number_has StandsAfter (λ t. on_desk d (cancel_ticket_step d.desk t (cancel_refusal d.desk t))) (d, argument_refused) (number_argument argument) (λ t. cancelled_stands d.desk d.jobs t (cancel_refusal d.desk t) refl k) k
   desk_stands d k Settle argument =
-      nothing_has StandsAfter (on_desk d (settle_desk_step (requeued_all d.desk))) (d, argument_refused) argument (settled_stands (d.desk.limit - length d.desk.history) d.jobs (requeued_all d.desk) (omega arith)
+      nothing_has StandsAfter (on_desk d (settle_desk_step (requeued_all d.desk))) (d, argument_refused) argument (run_stands next_what next_allowed (d.desk.limit - length d.desk.history) d.jobs (requeued_all d.desk) (omega arith)
+      (stands_marked d.desk (recalled d.desk.pending) d.jobs (tickets_recalled d.desk.pending) k)) k
+  desk_stands d k Drain argument =
+      nothing_has StandsAfter (on_desk d (drain_desk_step (requeued_all d.desk))) (d, argument_refused) argument (run_stands next_drain drain_allowed (d.desk.limit - length d.desk.history) d.jobs (requeued_all d.desk) (omega arith)
       (stands_marked d.desk (recalled d.desk.pending) d.jobs (tickets_recalled d.desk.pending) k)) k
   desk_stands d k Checkpoint argument = nothing_has StandsAfter (checkpoint_now d) (d, argument_refused) argument (checkpoint_stands d k) k
   desk_stands d k c argument = k

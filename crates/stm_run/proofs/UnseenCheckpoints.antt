@@ -27,7 +27,9 @@ use Rattle.stm_commands.specs.Arguments.{with_number, with_nothing, argument_ref
 use Rattle.stm_commands.specs.Blocks.{tried_text, try_answer, looked_text, looks_answer, submit_text_step, submit_step}
 use Rattle.stm_commands.specs.Checkpointing.{are_tickets_full, begun_anew, is_due_checkpoint, checkpoint_if}
 use Rattle.stm_commands.specs.Contents.{show_text, show_answer, waiter_reads_text, reads_answer, store_text, store_answer}
-use Rattle.stm_commands.specs.Endings.{finish_ticket_step, finish_step, cancel_ticket_step, cancel_step, settle_desk_step, settle_step}
+use Rattle.stm_events.specs.SlowSettle.{next_what}
+use Rattle.stm_events.specs.SlowDrain.{next_drain}
+use Rattle.stm_commands.specs.Endings.{finish_ticket_step, finish_step, cancel_ticket_step, cancel_step, settled_line, drained_line, settle_desk_step, settle_step, drain_desk_step, drain_step}
 use Rattle.stm_commands.specs.Evaluation.{eval_desk_step, eval_step}
 use Rattle.stm_commands.specs.Jobs.{max_jobs, taken, jobs_of, with_jobs, jobs_line, take_jobs_step, take_step, job_at, deliver_job_step, deliver_step, handback_ticket_step, handback_step}
 use Rattle.stm_commands.specs.OpenDesk.{HandedOut, OpenDesk, present, on_desk}
@@ -35,7 +37,7 @@ use Rattle.stm_commands.specs.Questions.{ready_text, ready_answer}
 use Rattle.stm_commands.specs.Refusals.{refused}
 use Rattle.stm_commands.proofs.KeptQueue.{tickets_recalled}
 use Rattle.stm_run.specs.declared.command.Command.{Command}
-use Rattle.stm_run.specs.declared.command.Command.TheVariants.{Tvar, Try, Looks, Submit, Take, Deliver, Handback, Eval, Finish, Cancel, Show, Reads, Store, Settle, History, Ready, Why, Events, Checkpoint}
+use Rattle.stm_run.specs.declared.command.Command.TheVariants.{Tvar, Try, Looks, Submit, Take, Deliver, Handback, Eval, Finish, Cancel, Show, Reads, Store, Settle, Drain, History, Ready, Why, Events, Checkpoint}
 use Rattle.stm_run.specs.declared.console.Console.{Console}
 use Rattle.stm_run.specs.declared.console.Console.TheVariants.{Declaring, Open}
 use Rattle.stm_run.specs.Console.{command_named, answer_to, answers_to, state_after, initial_console, desk_step, command_step, word_step, class_step, step}
@@ -43,7 +45,7 @@ use Rattle.stm_run.specs.ConsoleState.{present_desk, is_open, table_of, events_o
 use Rattle.stm_run.specs.Laws.{state_after_lines}
 use Rattle.stm_run.specs.LineCheckpoints.{auto_checkpoint, auto_step, answers_by}
 use Rattle.stm_run.specs.Unseen.{LookAlike, is_of_history, word_is_of_history, class_is_of_history, line_is_of_history, TellsFull, HaveRoom, AnswersTheSame, CheckpointsAreUnseenByCommands}
-use Rattle.stm_run.proofs.AlikeSteps.{AlikeSteps, NotFull, submit_alike, cancel_alike, finish_alike, handback_alike, deliver_alike, eval_alike, settle_alike}
+use Rattle.stm_run.proofs.AlikeSteps.{AlikeSteps, NotFull, submit_alike, cancel_alike, finish_alike, handback_alike, deliver_alike, eval_alike, settle_order, drain_order, run_alike}
 use Rattle.stm_run.proofs.DeliveredJobs.{delivered_stands}
 use Rattle.stm_run.proofs.LookingAlike.{AlikeDesks, same_store, same_found, alike_pending, show_alike, reads_alike, ready_alike, jobs_alike}
 use Rattle.stm_run.proofs.ReachedConsole.{IsReached, present_stands, auto_reached, line_reached, start_reached, reached}
@@ -117,7 +119,7 @@ module _ (judged : (table : List Declared) (text : List ℕ) → BlockOrTold tab
   -- with the same jobs
   desk_alike : (b : Bool) (d d' : DeskView) (jobs : List HandedOut) → Stands d jobs → AlikeDesks b d d' → (c : Command) → is_of_history c ≡ false → (argument : List ℕ)
       → Follows b (desk_step (record { desk = d; jobs = jobs }) c argument) (desk_step (record { desk = d'; jobs = jobs }) c argument)
-  unfolding try_answer looks_answer submit_step take_step deliver_step handback_step eval_step finish_step cancel_step show_answer reads_answer store_answer settle_step ready_answer
+  unfolding try_answer looks_answer submit_step take_step deliver_step handback_step eval_step finish_step cancel_step show_answer reads_answer store_answer settle_step drain_step ready_answer
   desk_alike b d d' jobs st k Tvar h argument = said b _ _ _ _ (record { desks = k; jobs = refl }) refl
   desk_alike b d d' jobs st k Try h argument =
       said b _ _ _ _ (record { desks = k; jobs = refl }) (ap₂ (λ (cells : List Cell) (t : List Declared). tried_text cells (compiled_block t argument)) (same_store b d d' k) k.table)
@@ -158,7 +160,11 @@ module _ (judged : (table : List Declared) (text : List ℕ) → BlockOrTold tab
   desk_alike b d d' jobs st k Settle h argument =
       by_nothing b (on_desk (record { desk = d; jobs = jobs }) (settle_desk_step (requeued_all d))) (on_desk (record { desk = d'; jobs = jobs }) (settle_desk_step (requeued_all d'))) _ _ argument
       (λ m. stepped b _ _ _ _ (record { desks = k; jobs = refl })
-      (settle_alike b (requeued_all d) (requeued_all d') (alike_pending b d d' (recalled d.pending) (recalled d'.pending) (ap recalled k.pending) k) m)) (said b _ _ _ _ (record { desks = k; jobs = refl }) refl)
+      (run_alike next_what settle_order settled_line b (requeued_all d) (requeued_all d') (alike_pending b d d' (recalled d.pending) (recalled d'.pending) (ap recalled k.pending) k) m)) (said b _ _ _ _ (record { desks = k; jobs = refl }) refl)
+  desk_alike b d d' jobs st k Drain h argument =
+      by_nothing b (on_desk (record { desk = d; jobs = jobs }) (drain_desk_step (requeued_all d))) (on_desk (record { desk = d'; jobs = jobs }) (drain_desk_step (requeued_all d'))) _ _ argument
+      (λ m. stepped b _ _ _ _ (record { desks = k; jobs = refl })
+      (run_alike next_drain drain_order drained_line b (requeued_all d) (requeued_all d') (alike_pending b d d' (recalled d.pending) (recalled d'.pending) (ap recalled k.pending) k) m)) (said b _ _ _ _ (record { desks = k; jobs = refl }) refl)
   desk_alike b d d' jobs st k Ready h argument =
       said b _ _ _ _ (record { desks = k; jobs = refl }) (ap (λ (t : List ℕ). with_nothing t argument_refused argument) (ready_alike b d d' k))
   desk_alike b d d' jobs st k History h argument = absurd (cc h)

@@ -24,6 +24,13 @@ IsReply reply.History old new c answer = (new ≡ old) × (answer ≡ history_of
 IsReply (reply.Events n) old new c answer = (new ≡ old) × (answer ≡ later_events_of c n)
 IsReply reply.Checkpoint old new c answer = new ≡ old ++ answer
 
+-- what a reply is to write, by the console after the step and what was appended to an empty text
+abbrev pub reply_text : Reply → Console → List ℕ → List ℕ
+reply_text reply.Text c appended = appended
+reply_text reply.History c appended = history_of c
+reply_text (reply.Events n) c appended = later_events_of c n
+reply_text reply.Checkpoint c appended = appended
+
 -- this is the console after a step, and the reply is what the step writes
 abbrev pub IsStep : Reply → List ℕ → List ℕ → Console → Console × List ℕ → Type 0
 IsStep r old new c s = (c ≡ s.0) × IsReply r old new c s.1

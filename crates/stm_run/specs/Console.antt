@@ -6,14 +6,14 @@ use Rattle.stm_lines.specs.Lines.{lines_of, whole_lines_of}
 use Rattle.stm_commands.specs.Blocks.{try_answer, looks_answer, submit_step}
 use Rattle.stm_commands.specs.Checkpointing.{checkpoint_step}
 use Rattle.stm_commands.specs.Contents.{show_answer, reads_answer, store_answer, history_answer}
-use Rattle.stm_commands.specs.Endings.{finish_step, cancel_step, settle_step}
+use Rattle.stm_commands.specs.Endings.{finish_step, cancel_step, settle_step, drain_step}
 use Rattle.stm_commands.specs.Evaluation.{eval_step}
 use Rattle.stm_commands.specs.Jobs.{take_step, deliver_step, handback_step}
 use Rattle.stm_commands.specs.OpenDesk.{OpenDesk}
 use Rattle.stm_commands.specs.Questions.{ready_answer, why_answer, events_answer}
 use Rattle.stm_commands.specs.Refusals.{refused}
 use Rattle.stm_run.specs.declared.command.Command.{Command}
-use Rattle.stm_run.specs.declared.command.Command.TheVariants.{Tvar, Try, Looks, Submit, Take, Deliver, Handback, Eval, Finish, Cancel, Show, Reads, Store, Settle, History, Ready, Why, Events, Checkpoint}
+use Rattle.stm_run.specs.declared.command.Command.TheVariants.{Tvar, Try, Looks, Submit, Take, Deliver, Handback, Eval, Finish, Cancel, Show, Reads, Store, Settle, Drain, History, Ready, Why, Events, Checkpoint}
 use Rattle.stm_run.specs.declared.console.Console.{Console}
 use Rattle.stm_run.specs.declared.console.Console.TheVariants.{Declaring, Open}
 use Rattle.stm_run.specs.ConsoleState.{present_desk}
@@ -26,7 +26,7 @@ command_words =
     ∷ (codes "store", Store) ∷ (codes "history", History) ∷ (codes "ready", Ready) ∷ (codes "why", Why)
     ∷ (codes "events", Events) ∷ (codes "submit", Submit) ∷ (codes "take", Take) ∷ (codes "deliver", Deliver)
     ∷ (codes "handback", Handback) ∷ (codes "eval", Eval) ∷ (codes "finish", Finish) ∷ (codes "cancel", Cancel)
-    ∷ (codes "settle", Settle) ∷ (codes "checkpoint", Checkpoint) ∷ []
+    ∷ (codes "settle", Settle) ∷ (codes "drain", Drain) ∷ (codes "checkpoint", Checkpoint) ∷ []
 
 -- the command of a word, by some commands with their words
 abbrev pub command_in : List (List ℕ × Command) → List ℕ → Option Command
@@ -53,6 +53,7 @@ desk_step d Show argument = (d, show_answer d argument)
 desk_step d Reads argument = (d, reads_answer d argument)
 desk_step d Store argument = (d, store_answer d argument)
 desk_step d Settle argument = settle_step d argument
+desk_step d Drain argument = drain_step d argument
 desk_step d History argument = (d, history_answer d argument)
 desk_step d Ready argument = (d, ready_answer d argument)
 desk_step d Why argument = (d, why_answer d argument)

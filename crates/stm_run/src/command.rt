@@ -20,6 +20,7 @@ pub enum Command {
     Reads,
     Store,
     Settle,
+    Drain,
     History,
     Ready,
     Why,
@@ -77,8 +78,8 @@ fn of_next_six(word: &[u8]) -> Option<Command>
     None
 }
 
-// The command of a word, of the last seven.
-fn of_last_seven(word: &[u8]) -> Option<Command>
+// The command of a word, of the last eight.
+fn of_last_eight(word: &[u8]) -> Option<Command>
     ensures { result ≡ command_in (drop 12 command_words) word.now }
 {
     if word == b"deliver".as_slice() {
@@ -99,6 +100,9 @@ fn of_last_seven(word: &[u8]) -> Option<Command>
     if word == b"settle".as_slice() {
         return Some(Command::Settle);
     }
+    if word == b"drain".as_slice() {
+        return Some(Command::Drain);
+    }
     if word == b"checkpoint".as_slice() {
         return Some(Command::Checkpoint);
     }
@@ -115,5 +119,5 @@ pub fn command_of(word: &[u8]) -> Option<Command>
     if let Some(command) = of_next_six(word) {
         return Some(command);
     }
-    of_last_seven(word)
+    of_last_eight(word)
 }

@@ -91,12 +91,10 @@ fn answer_checkpoint(
     }
 }
 
-/// Answers a command on the open desk.
-fn answer_on_desk<T: Threads + Sync>(
+/// Answers a command on the open desk, and starts no thread.
+fn answer_on_desk_here(
     desk: &mut OpenDesk,
-    rt: &T,
     alloc: Global,
-    threading: Threading,
     command: Command,
     argument: &str,
     out: &mut String,
@@ -119,17 +117,43 @@ fn answer_on_desk<T: Threads + Sync>(
         Command::Take => desk.answer_take(alloc, argument, out),
         Command::Deliver => desk.answer_deliver(alloc, argument, out),
         Command::Handback => desk.answer_handback(argument, out),
-        Command::Eval => desk.answer_eval(rt, alloc, threading, argument, out),
+        Command::Eval => desk.answer_eval_here(argument, out),
         Command::Finish => desk.answer_finish(argument, out),
         Command::Cancel => desk.answer_cancel(argument, out),
         Command::Show => desk.answer_show(argument, out),
         Command::Reads => desk.answer_reads(argument, out),
         Command::Store => desk.answer_store(argument, out),
         Command::Settle => desk.answer_settle(argument, out),
+        Command::Drain => desk.answer_drain(argument, out),
         Command::Ready => desk.answer_ready(argument, out),
         Command::Why => desk.answer_why(alloc, argument, out),
     };
     done.and(Ok(Reply::Text))
+}
+
+/// Answers a command on the open desk. Only `eval` may start threads.
+fn answer_on_desk<T: Threads + Sync>(
+    desk: &mut OpenDesk,
+    rt: &T,
+    alloc: Global,
+    threading: Threading,
+    command: Command,
+    argument: &str,
+    out: &mut String,
+) -> Result<Reply, NoMemory>
+    ensures step { IfOk result (λ r. IsStep r (string_bytes out.old) (string_bytes out.new)
+        (IsOpen desk.new) (on_console (desk_step desk.old command argument.now))) }
+    ensures made { IfOk result (λ r. tells_checkpoint r
+        ≡ command_checkpoints (IsOpen desk.old) command argument.now) }
+    ensures streamed { IfOk result (λ r. is_streamed r ≡ true
+        → desk.new.desk.history ≡ desk.old.desk.history) }
+{
+    match command {
+        Command::Eval => desk
+            .answer_eval(rt, alloc, threading, argument, out)
+            .and(Ok(Reply::Text)),
+        _ => answer_on_desk_here(desk, alloc, command, argument, out),
+    }
 }
 
 impl Console {
@@ -222,6 +246,49 @@ impl Console {
                 let desk = self.opened(alloc)?;
                 answer_on_desk(desk, rt, alloc, threading, command, argument, out)
             }
+        }
+    }
+
+    /// Answers a command, and starts no thread.
+    fn answer_command_here(
+        &mut self,
+        alloc: Global,
+        word: &[u8],
+        argument: &str,
+        out: &mut String,
+    ) -> Result<Reply, NoMemory>
+        ensures { IfOk result (λ r. IsStep r (string_bytes out.old) (string_bytes out.new)
+            self.new (word_step self.old (command_named word.now) argument.now)) }
+    {
+        match command_of(word) {
+            None => refuse("Command", out).and(Ok(Reply::Text)),
+            Some(Command::Tvar) => self.answer_tvar(alloc, argument, out).and(Ok(Reply::Text)),
+            Some(command) => {
+                let desk = self.opened(alloc)?;
+                answer_on_desk_here(desk, alloc, command, argument, out)
+            }
+        }
+    }
+
+    /// Appends the answer to a line as `answer` does, but starts no thread.
+    #[tactic(auto, unfolding(crate::specs::Console::step))]
+    pub fn answer_here(
+        &mut self,
+        alloc: Global,
+        line: &[u8],
+        out: &mut String,
+    ) -> Result<Reply, NoMemory>
+        ensures { IfOk result (λ r. IsStep r (string_bytes out.old) (string_bytes out.new)
+            self.new (step self.old line.now)) }
+    {
+        match judge(line) {
+            Judgement::TooLong => refuse("LineTooLong", out).and(Ok(Reply::Text)),
+            Judgement::Silent => Ok(Reply::Text),
+            Judgement::NotAscii => refuse("NotAscii", out).and(Ok(Reply::Text)),
+            Judgement::Words(word, argument) => match str::from_utf8(argument) {
+                Ok(argument) => self.answer_command_here(alloc, word, argument, out),
+                Err(_) => unreachable!(),
+            },
         }
     }
 

@@ -3,6 +3,7 @@
 ghost use Rattle.std.specs.Prelude.{◌≡◌, ◌≢◌, ℕ, List, string_bytes, OnOk, OnErr, IfErr};
 ghost use Rattle.std.specs.Io.KnownBytes.{Appends};
 ghost use Rattle.stm_terms.specs.Texts.{IsPrefixOf};
+ghost use Rattle.stm_run.specs.Abstraction.{reply_text};
 ghost use Rattle.stm_run.specs.Console.{initial_console, answer_to, state_after};
 
 use crate::console::Console;
@@ -26,6 +27,9 @@ fn fault_of(fault: WriteFault) -> RunFault
         WriteFault::NoMemory => RunFault::NoMemory,
     }
 }
+
+/// How many bytes there is room for before a line is answered.
+const SHORT_ANSWER: usize = 4_096;
 
 /// The console, room for an answer, and how many threads evaluate.
 pub struct Session {
@@ -68,6 +72,33 @@ impl Session {
         write_text(writer, self.answer.as_bytes())
     }
 
+    /// Writes the reply to a line.
+    fn write_reply<W: Write>(
+        &self,
+        alloc: Global,
+        reply: Reply,
+        writer: &mut W,
+    ) -> Result<(), RunFault>
+        ensures done { OnOk result (Appends (W.contents writer.old) (W.contents writer.new)
+            (reply_text reply self.now.console (string_bytes self.now.answer))) }
+        ensures part { OnErr result ((front : List ℕ)
+            × IsPrefixOf front (reply_text reply self.now.console (string_bytes self.now.answer))
+            × Appends (W.contents writer.old) (W.contents writer.new) front) }
+        ensures fault { IfErr result (λ e. e ≢ RunFault.Read) }
+    {
+        match reply {
+            Reply::Text | Reply::Checkpoint => self.write_answer(writer),
+            Reply::History => match self.console.write_history(alloc, writer) {
+                Ok(()) => Ok(()),
+                Err(fault) => Err(fault_of(fault)),
+            },
+            Reply::Events(n) => match self.console.write_later_events(alloc, writer, n) {
+                Ok(()) => Ok(()),
+                Err(fault) => Err(fault_of(fault)),
+            },
+        }
+    }
+
     /// Answers a line.
     pub fn answer_line<T: Threads + Sync, W: Write>(
         &mut self,
@@ -85,23 +116,38 @@ impl Session {
         ensures fault { IfErr result (λ e. e ≢ RunFault.Read) }
     {
         self.answer.clear();
-        let reply = match self
+        match self
             .console
             .answer(rt, alloc, self.threading, line, &mut self.answer)
         {
-            Ok(reply) => reply,
-            Err(_) => return Err(RunFault::NoMemory),
-        };
-        match reply {
-            Reply::Text | Reply::Checkpoint => self.write_answer(writer),
-            Reply::History => match self.console.write_history(alloc, writer) {
-                Ok(()) => Ok(()),
-                Err(fault) => Err(fault_of(fault)),
-            },
-            Reply::Events(n) => match self.console.write_later_events(alloc, writer, n) {
-                Ok(()) => Ok(()),
-                Err(fault) => Err(fault_of(fault)),
-            },
+            Ok(reply) => self.write_reply(alloc, reply, writer),
+            Err(_) => Err(RunFault::NoMemory),
+        }
+    }
+
+    /// Answers a line as `answer_line` does, but starts no thread.
+    pub fn answer_line_here<W: Write>(
+        &mut self,
+        alloc: Global,
+        line: &[u8],
+        writer: &mut W,
+    ) -> Result<(), RunFault>
+        ensures done { OnOk result (Appends (W.contents writer.old) (W.contents writer.new)
+            (answer_to self.old.console line.now)) }
+        ensures state { OnOk result (self.new.console ≡ state_after self.old.console line.now) }
+        ensures part { OnErr result ((front : List ℕ)
+            × IsPrefixOf front (answer_to self.old.console line.now)
+            × Appends (W.contents writer.old) (W.contents writer.new) front) }
+        ensures fault { IfErr result (λ e. e ≢ RunFault.Read) }
+    {
+        self.answer.clear();
+        // With this room the answer to a line that changes the desk is not refused once the line is done, unless it is long.
+        if self.answer.reserve(SHORT_ANSWER).is_err() {
+            return Err(RunFault::NoMemory);
+        }
+        match self.console.answer_here(alloc, line, &mut self.answer) {
+            Ok(reply) => self.write_reply(alloc, reply, writer),
+            Err(_) => Err(RunFault::NoMemory),
         }
     }
 }

@@ -100,6 +100,9 @@ Commands on standard input, one per line. A line that begins with `--` is a comm
       store
   settle                   Evaluates and finishes blocks until none can continue: `settled 2 evaluations 3`
       settle
+  drain                    Finishes the same blocks in the same order, and evaluates a block only when it is its turn:
+                           `drained 2 evaluations 2`
+      drain
   history                  Prints the history, one JSON object per line, as `stmdesk check` reads it
       history
   events N                 Prints the history's events from the N-th on, counted from 1, then how many there are: `events 12`

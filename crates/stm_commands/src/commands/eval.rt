@@ -4,7 +4,7 @@ ghost use Rattle.std.specs.Prelude.{◌≡◌, ◌+◌, ◌++◌, string_bytes, 
 ghost use Rattle.stm_commands.specs.Evaluation.{evaluated_line, evaluation_text, eval_desk_step, eval_step};
 ghost use Rattle.stm_commands.specs.OpenDesk.{on_desk, Steps};
 
-use crate::evaluation::evaluate_queued;
+use crate::evaluation::{evaluate_here, evaluate_queued};
 use crate::open_desk::OpenDesk;
 use crate::refusals::{refuse_argument, refuse_delivery};
 use crate::threading::Threading;
@@ -49,6 +49,27 @@ impl OpenDesk {
     {
         let progress = evaluate_queued(&mut self.desk, rt, alloc, threading)?;
         write_evaluation(progress.count, progress.stop, out)
+    }
+
+    /// Evaluates and delivers all that is queued, on the desk itself.
+    fn eval_here(&mut self, out: &mut String) -> Result<(), NoMemory>
+        ensures { OnOk result (Steps self.new (string_bytes out.old) (string_bytes out.new)
+            (on_desk self.old (eval_desk_step self.old.desk))) }
+    {
+        let progress = evaluate_here(&mut self.desk)?;
+        write_evaluation(progress.count, progress.stop, out)
+    }
+
+    /// Answers `eval` as `answer_eval` does, but starts no thread.
+    #[tactic(auto, unfolding(crate::specs::Evaluation::eval_step))]
+    pub fn answer_eval_here(&mut self, argument: &str, out: &mut String) -> Result<(), NoMemory>
+        ensures { OnOk result (Steps self.new (string_bytes out.old) (string_bytes out.new)
+            (eval_step self.old argument.now)) }
+    {
+        if !argument.is_empty() {
+            return refuse_argument(out);
+        }
+        self.eval_here(out)
     }
 
     /// Answers `eval`.

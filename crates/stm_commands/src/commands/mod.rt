@@ -3,6 +3,7 @@
 mod cancel;
 mod checkpoint;
 mod deliver;
+mod drain;
 mod eval;
 mod events;
 mod finish;

@@ -13,7 +13,7 @@ use stm_terms::NoMemory;
 use stm_terms::text::write_number;
 
 /// Appends how many blocks were run.
-fn write_evaluations(evaluations: u32, out: &mut String) -> Result<(), NoMemory>
+pub(super) fn write_evaluations(evaluations: u32, out: &mut String) -> Result<(), NoMemory>
     ensures { OnOk result (string_bytes out.new
         ≡ string_bytes out.old ++ codes " evaluations " ++ decimal evaluations ++ 10 ∷ []) }
 {
@@ -33,17 +33,25 @@ fn write_settled(finished: u32, evaluations: u32, out: &mut String) -> Result<()
     write_evaluations(evaluations, out)
 }
 
+/// Appends why settling or draining stopped. An out-of-memory error isn't reported here.
+pub(super) fn write_why(why: SettleWhy, out: &mut String) -> Result<(), NoMemory>
+    ensures text { OnOk result (string_bytes out.new ≡ string_bytes out.old ++ why_text why) }
+    ensures told { OnOk result (why ≢ SettleWhy.NoMemory) }
+{
+    match why {
+        SettleWhy::HistoryFull => out.push_str("stopped HistoryFull "),
+        SettleWhy::CellsFull => out.push_str("stopped CellsFull "),
+        SettleWhy::NoMemory => Err(AllocError),
+    }
+}
+
 /// Appends why settling stopped, and how much it did.
 fn write_stop(stop: SettleStop, out: &mut String) -> Result<(), NoMemory>
     ensures text { OnOk result (string_bytes out.new ≡ string_bytes out.old ++ why_text stop.why
         ++ settled_line stop.finished stop.evaluations) }
     ensures told { OnOk result (stop.why ≢ SettleWhy.NoMemory) }
 {
-    match stop.why {
-        SettleWhy::HistoryFull => out.push_str("stopped HistoryFull ")?,
-        SettleWhy::CellsFull => out.push_str("stopped CellsFull ")?,
-        SettleWhy::NoMemory => return Err(AllocError),
-    }
+    write_why(stop.why, out)?;
     write_settled(stop.finished, stop.evaluations, out)
 }
 

@@ -16,6 +16,6 @@ returns-in-Some-of_next_six c =
 pub returns : goal.returns
 unfolding command_named
 returns c =
-    c.of_last_seven.ensures
+    c.of_last_eight.ensures
     ∙ sym (command_in-rest (take 6 command_words) (drop 6 command_words) c.args.word.now (sym c.in_default.ensures)
     ∙ command_in-rest (take 6 (drop 6 command_words)) (drop 12 command_words) c.args.word.now (sym c.in_default-of_next_six.ensures))
