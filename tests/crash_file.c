@@ -7,8 +7,8 @@
                  length between the two; LEAVES=zeros, the same with a 0 in place of anything. A rename is lost with LEAVES=synced,
                  and else done
    SEED=N        of what is chosen
-   FAIL_AT=N     the N-th such call fails with the error FAIL_WITH, a write after the half of it; if the program still writes or cuts the
-                 file after that, it ends with status 99
+   FAIL_AT=N     the N-th such call, which is no rename, fails with the error FAIL_WITH, a write after the half of it; if the program still
+                 writes or cuts the file after that, it ends with status 99
    READ_FAILS=N  the N-th read of a regular file fails
    ONE_LINE=1    a read of standard input gets one line */
 #define _GNU_SOURCE
@@ -24,7 +24,8 @@
 static ssize_t (*real_read)(int, void *, size_t);
 static ssize_t (*real_pread)(int, void *, size_t, off_t);
 static ssize_t (*real_pwrite)(int, const void *, size_t, off_t);
-static int (*real_ftruncate)(int, off_t), (*real_fsync)(int), (*real_fdatasync)(int), (*real_rename)(const char *, const char *);
+static int (*real_ftruncate)(int, off_t), (*real_fsync)(int), (*real_fdatasync)(int), (*real_close)(int);
+static int (*real_rename)(const char *, const char *);
 static unsigned long calls, reads, crash_at, fail_at, read_fails, one_line, seed;
 static int fail_with, has_failed;
 static const char *leaves;
@@ -50,6 +51,7 @@ __attribute__((constructor)) static void begin(void) {
     real_fsync = (int (*)(int))dlsym(RTLD_NEXT, "fsync");
     real_fdatasync = (int (*)(int))dlsym(RTLD_NEXT, "fdatasync");
     real_rename = (int (*)(const char *, const char *))dlsym(RTLD_NEXT, "rename");
+    real_close = (int (*)(int))dlsym(RTLD_NEXT, "close");
     crash_at = number_of("CRASH_AT");
     fail_at = number_of("FAIL_AT");
     fail_with = (int)number_of("FAIL_WITH");
@@ -208,20 +210,22 @@ static int sync_by(int (*real)(int), int file) {
 
 int rename(const char *from, const char *to) {
     int done;
-    if (has_failed)
-        _exit(99);
     calls += 1;
-    if (fail_at && calls == fail_at) {
-        has_failed = 1;
-        errno = fail_with;
-        return -1;
-    }
     if (crash_at && calls == crash_at && strcmp(leaves, "synced") == 0)
         kill(getpid(), SIGKILL);
     done = real_rename(from, to);
     if (crash_at && calls == crash_at)
         kill(getpid(), SIGKILL);
     return done;
+}
+
+/* Another file may get its number, and if it is gone, that of its inode. */
+int close(int file) {
+    if (file >= 0 && file < FILES) {
+        free(synced_of[file].bytes);
+        synced_of[file].bytes = NULL;
+    }
+    return real_close(file);
 }
 
 int fsync(int file) { return sync_by(real_fsync, file); }

@@ -43,6 +43,11 @@ open_failed open_error.NoMemory n is = inr is
 open_failed open_error.InUse n is = inl is
 open_failed open_error.Directory n is = inl is
 open_failed open_error.NotRegular n is = inl is
+open_failed open_error.KeptName n is = inl is
+open_failed open_error.IsInput n is = inl is
+open_failed open_error.IsOutput n is = inl is
+open_failed open_error.IsErrors n is = inl is
+open_failed open_error.NoStreams n is = inl is
 open_failed (open_error.NoLock e) n is = inl is
 open_failed (open_error.System e) n is = inl is
 

@@ -1,6 +1,7 @@
 //! The files in which runs keep their histories.
 
 ghost use Rattle.std.specs.Prelude.{◌≡◌, ℕ, List, Option, IsTrue, IfOk, IfSome};
+ghost use Rattle.stm_journal.specs.Disk.{IsSettled};
 ghost use Rattle.stm_console.specs.Journal.{open_status};
 
 use crate::status::{FAILED, NO_MEMORY};
@@ -21,6 +22,21 @@ pub enum OpenError {
     /// It is a device, a pipe, or a link that leads nowhere.
     #[error("not a regular file")]
     NotRegular,
+    /// Its name is one that a checkpoint may take for its new file.
+    #[error("names like .NAME.stmdesk-new are kept for checkpoints")]
+    KeptName,
+    /// It is what the run reads its commands from.
+    #[error("standard input is the journal")]
+    IsInput,
+    /// It is what the run writes its answers to.
+    #[error("standard output is the journal")]
+    IsOutput,
+    /// It is what the run writes its messages to.
+    #[error("standard error is the journal")]
+    IsErrors,
+    /// A standard stream is closed, so that the file would take its place.
+    #[error("a standard stream is closed, and /dev/null can't be opened in its place")]
+    NoStreams,
     /// It can't be locked, so that another run might open it too.
     #[error("can't be locked: {0}")]
     NoLock(io::Error),
@@ -42,6 +58,11 @@ impl OpenError {
             OpenError::InUse => FAILED,
             OpenError::Directory => FAILED,
             OpenError::NotRegular => FAILED,
+            OpenError::KeptName => FAILED,
+            OpenError::IsInput => FAILED,
+            OpenError::IsOutput => FAILED,
+            OpenError::IsErrors => FAILED,
+            OpenError::NoStreams => FAILED,
             OpenError::NoLock(_) => FAILED,
             OpenError::System(_) => FAILED,
         }
@@ -66,9 +87,10 @@ pub trait JournalFiles {
     /// The bytes of the file of this name, if they are known; none of a file that is missing.
     ghost contents: { Self → List ℕ → Option (List ℕ) };
 
-    /// Opens the file of this name for reading and writing, and makes it if it is missing. No other run has it open then. If its
-    /// bytes are known the device is honest, and has them.
+    /// Opens the file of this name for reading and writing, and makes it if it is missing. No other run has it open then, and it
+    /// is settled: reads return what the disk has. If its bytes are known the device is honest, and has them.
     fn open(&self, name: &str) -> Result<Self::File, OpenError>
-        ensures { IfOk result (λ file. IfSome (contents self.now name.now) (λ bytes.
-            IsTrue Self.File.is_honest × (Self.File.seen file ≡ bytes))) };
+        ensures contents { IfOk result (λ file. IfSome (contents self.now name.now) (λ bytes.
+            IsTrue Self.File.disk.is_honest × (Self.File.disk.seen file ≡ bytes))) }
+        ensures settled { IfOk result (IsSettled Self.File.disk) };
 }

@@ -2,6 +2,7 @@
 
 ghost use Rattle.std.specs.Prelude.{◌≡◌, ◌≤◌, ℕ, List, Option, None, IsTrue, IfSome, length};
 ghost use Rattle.stm_durable_run.specs.DurableRun.{durable_status};
+ghost use Rattle.stm_journal.specs.Disk.{IsSettled};
 ghost use Rattle.stm_console.specs.Journal.{load_status, open_status, unopened_status, journal_status};
 ghost use Rattle.stm_console.specs.Program.{RunsOn, streams};
 ghost use Rattle.stm_options.specs.Options.{AreRunOptions};
@@ -34,6 +35,10 @@ fn report_open<E: Write>(name: &str, error: OpenError, errors: &mut E) -> u8
 {
     if let OpenError::NoMemory = error {
         return report_no_memory(errors);
+    }
+    // A message would be written to the journal.
+    if let OpenError::IsErrors = error {
+        return FAILED;
     }
     let _ = writeln!(errors, "stmdesk: {name}: {error}");
     error.status()
@@ -163,8 +168,9 @@ fn run_on_device<T: Threads + RandomSource + Sync, D: Replace + Drop, R: Read, W
     writer: &mut W,
     errors: &mut E,
 ) -> u8
-    requires { AreRunOptions options }
-    ensures { (contents : Option (List ℕ)) → IfSome contents (λ bytes. IsTrue D.is_honest × (D.seen device ≡ bytes))
+    requires options { AreRunOptions options }
+    requires settled { IsSettled D.disk device }
+    ensures { (contents : Option (List ℕ)) → IfSome contents (λ bytes. IsTrue D.disk.is_honest × (D.disk.seen device ≡ bytes))
         → RunsOn options contents (streams (R.remaining reader.old) (R.remaining reader.new)
         (W.contents writer.old) (W.contents writer.new)) result }
 {

@@ -1,5 +1,5 @@
 -- What a batch of events leaves.
-use Rattle.std.proofs.Common.{◌≡◌, ◌≢◌, inl, inr, ⊎_elim, ℕ, ◌≤◌, Result, Ok, Err, OnOk, List, [], ◌++◌, length, take, Bool, true, false, sym, ◌∙◌, ap, subst, arith}
+use Rattle.std.proofs.Common.{◌≡◌, ◌≢◌, inl, inr, ⊎_elim, ℕ, ◌≤◌, Result, Ok, Err, OnOk, List, [], ◌++◌, length, take, Bool, true, false, IsTrue, sym, ◌∙◌, ap, subst, arith}
 use Rattle.std.proofs.lemmas.List.{append-nil}
 use Rattle.stm_events.specs.declared.event.Event.{Event}
 use Rattle.stm_history.specs.HistoryText.{history_text, event_lines}
@@ -7,20 +7,21 @@ use Rattle.stm_history.specs.Starts.{Start}
 use Rattle.stm_journal.specs.declared.error.JournalError.{JournalError}
 use Rattle.stm_journal.specs.declared.sync_mode.SyncMode.{SyncMode}
 use Rattle.stm_journal.specs.declared.sync_mode.SyncMode.TheVariants.{Full, Append, Never}
-use Rattle.stm_journal.specs.Device.{LeavesOnly}
-use Rattle.stm_journal.specs.Journal.{IsAtRest, MayLeave, HasFront, KeepsText, most_batch}
+use Rattle.stm_journal.specs.Disk.{Disk, LeavesOnly}
+use Rattle.stm_journal.specs.Journal.{AtRest, MayLeave, HasFront, KeepsText, most_batch}
 use Rattle.stm_journal.specs.Journal as journal
 use Rattle.stm_journal.specs.Text.{dropped_count, IsWhole}
 use Rattle.stm_journal.proofs.Moments.{started, weaker}
 use Rattle.stm_journal.proofs.Wholes.{recovered_whole}
-use Rattle.stm_durable.specs.Durable.{file_text, batch_text, batch_sync, AreFit, KeepsHistory, HasAllEventsOrNone, LeavesHistory}
+use Rattle.stm_durable.specs.Durable.{file_text, batch_text, batch_sync, AreFit, HistoryKept, HasAllEventsOrNone, LeavesHistory, MayBecome}
+use Rattle.stm_durable.specs.declared.recording.HistoryFile.{HistoryFile}
 use Rattle.stm_durable.proofs.FirstEvents.{first_of}
 use Rattle.stm_durable.proofs.Texts.{file_text-batch, longer_text}
 
 -- a journal at rest is so for each way to sync that syncs no more
-pub rests_as : {D : Type 0} (seen : D → List ℕ) (may_leave : D → List ℕ → Type 0) (device : D) (s t : SyncMode) (len : ℕ) → (t ≢ Never → s ≢ Never)
-    → IsAtRest seen may_leave device s len → IsAtRest seen may_leave device t len
-rests_as seen may_leave device s t len syncs r = record { whole = r.whole; counts = r.counts; durable = λ some. r.durable (syncs some) }
+pub rests_as : {D : Type 0} (disk : Disk D) (device : D) (s t : SyncMode) (len : ℕ) → (t ≢ Never → s ≢ Never)
+    → AtRest disk device s len → AtRest disk device t len
+rests_as disk device s t len syncs r = record { settled = r.settled; whole = r.whole; counts = r.counts; durable = λ some. r.durable (syncs some) }
 
 pub syncs_first : (s : SyncMode) (begun : Bool) → batch_sync s begun ≢ Never → s ≢ Never
 syncs_first Full begun some = λ e. cc
@@ -34,11 +35,11 @@ syncs_after Append false some = λ e. cc
 syncs_after Never begun some = some
 
 -- a batch was added with its own way to sync
-pub rests_after : {D : Type 0} (r : Result Unit JournalError) (seen : D → List ℕ) (may_leave : D → List ℕ → Type 0) (device : D) (s t : SyncMode) (begun : Bool) (len : ℕ) → t ≡ batch_sync s begun
-    → OnOk r (IsAtRest seen may_leave device t len) → OnOk r (IsAtRest seen may_leave device s len)
-rests_after (Ok x) seen may_leave device s t begun len is rests =
-    rests_as seen may_leave device t s len (λ some. subst (λ (m : SyncMode). m ≢ Never) (sym is) (syncs_after s begun some)) rests
-rests_after (Err e) seen may_leave device s t begun len is rests = tt
+pub rests_after : {D : Type 0} (r : Result Unit JournalError) (disk : Disk D) (device : D) (s t : SyncMode) (begun : Bool) (len : ℕ) → t ≡ batch_sync s begun
+    → OnOk r (IsTrue disk.is_honest → AtRest disk device t len) → OnOk r (IsTrue disk.is_honest → AtRest disk device s len)
+rests_after (Ok x) disk device s t begun len is rests =
+    λ honest. rests_as disk device t s len (λ some. subst (λ (m : SyncMode). m ≢ Never) (sym is) (syncs_after s begun some)) (rests honest)
+rests_after (Err e) disk device s t begun len is rests = tt
 
 -- ---- what a batch leaves
 
@@ -87,29 +88,42 @@ if_synced Full zeros begun start history events c h = h (λ e. cc)
 if_synced Append zeros begun start history events c h = h (λ e. cc)
 if_synced Never zeros begun start history events c h = tt
 
-module _ {D : Type 0} (seen : D → List ℕ) (may_leave : D → List ℕ → Type 0) (moment : D → ℕ) (left_since : D → ℕ → List ℕ → Type 0) (old : D) (s : SyncMode) (len : ℕ) (zeros begun : Bool)
-    (start : Start) (history events : List Event) (keeps : KeepsHistory seen may_leave old s len begun start history) where
-  pub stays_left : LeavesHistory s zeros begun start history events (seen old)
-  stays_left = let rest = keeps.at_rest in left_alone s zeros begun start history events (seen old) rest.whole keeps.text
+module _ {D : Type 0} (disk : Disk D) (f : HistoryFile D) (start : Start) (history events : List Event) (keeps : HistoryKept disk f start history) where
+  pub stays_left : MayBecome disk f start history events (disk.seen f.journal.device)
+  stays_left =
+      let rest = keeps.at_rest in
+      left_alone f.journal.sync disk.fills_with_zeros f.begun start history events (disk.seen f.journal.device) rest.whole keeps.text
 
-  pub stays : ((c : List ℕ) → left_since old (moment old) c → may_leave old c) → LeavesOnly moment left_since old old (LeavesHistory s zeros begun start history events)
+  pub stays : ((c : List ℕ) → disk.left_since f.journal.device (disk.moment f.journal.device) c → disk.may_leave f.journal.device c)
+      → LeavesOnly disk f.journal.device f.journal.device (MayBecome disk f start history events)
   stays now =
       let rest = keeps.at_rest in
-      started moment left_since old (LeavesHistory s zeros begun start history events)
-      (λ c left. if_synced s zeros begun start history events c (λ some.
-      subst (LeavesHistory s zeros begun start history events) (sym (rest.durable some c (now c left))) stays_left))
+      started disk f.journal.device (MayBecome disk f start history events)
+      (λ c left. if_synced f.journal.sync disk.fills_with_zeros f.begun start history events c (λ some.
+      subst (MayBecome disk f start history events) (sym (rest.durable some c (now c left))) stays_left))
 
-  module _ (batch : List ℕ) (is : batch ≡ batch_text begun start events) where
-    longer : seen old ++ batch ≡ history_text start (history ++ events)
-    longer = ap (λ (l : List ℕ). l ++ batch) keeps.text ∙ ap (λ (l : List ℕ). file_text begun start history ++ l) is ∙ file_text-batch begun start history events keeps.none
+  module _ (batch : List ℕ) (is : batch ≡ batch_text f.begun start events) where
+    longer : disk.seen f.journal.device ++ batch ≡ history_text start (history ++ events)
+    longer =
+        ap (λ (l : List ℕ). l ++ batch) keeps.text ∙ ap (λ (l : List ℕ). file_text f.begun start history ++ l) is
+        ∙ file_text-batch f.begun start history events keeps.none
 
-    pub recorded : (new : D) (len' : ℕ) → IsAtRest seen may_leave new s len' → seen new ≡ seen old ++ batch → KeepsHistory seen may_leave new s len' true start (history ++ events)
-    recorded new len' at_rest text = record { at_rest = at_rest; text = text ∙ longer; none = λ e. absurd (cc e) }
+    pub recorded : (new : HistoryFile D) → new.begun ≡ true → AtRest disk new.journal.device new.journal.sync new.journal.len
+        → disk.seen new.journal.device ≡ disk.seen f.journal.device ++ batch → HistoryKept disk new start (history ++ events)
+    recorded new begun at_rest text = record {
+      at_rest = at_rest;
+      text = text ∙ longer ∙ ap (λ (b : Bool). file_text b start (history ++ events)) (sym begun);
+      none = λ e. absurd (cc (e, begun));
+    }
 
     module _ (fit : AreFit start.table events) (small : length batch ≤ most_batch) where
-      pub left : (c : List ℕ) → MayLeave (batch_sync s begun) zeros (seen old) batch c → LeavesHistory s zeros begun start history events c
-      left c h = leaves_batch s zeros begun start history events (seen old) batch c keeps.text longer is fit small h
+      pub left : (c : List ℕ) → MayLeave (batch_sync f.journal.sync f.begun) disk.fills_with_zeros (disk.seen f.journal.device) batch c
+          → MayBecome disk f start history events c
+      left c h =
+          leaves_batch f.journal.sync disk.fills_with_zeros f.begun start history events (disk.seen f.journal.device) batch c keeps.text longer is fit small h
 
-      pub leaves : (new : D) → LeavesOnly moment left_since old new (MayLeave (batch_sync s begun) zeros (seen old) batch)
-          → LeavesOnly moment left_since old new (LeavesHistory s zeros begun start history events)
-      leaves new run = weaker moment left_since old new (MayLeave (batch_sync s begun) zeros (seen old) batch) (LeavesHistory s zeros begun start history events) run left
+      pub leaves : (new : D) → LeavesOnly disk f.journal.device new (MayLeave (batch_sync f.journal.sync f.begun) disk.fills_with_zeros (disk.seen f.journal.device) batch)
+          → LeavesOnly disk f.journal.device new (MayBecome disk f start history events)
+      leaves new run =
+          weaker disk f.journal.device new (MayLeave (batch_sync f.journal.sync f.begun) disk.fills_with_zeros (disk.seen f.journal.device) batch)
+          (MayBecome disk f start history events) run left

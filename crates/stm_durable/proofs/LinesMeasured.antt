@@ -4,7 +4,7 @@ use Rattle.std.specs.Prelude.{◌&&◌, nat_eq, nat_le, nat_lt, if◌then◌else
 use Rattle.std.proofs.lemmas.Bool.Decides.{nat_tests}
 use Rattle.std.specs.Io.KnownBytes.{Appends}
 use Rattle.stm_history.specs.Judgement.{AreShortLines, are_short_after, max_line}
-use Rattle.stm_journal.specs.NewFile.{written_bytes}
+use Rattle.stm_journal.specs.NewFile.{bytes_so_far}
 use Rattle.stm_journal.specs.declared.error.JournalError.{JournalError}
 use Rattle.stm_journal.proofs.NewText.{written_exactly}
 use Rattle.stm_durable.specs.LineLengths.{last_line_after, line_with}
@@ -16,10 +16,10 @@ last_line-append (Some n) (x ∷ xs) ys = last_line-append (line_with n x) xs ys
 
 -- these bytes were written after what the file had
 pub measured_on : (honest : Bool) (file file' pending pending' : List ℕ) (len len' : ℕ) (line line' : Option ℕ) (bytes : List ℕ)
-    → ((text : List ℕ) → written_bytes honest file len pending ≡ Some text → line ≡ last_line_after (Some 0) text)
-    → Appends (written_bytes honest file len pending) (written_bytes honest file' len' pending') bytes
+    → ((text : List ℕ) → bytes_so_far honest file len pending ≡ Some text → line ≡ last_line_after (Some 0) text)
+    → Appends (bytes_so_far honest file len pending) (bytes_so_far honest file' len' pending') bytes
     → line' ≡ last_line_after line bytes
-    → (text : List ℕ) → written_bytes honest file' len' pending' ≡ Some text → line' ≡ last_line_after (Some 0) text
+    → (text : List ℕ) → bytes_so_far honest file' len' pending' ≡ Some text → line' ≡ last_line_after (Some 0) text
 measured_on false file file' pending pending' len len' line line' bytes before writes is text all = absurd (cc all)
 measured_on true file file' pending pending' len len' line line' bytes before writes is text all =
     let old = take len file ++ pending in
@@ -32,8 +32,8 @@ still_too_long line bytes is = is ∙ sym (ap (λ (l : Option ℕ). last_line_af
 
 -- a text was written to an empty file, and nothing else
 pub start_measured : (honest : Bool) (file : List ℕ) (len : ℕ) (pending : List ℕ) (line : Option ℕ) (old : Option (List ℕ)) (text : List ℕ) → IsTrue honest → old ≡ Some []
-    → Appends old (written_bytes honest file len pending) text
-    → ((t : List ℕ) → written_bytes honest file len pending ≡ Some t → line ≡ last_line_after (Some 0) t)
+    → Appends old (bytes_so_far honest file len pending) text
+    → ((t : List ℕ) → bytes_so_far honest file len pending ≡ Some t → line ≡ last_line_after (Some 0) t)
     → line ≡ last_line_after (Some 0) text
 start_measured false file len pending line old text holds empty writes measured = absurd (cc holds)
 start_measured true file len pending line old text holds empty writes measured =

@@ -1,5 +1,5 @@
 -- The file of a history: nothing before its first batch, and then exactly the text of docs/HISTORY.md.
-use Rattle.std.specs.Prelude.{◌≡◌, ◌≢◌, ◌⊎◌, ⊤, ◌≤◌, Option, Some, None, ℕ, Bool, true, false, List, [], ◌∷◌, ◌++◌, length, take, get_or, option_copied}
+use Rattle.std.specs.Prelude.{◌≡◌, ◌≢◌, ◌⊎◌, ⊤, ◌≤◌, ◌<◌, ◌+◌, ◌^◌, Option, Some, None, ℕ, Bool, true, false, IsTrue, List, [], ◌∷◌, ◌++◌, length, take, get_or, option_copied, Result, IsErr, IsErrOf}
 use Rattle.std.specs.Borrow.{Bor}
 use Rattle.stm_store.specs.Tables.{Declared}
 use Rattle.stm_events.specs.declared.event.Event.{Event}
@@ -13,8 +13,13 @@ use Rattle.stm_history.specs.Starts.{Start, first_state, read_back, written_star
 use Rattle.stm_history.specs.declared.files.loading.Loaded.{Loaded}
 use Rattle.stm_journal.specs.declared.sync_mode.SyncMode.{SyncMode}
 use Rattle.stm_journal.specs.declared.sync_mode.SyncMode.TheVariants.{Full, Append, Never}
-use Rattle.stm_journal.specs.Journal.{IsAtRest, most_batch}
+use Rattle.stm_journal.specs.declared.error.JournalError.{JournalError}
+use Rattle.stm_journal.specs.declared.error.JournalError.TheVariants.{Failed, NoSpace, Full as FullFile, TooLong, TornTooLong}
+use Rattle.stm_journal.specs.Device.{Own}
+use Rattle.stm_journal.specs.Disk.{Disk, LeavesOnly, CrashLeaves, FailsOnlyIf, FailsOnlyIfAny}
+use Rattle.stm_journal.specs.Journal.{AtRest, most_batch}
 use Rattle.stm_journal.specs.Text.{recovered, dropped_count}
+use Rattle.stm_durable.specs.declared.recording.HistoryFile.{HistoryFile}
 use Rattle.stm_durable.specs.declared.resuming.OpenFault.{OpenFault}
 use Rattle.stm_durable.specs.declared.resuming.OpenFault.TheVariants.{Journal, History, Foreign}
 
@@ -40,12 +45,21 @@ batch_sync Append false = Full
 batch_sync Never begun = Never
 
 -- the file has exactly this history, and all of it is on the disk, if the journal syncs
-pub record KeepsHistory
-    {D : Type 0} (seen : D → List ℕ) (may_leave : D → List ℕ → Type 0) (device : D) (sync : SyncMode) (len : ℕ) (begun : Bool)
-    (start : Start) (history : List Event) : Type 0 where
-  pub at_rest : IsAtRest seen may_leave device sync len
-  pub text : seen device ≡ file_text begun start history
-  pub none : begun ≡ false → history ≡ []
+pub record HistoryKept {D : Type 0} (disk : Disk D) (f : HistoryFile D) (start : Start) (history : List Event) : Type 0 where
+  pub at_rest : AtRest disk f.journal.device f.journal.sync f.journal.len
+  pub text : disk.seen f.journal.device ≡ file_text f.begun start history
+  pub none : f.begun ≡ false → history ≡ []
+
+abbrev pub KeepsHistory : {D : Type 0} → Disk D → HistoryFile D → Start → List Event → Type 0
+KeepsHistory disk f start history = IsTrue disk.is_honest → HistoryKept disk f start history
+
+-- some history that begins there
+abbrev pub KeepsSome : {D : Type 0} → Disk D → HistoryFile D → Start → Type 0
+KeepsSome disk f start = IsTrue disk.is_honest → (history : List Event) × HistoryKept disk f start history
+
+-- some history, wherever it begins
+abbrev pub KeepsAny : {D : Type 0} → Disk D → HistoryFile D → Type 0
+KeepsAny disk f = IsTrue disk.is_honest → (start : Start) × (history : List Event) × HistoryKept disk f start history
 
 -- each event can be in a line over the table
 abbrev pub AreFit : List Declared → List Event → Type 0
@@ -72,7 +86,7 @@ pub record HasFirst (start : Start) (history events : List Event) (file : List �
   pub dropped : dropped_count file ≤ most_batch
 
 -- The file stands for the history, and perhaps for lines after it, about which nothing is said.
-pub record KeepsLines (begun : Bool) (start : Start) (history : List Event) (file : List ℕ) : Type 0 where
+pub record KeepsHistoryLines (begun : Bool) (start : Start) (history : List Event) (file : List ℕ) : Type 0 where
   pub more : List ℕ
   pub lines : recovered file ≡ file_text begun start history ++ more
   pub dropped : dropped_count file ≤ most_batch
@@ -81,7 +95,7 @@ pub record KeepsLines (begun : Bool) (start : Start) (history : List Event) (fil
 abbrev pub LeavesBatch : SyncMode → Bool → Bool → Start → List Event → List Event → List ℕ → Type 0
 LeavesBatch Full zeros begun start history events file = HasAllEventsOrNone begun start history events file
 LeavesBatch Append true begun start history events file = HasFirst start history events file
-LeavesBatch Append false begun start history events file = KeepsLines begun start history file
+LeavesBatch Append false begun start history events file = KeepsHistoryLines begun start history file
 LeavesBatch Never zeros begun start history events file = ⊤
 
 -- what a crash may leave while events are recorded after a history, and what the file may be after an error
@@ -89,15 +103,80 @@ abbrev pub LeavesHistory : SyncMode → Bool → Bool → Start → List Event �
 LeavesHistory sync zeros begun start history events file =
     LeavesBatch (batch_sync sync begun) zeros begun start history events file
 
+-- ---- recording
+
+-- these events come after each history that the file had
+abbrev pub Records : {D : Type 0} → Disk D → HistoryFile D → HistoryFile D → Start → List Event → Type 0
+Records disk old new start events =
+    IsTrue disk.is_honest → (history : List Event) → HistoryKept disk old start history → HistoryKept disk new start (history ++ events)
+
+-- it still has each history that it had
+abbrev pub KeepsEach : {D : Type 0} → Disk D → HistoryFile D → HistoryFile D → Start → Type 0
+KeepsEach disk old new start =
+    IsTrue disk.is_honest → (history : List Event) → HistoryKept disk old start history → HistoryKept disk new start history
+
+-- what a file may be while these events are recorded in it
+abbrev pub MayBecome : {D : Type 0} → Disk D → HistoryFile D → Start → List Event → List Event → List ℕ → Type 0
+MayBecome disk f start history events file =
+    LeavesHistory f.journal.sync disk.fills_with_zeros f.begun start history events file
+
+-- A crash at any moment, and an error, leave the history, and of these events what the sync mode promises.
+abbrev pub LeavesAtAnyMoment : {D : Type 0} → Disk D → HistoryFile D → HistoryFile D → Start → List Event → Type 0
+LeavesAtAnyMoment disk old new start events =
+    IsTrue disk.is_honest → (history : List Event) → HistoryKept disk old start history
+    → LeavesOnly disk old.journal.device new.journal.device (MayBecome disk old start history events)
+    × MayBecome disk old start history events (disk.seen new.journal.device)
+
+-- a batch that is too long is refused before anything is written
+abbrev pub RefusesLongEvents : {D : Type 0} → HistoryFile D → HistoryFile D → Start → List Event → Result (Unit {0}) JournalError → Type 0
+RefusesLongEvents old new start events result = most_batch < length (batch_text old.begun start events) → IsErr result × (new ≡ old)
+
+-- The call fails only if the disk does, if memory runs out, or if the batch or the file is too long.
+abbrev pub RecordsUnless : {D : Type 0} → Disk D → HistoryFile D → HistoryFile D → Start → List Event → Result (Unit {0}) JournalError → Type 0
+RecordsUnless disk old new start events result =
+    let batch = batch_text old.begun start events in
+    FailsOnlyIf disk old.journal.device new.journal.device (record {
+      full = 2 ^ 62 < length (disk.seen old.journal.device) + length batch;
+      too_long = most_batch < length batch;
+      torn_too_long = ⊥;
+    }) result
+
+-- ---- beginning anew
+
+-- A crash at any moment leaves what it might have left before, or a file of just this text.
+abbrev pub LeavesOldOrAll : {D : Type 0} → Disk D → HistoryFile D → HistoryFile D → List ℕ → Type 0
+LeavesOldOrAll disk old new text =
+    CrashLeaves disk old.journal.device new.journal.device (λ c. disk.may_leave old.journal.device c ⊎ (c ≡ text))
+
+-- the file is as it was, or has just this text
+abbrev pub IsOldOrAll : {D : Type 0} → Disk D → HistoryFile D → HistoryFile D → List ℕ → Type 0
+IsOldOrAll disk old new text =
+    IsTrue disk.is_honest → (disk.seen new.journal.device ≡ disk.seen old.journal.device) ⊎ (disk.seen new.journal.device ≡ text)
+
+-- what is refused leaves each history as it was, and more can be recorded after it
+abbrev pub RefusalKeeps : {D : Type 0} → Disk D → HistoryFile D → HistoryFile D → Result (Unit {0}) JournalError → Type 0
+RefusalKeeps disk old new result =
+    IsTrue disk.is_honest → IsErrOf result TooLong ⊎ IsErrOf result FullFile
+    → (start : Start) (history : List Event) → HistoryKept disk old start history → HistoryKept disk new start history
+
+-- The call fails only if a disk does, if memory runs out, or if a line of the start or the file is too long.
+abbrev pub BeginsUnless : {D T : Type 0} → Disk D → Start → Result T JournalError → Type 0
+BeginsUnless disk start result =
+    FailsOnlyIfAny disk (record {
+      full = 2 ^ 62 < length (start_text start);
+      too_long = AreShortLines (start_text start) → ⊥;
+      torn_too_long = ⊥;
+    }) result
+
 -- ---- opening
 
 -- the file has what was loaded of it, or nothing yet
-abbrev pub HasLoaded :
-    {D : Type 0} → (D → List ℕ) → (D → List ℕ → Type 0) → D → SyncMode → ℕ → Bool → Option Loaded → Type 0
-HasLoaded seen may_leave device sync len begun None =
-    (begun ≡ false) × ((start : Start) → KeepsHistory seen may_leave device sync len false start [])
-HasLoaded seen may_leave device sync len begun (Some h) =
-    (begun ≡ true) × KeepsHistory seen may_leave device sync len true (loaded_start h) h.events.items
+abbrev pub LoadedKept : {D : Type 0} → Disk D → HistoryFile D → Option Loaded → Type 0
+LoadedKept disk f None = (f.begun ≡ false) × ((start : Start) → HistoryKept disk f start [])
+LoadedKept disk f (Some h) = (f.begun ≡ true) × HistoryKept disk f (loaded_start h) h.events.items
+
+abbrev pub HasLoaded : {D : Type 0} → Disk D → HistoryFile D → Option Loaded → Type 0
+HasLoaded disk f loaded = IsTrue disk.is_honest → LoadedKept disk f loaded
 
 -- a front of a file was loaded: it is empty, or the text of a legal history
 abbrev pub LoadsFront : List ℕ → Option Loaded → Type 0
@@ -116,6 +195,41 @@ abbrev pub ReportsOpenFault : OpenFault → List ℕ → Type 0
 ReportsOpenFault (Journal e) file = ⊤
 ReportsOpenFault (History f) file = ReportsLoadFault f (recovered file)
 ReportsOpenFault Foreign file = IsForeign file
+
+-- it is never opened: it is some other file, or more would be dropped than a batch can have
+abbrev pub MayNotOpen : List ℕ → Type 0
+MayNotOpen file = IsForeign file ⊎ (most_batch < dropped_count file)
+
+-- An error of the journal at opening has a cause: of a read or a write, or when `own` says.
+pub record HasOpenCause (read write : Type 0) (own : Own) (e : OpenFault) : Type 0 where
+  pub failed : e ≡ Journal Failed → read
+  pub no_space : e ≡ Journal NoSpace → write
+  pub full : e ≡ Journal FullFile → own.full
+  pub too_long : e ≡ Journal TooLong → own.too_long
+  pub torn_too_long : e ≡ Journal TornTooLong → own.torn_too_long
+
+-- the file is judged unless a read fails, memory runs out, or the file is too long
+abbrev pub JudgesUnless : {D : Type 0} → Disk D → D → OpenFault → Type 0
+JudgesUnless disk d e =
+    IsTrue disk.is_honest
+    → HasOpenCause (disk.reads_fail d) ⊥ (record { full = 2 ^ 62 < length (disk.seen d); too_long = ⊥; torn_too_long = ⊥ }) e
+
+-- it is repaired unless the disk fails, memory runs out, or too much would be dropped
+abbrev pub RepairsUnless : {D : Type 0} → Disk D → D → D → OpenFault → Type 0
+RepairsUnless disk old new e =
+    let fault = disk.faults old < disk.faults new in
+    IsTrue disk.is_honest
+    → HasOpenCause fault fault (record { full = ⊥; too_long = ⊥; torn_too_long = most_batch < dropped_count (disk.seen old) }) e
+
+-- it is opened unless one of these comes
+abbrev pub LoadsUnless : {D : Type 0} → Disk D → D → D → OpenFault → Type 0
+LoadsUnless disk old new e =
+    let fault = disk.faults old < disk.faults new in
+    IsTrue disk.is_honest → HasOpenCause (disk.reads_fail old ⊎ fault) fault (record {
+      full = 2 ^ 62 < length (disk.seen old);
+      too_long = ⊥;
+      torn_too_long = most_batch < dropped_count (disk.seen old);
+    }) e
 
 -- the file was judged, and is left as it was
 abbrev pub IsOfFile : OpenFault → Type 0

@@ -1,13 +1,12 @@
 //! A history that begins again, from a checkpoint, in a new file.
 
-ghost use Rattle.std.specs.Prelude.{◌≡◌, ◌⊎◌, ◌<◌, ◌^◌, [], true, ℕ, List, Some, IsTrue, IsErrOf, IfOk, OnOk, OnErr, length};
-ghost use Rattle.stm_events.specs.declared.event.Event.{Event as AnyEvent};
+ghost use Rattle.std.specs.Prelude.{◌≡◌, [], true, Some, IsTrue, IfOk, OnOk, OnErr};
 ghost use Rattle.stm_history.specs.HistoryText.{start_text};
 ghost use Rattle.stm_history.specs.Judgement.{AreShortLines, StartFits};
-ghost use Rattle.stm_history.specs.Starts.{Start, written_start};
-ghost use Rattle.stm_journal.specs.Device.{Only, LeavesOnly};
-ghost use Rattle.stm_journal.specs.NewFile.{written_bytes, MayFail};
-ghost use Rattle.stm_durable.specs.Durable.{KeepsHistory};
+ghost use Rattle.stm_history.specs.Starts.{written_start};
+ghost use Rattle.stm_journal.specs.Disk.{Shows, HasLength, IsOnDisk};
+ghost use Rattle.stm_journal.specs.NewFile.{written_bytes};
+ghost use Rattle.stm_durable.specs.Durable.{KeepsAny, KeepsHistory, LeavesOldOrAll, IsOldOrAll, RefusalKeeps, BeginsUnless};
 
 use crate::measured::MeasuredFile;
 use crate::recording::HistoryFile;
@@ -24,21 +23,12 @@ fn write_new<D: Device + Drop>(
     table: &Table,
     checkpoint: &Checkpoint,
 ) -> Result<(D, usize), JournalError>
-    requires empty { IsTrue D.is_honest
-        → written_bytes D.is_honest (D.seen file.device) file.len file.pending.items ≡ Some [] }
-    ensures text { IsTrue D.is_honest → IfOk result (λ r. D.seen r.0
-        ≡ start_text (written_start table.now (Some checkpoint.now))) }
-    ensures len { IsTrue D.is_honest → IfOk result (λ r. r.1 ≡ length (D.seen r.0)) }
-    ensures durable { IsTrue D.is_honest → IfOk result (λ r. Only (D.seen r.0) (D.may_leave r.0)) }
-    ensures short { IsTrue D.is_honest → OnOk result
-        (AreShortLines (start_text (written_start table.now (Some checkpoint.now)))) }
-    ensures too_long { IsTrue D.is_honest → IsErrOf result JournalError.TooLong
-        → AreShortLines (start_text (written_start table.now (Some checkpoint.now))) → ⊥ }
-    ensures failed { IsTrue D.is_honest → IsErrOf result JournalError.Failed → MayFail D.faults }
-    ensures no_space { IsTrue D.is_honest → IsErrOf result JournalError.NoSpace → MayFail D.faults }
-    ensures full { IsTrue D.is_honest → IsErrOf result JournalError.Full
-        → 2 ^ 62 < length (start_text (written_start table.now (Some checkpoint.now))) }
-    ensures torn_too_long { IsTrue D.is_honest → IsErrOf result JournalError.TornTooLong → ⊥ }
+    requires empty { IsTrue D.disk.is_honest → written_bytes D.disk file.device file.len file.pending.items ≡ Some [] }
+    ensures text { IfOk result (λ r. Shows D.disk r.0 (start_text (written_start table.now (Some checkpoint.now)))) }
+    ensures len { IfOk result (λ r. HasLength D.disk r.0 r.1) }
+    ensures durable { IfOk result (λ r. IsOnDisk D.disk r.0) }
+    ensures short { IsTrue D.disk.is_honest → OnOk result (AreShortLines (start_text (written_start table.now (Some checkpoint.now)))) }
+    ensures fault { BeginsUnless D.disk (written_start table.now (Some checkpoint.now)) result }
 {
     let mut measured = MeasuredFile {
         file,
@@ -70,44 +60,20 @@ impl<D: Replace + Drop> HistoryFile<D> {
         table: &Table,
         checkpoint: &Checkpoint,
     ) -> Result<(), JournalError>
-        requires kept { IsTrue D.is_honest → (start : Start) × (H : List AnyEvent)
-            × KeepsHistory D.seen D.may_leave self.old.journal.device self.old.journal.sync self.old.journal.len
-            self.old.begun start H }
+        requires kept { KeepsAny D.disk self.old }
         requires fit { StartFits (written_start table.now (Some checkpoint.now)) }
-        ensures begins { IsTrue D.is_honest → OnOk result
-            (KeepsHistory D.seen D.may_leave self.new.journal.device self.new.journal.sync self.new.journal.len
-            true (written_start table.now (Some checkpoint.now)) []) }
+        ensures begins { OnOk result (KeepsHistory D.disk self.new (written_start table.now (Some checkpoint.now)) []) }
         ensures begun { OnOk result (self.new.begun ≡ true) }
+        ensures unbegun { OnErr result (self.new.begun ≡ self.old.begun) }
         ensures sync { self.new.journal.sync ≡ self.old.journal.sync }
         // No line is longer than a line of a history may be.
-        ensures short { IsTrue D.is_honest → OnOk result
-            (AreShortLines (start_text (written_start table.now (Some checkpoint.now)))) }
-        // A crash at any moment of the call leaves what it might have left before, or the whole new file.
-        ensures any_moment { IsTrue D.is_honest → LeavesOnly D.moment D.left_since
-            self.old.journal.device self.new.journal.device
-            (λ c. D.may_leave self.old.journal.device c
-            ⊎ (c ≡ start_text (written_start table.now (Some checkpoint.now)))) }
-        // After an error the file is also one of these.
-        ensures left { IsTrue D.is_honest → OnErr result
-            ((D.seen self.new.journal.device ≡ D.seen self.old.journal.device)
-            ⊎ (D.seen self.new.journal.device ≡ start_text (written_start table.now (Some checkpoint.now)))) }
-        ensures unbegun { OnErr result (self.new.begun ≡ self.old.begun) }
-        // What is refused leaves the history as it was, and more can be recorded after it.
-        ensures refused { IsTrue D.is_honest
-            → IsErrOf result JournalError.TooLong ⊎ IsErrOf result JournalError.Full
-            → (start : Start) (H : List AnyEvent)
-            → KeepsHistory D.seen D.may_leave self.old.journal.device self.old.journal.sync self.old.journal.len
-            self.old.begun start H
-            → KeepsHistory D.seen D.may_leave self.new.journal.device self.new.journal.sync self.new.journal.len
-            self.new.begun start H }
-        ensures too_long { IsTrue D.is_honest → IsErrOf result JournalError.TooLong
-            → AreShortLines (start_text (written_start table.now (Some checkpoint.now))) → ⊥ }
-        // It doesn't give up by itself.
-        ensures failed { IsTrue D.is_honest → IsErrOf result JournalError.Failed → MayFail D.faults }
-        ensures no_space { IsTrue D.is_honest → IsErrOf result JournalError.NoSpace → MayFail D.faults }
-        ensures full { IsTrue D.is_honest → IsErrOf result JournalError.Full
-            → 2 ^ 62 < length (start_text (written_start table.now (Some checkpoint.now))) }
-        ensures torn_too_long { IsTrue D.is_honest → IsErrOf result JournalError.TornTooLong → ⊥ }
+        ensures short { IsTrue D.disk.is_honest → OnOk result (AreShortLines (start_text (written_start table.now (Some checkpoint.now)))) }
+        // A crash at any moment of the call leaves what it might have left before, or the whole new file; after an error the file is
+        // the one or the other.
+        ensures any_moment { LeavesOldOrAll D.disk self.old self.new (start_text (written_start table.now (Some checkpoint.now))) }
+        ensures left { OnErr result (IsOldOrAll D.disk self.old self.new (start_text (written_start table.now (Some checkpoint.now)))) }
+        ensures refused { RefusalKeeps D.disk self.old self.new result }
+        ensures fault { BeginsUnless D.disk (written_start table.now (Some checkpoint.now)) result }
     {
         let file = self.journal.new_file(alloc)?;
         let (device, len) = write_new(alloc, file, table, checkpoint)?;

@@ -33,12 +33,12 @@ pub(crate) struct MeasuredFile<D: Device> {
     pub file: NewFile<D>,
     pub line: Option<usize>,
     ghost measured: { (text : List ℕ)
-        → written_bytes D.is_honest (D.seen file.device) file.len file.pending.items ≡ Some text
+        → written_bytes D.disk file.device file.len file.pending.items ≡ Some text
         → line ≡ last_line_after (Some 0) text },
 }
 
 impl<D: Device> Write for MeasuredFile<D> {
-    ghost contents = { λ f. written_bytes D.is_honest (D.seen f.file.device) f.file.len f.file.pending.items };
+    ghost contents = { λ f. written_bytes D.disk f.file.device f.file.len f.file.pending.items };
 
     fn write(&mut self, buf: &[u8]) -> io::Result<usize> {
         let count = self.file.write(buf)?;

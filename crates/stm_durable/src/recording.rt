@@ -1,12 +1,11 @@
 //! Events, recorded in a file.
 
-ghost use Rattle.std.specs.Prelude.{◌≡◌, ◌++◌, ◌+◌, ◌<◌, ◌≤◌, ◌^◌, true, false, List, IsTrue, length, OnOk, OnErr, IfOk, IfErr, IsErr, IsErrOf};
-ghost use Rattle.stm_events.specs.declared.event.Event.{Event as AnyEvent};
+ghost use Rattle.std.specs.Prelude.{◌≡◌, ◌++◌, ◌+◌, ◌<◌, ◌≤◌, ◌^◌, true, IsTrue, length, OnOk, IfOk, IfErr};
 ghost use Rattle.stm_history.specs.Judgement.{AreEvents};
-ghost use Rattle.stm_journal.specs.Device.{LeavesOnly};
+ghost use Rattle.stm_journal.specs.Disk.{Shows, CrashLeaves, FailsOnlyIf};
 ghost use Rattle.stm_journal.specs.Journal.{IsAtRest, MayLeave, most_batch};
 ghost use Rattle.stm_journal.specs.Text.{IsWhole};
-ghost use Rattle.stm_durable.specs.Durable.{lent_start, batch_text, batch_sync, KeepsHistory, FitLines, LeavesHistory};
+ghost use Rattle.stm_durable.specs.Durable.{lent_start, batch_text, batch_sync, KeepsSome, FitLines, Records, RefusesLongEvents, LeavesAtAnyMoment, RecordsUnless};
 
 use std::alloc::Global;
 use stm_events::Event;
@@ -69,28 +68,22 @@ fn add_batch<D: Device>(
     begun: bool,
     batch: &[u8],
 ) -> Result<(), JournalError>
-    requires at_rest { IsTrue D.is_honest
-        → IsAtRest D.seen D.may_leave journal.old.device journal.old.sync journal.old.len }
+    requires at_rest { IsAtRest D.disk journal.old }
     requires lines { IsWhole batch.now }
     requires room { length batch.now ≤ most_batch }
-    ensures added { IsTrue D.is_honest
-        → OnOk result (D.seen journal.new.device ≡ D.seen journal.old.device ++ batch.now) }
-    ensures at_rest { IsTrue D.is_honest
-        → OnOk result (IsAtRest D.seen D.may_leave journal.new.device journal.old.sync journal.new.len) }
+    ensures added { OnOk result (Shows D.disk journal.new.device (D.disk.seen journal.old.device ++ batch.now)) }
+    ensures at_rest { OnOk result (IsAtRest D.disk journal.new) }
     ensures sync { journal.new.sync ≡ journal.old.sync }
-    ensures any_moment { IsTrue D.is_honest → LeavesOnly D.moment D.left_since journal.old.device journal.new.device
-        (MayLeave (batch_sync journal.old.sync begun) D.fills_with_zeros (D.seen journal.old.device) batch.now) }
-    ensures left { IsTrue D.is_honest
-        → MayLeave (batch_sync journal.old.sync begun) D.fills_with_zeros (D.seen journal.old.device) batch.now
-        (D.seen journal.new.device) }
-    ensures failed { IsTrue D.is_honest → IsErrOf result JournalError.Failed
-        → D.faults journal.old.device < D.faults journal.new.device }
-    ensures no_space { IsTrue D.is_honest → IsErrOf result JournalError.NoSpace
-        → D.faults journal.old.device < D.faults journal.new.device }
-    ensures full { IsTrue D.is_honest → IsErrOf result JournalError.Full
-        → 2 ^ 62 < length (D.seen journal.old.device) + length batch.now }
-    ensures too_long { IsTrue D.is_honest → IsErrOf result JournalError.TooLong → ⊥ }
-    ensures torn_too_long { IsTrue D.is_honest → IsErrOf result JournalError.TornTooLong → ⊥ }
+    ensures any_moment { CrashLeaves D.disk journal.old.device journal.new.device
+        (MayLeave (batch_sync journal.old.sync begun) D.disk.fills_with_zeros (D.disk.seen journal.old.device) batch.now) }
+    ensures left { IsTrue D.disk.is_honest
+        → MayLeave (batch_sync journal.old.sync begun) D.disk.fills_with_zeros (D.disk.seen journal.old.device) batch.now
+        (D.disk.seen journal.new.device) }
+    ensures fault { FailsOnlyIf D.disk journal.old.device journal.new.device (record {
+      full = 2 ^ 62 < length (D.disk.seen journal.old.device) + length batch.now;
+      too_long = ⊥;
+      torn_too_long = ⊥;
+    }) result }
 {
     let sync = journal.sync;
     journal.sync = batch_sync(sync, begun);
@@ -112,45 +105,17 @@ impl<D: Device> HistoryFile<D> {
         checkpoint: Option<&Checkpoint>,
         events: &[Event],
     ) -> Result<(), JournalError>
-        requires kept { IsTrue D.is_honest → (H : List AnyEvent)
-            × KeepsHistory D.seen D.may_leave self.old.journal.device self.old.journal.sync self.old.journal.len
-            self.old.begun (lent_start table.now checkpoint) H }
+        requires kept { KeepsSome D.disk self.old (lent_start table.now checkpoint) }
         requires fit { FitLines (lent_start table.now checkpoint) events.now }
-        ensures recorded { IsTrue D.is_honest → OnOk result ((H : List AnyEvent)
-            → KeepsHistory D.seen D.may_leave self.old.journal.device self.old.journal.sync self.old.journal.len
-            self.old.begun (lent_start table.now checkpoint.entry) H
-            → KeepsHistory D.seen D.may_leave self.new.journal.device self.new.journal.sync self.new.journal.len
-            true (lent_start table.now checkpoint.entry) (H ++ events.now)) }
+        ensures recorded { OnOk result (Records D.disk self.old self.new (lent_start table.now checkpoint.entry) events.now) }
         ensures begun { OnOk result (self.new.begun ≡ true) }
         ensures sync { self.new.journal.sync ≡ self.old.journal.sync }
         // The lines that were recorded are no longer than a line of a history may be.
         ensures short { OnOk result (AreEvents (lent_start table.now checkpoint.entry).format table.now events.now) }
-        // A batch that is too long is refused before anything is written.
-        ensures refused { most_batch < length (batch_text self.old.begun (lent_start table.now checkpoint.entry) events.now)
-            → IsErr result × (self.new ≡ self.old) }
-        ensures too_long { IsTrue D.is_honest → IsErrOf result JournalError.TooLong
-            → most_batch < length (batch_text self.old.begun (lent_start table.now checkpoint.entry) events.now) }
-        // A crash at any moment of the call leaves the history from before it, and of these events what the sync mode promises.
-        ensures any_moment { IsTrue D.is_honest → (H : List AnyEvent)
-            → KeepsHistory D.seen D.may_leave self.old.journal.device self.old.journal.sync self.old.journal.len
-            self.old.begun (lent_start table.now checkpoint.entry) H
-            → LeavesOnly D.moment D.left_since self.old.journal.device self.new.journal.device
-            (LeavesHistory self.old.journal.sync D.fills_with_zeros self.old.begun (lent_start table.now checkpoint.entry) H events.now) }
-        // After an error the file is also one of these.
-        ensures left { IsTrue D.is_honest → (H : List AnyEvent)
-            → KeepsHistory D.seen D.may_leave self.old.journal.device self.old.journal.sync self.old.journal.len
-            self.old.begun (lent_start table.now checkpoint.entry) H
-            → LeavesHistory self.old.journal.sync D.fills_with_zeros self.old.begun (lent_start table.now checkpoint.entry) H events.now
-            (D.seen self.new.journal.device) }
-        // It doesn't give up by itself.
-        ensures failed { IsTrue D.is_honest → IsErrOf result JournalError.Failed
-            → D.faults self.old.journal.device < D.faults self.new.journal.device }
-        ensures no_space { IsTrue D.is_honest → IsErrOf result JournalError.NoSpace
-            → D.faults self.old.journal.device < D.faults self.new.journal.device }
-        ensures full { IsTrue D.is_honest → IsErrOf result JournalError.Full
-            → 2 ^ 62 < length (D.seen self.old.journal.device)
-            + length (batch_text self.old.begun (lent_start table.now checkpoint.entry) events.now) }
-        ensures torn_too_long { IsTrue D.is_honest → IsErrOf result JournalError.TornTooLong → ⊥ }
+        ensures refused { RefusesLongEvents self.old self.new (lent_start table.now checkpoint.entry) events.now result }
+        // A crash at any moment, and an error, leave the history from before, and of these events what the sync mode promises.
+        ensures any_moment { LeavesAtAnyMoment D.disk self.old self.new (lent_start table.now checkpoint.entry) events.now }
+        ensures fault { RecordsUnless D.disk self.old self.new (lent_start table.now checkpoint.entry) events.now result }
     {
         let batch = match batch_of(alloc, self.begun, table, checkpoint, events) {
             Ok(batch) => batch,

@@ -1,17 +1,17 @@
 //! A file of a history, opened again.
 
-ghost use Rattle.std.specs.Prelude.{◌≡◌, ◌⊎◌, ◌≤◌, ◌<◌, ◌≢◌, ◌^◌, ℕ, List, IsTrue, IfOk, IfErr, IfSome, MatchResult, length, take, get_or};
+ghost use Rattle.std.specs.Prelude.{◌≡◌, ◌⊎◌, ◌≤◌, ◌<◌, IsTrue, IfOk, IfErr, IfSome, MatchResult, take};
 ghost use Rattle.stm_events.specs.Laws.{SubmittedAreWellTyped};
 ghost use Rattle.stm_events.specs.SlowDesk.{state_from};
 ghost use Rattle.stm_events.specs.States.{IsLegalFrom};
 ghost use Rattle.stm_history.specs.Loading.{HasText, ReportsLoadFault, loaded_start};
 ghost use Rattle.stm_history.specs.Starts.{BlocksAreOfText};
-ghost use Rattle.stm_journal.specs.Device.{LeavesOnly, HasReadCause};
-ghost use Rattle.stm_journal.specs.Journal.{HasSameLines, most_batch};
-ghost use Rattle.stm_journal.specs.Text.{whole_count, recovered, dropped_count};
+ghost use Rattle.stm_journal.specs.Disk.{IsSettled, Reaches, FailsOnlyByReads};
+ghost use Rattle.stm_journal.specs.Journal.{HasFound, LeavesSameLines, ShowsSameLines, most_batch};
+ghost use Rattle.stm_journal.specs.Text.{recovered, dropped_count};
 ghost use Rattle.stm_machine.specs.Checkpoints.{MayStart, start_of};
 ghost use Rattle.stm_machine.specs.Machine.{IsAt};
-ghost use Rattle.stm_durable.specs.Durable.{HasLoaded, LoadsFront, ReportsOpenFault, IsOfFile, IsForeign};
+ghost use Rattle.stm_durable.specs.Durable.{HasLoaded, LoadsFront, ReportsOpenFault, IsOfFile, IsForeign, MayNotOpen, JudgesUnless, RepairsUnless, LoadsUnless};
 
 use crate::recording::HistoryFile;
 use std::alloc::Global;
@@ -45,7 +45,7 @@ fn load_front<D: Device>(
     device: &D,
     len: usize,
 ) -> Result<Option<Loaded>, LoadFault>
-    requires { IsTrue D.is_honest → len ≤ length (D.seen device.now) }
+    requires { Reaches D.disk device.now len }
     ensures start { IfOk result (λ o. IfSome o (λ h. MayStart h.table h.checkpoint)) }
     ensures legal { IfOk result (λ o. IfSome o (λ h.
         IsLegalFrom (start_of h.table h.checkpoint) h.events.items)) }
@@ -54,9 +54,8 @@ fn load_front<D: Device>(
     ensures lines { IfOk result (λ o. IfSome o (λ h. HasText (loaded_start h) h.events.items)) }
     ensures typed { IfOk result (λ o. IfSome o (λ h. SubmittedAreWellTyped h.events.items)) }
     ensures blocks { IfOk result (λ o. IfSome o (λ h. IfSome h.checkpoint (BlocksAreOfText h.table))) }
-    ensures text { IsTrue D.is_honest → IfOk result (λ o. LoadsFront (take len (D.seen device.now)) o) }
-    ensures fault { IsTrue D.is_honest
-        → IfErr result (λ e. ReportsLoadFault e (take len (D.seen device.now))) }
+    ensures text { IsTrue D.disk.is_honest → IfOk result (LoadsFront (take len (D.disk.seen device.now))) }
+    ensures fault { IsTrue D.disk.is_honest → IfErr result (λ e. ReportsLoadFault e (take len (D.disk.seen device.now))) }
 {
     if len == 0 {
         return Ok(None);
@@ -70,11 +69,10 @@ fn load_front<D: Device>(
 
 /// Whether the file is some other one.
 fn is_foreign<D: Device>(device: &D, found: Found) -> Result<bool, JournalError>
-    requires kept { IsTrue D.is_honest → found.kept ≡ whole_count 0 (D.seen device.now) }
-    requires dropped { IsTrue D.is_honest → found.dropped ≡ dropped_count (D.seen device.now) }
-    ensures yes { IsTrue D.is_honest → IfOk result (λ b. IsTrue b → IsForeign (D.seen device.now)) }
-    ensures no { IsTrue D.is_honest → IfOk result (λ b. IsForeign (D.seen device.now) → IsTrue b) }
-    ensures cause { IsTrue D.is_honest → HasReadCause (D.reads_fail device.now) result }
+    requires { HasFound D.disk device.now found }
+    ensures yes { IsTrue D.disk.is_honest → IfOk result (λ b. IsTrue b → IsForeign (D.disk.seen device.now)) }
+    ensures no { IsTrue D.disk.is_honest → IfOk result (λ b. IsForeign (D.disk.seen device.now) → IsTrue b) }
+    ensures fault { FailsOnlyByReads D.disk device.now result }
 {
     if found.kept > 0 || found.dropped < 2 {
         return Ok(false);
@@ -90,8 +88,7 @@ fn judge<D: Device>(
     seed: Seed,
     device: &D,
 ) -> Result<(Found, Option<Loaded>), OpenFault>
-    ensures kept { IsTrue D.is_honest → IfOk result (λ r. r.0.kept ≡ whole_count 0 (D.seen device.now)) }
-    ensures dropped { IsTrue D.is_honest → IfOk result (λ r. r.0.dropped ≡ dropped_count (D.seen device.now)) }
+    ensures found { IfOk result (λ r. HasFound D.disk device.now r.0) }
     ensures start { IfOk result (λ r. IfSome r.1 (λ h. MayStart h.table h.checkpoint)) }
     ensures legal { IfOk result (λ r. IfSome r.1 (λ h.
         IsLegalFrom (start_of h.table h.checkpoint) h.events.items)) }
@@ -100,16 +97,10 @@ fn judge<D: Device>(
     ensures lines { IfOk result (λ r. IfSome r.1 (λ h. HasText (loaded_start h) h.events.items)) }
     ensures typed { IfOk result (λ r. IfSome r.1 (λ h. SubmittedAreWellTyped h.events.items)) }
     ensures blocks { IfOk result (λ r. IfSome r.1 (λ h. IfSome h.checkpoint (BlocksAreOfText h.table))) }
-    ensures text { IsTrue D.is_honest → IfOk result (λ r. LoadsFront (recovered (D.seen device.now)) r.1) }
-    ensures own { IsTrue D.is_honest → IfOk result (λ _. IsForeign (D.seen device.now) → ⊥) }
-    ensures reported { IsTrue D.is_honest → IfErr result (λ e. ReportsOpenFault e (D.seen device.now)) }
-    ensures failed { IsTrue D.is_honest → IfErr result (λ e. e ≡ OpenFault.Journal JournalError.Failed
-        → D.reads_fail device.now) }
-    ensures no_space { IsTrue D.is_honest → IfErr result (λ e. e ≢ OpenFault.Journal JournalError.NoSpace) }
-    ensures full { IsTrue D.is_honest → IfErr result (λ e. e ≡ OpenFault.Journal JournalError.Full
-        → 2 ^ 62 < length (D.seen device.now)) }
-    ensures too_long { IsTrue D.is_honest → IfErr result (λ e. e ≢ OpenFault.Journal JournalError.TooLong) }
-    ensures torn { IsTrue D.is_honest → IfErr result (λ e. e ≢ OpenFault.Journal JournalError.TornTooLong) }
+    ensures text { IsTrue D.disk.is_honest → IfOk result (λ r. LoadsFront (recovered (D.disk.seen device.now)) r.1) }
+    ensures own { IsTrue D.disk.is_honest → IfOk result (λ _. IsForeign (D.disk.seen device.now) → ⊥) }
+    ensures reported { IsTrue D.disk.is_honest → IfErr result (λ e. ReportsOpenFault e (D.disk.seen device.now)) }
+    ensures fault { IfErr result (JudgesUnless D.disk device.now) }
 {
     let found = match inspect(device) {
         Ok(found) => found,
@@ -133,32 +124,20 @@ fn repaired<D: Device>(
     found: Found,
     loaded: Option<Loaded>,
 ) -> Result<Opened<D>, (D, OpenFault)>
-    requires kept { IsTrue D.is_honest → found.kept ≡ whole_count 0 (D.seen device) }
-    requires dropped { IsTrue D.is_honest → found.dropped ≡ dropped_count (D.seen device) }
-    requires text { IsTrue D.is_honest → LoadsFront (recovered (D.seen device)) loaded }
+    requires found { HasFound D.disk device found }
+    requires text { IsTrue D.disk.is_honest → LoadsFront (recovered (D.disk.seen device)) loaded }
     ensures loaded { IfOk result (λ r. r.loaded ≡ loaded) }
     ensures found { IfOk result (λ r. r.found ≡ found) }
     ensures sync { IfOk result (λ r. r.file.journal.sync ≡ sync) }
-    ensures reported { IfErr result (λ e. ReportsOpenFault e.1 (D.seen device)) }
+    ensures reported { IfErr result (λ e. ReportsOpenFault e.1 (D.disk.seen device)) }
     ensures repair { IfErr result (λ e. IsOfFile e.1 → ⊥) }
-    ensures kept { IsTrue D.is_honest → IfOk result (λ r. HasLoaded D.seen D.may_leave
-        r.file.journal.device r.file.journal.sync r.file.journal.len r.file.begun loaded) }
-    ensures refused { IsTrue D.is_honest → most_batch < dropped_count (D.seen device)
+    ensures kept { IfOk result (λ r. IsSettled D.disk device → HasLoaded D.disk r.file loaded) }
+    ensures refused { IsTrue D.disk.is_honest → most_batch < dropped_count (D.disk.seen device)
         → MatchResult result (λ _. ⊥) (λ e. e.0 ≡ device) }
-    ensures any_moment { IsTrue D.is_honest → MatchResult result
-        (λ r. LeavesOnly D.moment D.left_since device r.file.journal.device
-        (λ c. D.may_leave device c ⊎ HasSameLines (D.seen device) c))
-        (λ e. LeavesOnly D.moment D.left_since device e.0
-        (λ c. D.may_leave device c ⊎ HasSameLines (D.seen device) c)) }
-    ensures left { IsTrue D.is_honest → IfErr result (λ e. HasSameLines (D.seen device) (D.seen e.0)) }
-    ensures failed { IsTrue D.is_honest → IfErr result (λ e. e.1 ≡ OpenFault.Journal JournalError.Failed
-        → D.faults device < D.faults e.0) }
-    ensures no_space { IsTrue D.is_honest → IfErr result (λ e. e.1 ≡ OpenFault.Journal JournalError.NoSpace
-        → D.faults device < D.faults e.0) }
-    ensures full { IsTrue D.is_honest → IfErr result (λ e. e.1 ≢ OpenFault.Journal JournalError.Full) }
-    ensures too_long { IsTrue D.is_honest → IfErr result (λ e. e.1 ≢ OpenFault.Journal JournalError.TooLong) }
-    ensures torn { IsTrue D.is_honest → IfErr result (λ e. e.1 ≡ OpenFault.Journal JournalError.TornTooLong
-        → most_batch < dropped_count (D.seen device)) }
+    ensures any_moment { IsSettled D.disk device → MatchResult result
+        (λ r. LeavesSameLines D.disk device r.file.journal.device) (λ e. LeavesSameLines D.disk device e.0) }
+    ensures left { IfErr result (λ e. ShowsSameLines D.disk device e.0) }
+    ensures fault { IfErr result (λ e. RepairsUnless D.disk device e.0 e.1) }
 {
     match repair(&mut device, found) {
         Ok(()) => {
@@ -180,7 +159,8 @@ fn repaired<D: Device>(
 }
 
 /// Opens a file that a crash may have left: loads the history whose text its whole lines are, and cuts what comes after them.
-/// A crash may come at any moment of it. The names of variables are looked up under the seed.
+/// A crash may come at any moment of it. After a sync that failed, settle the device first. The names of variables are looked up
+/// under the seed.
 ///
 /// It judges before it cuts, and the first of these is the error: the disk, memory or the file's length; another file; the
 /// first error of its lines, or their format; a torn end of more than 1 MiB. An error returns the device, and the file is as it was,
@@ -202,36 +182,19 @@ pub fn open_history<D: Device>(
     ensures typed { IfOk result (λ r. IfSome r.loaded (λ h. SubmittedAreWellTyped h.events.items)) }
     ensures blocks { IfOk result (λ r. IfSome r.loaded (λ h. IfSome h.checkpoint (BlocksAreOfText h.table))) }
     // Its text is the file's whole lines, and the file then has exactly this text.
-    ensures loaded { IsTrue D.is_honest → IfOk result (λ r. LoadsFront (recovered (D.seen device)) r.loaded) }
-    ensures kept { IsTrue D.is_honest → IfOk result (λ r. HasLoaded D.seen D.may_leave
-        r.file.journal.device r.file.journal.sync r.file.journal.len r.file.begun r.loaded) }
+    ensures loaded { IsTrue D.disk.is_honest → IfOk result (λ r. LoadsFront (recovered (D.disk.seen device)) r.loaded) }
+    ensures kept { IfOk result (λ r. IsSettled D.disk device → HasLoaded D.disk r.file r.loaded) }
     ensures sync { IfOk result (λ r. r.file.journal.sync ≡ sync) }
-    ensures dropped { IsTrue D.is_honest → IfOk result (λ r. r.found.dropped ≡ dropped_count (D.seen device)) }
-    // Otherwise the first error is reported.
-    ensures reported { IsTrue D.is_honest → IfErr result (λ e. ReportsOpenFault e.1 (D.seen device)) }
-    // Another file is never opened, and what was judged is left as it was.
-    ensures foreign { IsTrue D.is_honest → IsForeign (D.seen device) → MatchResult result (λ _. ⊥) (λ e. e.0 ≡ device) }
+    ensures dropped { IsTrue D.disk.is_honest → IfOk result (λ r. r.found.dropped ≡ dropped_count (D.disk.seen device)) }
+    // Otherwise the first error is reported. Another file is never opened, and what was judged is left as it was.
+    ensures reported { IsTrue D.disk.is_honest → IfErr result (λ e. ReportsOpenFault e.1 (D.disk.seen device)) }
     ensures unchanged { IfErr result (λ e. IsOfFile e.1 → e.0 ≡ device) }
-    ensures refused { IsTrue D.is_honest → most_batch < dropped_count (D.seen device)
-        → MatchResult result (λ _. ⊥) (λ e. e.0 ≡ device) }
-    // A crash at any moment leaves what it might have left before the call, or the same lines.
-    ensures any_moment { IsTrue D.is_honest → MatchResult result
-        (λ r. LeavesOnly D.moment D.left_since device r.file.journal.device
-        (λ c. D.may_leave device c ⊎ HasSameLines (D.seen device) c))
-        (λ e. LeavesOnly D.moment D.left_since device e.0
-        (λ c. D.may_leave device c ⊎ HasSameLines (D.seen device) c)) }
-    // Also after an error the file stands for the same lines.
-    ensures left { IsTrue D.is_honest → IfErr result (λ e. HasSameLines (D.seen device) (D.seen e.0)) }
-    // It doesn't give up by itself.
-    ensures failed { IsTrue D.is_honest → IfErr result (λ e. e.1 ≡ OpenFault.Journal JournalError.Failed
-        → D.reads_fail device ⊎ (D.faults device < D.faults e.0)) }
-    ensures no_space { IsTrue D.is_honest → IfErr result (λ e. e.1 ≡ OpenFault.Journal JournalError.NoSpace
-        → D.faults device < D.faults e.0) }
-    ensures full { IsTrue D.is_honest → IfErr result (λ e. e.1 ≡ OpenFault.Journal JournalError.Full
-        → 2 ^ 62 < length (D.seen device)) }
-    ensures too_long { IsTrue D.is_honest → IfErr result (λ e. e.1 ≢ OpenFault.Journal JournalError.TooLong) }
-    ensures torn_too_long { IsTrue D.is_honest → IfErr result (λ e. e.1 ≡ OpenFault.Journal JournalError.TornTooLong
-        → most_batch < dropped_count (D.seen device)) }
+    ensures refused { IsTrue D.disk.is_honest → MayNotOpen (D.disk.seen device) → MatchResult result (λ _. ⊥) (λ e. e.0 ≡ device) }
+    // A crash at any moment, and an error, leave what a crash might have left before the call, or the same lines.
+    ensures any_moment { IsSettled D.disk device → MatchResult result
+        (λ r. LeavesSameLines D.disk device r.file.journal.device) (λ e. LeavesSameLines D.disk device e.0) }
+    ensures left { IfErr result (λ e. ShowsSameLines D.disk device e.0) }
+    ensures fault { IfErr result (λ e. LoadsUnless D.disk device e.0 e.1) }
 {
     match judge(alloc, seed, &device) {
         Ok((found, loaded)) => repaired(device, sync, found, loaded),

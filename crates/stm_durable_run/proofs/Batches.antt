@@ -5,9 +5,10 @@ use Rattle.stm_store.specs.Tables.{Declared}
 use Rattle.stm_history.specs.Starts.{Start}
 use Rattle.stm_events.specs.declared.event.Event.{Event}
 use Rattle.stm_journal.specs.declared.sync_mode.SyncMode.{SyncMode}
-use Rattle.stm_journal.specs.Device.{LeavesOnly}
+use Rattle.stm_journal.specs.Disk.{Disk, LeavesOnly}
 use Rattle.stm_journal.proofs.Moments.{joined, weaker}
-use Rattle.stm_durable.specs.Durable.{AreFit, FitLines, KeepsHistory, LeavesHistory}
+use Rattle.stm_durable.specs.Durable.{AreFit, FitLines, HistoryKept, LeavesHistory}
+use Rattle.stm_durable.specs.declared.recording.HistoryFile.{HistoryFile}
 use Rattle.stm_durable.proofs.Crashes.{stays}
 use Rattle.stm_durable_run.specs.Committing.{LeavesBatches}
 
@@ -60,9 +61,9 @@ module _ (sync : SyncMode) (zeros : Bool) (start : Start) (history : List Event)
     left = subst (λ (hs : List Event). LeavesHistory sync zeros true start hs h.batch c) (append_assoc history first h.recorded) h.left;
   }
 
-module _ {D : Type 0} (moment : D → ℕ) (left_since : D → ℕ → List ℕ → Type 0) (sync : SyncMode) (zeros : Bool) (start : Start) (history : List Event) where
+module _ {D : Type 0} (disk : Disk D) (sync : SyncMode) (zeros : Bool) (start : Start) (history : List Event) where
   abbrev Run : D → D → (List ℕ → Type 0) → Type 0
-  Run = LeavesOnly moment left_since
+  Run = LeavesOnly disk
 
   abbrev Batches : List Event → List ℕ → Type 0
   Batches = LeavesBatches sync zeros start history
@@ -70,42 +71,42 @@ module _ {D : Type 0} (moment : D → ℕ) (left_since : D → ℕ → List ℕ 
   -- one batch
   pub batch_run : (begun : Bool) (es : List Event) (old new : D) → begun ≡ true → Run old new (LeavesHistory sync zeros begun start history es) → Run old new (Batches es)
   batch_run begun es old new b run =
-      weaker moment left_since old new (LeavesHistory sync zeros begun start history es) (Batches es) run (λ c h. one_batch sync zeros start history begun es c b h)
+      weaker disk old new (LeavesHistory sync zeros begun start history es) (Batches es) run (λ c h. one_batch sync zeros start history begun es c b h)
 
   -- the first half, after a batch that was refused
   pub first_run : (es first rest : List Event) (old one two : D) (same : SyncMode) → same ≡ sync → es ≡ first ++ rest → Run old one (Batches es)
       → Run one two (LeavesBatches same zeros start history first) → Run old two (Batches es)
   first_run es first rest old one two same s e before run =
-      joined moment left_since old one two (Batches es) (LeavesBatches same zeros start history first) (Batches es) before run (λ c h. h)
+      joined disk old one two (Batches es) (LeavesBatches same zeros start history first) (Batches es) before run (λ c h. h)
       (λ c h. in_first sync zeros start history es first rest c e (subst (λ (m : SyncMode). LeavesBatches m zeros start history first c) s h))
 
   -- the second half
   pub rest_run : (es first rest : List Event) (old one two : D) (same : SyncMode) → same ≡ sync → es ≡ first ++ rest → Run old one (Batches es)
       → Run one two (LeavesBatches same zeros start (history ++ first) rest) → Run old two (Batches es)
   rest_run es first rest old one two same s e before run =
-      joined moment left_since old one two (Batches es) (LeavesBatches same zeros start (history ++ first) rest) (Batches es) before run (λ c h. h)
+      joined disk old one two (Batches es) (LeavesBatches same zeros start (history ++ first) rest) (Batches es) before run (λ c h. h)
       (λ c h. in_rest sync zeros start history es first rest c e (subst (λ (m : SyncMode). LeavesBatches m zeros start (history ++ first) rest c) s h))
 
   -- the first batch of a file, and then the others
   pub begun_run : (begun : Bool) (es : List Event) (old one two : D) (same : SyncMode) → same ≡ sync → Run old one (LeavesHistory sync zeros begun start history [])
       → Run one two (LeavesBatches same zeros start history es) → Run old two (λ c. LeavesHistory sync zeros begun start history [] c ⊎ Batches es c)
   begun_run begun es old one two same s before run =
-      joined moment left_since old one two (LeavesHistory sync zeros begun start history []) (LeavesBatches same zeros start history es)
+      joined disk old one two (LeavesHistory sync zeros begun start history []) (LeavesBatches same zeros start history es)
       (λ c. LeavesHistory sync zeros begun start history [] c ⊎ Batches es c) before run (λ c h. inl h)
       (λ c h. inr (subst (λ (m : SyncMode). LeavesBatches m zeros start history es c) s h))
 
   pub head_run : (begun : Bool) (es : List Event) (old one : D) → Run old one (LeavesHistory sync zeros begun start history [])
       → Run old one (λ c. LeavesHistory sync zeros begun start history [] c ⊎ Batches es c)
   head_run begun es old one run =
-      weaker moment left_since old one (LeavesHistory sync zeros begun start history []) (λ c. LeavesHistory sync zeros begun start history [] c ⊎ Batches es c) run (λ c h. inl h)
+      weaker disk old one (LeavesHistory sync zeros begun start history []) (λ c. LeavesHistory sync zeros begun start history [] c ⊎ Batches es c) run (λ c h. inl h)
 
 -- ---- what is kept
 -- nothing is recorded
-pub nothing_run : {D : Type 0} (seen : D → List ℕ) (may_leave : D → List ℕ → Type 0) (moment : D → ℕ) (left_since : D → ℕ → List ℕ → Type 0) (old : D) (sync : SyncMode) (len : ℕ) (zeros begun : Bool)
-    (start : Start) (history es : List Event) → begun ≡ true → KeepsHistory seen may_leave old sync len begun start history
-    → ((c : List ℕ) → left_since old (moment old) c → may_leave old c) → LeavesOnly moment left_since old old (LeavesBatches sync zeros start history es)
-nothing_run seen may_leave moment left_since old sync len zeros begun start history es b keeps now =
-    batch_run moment left_since sync zeros start history begun es old old b (stays seen may_leave moment left_since old sync len zeros begun start history es keeps now)
+pub nothing_run : {D : Type 0} (disk : Disk D) (f : HistoryFile D) (start : Start) (history es : List Event) → f.begun ≡ true → HistoryKept disk f start history
+    → ((c : List ℕ) → disk.left_since f.journal.device (disk.moment f.journal.device) c → disk.may_leave f.journal.device c)
+    → LeavesOnly disk f.journal.device f.journal.device (LeavesBatches f.journal.sync disk.fills_with_zeros start history es)
+nothing_run disk f start history es b keeps now =
+    batch_run disk f.journal.sync disk.fills_with_zeros start history f.begun es f.journal.device f.journal.device b (stays disk f start history es keeps now)
 
 pub as_begun : {E : Type 0} (r : Result Unit E) (P : Bool → Type 0) (b : Bool) → OnOk r (b ≡ true) → OnOk r (P true) → OnOk r (P b)
 as_begun (Ok x) P b e p = subst P (sym e) p

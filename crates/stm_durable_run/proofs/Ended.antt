@@ -10,9 +10,10 @@ use Rattle.stm_history.specs.Starts.{Start, written_start}
 use Rattle.stm_machine.specs.Checkpoints.{CheckpointView}
 use Rattle.stm_history.specs.declared.files.loading.Loaded.{Loaded}
 use Rattle.stm_journal.specs.declared.sync_mode.SyncMode.{SyncMode}
-use Rattle.stm_journal.specs.Device.{LeavesOnly}
+use Rattle.stm_journal.specs.Disk.{Disk, LeavesOnly}
 use Rattle.stm_journal.proofs.Moments.{weaker}
-use Rattle.stm_durable.specs.Durable.{KeepsHistory, HasLoaded}
+use Rattle.stm_durable.specs.Durable.{HistoryKept, LoadedKept}
+use Rattle.stm_durable.specs.declared.recording.HistoryFile.{HistoryFile}
 use Rattle.stm_event_lines.specs.Fits.{WhatFitsTable}
 use Rattle.stm_events.specs.declared.event.Event.{Event}
 use Rattle.stm_events.specs.declared.event.What.{What}
@@ -33,20 +34,18 @@ use Rattle.stm_run.specs.LineCheckpoints.{states_after, answers_by}
 use Rattle.stm_run.proofs.EventsOfConsole.{grows_not}
 use Rattle.stm_durable_run.specs.declared.fault.DurableFault.{DurableFault}
 use Rattle.stm_durable_run.specs.declared.fault.DurableFault.TheVariants.{Run, Journal}
-use Rattle.stm_durable_run.specs.DurableRun.{resumed_console, KeepsConsole, IsNoJournalFault, HasCommitted, LeavesBetween, CoversAnswers}
+use Rattle.stm_durable_run.specs.DurableRun.{resumed_console, KeepsConsole, ConsoleKept, IsNoJournalFault, HasCommitted, LeavesBetween, CoversAnswers}
 use Rattle.stm_durable_run.specs.NewEvents.{AreTexts, MayBeginRun}
 use Rattle.stm_durable_run.specs.Committing.{HasFinished, HasFailed, LeavesRun}
 use Rattle.stm_durable_run.proofs.Committing.{answers_append}
 use Rattle.stm_durable_run.proofs.RecordedEvents.{between_none, between_still}
 
 -- ---- the beginning
-pub loaded_kept : {D : Type 0} (seen : D → List ℕ) (may_leave : D → List ℕ → Type 0) (device : D) (sync : SyncMode) (len : ℕ) (begun : Bool) (limit : ℕ) (loaded : Option Loaded)
-    → HasLoaded seen may_leave device sync len begun loaded → KeepsConsole seen may_leave device sync len begun (resumed_console limit loaded)
+pub loaded_kept : {D : Type 0} (disk : Disk D) (f : HistoryFile D) (limit : ℕ) (loaded : Option Loaded)
+    → LoadedKept disk f loaded → ConsoleKept disk f (resumed_console limit loaded)
 unfolding initial_console
-loaded_kept seen may_leave device sync len begun limit None h =
-    record { history = subst (λ (b : Bool). KeepsHistory seen may_leave device sync len b (written_start [] None) []) (sym h.0) (h.1 (written_start [] None)); begun_if_open = h.0 }
-loaded_kept seen may_leave device sync len begun limit (Some l) h =
-    record { history = subst (λ (b : Bool). KeepsHistory seen may_leave device sync len b (loaded_start l) l.events.items) (sym h.0) h.1; begun_if_open = h.0 }
+loaded_kept disk f limit None h = record { history = h.1 (written_start [] None); begun_if_open = h.0 }
+loaded_kept disk f limit (Some l) h = record { history = h.1; begun_if_open = h.0 }
 
 written_table : (table : List Declared) (o : Option CheckpointView) → (written_start table o).table ≡ table
 written_table table None = refl
@@ -106,15 +105,15 @@ prefix_more every s lines answered others written e p =
 whole_prefix : (text : List ℕ) → IsPrefixOf text text
 whole_prefix text = ([], sym (append-nil text))
 
-module _ {D : Type 0} (honest : Bool) (seen : D → List ℕ) (may_leave : D → List ℕ → Type 0) (device : D) (sync was : SyncMode) (same : sync ≡ was) (len : ℕ) (begun : Bool) (zeros : Bool) (every : ℕ) (s : Console) (input old new : Option (List ℕ)) where
+module _ {D : Type 0} (disk : Disk D) (f : HistoryFile D) (was : SyncMode) (same : f.journal.sync ≡ was) (every : ℕ) (s : Console) (input old new : Option (List ℕ)) where
   abbrev K : Console → Type 0
-  K t = IsTrue honest → KeepsConsole seen may_leave device sync len begun t
+  K t = KeepsConsole disk f t
 
   abbrev Finished : List ℕ → Type 0
   Finished bytes = HasFinished K every s (lines_of bytes) old new
 
   abbrev Failed : DurableFault → List ℕ → Type 0
-  Failed e bytes = HasFailed honest was zeros (may_leave device) K every s (lines_of bytes) old new e
+  Failed e bytes = HasFailed disk.is_honest was disk.fills_with_zeros (disk.may_leave f.journal.device) K every s (lines_of bytes) old new e
 
   pub all_answered : (r : Result Unit DurableFault) → OnOk r (IfSome input Finished) → OnOk r (IfSome input (λ bytes. Appends old new (answers_by every s (lines_of bytes))))
   all_answered (Err e) h = tt
@@ -124,16 +123,16 @@ module _ {D : Type 0} (honest : Bool) (seen : D → List ℕ) (may_leave : D →
       by None h = tt
       by (Some i) h = h.appended
 
-  pub all_kept : IsTrue honest → (r : Result Unit DurableFault) → OnOk r (IfSome input Finished) → OnOk r (IfSome input (λ bytes. KeepsConsole seen may_leave device sync len begun (states_after every s (lines_of bytes))))
-  all_kept real (Err e) h = tt
-  all_kept real (Ok x) h = by input h
+  pub all_kept : (r : Result Unit DurableFault) → OnOk r (IfSome input Finished) → OnOk r (IfSome input (λ bytes. KeepsConsole disk f (states_after every s (lines_of bytes))))
+  all_kept (Err e) h = tt
+  all_kept (Ok x) h = by input h
     where
-      by : (i : Option (List ℕ)) → IfSome i Finished → IfSome i (λ bytes. KeepsConsole seen may_leave device sync len begun (states_after every s (lines_of bytes)))
+      by : (i : Option (List ℕ)) → IfSome i Finished → IfSome i (λ bytes. KeepsConsole disk f (states_after every s (lines_of bytes)))
       by None h = tt
-      by (Some i) h = h.kept real
+      by (Some i) h = h.kept
 
   part_of : (e : DurableFault) (bytes : List ℕ) → Failed e bytes → (front : List ℕ) × IsPrefixOf front (answers_by every s (lines_of bytes)) × Appends old new front
-  part_of (Run f) bytes h = (h.written, prefix_more every s (lines_of bytes) h.answered h.others h.written h.parts h.front, h.appended)
+  part_of (Run x) bytes h = (h.written, prefix_more every s (lines_of bytes) h.answered h.others h.written h.parts h.front, h.appended)
   part_of (Journal e) bytes h =
       let text = answers_by every s h.answered in
       (text, prefix_more every s (lines_of bytes) h.answered h.others text h.parts (whole_prefix text), h.appended)
@@ -147,18 +146,18 @@ module _ {D : Type 0} (honest : Bool) (seen : D → List ℕ) (may_leave : D →
       by (Some i) h = part_of e i h
 
   abbrev Committed : List ℕ → Type 0
-  Committed bytes = (written : List ℕ) × Appends old new written × HasCommitted seen may_leave device sync len begun every s (lines_of bytes) written
+  Committed bytes = (written : List ℕ) × Appends old new written × HasCommitted disk f every s (lines_of bytes) written
 
-  finished_is : IsTrue honest → (bytes : List ℕ) → Finished bytes → Committed bytes
+  finished_is : IsTrue disk.is_honest → (bytes : List ℕ) → Finished bytes → Committed bytes
   finished_is real bytes h =
       let text = answers_by every s (lines_of bytes) in
       (text, h.appended, record { answered = lines_of bytes; others = []; parts = sym (append-nil (lines_of bytes)); front = whole_prefix text; kept = h.kept real })
 
-  stopped_is : IsTrue honest → (f : DurableFault) → IsNoJournalFault {A = Unit} (Err f) → (bytes : List ℕ) → Failed f bytes → Committed bytes
-  stopped_is real (Run f) free bytes h = (h.written, h.appended, record { answered = h.answered; others = h.others; parts = h.parts; front = h.front; kept = h.kept real })
+  stopped_is : IsTrue disk.is_honest → (e : DurableFault) → IsNoJournalFault {A = Unit} (Err e) → (bytes : List ℕ) → Failed e bytes → Committed bytes
+  stopped_is real (Run x) free bytes h = (h.written, h.appended, record { answered = h.answered; others = h.others; parts = h.parts; front = h.front; kept = h.kept real })
   stopped_is real (Journal e) free bytes h = absurd free
 
-  pub is_committed : IsTrue honest → (r : Result Unit DurableFault) → IsNoJournalFault r → OnOk r (IfSome input Finished) → IfErr r (λ e. IfSome input (Failed e)) → IfSome input Committed
+  pub is_committed : IsTrue disk.is_honest → (r : Result Unit DurableFault) → IsNoJournalFault r → OnOk r (IfSome input Finished) → IfErr r (λ e. IfSome input (Failed e)) → IfSome input Committed
   is_committed real (Ok x) free h g = by input h
     where
       by : (i : Option (List ℕ)) → IfSome i Finished → IfSome i Committed
@@ -172,7 +171,7 @@ module _ {D : Type 0} (honest : Bool) (seen : D → List ℕ) (may_leave : D →
 
   -- ---- a crash afterwards
   abbrev Covered : List ℕ → Type 0
-  Covered bytes = (written : List ℕ) × Appends old new written × ((c : List ℕ) → may_leave device c → CoversAnswers was zeros every s (lines_of bytes) written c)
+  Covered bytes = (written : List ℕ) × Appends old new written × ((c : List ℕ) → disk.may_leave f.journal.device c → CoversAnswers was disk.fills_with_zeros every s (lines_of bytes) written c)
 
   committed_covers : (bytes : List ℕ) → Committed bytes → Covered bytes
   committed_covers bytes h =
@@ -188,16 +187,16 @@ module _ {D : Type 0} (honest : Bool) (seen : D → List ℕ) (may_leave : D →
           reached = [];
           unreached = m.others;
           parts_reached = refl;
-          left = subst (λ (ls : List (List ℕ)). LeavesBetween was zeros t (states_after every s ls) c) (sym (append-nil m.answered))
-              (subst (λ (mode : SyncMode). LeavesBetween mode zeros t t c) same (between_none seen may_leave device sync len begun zeros t t (grows_not t) m.kept c left));
+          left = subst (λ (ls : List (List ℕ)). LeavesBetween was disk.fills_with_zeros t (states_after every s ls) c) (sym (append-nil m.answered))
+              (subst (λ (mode : SyncMode). LeavesBetween mode disk.fills_with_zeros t t c) same (between_none disk f t t (grows_not t) m.kept c left));
         },
       )
 
-  failed_covers : IsTrue honest → (e : DurableFault) (bytes : List ℕ) → Failed e bytes → Covered bytes
-  failed_covers real (Run f) bytes h = committed_covers bytes (stopped_is real (Run f) tt bytes h)
+  failed_covers : IsTrue disk.is_honest → (e : DurableFault) (bytes : List ℕ) → Failed e bytes → Covered bytes
+  failed_covers real (Run x) bytes h = committed_covers bytes (stopped_is real (Run x) tt bytes h)
   failed_covers real (Journal e) bytes h = (answers_by every s h.answered, h.appended, h.covered real)
 
-  pub is_covered : IsTrue honest → (r : Result Unit DurableFault) → OnOk r (IfSome input Finished) → IfErr r (λ e. IfSome input (Failed e)) → IfSome input Covered
+  pub is_covered : IsTrue disk.is_honest → (r : Result Unit DurableFault) → OnOk r (IfSome input Finished) → IfErr r (λ e. IfSome input (Failed e)) → IfSome input Covered
   is_covered real (Ok x) h g = by input h
     where
       by : (i : Option (List ℕ)) → IfSome i Finished → IfSome i Covered
@@ -210,10 +209,10 @@ module _ {D : Type 0} (honest : Bool) (seen : D → List ℕ) (may_leave : D →
       by (Some i) h = failed_covers real e i h
 
 -- a crash at any moment
-pub leaves_input : {D : Type 0} (moment : D → ℕ) (left_since : D → ℕ → List ℕ → Type 0) (old new : D) (sync : SyncMode) (zeros : Bool) (every : ℕ) (s : Console) (input : Option (List ℕ))
-    → LeavesOnly moment left_since old new (LeavesRun sync zeros every s input) → IfSome input (λ bytes. LeavesOnly moment left_since old new (CoversAnswers sync zeros every s (lines_of bytes) []))
-leaves_input moment left_since old new sync zeros every s None h = tt
-leaves_input moment left_since old new sync zeros every s (Some i) h = h
+pub leaves_input : {D : Type 0} (disk : Disk D) (old new : D) (sync : SyncMode) (zeros : Bool) (every : ℕ) (s : Console) (input : Option (List ℕ))
+    → LeavesOnly disk old new (LeavesRun sync zeros every s input) → IfSome input (λ bytes. LeavesOnly disk old new (CoversAnswers sync zeros every s (lines_of bytes) []))
+leaves_input disk old new sync zeros every s None h = tt
+leaves_input disk old new sync zeros every s (Some i) h = h
 
 -- ---- a run that didn't begin
 module _ (every : ℕ) (s : Console) (lines : List (List ℕ)) where
@@ -229,21 +228,21 @@ module _ (every : ℕ) (s : Console) (lines : List (List ℕ)) where
     left = h;
   }
 
-  pub committed_still : {D : Type 0} (seen : D → List ℕ) (may_leave : D → List ℕ → Type 0) (device : D) (sync : SyncMode) (len : ℕ) (begun : Bool) (x : Option (List ℕ)) → KeepsConsole seen may_leave device sync len begun s
-      → (written : List ℕ) × Appends x x written × HasCommitted seen may_leave device sync len begun every s lines written
-  committed_still seen may_leave device sync len begun x k = ([], Appends-nil x, record { answered = []; others = lines; parts = refl; front = ([], refl); kept = k })
+  pub committed_still : {D : Type 0} (disk : Disk D) (f : HistoryFile D) (x : Option (List ℕ)) → ConsoleKept disk f s
+      → (written : List ℕ) × Appends x x written × HasCommitted disk f every s lines written
+  committed_still disk f x k = ([], Appends-nil x, record { answered = []; others = lines; parts = refl; front = ([], refl); kept = k })
 
-  pub covered_still : {D : Type 0} (seen : D → List ℕ) (may_leave : D → List ℕ → Type 0) (device : D) (sync : SyncMode) (len : ℕ) (begun zeros : Bool) (x : Option (List ℕ)) → KeepsConsole seen may_leave device sync len begun s
-      → (written : List ℕ) × Appends x x written × ((c : List ℕ) → may_leave device c → CoversAnswers sync zeros every s lines written c)
-  covered_still seen may_leave device sync len begun zeros x k =
-      ([], Appends-nil x, λ c left. covers_still sync zeros c (between_none seen may_leave device sync len begun zeros s s (grows_not s) k c left))
+  pub covered_still : {D : Type 0} (disk : Disk D) (f : HistoryFile D) (x : Option (List ℕ)) → ConsoleKept disk f s
+      → (written : List ℕ) × Appends x x written × ((c : List ℕ) → disk.may_leave f.journal.device c → CoversAnswers f.journal.sync disk.fills_with_zeros every s lines written c)
+  covered_still disk f x k =
+      ([], Appends-nil x, λ c left. covers_still f.journal.sync disk.fills_with_zeros c (between_none disk f s s (grows_not s) k c left))
 
-  pub leaves_still : {D : Type 0} (seen : D → List ℕ) (may_leave : D → List ℕ → Type 0) (moment : D → ℕ) (left_since : D → ℕ → List ℕ → Type 0) (device : D) (sync : SyncMode) (len : ℕ) (begun zeros : Bool)
-      → KeepsConsole seen may_leave device sync len begun s → ((c : List ℕ) → left_since device (moment device) c → may_leave device c)
-      → LeavesOnly moment left_since device device (CoversAnswers sync zeros every s lines [])
-  leaves_still seen may_leave moment left_since device sync len begun zeros k now =
-      weaker moment left_since device device (LeavesBetween sync zeros s s) (CoversAnswers sync zeros every s lines [])
-      (between_still seen may_leave moment left_since device sync len begun zeros s s (grows_not s) k now) (covers_still sync zeros)
+  pub leaves_still : {D : Type 0} (disk : Disk D) (f : HistoryFile D)
+      → ConsoleKept disk f s → ((c : List ℕ) → disk.left_since f.journal.device (disk.moment f.journal.device) c → disk.may_leave f.journal.device c)
+      → LeavesOnly disk f.journal.device f.journal.device (CoversAnswers f.journal.sync disk.fills_with_zeros every s lines [])
+  leaves_still disk f k now =
+      weaker disk f.journal.device f.journal.device (LeavesBetween f.journal.sync disk.fills_with_zeros s s) (CoversAnswers f.journal.sync disk.fills_with_zeros every s lines [])
+      (between_still disk f s s (grows_not s) k now) (covers_still f.journal.sync disk.fills_with_zeros)
 
   pub part_still : (x : Option (List ℕ)) → (front : List ℕ) × IsPrefixOf front (answers_by every s lines) × Appends x x front
   part_still x = ([], (answers_by every s lines, refl), Appends-nil x)

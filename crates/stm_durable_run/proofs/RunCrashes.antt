@@ -1,27 +1,28 @@
 -- What a crash leaves while a run goes on.
 use Rattle.std.proofs.Common.{◌≡◌, ◌⊎◌, inl, inr, ℕ, List, [], Bool, Option, Some, None, subst}
 use Rattle.stm_journal.specs.declared.sync_mode.SyncMode.{SyncMode}
-use Rattle.stm_journal.specs.Device.{LeavesOnly}
+use Rattle.stm_journal.specs.Disk.{Disk, LeavesOnly}
+use Rattle.stm_durable.specs.declared.recording.HistoryFile.{HistoryFile}
 use Rattle.stm_journal.proofs.Moments.{joined, weaker}
 use Rattle.stm_lines.specs.Lines.{lines_of}
 use Rattle.stm_run.specs.declared.console.Console.{Console}
 use Rattle.stm_run.specs.LineCheckpoints.{states_after}
 use Rattle.stm_run.proofs.EventsOfConsole.{grows_not}
-use Rattle.stm_durable_run.specs.DurableRun.{KeepsConsole, LeavesBetween, CoversAnswers}
+use Rattle.stm_durable_run.specs.DurableRun.{ConsoleKept, LeavesBetween, CoversAnswers}
 use Rattle.stm_durable_run.specs.Committing.{IsBehind, LeavesRun}
 use Rattle.stm_durable_run.proofs.Committing.{covers_none}
 use Rattle.stm_durable_run.proofs.Ended.{covers_still}
 use Rattle.stm_durable_run.proofs.RecordedEvents.{between_still}
 use Rattle.stm_durable_run.proofs.Running.{BeginsWith, leaves_run}
 
-module _ {D : Type 0} (moment : D → ℕ) (left_since : D → ℕ → List ℕ → Type 0) (sync : SyncMode) (zeros : Bool) (every : ℕ) (s : Console) where
+module _ {D : Type 0} (disk : Disk D) (sync : SyncMode) (zeros : Bool) (every : ℕ) (s : Console) where
   abbrev Moves : D → D → (List ℕ → Type 0) → Type 0
-  Moves = LeavesOnly moment left_since
+  Moves = LeavesOnly disk
 
   -- a run after another
   pub runs_on : (input : Option (List ℕ)) (old mid new : D) (same : SyncMode) → same ≡ sync → Moves old mid (LeavesRun sync zeros every s input) → Moves mid new (LeavesRun same zeros every s input) → Moves old new (LeavesRun sync zeros every s input)
   runs_on input old mid new same e first next =
-      joined moment left_since old mid new (LeavesRun sync zeros every s input) (LeavesRun same zeros every s input) (LeavesRun sync zeros every s input) first next (λ c h. h)
+      joined disk old mid new (LeavesRun sync zeros every s input) (LeavesRun same zeros every s input) (LeavesRun sync zeros every s input) first next (λ c h. h)
       (λ c h. subst (λ (m : SyncMode). LeavesRun m zeros every s input c) e h)
 
   module _ (K : Console → Type 0) (lines : List (List ℕ)) (x y : Option (List ℕ)) (console : Console) (held : List ℕ) (recorded : ℕ) (a : IsBehind K every s lines x y console held recorded) where
@@ -31,33 +32,37 @@ module _ {D : Type 0} (moment : D → ℕ) (left_since : D → ℕ → List ℕ 
     -- a commit
     pub lines_run : (old new : D) → Moves old new Left → Moves old new (CoversAnswers sync zeros every s lines [])
     lines_run old new run =
-        weaker moment left_since old new Left (CoversAnswers sync zeros every s lines []) run
+        weaker disk old new Left (CoversAnswers sync zeros every s lines []) run
         (covers_none K every s lines x y console held recorded a sync zeros)
 
     -- events alone were recorded
     pub events_run : (old new : D) → Moves old new (LeavesBetween sync zeros (states_after every s a.answered) console) → Moves old new (CoversAnswers sync zeros every s lines [])
-    events_run old new run = lines_run old new (weaker moment left_since old new (LeavesBetween sync zeros (states_after every s a.answered) console) Left run (λ c h. inr h))
+    events_run old new run = lines_run old new (weaker disk old new (LeavesBetween sync zeros (states_after every s a.answered) console) Left run (λ c h. inr h))
 
     -- nothing is recorded
-    pub lines_still : (seen : D → List ℕ) (may_leave : D → List ℕ → Type 0) (device : D) (len : ℕ) (begun : Bool) → KeepsConsole seen may_leave device sync len begun (states_after every s a.answered)
-        → ((c : List ℕ) → left_since device (moment device) c → may_leave device c) → Moves device device (CoversAnswers sync zeros every s lines [])
-    lines_still seen may_leave device len begun k now =
+    pub lines_still : (f : HistoryFile D) → f.journal.sync ≡ sync → disk.fills_with_zeros ≡ zeros → ConsoleKept disk f (states_after every s a.answered)
+        → ((c : List ℕ) → disk.left_since f.journal.device (disk.moment f.journal.device) c → disk.may_leave f.journal.device c)
+        → Moves f.journal.device f.journal.device (CoversAnswers sync zeros every s lines [])
+    lines_still f same filled k now =
         let t = states_after every s a.answered in
-        lines_run device device
-        (weaker moment left_since device device (LeavesBetween sync zeros t t) Left
-        (between_still seen may_leave moment left_since device sync len begun zeros t t (grows_not t) k now) (λ c h. inl h))
+        lines_run f.journal.device f.journal.device
+        (weaker disk f.journal.device f.journal.device (LeavesBetween f.journal.sync disk.fills_with_zeros t t) Left
+        (between_still disk f t t (grows_not t) k now)
+        (λ c h. inl (subst (λ (m : SyncMode). LeavesBetween m zeros t t c) same (subst (λ (z : Bool). LeavesBetween f.journal.sync z t t c) filled h))))
 
   -- the lines are the first of the input
   pub input_run : (lines : List (List ℕ)) (input : Option (List ℕ)) (old new : D) → BeginsWith lines input → Moves old new (CoversAnswers sync zeros every s lines []) → Moves old new (LeavesRun sync zeros every s input)
   input_run lines input old new b run =
-      weaker moment left_since old new (CoversAnswers sync zeros every s lines []) (LeavesRun sync zeros every s input) run (λ c h. leaves_run sync zeros every s lines input c b h)
+      weaker disk old new (CoversAnswers sync zeros every s lines []) (LeavesRun sync zeros every s input) run (λ c h. leaves_run sync zeros every s lines input c b h)
 
   -- before the first line
-  pub run_still : (input : Option (List ℕ)) (seen : D → List ℕ) (may_leave : D → List ℕ → Type 0) (device : D) (len : ℕ) (begun : Bool) → KeepsConsole seen may_leave device sync len begun s
-      → ((c : List ℕ) → left_since device (moment device) c → may_leave device c) → Moves device device (LeavesRun sync zeros every s input)
-  run_still input seen may_leave device len begun k now =
-      weaker moment left_since device device (LeavesBetween sync zeros s s) (LeavesRun sync zeros every s input)
-      (between_still seen may_leave moment left_since device sync len begun zeros s s (grows_not s) k now) (by input)
+  pub run_still : (input : Option (List ℕ)) (f : HistoryFile D) → f.journal.sync ≡ sync → disk.fills_with_zeros ≡ zeros → ConsoleKept disk f s
+      → ((c : List ℕ) → disk.left_since f.journal.device (disk.moment f.journal.device) c → disk.may_leave f.journal.device c)
+      → Moves f.journal.device f.journal.device (LeavesRun sync zeros every s input)
+  run_still input f same filled k now =
+      weaker disk f.journal.device f.journal.device (LeavesBetween f.journal.sync disk.fills_with_zeros s s) (LeavesRun sync zeros every s input)
+      (between_still disk f s s (grows_not s) k now)
+      (λ c h. by input c (subst (λ (m : SyncMode). LeavesBetween m zeros s s c) same (subst (λ (z : Bool). LeavesBetween f.journal.sync z s s c) filled h)))
     where
       by : (i : Option (List ℕ)) (c : List ℕ) → LeavesBetween sync zeros s s c → LeavesRun sync zeros every s i c
       by None c h = tt

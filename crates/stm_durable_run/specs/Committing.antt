@@ -1,11 +1,15 @@
 -- What a run keeps between two lines, and how it goes on.
-use Rattle.std.specs.Prelude.{◌≡◌, ◌≢◌, ℕ, Bool, true, IsTrue, List, [], ◌++◌, length, Option, Some, IfSome}
+use Rattle.std.specs.Prelude.{◌≡◌, ◌≢◌, ◌⊎◌, ℕ, Bool, true, IsTrue, List, [], ◌++◌, length, Option, Some, IfSome}
 use Rattle.std.specs.Io.KnownBytes.{Appends, Consumes}
 use Rattle.stm_terms.specs.Texts.{IsPrefixOf}
 use Rattle.stm_events.specs.declared.event.Event.{Event}
 use Rattle.stm_history.specs.Starts.{Start}
+use Rattle.stm_history.specs.declared.files.loading.Loaded.{Loaded}
+use Rattle.stm_options.specs.declared.options.Options.{Options}
 use Rattle.stm_journal.specs.declared.sync_mode.SyncMode.{SyncMode}
-use Rattle.stm_durable.specs.Durable.{LeavesHistory}
+use Rattle.stm_journal.specs.Disk.{Disk, LeavesOnly}
+use Rattle.stm_durable.specs.Durable.{HistoryKept, LeavesHistory, MayBecome}
+use Rattle.stm_durable.specs.declared.recording.HistoryFile.{HistoryFile}
 use Rattle.stm_lines.specs.Lines.{lines_of, whole_lines_of}
 use Rattle.stm_lines.specs.declared.run_fault.RunFault.TheVariants.{Read}
 use Rattle.stm_run.specs.declared.console.Console.{Console}
@@ -18,7 +22,7 @@ use Rattle.stm_run.specs.Growing.{Grows}
 use Rattle.stm_run.specs.LineCheckpoints.{states_after, answers_by}
 use Rattle.stm_durable_run.specs.declared.fault.DurableFault.{DurableFault}
 use Rattle.stm_durable_run.specs.declared.fault.DurableFault.TheVariants.{Run, Journal}
-use Rattle.stm_durable_run.specs.DurableRun.{CoversAnswers}
+use Rattle.stm_durable_run.specs.DurableRun.{resumed_console, KeepsConsole, HasCommitted, LeavesBetween, CoversAnswers}
 use Rattle.stm_durable_run.specs.NewEvents.{MayBeginRun}
 
 -- What a crash may leave while events are recorded in batches, after a history: that and the batches before, and of one batch what
@@ -156,3 +160,82 @@ abbrev pub WholeLinesAnswered : ℕ → Console → Option (List ℕ) → Option
 WholeLinesAnswered every s input left old new =
     IfSome input (λ bytes. (taken rest : List ℕ) × (bytes ≡ taken ++ rest) × (left ≡ Some rest)
     × Appends old new (answers_by every s (whole_lines_of taken)))
+
+-- ---- on a disk
+
+-- A crash at any moment, while events are recorded as one batch, leaves each history that the file had, with what the mode says of
+-- these.
+abbrev pub LeavesBatchOf : {D : Type 0} → Disk D → HistoryFile D → HistoryFile D → Start → List Event → Type 0
+LeavesBatchOf disk old new start events =
+    IsTrue disk.is_honest → (history : List Event) → HistoryKept disk old start history
+    → LeavesOnly disk old.journal.device new.journal.device (MayBecome disk old start history events)
+
+-- The same, while they are recorded in batches.
+abbrev pub LeavesBatchesOf : {D : Type 0} → Disk D → HistoryFile D → HistoryFile D → Start → List Event → Type 0
+LeavesBatchesOf disk old new start events =
+    IsTrue disk.is_honest → (history : List Event) → HistoryKept disk old start history
+    → LeavesOnly disk old.journal.device new.journal.device
+    (LeavesBatches old.journal.sync disk.fills_with_zeros start history events)
+
+-- A crash at any moment of a commit leaves a file between the committed console and the present one.
+abbrev pub CommitLeaves : {D : Type 0} → Disk D → HistoryFile D → HistoryFile D → Console → ℕ → Type 0
+CommitLeaves disk old new console recorded =
+    IsTrue disk.is_honest → (c : MayCommit (KeepsConsole disk old) console recorded)
+    → LeavesOnly disk old.journal.device new.journal.device
+    (LeavesBetween old.journal.sync disk.fills_with_zeros c.committed console)
+
+-- A crash at any moment, while a new file takes the place of the old one, leaves what the file had, or the lines of the checkpoint.
+abbrev pub BeginningLeaves : {D : Type 0} → Disk D → HistoryFile D → HistoryFile D → Console → Type 0
+BeginningLeaves disk old new console =
+    IsTrue disk.is_honest → (c : MayBeginAnew (KeepsConsole disk old) console)
+    → LeavesOnly disk old.journal.device new.journal.device
+    (λ f. LeavesBetween old.journal.sync disk.fills_with_zeros c.committed c.committed f
+    ⊎ LeavesBetween old.journal.sync disk.fills_with_zeros c.committed console f)
+
+-- how a run over this file stands after a fault
+abbrev pub FailsAfter :
+    {D : Type 0} → Disk D → HistoryFile D → HistoryFile D → ℕ → Console → List (List ℕ) → Option (List ℕ) → Option (List ℕ)
+    → DurableFault → Type 0
+FailsAfter disk file file' every s lines old new e =
+    HasFailed disk.is_honest file.journal.sync disk.fills_with_zeros (disk.may_leave file'.journal.device) (KeepsConsole disk file')
+    every s lines old new e
+
+-- ---- a whole run, if its input is known
+
+-- the answers to these lines, by a run with these options that goes on from what was loaded
+abbrev pub run_answers : Options → Option Loaded → List (List ℕ) → List ℕ
+run_answers options loaded lines = answers_by options.checkpoint_every (resumed_console options.max_events loaded) lines
+
+-- the console after them
+abbrev pub console_after : Options → Option Loaded → List (List ℕ) → Console
+console_after options loaded lines = states_after options.checkpoint_every (resumed_console options.max_events loaded) lines
+
+-- the file has exactly the history of all lines
+abbrev pub KeepsAllLines : {D : Type 0} → Disk D → HistoryFile D → Options → Option Loaded → Option (List ℕ) → Type 0
+KeepsAllLines disk f options loaded input =
+    IfSome input (λ bytes. KeepsConsole disk f (console_after options loaded (lines_of bytes)))
+
+-- it has exactly the history of the lines whose answers were written, between these contents of the writer
+abbrev pub KeepsAnswered :
+    {D : Type 0} → Disk D → HistoryFile D → Options → Option Loaded → Option (List ℕ) → Option (List ℕ) → Option (List ℕ) → Type 0
+KeepsAnswered disk f options loaded input old new =
+    IfSome input (λ bytes. (written : List ℕ) × Appends old new written
+    × HasCommitted disk f options.checkpoint_every (resumed_console options.max_events loaded) (lines_of bytes) written)
+
+-- a crash now leaves a file that covers what was written
+abbrev pub CoversWritten :
+    {D : Type 0} → Disk D → HistoryFile D → HistoryFile D → Options → Option Loaded → Option (List ℕ) → Option (List ℕ)
+    → Option (List ℕ) → Type 0
+CoversWritten disk file file' options loaded input old new =
+    IsTrue disk.is_honest → IfSome input (λ bytes. (written : List ℕ) × Appends old new written
+    × ((c : List ℕ) → disk.may_leave file'.journal.device c
+    → CoversAnswers file.journal.sync disk.fills_with_zeros options.checkpoint_every (resumed_console options.max_events loaded)
+    (lines_of bytes) written c))
+
+-- a crash at any moment of the run leaves the history from before it, and a front of the events of its lines
+abbrev pub RunLeaves : {D : Type 0} → Disk D → HistoryFile D → HistoryFile D → Options → Option Loaded → Option (List ℕ) → Type 0
+RunLeaves disk file file' options loaded input =
+    IsTrue disk.is_honest → IfSome input (λ bytes.
+    LeavesOnly disk file.journal.device file'.journal.device
+    (CoversAnswers file.journal.sync disk.fills_with_zeros options.checkpoint_every (resumed_console options.max_events loaded)
+    (lines_of bytes) []))

@@ -1,14 +1,18 @@
 -- A run whose history is kept in a file.
-use Rattle.std.specs.Prelude.{◌≡◌, ◌⊎◌, ⊤, ℕ, Bool, true, false, List, [], ◌++◌, Option, Some, None, Result, Ok, Err, is_some}
+use Rattle.std.specs.Prelude.{◌≡◌, ◌⊎◌, ⊤, ℕ, Bool, true, false, IsTrue, List, [], ◌++◌, Option, Some, None, Result, Ok, Err, is_some}
 use Rattle.stm_terms.specs.Texts.{IsPrefixOf}
 use Rattle.stm_events.specs.declared.event.Event.{Event}
 use Rattle.stm_events.specs.SlowDesk.{state_from}
 use Rattle.stm_machine.specs.Checkpoints.{start_of}
 use Rattle.stm_history.specs.declared.files.loading.Loaded.{Loaded}
 use Rattle.stm_history.specs.HistoryText.{start_text}
-use Rattle.stm_journal.specs.declared.error.JournalError.TheVariants.{NoMemory}
+use Rattle.stm_journal.specs.declared.error.JournalError.{JournalError}
+use Rattle.stm_journal.specs.declared.error.JournalError.TheVariants.{NoMemory, Failed, NoSpace, TornTooLong}
 use Rattle.stm_journal.specs.declared.sync_mode.SyncMode.{SyncMode}
-use Rattle.stm_durable.specs.Durable.{KeepsHistory, LeavesHistory}
+use Rattle.stm_journal.specs.Disk.{Disk, MayFail, FailsOnlyIfAny}
+use Rattle.stm_journal.specs.Device.{Own}
+use Rattle.stm_durable.specs.Durable.{HistoryKept, LeavesHistory}
+use Rattle.stm_durable.specs.declared.recording.HistoryFile.{HistoryFile}
 use Rattle.stm_lines.specs.RunStatus.{status_of}
 use Rattle.stm_commands.specs.DueTickets.{queue_for}
 use Rattle.stm_run.specs.declared.console.Console.{Console}
@@ -39,24 +43,24 @@ resumed_console limit (Some h) =
 
 -- The file has exactly the history of the console from its last checkpoint on, on the disk if the journal syncs; before the desk is
 -- open it has nothing.
-pub record KeepsConsole
-    {D : Type 0} (seen : D → List ℕ) (may_leave : D → List ℕ → Type 0) (device : D) (sync : SyncMode) (len : ℕ) (begun : Bool)
-    (s : Console) : Type 0 where
-  pub history : KeepsHistory seen may_leave device sync len begun (start_of_console s) (events_of s)
-  pub begun_if_open : begun ≡ is_open s
+pub record ConsoleKept {D : Type 0} (disk : Disk D) (f : HistoryFile D) (s : Console) : Type 0 where
+  pub history : HistoryKept disk f (start_of_console s) (events_of s)
+  pub begun_if_open : f.begun ≡ is_open s
+
+abbrev pub KeepsConsole : {D : Type 0} → Disk D → HistoryFile D → Console → Type 0
+KeepsConsole disk f s = IsTrue disk.is_honest → ConsoleKept disk f s
 
 -- ---- what a run leaves
 
 -- Some of these lines were answered, from the first on: the file has exactly their history, and no more than their answers was
 -- written. After a line that adds an event there is a checkpoint if the history has `every` events.
 pub record HasCommitted
-    {D : Type 0} (seen : D → List ℕ) (may_leave : D → List ℕ → Type 0) (device : D) (sync : SyncMode) (len : ℕ) (begun : Bool)
-    (every : ℕ) (s : Console) (lines : List (List ℕ)) (written : List ℕ) : Type 0 where
+    {D : Type 0} (disk : Disk D) (f : HistoryFile D) (every : ℕ) (s : Console) (lines : List (List ℕ)) (written : List ℕ) : Type 0 where
   pub answered : List (List ℕ)
   pub others : List (List ℕ)
   pub parts : lines ≡ answered ++ others
   pub front : IsPrefixOf written (answers_by every s answered)
-  pub kept : KeepsConsole seen may_leave device sync len begun (states_after every s answered)
+  pub kept : ConsoleKept disk f (states_after every s answered)
 
 -- What a crash may leave after all events of the earlier console were recorded, and while those are recorded that follow up to the
 -- later one, if there is no checkpoint between them: a batch of events was begun after a history that has all events of the
@@ -104,6 +108,23 @@ abbrev pub IsNoJournalFault : {A : Type 0} → Result A DurableFault → Type 0
 IsNoJournalFault (Ok x) = ⊤
 IsNoJournalFault (Err (Run f)) = ⊤
 IsNoJournalFault (Err (Journal e)) = ⊥
+
+-- beside the disk, recording fails if a batch or the file is too long
+abbrev pub long_or_full : Own
+long_or_full = record { full = ⊤; too_long = ⊤; torn_too_long = ⊥ }
+
+-- recording fails only by the disk, for want of memory, or since a batch or the file is too long
+abbrev pub RecordsUnlessDisk : {D T : Type 0} → Disk D → Result T JournalError → Type 0
+RecordsUnlessDisk disk result = FailsOnlyIfAny disk long_or_full result
+
+-- A run's journal gives up only by the disk: on a disk on which no call fails it returns neither of the disk's errors.
+pub record HasRunCause {D : Type 0} (disk : Disk D) (e : DurableFault) : Type 0 where
+  pub failed : e ≡ Journal Failed → MayFail disk
+  pub no_space : e ≡ Journal NoSpace → MayFail disk
+  pub torn_too_long : e ≡ Journal TornTooLong → ⊥
+
+abbrev pub RunsUnlessDisk : {D : Type 0} → Disk D → DurableFault → Type 0
+RunsUnlessDisk disk e = IsTrue disk.is_honest → HasRunCause disk e
 
 -- the exit status after a fault
 abbrev pub durable_status : DurableFault → ℕ

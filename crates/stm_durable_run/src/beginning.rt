@@ -1,10 +1,9 @@
 //! A new file for a console that has made a checkpoint.
 
-ghost use Rattle.std.specs.Prelude.{◌≡◌, ◌⊎◌, Some, IsTrue, OnOk};
-ghost use Rattle.stm_journal.specs.Device.{LeavesOnly};
+ghost use Rattle.std.specs.Prelude.{◌≡◌, Some, OnOk};
 ghost use Rattle.stm_run.specs.declared.console.Console.TheVariants.{Open as IsOpen};
-ghost use Rattle.stm_durable_run.specs.DurableRun.{KeepsConsole, LeavesBetween};
-ghost use Rattle.stm_durable_run.specs.Committing.{MayBeginAnew};
+ghost use Rattle.stm_durable_run.specs.DurableRun.{RecordsUnlessDisk, KeepsConsole};
+ghost use Rattle.stm_durable_run.specs.Committing.{MayBeginAnew, BeginningLeaves};
 ghost use Rattle.stm_durable_run.specs.NewEvents.{MayBeginRun};
 
 use crate::laws::checkpoints_fit;
@@ -21,20 +20,14 @@ fn begin_desk_anew<D: Replace + Drop>(
     desk: &OpenDesk,
     file: &mut HistoryFile<D>,
 ) -> Result<(), JournalError>
-    requires { MayBeginAnew (λ s. IsTrue D.is_honest
-        → KeepsConsole D.seen D.may_leave file.old.journal.device file.old.journal.sync file.old.journal.len file.old.begun s)
+    requires { MayBeginAnew (KeepsConsole D.disk file.old)
         (IsOpen desk.now) }
-    ensures kept { IsTrue D.is_honest → OnOk result
-        (KeepsConsole D.seen D.may_leave file.new.journal.device file.new.journal.sync file.new.journal.len file.new.begun
+    ensures kept { OnOk result (KeepsConsole D.disk file.new
         (IsOpen desk.now)) }
     ensures may_begin { OnOk result (MayBeginRun (IsOpen desk.now)) }
     ensures sync { file.new.journal.sync ≡ file.old.journal.sync }
-    ensures any_moment { IsTrue D.is_honest → (c : MayBeginAnew (λ s. IsTrue D.is_honest
-        → KeepsConsole D.seen D.may_leave file.old.journal.device file.old.journal.sync file.old.journal.len file.old.begun s)
-        (IsOpen desk.now))
-        → LeavesOnly D.moment D.left_since file.old.journal.device file.new.journal.device
-        (λ f. LeavesBetween file.old.journal.sync D.fills_with_zeros c.committed c.committed f
-        ⊎ LeavesBetween file.old.journal.sync D.fills_with_zeros c.committed (IsOpen desk.now) f) }
+    ensures fault { RecordsUnlessDisk D.disk result }
+    ensures any_moment { BeginningLeaves D.disk file.old file.new (IsOpen desk.now) }
 {
     // The history may begin from the checkpoint by this.
     let _history = desk.history();
@@ -55,21 +48,15 @@ pub(crate) fn begin_file_anew<D: Replace + Drop>(
     console: &Console,
     file: &mut HistoryFile<D>,
 ) -> Result<(), JournalError>
-    requires { MayBeginAnew (λ s. IsTrue D.is_honest
-        → KeepsConsole D.seen D.may_leave file.old.journal.device file.old.journal.sync file.old.journal.len file.old.begun s)
+    requires { MayBeginAnew (KeepsConsole D.disk file.old)
         console.now }
-    ensures kept { IsTrue D.is_honest → OnOk result
-        (KeepsConsole D.seen D.may_leave file.new.journal.device file.new.journal.sync file.new.journal.len file.new.begun
+    ensures kept { OnOk result (KeepsConsole D.disk file.new
         console.now) }
     ensures may_begin { OnOk result (MayBeginRun console.now) }
     ensures sync { file.new.journal.sync ≡ file.old.journal.sync }
+    ensures fault { RecordsUnlessDisk D.disk result }
     // A crash at any moment leaves what the file had, or the lines of the checkpoint.
-    ensures any_moment { IsTrue D.is_honest → (c : MayBeginAnew (λ s. IsTrue D.is_honest
-        → KeepsConsole D.seen D.may_leave file.old.journal.device file.old.journal.sync file.old.journal.len file.old.begun s)
-        console.now)
-        → LeavesOnly D.moment D.left_since file.old.journal.device file.new.journal.device
-        (λ f. LeavesBetween file.old.journal.sync D.fills_with_zeros c.committed c.committed f
-        ⊎ LeavesBetween file.old.journal.sync D.fills_with_zeros c.committed console.now f) }
+    ensures any_moment { BeginningLeaves D.disk file.old file.new console.now }
 {
     match console {
         Console::Open(desk) => begin_desk_anew(alloc, desk, file),

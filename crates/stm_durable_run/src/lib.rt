@@ -179,27 +179,11 @@ evaluated 1
     struct ReadOnly;
 
     impl Device for ReadOnly {
-        ghost is_honest = { false };
+        ghost use Rattle.stm_journal.specs.Disk.{claims_nothing, lawful_nothing};
 
-        ghost fills_with_zeros = { false };
+        ghost disk = { claims_nothing };
 
-        ghost seen = { λ _. [] };
-
-        ghost may_leave = { λ _ _. ⊤ };
-
-        ghost moment = { λ _. 0 };
-
-        ghost left_since = { λ _ _ _. ⊤ };
-
-        ghost faults = { λ _. 0 };
-
-        ghost reads_fail = { λ _. ⊤ };
-
-        ghost may_stay = { λ file. tt };
-
-        ghost counts_now = { λ file t c le now. now };
-
-        ghost only_now = { λ file c left. left };
+        ghost lawful = { lawful_nothing };
 
         fn len(&self) -> Result<usize, JournalError> {
             Ok(0)
@@ -207,6 +191,10 @@ evaluated 1
 
         fn read_at(&self, _at: usize, _buffer: &mut [u8]) -> Result<usize, JournalError> {
             Ok(0)
+        }
+
+        fn settle(&mut self) -> Result<(), JournalError> {
+            Ok(())
         }
 
         fn write_at(&mut self, _at: usize, _bytes: &[u8]) -> Result<(), JournalError> {

@@ -1,13 +1,12 @@
 //! The events of a console that its file doesn't have yet, recorded in batches.
 
 ghost use Rattle.std.specs.Prelude.{◌≡◌, ◌⊎◌, ◌++◌, ◌<◌, ◌≤◌, [], true, false, List, IsTrue, MatchBool, length, take, drop, OnOk, IfOk, IsErrOf};
-ghost use Rattle.stm_events.specs.declared.event.Event.{Event as AnyEvent};
-ghost use Rattle.stm_journal.specs.Device.{LeavesOnly};
-ghost use Rattle.stm_durable.specs.Durable.{FitLines, KeepsHistory, LeavesHistory};
+ghost use Rattle.stm_journal.specs.Disk.{LeavesOnly};
+ghost use Rattle.stm_durable.specs.Durable.{FitLines, KeepsSome, KeepsHistory, KeepsEach, Records, LeavesHistory};
 ghost use Rattle.stm_run.specs.declared.console.Console.TheVariants.{Open as IsOpen};
 ghost use Rattle.stm_run.specs.ConsoleState.{events_of, start_of_console};
-ghost use Rattle.stm_durable_run.specs.DurableRun.{KeepsConsole, LeavesBetween};
-ghost use Rattle.stm_durable_run.specs.Committing.{LeavesBatches, MayCommit};
+ghost use Rattle.stm_durable_run.specs.DurableRun.{RecordsUnlessDisk, KeepsConsole};
+ghost use Rattle.stm_durable_run.specs.Committing.{LeavesBatches, LeavesBatchOf, LeavesBatchesOf, CommitLeaves, MayCommit};
 
 use crate::laws::new_events_fit;
 use crate::ranges::are_in_range;
@@ -22,29 +21,21 @@ use stm_run::console::Console;
 const MOST_EVENTS: usize = 4_096;
 
 /// Records events as one batch, after those that the file has.
+#[tactic(auto, using(stm_journal::proofs::Faults::may_fail))]
 fn record_after<D: Device>(
     alloc: Global,
     desk: &OpenDesk,
     events: &[Event],
     file: &mut HistoryFile<D>,
 ) -> Result<(), JournalError>
-    requires kept { IsTrue D.is_honest → (H : List AnyEvent)
-        × KeepsHistory D.seen D.may_leave file.old.journal.device file.old.journal.sync file.old.journal.len
-        file.old.begun (start_of_console (IsOpen desk.now)) H }
+    requires kept { KeepsSome D.disk file.old (start_of_console (IsOpen desk.now)) }
     requires fit { FitLines (start_of_console (IsOpen desk.now)) events.now }
-    ensures recorded { IsTrue D.is_honest → OnOk result ((H : List AnyEvent)
-        → KeepsHistory D.seen D.may_leave file.old.journal.device file.old.journal.sync file.old.journal.len
-        file.old.begun (start_of_console (IsOpen desk.now)) H
-        → KeepsHistory D.seen D.may_leave file.new.journal.device file.new.journal.sync file.new.journal.len
-        true (start_of_console (IsOpen desk.now)) (H ++ events.now)) }
+    ensures recorded { OnOk result (Records D.disk file.old file.new (start_of_console (IsOpen desk.now)) events.now) }
     ensures begun { OnOk result (file.new.begun ≡ true) }
     ensures sync { file.new.journal.sync ≡ file.old.journal.sync }
-    ensures refused { IsTrue D.is_honest → IsErrOf result JournalError.TooLong → file.new ≡ file.old }
-    ensures any_moment { IsTrue D.is_honest → (H : List AnyEvent)
-        → KeepsHistory D.seen D.may_leave file.old.journal.device file.old.journal.sync file.old.journal.len
-        file.old.begun (start_of_console (IsOpen desk.now)) H
-        → LeavesOnly D.moment D.left_since file.old.journal.device file.new.journal.device
-        (LeavesHistory file.old.journal.sync D.fills_with_zeros file.old.begun (start_of_console (IsOpen desk.now)) H events.now) }
+    ensures fault { RecordsUnlessDisk D.disk result }
+    ensures refused { IsTrue D.disk.is_honest → IsErrOf result JournalError.TooLong → file.new ≡ file.old }
+    ensures any_moment { LeavesBatchOf D.disk file.old file.new (start_of_console (IsOpen desk.now)) events.now }
 {
     file.record(alloc, desk.table(), desk.begins_from(), events)
 }
@@ -56,30 +47,17 @@ fn record_batch<D: Device>(
     events: &[Event],
     file: &mut HistoryFile<D>,
 ) -> Result<bool, JournalError>
-    requires kept { IsTrue D.is_honest → (H : List AnyEvent)
-        × KeepsHistory D.seen D.may_leave file.old.journal.device file.old.journal.sync file.old.journal.len
-        file.old.begun (start_of_console (IsOpen desk.now)) H }
-    requires begun { IsTrue D.is_honest → file.old.begun ≡ true }
+    requires kept { KeepsSome D.disk file.old (start_of_console (IsOpen desk.now)) }
+    requires begun { IsTrue D.disk.is_honest → file.old.begun ≡ true }
     requires fit { FitLines (start_of_console (IsOpen desk.now)) events.now }
-    ensures recorded { IsTrue D.is_honest → IfOk result (λ done. MatchBool done
-        ((H : List AnyEvent)
-        → KeepsHistory D.seen D.may_leave file.old.journal.device file.old.journal.sync file.old.journal.len
-        file.old.begun (start_of_console (IsOpen desk.now)) H
-        → KeepsHistory D.seen D.may_leave file.new.journal.device file.new.journal.sync file.new.journal.len
-        file.new.begun (start_of_console (IsOpen desk.now)) (H ++ events.now))
-        ((H : List AnyEvent)
-        → KeepsHistory D.seen D.may_leave file.old.journal.device file.old.journal.sync file.old.journal.len
-        file.old.begun (start_of_console (IsOpen desk.now)) H
-        → KeepsHistory D.seen D.may_leave file.new.journal.device file.new.journal.sync file.new.journal.len
-        file.new.begun (start_of_console (IsOpen desk.now)) H)) }
-    ensures begun { IsTrue D.is_honest → OnOk result (file.new.begun ≡ true) }
+    ensures recorded { IfOk result (λ done. MatchBool done
+        (Records D.disk file.old file.new (start_of_console (IsOpen desk.now)) events.now)
+        (KeepsEach D.disk file.old file.new (start_of_console (IsOpen desk.now)))) }
+    ensures begun { OnOk result (IsTrue D.disk.is_honest → file.new.begun ≡ true) }
     ensures many { IfOk result (λ done. done ≡ false → 1 < length events.now) }
     ensures sync { file.new.journal.sync ≡ file.old.journal.sync }
-    ensures any_moment { IsTrue D.is_honest → (H : List AnyEvent)
-        → KeepsHistory D.seen D.may_leave file.old.journal.device file.old.journal.sync file.old.journal.len
-        file.old.begun (start_of_console (IsOpen desk.now)) H
-        → LeavesOnly D.moment D.left_since file.old.journal.device file.new.journal.device
-        (LeavesBatches file.old.journal.sync D.fills_with_zeros (start_of_console (IsOpen desk.now)) H events.now) }
+    ensures fault { RecordsUnlessDisk D.disk result }
+    ensures any_moment { LeavesBatchesOf D.disk file.old file.new (start_of_console (IsOpen desk.now)) events.now }
 {
     if events.len() > MOST_EVENTS {
         return Ok(false);
@@ -104,23 +82,14 @@ fn record_batches<D: Device>(
     events: &[Event],
     file: &mut HistoryFile<D>,
 ) -> Result<(), JournalError>
-    requires kept { IsTrue D.is_honest → (H : List AnyEvent)
-        × KeepsHistory D.seen D.may_leave file.old.journal.device file.old.journal.sync file.old.journal.len
-        file.old.begun (start_of_console (IsOpen desk.now)) H }
-    requires begun { IsTrue D.is_honest → file.old.begun ≡ true }
+    requires kept { KeepsSome D.disk file.old (start_of_console (IsOpen desk.now)) }
+    requires begun { IsTrue D.disk.is_honest → file.old.begun ≡ true }
     requires fit { FitLines (start_of_console (IsOpen desk.now)) events.now }
-    ensures recorded { IsTrue D.is_honest → OnOk result ((H : List AnyEvent)
-        → KeepsHistory D.seen D.may_leave file.old.journal.device file.old.journal.sync file.old.journal.len
-        file.old.begun (start_of_console (IsOpen desk.now)) H
-        → KeepsHistory D.seen D.may_leave file.new.journal.device file.new.journal.sync file.new.journal.len
-        file.new.begun (start_of_console (IsOpen desk.now)) (H ++ events.now)) }
-    ensures begun { IsTrue D.is_honest → OnOk result (file.new.begun ≡ true) }
+    ensures recorded { OnOk result (Records D.disk file.old file.new (start_of_console (IsOpen desk.now)) events.now) }
+    ensures begun { OnOk result (IsTrue D.disk.is_honest → file.new.begun ≡ true) }
     ensures sync { file.new.journal.sync ≡ file.old.journal.sync }
-    ensures any_moment { IsTrue D.is_honest → (H : List AnyEvent)
-        → KeepsHistory D.seen D.may_leave file.old.journal.device file.old.journal.sync file.old.journal.len
-        file.old.begun (start_of_console (IsOpen desk.now)) H
-        → LeavesOnly D.moment D.left_since file.old.journal.device file.new.journal.device
-        (LeavesBatches file.old.journal.sync D.fills_with_zeros (start_of_console (IsOpen desk.now)) H events.now) }
+    ensures fault { RecordsUnlessDisk D.disk result }
+    ensures any_moment { LeavesBatchesOf D.disk file.old file.new (start_of_console (IsOpen desk.now)) events.now }
 {
     if record_batch(alloc, desk, events, file)? {
         return Ok(());
@@ -136,22 +105,13 @@ fn begin_file<D: Device>(
     desk: &OpenDesk,
     file: &mut HistoryFile<D>,
 ) -> Result<(), JournalError>
-    requires kept { IsTrue D.is_honest → (H : List AnyEvent)
-        × KeepsHistory D.seen D.may_leave file.old.journal.device file.old.journal.sync file.old.journal.len
-        file.old.begun (start_of_console (IsOpen desk.now)) H }
+    requires kept { KeepsSome D.disk file.old (start_of_console (IsOpen desk.now)) }
     requires fit { FitLines (start_of_console (IsOpen desk.now)) [] }
-    ensures kept { IsTrue D.is_honest → OnOk result ((H : List AnyEvent)
-        → KeepsHistory D.seen D.may_leave file.old.journal.device file.old.journal.sync file.old.journal.len
-        file.old.begun (start_of_console (IsOpen desk.now)) H
-        → KeepsHistory D.seen D.may_leave file.new.journal.device file.new.journal.sync file.new.journal.len
-        file.new.begun (start_of_console (IsOpen desk.now)) H) }
+    ensures kept { OnOk result (KeepsEach D.disk file.old file.new (start_of_console (IsOpen desk.now))) }
     ensures begun { OnOk result (file.new.begun ≡ true) }
     ensures sync { file.new.journal.sync ≡ file.old.journal.sync }
-    ensures any_moment { IsTrue D.is_honest → (H : List AnyEvent)
-        → KeepsHistory D.seen D.may_leave file.old.journal.device file.old.journal.sync file.old.journal.len
-        file.old.begun (start_of_console (IsOpen desk.now)) H
-        → LeavesOnly D.moment D.left_since file.old.journal.device file.new.journal.device
-        (LeavesHistory file.old.journal.sync D.fills_with_zeros file.old.begun (start_of_console (IsOpen desk.now)) H []) }
+    ensures fault { RecordsUnlessDisk D.disk result }
+    ensures any_moment { LeavesBatchOf D.disk file.old file.new (start_of_console (IsOpen desk.now)) [] }
 {
     if file.begun {
         Ok(())
@@ -168,21 +128,18 @@ fn record_from<D: Device>(
     file: &mut HistoryFile<D>,
 ) -> Result<usize, JournalError>
     requires within { recorded ≤ length desk.now.desk.history }
-    requires kept { IsTrue D.is_honest
-        → KeepsHistory D.seen D.may_leave file.old.journal.device file.old.journal.sync file.old.journal.len
-        file.old.begun (start_of_console (IsOpen desk.now)) (take recorded desk.now.desk.history) }
+    requires kept { KeepsHistory D.disk file.old (start_of_console (IsOpen desk.now)) (take recorded desk.now.desk.history) }
     requires fit { FitLines (start_of_console (IsOpen desk.now)) (drop recorded desk.now.desk.history) }
     ensures count { IfOk result (λ n. n ≡ length desk.now.desk.history) }
-    ensures recorded { IsTrue D.is_honest → OnOk result
-        (KeepsHistory D.seen D.may_leave file.new.journal.device file.new.journal.sync file.new.journal.len
-        file.new.begun (start_of_console (IsOpen desk.now)) desk.now.desk.history) }
-    ensures begun { IsTrue D.is_honest → OnOk result (file.new.begun ≡ true) }
+    ensures recorded { OnOk result (KeepsHistory D.disk file.new (start_of_console (IsOpen desk.now)) desk.now.desk.history) }
+    ensures begun { OnOk result (IsTrue D.disk.is_honest → file.new.begun ≡ true) }
     ensures sync { file.new.journal.sync ≡ file.old.journal.sync }
+    ensures fault { RecordsUnlessDisk D.disk result }
     // A crash at any moment leaves the history from before, perhaps without the first batch, or with batches of these events.
-    ensures any_moment { IsTrue D.is_honest
-        → LeavesOnly D.moment D.left_since file.old.journal.device file.new.journal.device
-        (λ c. LeavesHistory file.old.journal.sync D.fills_with_zeros file.old.begun (start_of_console (IsOpen desk.now)) (take recorded desk.now.desk.history) [] c
-        ⊎ LeavesBatches file.old.journal.sync D.fills_with_zeros (start_of_console (IsOpen desk.now)) (take recorded desk.now.desk.history) (drop recorded desk.now.desk.history) c) }
+    ensures any_moment { IsTrue D.disk.is_honest
+        → LeavesOnly D.disk file.old.journal.device file.new.journal.device
+        (λ c. LeavesHistory file.old.journal.sync D.disk.fills_with_zeros file.old.begun (start_of_console (IsOpen desk.now)) (take recorded desk.now.desk.history) [] c
+        ⊎ LeavesBatches file.old.journal.sync D.disk.fills_with_zeros (start_of_console (IsOpen desk.now)) (take recorded desk.now.desk.history) (drop recorded desk.now.desk.history) c) }
 {
     let history = desk.history();
     begin_file(alloc, desk, file)?;
@@ -205,19 +162,14 @@ fn record_open<D: Device>(
     recorded: usize,
     file: &mut HistoryFile<D>,
 ) -> Result<usize, JournalError>
-    requires { MayCommit (λ s. IsTrue D.is_honest
-        → KeepsConsole D.seen D.may_leave file.old.journal.device file.old.journal.sync file.old.journal.len file.old.begun s)
+    requires { MayCommit (KeepsConsole D.disk file.old)
         (IsOpen desk.now) recorded }
     ensures count { IfOk result (λ n. n ≡ length desk.now.desk.history) }
-    ensures recorded { IsTrue D.is_honest → OnOk result
-        (KeepsConsole D.seen D.may_leave file.new.journal.device file.new.journal.sync file.new.journal.len file.new.begun
+    ensures recorded { OnOk result (KeepsConsole D.disk file.new
         (IsOpen desk.now)) }
     ensures sync { file.new.journal.sync ≡ file.old.journal.sync }
-    ensures any_moment { IsTrue D.is_honest → (c : MayCommit (λ s. IsTrue D.is_honest
-        → KeepsConsole D.seen D.may_leave file.old.journal.device file.old.journal.sync file.old.journal.len file.old.begun s)
-        (IsOpen desk.now) recorded)
-        → LeavesOnly D.moment D.left_since file.old.journal.device file.new.journal.device
-        (LeavesBetween file.old.journal.sync D.fills_with_zeros c.committed (IsOpen desk.now)) }
+    ensures fault { RecordsUnlessDisk D.disk result }
+    ensures any_moment { CommitLeaves D.disk file.old file.new (IsOpen desk.now) recorded }
 {
     let history = desk.history();
     are_in_range(later_events(history, recorded));
@@ -232,19 +184,14 @@ pub(crate) fn record_new<D: Device>(
     recorded: usize,
     file: &mut HistoryFile<D>,
 ) -> Result<usize, JournalError>
-    requires { MayCommit (λ s. IsTrue D.is_honest
-        → KeepsConsole D.seen D.may_leave file.old.journal.device file.old.journal.sync file.old.journal.len file.old.begun s)
+    requires { MayCommit (KeepsConsole D.disk file.old)
         console.now recorded }
     ensures count { IfOk result (λ n. n ≡ length (events_of console.now)) }
-    ensures recorded { IsTrue D.is_honest → OnOk result
-        (KeepsConsole D.seen D.may_leave file.new.journal.device file.new.journal.sync file.new.journal.len file.new.begun
+    ensures recorded { OnOk result (KeepsConsole D.disk file.new
         console.now) }
     ensures sync { file.new.journal.sync ≡ file.old.journal.sync }
-    ensures any_moment { IsTrue D.is_honest → (c : MayCommit (λ s. IsTrue D.is_honest
-        → KeepsConsole D.seen D.may_leave file.old.journal.device file.old.journal.sync file.old.journal.len file.old.begun s)
-        console.now recorded)
-        → LeavesOnly D.moment D.left_since file.old.journal.device file.new.journal.device
-        (LeavesBetween file.old.journal.sync D.fills_with_zeros c.committed console.now) }
+    ensures fault { RecordsUnlessDisk D.disk result }
+    ensures any_moment { CommitLeaves D.disk file.old file.new console.now recorded }
 {
     match console {
         Console::Declaring { .. } => Ok(recorded),

@@ -7,7 +7,7 @@ ghost use Rattle.std.specs.Prelude.{◌≡◌, ◌≢◌, ◌⊎◌, ◌++◌, �
 ghost use Rattle.std.specs.Io.KnownBytes.{Appends};
 ghost use Rattle.stm_terms.specs.Texts.{IsPrefixOf};
 ghost use Rattle.stm_history.specs.HistoryText.{WritesText};
-ghost use Rattle.stm_journal.specs.Device.{LeavesOnly};
+ghost use Rattle.stm_journal.specs.Disk.{LeavesOnly};
 ghost use Rattle.stm_lines.specs.LineClass.{line_class};
 ghost use Rattle.stm_run.specs.declared.console.Console.{Console as AnyConsole};
 ghost use Rattle.stm_run.specs.Abstraction.{IsStep};
@@ -16,8 +16,8 @@ ghost use Rattle.stm_run.specs.ConsoleState.{table_of, events_of, with_checkpoin
 ghost use Rattle.stm_run.specs.Fitting.{VariablesFit};
 ghost use Rattle.stm_run.specs.Growing.{Grows};
 ghost use Rattle.stm_run.specs.LineCheckpoints.{auto_step, is_streamed, tells_checkpoint};
-ghost use Rattle.stm_durable_run.specs.DurableRun.{KeepsConsole, LeavesBetween, CoversAnswers};
-ghost use Rattle.stm_durable_run.specs.Committing.{MayCommit, MayBeginAnew, IsAfterLines, streamed_text, HasNotWritten, HasFailed};
+ghost use Rattle.stm_durable_run.specs.DurableRun.{RunsUnlessDisk, KeepsConsole, CoversAnswers};
+ghost use Rattle.stm_durable_run.specs.Committing.{MayCommit, MayBeginAnew, IsAfterLines, streamed_text, HasNotWritten, CommitLeaves, BeginningLeaves, FailsAfter};
 ghost use Rattle.stm_durable_run.specs.NewEvents.{MayBeginRun};
 
 use crate::beginning::begin_file_anew;
@@ -118,9 +118,7 @@ impl DurableSession {
         file: &HistoryFile<D>,
         writer: &mut W,
     ) -> Result<(), RunFault>
-        requires { IsTrue D.is_honest
-            → KeepsConsole D.seen D.may_leave file.now.journal.device file.now.journal.sync file.now.journal.len
-            file.now.begun self.old.console }
+        requires { KeepsConsole D.disk file.now self.old.console }
         ensures done { OnOk result (Appends (W.contents writer.old) (W.contents writer.new)
             (string_bytes self.old.held)) }
         ensures none { OnOk result (string_bytes self.new.held ≡ []) }
@@ -149,9 +147,7 @@ impl DurableSession {
         file: &HistoryFile<D>,
         writer: &mut W,
     ) -> Result<(), RunFault>
-        requires { IsTrue D.is_honest
-            → KeepsConsole D.seen D.may_leave file.now.journal.device file.now.journal.sync file.now.journal.len
-            file.now.begun self.now.console }
+        requires { KeepsConsole D.disk file.now self.now.console }
         ensures written { WritesText result (W.contents writer.old) (W.contents writer.new)
             (streamed_text reply self.now.console) }
         ensures fault { IfErr result (λ e. e ≢ RunFault.Read) }
@@ -174,28 +170,19 @@ impl DurableSession {
         file: &mut HistoryFile<D>,
         writer: &mut W,
     ) -> Result<(), DurableFault>
-        requires { MayCommit (λ s. IsTrue D.is_honest
-            → KeepsConsole D.seen D.may_leave file.old.journal.device file.old.journal.sync file.old.journal.len
-            file.old.begun s) self.old.console self.old.recorded }
+        requires { MayCommit (KeepsConsole D.disk file.old) self.old.console self.old.recorded }
         ensures done { OnOk result (Appends (W.contents writer.old) (W.contents writer.new)
             (string_bytes self.old.held)) }
         ensures none { OnOk result (string_bytes self.new.held ≡ []) }
         ensures count { OnOk result (self.new.recorded ≡ length (events_of self.old.console)) }
         ensures console { self.new.console ≡ self.old.console }
         ensures sync { file.new.journal.sync ≡ file.old.journal.sync }
+        ensures cause { IfErr result (RunsUnlessDisk D.disk) }
         // The file has the events, unless that was the fault; then nothing was written.
-        ensures kept { IsTrue D.is_honest → OnOk result
-            (KeepsConsole D.seen D.may_leave file.new.journal.device file.new.journal.sync file.new.journal.len
-            file.new.begun self.old.console) }
+        ensures kept { OnOk result (KeepsConsole D.disk file.new self.old.console) }
         ensures fault { IfErr result (λ e. HasNotWritten e (W.contents writer.old) (W.contents writer.new)
-            (string_bytes self.old.held) (IsTrue D.is_honest
-            → KeepsConsole D.seen D.may_leave file.new.journal.device file.new.journal.sync file.new.journal.len
-            file.new.begun self.old.console)) }
-        ensures any_moment { IsTrue D.is_honest → (c : MayCommit (λ s. IsTrue D.is_honest
-            → KeepsConsole D.seen D.may_leave file.old.journal.device file.old.journal.sync file.old.journal.len
-            file.old.begun s) self.old.console self.old.recorded)
-            → LeavesOnly D.moment D.left_since file.old.journal.device file.new.journal.device
-            (LeavesBetween file.old.journal.sync D.fills_with_zeros c.committed self.old.console) }
+            (string_bytes self.old.held) (KeepsConsole D.disk file.new self.old.console)) }
+        ensures any_moment { CommitLeaves D.disk file.old file.new self.old.console self.old.recorded }
     {
         match record_new(alloc, &self.console, self.recorded, file) {
             Ok(count) => {
@@ -216,27 +203,18 @@ impl DurableSession {
         file: &mut HistoryFile<D>,
         writer: &mut W,
     ) -> Result<(), DurableFault>
-        requires { MayCommit (λ s. IsTrue D.is_honest
-            → KeepsConsole D.seen D.may_leave file.old.journal.device file.old.journal.sync file.old.journal.len
-            file.old.begun s) self.old.console self.old.recorded }
+        requires { MayCommit (KeepsConsole D.disk file.old) self.old.console self.old.recorded }
         ensures done { OnOk result (Appends (W.contents writer.old) (W.contents writer.new)
             (string_bytes self.old.held)) }
         ensures none { OnOk result (string_bytes self.new.held ≡ []) }
         ensures count { OnOk result (self.new.recorded ≡ length (events_of self.old.console)) }
         ensures console { self.new.console ≡ self.old.console }
         ensures sync { file.new.journal.sync ≡ file.old.journal.sync }
-        ensures kept { IsTrue D.is_honest → OnOk result
-            (KeepsConsole D.seen D.may_leave file.new.journal.device file.new.journal.sync file.new.journal.len
-            file.new.begun self.old.console) }
+        ensures cause { IfErr result (RunsUnlessDisk D.disk) }
+        ensures kept { OnOk result (KeepsConsole D.disk file.new self.old.console) }
         ensures fault { IfErr result (λ e. HasNotWritten e (W.contents writer.old) (W.contents writer.new)
-            (string_bytes self.old.held) (IsTrue D.is_honest
-            → KeepsConsole D.seen D.may_leave file.new.journal.device file.new.journal.sync file.new.journal.len
-            file.new.begun self.old.console)) }
-        ensures any_moment { IsTrue D.is_honest → (c : MayCommit (λ s. IsTrue D.is_honest
-            → KeepsConsole D.seen D.may_leave file.old.journal.device file.old.journal.sync file.old.journal.len
-            file.old.begun s) self.old.console self.old.recorded)
-            → LeavesOnly D.moment D.left_since file.old.journal.device file.new.journal.device
-            (LeavesBetween file.old.journal.sync D.fills_with_zeros c.committed self.old.console) }
+            (string_bytes self.old.held) (KeepsConsole D.disk file.new self.old.console)) }
+        ensures any_moment { CommitLeaves D.disk file.old file.new self.old.console self.old.recorded }
     {
         match self.commit(alloc, file, writer) {
             Ok(()) => match flush(writer) {
@@ -255,27 +233,18 @@ impl DurableSession {
         file: &mut HistoryFile<D>,
         writer: &mut W,
     ) -> Result<(), DurableFault>
-        requires { MayCommit (λ s. IsTrue D.is_honest
-            → KeepsConsole D.seen D.may_leave file.old.journal.device file.old.journal.sync file.old.journal.len
-            file.old.begun s) self.old.console self.old.recorded }
+        requires { MayCommit (KeepsConsole D.disk file.old) self.old.console self.old.recorded }
         ensures done { OnOk result (Appends (W.contents writer.old) (W.contents writer.new)
             (string_bytes self.old.held ++ streamed_text reply self.old.console)) }
         ensures none { OnOk result (string_bytes self.new.held ≡ []) }
         ensures count { OnOk result (self.new.recorded ≡ length (events_of self.old.console)) }
         ensures console { self.new.console ≡ self.old.console }
         ensures sync { file.new.journal.sync ≡ file.old.journal.sync }
-        ensures kept { IsTrue D.is_honest → OnOk result
-            (KeepsConsole D.seen D.may_leave file.new.journal.device file.new.journal.sync file.new.journal.len
-            file.new.begun self.old.console) }
+        ensures cause { IfErr result (RunsUnlessDisk D.disk) }
+        ensures kept { OnOk result (KeepsConsole D.disk file.new self.old.console) }
         ensures fault { IfErr result (λ e. HasNotWritten e (W.contents writer.old) (W.contents writer.new)
-            (string_bytes self.old.held ++ streamed_text reply self.old.console) (IsTrue D.is_honest
-            → KeepsConsole D.seen D.may_leave file.new.journal.device file.new.journal.sync file.new.journal.len
-            file.new.begun self.old.console)) }
-        ensures any_moment { IsTrue D.is_honest → (c : MayCommit (λ s. IsTrue D.is_honest
-            → KeepsConsole D.seen D.may_leave file.old.journal.device file.old.journal.sync file.old.journal.len
-            file.old.begun s) self.old.console self.old.recorded)
-            → LeavesOnly D.moment D.left_since file.old.journal.device file.new.journal.device
-            (LeavesBetween file.old.journal.sync D.fills_with_zeros c.committed self.old.console) }
+            (string_bytes self.old.held ++ streamed_text reply self.old.console) (KeepsConsole D.disk file.new self.old.console)) }
+        ensures any_moment { CommitLeaves D.disk file.old file.new self.old.console self.old.recorded }
     {
         match self.commit(alloc, file, writer) {
             Ok(()) => match self.write_streamed(alloc, reply, file, writer) {
@@ -312,9 +281,7 @@ impl DurableSession {
         file: &mut HistoryFile<D>,
         writer: &mut W,
     ) -> Result<(), DurableFault>
-        requires { MayBeginAnew (λ s. IsTrue D.is_honest
-            → KeepsConsole D.seen D.may_leave file.old.journal.device file.old.journal.sync file.old.journal.len
-            file.old.begun s) self.old.console }
+        requires { MayBeginAnew (KeepsConsole D.disk file.old) self.old.console }
         ensures done { OnOk result (Appends (W.contents writer.old) (W.contents writer.new)
             (string_bytes self.old.held)) }
         ensures none { OnOk result (string_bytes self.new.held ≡ []) }
@@ -322,20 +289,12 @@ impl DurableSession {
         ensures may_begin { OnOk result (MayBeginRun self.old.console) }
         ensures console { self.new.console ≡ self.old.console }
         ensures sync { file.new.journal.sync ≡ file.old.journal.sync }
+        ensures cause { IfErr result (RunsUnlessDisk D.disk) }
         // The file has the checkpoint, unless that was the fault; then nothing was written.
-        ensures kept { IsTrue D.is_honest → OnOk result
-            (KeepsConsole D.seen D.may_leave file.new.journal.device file.new.journal.sync file.new.journal.len
-            file.new.begun self.old.console) }
+        ensures kept { OnOk result (KeepsConsole D.disk file.new self.old.console) }
         ensures fault { IfErr result (λ e. HasNotWritten e (W.contents writer.old) (W.contents writer.new)
-            (string_bytes self.old.held) (IsTrue D.is_honest
-            → KeepsConsole D.seen D.may_leave file.new.journal.device file.new.journal.sync file.new.journal.len
-            file.new.begun self.old.console)) }
-        ensures any_moment { IsTrue D.is_honest → (c : MayBeginAnew (λ s. IsTrue D.is_honest
-            → KeepsConsole D.seen D.may_leave file.old.journal.device file.old.journal.sync file.old.journal.len
-            file.old.begun s) self.old.console)
-            → LeavesOnly D.moment D.left_since file.old.journal.device file.new.journal.device
-            (λ f. LeavesBetween file.old.journal.sync D.fills_with_zeros c.committed c.committed f
-            ⊎ LeavesBetween file.old.journal.sync D.fills_with_zeros c.committed self.old.console f) }
+            (string_bytes self.old.held) (KeepsConsole D.disk file.new self.old.console)) }
+        ensures any_moment { BeginningLeaves D.disk file.old file.new self.old.console }
     {
         match begin_file_anew(alloc, &self.console, file) {
             Ok(()) => {
@@ -358,36 +317,25 @@ impl DurableSession {
         writer: &mut W,
     ) -> Result<(), DurableFault>
         requires { (every : ℕ) × (first : AnyConsole) × (lines : List (List ℕ)) × (old : Option (List ℕ))
-            × IsAfterLines (λ s. IsTrue D.is_honest
-            → KeepsConsole D.seen D.may_leave file.old.journal.device file.old.journal.sync file.old.journal.len
-            file.old.begun s) every first lines old (W.contents writer.old) self.old.console
+            × IsAfterLines (KeepsConsole D.disk file.old) every first lines old (W.contents writer.old) self.old.console
             (string_bytes self.old.held) self.old.recorded }
         ensures sync { file.new.journal.sync ≡ file.old.journal.sync }
+        ensures cause { IfErr result (RunsUnlessDisk D.disk) }
         ensures done { OnOk result ((every : ℕ) (first : AnyConsole) (lines : List (List ℕ)) (old : Option (List ℕ))
-            → IsAfterLines (λ s. IsTrue D.is_honest
-            → KeepsConsole D.seen D.may_leave file.old.journal.device file.old.journal.sync file.old.journal.len
-            file.old.begun s) every first lines old (W.contents writer.old) self.old.console
+            → IsAfterLines (KeepsConsole D.disk file.old) every first lines old (W.contents writer.old) self.old.console
             (string_bytes self.old.held) self.old.recorded
-            → IsAfterLines (λ s. IsTrue D.is_honest
-            → KeepsConsole D.seen D.may_leave file.new.journal.device file.new.journal.sync file.new.journal.len
-            file.new.begun s) every first lines old (W.contents writer.new) self.new.console
+            → IsAfterLines (KeepsConsole D.disk file.new) every first lines old (W.contents writer.new) self.new.console
             (string_bytes self.new.held) self.new.recorded) }
         ensures fault { IfErr result (λ e. (every : ℕ) (first : AnyConsole) (lines : List (List ℕ)) (old : Option (List ℕ))
-            → IsAfterLines (λ s. IsTrue D.is_honest
-            → KeepsConsole D.seen D.may_leave file.old.journal.device file.old.journal.sync file.old.journal.len
-            file.old.begun s) every first lines old (W.contents writer.old) self.old.console
+            → IsAfterLines (KeepsConsole D.disk file.old) every first lines old (W.contents writer.old) self.old.console
             (string_bytes self.old.held) self.old.recorded
-            → HasFailed D.is_honest file.old.journal.sync D.fills_with_zeros (D.may_leave file.new.journal.device) (λ s. IsTrue D.is_honest
-            → KeepsConsole D.seen D.may_leave file.new.journal.device file.new.journal.sync file.new.journal.len
-            file.new.begun s)
+            → FailsAfter D.disk file.old file.new
             every first lines old (W.contents writer.new) e) }
-        ensures any_moment { IsTrue D.is_honest → (every : ℕ) (first : AnyConsole) (lines : List (List ℕ)) (old : Option (List ℕ))
-            → IsAfterLines (λ s. IsTrue D.is_honest
-            → KeepsConsole D.seen D.may_leave file.old.journal.device file.old.journal.sync file.old.journal.len
-            file.old.begun s) every first lines old (W.contents writer.old) self.old.console
+        ensures any_moment { IsTrue D.disk.is_honest → (every : ℕ) (first : AnyConsole) (lines : List (List ℕ)) (old : Option (List ℕ))
+            → IsAfterLines (KeepsConsole D.disk file.old) every first lines old (W.contents writer.old) self.old.console
             (string_bytes self.old.held) self.old.recorded
-            → LeavesOnly D.moment D.left_since file.old.journal.device file.new.journal.device
-            (CoversAnswers file.old.journal.sync D.fills_with_zeros every first lines []) }
+            → LeavesOnly D.disk file.old.journal.device file.new.journal.device
+            (CoversAnswers file.old.journal.sync D.disk.fills_with_zeros every first lines []) }
         ensures read { IfErr result (λ e. e ≢ DurableFault.Run RunFault.Read) }
     {
         if self.held.len() < MOST_HELD {
@@ -408,39 +356,28 @@ impl DurableSession {
         writer: &mut W,
     ) -> Result<(), DurableFault>
         requires { (first : AnyConsole) × (before : List (List ℕ)) × (old : Option (List ℕ))
-            × IsAfterLines (λ s. IsTrue D.is_honest
-            → KeepsConsole D.seen D.may_leave file.old.journal.device file.old.journal.sync file.old.journal.len
-            file.old.begun s) every first before old (W.contents writer.old) self.old.console
+            × IsAfterLines (KeepsConsole D.disk file.old) every first before old (W.contents writer.old) self.old.console
             (string_bytes self.old.held) self.old.recorded }
         ensures sync { file.new.journal.sync ≡ file.old.journal.sync }
+        ensures cause { IfErr result (RunsUnlessDisk D.disk) }
         ensures done { OnOk result ((first : AnyConsole) (before : List (List ℕ)) (old : Option (List ℕ)) (judged : List ℕ)
             → line_class line.now ≡ line_class judged
-            → IsAfterLines (λ s. IsTrue D.is_honest
-            → KeepsConsole D.seen D.may_leave file.old.journal.device file.old.journal.sync file.old.journal.len
-            file.old.begun s) every first before old (W.contents writer.old) self.old.console
+            → IsAfterLines (KeepsConsole D.disk file.old) every first before old (W.contents writer.old) self.old.console
             (string_bytes self.old.held) self.old.recorded
-            → IsAfterLines (λ s. IsTrue D.is_honest
-            → KeepsConsole D.seen D.may_leave file.new.journal.device file.new.journal.sync file.new.journal.len
-            file.new.begun s) every first (before ++ judged ∷ []) old (W.contents writer.new) self.new.console
+            → IsAfterLines (KeepsConsole D.disk file.new) every first (before ++ judged ∷ []) old (W.contents writer.new) self.new.console
             (string_bytes self.new.held) self.new.recorded) }
         ensures fault { IfErr result (λ e. (first : AnyConsole) (before : List (List ℕ)) (old : Option (List ℕ)) (judged : List ℕ)
             → line_class line.now ≡ line_class judged
-            → IsAfterLines (λ s. IsTrue D.is_honest
-            → KeepsConsole D.seen D.may_leave file.old.journal.device file.old.journal.sync file.old.journal.len
-            file.old.begun s) every first before old (W.contents writer.old) self.old.console
+            → IsAfterLines (KeepsConsole D.disk file.old) every first before old (W.contents writer.old) self.old.console
             (string_bytes self.old.held) self.old.recorded
-            → HasFailed D.is_honest file.old.journal.sync D.fills_with_zeros (D.may_leave file.new.journal.device) (λ s. IsTrue D.is_honest
-            → KeepsConsole D.seen D.may_leave file.new.journal.device file.new.journal.sync file.new.journal.len
-            file.new.begun s)
+            → FailsAfter D.disk file.old file.new
             every first (before ++ judged ∷ []) old (W.contents writer.new) e) }
-        ensures any_moment { IsTrue D.is_honest → (first : AnyConsole) (before : List (List ℕ)) (old : Option (List ℕ)) (judged : List ℕ)
+        ensures any_moment { IsTrue D.disk.is_honest → (first : AnyConsole) (before : List (List ℕ)) (old : Option (List ℕ)) (judged : List ℕ)
             → line_class line.now ≡ line_class judged
-            → IsAfterLines (λ s. IsTrue D.is_honest
-            → KeepsConsole D.seen D.may_leave file.old.journal.device file.old.journal.sync file.old.journal.len
-            file.old.begun s) every first before old (W.contents writer.old) self.old.console
+            → IsAfterLines (KeepsConsole D.disk file.old) every first before old (W.contents writer.old) self.old.console
             (string_bytes self.old.held) self.old.recorded
-            → LeavesOnly D.moment D.left_since file.old.journal.device file.new.journal.device
-            (CoversAnswers file.old.journal.sync D.fills_with_zeros every first (before ++ judged ∷ []) []) }
+            → LeavesOnly D.disk file.old.journal.device file.new.journal.device
+            (CoversAnswers file.old.journal.sync D.disk.fills_with_zeros every first (before ++ judged ∷ []) []) }
         ensures read { IfErr result (λ e. e ≢ DurableFault.Run RunFault.Read) }
     {
         let before = self.console.event_count();

@@ -9,16 +9,15 @@ ghost use Rattle.stm_events.specs.SlowDesk.{state_from};
 ghost use Rattle.stm_events.specs.States.{IsLegalFrom};
 ghost use Rattle.stm_machine.specs.Checkpoints.{MayStart, start_of};
 ghost use Rattle.stm_machine.specs.Machine.{IsAt};
-ghost use Rattle.stm_journal.specs.Device.{LeavesOnly};
+ghost use Rattle.stm_journal.specs.Disk.{LeavesOnly};
 ghost use Rattle.stm_durable.specs.Durable.{HasLoaded};
 ghost use Rattle.stm_lines.specs.Lines.{lines_of, whole_lines_of};
 ghost use Rattle.stm_lines.specs.TakenLines.{bytes_to_come};
 ghost use Rattle.stm_options.specs.Options.{AreRunOptions};
 ghost use Rattle.stm_run.specs.declared.console.Console.{Console as AnyConsole};
 ghost use Rattle.stm_run.specs.ConsoleState.{events_of};
-ghost use Rattle.stm_run.specs.LineCheckpoints.{answers_by, states_after};
-ghost use Rattle.stm_durable_run.specs.DurableRun.{resumed_console, KeepsConsole, IsNoJournalFault, HasCommitted, CoversAnswers};
-ghost use Rattle.stm_durable_run.specs.Committing.{HasCome, HasComeToEnd, HasFinished, HasFailed, LeavesRun, WholeLinesAnswered};
+ghost use Rattle.stm_durable_run.specs.DurableRun.{RunsUnlessDisk, resumed_console, KeepsConsole, IsNoJournalFault};
+ghost use Rattle.stm_durable_run.specs.Committing.{HasCome, HasComeToEnd, HasFinished, FailsAfter, LeavesRun, WholeLinesAnswered, run_answers, KeepsAllLines, KeepsAnswered, CoversWritten, RunLeaves};
 ghost use Rattle.stm_durable_run.specs.NewEvents.{MayBeginRun};
 
 use crate::fault::DurableFault;
@@ -51,37 +50,26 @@ fn commit_before_read<W: Write, D: Device>(
     file: &mut HistoryFile<D>,
 ) -> Result<(), DurableFault>
     requires { (every : ℕ) × (first : AnyConsole) × (input rest old : Option (List ℕ))
-        × HasCome (λ s. IsTrue D.is_honest
-        → KeepsConsole D.seen D.may_leave file.old.journal.device file.old.journal.sync file.old.journal.len
-        file.old.begun s) every first input rest old (W.contents writer.old)
+        × HasCome (KeepsConsole D.disk file.old) every first input rest old (W.contents writer.old)
         session.old.console (string_bytes session.old.held) session.old.recorded }
     ensures sync { file.new.journal.sync ≡ file.old.journal.sync }
+    ensures cause { IfErr result (RunsUnlessDisk D.disk) }
     ensures done { OnOk result ((every : ℕ) (first : AnyConsole) (input rest old : Option (List ℕ))
-        → HasCome (λ s. IsTrue D.is_honest
-        → KeepsConsole D.seen D.may_leave file.old.journal.device file.old.journal.sync file.old.journal.len
-        file.old.begun s) every first input rest old (W.contents writer.old)
+        → HasCome (KeepsConsole D.disk file.old) every first input rest old (W.contents writer.old)
         session.old.console (string_bytes session.old.held) session.old.recorded
-        → HasCome (λ s. IsTrue D.is_honest
-        → KeepsConsole D.seen D.may_leave file.new.journal.device file.new.journal.sync file.new.journal.len
-        file.new.begun s) every first input rest old (W.contents writer.new)
+        → HasCome (KeepsConsole D.disk file.new) every first input rest old (W.contents writer.new)
         session.new.console (string_bytes session.new.held) session.new.recorded) }
     ensures fault { IfErr result (λ e. (every : ℕ) (first : AnyConsole) (input rest old : Option (List ℕ))
-        → HasCome (λ s. IsTrue D.is_honest
-        → KeepsConsole D.seen D.may_leave file.old.journal.device file.old.journal.sync file.old.journal.len
-        file.old.begun s) every first input rest old (W.contents writer.old)
+        → HasCome (KeepsConsole D.disk file.old) every first input rest old (W.contents writer.old)
         session.old.console (string_bytes session.old.held) session.old.recorded
         → IfSome input (λ bytes.
-        HasFailed D.is_honest file.old.journal.sync D.fills_with_zeros (D.may_leave file.new.journal.device) (λ s. IsTrue D.is_honest
-        → KeepsConsole D.seen D.may_leave file.new.journal.device file.new.journal.sync file.new.journal.len
-        file.new.begun s)
+        FailsAfter D.disk file.old file.new
         every first (lines_of bytes) old (W.contents writer.new) e)) }
-    ensures any_moment { IsTrue D.is_honest → (every : ℕ) (first : AnyConsole) (input rest old : Option (List ℕ))
-        → HasCome (λ s. IsTrue D.is_honest
-        → KeepsConsole D.seen D.may_leave file.old.journal.device file.old.journal.sync file.old.journal.len
-        file.old.begun s) every first input rest old (W.contents writer.old)
+    ensures any_moment { IsTrue D.disk.is_honest → (every : ℕ) (first : AnyConsole) (input rest old : Option (List ℕ))
+        → HasCome (KeepsConsole D.disk file.old) every first input rest old (W.contents writer.old)
         session.old.console (string_bytes session.old.held) session.old.recorded
-        → LeavesOnly D.moment D.left_since file.old.journal.device file.new.journal.device
-        (LeavesRun file.old.journal.sync D.fills_with_zeros every first input) }
+        → LeavesOnly D.disk file.old.journal.device file.new.journal.device
+        (LeavesRun file.old.journal.sync D.disk.fills_with_zeros every first input) }
     ensures read { IfErr result (λ e. e ≢ DurableFault.Run RunFault.Read) }
 {
     if lines.is_buffered() {
@@ -104,9 +92,7 @@ fn answer_next<T: Threads + Sync, R: Read, W: Write, D: Replace + Drop, L: Ledge
     file: &mut HistoryFile<D>,
 ) -> Result<bool, DurableFault>
     requires { (first : AnyConsole) × (input old : Option (List ℕ))
-        × HasCome (λ s. IsTrue D.is_honest
-        → KeepsConsole D.seen D.may_leave file.old.journal.device file.old.journal.sync file.old.journal.len
-        file.old.begun s) every first input (prepend_known lines.old.chunk (R.remaining calls.old.reader.now)) old (W.contents writer.old)
+        × HasCome (KeepsConsole D.disk file.old) every first input (prepend_known lines.old.chunk (R.remaining calls.old.reader.now)) old (W.contents writer.old)
         session.old.console (string_bytes session.old.held) session.old.recorded }
     ensures same_reader { calls.new.reader.ghost_name ≡ calls.old.reader.ghost_name }
     ensures same_steps { calls.new.steps.ghost_name ≡ calls.old.steps.ghost_name }
@@ -114,43 +100,30 @@ fn answer_next<T: Threads + Sync, R: Read, W: Write, D: Replace + Drop, L: Ledge
         bytes_to_come calls.new.left lines.new.chunk
         < bytes_to_come calls.old.left lines.old.chunk }
     ensures sync { file.new.journal.sync ≡ file.old.journal.sync }
+    ensures cause { IfErr result (RunsUnlessDisk D.disk) }
     ensures done { IfOk result (λ more. (first : AnyConsole) (input old : Option (List ℕ))
-        → HasCome (λ s. IsTrue D.is_honest
-        → KeepsConsole D.seen D.may_leave file.old.journal.device file.old.journal.sync file.old.journal.len
-        file.old.begun s) every first input (prepend_known lines.old.chunk (R.remaining calls.old.reader.now)) old (W.contents writer.old)
+        → HasCome (KeepsConsole D.disk file.old) every first input (prepend_known lines.old.chunk (R.remaining calls.old.reader.now)) old (W.contents writer.old)
         session.old.console (string_bytes session.old.held) session.old.recorded
         → MatchBool more
-        (HasCome (λ s. IsTrue D.is_honest
-        → KeepsConsole D.seen D.may_leave file.new.journal.device file.new.journal.sync file.new.journal.len
-        file.new.begun s) every first input (prepend_known lines.new.chunk (R.remaining calls.new.reader.now)) old (W.contents writer.new)
+        (HasCome (KeepsConsole D.disk file.new) every first input (prepend_known lines.new.chunk (R.remaining calls.new.reader.now)) old (W.contents writer.new)
         session.new.console (string_bytes session.new.held) session.new.recorded)
-        (HasComeToEnd (λ s. IsTrue D.is_honest
-        → KeepsConsole D.seen D.may_leave file.new.journal.device file.new.journal.sync file.new.journal.len
-        file.new.begun s) every first input old (W.contents writer.new)
+        (HasComeToEnd (KeepsConsole D.disk file.new) every first input old (W.contents writer.new)
         session.new.console (string_bytes session.new.held) session.new.recorded)) }
     ensures fault { IfErr result (λ e. (first : AnyConsole) (input old : Option (List ℕ))
-        → HasCome (λ s. IsTrue D.is_honest
-        → KeepsConsole D.seen D.may_leave file.old.journal.device file.old.journal.sync file.old.journal.len
-        file.old.begun s) every first input (prepend_known lines.old.chunk (R.remaining calls.old.reader.now)) old (W.contents writer.old)
+        → HasCome (KeepsConsole D.disk file.old) every first input (prepend_known lines.old.chunk (R.remaining calls.old.reader.now)) old (W.contents writer.old)
         session.old.console (string_bytes session.old.held) session.old.recorded
         → IfSome input (λ bytes.
-        HasFailed D.is_honest file.old.journal.sync D.fills_with_zeros (D.may_leave file.new.journal.device) (λ s. IsTrue D.is_honest
-        → KeepsConsole D.seen D.may_leave file.new.journal.device file.new.journal.sync file.new.journal.len
-        file.new.begun s)
+        FailsAfter D.disk file.old file.new
         every first (lines_of bytes) old (W.contents writer.new) e)) }
     ensures read_fault { IsErrOf result (DurableFault.Run RunFault.Read) → (first : AnyConsole) (input old : Option (List ℕ))
-        → HasCome (λ s. IsTrue D.is_honest
-        → KeepsConsole D.seen D.may_leave file.old.journal.device file.old.journal.sync file.old.journal.len
-        file.old.begun s) every first input (prepend_known lines.old.chunk (R.remaining calls.old.reader.now)) old (W.contents writer.old)
+        → HasCome (KeepsConsole D.disk file.old) every first input (prepend_known lines.old.chunk (R.remaining calls.old.reader.now)) old (W.contents writer.old)
         session.old.console (string_bytes session.old.held) session.old.recorded
         → WholeLinesAnswered every first input (R.remaining calls.new.reader.now) old (W.contents writer.new) }
-    ensures any_moment { IsTrue D.is_honest → (first : AnyConsole) (input old : Option (List ℕ))
-        → HasCome (λ s. IsTrue D.is_honest
-        → KeepsConsole D.seen D.may_leave file.old.journal.device file.old.journal.sync file.old.journal.len
-        file.old.begun s) every first input (prepend_known lines.old.chunk (R.remaining calls.old.reader.now)) old (W.contents writer.old)
+    ensures any_moment { IsTrue D.disk.is_honest → (first : AnyConsole) (input old : Option (List ℕ))
+        → HasCome (KeepsConsole D.disk file.old) every first input (prepend_known lines.old.chunk (R.remaining calls.old.reader.now)) old (W.contents writer.old)
         session.old.console (string_bytes session.old.held) session.old.recorded
-        → LeavesOnly D.moment D.left_since file.old.journal.device file.new.journal.device
-        (LeavesRun file.old.journal.sync D.fills_with_zeros every first input) }
+        → LeavesOnly D.disk file.old.journal.device file.new.journal.device
+        (LeavesRun file.old.journal.sync D.disk.fills_with_zeros every first input) }
 {
     match next_command_line(lines, calls) {
         Ok(CommandLine::Whole) => {
@@ -189,27 +162,22 @@ fn run_session<T: Threads + Sync, R: Read, W: Write, D: Replace + Drop, L: Ledge
     requires may_begin { MayBeginRun session.old.console }
     requires held { string_bytes session.old.held ≡ [] }
     requires recorded { session.old.recorded ≡ length (events_of session.old.console) }
-    requires kept { IsTrue D.is_honest
-        → KeepsConsole D.seen D.may_leave file.old.journal.device file.old.journal.sync file.old.journal.len
-        file.old.begun session.old.console }
+    requires kept { KeepsConsole D.disk file.old session.old.console }
     ensures same_reader { calls.new.reader.ghost_name ≡ calls.old.reader.ghost_name }
     ensures same_steps { calls.new.steps.ghost_name ≡ calls.old.steps.ghost_name }
     ensures sync { file.new.journal.sync ≡ file.old.journal.sync }
-    ensures done { OnOk result (IfSome (R.remaining calls.old.reader.now) (λ bytes. HasFinished (λ s. IsTrue D.is_honest
-        → KeepsConsole D.seen D.may_leave file.new.journal.device file.new.journal.sync file.new.journal.len
-        file.new.begun s)
+    ensures cause { IfErr result (RunsUnlessDisk D.disk) }
+    ensures done { OnOk result (IfSome (R.remaining calls.old.reader.now) (λ bytes. HasFinished (KeepsConsole D.disk file.new)
         every session.old.console (lines_of bytes) (W.contents writer.old) (W.contents writer.new))) }
     ensures fault { IfErr result (λ e. IfSome (R.remaining calls.old.reader.now) (λ bytes.
-        HasFailed D.is_honest file.old.journal.sync D.fills_with_zeros (D.may_leave file.new.journal.device) (λ s. IsTrue D.is_honest
-        → KeepsConsole D.seen D.may_leave file.new.journal.device file.new.journal.sync file.new.journal.len
-        file.new.begun s)
+        FailsAfter D.disk file.old file.new
         every session.old.console (lines_of bytes) (W.contents writer.old) (W.contents writer.new) e)) }
     ensures read_fault { IsErrOf result (DurableFault.Run RunFault.Read)
         → WholeLinesAnswered every session.old.console (R.remaining calls.old.reader.now) (R.remaining calls.new.reader.now)
         (W.contents writer.old) (W.contents writer.new) }
-    ensures any_moment { IsTrue D.is_honest
-        → LeavesOnly D.moment D.left_since file.old.journal.device file.new.journal.device
-        (LeavesRun file.old.journal.sync D.fills_with_zeros every session.old.console (R.remaining calls.old.reader.now)) }
+    ensures any_moment { IsTrue D.disk.is_honest
+        → LeavesOnly D.disk file.old.journal.device file.new.journal.device
+        (LeavesRun file.old.journal.sync D.disk.fills_with_zeros every session.old.console (R.remaining calls.old.reader.now)) }
 {
     'lines: loop {
         commit_before_read(alloc, session, lines, writer, file)?;
@@ -269,28 +237,23 @@ fn run_begun<T: Threads + Sync, R: Read, W: Write, D: Replace + Drop, L: Ledger>
     requires may_begin { MayBeginRun session.old.console }
     requires held { string_bytes session.old.held ≡ [] }
     requires recorded { session.old.recorded ≡ length (events_of session.old.console) }
-    requires kept { IsTrue D.is_honest
-        → KeepsConsole D.seen D.may_leave file.old.journal.device file.old.journal.sync file.old.journal.len
-        file.old.begun session.old.console }
+    requires kept { KeepsConsole D.disk file.old session.old.console }
     requires name { blank.name ≡ L.name }
     requires parts { blank.parts ≡ L.parts }
     requires some { 0 < blank.parts }
     ensures sync { file.new.journal.sync ≡ file.old.journal.sync }
-    ensures done { OnOk result (IfSome (R.remaining reader.old) (λ bytes. HasFinished (λ s. IsTrue D.is_honest
-        → KeepsConsole D.seen D.may_leave file.new.journal.device file.new.journal.sync file.new.journal.len
-        file.new.begun s)
+    ensures cause { IfErr result (RunsUnlessDisk D.disk) }
+    ensures done { OnOk result (IfSome (R.remaining reader.old) (λ bytes. HasFinished (KeepsConsole D.disk file.new)
         every session.old.console (lines_of bytes) (W.contents writer.old) (W.contents writer.new))) }
     ensures fault { IfErr result (λ e. IfSome (R.remaining reader.old) (λ bytes.
-        HasFailed D.is_honest file.old.journal.sync D.fills_with_zeros (D.may_leave file.new.journal.device) (λ s. IsTrue D.is_honest
-        → KeepsConsole D.seen D.may_leave file.new.journal.device file.new.journal.sync file.new.journal.len
-        file.new.begun s)
+        FailsAfter D.disk file.old file.new
         every session.old.console (lines_of bytes) (W.contents writer.old) (W.contents writer.new) e)) }
     ensures read_fault { IsErrOf result (DurableFault.Run RunFault.Read)
         → WholeLinesAnswered every session.old.console (R.remaining reader.old) (R.remaining reader.new)
         (W.contents writer.old) (W.contents writer.new) }
-    ensures any_moment { IsTrue D.is_honest
-        → LeavesOnly D.moment D.left_since file.old.journal.device file.new.journal.device
-        (LeavesRun file.old.journal.sync D.fills_with_zeros every session.old.console (R.remaining reader.old)) }
+    ensures any_moment { IsTrue D.disk.is_honest
+        → LeavesOnly D.disk file.old.journal.device file.new.journal.device
+        (LeavesRun file.old.journal.sync D.disk.fills_with_zeros every session.old.console (R.remaining reader.old)) }
 {
     let mut steps = Steps::<L>::new(blank);
     let mut lines = LineReader::new(alloc);
@@ -325,41 +288,30 @@ pub fn run_durable<T: Threads + RandomSource + Sync, R: Read, W: Write, D: Repla
     requires at { IfSome loaded (λ h. IsAt h.machine (state_from (start_of h.table h.checkpoint) h.events.items)) }
     requires lines { IfSome loaded (λ h. HasText (loaded_start h) h.events.items) }
     requires typed { IfSome loaded (λ h. SubmittedAreWellTyped h.events.items) }
-    requires kept { IsTrue D.is_honest → HasLoaded D.seen D.may_leave
-        file.old.journal.device file.old.journal.sync file.old.journal.len file.old.begun loaded }
+    requires kept { HasLoaded D.disk file.old loaded }
     requires fits { IfSome loaded (λ h. length h.events.items ≤ options.max_events) }
     // The answers to all lines were written.
     ensures answered { OnOk result (IfSome (R.remaining reader.old) (λ input.
-        Appends (W.contents writer.old) (W.contents writer.new)
-        (answers_by options.checkpoint_every (resumed_console options.max_events loaded) (lines_of input)))) }
+        Appends (W.contents writer.old) (W.contents writer.new) (run_answers options loaded (lines_of input)))) }
     // After a read fault those to the lines that were whole before.
     ensures read_fault { IsErrOf result (DurableFault.Run RunFault.Read) → IfSome (R.remaining reader.old) (λ input.
         (taken rest : List ℕ) × (input ≡ taken ++ rest) × (R.remaining reader.new ≡ Some rest)
-        × Appends (W.contents writer.old) (W.contents writer.new)
-        (answers_by options.checkpoint_every (resumed_console options.max_events loaded) (whole_lines_of taken))) }
+        × Appends (W.contents writer.old) (W.contents writer.new) (run_answers options loaded (whole_lines_of taken))) }
     // After any fault a front of the answers was written.
     ensures part { OnErr result (IfSome (R.remaining reader.old) (λ input. (front : List ℕ)
-        × IsPrefixOf front (answers_by options.checkpoint_every (resumed_console options.max_events loaded) (lines_of input))
+        × IsPrefixOf front (run_answers options loaded (lines_of input))
         × Appends (W.contents writer.old) (W.contents writer.new) front)) }
     ensures sync { file.new.journal.sync ≡ file.old.journal.sync }
-    // At the end the file has exactly the history of all lines.
-    ensures kept { IsTrue D.is_honest → OnOk result (IfSome (R.remaining reader.old) (λ input.
-        KeepsConsole D.seen D.may_leave file.new.journal.device file.new.journal.sync file.new.journal.len file.new.begun
-        (states_after options.checkpoint_every (resumed_console options.max_events loaded) (lines_of input)))) }
-    // After any fault but one of the journal it has exactly the history of the lines whose answers were written.
-    ensures committed { IsTrue D.is_honest → IsNoJournalFault result → IfSome (R.remaining reader.old) (λ input.
-        (written : List ℕ) × Appends (W.contents writer.old) (W.contents writer.new) written
-        × HasCommitted D.seen D.may_leave file.new.journal.device file.new.journal.sync file.new.journal.len file.new.begun
-        options.checkpoint_every (resumed_console options.max_events loaded) (lines_of input) written) }
-    // Whatever the result, a crash now leaves a file that covers what was written.
-    ensures covered { IsTrue D.is_honest → IfSome (R.remaining reader.old) (λ input.
-        (written : List ℕ) × Appends (W.contents writer.old) (W.contents writer.new) written
-        × ((c : List ℕ) → D.may_leave file.new.journal.device c
-        → CoversAnswers file.old.journal.sync D.fills_with_zeros options.checkpoint_every (resumed_console options.max_events loaded) (lines_of input) written c)) }
-    // A crash at any moment of the run leaves the history from before it, and a front of the events of its lines.
-    ensures any_moment { IsTrue D.is_honest → IfSome (R.remaining reader.old) (λ input.
-        LeavesOnly D.moment D.left_since file.old.journal.device file.new.journal.device
-        (CoversAnswers file.old.journal.sync D.fills_with_zeros options.checkpoint_every (resumed_console options.max_events loaded) (lines_of input) [])) }
+    // At the end the file has exactly the history of all lines; after any fault but one of the journal, that of the lines whose
+    // answers were written.
+    ensures kept { OnOk result (KeepsAllLines D.disk file.new options loaded (R.remaining reader.old)) }
+    ensures committed { IsTrue D.disk.is_honest → IsNoJournalFault result
+        → KeepsAnswered D.disk file.new options loaded (R.remaining reader.old) (W.contents writer.old) (W.contents writer.new) }
+    // Whatever the result, a crash now, and one at any moment of the run, leaves a file that covers what was written.
+    ensures covered { CoversWritten D.disk file.old file.new options loaded (R.remaining reader.old)
+        (W.contents writer.old) (W.contents writer.new) }
+    ensures any_moment { RunLeaves D.disk file.old file.new options loaded (R.remaining reader.old) }
+    ensures cause { IfErr result (RunsUnlessDisk D.disk) }
 {
     match resumed_session(rt, alloc, loaded, options) {
         Ok(mut session) => run_begun::<T, R, W, D, Brand>(

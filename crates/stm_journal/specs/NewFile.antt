@@ -1,11 +1,11 @@
 -- What a new file has so far.
-use Rattle.std.specs.Prelude.{◌<◌, ℕ, Bool, true, false, List, ◌++◌, take, Option, Some, None}
+use Rattle.std.specs.Prelude.{ℕ, Bool, true, false, List, ◌++◌, take, Option, Some, None}
+use Rattle.stm_journal.specs.Disk.{Disk}
+
+abbrev pub bytes_so_far : Bool → List ℕ → ℕ → List ℕ → Option (List ℕ)
+bytes_so_far true file len pending = Some (take len file ++ pending)
+bytes_so_far false file len pending = None
 
 -- the bytes that were written to it, if the device is honest: those that the device has, and those that are still to be written
-abbrev pub written_bytes : Bool → List ℕ → ℕ → List ℕ → Option (List ℕ)
-written_bytes true file len pending = Some (take len file ++ pending)
-written_bytes false file len pending = None
-
--- A call on a device of this kind fails because of the disk: one device has had fewer such calls than another.
-abbrev pub MayFail : {D : Type 0} → (D → ℕ) → Type 0
-MayFail {D} faults = ∥ ((d : D) × (e : D) × (faults d < faults e)) ∥₁
+abbrev pub written_bytes : {D : Type 0} → Disk D → D → ℕ → List ℕ → Option (List ℕ)
+written_bytes disk device len pending = bytes_so_far disk.is_honest (disk.seen device) len pending

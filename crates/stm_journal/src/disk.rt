@@ -1,6 +1,6 @@
 //! A device that runs out of space, for tests.
 
-ghost use Rattle.std.specs.Prelude.{⊤, false, []};
+ghost use Rattle.stm_journal.specs.Disk.{claims_nothing, lawful_nothing};
 
 use crate::device::Device;
 use crate::error::JournalError;
@@ -15,27 +15,9 @@ pub(crate) struct Disk {
 }
 
 impl Device for Disk {
-    ghost is_honest = { false };
+    ghost disk = { claims_nothing };
 
-    ghost fills_with_zeros = { false };
-
-    ghost seen = { λ _. [] };
-
-    ghost may_leave = { λ _ _. ⊤ };
-
-    ghost moment = { λ _. 0 };
-
-    ghost left_since = { λ _ _ _. ⊤ };
-
-    ghost faults = { λ _. 0 };
-
-    ghost reads_fail = { λ _. ⊤ };
-
-    ghost may_stay = { λ file. tt };
-
-    ghost counts_now = { λ file t c le now. now };
-
-    ghost only_now = { λ file c left. left };
+    ghost lawful = { lawful_nothing };
 
     fn len(&self) -> Result<usize, JournalError> {
         self.file.len()
@@ -46,6 +28,10 @@ impl Device for Disk {
             return Err(JournalError::Failed);
         }
         self.file.read_at(at, buffer)
+    }
+
+    fn settle(&mut self) -> Result<(), JournalError> {
+        self.file.settle()
     }
 
     fn write_at(&mut self, at: usize, bytes: &[u8]) -> Result<(), JournalError> {

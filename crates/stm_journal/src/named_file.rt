@@ -1,125 +1,209 @@
 //! A file of the system with its path, so that another file can take its place.
+//!
+//! The file that is to take the place of `FOLDER/NAME` is `FOLDER/.NAME.stmdesk-new` until then. No journal is opened by such a
+//! name (`is_kept_name`). What is there already goes only if nobody has locked it and it has the front of such a file.
 
-ghost use Rattle.std.specs.Prelude.{⊤, false, []};
+ghost use Rattle.stm_journal.specs.Disk.{claims_nothing, lawful_nothing};
 
+use crate::begun::{
+    begin, begun_path, has_front, is_kept_name, leads_to, real_path, remove_begun, remove_if,
+    sync_folder,
+};
 use crate::device::Device;
 use crate::error::JournalError;
-use crate::file::{FileDevice, error_of};
+use crate::file::{FileDevice, copy, is_clean};
+use crate::obstacle::{Obstacle, Refusal};
 use crate::replace::Replace;
-use std::fs::{File, OpenOptions, TryLockError};
-use std::io::ErrorKind;
-use std::os::unix::fs::MetadataExt;
-use std::path::Path;
-use std::{fs, io};
-
-/// What is added to the path of a file for the one beside it.
-const BESIDE: &str = ".new";
+use crate::system::{self, metadata_of};
+use std::fs::File;
+use std::{io, mem};
 
 /// A file of the system with its path. As of `FileDevice`, nothing is claimed of it.
-#[derive(Drop)]
 pub struct NamedFile<'a> {
     rt: &'a HostRuntime,
-    path: String,
+    // None if it was opened by a link, and where the link leads isn't known.
+    path: Option<String>,
     device: FileDevice,
+    // How each file begins that is opened so.
+    start: &'static [u8],
+    // How each file begins that was begun to take the place of this one.
+    front: &'static [u8],
+    // Whether it has yet to take the place of another. Until then it is removed with this value.
+    is_begun: bool,
+    refusal: Option<Refusal>,
+    // Why it couldn't be settled.
+    unsettled: Option<io::Error>,
 }
 
 impl<'a> NamedFile<'a> {
     /// The device over a file that is open for reading and writing, under its path. Links in the path are followed, so that a
-    /// new file takes the place of the file, and not of a link to it.
-    pub fn new(rt: &'a HostRuntime, path: &str, file: File) -> Result<Self, JournalError> {
-        match fs::canonicalize(rt, path) {
+    /// new file takes the place of the file, and not of a link to it. If the real path can't be known, for example since it
+    /// isn't UTF-8, it is the given one, unless that is a link. A file that doesn't begin with `start` is left as it is when it is
+    /// settled, and a file that is begun to take its place begins with `front`.
+    pub fn new(
+        rt: &'a HostRuntime,
+        path: &str,
+        file: File,
+        start: &'static [u8],
+        front: &'static [u8],
+    ) -> Result<Self, JournalError> {
+        match real_path(rt, path) {
             Ok(path) => Ok(NamedFile {
                 rt,
-                path: path.into_string(),
+                path,
                 device: FileDevice::new(file),
+                start,
+                front,
+                is_begun: false,
+                refusal: None,
+                unsettled: None,
             }),
-            Err(error) => Err(fault_of(error)),
+            Err(obstacle) => Err(obstacle.error()),
         }
     }
-}
 
-/// What the error of a call on the files of the system means.
-fn fault_of(error: io::Error) -> JournalError {
-    if error.kind() == ErrorKind::OutOfMemory {
-        JournalError::NoMemory
-    } else {
-        error_of(error)
+    /// The error of the system for which it couldn't be settled.
+    pub fn unsettled(&self) -> Option<io::Error> {
+        self.unsettled
     }
-}
 
-/// Makes an empty file at a path, with the permissions of another file, and takes its lock. What was there is removed first.
-fn made(rt: &HostRuntime, path: &str, like: &File) -> io::Result<File> {
-    match fs::remove_file(rt, path) {
-        Ok(()) => {}
-        Err(error) if error.kind() == ErrorKind::NotFound => {}
-        Err(error) => return Err(error),
-    }
-    let file = OpenOptions::new()
-        .read(true)
-        .write(true)
-        .create_new(true)
-        .open(rt, path)?;
-    file.set_permissions(like.metadata()?.permissions())?;
-    match file.try_lock() {
-        Ok(()) => Ok(file),
-        Err(TryLockError::WouldBlock) => Err(io::Error::from(ErrorKind::WouldBlock)),
-        Err(TryLockError::Error(error)) => Err(error),
-    }
-}
-
-/// Whether a path leads to a file that is open, and not to another one or to none.
-pub fn leads_to(rt: &HostRuntime, path: &str, file: &File) -> io::Result<bool> {
-    match fs::metadata(rt, path) {
-        Ok(found) => {
-            let open = file.metadata()?;
-            Ok(found.dev() == open.dev() && found.ino() == open.ino())
+    /// Removes it, under its name, if the name still leads to it.
+    pub fn remove(self) -> io::Result<()> {
+        match &self.path {
+            Some(path) => remove_if(self.rt, path, &self.device.file),
+            None => Ok(()),
         }
-        Err(error) if error.kind() == ErrorKind::NotFound => Ok(false),
-        Err(error) => Err(error),
+    }
+
+    /// Settles the file and its folder, and removes a file that an earlier process began to put in its place.
+    fn settle_all(&mut self) -> io::Result<()> {
+        self.device.file.sync_all()?;
+        if let Some(path) = &self.path {
+            sync_folder(self.rt, path)?;
+            if let Ok(begun) = begun_path(self.rt, path) {
+                let _ = remove_begun(self.rt, &begun, self.front);
+            }
+        }
+        if !self.is_in_doubt()? {
+            return Ok(());
+        }
+        match self.copied() {
+            Ok(other) => self.take(other),
+            // No other file can take its place.
+            Err(_) => copy(&self.device.file, &self.device.file),
+        }
+    }
+
+    /// Whether reads may return bytes of a journal that aren't on the disk, since an earlier process didn't leave the file clean.
+    fn is_in_doubt(&self) -> io::Result<bool> {
+        let file = &self.device.file;
+        let metadata = metadata_of(file)?;
+        Ok(metadata.len() > 0 && !is_clean(&metadata) && has_front(file, self.start)?)
+    }
+
+    /// A copy that has taken the place of this file under its name.
+    fn copied(&self) -> Result<Self, Obstacle> {
+        let other = self.begun()?;
+        copy(&self.device.file, &other.device.file)?;
+        rename(&other, self)?;
+        Ok(other)
+    }
+
+    /// Goes on with another file, which has taken the place of this one, and syncs the folder.
+    fn take(&mut self, mut other: Self) -> io::Result<()> {
+        other.is_begun = false;
+        mem::swap(&mut self.device, &mut other.device);
+        match &self.path {
+            Some(path) => sync_folder(self.rt, path),
+            None => Ok(()),
+        }
+    }
+
+    /// Whether its real name is kept for files that are begun to take the place of others.
+    pub fn has_kept_name(&self) -> bool {
+        match &self.path {
+            Some(path) => is_kept_name(path),
+            None => false,
+        }
+    }
+
+    /// Why the last file could not be made beside this one, or could not take its place.
+    pub fn refusal(&self) -> Option<&Refusal> {
+        self.refusal.as_ref()
+    }
+
+    /// Notes what is in the way of a file that is to take the place of this one.
+    fn refuse(&mut self, obstacle: Obstacle) -> JournalError {
+        let path = match &self.path {
+            Some(path) => begun_path(self.rt, path),
+            None => Err(Obstacle::NoPath),
+        };
+        if let Ok(path) = path {
+            self.refusal = Some(Refusal { path, obstacle });
+        }
+        obstacle.error()
+    }
+
+    /// Makes the file that is to take the place of this one.
+    fn begun(&self) -> Result<Self, Obstacle> {
+        let Some(path) = &self.path else {
+            return Err(Obstacle::NoPath);
+        };
+        let path = begun_path(self.rt, path)?;
+        let file = begin(self.rt, &path, self.front, &self.device.file)?;
+        Ok(NamedFile {
+            rt: self.rt,
+            path: Some(path),
+            device: FileDevice::new(file),
+            start: self.start,
+            front: self.front,
+            is_begun: true,
+            refusal: None,
+            unsettled: None,
+        })
     }
 }
 
-/// Puts one file in the place of another, both open. It fails, and changes nothing, if a path leads to
-/// another file meanwhile, which then isn't lost.
-fn rename(from: &NamedFile, to: &NamedFile) -> io::Result<()> {
-    if !leads_to(to.rt, &from.path, &from.device.file)?
-        || !leads_to(to.rt, &to.path, &to.device.file)?
+impl Drop for NamedFile<'_> {
+    fn drop(self) {
+        if self.is_begun {
+            if let Some(path) = &self.path {
+                let _ = remove_if(self.rt, path, &self.device.file);
+            }
+        } else {
+            self.device.leave();
+        }
+        let NamedFile {
+            rt: _,
+            path: _,
+            device: _,
+            start: _,
+            front: _,
+            is_begun: _,
+            refusal: _,
+            unsettled: _,
+        } = self;
+    }
+}
+
+/// Puts one file in the place of another, both open. It fails, and changes nothing, if a path leads to another file meanwhile,
+/// which then isn't lost.
+fn rename(from: &NamedFile, to: &NamedFile) -> Result<(), Obstacle> {
+    let (Some(from_path), Some(to_path)) = (&from.path, &to.path) else {
+        return Err(Obstacle::NoPath);
+    };
+    if !leads_to(to.rt, from_path, &from.device.file)?
+        || !leads_to(to.rt, to_path, &to.device.file)?
     {
-        return Err(io::Error::from(ErrorKind::NotFound));
+        return Err(Obstacle::Moved);
     }
-    fs::rename(to.rt, from.path.as_str(), to.path.as_str())
-}
-
-/// Syncs the folder of a file, so that its name is on the disk.
-fn sync_folder(rt: &HostRuntime, path: &str) -> io::Result<()> {
-    match Path::new(path).parent() {
-        Some(folder) => File::open(rt, folder.as_str())?.sync_all(),
-        None => Ok(()),
-    }
+    Ok(system::rename(to.rt, from_path, to_path)?)
 }
 
 impl Device for NamedFile<'_> {
-    ghost is_honest = { false };
+    ghost disk = { claims_nothing };
 
-    ghost fills_with_zeros = { false };
-
-    ghost seen = { λ _. [] };
-
-    ghost may_leave = { λ _ _. ⊤ };
-
-    ghost moment = { λ _. 0 };
-
-    ghost left_since = { λ _ _ _. ⊤ };
-
-    ghost faults = { λ _. 0 };
-
-    ghost reads_fail = { λ _. ⊤ };
-
-    ghost may_stay = { λ file. tt };
-
-    ghost counts_now = { λ file t c le now. now };
-
-    ghost only_now = { λ file c left. left };
+    ghost lawful = { lawful_nothing };
 
     fn len(&self) -> Result<usize, JournalError> {
         self.device.len()
@@ -127,6 +211,14 @@ impl Device for NamedFile<'_> {
 
     fn read_at(&self, at: usize, buffer: &mut [u8]) -> Result<usize, JournalError> {
         self.device.read_at(at, buffer)
+    }
+
+    fn settle(&mut self) -> Result<(), JournalError> {
+        let done = self.settle_all();
+        if let Err(error) = done {
+            self.unsettled = Some(error);
+        }
+        self.device.note_synced(done)
     }
 
     fn write_at(&mut self, at: usize, bytes: &[u8]) -> Result<(), JournalError> {
@@ -144,26 +236,22 @@ impl Device for NamedFile<'_> {
 
 impl Replace for NamedFile<'_> {
     fn beside(&mut self) -> Result<Self, JournalError> {
-        let mut path = self.path.clone()?;
-        path.push_str(BESIDE)?;
-        match made(self.rt, &path, &self.device.file) {
-            Ok(file) => Ok(NamedFile {
-                rt: self.rt,
-                path,
-                device: FileDevice::new(file),
-            }),
-            Err(error) => Err(fault_of(error)),
+        match self.begun() {
+            Ok(file) => Ok(file),
+            Err(obstacle) => Err(self.refuse(obstacle)),
         }
     }
 
     fn put(&mut self, other: Self) -> Result<(), JournalError> {
-        if let Err(error) = rename(&other, self) {
-            return Err(fault_of(error));
+        if let Err(obstacle) = rename(&other, self) {
+            return Err(self.refuse(obstacle));
         }
-        self.device = other.device;
-        match sync_folder(self.rt, &self.path) {
+        match self.take(other) {
             Ok(()) => Ok(()),
-            Err(error) => Err(fault_of(error)),
+            Err(error) => {
+                let _ = self.device.note_synced(Err(error));
+                Err(self.refuse(Obstacle::from(error)))
+            }
         }
     }
 }

@@ -3,8 +3,8 @@
 ghost use Rattle.std.specs.Prelude.{◌≡◌, ◌≢◌, ◌≤◌, ◌<◌, ◌+◌, ◌^◌, [], IsTrue, length, Option, Some, None, IfOk, IfErr, IfSome, OnOk, OnErr, IsErrOf};
 ghost use Rattle.std.specs.Io.{WritesAtMost};
 ghost use Rattle.std.specs.Io.KnownBytes.{Keeps, WriteAppends};
-ghost use Rattle.stm_journal.specs.Device.{Only};
-ghost use Rattle.stm_journal.specs.NewFile.{written_bytes, MayFail};
+ghost use Rattle.stm_journal.specs.Disk.{Shows, HasLength, Reaches, IsOnDisk, IsSettled, MayFail, FailsOnlyIfAny};
+ghost use Rattle.stm_journal.specs.NewFile.{written_bytes};
 ghost use Rattle.stm_journal.specs.declared.error.JournalError.TheVariants.{Failed, NoSpace, Full, TooLong, TornTooLong};
 
 use crate::device::Device;
@@ -25,25 +25,26 @@ pub struct NewFile<D: Device> {
     len: usize,
     pending: Vec<u8>,
     fault: Option<JournalError>,
-    ghost within: { IsTrue D.is_honest → len ≤ length (D.seen device) },
-    ghost counts: { IsTrue D.is_honest → fault ≡ None → len ≡ length (D.seen device) },
+    ghost settled: { IsSettled D.disk device },
+    ghost within: { Reaches D.disk device len },
+    ghost counts: { IsTrue D.disk.is_honest → fault ≡ None → len ≡ length (D.disk.seen device) },
     ghost small: { len ≤ 2 ^ 62 },
     ghost piece: { length pending.items ≤ 65536 },
-    ghost failed: { IsTrue D.is_honest → fault ≡ Some Failed → MayFail D.faults },
-    ghost no_space: { IsTrue D.is_honest → fault ≡ Some NoSpace → MayFail D.faults },
-    ghost full: { IsTrue D.is_honest → fault ≡ Some Full → 2 ^ 62 < len + length pending.items },
-    ghost not_long: { IsTrue D.is_honest → fault ≢ Some TooLong },
-    ghost not_torn: { IsTrue D.is_honest → fault ≢ Some TornTooLong },
+    ghost failed: { IsTrue D.disk.is_honest → fault ≡ Some Failed → MayFail D.disk },
+    ghost no_space: { IsTrue D.disk.is_honest → fault ≡ Some NoSpace → MayFail D.disk },
+    ghost full: { IsTrue D.disk.is_honest → fault ≡ Some Full → 2 ^ 62 < len + length pending.items },
+    ghost not_long: { IsTrue D.disk.is_honest → fault ≢ Some TooLong },
+    ghost not_torn: { IsTrue D.disk.is_honest → fault ≢ Some TornTooLong },
 }
 
 impl<D: Device> NewFile<D> {
     /// A file with no bytes yet.
-    pub fn new(alloc: Global, device: D) -> Result<Self, AllocError>
+    pub(crate) fn new(alloc: Global, device: D) -> Result<Self, AllocError>
     where
         D: Drop,
-        requires { IsTrue D.is_honest → D.seen device ≡ [] }
-        ensures empty { IsTrue D.is_honest → IfOk result (λ file.
-            written_bytes D.is_honest (D.seen file.device) file.len file.pending.items ≡ Some []) }
+        requires empty { Shows D.disk device [] }
+        requires settled { IsSettled D.disk device }
+        ensures empty { IfOk result (λ file. IsTrue D.disk.is_honest → written_bytes D.disk file.device file.len file.pending.items ≡ Some []) }
         ensures fault { IfOk result (λ file. file.fault ≡ None) }
     {
         Ok(NewFile {
@@ -64,8 +65,8 @@ impl<D: Device> NewFile<D> {
     /// Writes what is pending to the device.
     #[tactic(auto, using(crate::proofs::Faults::may_fail))]
     fn write_out(&mut self) -> Result<(), JournalError>
-        ensures kept { Keeps (written_bytes D.is_honest (D.seen self.old.device) self.old.len self.old.pending.items)
-            (written_bytes D.is_honest (D.seen self.new.device) self.new.len self.new.pending.items) }
+        ensures kept { Keeps (written_bytes D.disk self.old.device self.old.len self.old.pending.items)
+            (written_bytes D.disk self.new.device self.new.len self.new.pending.items) }
         ensures none_left { OnOk result (self.new.pending.items ≡ []) }
         ensures fine { OnOk result (self.new.fault ≡ None) }
         ensures unchanged { OnErr result ((self.new.len ≡ self.old.len) × (self.new.pending.items ≡ self.old.pending.items)) }
@@ -96,8 +97,8 @@ impl<D: Device> NewFile<D> {
     fn add(&mut self, bytes: &[u8]) -> Result<usize, JournalError>
         ensures bound { WritesAtMost result bytes.now }
         ensures bytes { WriteAppends
-            (written_bytes D.is_honest (D.seen self.old.device) self.old.len self.old.pending.items)
-            (written_bytes D.is_honest (D.seen self.new.device) self.new.len self.new.pending.items) result bytes.now }
+            (written_bytes D.disk self.old.device self.old.len self.old.pending.items)
+            (written_bytes D.disk self.new.device self.new.len self.new.pending.items) result bytes.now }
         ensures fault { IfErr result (λ e. self.new.fault ≡ Some e) }
     {
         if let Some(fault) = self.fault {
@@ -122,18 +123,17 @@ impl<D: Device> NewFile<D> {
     where
         D: Drop,
         // The file is exactly what was written.
-        ensures text { IsTrue D.is_honest → IfOk result (λ r.
-            written_bytes D.is_honest (D.seen self.device) self.len self.pending.items ≡ Some (D.seen r.0)) }
-        ensures len { IsTrue D.is_honest → IfOk result (λ r. r.1 ≡ length (D.seen r.0)) }
-        ensures durable { IsTrue D.is_honest → IfOk result (λ r. Only (D.seen r.0) (D.may_leave r.0)) }
+        ensures text { IsTrue D.disk.is_honest → IfOk result (λ r.
+            written_bytes D.disk self.device self.len self.pending.items ≡ Some (D.disk.seen r.0)) }
+        ensures len { IfOk result (λ r. HasLength D.disk r.0 r.1) }
+        ensures durable { IfOk result (λ r. IsOnDisk D.disk r.0) }
         // The first error of a write is kept for this call.
         ensures first { IfSome self.fault (λ e. IsErrOf result e) }
-        // It doesn't give up by itself. The device of a file that failed is gone, so its faults have no name.
-        ensures failed { IsTrue D.is_honest → IsErrOf result JournalError.Failed → MayFail D.faults }
-        ensures no_space { IsTrue D.is_honest → IsErrOf result JournalError.NoSpace → MayFail D.faults }
-        ensures full { IsTrue D.is_honest → IsErrOf result JournalError.Full → 2 ^ 62 < self.len + length self.pending.items }
-        ensures too_long { IsTrue D.is_honest → IsErrOf result JournalError.TooLong → ⊥ }
-        ensures torn_too_long { IsTrue D.is_honest → IsErrOf result JournalError.TornTooLong → ⊥ }
+        ensures fault { FailsOnlyIfAny D.disk (record {
+          full = 2 ^ 62 < self.len + length self.pending.items;
+          too_long = ⊥;
+          torn_too_long = ⊥;
+        }) result }
     {
         self.write_out()?;
         self.device.sync()?;
@@ -142,7 +142,7 @@ impl<D: Device> NewFile<D> {
 }
 
 impl<D: Device> Write for NewFile<D> {
-    ghost contents = { λ f. written_bytes D.is_honest (D.seen f.device) f.len f.pending.items };
+    ghost contents = { λ f. written_bytes D.disk f.device f.len f.pending.items };
 
     fn write(&mut self, buf: &[u8]) -> io::Result<usize> {
         match self.add(buf) {

@@ -1,7 +1,7 @@
 //! A file that takes the place of another.
 
-ghost use Rattle.std.specs.Prelude.{◌≡◌, ◌⊎◌, [], ℕ, List, IsTrue, IfOk, OnOk, OnErr};
-ghost use Rattle.stm_journal.specs.Device.{Only, Elapses, HasCause};
+ghost use Rattle.std.specs.Prelude.{◌≡◌, ◌⊎◌, [], IsTrue, IfOk, OnOk, OnErr};
+ghost use Rattle.stm_journal.specs.Disk.{Shows, IsOnDisk, IsOneOf, IsSettled, StaysSettled, CrashAdds, CrashAddsNothing, TakesTime, FailsOnlyByDisk};
 
 use crate::device::Device;
 use crate::error::JournalError;
@@ -14,27 +14,26 @@ pub trait Replace: Device {
     fn beside(&mut self) -> Result<Self, JournalError>
     where
         Self: Sized,
-        ensures empty { IsTrue Self.is_honest → IfOk result (λ file. Self.seen file ≡ []) }
-        ensures seen { IsTrue Self.is_honest → Self.seen self.new ≡ Self.seen self.old }
-        ensures crash { IsTrue Self.is_honest → (c : List ℕ) → Self.may_leave self.new c → Self.may_leave self.old c }
-        ensures time { IsTrue Self.is_honest → Elapses (Self.moment self.old) (Self.moment self.new)
-            (Self.left_since self.old) (Self.left_since self.new) (Self.may_leave self.new) }
-        ensures cause { IsTrue Self.is_honest → HasCause (Self.faults self.old) (Self.faults self.new) result };
+        ensures empty { IfOk result (λ file. Shows Self.disk file []) }
+        ensures settled { IfOk result (λ file. IsSettled Self.disk file) }
+        ensures seen { Shows Self.disk self.new (Self.disk.seen self.old) }
+        ensures stays { StaysSettled Self.disk self.old self.new }
+        ensures crash { CrashAddsNothing Self.disk self.old self.new }
+        ensures time { TakesTime Self.disk (Self.disk.may_leave self.new) self.old self.new }
+        ensures fault { FailsOnlyByDisk Self.disk self.old self.new result };
 
     /// Puts another file, which is on the disk, in the place of this one.
     fn put(&mut self, other: Self) -> Result<(), JournalError>
     where
         Self: Sized,
-        requires durable { IsTrue Self.is_honest → Only (Self.seen other) (Self.may_leave other) }
-        ensures replaced { IsTrue Self.is_honest → OnOk result (Self.seen self.new ≡ Self.seen other) }
-        ensures durable { IsTrue Self.is_honest → OnOk result (Only (Self.seen other) (Self.may_leave self.new)) }
+        requires durable { IsOnDisk Self.disk other }
+        ensures replaced { OnOk result (Shows Self.disk self.new (Self.disk.seen other)) }
+        ensures durable { OnOk result (IsOnDisk Self.disk self.new) }
+        ensures stays { OnErr result (StaysSettled Self.disk self.old self.new) }
         // After an error it is the one or the other.
-        ensures unfinished { IsTrue Self.is_honest → OnErr result
-            ((Self.seen self.new ≡ Self.seen self.old) ⊎ (Self.seen self.new ≡ Self.seen other)) }
+        ensures unfinished { OnErr result (IsOneOf Self.disk self.old other self.new) }
         // A crash leaves what it might have left before, or all of the other file.
-        ensures crash { IsTrue Self.is_honest → (c : List ℕ) → Self.may_leave self.new c
-            → Self.may_leave self.old c ⊎ (c ≡ Self.seen other) }
-        ensures time { IsTrue Self.is_honest → Elapses (Self.moment self.old) (Self.moment self.new)
-            (Self.left_since self.old) (Self.left_since self.new) (λ c. c ≡ Self.seen other) }
-        ensures cause { IsTrue Self.is_honest → HasCause (Self.faults self.old) (Self.faults self.new) result };
+        ensures crash { CrashAdds Self.disk (λ c. c ≡ Self.disk.seen other) self.old self.new }
+        ensures time { TakesTime Self.disk (λ c. c ≡ Self.disk.seen other) self.old self.new }
+        ensures fault { FailsOnlyByDisk Self.disk self.old self.new result };
 }

@@ -3,11 +3,16 @@
 ghost use Rattle.std.specs.Prelude.{None};
 
 use std::fs::{File, OpenOptions, TryLockError};
+use std::io;
 use std::io::ErrorKind;
-use std::path::Path;
-use std::{fs, io};
 use stm_console::{JournalFiles, OpenError};
-use stm_journal::{JournalError, NamedFile, leads_to};
+use stm_journal::{
+    Device, JournalError, NamedFile, has_standard_descriptor, is_file_of, is_kept_name, leads_to,
+    link_metadata_at, metadata_at, metadata_of,
+};
+
+/// How each history begins.
+const FRONT: &[u8] = b"{\"format\":";
 
 /// The files of the system, by their paths. No contract says what they have.
 #[derive(Drop)]
@@ -17,7 +22,7 @@ pub struct SystemFiles<'a> {
 
 /// Refuses what isn't a regular file, before it is opened: to open a pipe might wait.
 fn check_kind(rt: &HostRuntime, path: &str) -> Result<(), OpenError> {
-    match fs::metadata(rt, path) {
+    match metadata_at(rt, path) {
         Ok(metadata) => {
             if metadata.is_file() {
                 Ok(())
@@ -28,11 +33,10 @@ fn check_kind(rt: &HostRuntime, path: &str) -> Result<(), OpenError> {
             }
         }
         Err(error) if error.kind() == ErrorKind::NotFound => {
-            // A link may be there that leads nowhere.
-            if fs::symlink_metadata(rt, path).is_ok() {
-                Err(OpenError::NotRegular)
-            } else {
-                Ok(())
+            match link_metadata_at(rt, path) {
+                // A link that leads nowhere.
+                Ok(found) if found.is_symlink() => Err(OpenError::NotRegular),
+                _ => Ok(()),
             }
         }
         Err(error) => Err(OpenError::from(error)),
@@ -48,37 +52,62 @@ fn lock(file: &File) -> Result<(), OpenError> {
     }
 }
 
-/// Syncs the folder of a file, so that its name is on the disk.
-fn sync_folder(rt: &HostRuntime, path: &str) -> Result<(), OpenError> {
-    let folder = match Path::new(path).parent() {
-        Some(folder) if !folder.as_str().is_empty() => folder.as_str(),
-        _ => ".",
-    };
-    File::open(rt, folder)?.sync_all()?;
-    Ok(())
-}
-
 /// How often a file is opened at most if another one takes its place each time.
 const ATTEMPTS: usize = 100;
 
-/// Opens a file and takes its lock; none if another file has taken its place meanwhile, as at a checkpoint of another run that then
-/// ended.
-fn open_locked(rt: &HostRuntime, name: &str) -> Result<Option<File>, OpenError> {
+/// Opens a file for reading and writing, and says whether it was made now.
+fn open_or_make(rt: &HostRuntime, name: &str) -> io::Result<(File, bool)> {
+    for _ in 0..ATTEMPTS {
+        match OpenOptions::new().read(true).write(true).open(rt, name) {
+            Ok(file) => return Ok((file, false)),
+            Err(error) if error.kind() == ErrorKind::NotFound => {}
+            Err(error) => return Err(error),
+        }
+        match OpenOptions::new()
+            .read(true)
+            .write(true)
+            .create_new(true)
+            .open(rt, name)
+        {
+            Ok(file) => return Ok((file, true)),
+            // Another process has made it meanwhile.
+            Err(error) if error.kind() == ErrorKind::AlreadyExists => {}
+            Err(error) => return Err(error),
+        }
+    }
+    Err(io::Error::from(ErrorKind::AlreadyExists))
+}
+
+/// Opens a file and takes its lock, and says whether it was made now; none if another file has taken its place meanwhile, as at a
+/// checkpoint of another run that then ended.
+fn open_locked(rt: &HostRuntime, name: &str) -> Result<Option<(File, bool)>, OpenError> {
     check_kind(rt, name)?;
-    let file = OpenOptions::new()
-        .read(true)
-        .write(true)
-        .create(true)
-        .open(rt, name)?;
+    let (file, is_made) = open_or_make(rt, name)?;
+    if has_standard_descriptor(&file) {
+        return Err(OpenError::NoStreams);
+    }
     // Something else may have taken its place.
-    if !file.metadata()?.is_file() {
+    if !metadata_of(&file)?.is_file() {
         return Err(OpenError::NotRegular);
     }
     lock(&file)?;
     if leads_to(rt, name, &file)? {
-        Ok(Some(file))
+        Ok(Some((file, is_made)))
     } else {
         Ok(None)
+    }
+}
+
+/// Refuses the file of a standard stream, which something else reads or writes.
+fn check_streams(rt: &HostRuntime, name: &str) -> Result<(), OpenError> {
+    if is_file_of(rt, name, 2) {
+        Err(OpenError::IsErrors)
+    } else if is_file_of(rt, name, 1) {
+        Err(OpenError::IsOutput)
+    } else if is_file_of(rt, name, 0) {
+        Err(OpenError::IsInput)
+    } else {
+        Ok(())
     }
 }
 
@@ -91,17 +120,45 @@ fn open_error(error: JournalError) -> OpenError {
     }
 }
 
+/// Why a file can't be settled: the error of the system if it is known.
+fn settle_error(file: &NamedFile, error: JournalError) -> OpenError {
+    match file.unsettled() {
+        Some(cause) => OpenError::from(cause),
+        None => open_error(error),
+    }
+}
+
+/// Refuses a file whose name is kept, and prepares any other for its first read. One that was made now is removed if that fails.
+fn prepared(mut file: NamedFile<'_>, is_made: bool) -> Result<NamedFile<'_>, OpenError> {
+    if file.has_kept_name() {
+        return Err(OpenError::KeptName);
+    }
+    match file.settle() {
+        Ok(()) => Ok(file),
+        Err(error) => {
+            let why = settle_error(&file, error);
+            if is_made {
+                let _ = file.remove();
+            }
+            Err(why)
+        }
+    }
+}
+
 impl<'a> JournalFiles for SystemFiles<'a> {
     type File = NamedFile<'a>;
 
     ghost contents = { λ files name. None };
 
     fn open(&self, name: &str) -> Result<NamedFile<'a>, OpenError> {
+        if is_kept_name(name) {
+            return Err(OpenError::KeptName);
+        }
+        check_streams(self.rt, name)?;
         for _ in 0..ATTEMPTS {
-            if let Some(file) = open_locked(self.rt, name)? {
-                sync_folder(self.rt, name)?;
-                return match NamedFile::new(self.rt, name, file) {
-                    Ok(file) => Ok(file),
+            if let Some((file, is_made)) = open_locked(self.rt, name)? {
+                return match NamedFile::new(self.rt, name, file, FRONT, FRONT) {
+                    Ok(file) => prepared(file, is_made),
                     Err(error) => Err(open_error(error)),
                 };
             }

@@ -2,8 +2,12 @@
 #![tactic(auto)]
 
 mod files;
+mod limits;
+mod standard;
 
 use files::SystemFiles;
+use limits::{NEEDED, low_stack_limit};
+use standard::occupy;
 use std::env;
 use std::io::{BufWriter, ErrorKind, Write};
 use std::process::ExitCode;
@@ -17,7 +21,16 @@ fn no_memory<E: Write>(errors: &mut E) -> ExitCode {
 
 fn main(rt: HostRuntime) -> ExitCode {
     let alloc = rt.alloc();
+    // If a closed stream can't be occupied, no journal is opened in its place.
+    let _occupied = occupy(&rt);
     let mut errors = rt.stderr();
+    if let Some(limit) = low_stack_limit(&rt) {
+        let _ = writeln!(
+            errors,
+            "stmdesk: the stack limit is {limit} KiB, and {NEEDED} KiB are needed (ulimit -s {NEEDED})"
+        );
+        return ExitCode::from(NO_MEMORY);
+    }
     let arguments = match env::args(&rt) {
         Ok(arguments) => arguments,
         Err(fault) if fault.kind() == ErrorKind::OutOfMemory => return no_memory(&mut errors),

@@ -1,21 +1,23 @@
 use Rattle.std.proofs.Common.{Some}
 use Rattle.stm_history.specs.HistoryText.{start_text}
 use Rattle.stm_history.specs.Starts.{written_start}
+use Rattle.stm_journal.proofs.Faults.{only_too_long}
 use Rattle.stm_durable.proofs.LinesMeasured.{start_measured, short_if_ok, long_if}
 use Rattle.stm_durable.proofs.beginning.write_new.Goals as goal
 
-pub returns-then-is_none-clause-too_long : goal.returns-then-is_none-clause-too_long
-returns-then-is_none-clause-too_long g c honest refused =
-    let D = g.D.Device in
+pub returns-then-is_none-clause-fault : goal.returns-then-is_none-clause-fault
+returns-then-is_none-clause-fault g c honest =
+    let D = g.D.Device.disk in
     let w = c.write_start.new.writer in
     let text = start_text (written_start c.args.table.now (Some c.args.checkpoint.now)) in
-    long_if w.line text
+    only_too_long _ _
+    (long_if w.line text
     (start_measured D.is_honest (D.seen w.file.device) w.file.len w.file.pending.items w.line _ text honest (c.requires.empty honest) c.in-Ok.ensures w.measured)
-    c.if-is_none.ensures
+    c.if-is_none.ensures)
 
 pub returns-clause-short : goal.returns-clause-short
 returns-clause-short g c honest =
-    let D = g.D.Device in
+    let D = g.D.Device.disk in
     let w = c.write_start.new.writer in
     let text = start_text (written_start c.args.table.now (Some c.args.checkpoint.now)) in
     short_if_ok c.finish.result w.line text

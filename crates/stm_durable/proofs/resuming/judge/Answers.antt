@@ -3,4 +3,4 @@ use Rattle.stm_journal.proofs.Wholes.{whole-le}
 use Rattle.stm_durable.proofs.resuming.judge.Goals as goal
 
 pub load_front-requires : goal.load_front-requires
-load_front-requires g c honest = omega (arith, c.in-Ok.ensures.kept honest, whole-le 0 (g.D.Device.seen c.args.device.now))
+load_front-requires g c honest = omega (arith, c.in-Ok.ensures.found.kept honest, whole-le 0 (g.D.Device.disk.seen c.args.device.now))

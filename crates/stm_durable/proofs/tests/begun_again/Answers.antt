@@ -1,4 +1,4 @@
-use Rattle.std.proofs.Common.{List, Option, Some, sym, subst}
+use Rattle.std.proofs.Common.{List, Option, Some, refl, sym, subst}
 use Rattle.stm_events.specs.declared.event.Event.{Event}
 use Rattle.stm_machine.specs.Checkpoints.{CheckpointView}
 use Rattle.stm_history.specs.Starts.{written_start}
@@ -8,7 +8,7 @@ use Rattle.stm_durable.proofs.Texts.{fits_again}
 use Rattle.stm_durable.proofs.tests.begun_again.Goals as goal
 
 pub begin_anew-requires-clause-kept : goal.begin_anew-requires-clause-kept
-begin_anew-requires-clause-kept c honest = some_history _ _ _ _ _ _ _ (c.in-Ok.ensures.kept honest)
+begin_anew-requires-clause-kept c honest = some_history _ _ _ (c.in-Ok.ensures.kept (λ h. refl) honest)
 
 pub record-requires-clause-fit : goal.record-requires-clause-fit
 record-requires-clause-fit c =

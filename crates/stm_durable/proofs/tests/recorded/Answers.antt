@@ -1,4 +1,4 @@
-use Rattle.std.proofs.Common.{[], List, Option, sym, subst}
+use Rattle.std.proofs.Common.{[], List, Option, refl, sym, subst}
 use Rattle.stm_events.specs.declared.event.Event.{Event}
 use Rattle.stm_machine.specs.Checkpoints.{CheckpointView}
 use Rattle.stm_history.specs.Starts.{written_start}
@@ -8,7 +8,7 @@ use Rattle.stm_durable.proofs.Texts.{fits_again}
 use Rattle.stm_durable.proofs.tests.recorded.Goals as goal
 
 pub record-requires-clause-kept : goal.record-requires-clause-kept
-record-requires-clause-kept c honest = ([], none_yet _ _ _ _ _ _ _ c.in-Some-None.is-1 (c.in-Ok.ensures.kept honest) _)
+record-requires-clause-kept c honest = ([], none_yet _ _ _ c.in-Some-None.is-1 (c.in-Ok.ensures.kept (λ h. refl) honest) _)
 
 pub record-requires-clause-fit : goal.record-requires-clause-fit
 record-requires-clause-fit c =

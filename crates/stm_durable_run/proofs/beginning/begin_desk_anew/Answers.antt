@@ -20,8 +20,8 @@ returns-clause-may_begin g c =
 
 pub returns-clause-any_moment : goal.returns-clause-any_moment
 returns-clause-any_moment g c = λ honest m.
-    let D = g.D.Device in
+    let D = g.D.Device.disk in
     let f = c.args.file.now in
     let run = rw c.table.ensures at (c.begin_anew.ensures.any_moment honest) in
-    begun_run D.seen D.may_leave D.moment D.left_since f.journal.device c.begin_anew.new.self.journal.device f.journal.sync f.journal.len f.begun D.fills_with_zeros m.committed c.args.desk.now c.in-Some.checkpoint.now
+    begun_run D f c.begin_anew.new.self.journal.device m.committed c.args.desk.now c.in-Some.checkpoint.now
     c.in-Some.ensures (anew_none _ c.args.desk.now m) (m.kept honest) run

@@ -1,5 +1,5 @@
 use Rattle.std.proofs.Common.{IsTrue, sym, subst}
-use Rattle.stm_journal.specs.Device.{LeavesOnly}
+use Rattle.stm_journal.specs.Disk.{LeavesOnly}
 use Rattle.stm_run.specs.declared.console.Console.{Console}
 use Rattle.stm_durable_run.specs.DurableRun.{KeepsConsole, LeavesBetween}
 use Rattle.stm_durable_run.specs.Committing.{MayCommit}
@@ -11,21 +11,21 @@ returns-in-Declaring-clause-count g c = declaring_count _ _ _ _ _ c.in-Declaring
 
 pub returns-in-Declaring-clause-recorded : goal.returns-in-Declaring-clause-recorded
 returns-in-Declaring-clause-recorded g c = λ honest.
-    let D = g.D.Device in
+    let D = g.D.Device.disk in
     let f = c.args.file.now in
     let m = c.requires in
-    declaring_kept D.seen D.may_leave f.journal.device f.journal.sync f.journal.len f.begun m.committed _ _ _ c.in-Declaring.is m.grows (m.kept honest)
+    declaring_kept D f m.committed _ _ _ c.in-Declaring.is m.grows (m.kept honest)
 
 pub returns-in-Declaring-clause-any_moment : goal.returns-in-Declaring-clause-any_moment
 returns-in-Declaring-clause-any_moment g c = λ honest m.
-    let D = g.D.Device in
+    let D = g.D.Device.disk in
     let f = c.args.file.now in
-    between_still D.seen D.may_leave D.moment D.left_since f.journal.device f.journal.sync f.journal.len f.begun D.fills_with_zeros m.committed c.args.console.now m.grows (m.kept honest)
-    (g.met.D.Device.only_now f.journal.device)
+    between_still D f m.committed c.args.console.now m.grows (m.kept honest)
+    (g.met.D.Device.lawful.only_now f.journal.device)
 
 pub returns-in-Open-clause-any_moment : goal.returns-in-Open-clause-any_moment
 returns-in-Open-clause-any_moment g c = λ honest.
-    let D = g.D.Device in
+    let D = g.D.Device.disk in
     let f = c.args.file.now in
-    subst (λ (t : Console). (m : MayCommit (λ s. IsTrue D.is_honest → KeepsConsole D.seen D.may_leave f.journal.device f.journal.sync f.journal.len f.begun s) t c.args.recorded)
-    → LeavesOnly D.moment D.left_since f.journal.device c.record_open.new.file.journal.device (LeavesBetween f.journal.sync D.fills_with_zeros m.committed t)) (sym c.in-Open.is) (c.record_open.ensures.any_moment honest)
+    subst (λ (t : Console). (m : MayCommit (KeepsConsole D f) t c.args.recorded)
+    → LeavesOnly D f.journal.device c.record_open.new.file.journal.device (LeavesBetween f.journal.sync D.fills_with_zeros m.committed t)) (sym c.in-Open.is) (c.record_open.ensures.any_moment honest)

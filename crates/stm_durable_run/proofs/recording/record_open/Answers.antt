@@ -11,10 +11,10 @@ record_from-requires-clause-within g c = within _ _ _ c.requires
 
 pub record_from-requires-clause-kept : goal.record_from-requires-clause-kept
 record_from-requires-clause-kept g c = λ honest.
-    let D = g.D.Device in
+    let D = g.D.Device.disk in
     let f = c.args.file.now in
     let m = c.requires in
-    kept_front D.seen D.may_leave f.journal.device f.journal.sync f.journal.len f.begun m.committed (Open c.args.desk.now) c.args.recorded m.grows m.count (m.kept honest)
+    kept_front D f m.committed (Open c.args.desk.now) c.args.recorded m.grows m.count (m.kept honest)
 
 pub record_from-requires-clause-fit : goal.record_from-requires-clause-fit
 record_from-requires-clause-fit g c =
@@ -24,7 +24,7 @@ record_from-requires-clause-fit g c =
 
 pub returns-clause-any_moment : goal.returns-clause-any_moment
 returns-clause-any_moment g c = λ honest m.
-    let D = g.D.Device in
+    let D = g.D.Device.disk in
     let f = c.args.file.now in
-    weaker D.moment D.left_since f.journal.device c.record_from.new.file.journal.device _ _ (c.record_from.ensures.any_moment honest)
-    (between D.seen D.may_leave f.journal.device f.journal.sync f.journal.len f.begun D.fills_with_zeros m.committed (Open c.args.desk.now) m.grows (m.kept honest) c.args.recorded m.count)
+    weaker D f.journal.device c.record_from.new.file.journal.device _ _ (c.record_from.ensures.any_moment honest)
+    (between D f m.committed (Open c.args.desk.now) m.grows (m.kept honest) c.args.recorded m.count)

@@ -1,4 +1,4 @@
-use Rattle.std.proofs.Common.{◌≡◌, inr, ℕ, List, [], ◌∷◌, ◌++◌, Err, IsTrue, ap, ◌∙◌}
+use Rattle.std.proofs.Common.{◌≡◌, inr, ℕ, List, [], ◌∷◌, ◌++◌, Err, IsTrue, ap, ◌∙◌, refl}
 use Rattle.std.specs.Io.KnownBytes.{prepend_known}
 use Rattle.std.proofs.KnownBytes.{prepend_known-nil}
 use Rattle.stm_lines.specs.LineClass.{line_class}
@@ -20,16 +20,16 @@ returns-in-Ok-clause-done g c = λ first input old h.
 
 pub returns-in-Ok-clause-any_moment : goal.returns-in-Ok-clause-any_moment
 returns-in-Ok-clause-any_moment g c = λ honest first input old h.
-    let D = g.D.Device in
+    let D = g.D.Device.disk in
     let f = c.args.file.now in
     let w = rw c.in-Ok-Whole.field-0-is at c.in-Ok-Whole.ensures.line in
     let same : line_class c.line.result.now ≡ line_class (drop_return w.0) = ap line_class c.line.ensures ∙ w.2 in
-    input_run D.moment D.left_since f.journal.sync D.fills_with_zeros c.args.every first (h.lines ++ drop_return w.0 ∷ []) input f.journal.device c.answer_line.new.file.journal.device
+    input_run D f.journal.sync D.fills_with_zeros c.args.every first (h.lines ++ drop_return w.0 ∷ []) input f.journal.device c.answer_line.new.file.journal.device
     (on_begins _ c.args.every first input _ old _ _ _ _ h _ w.0 w.1) (c.answer_line.ensures.any_moment honest first h.lines old (drop_return w.0) same h.after)
 
 pub returns-in-Err-answer_line-clause-fault : goal.returns-in-Err-answer_line-clause-fault
 returns-in-Err-answer_line-clause-fault g c = λ first input old h.
-    let D = g.D.Device in
+    let D = g.D.Device.disk in
     let w = rw c.in-Ok-Whole.field-0-is at c.in-Ok-Whole.ensures.line in
     let same : line_class c.line.result.now ≡ line_class (drop_return w.0) = ap line_class c.line.ensures ∙ w.2 in
     failed_run D.is_honest c.args.file.now.journal.sync D.fills_with_zeros (D.may_leave c.answer_line.new.file.journal.device) _ c.args.every first (h.lines ++ drop_return w.0 ∷ []) input old _ _
@@ -37,11 +37,11 @@ returns-in-Err-answer_line-clause-fault g c = λ first input old h.
 
 pub returns-in-Err-answer_line-clause-any_moment : goal.returns-in-Err-answer_line-clause-any_moment
 returns-in-Err-answer_line-clause-any_moment g c = λ honest first input old h.
-    let D = g.D.Device in
+    let D = g.D.Device.disk in
     let f = c.args.file.now in
     let w = rw c.in-Ok-Whole.field-0-is at c.in-Ok-Whole.ensures.line in
     let same : line_class c.line.result.now ≡ line_class (drop_return w.0) = ap line_class c.line.ensures ∙ w.2 in
-    input_run D.moment D.left_since f.journal.sync D.fills_with_zeros c.args.every first (h.lines ++ drop_return w.0 ∷ []) input f.journal.device c.answer_line.new.file.journal.device
+    input_run D f.journal.sync D.fills_with_zeros c.args.every first (h.lines ++ drop_return w.0 ∷ []) input f.journal.device c.answer_line.new.file.journal.device
     (on_begins _ c.args.every first input _ old _ _ _ _ h _ w.0 w.1) (c.answer_line.ensures.any_moment honest first h.lines old (drop_return w.0) same h.after)
 
 -- ---- the last line
@@ -53,16 +53,16 @@ returns-in-Ok-answer_line-clause-done g c = λ first input old h.
 
 pub returns-in-Ok-answer_line-clause-any_moment : goal.returns-in-Ok-answer_line-clause-any_moment
 returns-in-Ok-answer_line-clause-any_moment g c = λ honest first input old h.
-    let D = g.D.Device in
+    let D = g.D.Device.disk in
     let f = c.args.file.now in
     let w = rw c.in-Ok-Last.field-0-is at c.in-Ok-Last.ensures.line in
     let same : line_class c.line-in-Ok-Last.result.now ≡ line_class w.0 = ap line_class c.line-in-Ok-Last.ensures ∙ w.3 in
-    input_run D.moment D.left_since f.journal.sync D.fills_with_zeros c.args.every first (h.lines ++ w.0 ∷ []) input f.journal.device c.answer_line-in-Ok-Last.new.file.journal.device
+    input_run D f.journal.sync D.fills_with_zeros c.args.every first (h.lines ++ w.0 ∷ []) input f.journal.device c.answer_line-in-Ok-Last.new.file.journal.device
     (last_begins (h.lines ++ w.0 ∷ []) input (last_lines _ c.args.every first input _ old _ _ _ _ h _ w.0 w.1 w.2)) (c.answer_line-in-Ok-Last.ensures.any_moment honest first h.lines old w.0 same h.after)
 
 pub returns-in-Err-answer_line-2-clause-fault : goal.returns-in-Err-answer_line-2-clause-fault
 returns-in-Err-answer_line-2-clause-fault g c = λ first input old h.
-    let D = g.D.Device in
+    let D = g.D.Device.disk in
     let w = rw c.in-Ok-Last.field-0-is at c.in-Ok-Last.ensures.line in
     let same : line_class c.line-in-Ok-Last.result.now ≡ line_class w.0 = ap line_class c.line-in-Ok-Last.ensures ∙ w.3 in
     failed_run D.is_honest c.args.file.now.journal.sync D.fills_with_zeros (D.may_leave c.answer_line-in-Ok-Last.new.file.journal.device) _ c.args.every first (h.lines ++ w.0 ∷ []) input old _ _
@@ -70,11 +70,11 @@ returns-in-Err-answer_line-2-clause-fault g c = λ first input old h.
 
 pub returns-in-Err-answer_line-2-clause-any_moment : goal.returns-in-Err-answer_line-2-clause-any_moment
 returns-in-Err-answer_line-2-clause-any_moment g c = λ honest first input old h.
-    let D = g.D.Device in
+    let D = g.D.Device.disk in
     let f = c.args.file.now in
     let w = rw c.in-Ok-Last.field-0-is at c.in-Ok-Last.ensures.line in
     let same : line_class c.line-in-Ok-Last.result.now ≡ line_class w.0 = ap line_class c.line-in-Ok-Last.ensures ∙ w.3 in
-    input_run D.moment D.left_since f.journal.sync D.fills_with_zeros c.args.every first (h.lines ++ w.0 ∷ []) input f.journal.device c.answer_line-in-Ok-Last.new.file.journal.device
+    input_run D f.journal.sync D.fills_with_zeros c.args.every first (h.lines ++ w.0 ∷ []) input f.journal.device c.answer_line-in-Ok-Last.new.file.journal.device
     (last_begins (h.lines ++ w.0 ∷ []) input (last_lines _ c.args.every first input _ old _ _ _ _ h _ w.0 w.1 w.2)) (c.answer_line-in-Ok-Last.ensures.any_moment honest first h.lines old w.0 same h.after)
 
 -- ---- no line is left
@@ -84,21 +84,21 @@ returns-in-Ok-End-clause-done g c = λ first input old h.
 
 pub returns-in-Ok-End-clause-any_moment : goal.returns-in-Ok-End-clause-any_moment
 returns-in-Ok-End-clause-any_moment g c = λ honest first input old h.
-    let D = g.D.Device in
+    let D = g.D.Device.disk in
     let f = c.args.file.now in
     let a = h.after in
-    input_run D.moment D.left_since f.journal.sync D.fills_with_zeros c.args.every first h.lines input f.journal.device f.journal.device (come_begins _ c.args.every first input _ old _ _ _ _ h)
-    (lines_still D.moment D.left_since f.journal.sync D.fills_with_zeros c.args.every first _ h.lines old _ _ _ _ a.behind D.seen D.may_leave f.journal.device f.journal.len f.begun (a.behind.kept honest) (g.met.D.Device.only_now f.journal.device))
+    input_run D f.journal.sync D.fills_with_zeros c.args.every first h.lines input f.journal.device f.journal.device (come_begins _ c.args.every first input _ old _ _ _ _ h)
+    (lines_still D f.journal.sync D.fills_with_zeros c.args.every first _ h.lines old _ _ _ _ a.behind f refl refl (a.behind.kept honest) (g.met.D.Device.lawful.only_now f.journal.device))
 
 -- ---- the reader failed
 pub returns-in-Ok-commit-clause-fault : goal.returns-in-Ok-commit-clause-fault
 returns-in-Ok-commit-clause-fault g c = λ first input old h.
-    let D = g.D.Device in
+    let D = g.D.Device.disk in
     let f = c.commit.new.file in
     failed_run D.is_honest c.args.file.now.journal.sync D.fills_with_zeros (D.may_leave f.journal.device)
-    (λ s. IsTrue D.is_honest → KeepsConsole D.seen D.may_leave f.journal.device f.journal.sync f.journal.len f.begun s) c.args.every first h.lines input old (g.W.Write.contents c.commit.new.writer) (Run c.in-Err.fault)
+    (KeepsConsole D f) c.args.every first h.lines input old (g.W.Write.contents c.commit.new.writer) (Run c.in-Err.fault)
     (come_begins _ c.args.every first input _ old _ _ _ _ h)
-    (stopped_after _ c.args.every first h.lines old _ _ _ _ h.after.behind (λ s. IsTrue D.is_honest → KeepsConsole D.seen D.may_leave f.journal.device f.journal.sync f.journal.len f.begun s) _
+    (stopped_after _ c.args.every first h.lines old _ _ _ _ h.after.behind (KeepsConsole D f) _
     c.in-Ok-commit.ensures.done c.in-Ok-commit.ensures.kept)
 
 pub returns-in-Ok-commit-clause-read_fault : goal.returns-in-Ok-commit-clause-read_fault
@@ -112,32 +112,32 @@ returns-in-Ok-commit-clause-read_fault g c = λ e first input old h.
 
 pub returns-in-Ok-commit-clause-any_moment : goal.returns-in-Ok-commit-clause-any_moment
 returns-in-Ok-commit-clause-any_moment g c = λ honest first input old h.
-    let D = g.D.Device in
+    let D = g.D.Device.disk in
     let f = c.args.file.now in
     let a = h.after in
-    input_run D.moment D.left_since f.journal.sync D.fills_with_zeros c.args.every first h.lines input f.journal.device c.commit.new.file.journal.device (come_begins _ c.args.every first input _ old _ _ _ _ h)
-    (events_run D.moment D.left_since f.journal.sync D.fills_with_zeros c.args.every first _ h.lines old _ _ _ _ a.behind f.journal.device c.commit.new.file.journal.device
+    input_run D f.journal.sync D.fills_with_zeros c.args.every first h.lines input f.journal.device c.commit.new.file.journal.device (come_begins _ c.args.every first input _ old _ _ _ _ h)
+    (events_run D f.journal.sync D.fills_with_zeros c.args.every first _ h.lines old _ _ _ _ a.behind f.journal.device c.commit.new.file.journal.device
     ((c.commit.ensures.any_moment honest (may_commit _ _ _ _ _ _ _ _ _ a))))
 
 pub returns-in-Err-commit-clause-fault : goal.returns-in-Err-commit-clause-fault
 returns-in-Err-commit-clause-fault g c = λ first input old h.
-    let D = g.D.Device in
+    let D = g.D.Device.disk in
     let f = c.commit.new.file in
     let a = h.after in
     failed_run D.is_honest c.args.file.now.journal.sync D.fills_with_zeros (D.may_leave f.journal.device) _ c.args.every first h.lines input old _ _ (come_begins _ c.args.every first input _ old _ _ _ _ h)
     (failed _ c.args.every first h.lines old _ _ _ _ a.behind D.is_honest c.args.file.now.journal.sync D.fills_with_zeros (D.may_leave f.journal.device)
-    (λ s. IsTrue D.is_honest → KeepsConsole D.seen D.may_leave f.journal.device f.journal.sync f.journal.len f.begun s) _ _ c.in-Err-commit.ensures.fault
+    (KeepsConsole D f) _ _ c.in-Err-commit.ensures.fault
     (λ honest o left.
     let run = c.commit.ensures.any_moment honest (may_commit _ _ _ _ _ _ _ _ _ a) in
-    inr (run.each o (g.met.D.Device.counts_now f.journal.device (D.moment c.args.file.now.journal.device) o run.later left))))
+    inr (run.each o (g.met.D.Device.lawful.counts_now f.journal.device (D.moment c.args.file.now.journal.device) o run.later left))))
 
 pub returns-in-Err-commit-clause-any_moment : goal.returns-in-Err-commit-clause-any_moment
 returns-in-Err-commit-clause-any_moment g c = λ honest first input old h.
-    let D = g.D.Device in
+    let D = g.D.Device.disk in
     let f = c.args.file.now in
     let a = h.after in
-    input_run D.moment D.left_since f.journal.sync D.fills_with_zeros c.args.every first h.lines input f.journal.device c.commit.new.file.journal.device (come_begins _ c.args.every first input _ old _ _ _ _ h)
-    (events_run D.moment D.left_since f.journal.sync D.fills_with_zeros c.args.every first _ h.lines old _ _ _ _ a.behind f.journal.device c.commit.new.file.journal.device
+    input_run D f.journal.sync D.fills_with_zeros c.args.every first h.lines input f.journal.device c.commit.new.file.journal.device (come_begins _ c.args.every first input _ old _ _ _ _ h)
+    (events_run D f.journal.sync D.fills_with_zeros c.args.every first _ h.lines old _ _ _ _ a.behind f.journal.device c.commit.new.file.journal.device
     ((c.commit.ensures.any_moment honest (may_commit _ _ _ _ _ _ _ _ _ a))))
 
 pub commit-requires : goal.commit-requires

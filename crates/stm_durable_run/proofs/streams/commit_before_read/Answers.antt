@@ -1,4 +1,4 @@
-use Rattle.std.proofs.Common.{IsTrue, inr}
+use Rattle.std.proofs.Common.{IsTrue, inr, refl}
 use Rattle.stm_durable_run.specs.DurableRun.{KeepsConsole}
 use Rattle.stm_durable_run.proofs.Committing.{may_commit, may_begin_next, all_written, failed, on_done, on_fault}
 use Rattle.stm_durable_run.proofs.RunCrashes.{input_run, events_run, lines_still}
@@ -7,42 +7,42 @@ use Rattle.stm_durable_run.proofs.streams.commit_before_read.Goals as goal
 
 pub returns-then-is_buffered-clause-any_moment : goal.returns-then-is_buffered-clause-any_moment
 returns-then-is_buffered-clause-any_moment g c = λ honest every first input rest old h.
-    let D = g.D.Device in
+    let D = g.D.Device.disk in
     let f = c.args.file.now in
     let a = h.after in
-    input_run D.moment D.left_since f.journal.sync D.fills_with_zeros every first h.lines input f.journal.device f.journal.device (come_begins _ every first input rest old _ _ _ _ h)
-    (lines_still D.moment D.left_since f.journal.sync D.fills_with_zeros every first _ h.lines old _ _ _ _ a.behind D.seen D.may_leave f.journal.device f.journal.len f.begun (a.behind.kept honest) (g.met.D.Device.only_now f.journal.device))
+    input_run D f.journal.sync D.fills_with_zeros every first h.lines input f.journal.device f.journal.device (come_begins _ every first input rest old _ _ _ _ h)
+    (lines_still D f.journal.sync D.fills_with_zeros every first _ h.lines old _ _ _ _ a.behind f refl refl (a.behind.kept honest) (g.met.D.Device.lawful.only_now f.journal.device))
 
 pub returns-else-is_buffered-clause-done : goal.returns-else-is_buffered-clause-done
 returns-else-is_buffered-clause-done g c =
-    let D = g.D.Device in
+    let D = g.D.Device.disk in
     let f = c.hand_on.new.file in
     let e = c.hand_on.ensures in
     on_done (IsTrue D.is_honest) c.hand_on.result e.done e.none e.count e.kept _ (λ w n m k every first input rest old h.
     comes_after _ every first input rest old _ _ _ _ h _ _ _ _ _
-    (all_written _ every first h.lines old _ _ _ _ h.after.behind (λ s. IsTrue D.is_honest → KeepsConsole D.seen D.may_leave f.journal.device f.journal.sync f.journal.len f.begun s) _ _ _ _ w e.console n m k (may_begin_next _ _ _ _ _ _ _ _ _ h.after)))
+    (all_written _ every first h.lines old _ _ _ _ h.after.behind (KeepsConsole D f) _ _ _ _ w e.console n m k (may_begin_next _ _ _ _ _ _ _ _ _ h.after)))
 
 pub returns-else-is_buffered-clause-fault : goal.returns-else-is_buffered-clause-fault
 returns-else-is_buffered-clause-fault g c =
-    let D = g.D.Device in
+    let D = g.D.Device.disk in
     let f = c.hand_on.new.file in
     let e = c.hand_on.ensures in
     on_fault c.hand_on.result _ _ e.fault (λ x p every first input rest old h.
     let a = h.after in
     failed_run D.is_honest c.args.file.now.journal.sync D.fills_with_zeros (D.may_leave f.journal.device) _ every first h.lines input old _ x (come_begins _ every first input rest old _ _ _ _ h)
     (failed _ every first h.lines old _ _ _ _ a.behind D.is_honest c.args.file.now.journal.sync D.fills_with_zeros (D.may_leave f.journal.device)
-    (λ s. IsTrue D.is_honest → KeepsConsole D.seen D.may_leave f.journal.device f.journal.sync f.journal.len f.begun s) _ x p
+    (KeepsConsole D f) _ x p
     (λ honest o left.
     let run = e.any_moment honest (may_commit _ _ _ _ _ _ _ _ _ a) in
-    inr (run.each o (g.met.D.Device.counts_now f.journal.device (D.moment c.args.file.now.journal.device) o run.later left)))))
+    inr (run.each o (g.met.D.Device.lawful.counts_now f.journal.device (D.moment c.args.file.now.journal.device) o run.later left)))))
 
 pub returns-else-is_buffered-clause-any_moment : goal.returns-else-is_buffered-clause-any_moment
 returns-else-is_buffered-clause-any_moment g c = λ honest every first input rest old h.
-    let D = g.D.Device in
+    let D = g.D.Device.disk in
     let f = c.args.file.now in
     let a = h.after in
-    input_run D.moment D.left_since f.journal.sync D.fills_with_zeros every first h.lines input f.journal.device c.hand_on.new.file.journal.device (come_begins _ every first input rest old _ _ _ _ h)
-    (events_run D.moment D.left_since f.journal.sync D.fills_with_zeros every first _ h.lines old _ _ _ _ a.behind f.journal.device c.hand_on.new.file.journal.device
+    input_run D f.journal.sync D.fills_with_zeros every first h.lines input f.journal.device c.hand_on.new.file.journal.device (come_begins _ every first input rest old _ _ _ _ h)
+    (events_run D f.journal.sync D.fills_with_zeros every first _ h.lines old _ _ _ _ a.behind f.journal.device c.hand_on.new.file.journal.device
     ((c.hand_on.ensures.any_moment honest (may_commit _ _ _ _ _ _ _ _ _ a))))
 
 pub hand_on-requires : goal.hand_on-requires

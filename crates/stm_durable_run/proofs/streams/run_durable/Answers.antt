@@ -4,7 +4,7 @@ use Rattle.stm_terms.specs.Texts.{IsPrefixOf}
 use Rattle.stm_lines.specs.Lines.{lines_of}
 use Rattle.stm_run.specs.declared.console.Console.{Console}
 use Rattle.stm_run.specs.LineCheckpoints.{answers_by}
-use Rattle.stm_durable_run.specs.DurableRun.{resumed_console, KeepsConsole, HasCommitted, CoversAnswers}
+use Rattle.stm_durable_run.specs.DurableRun.{resumed_console, ConsoleKept, HasCommitted, CoversAnswers}
 use Rattle.stm_durable_run.specs.NewEvents.{MayBeginRun}
 use Rattle.stm_durable_run.proofs.Ended.{loaded_kept, may_begin, part_answered, is_committed, is_covered, committed_still, covered_still, leaves_still, if_some}
 use Rattle.stm_durable_run.proofs.streams.run_durable.Goals as goal
@@ -15,64 +15,64 @@ run_begun-requires-clause-may_begin g c κs within =
 
 pub run_begun-requires-clause-kept : goal.run_begun-requires-clause-kept
 run_begun-requires-clause-kept g c κs within = λ honest.
-    let D = g.D.Device in
+    let D = g.D.Device.disk in
     let f = c.args.file.now in
-    subst (KeepsConsole D.seen D.may_leave f.journal.device f.journal.sync f.journal.len f.begun) (sym c.in-Ok.ensures.console)
-    (loaded_kept D.seen D.may_leave f.journal.device f.journal.sync f.journal.len f.begun c.args.options.max_events c.args.loaded (c.requires.kept honest))
+    subst (ConsoleKept D f) (sym c.in-Ok.ensures.console)
+    (loaded_kept D f c.args.options.max_events c.args.loaded (c.requires.kept honest))
 
 pub returns-in-Ok-clause-part : goal.returns-in-Ok-clause-part
 returns-in-Ok-clause-part g c =
-    let D = g.D.Device in
+    let D = g.D.Device.disk in
     let f = c.run_begun.new.file in
     let input = g.R.Read.remaining c.args.reader.now in
     let old = g.W.Write.contents c.args.writer.now in
     let new = g.W.Write.contents c.run_begun.new.writer in
     subst (λ (s : Console). OnErr c.run_begun.result (IfSome input (λ bytes. (front : List ℕ) × IsPrefixOf front (answers_by c.args.options.checkpoint_every s (lines_of bytes)) × Appends old new front))) c.in-Ok.ensures.console
-    (part_answered D.is_honest D.seen D.may_leave f.journal.device f.journal.sync c.args.file.now.journal.sync c.run_begun.ensures.sync f.journal.len f.begun D.fills_with_zeros c.args.options.checkpoint_every _ input old new c.run_begun.result
+    (part_answered D f c.args.file.now.journal.sync c.run_begun.ensures.sync c.args.options.checkpoint_every _ input old new c.run_begun.result
     c.run_begun.ensures.fault)
 
 pub returns-in-Ok-clause-committed : goal.returns-in-Ok-clause-committed
 returns-in-Ok-clause-committed g c = λ honest none.
-    let D = g.D.Device in
+    let D = g.D.Device.disk in
     let f = c.run_begun.new.file in
     let input = g.R.Read.remaining c.args.reader.now in
     let old = g.W.Write.contents c.args.writer.now in
     let new = g.W.Write.contents c.run_begun.new.writer in
-    subst (λ (s : Console). IfSome input (λ bytes. (written : List ℕ) × Appends old new written × HasCommitted D.seen D.may_leave f.journal.device f.journal.sync f.journal.len f.begun c.args.options.checkpoint_every s (lines_of bytes) written))
+    subst (λ (s : Console). IfSome input (λ bytes. (written : List ℕ) × Appends old new written × HasCommitted D f c.args.options.checkpoint_every s (lines_of bytes) written))
     c.in-Ok.ensures.console
-    (is_committed D.is_honest D.seen D.may_leave f.journal.device f.journal.sync c.args.file.now.journal.sync c.run_begun.ensures.sync f.journal.len f.begun D.fills_with_zeros c.args.options.checkpoint_every _ input old new honest c.run_begun.result none
+    (is_committed D f c.args.file.now.journal.sync c.run_begun.ensures.sync c.args.options.checkpoint_every _ input old new honest c.run_begun.result none
     c.run_begun.ensures.done c.run_begun.ensures.fault)
 
 pub returns-in-Ok-clause-covered : goal.returns-in-Ok-clause-covered
 returns-in-Ok-clause-covered g c = λ honest.
-    let D = g.D.Device in
+    let D = g.D.Device.disk in
     let f = c.run_begun.new.file in
     let input = g.R.Read.remaining c.args.reader.now in
     let old = g.W.Write.contents c.args.writer.now in
     let new = g.W.Write.contents c.run_begun.new.writer in
     subst (λ (s : Console). IfSome input (λ bytes. (written : List ℕ) × Appends old new written × ((o : List ℕ) → D.may_leave f.journal.device o
     → CoversAnswers c.args.file.now.journal.sync D.fills_with_zeros c.args.options.checkpoint_every s (lines_of bytes) written o))) c.in-Ok.ensures.console
-    (is_covered D.is_honest D.seen D.may_leave f.journal.device f.journal.sync c.args.file.now.journal.sync c.run_begun.ensures.sync f.journal.len f.begun D.fills_with_zeros c.args.options.checkpoint_every _ input old new honest c.run_begun.result
+    (is_covered D f c.args.file.now.journal.sync c.run_begun.ensures.sync c.args.options.checkpoint_every _ input old new honest c.run_begun.result
     c.run_begun.ensures.done c.run_begun.ensures.fault)
 
 pub returns-in-Err-clause-committed : goal.returns-in-Err-clause-committed
 returns-in-Err-clause-committed g c = λ honest none.
-    let D = g.D.Device in
+    let D = g.D.Device.disk in
     let f = c.args.file.now in
-    let k = loaded_kept D.seen D.may_leave f.journal.device f.journal.sync f.journal.len f.begun c.args.options.max_events c.args.loaded (c.requires.kept honest) in
-    if_some _ _ (λ bytes. committed_still c.args.options.checkpoint_every (resumed_console c.args.options.max_events c.args.loaded) (lines_of bytes) D.seen D.may_leave f.journal.device f.journal.sync f.journal.len f.begun _ k)
+    let k = loaded_kept D f c.args.options.max_events c.args.loaded (c.requires.kept honest) in
+    if_some _ _ (λ bytes. committed_still c.args.options.checkpoint_every (resumed_console c.args.options.max_events c.args.loaded) (lines_of bytes) D f _ k)
 
 pub returns-in-Err-clause-covered : goal.returns-in-Err-clause-covered
 returns-in-Err-clause-covered g c = λ honest.
-    let D = g.D.Device in
+    let D = g.D.Device.disk in
     let f = c.args.file.now in
-    let k = loaded_kept D.seen D.may_leave f.journal.device f.journal.sync f.journal.len f.begun c.args.options.max_events c.args.loaded (c.requires.kept honest) in
-    if_some _ _ (λ bytes. covered_still c.args.options.checkpoint_every (resumed_console c.args.options.max_events c.args.loaded) (lines_of bytes) D.seen D.may_leave f.journal.device f.journal.sync f.journal.len f.begun D.fills_with_zeros _ k)
+    let k = loaded_kept D f c.args.options.max_events c.args.loaded (c.requires.kept honest) in
+    if_some _ _ (λ bytes. covered_still c.args.options.checkpoint_every (resumed_console c.args.options.max_events c.args.loaded) (lines_of bytes) D f _ k)
 
 pub returns-in-Err-clause-any_moment : goal.returns-in-Err-clause-any_moment
 returns-in-Err-clause-any_moment g c = λ honest.
-    let D = g.D.Device in
+    let D = g.D.Device.disk in
     let f = c.args.file.now in
-    let k = loaded_kept D.seen D.may_leave f.journal.device f.journal.sync f.journal.len f.begun c.args.options.max_events c.args.loaded (c.requires.kept honest) in
-    if_some _ _ (λ bytes. leaves_still c.args.options.checkpoint_every (resumed_console c.args.options.max_events c.args.loaded) (lines_of bytes) D.seen D.may_leave D.moment D.left_since f.journal.device f.journal.sync f.journal.len f.begun D.fills_with_zeros k
-    (g.met.D.Device.only_now f.journal.device))
+    let k = loaded_kept D f c.args.options.max_events c.args.loaded (c.requires.kept honest) in
+    if_some _ _ (λ bytes. leaves_still c.args.options.checkpoint_every (resumed_console c.args.options.max_events c.args.loaded) (lines_of bytes) D f k
+    (g.met.D.Device.lawful.only_now f.journal.device))

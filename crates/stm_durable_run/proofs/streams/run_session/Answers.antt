@@ -12,14 +12,14 @@ use Rattle.stm_durable_run.proofs.streams.run_session.Goals as goal
 
 pub lines-init : goal.lines-init
 lines-init g c =
-    let D = g.D.Device in
+    let D = g.D.Device.disk in
     let f = c.args.file.now in
     let r = c.requires in
     let s = c.args.session.now.console in
     let input = g.R.Read.remaining c.args.calls.now.reader.now in
     record {
       come = comes_first _ c.args.every s input _ _ _ _ r.may_begin r.held r.recorded r.kept (ap (λ (l : List ℕ). prepend_known l input) r.chunk ∙ prepend_known-nil input);
-      moment = λ honest. run_still D.moment D.left_since f.journal.sync D.fills_with_zeros c.args.every s input D.seen D.may_leave f.journal.device f.journal.len f.begun (r.kept honest) (g.met.D.Device.only_now f.journal.device);
+      moment = λ honest. run_still D f.journal.sync D.fills_with_zeros c.args.every s input f refl refl (r.kept honest) (g.met.D.Device.lawful.only_now f.journal.device);
       sync = refl;
       same_reader = refl;
       same_steps = refl;
@@ -33,9 +33,9 @@ returns-in_err-commit_before_read-clause-fault g c =
 
 pub returns-in_err-commit_before_read-clause-any_moment : goal.returns-in_err-commit_before_read-clause-any_moment
 returns-in_err-commit_before_read-clause-any_moment g c = λ honest.
-    let D = g.D.Device in
+    let D = g.D.Device.disk in
     let i = c.lines.invariant in
-    runs_on D.moment D.left_since _ D.fills_with_zeros _ _ _ _ _ _ _ i.sync (i.moment honest) (c.commit_before_read.ensures.any_moment honest _ _ _ _ _ i.come)
+    runs_on D _ D.fills_with_zeros _ _ _ _ _ _ _ i.sync (i.moment honest) (c.commit_before_read.ensures.any_moment honest _ _ _ _ _ i.come)
 
 pub answer_next-requires-after_bounds : goal.answer_next-requires-after_bounds
 answer_next-requires-after_bounds g c κs within =
@@ -59,11 +59,11 @@ returns-in_err-answer_next-clause-read_fault g c = λ e.
 
 pub returns-in_err-answer_next-clause-any_moment : goal.returns-in_err-answer_next-clause-any_moment
 returns-in_err-answer_next-clause-any_moment g c = λ honest.
-    let D = g.D.Device in
+    let D = g.D.Device.disk in
     let i = c.lines.invariant in
     let come = c.in_ok-commit_before_read.ensures.done _ _ _ _ _ i.come in
-    let before = runs_on D.moment D.left_since _ D.fills_with_zeros _ _ _ _ _ _ _ i.sync (i.moment honest) (c.commit_before_read.ensures.any_moment honest _ _ _ _ _ i.come) in
-    runs_on D.moment D.left_since _ D.fills_with_zeros _ _ _ _ _ _ _ (c.commit_before_read.ensures.sync ∙ i.sync) before (c.answer_next.ensures.any_moment honest _ _ _ come)
+    let before = runs_on D _ D.fills_with_zeros _ _ _ _ _ _ _ i.sync (i.moment honest) (c.commit_before_read.ensures.any_moment honest _ _ _ _ _ i.come) in
+    runs_on D _ D.fills_with_zeros _ _ _ _ _ _ _ (c.commit_before_read.ensures.sync ∙ i.sync) before (c.answer_next.ensures.any_moment honest _ _ _ come)
 
 pub hand_on-requires : goal.hand_on-requires
 hand_on-requires g c =
@@ -74,7 +74,7 @@ hand_on-requires g c =
 
 pub returns-then-not-branch-clause-done : goal.returns-then-not-branch-clause-done
 returns-then-not-branch-clause-done g c =
-    let D = g.D.Device in
+    let D = g.D.Device.disk in
     let f = c.hand_on.new.file in
     let i = c.lines.invariant in
     let come = c.in_ok-commit_before_read.ensures.done _ _ _ _ _ i.come in
@@ -83,11 +83,11 @@ returns-then-not-branch-clause-done g c =
     let e = c.hand_on.ensures in
     on_done (IsTrue D.is_honest) c.hand_on.result e.done e.none e.count e.kept _ (λ w n m k.
     all_finished _ _ _ end.lines _ _ _ end.lines_are
-    (finished _ _ _ end.lines _ _ _ _ _ end.after.behind (λ s. IsTrue D.is_honest → KeepsConsole D.seen D.may_leave f.journal.device f.journal.sync f.journal.len f.begun s) _ w k))
+    (finished _ _ _ end.lines _ _ _ _ _ end.after.behind (KeepsConsole D f) _ w k))
 
 pub returns-then-not-branch-clause-fault : goal.returns-then-not-branch-clause-fault
 returns-then-not-branch-clause-fault g c =
-    let D = g.D.Device in
+    let D = g.D.Device.disk in
     let f = c.hand_on.new.file in
     let mid = c.answer_next.new.file in
     let i = c.lines.invariant in
@@ -98,37 +98,37 @@ returns-then-not-branch-clause-fault g c =
     failed_synced D.is_honest mid.journal.sync _ D.fills_with_zeros (D.may_leave f.journal.device) _ _ _ _ _ _ x (c.answer_next.ensures.sync ∙ c.commit_before_read.ensures.sync ∙ i.sync)
     (failed_run D.is_honest mid.journal.sync D.fills_with_zeros (D.may_leave f.journal.device) _ _ _ end.lines _ _ _ x (last_begins end.lines _ end.lines_are)
     (failed _ _ _ end.lines _ _ _ _ _ end.after.behind D.is_honest mid.journal.sync D.fills_with_zeros (D.may_leave f.journal.device)
-    (λ s. IsTrue D.is_honest → KeepsConsole D.seen D.may_leave f.journal.device f.journal.sync f.journal.len f.begun s) _ x p
+    (KeepsConsole D f) _ x p
     (λ honest o left.
     let run = c.hand_on.ensures.any_moment honest (may_commit _ _ _ _ _ _ _ _ _ end.after) in
-    inr (run.each o (g.met.D.Device.counts_now f.journal.device (D.moment mid.journal.device) o run.later left))))))
+    inr (run.each o (g.met.D.Device.lawful.counts_now f.journal.device (D.moment mid.journal.device) o run.later left))))))
 
 pub returns-then-not-branch-clause-any_moment : goal.returns-then-not-branch-clause-any_moment
 returns-then-not-branch-clause-any_moment g c = λ honest.
-    let D = g.D.Device in
+    let D = g.D.Device.disk in
     let mid = c.answer_next.new.file in
     let i = c.lines.invariant in
     let come = c.in_ok-commit_before_read.ensures.done _ _ _ _ _ i.come in
     let last = rw c.if-not-branch.true at c.in_ok-answer_next.ensures.done in
     let end = last _ _ _ come in
-    let before = runs_on D.moment D.left_since _ D.fills_with_zeros _ _ _ _ _ _ _ i.sync (i.moment honest) (c.commit_before_read.ensures.any_moment honest _ _ _ _ _ i.come) in
-    let answered = runs_on D.moment D.left_since _ D.fills_with_zeros _ _ _ _ _ _ _ (c.commit_before_read.ensures.sync ∙ i.sync) before (c.answer_next.ensures.any_moment honest _ _ _ come) in
-    runs_on D.moment D.left_since _ D.fills_with_zeros _ _ _ _ _ _ _ (c.answer_next.ensures.sync ∙ c.commit_before_read.ensures.sync ∙ i.sync) answered
-    (input_run D.moment D.left_since mid.journal.sync D.fills_with_zeros _ _ end.lines _ mid.journal.device c.hand_on.new.file.journal.device (last_begins end.lines _ end.lines_are)
-    (events_run D.moment D.left_since mid.journal.sync D.fills_with_zeros _ _ _ end.lines _ _ _ _ _ end.after.behind mid.journal.device c.hand_on.new.file.journal.device
+    let before = runs_on D _ D.fills_with_zeros _ _ _ _ _ _ _ i.sync (i.moment honest) (c.commit_before_read.ensures.any_moment honest _ _ _ _ _ i.come) in
+    let answered = runs_on D _ D.fills_with_zeros _ _ _ _ _ _ _ (c.commit_before_read.ensures.sync ∙ i.sync) before (c.answer_next.ensures.any_moment honest _ _ _ come) in
+    runs_on D _ D.fills_with_zeros _ _ _ _ _ _ _ (c.answer_next.ensures.sync ∙ c.commit_before_read.ensures.sync ∙ i.sync) answered
+    (input_run D mid.journal.sync D.fills_with_zeros _ _ end.lines _ mid.journal.device c.hand_on.new.file.journal.device (last_begins end.lines _ end.lines_are)
+    (events_run D mid.journal.sync D.fills_with_zeros _ _ _ end.lines _ _ _ _ _ end.after.behind mid.journal.device c.hand_on.new.file.journal.device
     (c.hand_on.ensures.any_moment honest (may_commit _ _ _ _ _ _ _ _ _ end.after))))
 
 pub lines-preserved : goal.lines-preserved
 lines-preserved g c =
-    let D = g.D.Device in
+    let D = g.D.Device.disk in
     let i = c.lines.invariant in
     let come = c.in_ok-commit_before_read.ensures.done _ _ _ _ _ i.come in
     let next = rw c.if-not-branch.false at c.in_ok-answer_next.ensures.done in
     record {
       come = next _ _ _ come;
       moment = λ honest.
-          let before = runs_on D.moment D.left_since _ D.fills_with_zeros _ _ _ _ _ _ _ i.sync (i.moment honest) (c.commit_before_read.ensures.any_moment honest _ _ _ _ _ i.come) in
-          runs_on D.moment D.left_since _ D.fills_with_zeros _ _ _ _ _ _ _ (c.commit_before_read.ensures.sync ∙ i.sync) before (c.answer_next.ensures.any_moment honest _ _ _ come);
+          let before = runs_on D _ D.fills_with_zeros _ _ _ _ _ _ _ i.sync (i.moment honest) (c.commit_before_read.ensures.any_moment honest _ _ _ _ _ i.come) in
+          runs_on D _ D.fills_with_zeros _ _ _ _ _ _ _ (c.commit_before_read.ensures.sync ∙ i.sync) before (c.answer_next.ensures.any_moment honest _ _ _ come);
       sync = c.answer_next.ensures.sync ∙ c.commit_before_read.ensures.sync ∙ i.sync;
       same_reader = c.answer_next.ensures.same_reader ∙ i.same_reader;
       same_steps = c.answer_next.ensures.same_steps ∙ i.same_steps;

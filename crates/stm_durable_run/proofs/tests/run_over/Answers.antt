@@ -1,4 +1,4 @@
-use Rattle.std.proofs.Common.{◌≡◌, Result, Ok, Err, IfOk, subst}
+use Rattle.std.proofs.Common.{◌≡◌, Result, Ok, Err, IfOk, refl, subst}
 use Rattle.std.specs.Prelude.{MatchResult, IsErrAnd}
 use Rattle.stm_durable_run.proofs.tests.run_over.Goals as goal
 
@@ -8,4 +8,4 @@ mapped_ok (Ok y) s x P Q is was p = let same : y ≡ x = cc (is, was) in subst P
 mapped_ok (Err e) s x P Q is was p = absurd (subst (λ o. IsErrAnd o (Q e)) was is)
 
 pub run_durable-requires-clause-kept : goal.run_durable-requires-clause-kept
-run_durable-requires-clause-kept g c κs within = λ honest. mapped_ok c.open_history.result c.map_err.result c.in_ok-file.field-0 _ _ c.map_err.ensures.cases c.in_ok-file.was (c.open_history.ensures.kept honest)
+run_durable-requires-clause-kept g c κs within = λ honest. mapped_ok c.open_history.result c.map_err.result c.in_ok-file.field-0 _ _ c.map_err.ensures.cases c.in_ok-file.was c.open_history.ensures.kept (λ h. refl) honest

@@ -5,7 +5,7 @@ use Rattle.stm_durable.proofs.measured.MeasuredFileWrite.write.Goals as goal
 
 pub invariant_of-self-in-Some : goal.invariant_of-self-in-Some
 invariant_of-self-in-Some g c =
-    let D = g.D.Device in
+    let D = g.D.Device.disk in
     let old = c.args.self.now in
     let new = c.write.new.self in
     let bytes = take c.in_ok-count.count c.args.buf.now in
@@ -18,7 +18,7 @@ invariant_of-self-in-Some g c =
 
 pub invariant_of-self-in_default : goal.invariant_of-self-in_default
 invariant_of-self-in_default g c =
-    let D = g.D.Device in
+    let D = g.D.Device.disk in
     let old = c.args.self.now in
     let new = c.write.new.self in
     let bytes = take c.in_ok-count.count c.args.buf.now in

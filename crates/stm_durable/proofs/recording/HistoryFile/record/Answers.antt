@@ -1,7 +1,6 @@
-use Rattle.std.proofs.Common.{◌++◌, true, ◌∙◌, ap, length, option_copied, sym, subst, arith}
-use Rattle.stm_journal.specs.declared.sync_mode.SyncMode.{SyncMode}
+use Rattle.std.proofs.Common.{true, ◌∙◌, ap, length, option_copied, refl, sym, subst, arith}
 use Rattle.stm_journal.specs.Text.{IsWhole}
-use Rattle.stm_durable.specs.Durable.{KeepsHistory, lent_start}
+use Rattle.stm_durable.specs.Durable.{lent_start}
 use Rattle.stm_durable.proofs.Texts.{IsWhole-batch, batch_short}
 use Rattle.stm_durable.proofs.Crashes.{recorded, leaves, left}
 use Rattle.stm_durable.proofs.recording.HistoryFile.record.Goals as goal
@@ -15,12 +14,9 @@ add_batch-requires-clause-at_rest g c honest = (c.requires.kept honest).1.at_res
 
 pub returns-in-Ok-add_batch-clause-recorded : goal.returns-in-Ok-add_batch-clause-recorded
 returns-in-Ok-add_batch-clause-recorded g c honest H keeps =
-    let D = g.D.Device in
-    let s = c.args.self.now in
-    let new = c.add_batch.new.journal in
-    subst (λ (m : SyncMode). KeepsHistory D.seen D.may_leave new.device m new.len true (lent_start c.args.table.now c.args.checkpoint) (H ++ c.args.events.now)) (sym c.add_batch.ensures.sync)
-    (recorded D.seen D.may_leave D.moment D.left_since s.journal.device s.journal.sync s.journal.len D.fills_with_zeros s.begun (lent_start c.args.table.now c.args.checkpoint) H c.args.events.now keeps c.deref.result.now (c.deref.ensures.value ∙ c.in-Ok.ensures.ok)
-    new.device new.len (c.in-Ok-add_batch.ensures.at_rest honest) (c.in-Ok-add_batch.ensures.added honest))
+    let D = g.D.Device.disk in
+    recorded D c.args.self.now (lent_start c.args.table.now c.args.checkpoint) H c.args.events.now keeps c.deref.result.now (c.deref.ensures.value ∙ c.in-Ok.ensures.ok)
+    (record { journal = c.add_batch.new.journal; begun = true }) refl (c.in-Ok-add_batch.ensures.at_rest honest) (c.in-Ok-add_batch.ensures.added honest)
 
 pub returns-in-Ok-add_batch-clause-short : goal.returns-in-Ok-add_batch-clause-short
 returns-in-Ok-add_batch-clause-short g c =
@@ -30,32 +26,30 @@ returns-in-Ok-add_batch-clause-short g c =
 
 pub returns-in-Ok-add_batch-clause-any_moment : goal.returns-in-Ok-add_batch-clause-any_moment
 returns-in-Ok-add_batch-clause-any_moment g c honest H keeps =
-    let D = g.D.Device in
+    let D = g.D.Device.disk in
     let s = c.args.self.now in
-    let fit = c.requires.fit in
-    leaves D.seen D.may_leave D.moment D.left_since s.journal.device s.journal.sync s.journal.len D.fills_with_zeros s.begun (lent_start c.args.table.now c.args.checkpoint) H c.args.events.now keeps c.deref.result.now (c.deref.ensures.value ∙ c.in-Ok.ensures.ok)
-    fit.fit (let is = ap length c.deref.ensures.value in omega (arith, is)) c.add_batch.new.journal.device (c.add_batch.ensures.any_moment honest)
-
-pub returns-in-Ok-add_batch-clause-left : goal.returns-in-Ok-add_batch-clause-left
-returns-in-Ok-add_batch-clause-left g c honest H keeps =
-    let D = g.D.Device in
-    let s = c.args.self.now in
-    let fit = c.requires.fit in
-    left D.seen D.may_leave D.moment D.left_since s.journal.device s.journal.sync s.journal.len D.fills_with_zeros s.begun (lent_start c.args.table.now c.args.checkpoint) H c.args.events.now keeps c.deref.result.now (c.deref.ensures.value ∙ c.in-Ok.ensures.ok)
-    fit.fit (let is = ap length c.deref.ensures.value in omega (arith, is)) (D.seen c.add_batch.new.journal.device) (c.add_batch.ensures.left honest)
+    let start = lent_start c.args.table.now c.args.checkpoint in
+    let events = c.args.events.now in
+    let batch = c.deref.result.now in
+    let is = c.deref.ensures.value ∙ c.in-Ok.ensures.ok in
+    let fit = c.requires.fit.fit in
+    let small = ap length c.deref.ensures.value in
+    let new = c.add_batch.new.journal.device in (
+      leaves D s start H events keeps batch is fit (omega (arith, small)) new (c.add_batch.ensures.any_moment honest),
+      left D s start H events keeps batch is fit (omega (arith, small)) (D.seen new) (c.add_batch.ensures.left honest),
+    )
 
 pub returns-clause-any_moment : goal.returns-clause-any_moment
 returns-clause-any_moment g c honest H keeps =
-    let D = g.D.Device in
+    let D = g.D.Device.disk in
     let s = c.args.self.now in
-    let fit = c.requires.fit in
-    leaves D.seen D.may_leave D.moment D.left_since s.journal.device s.journal.sync s.journal.len D.fills_with_zeros s.begun (lent_start c.args.table.now c.args.checkpoint) H c.args.events.now keeps c.deref.result.now (c.deref.ensures.value ∙ c.in-Ok.ensures.ok)
-    fit.fit (let is = ap length c.deref.ensures.value in omega (arith, is)) c.add_batch.new.journal.device (c.add_batch.ensures.any_moment honest)
-
-pub returns-clause-left : goal.returns-clause-left
-returns-clause-left g c honest H keeps =
-    let D = g.D.Device in
-    let s = c.args.self.now in
-    let fit = c.requires.fit in
-    left D.seen D.may_leave D.moment D.left_since s.journal.device s.journal.sync s.journal.len D.fills_with_zeros s.begun (lent_start c.args.table.now c.args.checkpoint) H c.args.events.now keeps c.deref.result.now (c.deref.ensures.value ∙ c.in-Ok.ensures.ok)
-    fit.fit (let is = ap length c.deref.ensures.value in omega (arith, is)) (D.seen c.add_batch.new.journal.device) (c.add_batch.ensures.left honest)
+    let start = lent_start c.args.table.now c.args.checkpoint in
+    let events = c.args.events.now in
+    let batch = c.deref.result.now in
+    let is = c.deref.ensures.value ∙ c.in-Ok.ensures.ok in
+    let fit = c.requires.fit.fit in
+    let small = ap length c.deref.ensures.value in
+    let new = c.add_batch.new.journal.device in (
+      leaves D s start H events keeps batch is fit (omega (arith, small)) new (c.add_batch.ensures.any_moment honest),
+      left D s start H events keeps batch is fit (omega (arith, small)) (D.seen new) (c.add_batch.ensures.left honest),
+    )

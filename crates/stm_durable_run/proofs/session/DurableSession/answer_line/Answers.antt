@@ -43,7 +43,7 @@ commit_if_long-requires g c =
 pub returns-in-Ok-true-clause-done : goal.returns-in-Ok-true-clause-done
 unfolding line_more
 returns-in-Ok-true-clause-done g c =
-    let D = g.D.Device in
+    let D = g.D.Device.disk in
     let f = c.begin_anew.new.file in
     let e = c.begin_anew.ensures in
     let st = rw c.in-Ok-Text.field-0-is at c.in-Ok-Text.ensures.step in
@@ -54,12 +54,12 @@ returns-in-Ok-true-clause-done g c =
     let count = c.checkpoint_if_due.ensures.recorded ∙ c.hold_answer.ensures.recorded in
     on_begun (IsTrue D.is_honest) c.begin_anew.result e.done e.none e.count e.may_begin e.kept _ (λ w n m may k first before old judged same a.
     all_written _ c.args.every first (before ++ judged ∷ []) old _ _ _ _ (line_more _ c.args.every first before old _ _ _ _ a.behind c.args.line.now judged _ _ _ same is more count)
-    (λ s. IsTrue D.is_honest → KeepsConsole D.seen D.may_leave f.journal.device f.journal.sync f.journal.len f.begun s) _ _ _ _ w e.console n m k may)
+    (KeepsConsole D f) _ _ _ _ w e.console n m k may)
 
 pub returns-in-Ok-true-clause-fault : goal.returns-in-Ok-true-clause-fault
 unfolding line_more
 returns-in-Ok-true-clause-fault g c =
-    let D = g.D.Device in
+    let D = g.D.Device.disk in
     let f = c.begin_anew.new.file in
     let e = c.begin_anew.ensures in
     let st = rw c.in-Ok-Text.field-0-is at c.in-Ok-Text.ensures.step in
@@ -70,15 +70,15 @@ returns-in-Ok-true-clause-fault g c =
     let count = c.checkpoint_if_due.ensures.recorded ∙ c.hold_answer.ensures.recorded in
     on_fault c.begin_anew.result _ _ e.fault (λ x h first before old judged same a.
     failed _ c.args.every first (before ++ judged ∷ []) old _ _ _ _ (line_more _ c.args.every first before old _ _ _ _ a.behind c.args.line.now judged _ _ _ same is more count) D.is_honest c.args.file.now.journal.sync D.fills_with_zeros (D.may_leave f.journal.device)
-    (λ s. IsTrue D.is_honest → KeepsConsole D.seen D.may_leave f.journal.device f.journal.sync f.journal.len f.begun s) _ x h
+    (KeepsConsole D f) _ x h
     (λ honest o left.
     let run = e.any_moment honest (may_begin_anew _ c.args.every first before old _ _ _ _ a c.hold_answer.new.self.console c.checkpoint_if_due.new.self.console grown (c.in-Ok-Text.ensures.variables a.variables) made) in
-    run.each o (g.met.D.Device.counts_now f.journal.device (D.moment c.args.file.now.journal.device) o run.later left)))
+    run.each o (g.met.D.Device.lawful.counts_now f.journal.device (D.moment c.args.file.now.journal.device) o run.later left)))
 
 pub returns-in-Ok-true-clause-any_moment : goal.returns-in-Ok-true-clause-any_moment
 unfolding line_more
 returns-in-Ok-true-clause-any_moment g c = λ honest first before old judged same a.
-    let D = g.D.Device in
+    let D = g.D.Device.disk in
     let f = c.args.file.now in
     let st = rw c.in-Ok-Text.field-0-is at c.in-Ok-Text.ensures.step in
     let grown = (rw c.in-Ok-Text.field-0-is at c.in-Ok-Text.ensures.grows) refl in
@@ -86,7 +86,7 @@ returns-in-Ok-true-clause-any_moment g c = λ honest first before old judged sam
     let is = c.in-Ok-true.ensures.state c.args.self.now.console c.event_count-before.ensures ∙ ap (auto_step c.args.every c.args.self.now.console) st.0 in
     let more = c.checkpoint_if_due.ensures.held ∙ st.1 in
     let count = c.checkpoint_if_due.ensures.recorded ∙ c.hold_answer.ensures.recorded in
-    lines_run D.moment D.left_since f.journal.sync D.fills_with_zeros c.args.every first _ (before ++ judged ∷ []) old _ _ _ _ (line_more _ c.args.every first before old _ _ _ _ a.behind c.args.line.now judged _ _ _ same is more count) f.journal.device c.begin_anew.new.file.journal.device
+    lines_run D f.journal.sync D.fills_with_zeros c.args.every first _ (before ++ judged ∷ []) old _ _ _ _ (line_more _ c.args.every first before old _ _ _ _ a.behind c.args.line.now judged _ _ _ same is more count) f.journal.device c.begin_anew.new.file.journal.device
     (c.begin_anew.ensures.any_moment honest (may_begin_anew _ c.args.every first before old _ _ _ _ a c.hold_answer.new.self.console c.checkpoint_if_due.new.self.console grown (c.in-Ok-Text.ensures.variables a.variables) made))
 
 pub returns-in-Ok-false-clause-done : goal.returns-in-Ok-false-clause-done
@@ -137,19 +137,19 @@ returns-in-Err-checkpoint_if_due-clause-fault g c = λ first before old judged s
 
 pub returns-in-Err-checkpoint_if_due-clause-any_moment : goal.returns-in-Err-checkpoint_if_due-clause-any_moment
 returns-in-Err-checkpoint_if_due-clause-any_moment g c = λ honest first before old judged same a.
-    let D = g.D.Device in
+    let D = g.D.Device.disk in
     let f = c.args.file.now in
     let console = c.args.self.now.console in
     let held = string_bytes c.args.self.now.held in
     let line = c.args.line.now in
     let next = line_more _ c.args.every first before old _ _ _ _ a.behind line judged (auto_step c.args.every console (state_after console line)) (held ++ answer_to console line) _ same refl refl refl in
-    lines_still D.moment D.left_since f.journal.sync D.fills_with_zeros c.args.every first _ (before ++ judged ∷ []) old _ _ _ _ next D.seen D.may_leave f.journal.device f.journal.len f.begun (next.kept honest)
-    (g.met.D.Device.only_now f.journal.device)
+    lines_still D f.journal.sync D.fills_with_zeros c.args.every first _ (before ++ judged ∷ []) old _ _ _ _ next f refl refl (next.kept honest)
+    (g.met.D.Device.lawful.only_now f.journal.device)
 
 pub returns-in-Ok-Checkpoint-clause-done : goal.returns-in-Ok-Checkpoint-clause-done
 unfolding line_more
 returns-in-Ok-Checkpoint-clause-done g c =
-    let D = g.D.Device in
+    let D = g.D.Device.disk in
     let f = c.begin_anew-in-Ok-Checkpoint.new.file in
     let e = c.begin_anew-in-Ok-Checkpoint.ensures in
     let console = c.args.self.now.console in
@@ -160,12 +160,12 @@ returns-in-Ok-Checkpoint-clause-done g c =
     let count = c.hold_answer.ensures.recorded in
     on_begun (IsTrue D.is_honest) c.begin_anew-in-Ok-Checkpoint.result e.done e.none e.count e.may_begin e.kept _ (λ w n m may k first before old judged same a.
     all_written _ c.args.every first (before ++ judged ∷ []) old _ _ _ _ (line_more _ c.args.every first before old _ _ _ _ a.behind c.args.line.now judged _ _ _ same is more count)
-    (λ s. IsTrue D.is_honest → KeepsConsole D.seen D.may_leave f.journal.device f.journal.sync f.journal.len f.begun s) _ _ _ _ w e.console n m k may)
+    (KeepsConsole D f) _ _ _ _ w e.console n m k may)
 
 pub returns-in-Ok-Checkpoint-clause-fault : goal.returns-in-Ok-Checkpoint-clause-fault
 unfolding line_more
 returns-in-Ok-Checkpoint-clause-fault g c =
-    let D = g.D.Device in
+    let D = g.D.Device.disk in
     let f = c.begin_anew-in-Ok-Checkpoint.new.file in
     let e = c.begin_anew-in-Ok-Checkpoint.ensures in
     let console = c.args.self.now.console in
@@ -176,15 +176,15 @@ returns-in-Ok-Checkpoint-clause-fault g c =
     let count = c.hold_answer.ensures.recorded in
     on_fault c.begin_anew-in-Ok-Checkpoint.result _ _ e.fault (λ x h first before old judged same a.
     failed _ c.args.every first (before ++ judged ∷ []) old _ _ _ _ (line_more _ c.args.every first before old _ _ _ _ a.behind c.args.line.now judged _ _ _ same is more count) D.is_honest c.args.file.now.journal.sync D.fills_with_zeros (D.may_leave f.journal.device)
-    (λ s. IsTrue D.is_honest → KeepsConsole D.seen D.may_leave f.journal.device f.journal.sync f.journal.len f.begun s) _ x h
+    (KeepsConsole D f) _ x h
     (λ honest o left.
     let run = e.any_moment honest (may_begin_anew _ c.args.every first before old _ _ _ _ a console c.hold_answer.new.self.console (grows_not console) a.variables made) in
-    run.each o (g.met.D.Device.counts_now f.journal.device (D.moment c.args.file.now.journal.device) o run.later left)))
+    run.each o (g.met.D.Device.lawful.counts_now f.journal.device (D.moment c.args.file.now.journal.device) o run.later left)))
 
 pub returns-in-Ok-Checkpoint-clause-any_moment : goal.returns-in-Ok-Checkpoint-clause-any_moment
 unfolding line_more
 returns-in-Ok-Checkpoint-clause-any_moment g c = λ honest first before old judged same a.
-    let D = g.D.Device in
+    let D = g.D.Device.disk in
     let f = c.args.file.now in
     let console = c.args.self.now.console in
     let st = rw c.in-Ok-Checkpoint.field-0-is at c.in-Ok-Checkpoint.ensures.step in
@@ -192,7 +192,7 @@ returns-in-Ok-Checkpoint-clause-any_moment g c = λ honest first before old judg
     let is = checkpoint_step c.args.every console _ made ∙ ap (auto_step c.args.every console) st.0 in
     let more = st.1 in
     let count = c.hold_answer.ensures.recorded in
-    lines_run D.moment D.left_since f.journal.sync D.fills_with_zeros c.args.every first _ (before ++ judged ∷ []) old _ _ _ _ (line_more _ c.args.every first before old _ _ _ _ a.behind c.args.line.now judged _ _ _ same is more count) f.journal.device c.begin_anew-in-Ok-Checkpoint.new.file.journal.device
+    lines_run D f.journal.sync D.fills_with_zeros c.args.every first _ (before ++ judged ∷ []) old _ _ _ _ (line_more _ c.args.every first before old _ _ _ _ a.behind c.args.line.now judged _ _ _ same is more count) f.journal.device c.begin_anew-in-Ok-Checkpoint.new.file.journal.device
     (c.begin_anew-in-Ok-Checkpoint.ensures.any_moment honest (may_begin_anew _ c.args.every first before old _ _ _ _ a console c.hold_answer.new.self.console (grows_not console) a.variables made))
 
 pub stream-requires : goal.stream-requires
@@ -228,7 +228,7 @@ begin_anew-requires-in-Ok-Checkpoint g c =
 
 pub returns-in-Ok-History-clause-done : goal.returns-in-Ok-History-clause-done
 returns-in-Ok-History-clause-done g c =
-    let D = g.D.Device in
+    let D = g.D.Device.disk in
     let f = c.stream.new.file in
     let e = c.stream.ensures in
     let st = rw c.in-Ok-History.field-0-is at c.in-Ok-History.ensures.step in
@@ -241,11 +241,11 @@ returns-in-Ok-History-clause-done g c =
     on_done (IsTrue D.is_honest) c.stream.result e.done e.none e.count e.kept _ (λ w n m k first before old judged alike a.
     let next = held_more _ c.args.every first before old _ _ _ _ a c.args.line.now judged _ _ _ alike is more count grown (c.in-Ok-History.ensures.variables a.variables) in
     all_written _ c.args.every first (before ++ judged ∷ []) old _ _ _ _ next.behind
-    (λ s. IsTrue D.is_honest → KeepsConsole D.seen D.may_leave f.journal.device f.journal.sync f.journal.len f.begun s) _ _ _ _ w e.console n m k (may_begin_next _ _ _ _ _ _ _ _ _ next))
+    (KeepsConsole D f) _ _ _ _ w e.console n m k (may_begin_next _ _ _ _ _ _ _ _ _ next))
 
 pub returns-in-Ok-History-clause-fault : goal.returns-in-Ok-History-clause-fault
 returns-in-Ok-History-clause-fault g c =
-    let D = g.D.Device in
+    let D = g.D.Device.disk in
     let f = c.stream.new.file in
     let e = c.stream.ensures in
     let st = rw c.in-Ok-History.field-0-is at c.in-Ok-History.ensures.step in
@@ -258,14 +258,14 @@ returns-in-Ok-History-clause-fault g c =
     on_fault c.stream.result _ _ e.fault (λ x h first before old judged alike a.
     let next = held_more _ c.args.every first before old _ _ _ _ a c.args.line.now judged _ _ _ alike is more count grown (c.in-Ok-History.ensures.variables a.variables) in
     failed _ c.args.every first (before ++ judged ∷ []) old _ _ _ _ next.behind D.is_honest c.args.file.now.journal.sync D.fills_with_zeros (D.may_leave f.journal.device)
-    (λ s. IsTrue D.is_honest → KeepsConsole D.seen D.may_leave f.journal.device f.journal.sync f.journal.len f.begun s) _ x h
+    (KeepsConsole D f) _ x h
     (λ honest o left.
     let run = e.any_moment honest (may_commit _ _ _ _ _ _ _ _ _ next) in
-    inr (run.each o (g.met.D.Device.counts_now f.journal.device (D.moment c.args.file.now.journal.device) o run.later left))))
+    inr (run.each o (g.met.D.Device.lawful.counts_now f.journal.device (D.moment c.args.file.now.journal.device) o run.later left))))
 
 pub returns-in-Ok-History-clause-any_moment : goal.returns-in-Ok-History-clause-any_moment
 returns-in-Ok-History-clause-any_moment g c = λ honest first before old judged alike a.
-    let D = g.D.Device in
+    let D = g.D.Device.disk in
     let f = c.args.file.now in
     let st = rw c.in-Ok-History.field-0-is at c.in-Ok-History.ensures.step in
     let grown = (rw c.in-Ok-History.field-0-is at c.in-Ok-History.ensures.grows) refl in
@@ -275,12 +275,12 @@ returns-in-Ok-History-clause-any_moment g c = λ honest first before old judged 
     let more = reply_text reply.History _ _ _ _ st.1 in
     let count = c.hold_answer.ensures.recorded in
     let next = held_more _ c.args.every first before old _ _ _ _ a c.args.line.now judged _ _ _ alike is more count grown (c.in-Ok-History.ensures.variables a.variables) in
-    events_run D.moment D.left_since f.journal.sync D.fills_with_zeros c.args.every first _ (before ++ judged ∷ []) old _ _ _ _ next.behind f.journal.device c.stream.new.file.journal.device
+    events_run D f.journal.sync D.fills_with_zeros c.args.every first _ (before ++ judged ∷ []) old _ _ _ _ next.behind f.journal.device c.stream.new.file.journal.device
     (c.stream.ensures.any_moment honest (may_commit _ _ _ _ _ _ _ _ _ next))
 
 pub returns-in-Ok-Events-clause-done : goal.returns-in-Ok-Events-clause-done
 returns-in-Ok-Events-clause-done g c =
-    let D = g.D.Device in
+    let D = g.D.Device.disk in
     let f = c.stream-in-Ok-Events.new.file in
     let e = c.stream-in-Ok-Events.ensures in
     let st = rw c.in-Ok-Events.field-0-is at c.in-Ok-Events.ensures.step in
@@ -293,11 +293,11 @@ returns-in-Ok-Events-clause-done g c =
     on_done (IsTrue D.is_honest) c.stream-in-Ok-Events.result e.done e.none e.count e.kept _ (λ w n m k first before old judged alike a.
     let next = held_more _ c.args.every first before old _ _ _ _ a c.args.line.now judged _ _ _ alike is more count grown (c.in-Ok-Events.ensures.variables a.variables) in
     all_written _ c.args.every first (before ++ judged ∷ []) old _ _ _ _ next.behind
-    (λ s. IsTrue D.is_honest → KeepsConsole D.seen D.may_leave f.journal.device f.journal.sync f.journal.len f.begun s) _ _ _ _ w e.console n m k (may_begin_next _ _ _ _ _ _ _ _ _ next))
+    (KeepsConsole D f) _ _ _ _ w e.console n m k (may_begin_next _ _ _ _ _ _ _ _ _ next))
 
 pub returns-in-Ok-Events-clause-fault : goal.returns-in-Ok-Events-clause-fault
 returns-in-Ok-Events-clause-fault g c =
-    let D = g.D.Device in
+    let D = g.D.Device.disk in
     let f = c.stream-in-Ok-Events.new.file in
     let e = c.stream-in-Ok-Events.ensures in
     let st = rw c.in-Ok-Events.field-0-is at c.in-Ok-Events.ensures.step in
@@ -310,14 +310,14 @@ returns-in-Ok-Events-clause-fault g c =
     on_fault c.stream-in-Ok-Events.result _ _ e.fault (λ x h first before old judged alike a.
     let next = held_more _ c.args.every first before old _ _ _ _ a c.args.line.now judged _ _ _ alike is more count grown (c.in-Ok-Events.ensures.variables a.variables) in
     failed _ c.args.every first (before ++ judged ∷ []) old _ _ _ _ next.behind D.is_honest c.args.file.now.journal.sync D.fills_with_zeros (D.may_leave f.journal.device)
-    (λ s. IsTrue D.is_honest → KeepsConsole D.seen D.may_leave f.journal.device f.journal.sync f.journal.len f.begun s) _ x h
+    (KeepsConsole D f) _ x h
     (λ honest o left.
     let run = e.any_moment honest (may_commit _ _ _ _ _ _ _ _ _ next) in
-    inr (run.each o (g.met.D.Device.counts_now f.journal.device (D.moment c.args.file.now.journal.device) o run.later left))))
+    inr (run.each o (g.met.D.Device.lawful.counts_now f.journal.device (D.moment c.args.file.now.journal.device) o run.later left))))
 
 pub returns-in-Ok-Events-clause-any_moment : goal.returns-in-Ok-Events-clause-any_moment
 returns-in-Ok-Events-clause-any_moment g c = λ honest first before old judged alike a.
-    let D = g.D.Device in
+    let D = g.D.Device.disk in
     let f = c.args.file.now in
     let st = rw c.in-Ok-Events.field-0-is at c.in-Ok-Events.ensures.step in
     let grown = (rw c.in-Ok-Events.field-0-is at c.in-Ok-Events.ensures.grows) refl in
@@ -327,7 +327,7 @@ returns-in-Ok-Events-clause-any_moment g c = λ honest first before old judged a
     let more = reply_text (reply.Events c.in-Ok-Events.n) _ _ _ _ st.1 in
     let count = c.hold_answer.ensures.recorded in
     let next = held_more _ c.args.every first before old _ _ _ _ a c.args.line.now judged _ _ _ alike is more count grown (c.in-Ok-Events.ensures.variables a.variables) in
-    events_run D.moment D.left_since f.journal.sync D.fills_with_zeros c.args.every first _ (before ++ judged ∷ []) old _ _ _ _ next.behind f.journal.device c.stream-in-Ok-Events.new.file.journal.device
+    events_run D f.journal.sync D.fills_with_zeros c.args.every first _ (before ++ judged ∷ []) old _ _ _ _ next.behind f.journal.device c.stream-in-Ok-Events.new.file.journal.device
     (c.stream-in-Ok-Events.ensures.any_moment honest (may_commit _ _ _ _ _ _ _ _ _ next))
 
 pub returns-in-Err-clause-fault : goal.returns-in-Err-clause-fault
@@ -340,11 +340,11 @@ returns-in-Err-clause-fault g c = λ first before old judged same a.
 
 pub returns-in-Err-clause-any_moment : goal.returns-in-Err-clause-any_moment
 returns-in-Err-clause-any_moment g c = λ honest first before old judged same a.
-    let D = g.D.Device in
+    let D = g.D.Device.disk in
     let f = c.args.file.now in
     let console = c.args.self.now.console in
     let held = string_bytes c.args.self.now.held in
     let line = c.args.line.now in
     let next = line_more _ c.args.every first before old _ _ _ _ a.behind line judged (auto_step c.args.every console (state_after console line)) (held ++ answer_to console line) _ same refl refl refl in
-    lines_still D.moment D.left_since f.journal.sync D.fills_with_zeros c.args.every first _ (before ++ judged ∷ []) old _ _ _ _ next D.seen D.may_leave f.journal.device f.journal.len f.begun (next.kept honest)
-    (g.met.D.Device.only_now f.journal.device)
+    lines_still D f.journal.sync D.fills_with_zeros c.args.every first _ (before ++ judged ∷ []) old _ _ _ _ next f refl refl (next.kept honest)
+    (g.met.D.Device.lawful.only_now f.journal.device)

@@ -1,4 +1,4 @@
-use Rattle.std.proofs.Common.{IsTrue, inr}
+use Rattle.std.proofs.Common.{IsTrue, inr, refl}
 use Rattle.stm_durable_run.specs.DurableRun.{KeepsConsole}
 use Rattle.stm_durable_run.proofs.Committing.{may_commit, may_begin_next, all_written, failed, on_done, on_fault}
 use Rattle.stm_durable_run.proofs.RunCrashes.{events_run, lines_still}
@@ -6,35 +6,35 @@ use Rattle.stm_durable_run.proofs.session.DurableSession.commit_if_long.Goals as
 
 pub returns-then-len-lt-MOST_HELD-clause-any_moment : goal.returns-then-len-lt-MOST_HELD-clause-any_moment
 returns-then-len-lt-MOST_HELD-clause-any_moment g c = λ honest every first lines old a.
-    let D = g.D.Device in
+    let D = g.D.Device.disk in
     let f = c.args.file.now in
-    lines_still D.moment D.left_since f.journal.sync D.fills_with_zeros every first _ lines old _ _ _ _ a.behind D.seen D.may_leave f.journal.device f.journal.len f.begun (a.behind.kept honest)
-    (g.met.D.Device.only_now f.journal.device)
+    lines_still D f.journal.sync D.fills_with_zeros every first _ lines old _ _ _ _ a.behind f refl refl (a.behind.kept honest)
+    (g.met.D.Device.lawful.only_now f.journal.device)
 
 pub returns-else-len-lt-MOST_HELD-clause-done : goal.returns-else-len-lt-MOST_HELD-clause-done
 returns-else-len-lt-MOST_HELD-clause-done g c =
-    let D = g.D.Device in
+    let D = g.D.Device.disk in
     let f = c.commit.new.file in
     let e = c.commit.ensures in
     on_done (IsTrue D.is_honest) c.commit.result e.done e.none e.count e.kept _ (λ w n m k every first lines old a.
     all_written _ every first lines old _ _ _ _ a.behind
-    (λ s. IsTrue D.is_honest → KeepsConsole D.seen D.may_leave f.journal.device f.journal.sync f.journal.len f.begun s) _ _ _ _ w e.console n m k (may_begin_next _ _ _ _ _ _ _ _ _ a))
+    (KeepsConsole D f) _ _ _ _ w e.console n m k (may_begin_next _ _ _ _ _ _ _ _ _ a))
 
 pub returns-else-len-lt-MOST_HELD-clause-fault : goal.returns-else-len-lt-MOST_HELD-clause-fault
 returns-else-len-lt-MOST_HELD-clause-fault g c =
-    let D = g.D.Device in
+    let D = g.D.Device.disk in
     let f = c.commit.new.file in
     let e = c.commit.ensures in
     on_fault c.commit.result _ _ e.fault (λ x h every first lines old a.
     failed _ every first lines old _ _ _ _ a.behind D.is_honest c.args.file.now.journal.sync D.fills_with_zeros (D.may_leave f.journal.device)
-    (λ s. IsTrue D.is_honest → KeepsConsole D.seen D.may_leave f.journal.device f.journal.sync f.journal.len f.begun s) _ x h
+    (KeepsConsole D f) _ x h
     (λ honest o left.
     let run = e.any_moment honest (may_commit _ _ _ _ _ _ _ _ _ a) in
-    inr (run.each o (g.met.D.Device.counts_now f.journal.device (D.moment c.args.file.now.journal.device) o run.later left))))
+    inr (run.each o (g.met.D.Device.lawful.counts_now f.journal.device (D.moment c.args.file.now.journal.device) o run.later left))))
 
 pub returns-else-len-lt-MOST_HELD-clause-any_moment : goal.returns-else-len-lt-MOST_HELD-clause-any_moment
 returns-else-len-lt-MOST_HELD-clause-any_moment g c = λ honest every first lines old a.
-    let D = g.D.Device in
+    let D = g.D.Device.disk in
     let f = c.args.file.now in
-    events_run D.moment D.left_since f.journal.sync D.fills_with_zeros every first _ lines old _ _ _ _ a.behind f.journal.device c.commit.new.file.journal.device
+    events_run D f.journal.sync D.fills_with_zeros every first _ lines old _ _ _ _ a.behind f.journal.device c.commit.new.file.journal.device
     (c.commit.ensures.any_moment honest (may_commit _ _ _ _ _ _ _ _ _ a))

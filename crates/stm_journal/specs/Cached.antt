@@ -1,0 +1,50 @@
+-- A device in memory with a cache: what is in it, and that it is honest.
+use Rattle.std.specs.Prelude.{◌≡◌, ◌⊎◌, ℕ, true, false, List, [], ◌∷◌, length, drop, refl}
+use mathlib.Core.Logic.{inl, inr}
+use Rattle.stm_journal.specs.Disk.{Disk, IsLawful}
+use Rattle.stm_journal.specs.declared.cached.Cached.{Cached}
+use Rattle.stm_journal.specs.declared.cached.Content.{Content}
+
+abbrev pub bytes_on_disk : Cached → List ℕ
+bytes_on_disk d = d.content.disk.items
+
+-- what the disk has, or what the cache has
+abbrev pub IsEither : Content → List ℕ → Type 0
+IsEither p c = (c ≡ p.disk.items) ⊎ (c ≡ p.cache.items)
+
+-- one of them had this
+abbrev pub HadEither : List Content → List ℕ → Type 0
+HadEither [] c = ⊥
+HadEither (p ∷ past) c = IsEither p c ⊎ HadEither past c
+
+-- what a crash might have left since a moment
+abbrev pub SinceThen : List Content → Content → ℕ → List ℕ → Type 0
+SinceThen past p t c = IsEither p c ⊎ HadEither (drop t past) c
+
+abbrev pub cached_disk : Disk Cached
+cached_disk = record {
+  is_honest = true;
+  fills_with_zeros = false;
+  seen = λ d. d.content.cache.items;
+  may_leave = λ d c. IsEither d.content c;
+  is_settled = λ d. d.is_settled;
+  moment = λ d. length d.past.items;
+  left_since = λ d t c. SinceThen d.past.items d.content t c;
+  faults = λ d. d.failed;
+  reads_fail = λ d. ⊥;
+}
+
+none_had : (past : List Content) (c : List ℕ) → HadEither (drop (length past) past) c → ⊥
+none_had [] c had = had
+none_had (p ∷ past) c had = none_had past c had
+
+pub only_present : (past : List Content) (p : Content) (c : List ℕ) → SinceThen past p (length past) c → IsEither p c
+only_present past p c (inl now) = now
+only_present past p c (inr had) = absurd (none_had past c had)
+
+abbrev pub cached_lawful : IsLawful cached_disk
+cached_lawful = record {
+  may_stay = λ d. inr refl;
+  counts_now = λ d t c le now. inl now;
+  only_now = λ d c left. only_present d.past.items d.content c left;
+}
