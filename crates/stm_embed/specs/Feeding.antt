@@ -1,0 +1,27 @@
+-- The console that C holds, and the bytes that wait to be given.
+use Rattle.std.specs.Prelude.{◌≡◌, ◌≤◌, ℕ, List, ◌++◌, length, take, drop}
+use Rattle.stm_lines.specs.Lines.{whole_lines_of}
+use Rattle.stm_run.specs.declared.console.Console.{Console}
+use Rattle.stm_run.specs.Console.{answers_to}
+use Rattle.stm_run.specs.Laws.{state_after_lines}
+use Rattle.stm_embed.specs.declared.feeding.Embedded.{Embedded}
+
+-- what the console knows
+abbrev pub console_of : Embedded → Console
+console_of e = e.session.console
+
+-- the answers that were not given
+abbrev pub unread_answers : Embedded → List ℕ
+unread_answers e = drop e.given e.answers.items
+
+-- ---- inside
+-- some bytes are whole lines: what follows them begins a line
+abbrev pub AreWholeLines : List ℕ → Type 0
+AreWholeLines bytes = (more : List ℕ) → whole_lines_of (bytes ++ more) ≡ whole_lines_of bytes ++ whole_lines_of more
+
+-- from the console s, and these answers, so many bytes of lines were taken: now these are the console and the answers
+pub record HasFed (lines : List ℕ) (s t : Console) (before after : List ℕ) (count : ℕ) : Type 0 where
+  pub within : count ≤ length lines
+  pub whole : AreWholeLines (take count lines)
+  pub console : t ≡ state_after_lines s (whole_lines_of (take count lines))
+  pub answers : after ≡ before ++ answers_to s (whole_lines_of (take count lines))
