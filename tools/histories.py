@@ -138,14 +138,14 @@ def need_verdict(it: Any) -> None:
     if it == "blocks":
         return
     need(isinstance(it, dict))
-    ((kind, told),) = it.items()
+    ((kind, what),) = it.items()
     if kind == "throws":
-        need(told == "overflow" or type(told) is int)
+        need(what == "overflow" or type(what) is int)
         return
-    need(kind == "commits" and isinstance(told, dict))
-    need_pairs(told["news"], need_text)
-    need_pairs(told["writes"], need_number)
-    need_value(told["result"])
+    need(kind == "commits" and isinstance(what, dict))
+    need_pairs(what["news"], need_text)
+    need_pairs(what["writes"], need_number)
+    need_value(what["result"])
 
 
 def need_variable(it: Object) -> None:

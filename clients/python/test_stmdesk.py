@@ -15,6 +15,7 @@ import doctest
 import fcntl
 import gc
 import io
+import lzma
 import multiprocessing
 import os
 import pathlib
@@ -210,6 +211,17 @@ class Answers(OnProgram):
         # Three evaluations; 2 finishes and makes 1 stale, which is evaluated and finishes.
         self.assert_is(desk.settle(), Settled(2, 4))
         self.assert_is(desk.show(), [Current(3, Blocks())])
+
+    def test_drain(self):
+        desk = self.start()
+        for _ in range(3):
+            desk.submit("do { a <- readTVar x; writeTVar x (a * 2) }")
+        desk.submit("do { a <- readTVar x; if a < 8 then retry else writeTVar x (a - 7) }")
+        desk.submit("do { a <- readTVar x; if a == 1 then retry else return a }")
+        # Each is evaluated once, when those below it have finished; the last one blocks.
+        self.assert_is(desk.drain(), Settled(4, 5))
+        self.assert_is(desk.show(), [Current(5, Blocks())])
+        self.assert_is(desk.value("x"), 1)
 
     def test_ready(self):
         desk = self.start()
@@ -471,6 +483,17 @@ class Refusals(OnProgram):
         with self.assertRaises(Stopped) as caught:
             desk.settle()
         self.assert_is((caught.exception.name, caught.exception.settled), ("HistoryFull", Settled(0, 2)))
+        self.assert_is(desk.checkpoint(), 4)
+        self.assert_is(desk.drain(), Settled(2, 1))
+
+    def test_a_drain_that_stops_keeps_what_it_did(self):
+        desk = self.start(max_events=4)
+        desk.submit("writeTVar x 2")
+        desk.submit("readTVar x")
+        with self.assertRaises(Stopped) as caught:
+            desk.drain()
+        self.assert_is((caught.exception.name, caught.exception.settled), ("HistoryFull", Settled(1, 1)))
+        self.assert_is(desk.show(), [New(2)])
 
     def test_as_text(self):
         self.assertEqual(str(Refused("Late")), "Late")
@@ -721,6 +744,8 @@ class Ends(OnProgram):
             "jobs 1": lambda desk: desk.take(1),
             "stopped HistoryFull": lambda desk: desk.settle(),
             "stopped HistoryFull settled 1 evaluations 2": lambda desk: desk.eval(),
+            "settled 1 evaluations 2": lambda desk: desk.drain(),
+            "stopped HistoryFull drained 1 evaluations 2": lambda desk: desk.settle(),
             "ticket": lambda desk: desk.submit("retry"),
             "ticket x": lambda desk: desk.submit("retry"),
             "refused X y": lambda desk: desk.submit("retry"),
@@ -1165,7 +1190,7 @@ class Batches(OnProgram):
                     batch.submit("writeTVar x 5"), batch.submit("do { f <- readTVar flag; retry }"), batch.take(2), batch.handback(2),
                     batch.deliver(Job(1, 1)), batch.eval(), batch.show(), batch.reads(2), batch.finish(1), batch.store(),
                     batch.cancel(2), batch.settle(), batch.history(), batch.eval(), batch.submit("retry"), batch.ready(), batch.why(3),
-                    batch.events(6), batch.events(),
+                    batch.events(6), batch.drain(), batch.events(),
                 ]  # fmt: skip
             self.assertEqual(list(batch), answers)
             self.assert_is(
@@ -1174,8 +1199,8 @@ class Batches(OnProgram):
                     X, FLAG, Commits({X: 2}, [], 1), {X: 1}, 1, 2, [Job(1, 1), Job(2, 2)], None, 1, 1,
                     [Current(1, Commits({X: 5}, [], None)), Current(2, Blocks())], {FLAG: False}, Finished(1, None, []),
                     [cell(0, "x", "Int", 5, 1), cell(1, "flag", "Bool", False, 0)], None, Settled(0, 0),
-                    "".join(desk.history().splitlines(keepends=True)[:-1]), 0, 3, [], New(3),
-                    [Cancellation(6, 0, 2), Submission(7, 0, 3, "retry")], desk.events(),
+                    "".join(desk.history().splitlines(keepends=True)[:-2]), 0, 3, [], New(3),
+                    [Cancellation(6, 0, 2), Submission(7, 0, 3, "retry")], Settled(0, 1), desk.events(),
                 ],
             )  # fmt: skip
 
@@ -1486,6 +1511,8 @@ class Atomically(InThreads):
             batch.settle()
         with self.assertRaises(RuntimeError):
             ticket.result()
+        with self.assertRaisesRegex(RuntimeError, "drain"):
+            desk.drain()
         self.until_blocked(desk, 1)
         desk.atomically("writeTVar x 5")
         self.assert_is(wait.result(), 5)
@@ -2095,6 +2122,7 @@ class Asynchronous(OnProgram):
             self.assert_is((await desk.store())["x"], cell(0, "x", "Int", 5, 1))
             self.assert_is([await desk.value("x"), await desk.value(X)], [5, 5])
             self.assert_is(await desk.settle(), Settled(0, 0))
+            self.assert_is(await desk.drain(), Settled(0, 0))
             self.assertEqual((await desk.history()).count("\n"), 9)
             self.assert_is(await desk.ready(), [])
             events = await desk.events(6)
@@ -2396,6 +2424,9 @@ class Floods(OnProgram):
             self.assert_bad(lambda desk: desk.events(), "yes '{}'")
 
 
+NO_STEP = "tvar x : Int = 1\nclient\n"
+
+
 class Finding(OnProgram):
     def setUp(self):
         super().setUp()
@@ -2421,23 +2452,44 @@ class Finding(OnProgram):
         with Desk(*given) as desk:
             return desk.submit("retry")
 
+    def launcher(self, said, status=0):
+        """The script of a repository, which says this of the program that it runs: its path, or why there is none."""
+        (self.folder / "repo/crates/stmdesk").mkdir(parents=True, exist_ok=True)
+        path = self.stub("repo/stmdesk", 0)
+        path.write_text(f"#!/bin/sh\n[ \"$*\" = --which ] || exec '{said}' \"$@\"\necho '{said}'{' >&2' * bool(status)}\nexit {status}\n")
+        return path
+
     def test_the_order(self):
-        given, named, on_path = (self.stub(f"{it}/stmdesk", ticket) for ticket, it in enumerate(("given", "named", "path")))
+        """The argument, STMDESK, the package's own, the repository's, the PATH; the first that is there."""
+        given, named, on_path, of_repository = (
+            self.stub(f"{it}/stmdesk", ticket) for ticket, it in enumerate(("given", "named", "path", "built"))
+        )
+        os.environ.pop("STMDESK", None)
         with mock.patch.object(_program, "__file__", str(self.stub("repo/clients/python/stmdesk/x", 0))):
-            self.stub("repo/stmdesk", 3)
-            self.stub("repo/crates/stmdesk/out/stmdesk", 4)
-            os.environ.pop("STMDESK", None)
-            self.assertEqual(self.ticket(), 3)
+            with self.assertRaises(FileNotFoundError):
+                Desk()
             self.set_environment(PATH=f"{on_path.parent}:/usr/bin:/bin")
-            self.assertEqual(self.ticket(), 2)
+            self.assertEqual((self.ticket(), find_program()), (2, str(on_path)))
+            self.launcher("stmdesk: none fits", 1)
+            self.assertEqual((self.ticket(), find_program()), (2, str(on_path)))
+            launcher = self.launcher(of_repository)
+            self.assertEqual((self.ticket(), find_program()), (3, str(of_repository)))
+            own = self.stub("repo/clients/python/stmdesk/bin/stmdesk", 4)
+            self.assertEqual((self.ticket(), find_program()), (4, str(own)))
+            own.chmod(0o644)
+            self.assertEqual(self.ticket(), 3)
+            own.chmod(0o755)
             self.set_environment(STMDESK="")
+            self.assertEqual(self.ticket(), 4)
+            self.set_environment(STMDESK="stmdesk")
             self.assertEqual(self.ticket(), 2)
+            self.set_environment(STMDESK=str(launcher))
+            self.assertEqual(self.ticket(), 3)
             self.set_environment(STMDESK=str(named))
             self.assertEqual(self.ticket(), 1)
             self.assertEqual(self.ticket(given), 0)
             self.assertEqual(self.ticket(str(given)), 0)
-            self.set_environment(STMDESK="stmdesk")
-            self.assertEqual(self.ticket(), 2)
+            self.assertEqual(self.ticket(launcher), 3)
 
     def test_what_is_named_is_not_there(self):
         for named in (self.folder / "none", self.folder, "none"):
@@ -2445,14 +2497,23 @@ class Finding(OnProgram):
             with self.assertRaisesRegex(FileNotFoundError, f"STMDESK names '{named}'"):
                 Desk()
 
-    def test_nothing_is_built_yet(self):
-        launcher = self.stub("repo/stmdesk", 1)
-        (self.folder / "repo/crates/stmdesk").mkdir(parents=True)
-        with self.assertRaisesRegex(FileNotFoundError, f"run {launcher} --build once"):
-            Desk(launcher)
+    def test_a_repository_without_a_program(self):
+        launcher = self.launcher("stmdesk: release/ was made from other sources, run ./stmdesk --build once", 1)
+        for call in (Desk, partial(explore, NO_STEP), partial(check, launcher)):
+            with self.assertRaisesRegex(FileNotFoundError, "other sources, run ./stmdesk --build once"):
+                call(program=launcher)
         self.set_environment(STMDESK=str(launcher))
         with self.assertRaisesRegex(FileNotFoundError, "--build"):
             Desk()
+        os.environ.pop("STMDESK", None)
+        inside = mock.patch.object(_program, "__file__", str(self.folder / "repo/clients/x"))
+        with inside, self.assertRaisesRegex(FileNotFoundError, "--build once"):
+            Desk()
+
+    def test_a_launcher_that_cannot_unpack_is_run_itself(self):
+        launcher = self.launcher("it")
+        launcher.write_text(f"#!/bin/sh\n[ \"$*\" != --which ] || {{ echo {launcher}; exit; }}\nread line\necho ticket 5\n")
+        self.assertEqual(self.ticket(launcher), 5)
 
     def run_python(self, code, **variables):
         done = subprocess.run(
@@ -2468,7 +2529,8 @@ class Finding(OnProgram):
         self.assertEqual(self.run_python(code, STMDESK=program), "x\n")
         code = "from stmdesk import *\ntry: Desk()\nexcept FileNotFoundError as error: print(error)"
         said = self.run_python(code)
-        for looked in ("Desk(..)", "STMDESK isn't set", "/usr/bin:/bin", str(self.folder.resolve() / "stmdesk")):
+        package = self.folder.resolve() / "stmdesk"
+        for looked in ("Desk(..)", "STMDESK isn't set", "/usr/bin:/bin", f"{package / 'bin' / 'stmdesk'}", f"no folder above {package}"):
             self.assertIn(looked, said)
 
     def test_a_shallow_folder(self):
@@ -2725,15 +2787,6 @@ class Explorations(OnProgram):
         with concurrent.futures.ThreadPoolExecutor(8) as pool:
             found = list(pool.map(self.explore, [LOST] * 8))
         self.assertEqual(found, found[:1] * 8)
-
-    def test_nothing_is_built_yet(self):
-        with tempfile.TemporaryDirectory() as folder:
-            launcher = pathlib.Path(folder) / "stmdesk"
-            launcher.write_text("#!/bin/sh\n")
-            launcher.chmod(0o755)
-            (launcher.parent / "crates" / "stmdesk").mkdir(parents=True)
-            with self.assertRaisesRegex(FileNotFoundError, "--build once"):
-                explore("client", program=launcher)
 
 
 class Journals(OnProgram):
@@ -3062,28 +3115,110 @@ class Package(OnProgram):
         found = re.search(r'VERSION: &str = "(.*)"', source.read_text())
         self.assertEqual(stmdesk.__version__, found[1])
 
-    def test_a_wheel(self):
+    def wheel_of(self, top, *words):
+        """The name of the wheel that build_package.py of this repository writes with these words, and its entries."""
         with tempfile.TemporaryDirectory() as folder:
-            code = f"import build_package; print(build_package.build_wheel({folder!r}))"
-            done = subprocess.run([sys.executable, "-B", "-c", code], cwd=HERE, capture_output=True, text=True, check=True)
+            command = [sys.executable, "-B", str(top / "clients/python/build_package.py"), *words, folder]
+            done = subprocess.run(command, capture_output=True, text=True, timeout=SECONDS)
+            self.assertEqual((done.returncode, done.stderr), (0, ""))
             name = done.stdout.strip()
-            self.assertEqual(name, f"stmdesk-{stmdesk.__version__}-py3-none-any.whl")
+            self.assertEqual(os.listdir(folder), [name])
             with zipfile.ZipFile(f"{folder}/{name}") as wheel:
-                got = {it: wheel.read(it) for it in wheel.namelist() if it.startswith("stmdesk/")}
-        files = [it for it in (HERE / "stmdesk").iterdir() if it.name != "__pycache__"]
-        self.assertEqual(got, {f"stmdesk/{it.name}": it.read_bytes() for it in files})
+                return name, {it.filename: (it.external_attr >> 16, wheel.read(it)) for it in wheel.infolist()}
 
-    def test_pip_installs_it(self):
+    def repository(self, said, status=0):
+        """A repository with this package, whose launcher says this of the program that it runs; gone after the test."""
+        folder = tempfile.TemporaryDirectory()
+        self.addCleanup(folder.cleanup)
+        top = pathlib.Path(folder.name).resolve() / "a clone"
+        (top / "crates" / "stmdesk").mkdir(parents=True)
+        shutil.copytree(HERE, top / "clients" / "python", ignore=shutil.ignore_patterns("__pycache__"))
+        launcher = top / "stmdesk"
+        launcher.write_text(f"#!/bin/sh\n[ \"$*\" = --which ] || exit 99\necho \"{said}\"{' >&2' * bool(status)}\nexit {status}\n")
+        launcher.chmod(0o755)
+        return top
+
+    def built(self):
+        """A repository with a program, and the program's text."""
+        text = "#!/bin/sh\n# GLIBC_2.2.5 GLIBC_2.17 GLIBC_2.4\nread line\necho ticket 5\n"
+        top = self.repository("$(dirname \"$0\")/built")
+        (top / "built").write_text(text)
+        return top, text.encode()
+
+    def test_a_pure_wheel(self):
+        name, entries = self.wheel_of(REPOSITORY, "--pure")
+        self.assertEqual(name, f"stmdesk-{stmdesk.__version__}-py3-none-any.whl")
+        files = {f"stmdesk/{it.name}": it.read_bytes() for it in (HERE / "stmdesk").iterdir() if it.is_file()}
+        self.assertEqual({it: data for it, (_, data) in entries.items() if it.startswith("stmdesk/")}, files)
+        self.assertEqual({mode for mode, _ in entries.values()}, {0o100644})
+        top = self.built()[0]
+        for setting in ("pure", "--pure"):
+            code = f"import build_package; print(build_package.build_wheel({str(top)!r}, {{{setting!r}: 'yes'}}))"
+            command = [sys.executable, "-B", "-c", code]
+            done = subprocess.run(command, cwd=top / "clients/python", capture_output=True, text=True, timeout=SECONDS)
+            self.assertEqual(done.stdout, f"{name}\n")
+
+    def test_a_wheel_with_the_program(self):
+        top, text = self.built()
+        name, entries = self.wheel_of(top)
+        self.assertEqual(name, f"stmdesk-{stmdesk.__version__}-py3-none-manylinux_2_17_x86_64.whl")
+        self.assertEqual(entries.pop("stmdesk/bin/stmdesk"), (0o100755, text))
+        _, pure = self.wheel_of(top, "--pure")
+        facts = [f"stmdesk-{stmdesk.__version__}.dist-info/{it}" for it in ("WHEEL", "RECORD")]
+        self.assertEqual([entries.pop(it) == pure.pop(it) for it in facts], [False, False])
+        self.assertEqual(entries, pure)
+
+    def test_a_wheel_of_what_can_not_be_unpacked(self):
+        """The launcher then names itself, and the wheel has what release/ has."""
+        top = self.repository("$0")
+        (top / "release").mkdir()
+        (top / "release" / "stmdesk.xz").write_bytes(lzma.compress(b"the program"))
+        self.assertEqual(self.wheel_of(top)[1]["stmdesk/bin/stmdesk"], (0o100755, b"the program"))
+
+    def test_no_wheel_with_a_program(self):
+        """build_package.py fails, and pip gets a wheel without the program. Outside of a repository no launcher is run."""
+        too_new, outside = self.built()[0], self.built()[0]
+        (too_new / "built").write_text("GLIBC_2.9999")
+        (outside / "crates" / "stmdesk").rmdir()
+        for top, said in (
+            (self.repository("none fits", 1), "none fits"),
+            (too_new, "glibc 2.9999 or later"),
+            (outside, "isn't in stmdesk's repository"),
+        ):
+            command = [sys.executable, "-B", str(top / "clients/python/build_package.py"), str(top)]
+            done = subprocess.run(command, capture_output=True, text=True, timeout=SECONDS)
+            self.assertEqual((done.returncode, done.stdout), (1, ""))
+            self.assertIn(said, done.stderr)
+            command = [sys.executable, "-B", "-c", f"import build_package; print(build_package.build_wheel({str(top)!r}))"]
+            done = subprocess.run(command, cwd=top / "clients/python", capture_output=True, text=True, timeout=SECONDS)
+            self.assertEqual(done.stdout, f"stmdesk-{stmdesk.__version__}-py3-none-any.whl\n")
+            self.assertIn(said, done.stderr)
+
+    def pip_installs(self, top):
+        """Lets pip install the package of this repository into a folder, which is returned and gone after the test. It has no network."""
         if subprocess.run([sys.executable, "-m", "pip", "--version"], capture_output=True).returncode:
             self.skipTest("no pip")
-        with tempfile.TemporaryDirectory() as folder:
-            command = [sys.executable, "-m", "pip", "install", "--no-index", "--no-deps", "--target", folder, str(HERE)]
-            environment = os.environ | {"PYTHONDONTWRITEBYTECODE": "1"}
-            done = subprocess.run(command, capture_output=True, text=True, timeout=SECONDS, env=environment)
-            self.assertEqual(done.returncode, 0, done.stdout + done.stderr)
-            code = "import stmdesk; print(stmdesk.__version__, stmdesk.__file__)"
-            done = subprocess.run([sys.executable, "-B", "-c", code], cwd=folder, capture_output=True, text=True, check=True)
-            self.assertEqual(done.stdout, f"{stmdesk.__version__} {folder}/stmdesk/__init__.py\n")
+        folder = tempfile.TemporaryDirectory()
+        self.addCleanup(folder.cleanup)
+        command = [sys.executable, "-m", "pip", "install", "--no-index", "--no-deps", "--target", folder.name, str(top / "clients/python")]
+        environment = os.environ | {"PYTHONDONTWRITEBYTECODE": "1"}
+        done = subprocess.run(command, capture_output=True, text=True, timeout=SECONDS, env=environment)
+        self.assertEqual(done.returncode, 0, done.stdout + done.stderr)
+        return folder.name
+
+    def test_pip_installs_it(self):
+        folder = self.pip_installs(REPOSITORY)
+        code = "import stmdesk; print(stmdesk.__version__, stmdesk.__file__)"
+        done = subprocess.run([sys.executable, "-B", "-c", code], cwd=folder, capture_output=True, text=True, check=True)
+        self.assertEqual(done.stdout, f"{stmdesk.__version__} {folder}/stmdesk/__init__.py\n")
+
+    def test_pip_installs_it_with_the_program(self):
+        """The installed package runs its own program, with no other at hand."""
+        folder = self.pip_installs(self.built()[0])
+        code = "from stmdesk import *\nwith Desk() as desk: print(desk.submit('retry'), find_program())"
+        command, environment = [sys.executable, "-B", "-c", code], {"PATH": "/usr/bin:/bin"}
+        done = subprocess.run(command, cwd=folder, capture_output=True, text=True, env=environment, timeout=SECONDS)
+        self.assertEqual((done.stdout, done.stderr), (f"5 {folder}/stmdesk/bin/stmdesk\n", ""))
 
     def test_its_annotations(self):
         for name in stmdesk.__all__:
@@ -3139,6 +3274,8 @@ class Pages(OnProgram):
 
     def test_the_readmes(self):
         for page in (HERE / "README.md", REPOSITORY / "README.md", *sorted((REPOSITORY / "docs").glob("*.md"))):
+            if page.name == "HASKELL.md":  # its examples are of another language
+                continue
             tried = doctest.testfile(str(page), module_relative=False, globs=vars(stmdesk).copy(), encoding="utf-8")
             with self.subTest(page=page):
                 self.assertGreaterEqual(tried.attempted, page.parent == HERE)

@@ -199,9 +199,11 @@ class Answers:
 
     def settled(self, words: Sequence[str]) -> Settled | Refused:
         """`settled 1 evaluations 2`, or the same after `stopped HistoryFull`"""
-        if words[0] == "stopped":
-            return Stopped(words[1], counts(words[2:]))
-        return counts(words)
+        return run("settled", words)
+
+    def drained(self, words: Sequence[str]) -> Settled | Refused:
+        """`drained 1 evaluations 2`, or the same after `stopped HistoryFull`"""
+        return run("drained", words)
 
     def history(self, lines: Sequence[str]) -> str:
         """The lines before the last one, which answers `try return ()`, as one text"""
@@ -275,11 +277,14 @@ def fault(word: str) -> Fault:
     return "overflow" if word == "overflow" else int(word)
 
 
-def counts(words: Sequence[str]) -> Settled:
-    """`settled 1 evaluations 2`"""
-    if [words[0], words[2]] != ["settled", "evaluations"]:
+def run(done: str, words: Sequence[str]) -> Settled | Refused:
+    """What `settle` or `drain` did: `settled 1 evaluations 2`, where `done` is the first word, or the same after `stopped HistoryFull`"""
+    is_stopped = words[0] == "stopped"
+    counts = words[2:] if is_stopped else words
+    if [counts[0], counts[2]] != [done, "evaluations"]:
         raise ValueError("no counts")
-    return Settled(int(words[1]), int(words[3]))
+    settled = Settled(int(counts[1]), int(counts[3]))
+    return Stopped(words[1], settled) if is_stopped else settled
 
 
 def counted(lines: Sequence[str]) -> Sequence[str]:

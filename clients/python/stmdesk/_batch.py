@@ -7,8 +7,8 @@ from types import TracebackType
 from typing import Any, TypeVar
 
 from ._commands import (
-    CANCEL, CHECKPOINT, DELIVER, EVAL, EVENTS, FINISH, HANDBACK, HISTORY, LOOKS, READS, READY, SETTLE, SHOW, STORE, SUBMIT, TAKE, TRY, TVAR,
-    WHY, Answer, Command, decimal, number_of,
+    CANCEL, CHECKPOINT, DELIVER, DRAIN, EVAL, EVENTS, FINISH, HANDBACK, HISTORY, LOOKS, READS, READY, SETTLE, SHOW, STORE, SUBMIT, TAKE,
+    TRY, TVAR, WHY, Answer, Command, decimal, number_of,
 )  # fmt: skip
 from ._values import Events, Finished, FinishedThrows, Job, Reason, Ref, Settled, Status, Store, Value, Verdict
 
@@ -110,6 +110,10 @@ class Commands:
     def settle(self) -> Answer[Settled]:
         """`Desk.settle`, when the batch is sent."""
         return self._add(SETTLE)
+
+    def drain(self) -> Answer[Settled]:
+        """`Desk.drain`, when the batch is sent."""
+        return self._add(DRAIN)
 
     def history(self) -> Answer[str]:
         """`Desk.history`, when the batch is sent."""

@@ -152,6 +152,7 @@ READS: Command[dict[Ref, Value]] = Command("reads", Answers.reads, "reads")
 READY: Command[list[int]] = Command("ready", Answers.tickets, "ready")
 WHY: Command[Reason] = Command("why", Answers.reason, "why")
 SETTLE: Command[Settled] = Command("settle", Answers.settled)
+DRAIN: Command[Settled] = Command("drain", Answers.drained)
 CHECKPOINT: Command[int] = Command("checkpoint", Answers.second, "checkpoint")
 SHOW: Command[list[Status]] = Command(
     "show", Answers.statuses, take=_lines_to("waiting ", tuple("123456789"), lambda: WAITING_LIMIT)

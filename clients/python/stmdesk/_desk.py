@@ -14,8 +14,8 @@ from typing import Any, Literal, TypeVar, get_args
 from ._answers import Answers
 from ._batch import Batch
 from ._commands import (
-    CANCEL, CHECKPOINT, DELIVER, EVAL, EVENTS, FINISH, HANDBACK, HISTORY, LOOKS, READS, READY, SETTLE, SHOW, STORE, SUBMIT, TAKE, TRY, TVAR,
-    WHY, Answer, Command, decimal, number_of,
+    CANCEL, CHECKPOINT, DELIVER, DRAIN, EVAL, EVENTS, FINISH, HANDBACK, HISTORY, LOOKS, READS, READY, SETTLE, SHOW, STORE, SUBMIT, TAKE,
+    TRY, TVAR, WHY, Answer, Command, decimal, number_of,
 )  # fmt: skip
 from ._errors import BadAnswer, Cancelled, Refused, TimedOut
 from ._program import Closed, Odd, Process, check_built, find_program, is_ours
@@ -254,13 +254,24 @@ class Desk:
     def settle(self) -> Settled:
         """Evaluates and finishes tickets until all that still wait block. Raises `Stopped` if there is no room for a step.
 
-        It doesn't say what it finishes. So it raises RuntimeError while a block of `atomically` waits for its result.
+        It doesn't say what it finishes. So it raises RuntimeError while a block of `atomically` waits for its result. It evaluates
+        every ticket that is new or stale before it finishes one; `drain` takes fewer evaluations for the same result.
 
         >>> ticket = desk.submit("writeTVar x 5")
         >>> desk.settle()
         Settled(finished=1, evaluations=1)
         """
         return self._ask(SETTLE)
+
+    def drain(self) -> Settled:
+        """Finishes the same tickets as `settle`, in the same order, but evaluates each only when those below it have finished, or are
+        current and block. So blocks that all change one variable are evaluated once each. Raises what `settle` raises.
+
+        >>> tickets = [desk.submit("do { a <- readTVar x; writeTVar x (a + 1) }") for _ in range(100)]
+        >>> desk.drain()
+        Settled(finished=100, evaluations=100)
+        """
+        return self._ask(DRAIN)
 
     def history(self) -> str:
         """The text of all events so far, or of those since the last checkpoint, byte for byte, as docs/HISTORY.md says: what
@@ -464,8 +475,8 @@ class Desk:
             if self._is_closed:
                 raise ValueError("the desk is closed")
             waits = self._waits
-            if waits and waits.is_any() and any(it.command is SETTLE for it in answers):
-                raise RuntimeError("a settle would finish blocks of atomically, and doesn't say with what result")
+            if waits and waits.is_any() and any(it.command is SETTLE or it.command is DRAIN for it in answers):
+                raise RuntimeError("settle and drain would finish blocks of atomically, and don't say with what result")
             self._perform(answers, waits)
 
     def _perform(self, answers: Sequence[Answer[Any]], waits: Waits | None = None) -> None:

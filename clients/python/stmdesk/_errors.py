@@ -74,7 +74,7 @@ class Refused(DeskError):
 
 
 class Stopped(Refused):
-    """A `settle` stopped before a step that was refused as `name`. What `settled` counts was done before, and stays.
+    """A `settle` or a `drain` stopped before a step that was refused as `name`. What `settled` counts was done before, and stays.
 
     >>> with Desk(max_events=1) as small:
     ...     ticket = small.submit("retry")

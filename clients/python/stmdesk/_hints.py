@@ -128,7 +128,7 @@ def hint(
         return _NAMES[name] if at is None else f"{text[at]!r} at {at} isn't ASCII"
     if name == "BadByte" and place is not None:
         return _bad_byte(text, place)
-    if name == "Argument" and command in ("eval", "show", "ready", "store", "settle", "history", "checkpoint"):
+    if name == "Argument" and command in ("eval", "show", "ready", "store", "settle", "drain", "history", "checkpoint"):
         return f"`{command}` takes no argument"
     found = None
     if command in ("tvar", "try", "looks", "submit"):

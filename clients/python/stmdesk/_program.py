@@ -26,8 +26,8 @@ SAID_LIMIT = 1 << 16  # bytes that are kept of the end of standard error
 
 
 def find_program() -> str:
-    """The path of the program `stmdesk`: `$STMDESK`, or else the first `stmdesk` on the PATH, or else the script
-    `stmdesk` of the repository that this package is in. Raises FileNotFoundError if there is none.
+    """The path of the program `stmdesk`: of the first that there is of `$STMDESK`, the program in this package, that of the repository
+    that this package is in (the built one, or that of release/), and `stmdesk` on the PATH. Raises FileNotFoundError if there is none.
 
     >>> with Desk(find_program()) as desk:
     ...     desk.eval()
@@ -39,17 +39,24 @@ def find_program() -> str:
         if not found:
             raise FileNotFoundError(f"no program to run: STMDESK names {named!r}, which isn't an executable file")
         return found
+    folder = Path(__file__).resolve().parent
+    own = os.fspath(folder / "bin" / "stmdesk")
+    if shutil.which(own):
+        return own
+    said = f"no folder above {folder} is stmdesk's repository"
+    for above in folder.parents:
+        if is_repository(above):
+            try:
+                return program_of(above)
+            except OSError as error:
+                said = f"the repository {above} has none ({error})"
+                break
     found = shutil.which("stmdesk")
     if found:
         return found
-    folder = Path(__file__).resolve().parent
-    for above in folder.parents:
-        if is_repository(above):
-            return os.fspath(above / "stmdesk")
     raise FileNotFoundError(
-        "no program to run. Give its path to Desk(..) or in the environment variable STMDESK, or put it on the PATH as "
-        f"stmdesk. STMDESK isn't set, no folder of the PATH has it ({os.environ.get('PATH', '')}), and no folder above "
-        f"{folder} is stmdesk's repository."
+        "no program to run. Give its path to Desk(..) or in the environment variable STMDESK. STMDESK isn't set; the package "
+        f"brings none ({own}); {said}; no folder of the PATH has stmdesk ({os.environ.get('PATH', '')})."
     )
 
 
@@ -58,13 +65,21 @@ def is_repository(folder: Path) -> bool:
     return (folder / "stmdesk").is_file() and (folder / "crates" / "stmdesk").is_dir()
 
 
+def program_of(repository: Path) -> str:
+    """The path of the repository's program: the built one, or that of release/. Raises OSError if neither is of its present sources.
+    The repository's script would then build it for an hour, or run all commands together at the end of its input."""
+    command = [os.fspath(repository / "stmdesk"), "--which"]
+    done = subprocess.run(command, stdin=subprocess.DEVNULL, capture_output=True, text=True, errors="surrogateescape")
+    if done.returncode:
+        raise FileNotFoundError(done.stderr.strip())
+    return done.stdout.removesuffix("\n")
+
+
 def check_built(program: str) -> None:
-    """Raises FileNotFoundError if the program is the script of a repository in which nothing is built yet: it would run
-    all commands together at the end of its input, so the first call would wait for ever."""
-    folder = Path(shutil.which(program) or program).resolve().parent
-    built = folder / "crates" / "stmdesk" / "out" / "stmdesk"
-    if is_repository(folder) and not built.exists():
-        raise FileNotFoundError(f"the program isn't built yet: run {folder / 'stmdesk'} --build once")
+    """Raises OSError if the program is the script of a repository that has no program to run at once."""
+    path = Path(shutil.which(program) or program).resolve()
+    if path.name == "stmdesk" and is_repository(path.parent):
+        program_of(path.parent)
 
 
 def run_once(command: Sequence[str], text: str | bytes) -> tuple[int, str, str]:

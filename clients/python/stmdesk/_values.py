@@ -262,7 +262,7 @@ class FinishedThrows:
 
 @dataclass(frozen=True)
 class Settled:
-    """How many blocks a `settle` finished, and how many evaluations that took.
+    """How many blocks a `settle` or a `drain` finished, and how many evaluations that took.
 
     >>> ticket = desk.submit("readTVar x")
     >>> desk.settle()

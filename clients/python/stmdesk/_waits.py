@@ -56,7 +56,7 @@ class Waits(Owned):
     it as stale. The program names each ticket whose evaluation read what a finish changed. So a ticket that isn't due blocks
     on the present store. While a ticket is due or a block is asked, a turn is under way or queued in the helper: whoever adds
     one runs or queues a turn after that, and a turn ends when there is none, or queues another. Two commands of others need
-    care. `settle` doesn't say what it finished, so the desk refuses it while something waits. A ticket that `take` has handed
+    care. `settle` and `drain` don't say what they finished, so the desk refuses them while something waits. A ticket that `take` has handed
     out is left out by `eval`; its finish is then refused with `Stale` or `NotEvaluated`, so it is handed back and stays due.
     """
 

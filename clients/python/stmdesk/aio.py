@@ -236,6 +236,14 @@ class Desk:
         """
         return await self._call(self._desk.settle)
 
+    async def drain(self) -> Settled:
+        """Finishes the same tickets as `settle`, in the same order, but evaluates each only when it is its turn.
+
+        >>> run(desk.drain())
+        Settled(finished=0, evaluations=0)
+        """
+        return await self._call(self._desk.drain)
+
     async def history(self) -> str:
         """The text of all events so far.
 
