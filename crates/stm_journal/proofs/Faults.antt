@@ -1,6 +1,5 @@
 -- Causes of errors.
-use Rattle.std.proofs.Common.{◌≡◌, ◌<◌, Err, Result}
-use Rattle.stm_journal.specs.declared.error.JournalError.{JournalError}
+use Rattle.std.proofs.Common.{◌<◌, Err}
 use Rattle.stm_journal.specs.declared.error.JournalError.TheVariants.{TooLong}
 use Rattle.stm_journal.specs.Device.{Own, HasCause}
 use Rattle.stm_journal.specs.Disk.{Disk, MayFail}

@@ -1,4 +1,4 @@
-use Rattle.std.proofs.Common.{◌≡◌, ◌∙◌, ap, refl, rules}
+use Rattle.std.proofs.Common.{◌≡◌, ◌∙◌, ap, rules}
 use Rattle.stm_journal.specs.Device.{overwritten}
 use Rattle.stm_journal.specs.declared.cached.Content.{Content}
 use Rattle.stm_journal.proofs.KeptContents.{elapses_to, write_leaves}
