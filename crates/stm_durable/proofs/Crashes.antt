@@ -1,45 +1,21 @@
 -- What a batch of events leaves.
-use Rattle.std.proofs.Common.{◌≡◌, ◌≢◌, inl, inr, ⊎_elim, ℕ, ◌≤◌, Result, Ok, Err, OnOk, List, [], ◌++◌, length, take, Bool, true, false, IsTrue, sym, ◌∙◌, ap, subst, arith}
+use Rattle.std.proofs.Common.{◌≡◌, ◌≢◌, ◌⊎◌, inl, inr, ⊎_elim, ℕ, ◌≤◌, List, [], ◌++◌, length, take, drop, Bool, true, false, refl, sym, ◌∙◌, ap, subst, arith}
 use Rattle.std.proofs.lemmas.List.{append-nil}
 use Rattle.stm_events.specs.declared.event.Event.{Event}
 use Rattle.stm_history.specs.HistoryText.{history_text, event_lines}
 use Rattle.stm_history.specs.Starts.{Start}
-use Rattle.stm_journal.specs.declared.error.JournalError.{JournalError}
 use Rattle.stm_journal.specs.declared.sync_mode.SyncMode.{SyncMode}
 use Rattle.stm_journal.specs.declared.sync_mode.SyncMode.TheVariants.{Full, Append, Never}
 use Rattle.stm_journal.specs.Disk.{Disk, LeavesOnly}
-use Rattle.stm_journal.specs.Journal.{AtRest, MayLeave, HasFront, KeepsText, most_batch}
+use Rattle.stm_journal.specs.Journal.{AtRest, MayLeave, HasAllOrNone, HasFront, KeepsText, most_batch}
 use Rattle.stm_journal.specs.Journal as journal
-use Rattle.stm_journal.specs.Text.{dropped_count, IsWhole}
+use Rattle.stm_journal.specs.Text.{recovered, dropped_count, IsWhole}
 use Rattle.stm_journal.proofs.Moments.{started, weaker}
 use Rattle.stm_journal.proofs.Wholes.{recovered_whole}
-use Rattle.stm_durable.specs.Durable.{file_text, batch_text, batch_sync, AreFit, HistoryKept, HasAllEventsOrNone, LeavesHistory, MayBecome}
+use Rattle.stm_durable.specs.Durable.{IsForeign, IsBegunOrWhole, IsOwn, file_text, batch_text, batch_sync, AreFit, HistoryKept, HasAllEventsOrNone, LeavesHistory, MayBecome}
 use Rattle.stm_durable.specs.declared.recording.HistoryFile.{HistoryFile}
 use Rattle.stm_durable.proofs.FirstEvents.{first_of}
-use Rattle.stm_durable.proofs.Texts.{file_text-batch, longer_text}
-
--- a journal at rest is so for each way to sync that syncs no more
-pub rests_as : {D : Type 0} (disk : Disk D) (device : D) (s t : SyncMode) (len : ℕ) → (t ≢ Never → s ≢ Never)
-    → AtRest disk device s len → AtRest disk device t len
-rests_as disk device s t len syncs r = record { settled = r.settled; whole = r.whole; counts = r.counts; durable = λ some. r.durable (syncs some) }
-
-pub syncs_first : (s : SyncMode) (begun : Bool) → batch_sync s begun ≢ Never → s ≢ Never
-syncs_first Full begun some = λ e. cc
-syncs_first Append begun some = λ e. cc
-syncs_first Never begun some = some
-
-pub syncs_after : (s : SyncMode) (begun : Bool) → s ≢ Never → batch_sync s begun ≢ Never
-syncs_after Full begun some = some
-syncs_after Append true some = some
-syncs_after Append false some = λ e. cc
-syncs_after Never begun some = some
-
--- a batch was added with its own way to sync
-pub rests_after : {D : Type 0} (r : Result Unit JournalError) (disk : Disk D) (device : D) (s t : SyncMode) (begun : Bool) (len : ℕ) → t ≡ batch_sync s begun
-    → OnOk r (IsTrue disk.is_honest → AtRest disk device t len) → OnOk r (IsTrue disk.is_honest → AtRest disk device s len)
-rests_after (Ok x) disk device s t begun len is rests =
-    λ honest. rests_as disk device t s len (λ some. subst (λ (m : SyncMode). m ≢ Never) (sym is) (syncs_after s begun some)) (rests honest)
-rests_after (Err e) disk device s t begun len is rests = tt
+use Rattle.stm_durable.proofs.Texts.{file_text-batch, longer_text, not_empty}
 
 -- ---- what a batch leaves
 
@@ -87,6 +63,55 @@ if_synced : (s : SyncMode) (zeros begun : Bool) (start : Start) (history events 
 if_synced Full zeros begun start history events c h = h (λ e. cc)
 if_synced Append zeros begun start history events c h = h (λ e. cc)
 if_synced Never zeros begun start history events c h = tt
+
+-- ---- no file that is left is some other one
+either : (b : Bool) → (b ≡ true) ⊎ (b ≡ false)
+either true = inl refl
+either false = inr refl
+
+some_lines : (start : Start) (history : List Event) (c : List ℕ) → recovered c ≡ history_text start history → IsForeign c → ⊥
+some_lines start history c is other = not_empty start history [] (append-nil (history_text start history) ∙ sym is ∙ other.nothing)
+
+-- after the first batch: it has lines
+own_lines : (s : SyncMode) (zeros : Bool) (start : Start) (history events : List Event) (c : List ℕ) → s ≢ Never → LeavesHistory s zeros true start history events c → IsForeign c → ⊥
+own_lines Full zeros start history events c some h other =
+    ⊎_elim (λ is. some_lines start history c is other) (λ is. some_lines start (history ++ events) c is other) h.lines
+own_lines Append true start history events c some h other = some_lines start (history ++ take h.count events) c h.lines other
+own_lines Append false start history events c some h other = not_empty start history h.more (sym h.lines ∙ other.nothing)
+own_lines Never zeros start history events c some h other = some refl
+
+own_after : (begun : Bool) (start : Start) (events : List Event) (c : List ℕ) → begun ≡ true → (IsForeign c → ⊥) → IsOwn begun start events c
+own_after begun start events c is none other = absurd (none other)
+
+own_first : (begun : Bool) (start : Start) (events : List Event) (batch c : List ℕ) → begun ≡ false → batch ≡ batch_text begun start events → IsBegunOrWhole batch c → IsOwn begun start events c
+own_first false start events batch c first is (inl begun) other = absurd (other.other begun)
+own_first false start events batch c first is (inr same) other = (refl, same ∙ ap (λ (l : List ℕ). drop 1 l) is)
+own_first true start events batch c first is h other = absurd (cc first)
+
+module _ {D : Type 0} (disk : Disk D) (f : HistoryFile D) (start : Start) (history events : List Event) (some : f.journal.sync ≢ Never) (keeps : HistoryKept disk f start history) where
+  own_if_left : f.begun ≡ true → (c : List ℕ) → MayBecome disk f start history events c → IsOwn f.begun start events c
+  own_if_left is c h =
+      own_after f.begun start events c is
+      (own_lines f.journal.sync disk.fills_with_zeros start history events c some
+      (subst (λ (b : Bool). LeavesHistory f.journal.sync disk.fills_with_zeros b start history events c) is h))
+
+  -- the first batch, or a later one
+  module _ (new : D) (batch : List ℕ) (is : batch ≡ batch_text f.begun start events) (run : LeavesOnly disk f.journal.device new (MayBecome disk f start history events))
+      (first : f.begun ≡ false → LeavesOnly disk f.journal.device new (IsBegunOrWhole batch)) where
+    pub own_run : LeavesOnly disk f.journal.device new (IsOwn f.begun start events)
+    own_run = elim (either f.begun) [
+      | inl begun ↦ weaker disk f.journal.device new (MayBecome disk f start history events) (IsOwn f.begun start events) run (own_if_left begun)
+      | inr none ↦
+          weaker disk f.journal.device new (IsBegunOrWhole batch) (IsOwn f.begun start events) (first none)
+          (λ c h. own_first f.begun start events batch c none is h)
+    ]
+
+  module _ (batch c : List ℕ) (is : batch ≡ batch_text f.begun start events) (h : MayBecome disk f start history events c) (first : f.begun ≡ false → IsBegunOrWhole batch c) where
+    pub own_left : IsOwn f.begun start events c
+    own_left = elim (either f.begun) [
+      | inl begun ↦ own_if_left begun c h
+      | inr none ↦ own_first f.begun start events batch c none is (first none)
+    ]
 
 module _ {D : Type 0} (disk : Disk D) (f : HistoryFile D) (start : Start) (history events : List Event) (keeps : HistoryKept disk f start history) where
   pub stays_left : MayBecome disk f start history events (disk.seen f.journal.device)

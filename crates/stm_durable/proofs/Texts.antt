@@ -1,6 +1,7 @@
 -- The text of a history is whole lines that begin with `{`.
-use Rattle.std.proofs.Common.{◌≡◌, ◌≢◌, ℕ, suc, ◌+◌, ◌≤◌, List, [], ◌∷◌, ◌++◌, length, Bool, true, false, Option, Some, None, refl, sym, ◌∙◌, ap, subst, arith, length-append, append_assoc}
+use Rattle.std.proofs.Common.{◌≡◌, ◌≢◌, ℕ, suc, ◌+◌, ◌≤◌, List, [], ◌∷◌, ◌++◌, length, take, Bool, true, false, Option, Some, None, refl, sym, ◌∙◌, ap, subst, arith, length-append, append_assoc}
 use Rattle.std.proofs.lemmas.List.{length-map}
+use Rattle.json.specs.Print.{escape_byte}
 use Rattle.stm_store.specs.declared.cell.Cell.{Cell}
 use Rattle.stm_store.specs.Cells.{plain}
 use Rattle.stm_store.specs.Tables.{Declared}
@@ -10,7 +11,7 @@ use Rattle.stm_events.specs.declared.event.What.TheVariants.{Submitted, Installe
 use Rattle.stm_machine.specs.declared.checkpoint.CheckpointBlock.{CheckpointBlock}
 use Rattle.stm_machine.specs.Checkpoints.{CheckpointView}
 use Rattle.stm_event_lines.specs.Fits.{Is32Bit, WhatFitsFormat, IsOneLine, BeginsWithBrace}
-use Rattle.stm_history.specs.HistoryText.{variable_lines, event_lines, head_text, cell_lines, cells_text, block_line, block_lines, checkpoint_text, history_text, start_text}
+use Rattle.stm_history.specs.HistoryText.{variable_lines, event_lines, head_text, cell_lines, cells_text, block_line, block_lines, checkpoint_text, history_text, start_text, text_before}
 use Rattle.stm_history.specs.Judgement.{AreVariables, AreVariablesFrom, AreEvents, FitCells, FitBlocks, CheckpointFits, FitsBefore, IsBefore}
 use Rattle.stm_history.specs.Loading.{HasText}
 use Rattle.stm_history.specs.Starts.{Start, delivery_of_block, written_start}
@@ -23,7 +24,7 @@ use Rattle.stm_event_lines.proofs.ReadsBack.{event_one_line, header_one_line, va
 use Rattle.stm_journal.specs.Journal.{most_batch}
 use Rattle.stm_journal.specs.Text.{whole_count, IsWhole}
 use Rattle.stm_journal.proofs.Wholes.{whole_open, whole_feed, whole_on, IsWhole-append}
-use Rattle.stm_durable.specs.Durable.{file_text, batch_text, AreFit, FitLines}
+use Rattle.stm_durable.specs.Durable.{history_front, file_text, batch_text, AreFit, FitLines}
 
 -- a line that has begun ends at its line feed
 pub to_feed : (n : ℕ) (xs more : List ℕ) → IsOneLine xs → whole_count (suc n) (xs ++ 10 ∷ more) ≡ suc n + length xs + 1 + whole_count 0 more
@@ -156,3 +157,35 @@ pub fits_again : (start : Start) (events : List Event) → HasText start events 
 fits_again start events text =
     let is = text.1 in
     record { start_fits = fits_before start.format start.table start.checkpoint is.start; fit = events_fit start.format start.table events is.events }
+
+-- ---- how a history begins: with `{"format":`
+abbrev pub BeginsHistory : List ℕ → Type 0
+BeginsHistory text = (more : List ℕ) × (text ≡ 123 ∷ 34 ∷ 102 ∷ 111 ∷ 114 ∷ 109 ∷ 97 ∷ 116 ∷ 34 ∷ 58 ∷ more)
+
+header_begins : (format n : ℕ) → BeginsHistory (header_line format n)
+unfolding header_line escape_byte
+header_begins format n = (_, refl)
+
+checkpoint_header_begins : (next vars waiting : ℕ) → BeginsHistory (checkpoint_header_line next vars waiting)
+unfolding checkpoint_header_line escape_byte
+checkpoint_header_begins next vars waiting = (_, refl)
+
+begins-append : (text more : List ℕ) → BeginsHistory text → BeginsHistory (text ++ more)
+begins-append text more begins = (begins.0 ++ more, ap (λ (l : List ℕ). l ++ more) begins.1)
+
+before_begins : (format : ℕ) (table : List Declared) (o : Option CheckpointView) → BeginsHistory (text_before format table o)
+before_begins format table None = begins-append (header_line format (length table)) (10 ∷ variable_lines table) (header_begins format (length table))
+before_begins format table (Some c) =
+    begins-append (cells_text c.next (length c.store) (length c.blocks) table c.store) (block_lines c.blocks)
+    (begins-append (checkpoint_header_line c.next (length c.store) (length c.blocks)) (10 ∷ cell_lines table c.store)
+    (checkpoint_header_begins c.next (length c.store) (length c.blocks)))
+
+history_begins : (start : Start) (events : List Event) → BeginsHistory (history_text start events)
+history_begins start events = begins-append (start_text start) (event_lines events) (before_begins start.format start.table start.checkpoint)
+
+pub front_of : (start : Start) (events : List Event) → take 10 (history_text start events) ≡ history_front
+front_of start events = ap (λ (l : List ℕ). take 10 l) (history_begins start events).1
+
+-- it has some bytes
+pub not_empty : (start : Start) (events : List Event) (more : List ℕ) → history_text start events ++ more ≡ [] → ⊥
+not_empty start events more none = cc (none, ap (λ (l : List ℕ). l ++ more) (history_begins start events).1)

@@ -1,5 +1,5 @@
 -- The file of a history: nothing before its first batch, and then exactly the text of docs/HISTORY.md.
-use Rattle.std.specs.Prelude.{◌≡◌, ◌≢◌, ◌⊎◌, ⊤, ◌≤◌, ◌<◌, ◌+◌, ◌^◌, Option, Some, None, ℕ, Bool, true, false, IsTrue, List, [], ◌∷◌, ◌++◌, length, take, get_or, option_copied, Result, IsErr, IsErrOf}
+use Rattle.std.specs.Prelude.{◌≡◌, ◌≢◌, ◌⊎◌, ⊤, ◌≤◌, ◌<◌, ◌+◌, ◌^◌, Option, Some, None, ℕ, Bool, true, false, IsTrue, List, [], ◌∷◌, ◌++◌, length, take, drop, codes, option_copied, Result, IsErr, IsErrOf}
 use Rattle.std.specs.Borrow.{Bor}
 use Rattle.stm_store.specs.Tables.{Declared}
 use Rattle.stm_events.specs.declared.event.Event.{Event}
@@ -17,7 +17,8 @@ use Rattle.stm_journal.specs.declared.error.JournalError.{JournalError}
 use Rattle.stm_journal.specs.declared.error.JournalError.TheVariants.{Failed, NoSpace, Full as FullFile, TooLong, TornTooLong}
 use Rattle.stm_journal.specs.Device.{Own}
 use Rattle.stm_journal.specs.Disk.{Disk, LeavesOnly, CrashLeaves, FailsOnlyIf, FailsOnlyIfAny}
-use Rattle.stm_journal.specs.Journal.{AtRest, most_batch}
+use Rattle.stm_journal.specs.FirstBatch.{IsBegun}
+use Rattle.stm_journal.specs.Journal.{AtRest, HasSameLines, most_batch}
 use Rattle.stm_journal.specs.Text.{recovered, dropped_count}
 use Rattle.stm_durable.specs.declared.recording.HistoryFile.{HistoryFile}
 use Rattle.stm_durable.specs.declared.resuming.OpenFault.{OpenFault}
@@ -103,6 +104,25 @@ abbrev pub LeavesHistory : SyncMode → Bool → Bool → Start → List Event �
 LeavesHistory sync zeros begun start history events file =
     LeavesBatch (batch_sync sync begun) zeros begun start history events file
 
+-- ---- other files
+
+-- how each history begins
+abbrev pub history_front : List ℕ
+history_front = codes "{\"format\":"
+
+-- It is some other file: it has no line of a history, and isn't one in which a first batch was begun.
+pub record IsForeign (file : List ℕ) : Type 0 where
+  pub nothing : recovered file ≡ []
+  pub other : IsBegun history_front file → ⊥
+
+-- A first batch is begun in the file, or all of it is there, with any byte in place of the first one.
+abbrev pub IsBegunOrWhole : List ℕ → List ℕ → Type 0
+IsBegunOrWhole batch file = IsBegun history_front file ⊎ (drop 1 file ≡ drop 1 batch)
+
+-- If it is some other file, it has all of the first batch but for its first byte.
+abbrev pub IsOwn : Bool → Start → List Event → List ℕ → Type 0
+IsOwn begun start events file = IsForeign file → (begun ≡ false) × (drop 1 file ≡ drop 1 (history_text start events))
+
 -- ---- recording
 
 -- these events come after each history that the file had
@@ -126,6 +146,13 @@ LeavesAtAnyMoment disk old new start events =
     IsTrue disk.is_honest → (history : List Event) → HistoryKept disk old start history
     → LeavesOnly disk old.journal.device new.journal.device (MayBecome disk old start history events)
     × MayBecome disk old start history events (disk.seen new.journal.device)
+
+-- What a crash at any moment leaves, and an error, isn't some other file, unless the crash tears the byte that opens the first batch.
+abbrev pub LeavesOwn : {D : Type 0} → Disk D → HistoryFile D → HistoryFile D → Start → List Event → Type 0
+LeavesOwn disk old new start events =
+    IsTrue disk.is_honest → old.journal.sync ≢ Never → (history : List Event) → HistoryKept disk old start history
+    → LeavesOnly disk old.journal.device new.journal.device (IsOwn old.begun start events)
+    × IsOwn old.begun start events (disk.seen new.journal.device)
 
 -- a batch that is too long is refused before anything is written
 abbrev pub RefusesLongEvents : {D : Type 0} → HistoryFile D → HistoryFile D → Start → List Event → Result (Unit {0}) JournalError → Type 0
@@ -182,13 +209,6 @@ HasLoaded disk f loaded = IsTrue disk.is_honest → LoadedKept disk f loaded
 abbrev pub LoadsFront : List ℕ → Option Loaded → Type 0
 LoadsFront front None = front ≡ []
 LoadsFront front (Some h) = IsWholeHistory (loaded_start h) front h.events.items
-
--- It is some other file: it has no line of a history, and more than one byte, of which the first isn't the one that a first
--- batch has there until it is opened.
-pub record IsForeign (file : List ℕ) : Type 0 where
-  pub nothing : recovered file ≡ []
-  pub some : 2 ≤ length file
-  pub first : get_or file 0 0 ≢ 0
 
 -- why a file isn't opened
 abbrev pub ReportsOpenFault : OpenFault → List ℕ → Type 0
@@ -275,3 +295,7 @@ abbrev pub CheckpointIsResumed : Type 0
 CheckpointIsResumed =
     (start : Start) (file : List ℕ) → StartCanBeRead start → file ≡ start_text start
     → IsWholeHistory (read_back start) (recovered file) [] × (dropped_count file ≡ 0)
+
+-- What a crash or an error leaves while a file is opened isn't some other file, if that one wasn't.
+abbrev pub OwnStaysOwn : Type 0
+OwnStaysOwn = (file other : List ℕ) → HasSameLines file other → (IsForeign file → ⊥) → IsForeign other → ⊥

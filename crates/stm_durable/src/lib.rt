@@ -62,6 +62,16 @@ mod tests {
 
     const OTHER: &[u8] = b"Dear diary\n";
 
+    /// What a crash may leave of a first batch, from its front on.
+    const BEGUN: &[u8] = b"\0\"format\":3,\"va\0\0\xffs\n{}\n\0";
+
+    /// Files that only begin as a first batch may.
+    const NUMBERS: &[u8] = b"\0\0\0\x01";
+
+    const IMAGE: &[u8] = b"\0\0\0\0\0\0\0\0\0\0\0\0\0\0\0\0";
+
+    const FISH: &[u8] = b"\0\"fish\":\"shark\"}\n";
+
     fn opened(alloc: Global, bytes: &[u8]) -> Result<Opened<Memory>, Fail>
         ensures { IfOk result (λ r. IfSome r.loaded (λ h. HasText (loaded_start h) h.events.items)) }
     {
@@ -109,33 +119,74 @@ mod tests {
         Ok(())
     }
 
-    /// What a new file has after the events of a history were recorded in it.
-    fn recorded(alloc: Global, sync: SyncMode) -> Result<Vec<u8>, Fail> {
+    #[test]
+    fn what_only_begins_with_a_zero_is_left_alone(rt: HostRuntime) -> Result<(), Fail> {
+        assert_eq!(rt; fault_of(rt.alloc(), NUMBERS)?, Some(OpenFault::Foreign));
+        assert_eq!(rt; fault_of(rt.alloc(), IMAGE)?, Some(OpenFault::Foreign));
+        assert_eq!(rt; fault_of(rt.alloc(), FISH)?, Some(OpenFault::Foreign));
+        assert_eq!(rt;
+            fault_of(rt.alloc(), &WHOLE[..20])?,
+            Some(OpenFault::Foreign)
+        );
+        assert_eq!(rt;
+            fault_of(rt.alloc(), &WHOLE[1..])?,
+            Some(OpenFault::Foreign)
+        );
+        Ok(())
+    }
+
+    /// Whether a file is opened with no history, and is empty then.
+    fn is_begun(alloc: Global, bytes: &[u8]) -> Result<bool, Fail> {
+        let opened = opened(alloc, bytes)?;
+        Ok(opened.loaded.is_none() && opened.file.journal.device.bytes().is_empty())
+    }
+
+    #[test]
+    fn what_a_crash_leaves_of_a_first_batch_is_opened(rt: HostRuntime) -> Result<(), Fail> {
+        for len in 0..BEGUN.len() {
+            assert!(rt; is_begun(rt.alloc(), &BEGUN[..len])?);
+        }
+        // Any byte may be in place of one that is being written.
+        assert!(rt; is_begun(rt.alloc(), b"x")?);
+        assert!(rt; is_begun(rt.alloc(), b"\0x")?);
+        assert!(rt; is_begun(rt.alloc(), b"\0\"fish")?);
+        Ok(())
+    }
+
+    /// A new file after the events of a history were recorded in it.
+    fn recorded(alloc: Global, sync: SyncMode) -> Result<Memory, Fail> {
         let whole = opened(alloc, WHOLE)?;
         let device = Memory::new(alloc, Vec::new(alloc));
         let mut new = match open_history(alloc, Seed::fixed(), device, sync) {
             Ok(new) => new,
-            Err(_) => return Ok(Vec::new(alloc)),
+            Err((device, _)) => return Ok(device),
         };
-        match (&whole.loaded, &new.loaded) {
-            (Some(loaded), None) => {
-                new.file.record(
-                    alloc,
-                    &loaded.table,
-                    loaded.checkpoint.as_ref(),
-                    &loaded.events,
-                )?;
-                Ok(new.file.journal.device.bytes().to_vec(alloc)?)
-            }
-            _ => Ok(Vec::new(alloc)),
+        if let (Some(loaded), None) = (&whole.loaded, &new.loaded) {
+            new.file.record(
+                alloc,
+                &loaded.table,
+                loaded.checkpoint.as_ref(),
+                &loaded.events,
+            )?;
         }
+        Ok(new.file.journal.device)
     }
 
     #[test]
     fn events_are_recorded(rt: HostRuntime) -> Result<(), Fail> {
-        assert_eq!(rt; recorded(rt.alloc(), SyncMode::Full)?.as_slice(), WHOLE);
-        assert_eq!(rt; recorded(rt.alloc(), SyncMode::Append)?.as_slice(), WHOLE);
-        assert_eq!(rt; recorded(rt.alloc(), SyncMode::Never)?.as_slice(), WHOLE);
+        let full = recorded(rt.alloc(), SyncMode::Full)?;
+        assert_eq!(rt; full.bytes(), WHOLE);
+        // What a crash might have left of the first batch.
+        assert_eq!(rt; full.past().len(), 5usize);
+        for past in full.past() {
+            assert!(rt; is_begun(rt.alloc(), past)?);
+        }
+        let append = recorded(rt.alloc(), SyncMode::Append)?;
+        assert_eq!(rt; append.bytes(), WHOLE);
+        assert_eq!(rt; append.past().len(), 5usize);
+        let never = recorded(rt.alloc(), SyncMode::Never)?;
+        assert_eq!(rt; never.bytes(), WHOLE);
+        assert_eq!(rt; never.past().len(), 1usize);
         Ok(())
     }
 

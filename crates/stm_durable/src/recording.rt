@@ -1,11 +1,11 @@
 //! Events, recorded in a file.
 
-ghost use Rattle.std.specs.Prelude.{◌≡◌, ◌++◌, ◌+◌, ◌<◌, ◌≤◌, ◌^◌, true, IsTrue, length, OnOk, IfOk, IfErr};
+ghost use Rattle.std.specs.Prelude.{◌≡◌, ◌≢◌, ◌++◌, ◌+◌, ◌<◌, ◌≤◌, ◌^◌, [], true, false, IsTrue, length, take, OnOk, IfOk, IfErr};
 ghost use Rattle.stm_history.specs.Judgement.{AreEvents};
 ghost use Rattle.stm_journal.specs.Disk.{Shows, CrashLeaves, FailsOnlyIf};
 ghost use Rattle.stm_journal.specs.Journal.{IsAtRest, MayLeave, most_batch};
 ghost use Rattle.stm_journal.specs.Text.{IsWhole};
-ghost use Rattle.stm_durable.specs.Durable.{lent_start, batch_text, batch_sync, KeepsSome, FitLines, Records, RefusesLongEvents, LeavesAtAnyMoment, RecordsUnless};
+ghost use Rattle.stm_durable.specs.Durable.{lent_start, history_front, IsBegunOrWhole, LeavesOwn, batch_text, batch_sync, KeepsSome, FitLines, Records, RefusesLongEvents, LeavesAtAnyMoment, RecordsUnless};
 
 use std::alloc::Global;
 use stm_events::Event;
@@ -14,28 +14,14 @@ use stm_journal::{Device, Journal, JournalError, MAX_BATCH, SyncMode};
 use stm_machine::Checkpoint;
 use stm_store::Table;
 
+/// How each history begins.
+pub(crate) const HISTORY_FRONT: &[u8] = b"{\"format\":";
+
 /// The file of a history, and whether it has its first lines.
 #[derive(Drop)]
 pub struct HistoryFile<D: Device> {
     pub journal: Journal<D>,
     pub begun: bool,
-}
-
-/// How a batch is synced.
-fn batch_sync(sync: SyncMode, begun: bool) -> SyncMode
-    ensures { result ≡ batch_sync sync begun }
-{
-    match sync {
-        SyncMode::Full => SyncMode::Full,
-        SyncMode::Append => {
-            if begun {
-                SyncMode::Append
-            } else {
-                SyncMode::Full
-            }
-        }
-        SyncMode::Never => SyncMode::Never,
-    }
 }
 
 /// The bytes of a batch.
@@ -69,8 +55,10 @@ fn add_batch<D: Device>(
     batch: &[u8],
 ) -> Result<(), JournalError>
     requires at_rest { IsAtRest D.disk journal.old }
+    requires empty { begun ≡ false → Shows D.disk journal.old.device [] }
     requires lines { IsWhole batch.now }
     requires room { length batch.now ≤ most_batch }
+    requires front { begun ≡ false → take 10 batch.now ≡ history_front }
     ensures added { OnOk result (Shows D.disk journal.new.device (D.disk.seen journal.old.device ++ batch.now)) }
     ensures at_rest { OnOk result (IsAtRest D.disk journal.new) }
     ensures sync { journal.new.sync ≡ journal.old.sync }
@@ -79,17 +67,24 @@ fn add_batch<D: Device>(
     ensures left { IsTrue D.disk.is_honest
         → MayLeave (batch_sync journal.old.sync begun) D.disk.fills_with_zeros (D.disk.seen journal.old.device) batch.now
         (D.disk.seen journal.new.device) }
+    // The first batch leaves a file in which it is begun, or all of it but for its first byte.
+    ensures begun_moment { begun ≡ false → journal.old.sync ≢ SyncMode.Never
+        → CrashLeaves D.disk journal.old.device journal.new.device (IsBegunOrWhole batch.now) }
+    ensures begun_left { begun ≡ false → journal.old.sync ≢ SyncMode.Never → IsTrue D.disk.is_honest
+        → IsBegunOrWhole batch.now (D.disk.seen journal.new.device) }
     ensures fault { FailsOnlyIf D.disk journal.old.device journal.new.device (record {
       full = 2 ^ 62 < length (D.disk.seen journal.old.device) + length batch.now;
       too_long = ⊥;
       torn_too_long = ⊥;
     }) result }
 {
-    let sync = journal.sync;
-    journal.sync = batch_sync(sync, begun);
-    let added = journal.append(batch);
-    journal.sync = sync;
-    added
+    if begun {
+        return journal.append(batch);
+    }
+    match journal.sync {
+        SyncMode::Never => journal.append(batch),
+        SyncMode::Full | SyncMode::Append => journal.append_first(batch, HISTORY_FRONT.len()),
+    }
 }
 
 impl<D: Device> HistoryFile<D> {
@@ -115,6 +110,8 @@ impl<D: Device> HistoryFile<D> {
         ensures refused { RefusesLongEvents self.old self.new (lent_start table.now checkpoint.entry) events.now result }
         // A crash at any moment, and an error, leave the history from before, and of these events what the sync mode promises.
         ensures any_moment { LeavesAtAnyMoment D.disk self.old self.new (lent_start table.now checkpoint.entry) events.now }
+        // None of these is foreign, unless a crash tears the byte that opens the first batch.
+        ensures own { LeavesOwn D.disk self.old self.new (lent_start table.now checkpoint.entry) events.now }
         ensures fault { RecordsUnless D.disk self.old self.new (lent_start table.now checkpoint.entry) events.now result }
     {
         let batch = match batch_of(alloc, self.begun, table, checkpoint, events) {

@@ -1,6 +1,6 @@
 //! A file of a history, opened again.
 
-ghost use Rattle.std.specs.Prelude.{◌≡◌, ◌⊎◌, ◌≤◌, ◌<◌, IsTrue, IfOk, IfErr, IfSome, MatchResult, take};
+ghost use Rattle.std.specs.Prelude.{◌≡◌, ◌⊎◌, ◌≤◌, ◌<◌, ◌+◌, ◌^◌, IsTrue, IfOk, IfErr, IfSome, MatchResult, length, take, drop};
 ghost use Rattle.stm_events.specs.Laws.{SubmittedAreWellTyped};
 ghost use Rattle.stm_events.specs.SlowDesk.{state_from};
 ghost use Rattle.stm_events.specs.States.{IsLegalFrom};
@@ -13,7 +13,7 @@ ghost use Rattle.stm_machine.specs.Checkpoints.{MayStart, start_of};
 ghost use Rattle.stm_machine.specs.Machine.{IsAt};
 ghost use Rattle.stm_durable.specs.Durable.{HasLoaded, LoadsFront, ReportsOpenFault, IsOfFile, IsForeign, MayNotOpen, JudgesUnless, RepairsUnless, LoadsUnless};
 
-use crate::recording::HistoryFile;
+use crate::recording::{HISTORY_FRONT, HistoryFile};
 use std::alloc::Global;
 use stm_history::{LoadFault, Loaded, load_history};
 use stm_journal::{Device, FileReader, Found, Journal, JournalError, SyncMode, inspect, repair};
@@ -26,7 +26,7 @@ pub enum OpenFault {
     Journal(JournalError),
     /// Its whole lines are no legal history of format 3 or 4.
     History(LoadFault),
-    /// It has more than one byte and no line of a history: it is some other file.
+    /// It has no line of a history, and doesn't begin as a first batch does: it is some other file.
     Foreign,
 }
 
@@ -67,6 +67,24 @@ fn load_front<D: Device>(
     }
 }
 
+/// Whether a file has these bytes at a place.
+fn has_at<D: Device>(device: &D, at: usize, bytes: &[u8]) -> Result<bool, JournalError>
+    requires within { Reaches D.disk device.now at }
+    requires small { at + length bytes.now < 2 ^ 63 }
+    ensures yes { IsTrue D.disk.is_honest → IfOk result (λ b. IsTrue b → take (length bytes.now) (drop at (D.disk.seen device.now)) ≡ bytes.now) }
+    ensures no { IsTrue D.disk.is_honest → IfOk result (λ b. take (length bytes.now) (drop at (D.disk.seen device.now)) ≡ bytes.now → IsTrue b) }
+    ensures fault { FailsOnlyByReads D.disk device.now result }
+{
+    let mut found = [0u8; 1];
+    for (index, byte) in bytes.iter().enumerate() {
+        let count = device.read_at(at + index, &mut found)?;
+        if count == 0 || found[0] != *byte {
+            return Ok(false);
+        }
+    }
+    Ok(true)
+}
+
 /// Whether the file is some other one.
 fn is_foreign<D: Device>(device: &D, found: Found) -> Result<bool, JournalError>
     requires { HasFound D.disk device.now found }
@@ -77,9 +95,19 @@ fn is_foreign<D: Device>(device: &D, found: Found) -> Result<bool, JournalError>
     if found.kept > 0 || found.dropped < 2 {
         return Ok(false);
     }
-    let mut first = [0u8; 1];
-    let count = device.read_at(0, &mut first)?;
-    Ok(count == 1 && first[0] != 0)
+    if !has_at(device, 0, b"\0")? {
+        return Ok(true);
+    }
+    if found.dropped < 3 {
+        return Ok(false);
+    }
+    if !has_at(device, 1, &HISTORY_FRONT[1..2])? {
+        return Ok(true);
+    }
+    if found.dropped <= HISTORY_FRONT.len() {
+        return Ok(false);
+    }
+    Ok(!has_at(device, 2, &HISTORY_FRONT[2..])?)
 }
 
 /// Judges a file, which it leaves as it is: what is found in it, and the history whose text its whole lines are.

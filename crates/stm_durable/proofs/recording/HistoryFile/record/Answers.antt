@@ -1,8 +1,8 @@
-use Rattle.std.proofs.Common.{true, ◌∙◌, ap, length, option_copied, refl, sym, subst, arith}
+use Rattle.std.proofs.Common.{Bool, true, ◌∙◌, ap, length, take, option_copied, refl, sym, subst, arith}
 use Rattle.stm_journal.specs.Text.{IsWhole}
-use Rattle.stm_durable.specs.Durable.{lent_start}
-use Rattle.stm_durable.proofs.Texts.{IsWhole-batch, batch_short}
-use Rattle.stm_durable.proofs.Crashes.{recorded, leaves, left}
+use Rattle.stm_durable.specs.Durable.{lent_start, batch_text}
+use Rattle.stm_durable.proofs.Texts.{IsWhole-batch, batch_short, front_of}
+use Rattle.stm_durable.proofs.Crashes.{recorded, leaves, left, own_run, own_left}
 use Rattle.stm_durable.proofs.recording.HistoryFile.record.Goals as goal
 
 pub add_batch-requires-clause-lines : goal.add_batch-requires-clause-lines
@@ -52,4 +52,48 @@ returns-clause-any_moment g c honest H keeps =
     let new = c.add_batch.new.journal.device in (
       leaves D s start H events keeps batch is fit (omega (arith, small)) new (c.add_batch.ensures.any_moment honest),
       left D s start H events keeps batch is fit (omega (arith, small)) (D.seen new) (c.add_batch.ensures.left honest),
+    )
+
+pub add_batch-requires-clause-front : goal.add_batch-requires-clause-front
+add_batch-requires-clause-front g c none =
+    let start = lent_start c.args.table.now c.args.checkpoint in
+    ap (take 10) (c.deref.ensures.value ∙ c.in-Ok.ensures.ok ∙ ap (λ (b : Bool). batch_text b start c.args.events.now) none)
+    ∙ front_of start c.args.events.now
+
+pub returns-in-Ok-add_batch-clause-own : goal.returns-in-Ok-add_batch-clause-own
+returns-in-Ok-add_batch-clause-own g c honest some H keeps =
+    let D = g.D.Device.disk in
+    let s = c.args.self.now in
+    let start = lent_start c.args.table.now c.args.checkpoint in
+    let events = c.args.events.now in
+    let batch = c.deref.result.now in
+    let is = c.deref.ensures.value ∙ c.in-Ok.ensures.ok in
+    let fit = c.requires.fit.fit in
+    let small = ap length c.deref.ensures.value in
+    let new = c.add_batch.new.journal.device in (
+      own_run D s start H events some keeps new batch is
+          (leaves D s start H events keeps batch is fit (omega (arith, small)) new (c.add_batch.ensures.any_moment honest))
+          (λ none. c.add_batch.ensures.begun_moment none some honest),
+      own_left D s start H events some keeps batch (D.seen new) is
+          (left D s start H events keeps batch is fit (omega (arith, small)) (D.seen new) (c.add_batch.ensures.left honest))
+          (λ none. c.add_batch.ensures.begun_left none some honest),
+    )
+
+pub returns-clause-own : goal.returns-clause-own
+returns-clause-own g c honest some H keeps =
+    let D = g.D.Device.disk in
+    let s = c.args.self.now in
+    let start = lent_start c.args.table.now c.args.checkpoint in
+    let events = c.args.events.now in
+    let batch = c.deref.result.now in
+    let is = c.deref.ensures.value ∙ c.in-Ok.ensures.ok in
+    let fit = c.requires.fit.fit in
+    let small = ap length c.deref.ensures.value in
+    let new = c.add_batch.new.journal.device in (
+      own_run D s start H events some keeps new batch is
+          (leaves D s start H events keeps batch is fit (omega (arith, small)) new (c.add_batch.ensures.any_moment honest))
+          (λ none. c.add_batch.ensures.begun_moment none some honest),
+      own_left D s start H events some keeps batch (D.seen new) is
+          (left D s start H events keeps batch is fit (omega (arith, small)) (D.seen new) (c.add_batch.ensures.left honest))
+          (λ none. c.add_batch.ensures.begun_left none some honest),
     )
