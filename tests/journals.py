@@ -99,6 +99,24 @@ def front(text):
     return text[:length]
 
 
+# The steps in which the front of a first batch is written: the byte that is to be its first one, its second, and the rest of the front.
+STEPS = (b"\0", b'"', b'format":')
+
+
+def is_foreign(text):
+    """Whether a file is some other one: it has no line of a history, and isn't as far as one of the steps, of which any bytes may be there
+    while it is written, nor past all of them."""
+    if front(text):
+        return False
+    for step in STEPS:
+        if len(text) <= len(step):
+            return False
+        if not text.startswith(step):
+            return True
+        text = text[len(step) :]
+    return False
+
+
 def dropped(path, count):
     """The message about the torn end of a file."""
     return f"stmdesk: {path}: dropped {count} bytes after the last whole line\n" if count else ""
