@@ -1260,7 +1260,7 @@ class Batches(OnProgram):
         for is_small in (False, True):
             with Desk(program) as desk:
                 if is_small and hasattr(fcntl, "F_SETPIPE_SZ"):  # 4096 bytes in each pipe
-                    for pipe in (desk._process._input, desk._process._output):
+                    for pipe in (desk._transport._input, desk._transport._output):
                         fcntl.fcntl(pipe.fileno(), fcntl.F_SETPIPE_SZ, 4096)
                 with desk.batch() as batch:
                     for number in range(2000):

@@ -12,7 +12,7 @@ from typing import Generic, TypeVar
 
 from ._answers import Answers
 from ._errors import Refused
-from ._program import Odd, Process
+from ._transport import Odd, Transport
 from ._values import Events, Finished, FinishedThrows, Job, Reason, Ref, Settled, Status, Store, Value, Verdict
 
 # How many tickets wait, variables are, and events happen at most.
@@ -32,7 +32,7 @@ class Command(Generic[T]):
     word: str
     read: Callable[[Answers, Sequence[str]], T | Refused]
     begin: str | None = None  # the first word of each answer but a refusal, if that is always the same
-    take: Callable[[Process, str], list[str]] | None = None  # takes the lines of an answer of many, given the first
+    take: Callable[[Transport, str], list[str]] | None = None  # takes the lines of an answer of many, given the first
     then: str = ""  # what is sent after it
 
     @cached_property
@@ -113,28 +113,28 @@ def number_of(job: Job | int) -> str:
     return decimal(job.number if isinstance(job, Job) else job)
 
 
-def _lines_to(last: str, begin: tuple[str, ...], limit: Callable[[], int]) -> Callable[[Process, str], list[str]]:
+def _lines_to(last: str, begin: tuple[str, ...], limit: Callable[[], int]) -> Callable[[Transport, str], list[str]]:
     """Takes the lines up to the one that begins with `last`, at most `limit` before it, each of which begins with one of
     `begin`."""
 
-    def take(process: Process, first: str) -> list[str]:
+    def take(transport: Transport, first: str) -> list[str]:
         lines = [first]
         while not lines[-1].startswith(last):
             if len(lines) > limit() or not lines[-1].startswith(begin):
                 raise Odd("\n".join(lines[-3:]))
-            lines.append(process.line())
+            lines.append(transport.line())
         return lines
 
     return take
 
 
-def _history_lines(process: Process, first: str) -> list[str]:
+def _history_lines(transport: Transport, first: str) -> list[str]:
     """Takes the lines up to the first that begins with no brace."""
     lines = [first]
     while lines[-1].startswith("{"):
         if len(lines) > CELLS_LIMIT + WAITING_LIMIT + EVENTS_LIMIT + 1:
             raise Odd("\n".join(lines[-3:]))
-        lines.append(process.line())
+        lines.append(transport.line())
     return lines
 
 

@@ -18,13 +18,13 @@ from ._commands import (
     TRY, TVAR, WHY, Answer, Command, decimal, number_of,
 )  # fmt: skip
 from ._errors import BadAnswer, Cancelled, Refused, TimedOut
-from ._program import Closed, Odd, Process, check_built, find_program, is_ours
+from ._program import Process, check_built, find_program, is_ours
+from ._transport import Closed, Odd, Transport, Waiting
 from ._values import Commits, Events, Finished, FinishedThrows, Job, Reason, Ref, Settled, Status, Store, Value, Verdict
-from ._waits import Wait, Waits
+from ._waits import Wait
 
 PATIENCE = 5.0  # seconds that the program has to end after its input has ended
 FEW = 8  # commands that are sent in one go whatever their length
-PART = 1 << 15  # bytes of commands that are sent in one go; while one such is answered, the next is sent
 
 Sync = Literal["full", "append", "none"]
 
@@ -86,27 +86,32 @@ class Desk:
             options.append(f"--sync={sync}")
         path = find_program() if program is None else os.fspath(program)
         check_built(path)
+        process = Process([path, "run", *options], is_opening=journal is not None)
+        self._begin(process, patience)
+        if journal is not None:
+            self._open_journal(process)
+
+    def _begin(self, transport: Transport, patience: float) -> None:
+        """Begins over a transport, which is this desk's from now on."""
         self._patience = patience
         self._calls = threading.RLock()
         self._caller = 0  # the thread that gives a command, so that a signal handler that calls again is seen
         self._is_closed = False
         self._answers = Answers()
-        self._waits: Waits | None = None  # there is none before the first `atomically`
+        self._waits: Waiting | None = None  # there is none before the first `atomically`
         self._beginning = threading.Lock()  # so that two threads don't begin it
         self._is_resumed = False
         self._dropped = 0
-        self._process = Process([path, "run", *options], is_opening=journal is not None)
-        if journal is not None:
-            self._open_journal()
+        self._transport = transport
 
-    def _open_journal(self) -> None:
+    def _open_journal(self, process: Process) -> None:
         """Waits until the program has opened its journal, and takes over the variables that it has. Raises what a call raises."""
         with self._calls:
             # A `tvar` of nothing is refused in any case: as `Late` if the desk goes on from a history.
             opened = Answer(TVAR)
             self._perform((opened,))
-            self._process.is_opening = False
-            dropped = _DROPPED.search(self._process.said())
+            process.is_opening = False
+            dropped = _DROPPED.search(process.said())
             self._dropped = int(dropped[1]) if dropped else 0
             if isinstance(opened.error, Refused) and opened.error.name == "Late":
                 store = Answer(STORE)
@@ -337,7 +342,7 @@ class Desk:
         >>> desk.variable("x : Int = 0"), desk.variable("y : Int = 0")
         (Ref(0, 'x'), Ref(1, 'y'))
         """
-        self._process.check_owner()
+        self._transport.check_owner()
         name, _, rest = declaration.partition(":")
         found = self._answers.named.get(name.strip())
         if found is not None and _one_text(rest.partition("=")[0]) == _one_text(self._answers.types[name.strip()]):
@@ -361,7 +366,7 @@ class Desk:
         >>> waiting.join()
         5
         """
-        self._process.check_owner()
+        self._transport.check_owner()
         if self._caller == get_ident():
             raise RuntimeError("a signal handler called the desk in the midst of another call")
         over = threading.Lock()
@@ -384,14 +389,14 @@ class Desk:
             raise TimedOut(timeout)
         return wait.outcome()
 
-    def _begin_waits(self) -> Waits:
+    def _begin_waits(self) -> Waiting:
         """The waits of this desk, and their thread. Raises ValueError if the desk is closed, and `Ended`."""
-        self._process.check_owner()
+        self._transport.check_owner()
         with self._beginning:
             if self._is_closed:
                 raise ValueError("the desk is closed")
             if self._waits is None:
-                self._waits = Waits(self._calls, self._perform, self._process, self._patience)
+                self._waits = self._transport.waits(self._calls, self._perform, self._answers, self._patience)
             return self._waits
 
     def batch(self) -> Batch:
@@ -403,7 +408,7 @@ class Desk:
         >>> [ticket.result() for ticket in tickets], evaluated.result()
         ([1, 2, 3], 3)
         """
-        self._process.check_owner()
+        self._transport.check_owner()
         return Batch(self._run)
 
     # The process.
@@ -411,7 +416,7 @@ class Desk:
     @property
     def pid(self) -> int:
         """The number of the program's process."""
-        return self._process.pid
+        return self._transport.pid
 
     @property
     def is_resumed(self) -> bool:
@@ -440,13 +445,12 @@ class Desk:
         >>> other = Desk()
         >>> other.close()
         """
-        if self._is_closed or not self._process.is_owner():
+        if self._is_closed or not self._transport.is_owner():
             return
         self._is_closed = True
-        ended_before = self._process.end
-        end = self._process.wait(self._patience)
-        if end.status and not ended_before:
-            raise end
+        error = self._transport.close(self._patience)
+        if error:
+            raise error
 
     def __enter__(self) -> Desk:
         return self
@@ -454,9 +458,9 @@ class Desk:
     def __exit__(self, kind: type[BaseException] | None, error: BaseException | None, trace: TracebackType | None) -> None:
         if kind is None:
             self.close()
-        elif self._process.is_owner():
+        elif self._transport.is_owner():
             self._is_closed = True
-            self._process.kill()
+            self._transport.kill()
 
     # Lines out, lines in.
 
@@ -468,7 +472,7 @@ class Desk:
 
     def _run(self, answers: Sequence[Answer[Any]]) -> None:
         """Gives commands, with none of another thread between them, and sets their answers."""
-        self._process.check_owner()
+        self._transport.check_owner()
         with self._calls:
             if self._caller == get_ident():
                 raise RuntimeError("a signal handler called the desk in the midst of another call")
@@ -479,24 +483,24 @@ class Desk:
                 raise RuntimeError("settle and drain would finish blocks of atomically, and don't say with what result")
             self._perform(answers, waits)
 
-    def _perform(self, answers: Sequence[Answer[Any]], waits: Waits | None = None) -> None:
+    def _perform(self, answers: Sequence[Answer[Any]], waits: Waiting | None = None) -> None:
         """The same for a caller that has the lock. Shows the answers to the waits if these are given."""
         try:
             self._caller = get_ident()
-            if self._process.end:
-                raise copy(self._process.end)
+            if self._transport.end:
+                raise copy(self._transport.end)
             self._exchange(answers, waits)
         finally:
             self._caller = 0
 
-    def _exchange(self, answers: Sequence[Answer[Any]], waits: Waits | None) -> None:
+    def _exchange(self, answers: Sequence[Answer[Any]], waits: Waiting | None) -> None:
         """Writes the commands' lines, takes the answers and reads them. Any exception ends the program."""
-        process, read = self._process, self._answers
+        process, read = self._transport, self._answers
         lines = process.lines
         it = answers[0]
         said: str | Sequence[str] = ""
         parts: Iterable[tuple[Sequence[Answer[Any]], bytes]]
-        parts = _parts(answers) if len(answers) > 1 else ((answers, it.sent),)
+        parts = _parts(answers, process.part) if len(answers) > 1 else ((answers, it.sent),)
         try:
             for part, sent in parts:
                 if sent:
@@ -525,13 +529,14 @@ class Desk:
             if waits:
                 waits.see(answers)
         except Closed:
-            raise copy(process.wait(self._patience)) from None
+            raise copy(process.ended(self._patience)) from None
         except Odd as odd:
             process.kill()
             raise BadAnswer(it.line(), str(odd)) from None
         except BaseException as error:
-            process.kill()
+            process.broken_off()
             if isinstance(error, (ValueError, LookupError, TypeError)) and is_ours(error):
+                process.kill()
                 raise BadAnswer(it.line(), said if isinstance(said, str) else "\n".join(said)) from None
             raise
 
@@ -541,10 +546,10 @@ def _one_text(kind: str) -> str:
     return re.sub(r"[\s()]", "", re.sub(r"\(\s*\)", "unit", kind))
 
 
-def _parts(answers: Sequence[Answer[Any]]) -> Iterator[tuple[Sequence[Answer[Any]], bytes]]:
-    """For commands in parts of at most PART bytes each: the part whose answers are to be read now, and the lines to send
+def _parts(answers: Sequence[Answer[Any]], most: int | None) -> Iterator[tuple[Sequence[Answer[Any]], bytes]]:
+    """For commands in parts of at most `most` bytes each, or in one: the part whose answers are to be read now, and the lines to send
     before that, which are those of the part after it."""
-    if len(answers) <= FEW:
+    if most is None or len(answers) <= FEW:
         yield answers, b"".join([it.sent for it in answers])
         return
     reading: Sequence[Answer[Any]] = ()
@@ -552,7 +557,7 @@ def _parts(answers: Sequence[Answer[Any]]) -> Iterator[tuple[Sequence[Answer[Any
     size = 0
     for it in answers:
         size += len(it.sent)
-        if size > PART and sending:
+        if size > most and sending:
             yield reading, b"".join([it.sent for it in sending])
             reading, sending, size = sending, [], len(it.sent)
         sending.append(it)

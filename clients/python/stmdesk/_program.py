@@ -10,16 +10,21 @@ import subprocess
 import tempfile
 import threading
 from collections import deque
-from collections.abc import Sequence
-from contextlib import suppress
+from collections.abc import Callable, Sequence
+from contextlib import AbstractContextManager, suppress
 from copy import copy
 from io import BufferedReader, BufferedWriter
 from pathlib import Path
-from typing import Any
+from typing import TYPE_CHECKING, Any
 
-from ._errors import JOURNAL_FAULT, Ended, JournalError
-from ._fork import Owned
+from ._errors import JOURNAL_FAULT, DeskError, Ended, JournalError
+from ._transport import Closed, Odd, Transport, Waiting
 
+if TYPE_CHECKING:
+    from ._answers import Answers
+    from ._commands import Answer
+
+PART = 1 << 15  # bytes of commands that are sent in one go; while one such is answered, the next is sent
 PIECE = 1 << 16  # bytes that are read at a time: what a pipe holds
 LINE_LIMIT = 16 << 20  # bytes of a line; stmdesk's longest have some 2 MiB
 SAID_LIMIT = 1 << 16  # bytes that are kept of the end of standard error
@@ -98,14 +103,6 @@ def run_once(command: Sequence[str], text: str | bytes) -> tuple[int, str, str]:
     return process.returncode, printed.decode("ascii", "replace"), said.decode("utf-8", "replace").strip()
 
 
-class Closed(Exception):
-    """The program's end of a pipe is closed."""
-
-
-class Odd(Exception):
-    """The program printed what stmdesk never prints: the argument, or a text that begins with it."""
-
-
 def is_ours(error: BaseException) -> bool:
     """Whether this package raised the error. Python runs a signal handler of the caller in the midst of a call; what that
     raises isn't ours."""
@@ -115,13 +112,16 @@ def is_ours(error: BaseException) -> bool:
     return trace is not None and trace.tb_frame.f_globals.get("__package__") == __package__
 
 
-class Process(Owned):
+class Process(Transport):
     """The running program, with pipes to its standard input and output."""
+
+    part = PART
 
     def __init__(self, command: Sequence[str], *, is_opening: bool = False) -> None:
         """`is_opening` says that the program first opens a journal, as it does until somebody sets this to false."""
         self.is_opening = is_opening
-        self.end: Ended | None = None
+        self.end: DeskError | None = None
+        self._how: Ended | None = None  # it ended
         self._ending = threading.RLock()
         self._sending = threading.RLock()  # so that the input isn't closed in the midst of a write
         self.lines: deque[str] = deque()  # that were read and not taken
@@ -214,6 +214,29 @@ class Process(Owned):
             self._read()
         return self.lines.popleft()
 
+    def broken_off(self) -> None:
+        """Kills the program: what it still prints would be taken for the answer to the next call."""
+        self.kill()
+
+    def ended(self, patience: float) -> Ended:
+        return self.wait(patience)
+
+    def close(self, patience: float) -> Ended | None:
+        ended_before = self.end
+        end = self.wait(patience)
+        return end if end.status and not ended_before else None
+
+    def waits(
+        self,
+        lock: AbstractContextManager[Any],
+        perform: Callable[[Sequence[Answer[Any]]], None],
+        answers: Answers,
+        patience: float,
+    ) -> Waiting:
+        from ._waits import Waits
+
+        return Waits(lock, perform, self, patience)
+
     def wait(self, patience: float) -> Ended:
         """Ends the program's input and waits for the program to end. Kills it after `patience` seconds."""
         self.check_owner()
@@ -230,7 +253,7 @@ class Process(Owned):
         """Kills the program, and all that it started, if it still runs. Closes its files and returns how it ended."""
         self.check_owner()
         with self._ending:
-            if self.end is None:
+            if self._how is None:
                 if self._process.poll() is None:
                     with suppress(OSError):
                         os.killpg(self._process.pid, signal.SIGKILL)
@@ -241,9 +264,9 @@ class Process(Owned):
                     self._output.close()
                 said = self.said()
                 is_of_journal = JOURNAL_FAULT in said or (self.is_opening and status in (1, 3))
-                self.end = (JournalError if is_of_journal else Ended)(status, said)
+                self.end = self._how = (JournalError if is_of_journal else Ended)(status, said)
                 self._errors.close()
-            return self.end
+            return self._how
 
     def said(self) -> str:
         """The end of what the program wrote on standard error so far."""

@@ -14,6 +14,7 @@ from ._errors import Cancelled, DeskError, Refused, Thrown
 from ._fork import Owned
 from ._helper import Helper
 from ._program import Process
+from ._transport import Waiting
 from ._values import Finished, FinishedThrows, Value
 
 
@@ -42,8 +43,8 @@ class Wait:
         return self.result
 
 
-class Waits(Owned):
-    """All blocks of one desk's `atomically`.
+class Waits(Owned, Waiting):
+    """All blocks of the `atomically` of a desk that one process has for itself.
 
     A turn submits, evaluates and finishes them in rounds, no matter who asked. Each caller runs a turn in its own thread until
     its block was tried. The main thread, which a signal handler may interrupt anywhere, and a task, whose event loop has to

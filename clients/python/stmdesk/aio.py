@@ -27,6 +27,7 @@ from typing import Any, TypeVar
 from . import _desk
 from ._batch import Commands
 from ._errors import Cancelled, DeskError, JournalError, TimedOut
+from ._program import Process
 from ._values import Events, Finished, FinishedThrows, Job, Reason, Ref, Settled, Status, Store, Value, Verdict
 from ._waits import Wait
 
@@ -36,19 +37,19 @@ T = TypeVar("T")
 class _Desk(_desk.Desk):
     """A desk whose journal is opened in its own thread."""
 
-    def _open_journal(self) -> None:
+    def _open_journal(self, process: Process) -> None:
         open_journal = super()._open_journal
 
         def work() -> None:
             with suppress(DeskError):  # which each later call raises
-                open_journal()
+                open_journal(process)
 
         self._begin_waits().helper.run(work)
 
     def check_journal(self) -> None:
         """Raises `JournalError` if the journal isn't open."""
-        if isinstance(self._process.end, JournalError):
-            raise copy(self._process.end)
+        if isinstance(self._transport.end, JournalError):
+            raise copy(self._transport.end)
 
 
 class Desk:
@@ -318,7 +319,7 @@ class Desk:
         >>> run(main())
         [1, 2, 3]
         """
-        self._desk._process.check_owner()
+        self._desk._transport.check_owner()
         return Batch(self)
 
     @property
