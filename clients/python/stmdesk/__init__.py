@@ -18,20 +18,25 @@ feed in a block is a blank.
 `Desk.atomically` runs a block and waits while it retries; `Desk.batch` gives many commands in one go; `Desk.ready` says which
 tickets can be finished, `Desk.why` what one waits for, and `Desk.events` what has happened since; `Desk(journal=PATH)` keeps
 the history in a file, and goes on from there at the next start; `Desk.checkpoint` lets the events so far go; `stmdesk.aio` is the same for asyncio. `explore` needs no desk:
-it tries every order of the steps of a script's clients; and `check` judges a history in a file.
+it tries every order of the steps of a script's clients; and `check` judges a history in a file. `connect(PATH)` is a desk at a server, which
+several processes share (docs/SERVER.md); `python -m stmdesk.server` is that server.
 
 A call raises `Refused` if the program refuses the command; `Stopped`, which is a `Refused`, if a `settle` stopped; `Ended` if
 the program ended, and `JournalError`, which is an `Ended`, if that was because of its journal; `BadAnswer` if the program
 printed what stmdesk never prints; `ValueError` or `TypeError` for an argument that is no text or number of the right kind, in
-which case nothing is sent. `atomically` also raises `Thrown`, `TimedOut` and `Cancelled`.
+which case nothing is sent. `atomically` also raises `Thrown`, `TimedOut` and `Cancelled`. A desk of `connect` raises `DeskClosed` if no server
+takes the call, and `OutcomeUnknown` if its answer didn't come.
 """
 
 from ._batch import Batch
 from ._blocks import or_else
 from ._check import Checked, Finding, check
 from ._commands import Answer
+from ._connect import connect
 from ._desk import Desk
-from ._errors import BadAnswer, Cancelled, DeskError, Ended, JournalError, Refused, ScriptRefused, Stopped, Thrown, TimedOut
+from ._errors import (
+    BadAnswer, Cancelled, DeskClosed, DeskError, Ended, JournalError, OutcomeUnknown, Refused, ScriptRefused, Stopped, Thrown, TimedOut,
+)  # fmt: skip
 from ._explore import ClientAt, ClientState, Exploration, Outcome, explore
 from ._program import find_program
 from ._values import (
@@ -44,14 +49,14 @@ __version__ = "0.9.0"
 
 __all__ = [
     "Answer", "BadAnswer", "Batch", "Blocks", "Cancellation", "Cancelled", "Cell", "Change", "Checked", "ClientAt", "ClientState", "Commits",
-    "Current", "Delivery", "Desk", "DeskError", "Ended", "Event", "Events", "Exploration", "Fault", "FinalCell", "FinalStore", "Finding",
-    "Finish", "Finished", "FinishedThrows", "Job", "JournalError", "New", "NewRef", "Outcome", "Ready", "Reason", "Ref",
+    "Current", "Delivery", "Desk", "DeskClosed", "DeskError", "Ended", "Event", "Events", "Exploration", "Fault", "FinalCell", "FinalStore", "Finding",
+    "Finish", "Finished", "FinishedThrows", "Job", "JournalError", "New", "NewRef", "Outcome", "OutcomeUnknown", "Ready", "Reason", "Ref",
     "Refused", "ScriptRefused", "Settled", "Stale", "StaleBefore", "StaleBy", "Status", "Stopped", "Store", "Submission", "Thrown", "Throws",
-    "TimedOut", "Value", "Verdict", "Waits", "check", "explore", "find_program", "or_else",
+    "TimedOut", "Value", "Verdict", "Waits", "check", "connect", "explore", "find_program", "or_else",
 ]  # fmt: skip
 
 for _name in __all__:
     _it = globals()[_name]
-    if isinstance(_it, type) or _it in (check, explore, find_program, or_else):
+    if isinstance(_it, type) or _it in (check, connect, explore, find_program, or_else):
         _it.__module__ = __name__  # so that a traceback says stmdesk.Refused, which can be imported
 del _it, _name

@@ -8,7 +8,7 @@ from collections.abc import Sequence
 from typing import Any
 
 from ._errors import Refused, Stopped
-from ._hints import JOURNAL, hint
+from ._hints import JOURNAL, SERVER, hint
 from ._values import (
     Blocks, Cancellation, Cell, Change, Commits, Current, Delivery, Event, Events, Fault, FinalCell, FinalStore, Finish,
     Finished, FinishedThrows, Job, New, NewRef, Ready, Reason, Ref, Settled, Stale, StaleBefore, StaleBy, Status, Store, Submission, Throws,
@@ -58,6 +58,27 @@ class Answers:
             if cell.name is not None:
                 self.refs[f"#{cell.variable.number}"] = self.named[cell.name] = cell.variable
                 self.types[cell.name] = cell.type
+
+    def declared(self, lines: Sequence[str]) -> bool:
+        """The lines of a server's `declared`: `#0 x : Int` for each variable, then `declared 1 open`, or `late` if none can be declared
+        any more. Takes over the variables, and returns whether it is late."""
+        _, count, state = lines[-1].split(" ")
+        if int(count) != len(lines) - 1 or state not in ("open", "late"):
+            raise ValueError("no declarations")
+        for it in lines[:-1]:
+            number, name, _, kind = it.split(" ", 3)
+            self.refs[number] = self.named[name] = Ref(int(number.removeprefix("#")), name)
+            self.types[name] = kind
+        if state == "late" and self.first is None:
+            self.first = SERVER
+        return state == "late"
+
+    def forget(self) -> None:
+        """Forgets all variables: the desk is another one."""
+        self.refs.clear()
+        self.named.clear()
+        self.types.clear()
+        self.first = None
 
     def ref(self, text: str) -> Ref:
         """`#0`"""

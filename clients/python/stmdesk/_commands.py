@@ -159,6 +159,8 @@ SHOW: Command[list[Status]] = Command(
 )
 STORE: Command[Store] = Command("store", Answers.cells, take=_lines_to("cells ", ("#",), lambda: CELLS_LIMIT))
 EVENTS: Command[Events] = Command("events", Answers.events, take=_lines_to("events ", ("{",), lambda: EVENTS_LIMIT))
+# Of a server alone: the variables that anybody has declared. It ends no declarations.
+DECLARED: Command[bool] = Command("declared", Answers.declared, take=_lines_to("declared ", ("#",), lambda: CELLS_LIMIT))
 # A history doesn't say which of its lines is the last. So a second command goes with it, which changes nothing and is always
 # answered alike, by a line that begins with no brace.
 HISTORY: Command[str] = Command("history", Answers.history, take=_history_lines, then="try return ()\n")

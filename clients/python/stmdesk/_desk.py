@@ -14,7 +14,7 @@ from typing import Any, Literal, TypeVar, get_args
 from ._answers import Answers
 from ._batch import Batch
 from ._commands import (
-    CANCEL, CHECKPOINT, DELIVER, DRAIN, EVAL, EVENTS, FINISH, HANDBACK, HISTORY, LOOKS, READS, READY, SETTLE, SHOW, STORE, SUBMIT, TAKE,
+    CANCEL, CHECKPOINT, DECLARED, DELIVER, DRAIN, EVAL, EVENTS, FINISH, HANDBACK, HISTORY, LOOKS, READS, READY, SETTLE, SHOW, STORE, SUBMIT, TAKE,
     TRY, TVAR, WHY, Answer, Command, decimal, number_of,
 )  # fmt: skip
 from ._errors import BadAnswer, Cancelled, Refused, TimedOut
@@ -31,6 +31,7 @@ Sync = Literal["full", "append", "none"]
 _DROPPED = re.compile(r"(?m): dropped (\d+) bytes after the last whole line$")
 
 T = TypeVar("T")
+D = TypeVar("D", bound="Desk")
 
 
 class Desk:
@@ -103,6 +104,21 @@ class Desk:
         self._is_resumed = False
         self._dropped = 0
         self._transport = transport
+
+    @classmethod
+    def _over(cls: type[D], transport: Transport, patience: float) -> D:
+        """A desk over a transport that is there."""
+        desk = cls.__new__(cls)
+        desk._begin(transport, patience)
+        desk._take_over()
+        return desk
+
+    def _take_over(self) -> None:
+        """Takes over the variables that a server's desk has. Raises what a call raises."""
+        with self._calls:
+            declared = Answer(DECLARED)
+            self._perform((declared,))
+            self._is_resumed = declared.result()
 
     def _open_journal(self, process: Process) -> None:
         """Waits until the program has opened its journal, and takes over the variables that it has. Raises what a call raises."""
@@ -343,11 +359,27 @@ class Desk:
         (Ref(0, 'x'), Ref(1, 'y'))
         """
         self._transport.check_owner()
+        found = self._found(declaration)
+        if found is not None:
+            return found
+        try:
+            return self.tvar(declaration)
+        except Refused as refused:
+            if not self._transport.is_shared or refused.name not in ("Late", "Twice"):
+                raise
+            self._take_over()  # somebody else may have declared it
+            found = self._found(declaration)
+            if found is None:
+                raise
+            return found
+
+    def _found(self, declaration: str) -> Ref | None:
+        """The variable of this declaration, if it is known."""
         name, _, rest = declaration.partition(":")
         found = self._answers.named.get(name.strip())
         if found is not None and _one_text(rest.partition("=")[0]) == _one_text(self._answers.types[name.strip()]):
             return found
-        return self.tvar(declaration)
+        return None
 
     def atomically(self, block: str, timeout: float | None = None) -> Value:
         """Runs the block and returns its result. While the block retries, waits until what it has read changes.
@@ -489,6 +521,10 @@ class Desk:
             self._caller = get_ident()
             if self._transport.end:
                 raise copy(self._transport.end)
+            if self._transport.is_new:
+                self._transport.is_new = False
+                self._answers.forget()
+                self._exchange((Answer(DECLARED),), None)
             self._exchange(answers, waits)
         finally:
             self._caller = 0

@@ -211,3 +211,21 @@ class BadAnswer(DeskError):
 
     def __str__(self) -> str:
         return f"{self.line[:80]!r} was answered {self.answer[:200]!r}"
+
+
+class DeskClosed(DeskError):
+    """No server took the call of a desk of `connect`: it had no effect, and has none later. As text it says why.
+
+    >>> connect("/no/such/socket")
+    Traceback (most recent call last):
+    stmdesk.DeskClosed: no server at /no/such/socket: No such file or directory
+    """
+
+
+class OutcomeUnknown(DeskError):
+    """A call of a desk of `connect` was sent and its answer didn't come: it had its effect once or not at all, or, if its server still runs,
+    will have it once. Look at the desk before you make it again.
+
+    >>> print(OutcomeUnknown("the connection ended"))
+    the connection ended
+    """

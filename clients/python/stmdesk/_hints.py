@@ -96,11 +96,17 @@ _NAMES = {
     "TypeOfValue": "the value hasn't the type that is declared",
     "TypeTooDeep": "a type has at most 8 `TVar`",
     "Untyped": "`retry` and `throw` return nothing that could be bound",
-    "WaitingFull": "65,536 blocks wait: finish or cancel some",
+    "WaitingFull": "as many blocks wait as may (65,536, or what a server allows): finish or cancel some",
+    # Of a server (docs/SERVER.md):
+    "AnswersFull": "the server keeps more answers for this connection than it may: calls that wait hold none back, so this is a fault",
+    "RequestTooLong": "a batch over a connection is one request, and is longer than the server takes: make it smaller",
+    "RequestsFull": "this connection has as many calls under way as the server allows: wait for some, or open another one",
+    "Waits": "`settle` and `drain` don't say what they finish, and a block of `atomically` waits on the server",
 }
 
 
 JOURNAL = "journal"  # stands for the first command of a desk that goes on from a journal
+SERVER = "server"  # and for that of a server's desk
 
 
 def hint(
@@ -121,6 +127,8 @@ def hint(
         if declared in types:
             return f"the journal has it already, as `{declared} : {types[declared]}`"
         return "the desk goes on from its journal, and has the variables that were declared there"
+    if name == "Late" and first == SERVER:
+        return "the declarations of the server's desk have ended: `variable` finds what is declared, and `--declare FILE` declares at the start"
     if name == "Late" and first:
         return f"declare all variables before the first other command, which was `{first}`"
     if name == "NotAscii":

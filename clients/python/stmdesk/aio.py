@@ -26,7 +26,8 @@ from typing import Any, TypeVar
 
 from . import _desk
 from ._batch import Commands
-from ._errors import Cancelled, DeskError, JournalError, TimedOut
+from ._connect import PATIENCE, Paths, session
+from ._errors import Cancelled, DeskClosed, DeskError, JournalError, TimedOut
 from ._program import Process
 from ._values import Events, Finished, FinishedThrows, Job, Reason, Ref, Settled, Status, Store, Value, Verdict
 from ._waits import Wait
@@ -46,9 +47,18 @@ class _Desk(_desk.Desk):
 
         self._begin_waits().helper.run(work)
 
-    def check_journal(self) -> None:
-        """Raises `JournalError` if the journal isn't open."""
-        if isinstance(self._transport.end, JournalError):
+    def _take_over(self) -> None:
+        take_over = super()._take_over
+
+        def work() -> None:
+            with suppress(DeskError):  # which each later call raises
+                take_over()
+
+        self._begin_waits().helper.run(work)
+
+    def check_opened(self) -> None:
+        """Raises `JournalError` if the journal isn't open, and `DeskClosed` if there is no server."""
+        if isinstance(self._transport.end, (JournalError, DeskClosed)):
             raise copy(self._transport.end)
 
 
@@ -353,7 +363,7 @@ class Desk:
         await asyncio.to_thread(self._desk.close)
 
     async def __aenter__(self) -> Desk:
-        await self._call(self._desk.check_journal)
+        await self._call(self._desk.check_opened)
         return self
 
     async def __aexit__(
@@ -377,6 +387,22 @@ class Desk:
 
         self._desk._begin_waits().helper.run(work)
         return await future
+
+
+def connect(*paths: Paths, reconnect: bool | None = None, patience: float = PATIENCE, keep: bool = False) -> Desk:
+    """A desk at a server, as of `stmdesk.connect`, which has the arguments. Doesn't wait until it is connected. If it can't be, `async
+    with` raises `DeskClosed`, or else the first call does.
+
+    >>> async def main():
+    ...     async with connect("/no/such/socket") as desk:
+    ...         await desk.show()
+    >>> run(main())
+    Traceback (most recent call last):
+    stmdesk.DeskClosed: no server at /no/such/socket: No such file or directory
+    """
+    desk = Desk.__new__(Desk)
+    desk._desk = _Desk._over(session(paths, reconnect, patience, keep, is_waiting=False), patience)
+    return desk
 
 
 class Batch(Commands):

@@ -1,0 +1,508 @@
+"""A desk behind a socket: connections, groups of requests, limits, and what an operator sees of them. docs/SERVER.md describes it."""
+
+from __future__ import annotations
+
+import asyncio
+import fcntl
+import logging
+import os
+import shutil
+import socket
+import time
+from collections import Counter, deque
+from collections.abc import Callable, Sequence
+from contextlib import suppress
+from dataclasses import dataclass
+from typing import Any
+
+from ._machine import LINE, REQUEST, REQUESTS, WAITING, Console, Done, Ended, Lines, Machine, weight, word
+from ._numbers import Numbers
+
+GROUP = 1 << 18  # weight of a group, after which no further request is taken into it
+AHEAD = 1 << 16  # lines of a plain connection that are read and not given
+ACKS = 5000  # ranges of numbers that one request acknowledges at most
+STOPPING = 2.0  # seconds that connections have to read their last answers
+FIRST_TRIES = (0.1, 0.2, 0.5, 1.0, 3.0, 5.0)  # seconds between tries to start on a journal that is in use
+
+log = logging.getLogger("stmdesk.server")
+
+Item = list[Any]  # of a group or an entry: its kind, the session, and what else it needs
+
+
+@dataclass
+class Limits:
+    connections: int = 512
+    request: int = REQUEST  # weight
+    unread: int = 8 << 20  # bytes of answers that a peer hasn't read when another one comes
+    waiting: int = WAITING
+
+
+class Connection:
+    """One peer. It speaks plain lines, or after `session ..` numbered requests (docs/SERVER.md, "The protocol")."""
+
+    def __init__(self, server: Server, reader: asyncio.StreamReader, writer: asyncio.StreamWriter) -> None:
+        self.server, self.reader, self.writer = server, reader, writer
+        self.session = f"plain-{os.urandom(12).hex()}"
+        self.is_framed = self.is_begun = self.is_busy = self.is_ended = self.is_cut = False
+        self.lines: deque[bytes] = deque()  # of a plain connection, that weren't given yet
+        self.number = 0  # of a plain connection's request
+        self.head: tuple[int, int, Numbers] | None = None  # of a request whose lines are being read
+        self.body: Lines = []
+        self.body_weight = 0
+        self.flight: set[int] = set()  # requests that aren't answered
+        self.held = Numbers()  # acknowledged by requests that weren't logged
+        self.room = asyncio.Event()
+
+    async def serve(self) -> None:
+        """Reads to the end of the input."""
+        rest, is_long = b"", False
+        while data := await self.reader.read(1 << 16):
+            *whole, rest = (rest + data).split(b"\n")
+            for line in whole:
+                if line.endswith(b"\r"):
+                    line = line[:-1]
+                if is_long or len(line) > LINE:
+                    line = b"x" * (LINE + 1)
+                is_long = False
+                self.take(line)
+                if self.is_cut:
+                    return
+            if len(rest) > LINE + 1:
+                rest, is_long = b"", True
+            while len(self.lines) > AHEAD and not self.is_cut:  # then nothing more is read of this peer
+                self.room.clear()
+                await self.room.wait()
+        if is_long or len(rest) > LINE:
+            rest = b"x" * (LINE + 1)
+        if rest and not self.is_framed:
+            self.take(rest)
+        self.is_ended = True
+        self.pump()
+
+    def take(self, line: bytes) -> None:
+        first = line.split(b" ", 1)[0]
+        if not self.is_framed and self.server.own(self, line):
+            return
+        if not self.server.is_leading:
+            self.refuse("NotLeader")
+        elif first == b"session" and not self.is_begun:
+            self.greet(line)
+        elif not self.is_framed:
+            if not self.is_begun:
+                self.join(self.session, ["open", *(["keep"] if self.server.keep else [])])
+            self.lines.append(line)
+            self.pump()
+        elif self.head:
+            self.body.append(line)
+            self.body_weight += weight([line])
+            if self.body_weight > 2 * self.server.limits.request:  # it will be refused, so it needn't be kept
+                self.body[-1] = b""
+            if len(self.body) == self.head[1]:
+                (number, _, acks), lines, self.head, self.body = self.head, self.body, None, []
+                self.request(number, acks, lines, self.body_weight)
+        else:
+            self.frame(line)
+
+    def greet(self, line: bytes) -> None:
+        words = line.decode("ascii", "replace").split()
+        is_new = words[2:] in (["new"], ["new", "keep"])
+        if len(words) < 2 or len(words[1]) > 64 or words[1].startswith("plain-") or words[2:] and not is_new:
+            self.refuse("Session")
+            return
+        self.is_framed = True
+        keeps = ["keep"] if words[3:] or self.server.keep else []
+        self.join(words[1], ["open", *keeps] if is_new else ["join"])
+
+    def frame(self, line: bytes) -> None:
+        """The first line of a message: `@N K`, `!N`, `?` or `bye`."""
+        try:
+            if line == b"?":
+                self.write(b"@0 0\n")
+            elif line == b"bye":
+                self.server.put(["end", self.session])
+            elif line[:1] == b"!":
+                self.server.put(["drop", self.session, _number(line[1:])])
+            elif line[:1] == b"@":
+                number, count, *acks = line[1:].split(b" ")
+                known = _numbers(acks[0]) if acks else Numbers()
+                if len(acks) > 1 or not 0 < _number(number) or not 0 < _number(count) <= 1 << 16:
+                    raise ValueError
+                self.head, self.body, self.body_weight = (_number(number), _number(count), known), [], 0
+            else:
+                raise ValueError
+        except ValueError:
+            self.server.note("sent what is no message", self)
+            self.cut()
+
+    def join(self, name: str, words: Sequence[str]) -> None:
+        self.session, self.is_begun = name, True
+        old = self.server.connections.get(name)
+        self.server.connections[name] = self
+        if old and old is not self:
+            old.cut()
+        self.server.put([words[0], name, *words[1:]])
+
+    def pump(self) -> None:
+        """Of a plain connection one request is under way; it ends at a `wait`. The end of its input cancels that if it can't finish."""
+        if self.is_framed or not self.is_begun or self.is_cut:
+            return
+        if not self.is_busy and self.lines:
+            lines = [self.lines.popleft()]
+            size = weight(lines)
+            while self.lines and word(lines[-1]) != b"wait" and (size := size + weight([self.lines[0]])) <= self.server.limits.request:
+                lines.append(self.lines.popleft())
+            self.is_busy, self.number = True, self.number + 1
+            self.request(self.number, Numbers([[1, self.number - 1]] if self.number > 1 else ()), lines, weight(lines))
+            self.room.set()
+        if self.is_ended:
+            self.server.put(["drop", self.session] if self.is_busy else ["end", self.session])
+
+    def request(self, number: int, acks: Numbers, lines: Lines, size: int) -> None:
+        if size > self.server.limits.request and self.is_framed:
+            self.answer(number, b"RequestTooLong")
+        elif len(self.flight) >= REQUESTS:
+            self.answer(number, b"RequestsFull")
+        else:
+            self.flight.add(number)
+            if self.server.machine.is_logged(lines):
+                for low, high in self.held.ranges:
+                    acks.add(low, high)
+                self.held = Numbers()
+            else:
+                for low, high in acks.ranges:
+                    self.held.add(low, high)
+            self.server.put(["req", self.session, number, acks.ranges, lines])
+
+    def answer(self, number: int, lines: Lines | bytes) -> None:
+        """Sends an answer, or the refusal of a request as a whole."""
+        self.flight.discard(number)
+        if isinstance(lines, bytes):
+            self.write((b"@%d refused %s\n" % (number, lines)) if self.is_framed else b"refused %s\n" % lines)
+        else:
+            text = b"".join([it + b"\n" for it in lines])
+            self.write(b"@%d %d\n%s" % (number, len(lines), text) if self.is_framed else text if number else b"")
+        if not self.is_framed:
+            self.is_busy = self.is_busy and not number
+            self.pump()
+
+    def write(self, text: bytes) -> None:
+        transport = self.writer.transport
+        if self.is_cut or transport.is_closing():
+            return
+        if transport.get_write_buffer_size() > self.server.limits.unread:  # of earlier answers: one answer may be longer than that
+            self.server.note("reads too slowly", self)
+            self.cut()
+            return
+        self.writer.write(text)
+
+    def refuse(self, name: str) -> None:
+        self.write(b"refused %s\n" % name.encode())
+        self.is_cut = True
+        self.room.set()
+        self.writer.close()
+
+    def cut(self) -> None:
+        """Ends the connection at once."""
+        self.is_cut = True
+        self.room.set()
+        self.writer.transport.abort()
+
+
+def _numbers(text: bytes) -> Numbers:
+    """Of `1-4,7`. Raises ValueError."""
+    found = Numbers()
+    parts = text.split(b",")
+    if len(parts) > ACKS:
+        raise ValueError
+    for it in parts:
+        low, _, high = it.partition(b"-")
+        if _number(high or low) < _number(low):
+            raise ValueError
+        found.add(_number(low), _number(high or low))
+    return found
+
+
+def _number(text: bytes) -> int:
+    """Of 1 to 18 digits. Raises ValueError."""
+    if not text.isdigit() or len(text) > 18:
+        raise ValueError
+    return int(text)
+
+
+class Server:
+    """A desk that is this server's alone."""
+
+    name = "server"
+    is_leading = True
+
+    def __init__(self, path: str, *, grace: float, keep: bool, limits: Limits, mode: int = 0o600, group: str | None = None) -> None:
+        self.path, self.grace, self.keep, self.limits, self.mode, self.group = path, grace, keep, limits, mode, group
+        self.machine: Machine
+        self.connections: dict[str, Connection] = {}  # by session
+        self.open: set[Connection] = set()
+        self.lost: dict[str, float] = {}  # sessions without a connection: when they end
+        self.queue: deque[Item] = deque()
+        self.wake = asyncio.Event()
+        self.checkpoint_every = 0  # events after which this server makes a checkpoint, 0 for never
+        self.own_checkpoints = 0  # events after which the program makes one by itself, 0 for never
+        self.is_stopping = False
+        self.refused: Counter[str] = Counter()  # connections, by reason
+        self.groups, self.grouped, self.seconds = 0, 0, 0.0
+        self.on_group: list[Callable[[], None]] = []
+        self._noted, self._unnoted = 0.0, 0
+        self._locked = -1
+        self._listener: asyncio.Server | None = None
+
+    # What replicas do otherwise.
+
+    async def step(self, items: list[Item]) -> list[Done]:
+        """Applies an entry."""
+        return await self.machine.apply(items)
+
+    async def confirm(self) -> None:
+        """Returns when all that was answered before the call is in this desk."""
+
+    def own(self, connection: Connection, line: bytes) -> bool:
+        """Whether the line is a question about this server itself, which is answered then."""
+        return False
+
+    async def after_group(self) -> None:
+        """Makes checkpoints, and goes on with rounds that a full history had stopped."""
+        machine = self.machine
+        if self.own_checkpoints and machine.since >= self.own_checkpoints:
+            machine.counts["checkpoints"] += 1
+            machine.since = 0
+        if self.checkpoint_every and (machine.since >= self.checkpoint_every or machine.is_full) and not machine.is_declaring:
+            answer = (await machine.console.run([b"checkpoint"]))[0]
+            if answer[0].startswith(b"checkpoint "):
+                machine.counts["checkpoints"] += 1
+                machine.since = 0
+        if machine.is_full and (machine.due or machine.unwanted):
+            self.put(["nop", ""])
+
+    # Connections.
+
+    def note(self, what: str, connection: Connection | None = None) -> None:
+        """Writes a line about a connection into the log, but no more than one a second."""
+        self.refused[what] += 1
+        now = time.monotonic()
+        if now - self._noted < 1:
+            self._unnoted += 1
+            return
+        who = peer(connection.writer) if connection else "a peer"
+        more = f" (and {self._unnoted} more lines like this)" if self._unnoted else ""
+        log.warning("%s %s: its connection is ended%s", who, what, more)
+        self._noted, self._unnoted = now, 0
+
+    def lock_path(self) -> None:
+        """So that no two servers have one socket: asyncio removes a socket that is there, another server's too. Raises OSError."""
+        self._locked = os.open(f"{self.path}.lock", os.O_CREAT | os.O_RDWR | os.O_CLOEXEC, 0o600)
+        try:
+            fcntl.flock(self._locked, fcntl.LOCK_EX | fcntl.LOCK_NB)
+        except BlockingIOError:
+            raise OSError(f"{self.path}: another server has this socket") from None
+
+    async def listen(self, given: socket.socket | None = None) -> None:
+        """Listens on the path, or on a socket that the service manager has opened."""
+        backlog = self.limits.connections
+        if given:
+            self._listener = await asyncio.start_unix_server(self.connected, sock=given, backlog=backlog)
+            return
+        before = os.umask(0o777)  # nobody can connect before it has its group and its mode
+        try:
+            self._listener = await asyncio.start_unix_server(self.connected, self.path, backlog=backlog)
+        finally:
+            os.umask(before)
+        if self.group is not None:
+            shutil.chown(self.path, group=self.group)
+        os.chmod(self.path, self.mode)
+
+    async def connected(self, reader: asyncio.StreamReader, writer: asyncio.StreamWriter) -> None:
+        connection = Connection(self, reader, writer)
+        if self.is_stopping or len(self.open) >= self.limits.connections:
+            self.note("finds all connections taken", connection)
+            connection.refuse("ConnectionsFull")
+            return
+        self.open.add(connection)
+        try:
+            await connection.serve()
+        except OSError:
+            connection.is_ended = True
+            connection.lines.clear()
+            connection.pump()
+        finally:
+            if connection.is_framed:
+                self.open.discard(connection)
+                writer.close()
+                if self.connections.get(connection.session) is connection:
+                    self.lost[connection.session] = time.monotonic() + self.grace
+            elif not connection.is_begun or connection.is_cut:
+                self.open.discard(connection)
+                writer.close()
+                if connection.is_begun:
+                    self.put(["end", connection.session])
+
+    async def end_lost(self) -> None:
+        """Ends sessions that have been without a connection for too long, by this server's clock."""
+        while True:
+            await asyncio.sleep(0.2)
+            for session, at in list(self.lost.items()):
+                connection = self.connections.get(session)
+                if connection and not connection.is_cut and not connection.writer.transport.is_closing():
+                    del self.lost[session]
+                elif at <= time.monotonic():
+                    del self.lost[session]
+                    self.put(["end", session])
+
+    # Groups.
+
+    def put(self, item: Item) -> None:
+        self.queue.append(item)
+        self.wake.set()
+
+    def group_of(self) -> tuple[list[Item], list[Item]]:
+        """Takes requests out of the queue, in order: those for the log, and those that only ask. A session's question is in no group with a
+        later change of the same session."""
+        items: list[Item] = []
+        questions: list[Item] = []
+        asking, size = set(), 0
+        while self.queue and size < GROUP:
+            kind, session, *rest = self.queue[0]
+            if kind == "req" and not self.machine.is_logged(rest[2]) and session in self.machine.sessions:
+                questions.append(self.queue.popleft())
+                asking.add(session)
+            elif session in asking:
+                break
+            else:
+                items.append(self.queue.popleft())
+            size += 64 + (weight(rest[2]) if kind == "req" else 0)
+        return items, questions
+
+    async def serve(self) -> None:
+        """Groups, one after the other, until the server stops. Raises `Ended`."""
+        while True:
+            await self.wake.wait()
+            self.wake.clear()
+            while self.queue:
+                began = time.perf_counter()
+                items, questions = self.group_of()
+                if items:
+                    self.tell(await self.step(items), items)
+                if questions:
+                    if not items:
+                        await self.confirm()
+                    await self.answer(questions)
+                self.groups, self.grouped = self.groups + 1, self.grouped + len(items) + len(questions)
+                self.seconds += time.perf_counter() - began
+                await self.after_group()
+                for it in self.on_group:
+                    it()
+            if self.is_stopping and not self.queue:
+                return
+
+    async def answer(self, questions: list[Item]) -> None:
+        lines = [it for q in questions for it in q[4] if word(it) is not None]
+        answers = iter(await self.machine.ask(lines))
+        for _, session, number, _, asked in questions:
+            self.tell([(session, number, [line for it in asked if word(it) is not None for line in next(answers)])], [])
+
+    def tell(self, done: Sequence[Done], items: Sequence[Item]) -> None:
+        for session, number, lines in done:
+            if connection := self.connections.get(session):
+                connection.answer(number, lines)
+        for kind, session, *_ in items:
+            if kind == "end" and (ended := self.connections.pop(session, None)):
+                self.open.discard(ended)
+                ended.is_cut = True
+                ended.room.set()
+                ended.writer.close()
+
+    # The whole.
+
+    async def start(self, program: str, options: Sequence[str], *, journal: str | None, declare: str | None) -> None:
+        """Starts the program, and declares what the file says if the desk is new. Raises `Ended` if the program doesn't start."""
+        for pause in (*FIRST_TRIES, None):
+            console = await Console(program, options).start()
+            try:
+                self.machine = await Machine(console, self.limits.waiting).begin(has_texts=self.keep)
+                break
+            except Ended:
+                if await console.close() != 1 or journal is None or pause is None:
+                    raise
+                # A desk whose server was killed has the journal until it has gone through the rest of its input.
+                log.info("trying again to start on %s", journal)
+                await asyncio.sleep(pause)
+        if declare and self.machine.is_declaring:
+            await self.machine.apply(await declarations(program, declare))
+        if not self.keep and self.machine.waiting:
+            log.info("%d blocks of connections that ended with the last server are cancelled", len(self.machine.waiting))
+            await self.machine.apply([["clear", ""]])
+
+    async def run(self, stop: asyncio.Event) -> None:
+        """Serves until `stop` is set. Raises `Ended`."""
+        serving = asyncio.ensure_future(self.serve())
+        ending = asyncio.ensure_future(self.end_lost())
+        stopping = asyncio.ensure_future(stop.wait())
+        try:
+            await asyncio.wait((serving, stopping), return_when=asyncio.FIRST_COMPLETED)
+            if not serving.done():
+                await self.stop()
+            await serving
+        finally:
+            for task in (ending, stopping, serving):
+                task.cancel()
+            await asyncio.gather(ending, stopping, serving, return_exceptions=True)
+            for connection in list(self.open):
+                connection.cut()
+
+    async def stop(self) -> None:
+        """Has all sessions end, so that each waiting call is answered, and takes no more connections."""
+        self.is_stopping = True
+        if self._listener:
+            self._listener.close()
+        writers = [it.writer for it in self.open]
+        for session in list(self.machine.sessions):
+            self.put(["end", session])
+        self.wake.set()
+        end = time.monotonic() + STOPPING
+        while self.queue or any(it.transport.get_write_buffer_size() for it in writers if not it.transport.is_closing()):
+            if time.monotonic() > end:
+                break
+            await asyncio.sleep(0.01)
+
+    def close_path(self) -> None:
+        """Removes the socket, if it is this server's."""
+        if self._locked >= 0:
+            with suppress(OSError):
+                os.unlink(self.path)
+            os.close(self._locked)
+            self._locked = -1
+
+
+async def declarations(program: str, path: str) -> list[Item]:
+    """The entry that declares the lines of a file, and ends the declarations. Raises OSError, and ValueError for a line that a desk
+    refuses or that is no declaration."""
+    with open(path, "rb") as file:
+        lines = [it.removesuffix(b"\r") for it in file.read().split(b"\n")]
+    lines = [it for it in lines if word(it) is not None]
+    console = await Console(program).start()
+    try:
+        machine = Machine(console)
+        await machine.apply([["open", ""], ["req", "", 1, [], lines]])
+        for _, number, answers in machine.done if lines else ():
+            for line, answer in zip(lines, answers if number and not isinstance(answers, bytes) else ()):
+                if not answer.startswith(b"tvar "):
+                    raise ValueError(f"{path}: {line.decode('ascii', 'replace')!r} is answered {answer.decode()!r}")
+    finally:
+        await console.close()
+    return [["open", ""], ["req", "", 1, [], [*lines, b"take 0"]], ["end", ""]]
+
+
+def peer(writer: asyncio.StreamWriter) -> str:
+    """The process at the other end."""
+    found = writer.get_extra_info("socket")
+    if found is not None and hasattr(socket, "SO_PEERCRED"):
+        with suppress(OSError):
+            pid, uid, _ = (int.from_bytes(found.getsockopt(socket.SOL_SOCKET, socket.SO_PEERCRED, 12)[at : at + 4], "little") for at in (0, 4, 8))
+            return f"process {pid} of user {uid}"
+    return "a peer"

@@ -1,0 +1,177 @@
+"""A desk for several processes, behind a unix socket. docs/SERVER.md describes it.
+
+    python -m stmdesk.server [OPTIONS] SOCKET
+
+Exit statuses: 0 it was stopped by SIGTERM or SIGINT, 1 it couldn't start or its program ended, 2 the words are wrong, 5 it is a replica whose
+desk differs from the log.
+"""
+
+from __future__ import annotations
+
+import argparse
+import asyncio
+import grp
+import logging
+import os
+import signal
+import socket
+import sys
+from contextlib import suppress
+from collections.abc import Sequence
+
+from ._commands import decimal
+from ._machine import WAITING, Ended
+from ._program import check_built, find_program
+from ._serve import Limits, Server
+from ._web import Web
+
+CHECKPOINT = 500_000  # events
+FIRST_FILE = 3  # that a service manager gives
+
+log = logging.getLogger("stmdesk.server")
+
+
+def parser() -> argparse.ArgumentParser:
+    found = argparse.ArgumentParser(
+        "stmdesk-serve", usage="%(prog)s [OPTIONS] SOCKET", allow_abbrev=False, formatter_class=argparse.RawDescriptionHelpFormatter,
+        description="A desk for several processes, behind a unix socket.", epilog="docs/SERVER.md and docs/REPLICAS.md have the whole.",
+    )  # fmt: skip
+    add = found.add_argument
+    add("socket", metavar="SOCKET", nargs="?", help="the path of the socket; none if a service manager gives one")
+    add("--program", metavar="PATH", help="the program stmdesk; else the one that the package finds")
+    add("--declare", metavar="FILE", help="lines `tvar NAME : TYPE = INIT`, for a desk that is new")
+    add("--journal", metavar="FILE", help="keep the desk in FILE, and go on from it")
+    add("--sync", choices=("full", "append", "none"), help="what is synced before an answer (default full)")
+    add("--checkpoint-every", metavar="N", type=_number, help=f"events after which a checkpoint is made (default {CHECKPOINT})")
+    add("--keep", action="store_true", help="blocks of `submit` go on waiting when their connection ends")
+    add("--grace", metavar="SECONDS", type=float, default=10.0, help="how long a session waits for a new connection (default 10)")
+    add("--mode", metavar="MODE", type=_mode, default=0o600, help="of the socket, in octal digits (default 600)")
+    add("--group", metavar="GROUP", type=_group, help="of the socket")
+    add("--max-connections", metavar="N", type=_number, default=Limits.connections, help="default %(default)s")
+    add("--max-waiting", metavar="N", type=_number, default=WAITING, help="blocks that wait (default %(default)s)")
+    add("--max-request", metavar="BYTES", type=_number, default=Limits.request, help="of a request, such as a batch (default %(default)s)")
+    add("--max-unread", metavar="BYTES", type=_number, default=Limits.unread, help="of answers that a peer hasn't read (default %(default)s)")
+    add("--http", metavar="HOST:PORT", help="a live page; its address, with a token, is printed")
+    add("--metrics", metavar="HOST:PORT", help="figures for Prometheus (needs prometheus_client)")
+    return found
+
+
+def _number(text: str) -> int:
+    if not text.isdigit() or int(text) < 1:
+        raise argparse.ArgumentTypeError(f"{text!r} isn't a number from 1 on")
+    return int(text)
+
+
+def _mode(text: str) -> int:
+    if not text or set(text) - set("01234567") or int(text, 8) > 0o777:
+        raise argparse.ArgumentTypeError(f"{text!r} isn't a mode such as 660")
+    return int(text, 8)
+
+
+def _group(text: str) -> str:
+    try:
+        grp.getgrnam(text)
+    except KeyError:
+        raise argparse.ArgumentTypeError(f"there is no group {text!r}") from None
+    return text
+
+
+def given_socket() -> socket.socket | None:
+    """The socket that a service manager has opened for this process (sd_listen_fds), if it has."""
+    if os.environ.get("LISTEN_PID") != str(os.getpid()) or os.environ.get("LISTEN_FDS") != "1":
+        return None
+    return socket.socket(fileno=FIRST_FILE)
+
+
+def tell_manager(text: str) -> None:
+    """Tells a service manager how it goes (sd_notify)."""
+    path = os.environ.get("NOTIFY_SOCKET")
+    if path:
+        with suppress(OSError), socket.socket(socket.AF_UNIX, socket.SOCK_DGRAM) as it:
+            it.connect(f"\0{path[1:]}" if path.startswith("@") else path)
+            it.send(text.encode())
+
+
+async def webs(server: Server, words: argparse.Namespace) -> list[Web]:
+    """The live page and the figures that were asked for. Raises OSError, ValueError and ImportError."""
+    found = []
+    for what, address in (("page", words.http), ("metrics", words.metrics)):
+        if address:
+            found.append(Web(server, what))
+            at = await found[-1].listen(address)
+            if what == "page":
+                print(f"the live page: {at}", flush=True)
+            else:
+                log.info("figures for Prometheus: %s", at)
+    return found
+
+
+def limits(words: argparse.Namespace) -> Limits:
+    return Limits(words.max_connections, words.max_request, words.max_unread, words.max_waiting)
+
+
+async def serve(words: argparse.Namespace, program: str) -> None:
+    """Runs a server until it is stopped. Raises OSError, ValueError, ImportError and `Ended`."""
+    stop, loop = asyncio.Event(), asyncio.get_running_loop()
+    for number in (signal.SIGTERM, signal.SIGINT):
+        loop.add_signal_handler(number, stop.set)
+    given = given_socket() if words.socket is None else None
+    path = words.socket or (given and str(given.getsockname())) or ""
+    server = Server(path, grace=words.grace, keep=words.keep, limits=limits(words), mode=words.mode, group=words.group)
+    options = []
+    if words.journal:
+        every = words.checkpoint_every or CHECKPOINT
+        options = [f"--journal={words.journal}", f"--sync={words.sync or 'full'}", f"--checkpoint-every={decimal(every)}"]
+        server.own_checkpoints = every
+    else:
+        server.checkpoint_every = words.checkpoint_every or CHECKPOINT
+    if given is None:
+        server.lock_path()
+    pages: list[Web] = []
+    try:
+        await server.start(program, options, journal=words.journal, declare=words.declare)
+        try:
+            pages = await webs(server, words)
+            await server.listen(given)
+            kept = f"the journal {words.journal}" if words.journal else "memory alone"
+            log.info("started on %s, process %d, with %s", path, os.getpid(), kept)
+            tell_manager("READY=1")
+            await server.run(stop)
+            log.info("stopped")
+        finally:
+            tell_manager("STOPPING=1")
+            for it in pages:
+                it.close()
+            status = await server.machine.console.close()
+            if status:
+                log.error("the program ended with status %d", status)
+    finally:
+        server.close_path()
+
+
+def main(arguments: Sequence[str] | None = None) -> int:
+    found = parser()
+    words = found.parse_args(arguments)
+    if words.socket is None and os.environ.get("LISTEN_PID") != str(os.getpid()):
+        found.error("the path of a SOCKET is needed")
+    if words.sync and not words.journal:
+        found.error("--sync goes with --journal")
+    logging.basicConfig(level=logging.INFO, format="stmdesk-serve: %(message)s", stream=sys.stderr)
+    try:
+        program = os.fspath(words.program or find_program())
+        check_built(program)
+        asyncio.run(serve(words, program))
+    except Ended:
+        log.error("the program has ended, and the server with it")
+        return 1
+    except ImportError as error:
+        log.error("--metrics needs prometheus_client (pip install prometheus_client, or apt-get install python3-prometheus-client): %s", error)
+        return 1
+    except (OSError, ValueError) as error:
+        log.error("%s", f"{error.filename}: {error.strerror}" if isinstance(error, OSError) and error.filename else error)
+        return 1
+    return 0
+
+
+if __name__ == "__main__":
+    sys.exit(main())
