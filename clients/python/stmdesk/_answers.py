@@ -41,6 +41,8 @@ class Answers:
 
     def note(self, command: str, text: str, answer: object) -> None:
         """Keeps what hints need of a command and its answer: types of variables, and which command ended the declarations."""
+        if command == "declared":
+            return
         if isinstance(answer, Refused):
             is_first = command != "tvar" and answer.name not in ("LineTooLong", "NotAscii")
         elif isinstance(answer, Ref) and answer.name is not None and command == "tvar":

@@ -210,7 +210,7 @@ class Machine:
         asked = [it for it in lines if len(it) <= LINE and word(it) != b"declared"]
         answers = iter(await self.console.run(asked))
         return [
-            [b"refused LineTooLong"] if len(it) > LINE else self._declarations(it) if word(it) == b"declared" else next(answers)
+            [b"refused LineTooLong"] if len(it) > LINE else self._declarations(it, False) if word(it) == b"declared" else next(answers)
             for it in lines
         ]  # fmt: skip
 
@@ -256,9 +256,10 @@ class Machine:
         tickets = {it for it, where in self.waits.items() if where[0] == name and number in (None, where[1])}
         if is_whole:
             tickets |= {it for it, owner in self.owned.items() if owner == name}
-            self.sessions.pop(name, None)
         self.unwanted |= tickets
         await self._cancel()
+        if is_whole:
+            self.sessions.pop(name, None)
 
     async def _cancel(self) -> None:
         """Cancels what nobody wants any more. What a full history refuses is left for the next entry."""
@@ -316,7 +317,8 @@ class Machine:
                 return
         elif its in QUESTIONS and its != b"declared" or its in CHANGES and its != b"tvar":
             self.is_declaring = False
-        script.append(Given(line, {b"wait": "wait", b"declared": "declared"}.get(its, "line"), where))
+        kind = {b"wait": "wait", b"declared": "declared"}.get(its, "line")
+        script.append(Given(line, kind, where, int(kind == "declared" and self.is_declaring)))
         if its == b"wait" and self.next is not None:
             # At most this ticket. If a submission before it is refused, this one isn't given yet, and the rounds try the right one.
             ticket = self.next + self._submissions
@@ -332,7 +334,7 @@ class Machine:
         digest, was_settled = hashlib.sha256(self.chain), False
         for given, answer in zip(script, answers):
             if given.kind == "declared":
-                answer = self._declarations(given.line)
+                answer = self._declarations(given.line, bool(given.ticket))
             digest.update(b"\n".join(answer) + b"\n\n")
             was_settled |= given.word in (b"settle", b"drain")
             if answer[0].startswith(b"refused "):
@@ -395,10 +397,10 @@ class Machine:
     def _keeps(self, name: str) -> bool:
         return name not in self.sessions or self.sessions[name].keeps
 
-    def _declarations(self, line: bytes) -> Lines:
+    def _declarations(self, line: bytes, is_open: bool) -> Lines:
         if line.strip(b"\t\r ") != b"declared":
             return [b"refused Argument"]
-        return [*self.declared, b"declared %d %s" % (len(self.declared), b"open" if self.is_declaring else b"late")]
+        return [*self.declared, b"declared %d %s" % (len(self.declared), b"open" if is_open else b"late")]
 
     def _count(self, given: Given, words: list[bytes]) -> None:
         events = 0

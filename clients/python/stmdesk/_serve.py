@@ -22,7 +22,7 @@ GROUP = 1 << 18  # weight of a group, after which no further request is taken in
 AHEAD = 1 << 16  # lines of a plain connection that are read and not given
 ACKS = 5000  # ranges of numbers that one request acknowledges at most
 STOPPING = 2.0  # seconds that connections have to read their last answers
-FIRST_TRIES = (0.1, 0.2, 0.5, 1.0, 3.0, 5.0)  # seconds between tries to start on a journal that is in use
+FIRST_TRIES = (0.1, 0.2, 0.5, 1.0, 2.0)  # seconds between tries to start on a journal that is in use
 
 log = logging.getLogger("stmdesk.server")
 
@@ -143,13 +143,16 @@ class Connection:
         self.server.put([words[0], name, *words[1:]])
 
     def pump(self) -> None:
-        """Of a plain connection one request is under way; it ends at a `wait`. The end of its input cancels that if it can't finish."""
+        """Of a plain connection one request is under way; a `wait` is one by itself. The end of the input cancels it if it can't finish."""
         if self.is_framed or not self.is_begun or self.is_cut:
             return
         if not self.is_busy and self.lines:
             lines = [self.lines.popleft()]
             size = weight(lines)
-            while self.lines and word(lines[-1]) != b"wait" and (size := size + weight([self.lines[0]])) <= self.server.limits.request:
+            is_wait = word(lines[0]) == b"wait"
+            while self.lines and not is_wait and (size := size + weight([self.lines[0]])) <= self.server.limits.request:
+                if word(self.lines[0]) == b"wait":
+                    break
                 lines.append(self.lines.popleft())
             self.is_busy, self.number = True, self.number + 1
             self.request(self.number, Numbers([[1, self.number - 1]] if self.number > 1 else ()), lines, weight(lines))
@@ -240,6 +243,7 @@ class Server:
         self.machine: Machine
         self.connections: dict[str, Connection] = {}  # by session
         self.open: set[Connection] = set()
+        self.tasks: set[asyncio.Task[Any]] = set()  # that read connections
         self.lost: dict[str, float] = {}  # sessions without a connection: when they end
         self.queue: deque[Item] = deque()
         self.wake = asyncio.Event()
@@ -324,6 +328,10 @@ class Server:
             connection.refuse("ConnectionsFull")
             return
         self.open.add(connection)
+        task = asyncio.current_task()
+        if task:
+            self.tasks.add(task)
+            task.add_done_callback(self.tasks.discard)
         try:
             await connection.serve()
         except OSError:
@@ -454,6 +462,8 @@ class Server:
             await asyncio.gather(ending, stopping, serving, return_exceptions=True)
             for connection in list(self.open):
                 connection.cut()
+            if self.tasks:
+                await asyncio.wait(self.tasks, timeout=STOPPING)
 
     async def stop(self) -> None:
         """Has all sessions end, so that each waiting call is answered, and takes no more connections."""

@@ -272,8 +272,8 @@ class Session(Transport):
             is_begun = not self._name
             name = self._name or os.urandom(12).hex()
         it.sendall(f"session {name}{f' {self._new}' if is_begun else ''}\n".encode())
-        said = _line_of(it, rest)
-        if said == "@0 1":
+        said = _line_of(it, rest).removeprefix("@0 ")
+        if said == "1":
             said = _line_of(it, rest)
         if said != "session ok":
             if said != "refused NoSession":

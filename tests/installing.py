@@ -1,0 +1,66 @@
+"""What tests need beside Python, and root installs from Debian's packages if it isn't there."""
+
+import functools
+import importlib.util
+import os
+import pathlib
+import shutil
+import subprocess
+
+import browser as browsers
+
+SECONDS = 300  # for each try
+SYSTEM = pathlib.Path("/usr/lib/python3/dist-packages")
+
+
+@functools.cache
+def install(*packages):
+    """Tries to install packages. Returns nothing: whoever asks looks whether it is there."""
+    if not shutil.which("apt-get") or os.geteuid() != 0:
+        return
+    environment = {**os.environ, "DEBIAN_FRONTEND": "noninteractive"}
+
+    def run(*words):
+        try:
+            quiet = subprocess.DEVNULL
+            return subprocess.run(["apt-get", *words], env=environment, stdin=quiet, stdout=quiet, stderr=quiet, timeout=SECONDS).returncode == 0
+        except subprocess.TimeoutExpired:
+            return False
+
+    if not run("install", "-y", "-q", *packages):
+        run("update", "-q")
+        run("install", "-y", "-q", *packages)
+
+
+def command(name, *packages):
+    """The path of a command, or None."""
+    if not shutil.which(name):
+        install(*packages)
+    return shutil.which(name)
+
+
+def browser():
+    """The path of a browser, or None."""
+    if not browsers.find():
+        install("chromium")
+    return browsers.find()
+
+
+def has(name):
+    return importlib.util.find_spec(name) is not None
+
+
+def python_package(name, package, folder):
+    """A folder with a package of pure Python, for PYTHONPATH, or None: that of this Python, or that of the system's."""
+    spec = importlib.util.find_spec(name)
+    if spec and spec.origin:
+        found = pathlib.Path(spec.origin).parent
+    else:
+        if not (SYSTEM / name).is_dir():
+            install(package)
+        found = SYSTEM / name
+    if not found.is_dir():
+        return None
+    (folder / "packages").mkdir(exist_ok=True)
+    (folder / "packages" / name).symlink_to(found)
+    return folder / "packages"
