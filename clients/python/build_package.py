@@ -50,6 +50,14 @@ def stem() -> str:
     return f"{fact('name')}-{version()}"
 
 
+def entry_points() -> str:
+    """The commands that the package installs."""
+    scripts = (HERE / "pyproject.toml").read_text().partition("[project.scripts]\n")[2]
+    found = re.findall(r'^([\w-]+) = "([\w.:]+)"', scripts, re.MULTILINE)
+    assert found, "pyproject.toml has no scripts"
+    return "".join(["[console_scripts]\n", *(f"{name} = {function}\n" for name, function in found)])
+
+
 def metadata() -> str:
     lines = [
         "Metadata-Version: 2.1",
@@ -93,7 +101,7 @@ def write_wheel(folder: str, texts: dict[str, str], executables: dict[str, bytes
     info, tag = f"{stem()}.dist-info", f"py3-none-{platform}"
     is_pure = str(platform == PURE).lower()
     wheel = f"Wheel-Version: 1.0\nGenerator: build_package\nRoot-Is-Purelib: {is_pure}\nTag: {tag}\n"
-    texts = texts | {f"{info}/METADATA": metadata(), f"{info}/WHEEL": wheel}
+    texts = texts | {f"{info}/METADATA": metadata(), f"{info}/WHEEL": wheel, f"{info}/entry_points.txt": entry_points()}
     files, record = {path: text.encode() for path, text in texts.items()} | executables, ""
     for path, data in files.items():
         digest = base64.urlsafe_b64encode(hashlib.sha256(data).digest()).rstrip(b"=").decode()
