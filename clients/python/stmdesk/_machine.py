@@ -117,9 +117,10 @@ class Console:
         """Ends the program's input, and waits for it. Returns its exit status."""
         if not self._process:
             return 0
-        assert self._process.stdin
-        self._process.stdin.close()
-        return await self._process.wait()
+        async with self._lock:
+            assert self._process.stdin
+            self._process.stdin.close()
+            return await self._process.wait()
 
     def kill(self) -> None:
         if self._process and self._process.returncode is None:

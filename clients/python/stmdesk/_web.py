@@ -122,8 +122,9 @@ class Web:
                 await asyncio.wait_for(self._changed.wait(), ALIVE)
             if self._changed.is_set():
                 self._changed.clear()
-                self._last = b"data: %s\n\n" % json.dumps(await self.board()).encode()
-                self._send_all(self._last)
+                with suppress(Ended):  # a replica's program ends at each checkpoint, and another one goes on
+                    self._last = b"data: %s\n\n" % json.dumps(await self.board()).encode()
+                    self._send_all(self._last)
             else:
                 self._send_all(b":\n\n")
             await asyncio.sleep(OFTEN)

@@ -16,12 +16,15 @@ import os
 import signal
 import socket
 import sys
-from contextlib import suppress
 from collections.abc import Sequence
+from contextlib import suppress
+from pathlib import Path
 
 from ._commands import decimal
+from ._etcd import Access, context_of
 from ._machine import WAITING, Ended
 from ._program import check_built, find_program
+from ._replica import EVERY, LEASE, Differs, Replica
 from ._serve import Limits, Server
 from ._web import Web
 
@@ -51,6 +54,18 @@ def parser() -> argparse.ArgumentParser:
     add("--max-waiting", metavar="N", type=_number, default=WAITING, help="blocks that wait (default %(default)s)")
     add("--max-request", metavar="BYTES", type=_number, default=Limits.request, help="of a request, such as a batch (default %(default)s)")
     add("--max-unread", metavar="BYTES", type=_number, default=Limits.unread, help="of answers that a peer hasn't read (default %(default)s)")
+    add("--replicas", metavar="HOST:PORT,..", help="nodes of etcd with the log of several servers (docs/REPLICAS.md)")
+    add("--name", metavar="NAME", help="of this replica")
+    add("--folder", metavar="FOLDER", help="of this replica alone, for its files")
+    add("--next-program", metavar="PATH", action="append", default=[], help="a further version of the program, for `replica upgrade`")
+    add("--lease", metavar="SECONDS", type=_number, default=LEASE, help="after which another replica may lead (default %(default)s)")
+    add("--keep-segments", action="store_true", help="keep the history before each checkpoint in FOLDER")
+    add("--etcd-prefix", metavar="PREFIX", default="/stmdesk", help="of the keys of this desk (default %(default)s)")
+    add("--etcd-ca", metavar="FILE", help="for TLS: who certifies the nodes")
+    add("--etcd-cert", metavar="FILE", help="for TLS: this replica's certificate")
+    add("--etcd-key", metavar="FILE", help="and its key")
+    add("--etcd-user", metavar="NAME", help="a user of etcd")
+    add("--etcd-password-file", metavar="FILE", help="and a file with the password")
     add("--http", metavar="HOST:PORT", help="a live page; its address, with a token, is printed")
     add("--metrics", metavar="HOST:PORT", help="figures for Prometheus (needs prometheus_client)")
     return found
@@ -110,13 +125,31 @@ def limits(words: argparse.Namespace) -> Limits:
     return Limits(words.max_connections, words.max_request, words.max_unread, words.max_waiting)
 
 
+def replica(words: argparse.Namespace, program: str, path: str) -> Replica:
+    """Raises OSError and ValueError."""
+    password = ""
+    if words.etcd_password_file:
+        with open(words.etcd_password_file) as file:
+            password = file.read().rstrip("\n")
+    context = context_of(words.etcd_ca, words.etcd_cert, words.etcd_key)
+    access = Access(words.replicas.split(","), context, words.etcd_user, password)
+    return Replica(
+        path, name=words.name, folder=Path(words.folder), access=access, prefix=words.etcd_prefix, programs=[program, *words.next_program],
+        lease=words.lease, every=words.checkpoint_every or EVERY, declare=words.declare, keeps_segments=words.keep_segments,
+        grace=words.grace, keep=words.keep, limits=limits(words), mode=words.mode, group=words.group,
+    )  # fmt: skip
+
+
 async def serve(words: argparse.Namespace, program: str) -> None:
-    """Runs a server until it is stopped. Raises OSError, ValueError, ImportError and `Ended`."""
+    """Runs a server until it is stopped. Raises OSError, ValueError, ImportError, `Differs` and `Ended`."""
     stop, loop = asyncio.Event(), asyncio.get_running_loop()
     for number in (signal.SIGTERM, signal.SIGINT):
         loop.add_signal_handler(number, stop.set)
     given = given_socket() if words.socket is None else None
     path = words.socket or (given and str(given.getsockname())) or ""
+    if words.replicas:
+        await serve_replica(words, replica(words, program, path), given, stop)
+        return
     server = Server(path, grace=words.grace, keep=words.keep, limits=limits(words), mode=words.mode, group=words.group)
     options = []
     if words.journal:
@@ -149,6 +182,35 @@ async def serve(words: argparse.Namespace, program: str) -> None:
         server.close_path()
 
 
+async def serve_replica(words: argparse.Namespace, server: Replica, given: socket.socket | None, stop: asyncio.Event) -> None:
+    """The same for a replica."""
+    if given is None:
+        server.lock_path()
+    pages: list[Web] = []
+    try:
+        server.lock_folder()
+        begun, stopped = asyncio.ensure_future(server.start_replica()), asyncio.ensure_future(stop.wait())
+        await asyncio.wait((begun, stopped), return_when=asyncio.FIRST_COMPLETED)
+        if not begun.done():
+            begun.cancel()
+            return
+        await begun
+        try:
+            pages = await webs(server, words)
+            await server.listen(given)
+            log.info("started on %s, process %d, as replica %s", server.path, os.getpid(), server.name)
+            tell_manager("READY=1")
+            await server.run(stop)
+            log.info("stopped")
+        finally:
+            tell_manager("STOPPING=1")
+            for it in pages:
+                it.close()
+            await server.machine.console.close()
+    finally:
+        server.close_path()
+
+
 def main(arguments: Sequence[str] | None = None) -> int:
     found = parser()
     words = found.parse_args(arguments)
@@ -156,6 +218,12 @@ def main(arguments: Sequence[str] | None = None) -> int:
         found.error("the path of a SOCKET is needed")
     if words.sync and not words.journal:
         found.error("--sync goes with --journal")
+    if words.replicas and not (words.name and words.folder):
+        found.error("--replicas goes with --name and --folder")
+    if words.replicas and (words.journal or words.max_waiting != WAITING):
+        found.error("--journal and --max-waiting don't go with --replicas: the log has the desk, and all replicas answer alike")
+    if not words.replicas and (words.name or words.folder):
+        found.error("--name and --folder go with --replicas")
     logging.basicConfig(level=logging.INFO, format="stmdesk-serve: %(message)s", stream=sys.stderr)
     try:
         program = os.fspath(words.program or find_program())
@@ -164,6 +232,9 @@ def main(arguments: Sequence[str] | None = None) -> int:
     except Ended:
         log.error("the program has ended, and the server with it")
         return 1
+    except Differs as why:
+        log.error("this replica differs, and stops: %s", why)
+        return 5
     except ImportError as error:
         log.error("--metrics needs prometheus_client (pip install prometheus_client, or apt-get install python3-prometheus-client): %s", error)
         return 1
