@@ -21,11 +21,11 @@ def free_ports(count):
 class Cluster:
     """Three nodes of etcd, and replicas of one desk."""
 
-    def __init__(self, program, folder, *words, declare=None, every=2000, replicas=3, nodes=3, scheme="http", tls=(), start=True):
+    def __init__(self, program, folder, *words, declare=None, every=2000, replicas=3, nodes=3, scheme="http", tls=(), start=True, data=None):
         self.program, self.folder, self.scheme, self.tls = program, pathlib.Path(folder), scheme, tls
         ports = free_ports(2 * nodes)
         self.ports, self.peers = ports[:nodes], ports[nodes:]
-        self.data = {it: self.folder / f"etcd{it}" for it in range(nodes)}
+        self.data = {it: self.folder / f"etcd{it}" for it in range(nodes)} | (data or {})
         self.nodes, self.servers = {}, {}
         if declare is None:
             declare = self.folder / "declarations"

@@ -37,9 +37,10 @@ def judge(page, folder, environment):
         (folder / name).write_text(script)
     wanted = commands(text)
     assert wanted, page
-    with (folder / "printed").open("wb") as printed:  # a file, since what goes on behind would keep a pipe open
+    # Files, since what goes on behind would keep a pipe open. Standard error has what the shell says of its jobs, too.
+    with (folder / "printed").open("wb") as printed, (folder / "errors.log").open("wb") as errors:
         shell = "".join(f"{command}\necho '{MARK}'\n" for command, _ in wanted)
-        process = subprocess.Popen(["bash", "-c", shell], cwd=folder, env=environment, stdout=printed, stderr=subprocess.STDOUT,
+        process = subprocess.Popen(["bash", "-c", shell], cwd=folder, env=environment, stdout=printed, stderr=errors,
                                    stdin=subprocess.DEVNULL, start_new_session=True)  # fmt: skip
         try:
             process.wait(SECONDS)
