@@ -254,13 +254,16 @@ class Machine:
 
     async def _end(self, name: str, number: int | None, *, is_whole: bool) -> None:
         """Ends a session, or gives up its request of this number, or all of its requests."""
+        session = self.sessions.get(name)
+        if session is None or number is not None and number not in session.requests:
+            return
         tickets = {it for it, where in self.waits.items() if where[0] == name and number in (None, where[1])}
         if is_whole:
             tickets |= {it for it, owner in self.owned.items() if owner == name}
         self.unwanted |= tickets
         await self._cancel()
         if is_whole:
-            self.sessions.pop(name, None)
+            del self.sessions[name]
 
     async def _cancel(self) -> None:
         """Cancels what nobody wants any more. What a full history refuses is left for the next entry."""

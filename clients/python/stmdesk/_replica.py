@@ -106,7 +106,8 @@ class Replica(Server):
                 parts.append(piece[0][1])
             text = b"".join(parts)
             if hashlib.sha256(text).hexdigest() == head["sha"]:
-                break  # else a newer one has replaced it meanwhile
+                break
+            await asyncio.sleep(0.2)  # a newer one has replaced it meanwhile
         await self.load(text)
 
     async def load(self, snapshot: bytes) -> None:

@@ -8,6 +8,7 @@ import logging
 import os
 import shutil
 import socket
+import sys
 import time
 from collections import Counter, deque
 from collections.abc import Callable, Sequence
@@ -44,11 +45,13 @@ class Connection:
         self.server, self.reader, self.writer = server, reader, writer
         self.session = f"plain-{os.urandom(12).hex()}"
         self.is_framed = self.is_begun = self.is_busy = self.is_ended = self.is_cut = False
+        self.is_once = False  # whether the session ends with this connection
+        self.is_leaving = False  # whether the session was ended
         self.lines: deque[bytes] = deque()  # of a plain connection, that weren't given yet
         self.number = 0  # of a plain connection's request
-        self.head: tuple[int, int, Numbers] | None = None  # of a request whose lines are being read
+        self.head: tuple[int, Numbers] | None = None  # of a request whose lines are being read
         self.body: Lines = []
-        self.body_weight = 0
+        self.body_weight = self.body_left = 0  # what its lines weigh, and how many are to come
         self.flight: set[int] = set()  # requests that aren't answered
         self.held = Numbers()  # acknowledged by requests that weren't logged
         self.room = asyncio.Event()
@@ -93,41 +96,44 @@ class Connection:
             self.lines.append(line)
             self.pump()
         elif self.head:
-            self.body.append(line)
             self.body_weight += weight([line])
-            if self.body_weight > 2 * self.server.limits.request:  # it will be refused, so it needn't be kept
-                self.body[-1] = b""
-            if len(self.body) == self.head[1]:
-                (number, _, acks), lines, self.head, self.body = self.head, self.body, None, []
+            self.body_left -= 1
+            if self.body_weight <= self.server.limits.request:  # else it will be refused
+                self.body.append(line)
+            if not self.body_left:
+                (number, acks), lines, self.head, self.body = self.head, self.body, None, []
                 self.request(number, acks, lines, self.body_weight)
         else:
             self.frame(line)
 
     def greet(self, line: bytes) -> None:
         words = line.decode("ascii", "replace").split()
-        is_new = words[2:] in (["new"], ["new", "keep"])
+        is_new = words[2:3] == ["new"] and set(words[3:]) <= {"keep", "once"}
         if len(words) < 2 or len(words[1]) > 64 or words[1].startswith("plain-") or words[2:] and not is_new:
             self.refuse("Session")
             return
-        self.is_framed = True
-        keeps = ["keep"] if words[3:] or self.server.keep else []
+        self.is_framed, self.is_once = True, "once" in words[3:]
+        keeps = ["keep"] if "keep" in words[3:] or self.server.keep else []
         self.join(words[1], ["open", *keeps] if is_new else ["join"])
 
     def frame(self, line: bytes) -> None:
         """The first line of a message: `@N K`, `!N`, `?` or `bye`."""
         try:
+            if self.is_leaving:
+                return
             if line == b"?":
                 self.write(b"@0 0\n")
             elif line == b"bye":
+                self.is_leaving = True
                 self.server.put(["end", self.session])
             elif line[:1] == b"!":
                 self.server.put(["drop", self.session, _number(line[1:])])
             elif line[:1] == b"@":
                 number, count, *acks = line[1:].split(b" ")
                 known = _numbers(acks[0]) if acks else Numbers()
-                if len(acks) > 1 or not 0 < _number(number) or not 0 < _number(count) <= 1 << 16:
+                if len(acks) > 1 or not 0 < _number(number) or not 0 < _number(count):
                     raise ValueError
-                self.head, self.body, self.body_weight = (_number(number), _number(count), known), [], 0
+                self.head, self.body, self.body_weight, self.body_left = (_number(number), known), [], 0, _number(count)
             else:
                 raise ValueError
         except ValueError:
@@ -308,13 +314,15 @@ class Server:
 
     async def listen(self, given: socket.socket | None = None) -> None:
         """Listens on the path, or on a socket that the service manager has opened."""
-        backlog = self.limits.connections
+        more: dict[str, Any] = {"backlog": self.limits.connections}
+        if sys.version_info >= (3, 13):
+            more["cleanup_socket"] = False  # that of a service manager is its own, and `close_path` removes the other
         if given:
-            self._listener = await asyncio.start_unix_server(self.connected, sock=given, backlog=backlog)
+            self._listener = await asyncio.start_unix_server(self.connected, sock=given, **more)
             return
         before = os.umask(0o777)  # nobody can connect before it has its group and its mode
         try:
-            self._listener = await asyncio.start_unix_server(self.connected, self.path, backlog=backlog)
+            self._listener = await asyncio.start_unix_server(self.connected, self.path, **more)
         finally:
             os.umask(before)
         if self.group is not None:
@@ -344,6 +352,8 @@ class Server:
                 writer.close()
                 if self.connections.get(connection.session) is connection:
                     self.lost[connection.session] = time.monotonic() + self.grace
+                    if connection.is_once:
+                        self.put(["end", connection.session])
             elif not connection.is_begun or connection.is_cut:
                 self.open.discard(connection)
                 writer.close()
@@ -383,7 +393,7 @@ class Server:
                 break
             else:
                 items.append(self.queue.popleft())
-            size += 64 + (weight(rest[2]) if kind == "req" else 0)
+            size += 64 + (24 * len(rest[1]) + weight(rest[2]) if kind == "req" else 0)
         return items, questions
 
     async def serve(self) -> None:

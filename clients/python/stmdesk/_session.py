@@ -69,7 +69,7 @@ class Session(Transport):
     def __init__(self, paths: Sequence[str], *, reconnect: bool, patience: float, keep: bool, is_waiting: bool) -> None:
         """Connects. If it `is_waiting`, returns when that is done, and raises `DeskClosed` if there is no server; else calls raise it."""
         self._paths, self._reconnect, self._patience = paths, reconnect, patience
-        self._new = "new keep" if keep else "new"
+        self._new = " ".join(["new", *(["keep"] if keep else []), *([] if reconnect else ["once"])])
         self.lines: deque[str] = deque()
         self.end: DeskError | None = None
         self._lock = threading.RLock()
