@@ -2325,6 +2325,8 @@ class Asynchronous(OnProgram):
                 number = await ask(desk, number)
             is_over = True
             await asyncio.gather(*workers)
+            while isinstance(await desk.why(1), StaleBy):  # the turn that evaluates it may come after this call
+                await asyncio.sleep(0)
             self.assert_is(await desk.why(1), Waits(1, {X: 1, Ref(1, "permits"): 3}))
             await desk.atomically("writeTVar x 5")
             self.assert_is(await last, 3)

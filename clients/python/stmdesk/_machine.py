@@ -203,8 +203,8 @@ class Machine:
         return self
 
     def is_logged(self, lines: Sequence[bytes]) -> bool:
-        """Whether a request may change something, be it that it ends the declarations."""
-        return self.is_declaring or any(word(it) in CHANGES for it in lines)
+        """Whether a request may change something, be it that it ends the declarations. A word that isn't known here counts as a change."""
+        return self.is_declaring or any(its is not None and its not in QUESTIONS for its in map(word, lines))
 
     async def ask(self, lines: Sequence[bytes]) -> list[Lines]:
         """The answers to questions, once the declarations have ended."""

@@ -390,8 +390,8 @@ class Desk:
 
 
 def connect(*paths: Paths, reconnect: bool | None = None, patience: float = PATIENCE, keep: bool = False) -> Desk:
-    """A desk at a server, as of `stmdesk.connect`, which has the arguments. Doesn't wait until it is connected. If it can't be, `async
-    with` raises `DeskClosed`, or else the first call does.
+    """A desk at a server, as of `stmdesk.connect`, which has the arguments. Doesn't wait until it is connected. If it can't be, this
+    raises `DeskClosed`, or else `async with` does, or else the first call.
 
     >>> async def main():
     ...     async with connect("/no/such/socket") as desk:
