@@ -6,6 +6,7 @@ import os
 import pathlib
 import shutil
 import subprocess
+import sys
 
 import browser as browsers
 
@@ -52,15 +53,14 @@ def has(name):
 
 def python_package(name, package, folder):
     """A folder with a package of pure Python, for PYTHONPATH, or None: that of this Python, or that of the system's."""
-    spec = importlib.util.find_spec(name)
-    if spec and spec.origin:
-        found = pathlib.Path(spec.origin).parent
-    else:
+    packages = folder / "packages"
+    packages.mkdir(exist_ok=True)
+    if not has(name):
         if not (SYSTEM / name).is_dir():
             install(package)
-        found = SYSTEM / name
-    if not found.is_dir():
-        return None
-    (folder / "packages").mkdir(exist_ok=True)
-    (folder / "packages" / name).symlink_to(found)
-    return folder / "packages"
+        for it in (name, "decorator.py"):  # what Debian's prometheus_client needs
+            if (SYSTEM / it).exists():
+                (packages / it).symlink_to(SYSTEM / it)
+    environment = {**os.environ, "PYTHONPATH": str(packages), "PYTHONDONTWRITEBYTECODE": "1"}
+    done = subprocess.run([sys.executable, "-c", f"import {name}"], env=environment, stdin=subprocess.DEVNULL, capture_output=True)
+    return packages if done.returncode == 0 else None

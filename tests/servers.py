@@ -91,7 +91,8 @@ class Peer:
         self.socket.settimeout(SECONDS)
         self.socket.connect(path)
         self.file = self.socket.makefile("rb")
-        self.send(text)
+        if text:
+            self.send(text)
 
     def send(self, text):
         self.socket.sendall(text.encode() if isinstance(text, str) else text)

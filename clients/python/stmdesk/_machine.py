@@ -11,6 +11,7 @@ import hashlib
 import json
 from collections import deque
 from collections.abc import Iterable, Sequence
+from contextlib import suppress
 from dataclasses import dataclass, field
 from typing import Any
 
@@ -120,7 +121,10 @@ class Console:
         async with self._lock:
             assert self._process.stdin
             self._process.stdin.close()
-            return await self._process.wait()
+            status = await self._process.wait()
+            with suppress(OSError):  # it may have ended before it had read all
+                await self._process.stdin.wait_closed()
+            return status
 
     def kill(self) -> None:
         if self._process and self._process.returncode is None:

@@ -450,11 +450,15 @@ class Server:
                 # A desk whose server was killed has the journal until it has gone through the rest of its input.
                 log.info("trying again to start on %s", journal)
                 await asyncio.sleep(pause)
-        if declare and self.machine.is_declaring:
-            await self.machine.apply(await declarations(program, declare))
-        if not self.keep and self.machine.waiting:
-            log.info("%d blocks of connections that ended with the last server are cancelled", len(self.machine.waiting))
-            await self.machine.apply([["clear", ""]])
+        try:
+            if declare and self.machine.is_declaring:
+                await self.machine.apply(await declarations(program, declare))
+            if not self.keep and self.machine.waiting:
+                log.info("%d blocks of connections that ended with the last server are cancelled", len(self.machine.waiting))
+                await self.machine.apply([["clear", ""]])
+        except BaseException:
+            await self.machine.console.close()
+            raise
 
     async def run(self, stop: asyncio.Event) -> None:
         """Serves until `stop` is set. Raises `Ended`."""

@@ -10,9 +10,11 @@ from __future__ import annotations
 
 import argparse
 import asyncio
+import errno
 import grp
 import logging
 import os
+import shutil
 import signal
 import socket
 import sys
@@ -228,6 +230,9 @@ def main(arguments: Sequence[str] | None = None) -> int:
     try:
         program = os.fspath(words.program or find_program())
         check_built(program)
+        for it in (program, *words.next_program):
+            if not shutil.which(it):
+                raise FileNotFoundError(errno.ENOENT, "no such program", it)
         asyncio.run(serve(words, program))
     except Ended:
         log.error("the program has ended, and the server with it")
