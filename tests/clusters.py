@@ -64,12 +64,16 @@ class Cluster:
         """What a replica says of itself; None if it doesn't."""
         with contextlib.suppress(OSError, IndexError, ValueError):
             with Peer(self.servers[at].path) as it:
-                it.socket.settimeout(5)
+                it.socket.settimeout(5)  # one that is stopped says nothing
                 it.send(f"{what}\n")
                 words = it.line().split()
                 text = b"".join(it.file.readline() for _ in range(int(words[8])))
                 return {"name": words[1], "role": words[2], "applied": int(words[4]), "chain": words[6], "text": text}
         return None
+
+    def seen(self, at, what="replica"):
+        """The same of a replica that runs: what it says when it has the time."""
+        return wait_for(lambda: self.status(at, what))
 
     def is_leading(self, at):
         return self.servers[at].process.poll() is None and (self.status(at) or {}).get("role") == "leader"
@@ -81,7 +85,7 @@ class Cluster:
     def wait_equal(self):
         """Waits until all replicas have applied the same. Returns what they say of themselves, with their histories."""
         wait_for(lambda: len({(self.status(it) or {"applied": it})["applied"] for it in self.servers}) == 1)
-        return [self.status(it, "replica history") for it in self.servers]
+        return [self.seen(it, "replica history") for it in self.servers]
 
     def stop(self):
         for it in [*(it.process for it in self.servers.values()), *self.nodes.values()]:

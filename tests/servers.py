@@ -11,7 +11,7 @@ import time
 
 ROOT = pathlib.Path(__file__).resolve().parent.parent
 PACKAGE = ROOT / "clients" / "python"
-SECONDS = 60  # after which something has hung
+SECONDS = 120  # after which something has hung
 DECLARED = "tvar shared : Int = 0\n" + "".join(f"tvar p{it} : Int = 0\n" for it in range(8)) + "tvar slot : Int = 0\n"
 
 sys.path.insert(0, str(PACKAGE))
