@@ -3436,6 +3436,7 @@ def main():
     asked = parser.parse_args()
     if asked.program:
         program = str(pathlib.Path(asked.program).resolve())
+    os.environ["PYTHONPATH"] = str(pathlib.Path(__file__).resolve().parent)  # of programs that a test starts, such as a server
     loader = unittest.TestLoader()
     loader.testNamePatterns = [f"*{asked.part}*"]
     result = unittest.TextTestRunner(sys.stdout).run(loader.loadTestsFromModule(sys.modules[__name__]))
