@@ -390,13 +390,15 @@ class Desk:
         had finished already. The desk goes on.
 
         >>> import threading
-        >>> waiting = threading.Thread(target=lambda: print(desk.atomically('''
+        >>> results = []
+        >>> waiting = threading.Thread(target=lambda: results.append(desk.atomically('''
         ...     do { a <- readTVar x; if a < 5 then retry else return a }
         ... ''')))
         >>> waiting.start()
         >>> desk.atomically("writeTVar x 5")
         >>> waiting.join()
-        5
+        >>> results
+        [5]
         """
         self._transport.check_owner()
         if self._caller == get_ident():
