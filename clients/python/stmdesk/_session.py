@@ -133,6 +133,9 @@ class Session(Transport):
     def kill(self) -> DeskError:
         self.check_owner()
         with self._lock:
+            if self._socket and not self._out and not self._is_closing:  # so that the session ends now, and not after its grace
+                with suppress(OSError):
+                    self._socket.send(b"bye\n", socket.MSG_DONTWAIT)
             self.end = self.end or DeskClosed("the connection was closed")
             self._is_closing = self._is_killed = True
             self._wake_up()
