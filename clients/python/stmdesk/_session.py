@@ -223,8 +223,10 @@ class Session(Transport):
                 text = text[self._socket.send(text, socket.MSG_DONTWAIT) :]
             except BlockingIOError:
                 pass
-            except OSError:
-                return  # the thread sees that, too
+            except OSError:  # nothing of it was taken; the thread sees the end of the connection, too
+                if request:
+                    request.is_sent = False
+                return
             if not text:
                 return
         self._out += text
