@@ -80,6 +80,7 @@ class Session(Transport):
         self._got = Numbers()  # whose answers have come
         self._acks = Numbers()  # those of them that aren't acknowledged
         self._out = bytearray()  # what is to be sent
+        self._parts: list[tuple[Request | None, int]] = []  # of that: whole requests, and how long they are
         self._socket: socket.socket | None = None  # while requests can be sent
         self._any_socket: socket.socket | None = None  # while there is one
         self._is_closing = self._is_killed = False
@@ -147,7 +148,7 @@ class Session(Transport):
             is_there = self.end is None
             self._is_closing = True
             if self._socket and is_there:
-                self._out += b"bye\n"
+                self._queue(b"bye\n")
             self.end = self.end or DeskClosed("the connection was closed")
             self._wake_up()
         self._over.wait(patience)
@@ -229,8 +230,26 @@ class Session(Transport):
                 return
             if not text:
                 return
-        self._out += text
+            if request and len(text) < len(request.text):
+                request = None  # it was begun
+        self._queue(text, request)
         self._wake_up()
+
+    def _queue(self, text: bytes, request: Request | None = None) -> None:
+        self._out += text
+        self._parts.append((request, len(text)))
+
+    def _drop_queue(self) -> None:
+        """The connection has ended: what is in the queue as a whole was never sent."""
+        left = len(self._out)
+        for request, size in reversed(self._parts):
+            left -= size
+            if left < 0:
+                break
+            if request:
+                request.is_sent = False
+        self._out.clear()
+        self._parts.clear()
 
     def _wake_up(self) -> None:
         with suppress(OSError):  # a full pipe wakes the thread as well; a closed one needs it no more
@@ -260,7 +279,7 @@ class Session(Transport):
                 finally:
                     with self._lock:
                         self._socket = self._any_socket = None
-                        self._out.clear()
+                        self._drop_queue()
                 if self._is_closing or not self._reconnect or time.monotonic() - since > self._patience:
                     break
                 if (self._opened is None or at % len(self._paths) == 0) and select.select([self._woken], [], [], PAUSE)[0]:
@@ -301,8 +320,10 @@ class Session(Transport):
             with suppress(OSError, AttributeError):
                 self._pid = int.from_bytes(it.getsockopt(socket.SOL_SOCKET, socket.SO_PEERCRED, 12)[:4], "little")
             for number, request in self._pending.items():
+                self._queue(request.text, None if request.is_sent else request)
                 request.is_sent = True
-                self._out += request.text + (b"!%d\n" % number if request.is_given_up else b"")
+                if request.is_given_up:
+                    self._queue(b"!%d\n" % number)
             it.setblocking(False)
         return bytes(rest)
 
@@ -324,6 +345,8 @@ class Session(Transport):
                 with self._lock, suppress(BlockingIOError):
                     if self._out:
                         del self._out[: it.send(self._out)]
+                    if not self._out:
+                        self._parts.clear()
                 with suppress(BlockingIOError):
                     piece = it.recv(PIECE)
                     if not piece:
@@ -337,7 +360,7 @@ class Session(Transport):
             elif time.monotonic() - heard > QUIET and not is_asked:
                 is_asked = True
                 with self._lock:
-                    self._out += b"?\n"
+                    self._queue(b"?\n")
 
     def _answered(self, number: int, lines: list[str], refusal: str) -> None:
         """Takes the answer to a request: lines, or the refusal of the whole."""
