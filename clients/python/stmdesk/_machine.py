@@ -177,7 +177,7 @@ class Machine:
         self.is_declaring, self.declared_size = True, 0
         self.declared: Lines = []  # `#0 x : Int`
         self.sessions: dict[str, Session] = {}
-        self.waits: dict[int, Where] = {}  # by ticket: whom a block's end answers
+        self.waits: dict[int, Where] = {}  # by ticket: the line that the end of its block answers
         self.due: set[int] = set()  # tickets of waits that may be able to finish
         self.out: set[int] = set()  # those of them that somebody has taken
         self.waiting: dict[int, bytes] = {}  # all tickets that wait, with their blocks as far as they are known
@@ -447,7 +447,7 @@ class Machine:
             self._answered(where[0], where[1])
 
     def _answered(self, name: str, number: int) -> None:
-        """Has a request that is answered told, and keeps the answer if it isn't too long."""
+        """Sends the answer to a request, if all its lines have one, and keeps it if it isn't too long."""
         session = self.sessions[name]
         request = session.requests[number]
         if not request.is_answered():

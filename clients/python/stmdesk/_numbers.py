@@ -30,5 +30,5 @@ class Numbers:
         self.ranges[begin:end] = [[low, high]]
 
     def text(self, most: int) -> str:
-        """At most so many of the ranges, as `1-4,7`."""
+        """The first `most` ranges, as `1-4,7`."""
         return ",".join(str(low) if low == high else f"{low}-{high}" for low, high in self.ranges[:most])

@@ -311,7 +311,7 @@ class Replica(Server):
     machine_chain = b""  # the chain before the entry that is being applied
 
     async def applied_before(self) -> None:
-        """Waits until the entry before has been applied. Its answers are told then."""
+        """Waits until the entry before has been applied. Its answers are sent then."""
         if self.applying:
             task, self.applying = self.applying, None
             await task
