@@ -5,7 +5,7 @@ ghost use Rattle.stm_journal.specs.Disk.{claims_nothing, lawful_nothing};
 use crate::device::Device;
 use crate::error::JournalError;
 use crate::memory::Memory;
-use crate::replace::Replace;
+use crate::replace::{Replace, ReplaceError};
 
 /// A device in memory with room for a number of bytes. A write that finds no room leaves none of its bytes.
 #[derive(Drop)]
@@ -60,7 +60,9 @@ impl Replace for Disk {
         Ok(Disk { file, room })
     }
 
-    fn put(&mut self, other: Self) -> Result<(), JournalError> {
+    fn put(&mut self, other: Self) -> Result<(), ReplaceError> {
         self.file.put(other.file)
     }
+
+    fn report(&mut self, _error: JournalError) {}
 }

@@ -13,9 +13,10 @@ use crate::device::Device;
 use crate::error::JournalError;
 use crate::file::{FileDevice, copy, is_clean};
 use crate::obstacle::{Obstacle, Refusal};
-use crate::replace::Replace;
+use crate::replace::{Replace, ReplaceError};
 use crate::system::{self, metadata_of};
 use std::fs::File;
+use std::io::Write;
 use std::{io, mem};
 
 /// A file of the system with its path. As of `FileDevice`, nothing is claimed of it.
@@ -31,6 +32,8 @@ pub struct NamedFile<'a> {
     // Whether it has yet to take the place of another. Until then it is removed with this value.
     is_begun: bool,
     refusal: Option<Refusal>,
+    // Whether it was reported why no file took the place of this one, since one did.
+    is_reported: bool,
     // Why it couldn't be settled.
     unsettled: Option<io::Error>,
 }
@@ -56,6 +59,7 @@ impl<'a> NamedFile<'a> {
                 front,
                 is_begun: false,
                 refusal: None,
+                is_reported: false,
                 unsettled: None,
             }),
             Err(obstacle) => Err(obstacle.error()),
@@ -144,6 +148,22 @@ impl<'a> NamedFile<'a> {
         obstacle.error()
     }
 
+    /// Writes to standard error why no file has taken the place of this one: what was in its way, or the error of its own file.
+    fn write_report(&self, error: JournalError) -> io::Result<()> {
+        let mut errors = self.rt.stderr();
+        if let Some(refusal) = &self.refusal {
+            return writeln!(errors, "stmdesk: no checkpoint: {refusal}");
+        }
+        let path = match &self.path {
+            Some(path) => begun_path(self.rt, path),
+            None => Err(Obstacle::NoPath),
+        };
+        match path {
+            Ok(path) => writeln!(errors, "stmdesk: no checkpoint: {path}: {error}"),
+            Err(obstacle) => writeln!(errors, "stmdesk: no checkpoint: {obstacle}"),
+        }
+    }
+
     /// Makes the file that is to take the place of this one.
     fn begun(&self) -> Result<Self, Obstacle> {
         let Some(path) = &self.path else {
@@ -159,6 +179,7 @@ impl<'a> NamedFile<'a> {
             front: self.front,
             is_begun: true,
             refusal: None,
+            is_reported: false,
             unsettled: None,
         })
     }
@@ -181,8 +202,17 @@ impl Drop for NamedFile<'_> {
             front: _,
             is_begun: _,
             refusal: _,
+            is_reported: _,
             unsettled: _,
         } = self;
+    }
+}
+
+/// Whether a file that was begun still has its name, so that it hasn't taken the place of another.
+fn is_begun(file: &NamedFile) -> bool {
+    match &file.path {
+        Some(path) => matches!(leads_to(file.rt, path, &file.device.file), Ok(true)),
+        None => true,
     }
 }
 
@@ -236,22 +266,38 @@ impl Device for NamedFile<'_> {
 
 impl Replace for NamedFile<'_> {
     fn beside(&mut self) -> Result<Self, JournalError> {
+        self.refusal = None;
         match self.begun() {
             Ok(file) => Ok(file),
             Err(obstacle) => Err(self.refuse(obstacle)),
         }
     }
 
-    fn put(&mut self, other: Self) -> Result<(), JournalError> {
+    fn put(&mut self, other: Self) -> Result<(), ReplaceError> {
         if let Err(obstacle) = rename(&other, self) {
-            return Err(self.refuse(obstacle));
+            let error = self.refuse(obstacle);
+            return Err(if is_begun(&other) {
+                ReplaceError::Refused(error)
+            } else {
+                ReplaceError::Unfinished(error)
+            });
         }
         match self.take(other) {
-            Ok(()) => Ok(()),
+            Ok(()) => {
+                self.is_reported = false;
+                Ok(())
+            }
             Err(error) => {
                 let _ = self.device.note_synced(Err(error));
-                Err(self.refuse(Obstacle::from(error)))
+                Err(ReplaceError::Unfinished(self.refuse(Obstacle::from(error))))
             }
+        }
+    }
+
+    fn report(&mut self, error: JournalError) {
+        if !self.is_reported {
+            self.is_reported = true;
+            let _ = self.write_report(error);
         }
     }
 }

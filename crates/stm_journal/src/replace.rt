@@ -2,9 +2,22 @@
 
 ghost use Rattle.std.specs.Prelude.{◌≡◌, ◌⊎◌, [], IsTrue, IfOk, OnOk, OnErr};
 ghost use Rattle.stm_journal.specs.Disk.{Shows, IsOnDisk, IsOneOf, IsSettled, StaysSettled, CrashAdds, CrashAddsNothing, TakesTime, FailsOnlyByDisk};
+ghost use Rattle.stm_journal.specs.Replacing.{OnRefused, journal_result};
 
 use crate::device::Device;
 use crate::error::JournalError;
+use thiserror::Error;
+
+/// Why no file has taken the place of another.
+#[derive(Clone, Copy, Debug, PartialEq, Eq, Error)]
+pub enum ReplaceError {
+    /// Nothing has changed: the old file is as it was, and more can be added to it.
+    #[error("{0}")]
+    Refused(JournalError),
+    /// It is the old file or the new one, and a crash may leave either.
+    #[error("{0}")]
+    Unfinished(JournalError),
+}
 
 /// A device whose file another one can replace in one step.
 ///
@@ -23,17 +36,24 @@ pub trait Replace: Device {
         ensures fault { FailsOnlyByDisk Self.disk self.old self.new result };
 
     /// Puts another file, which is on the disk, in the place of this one.
-    fn put(&mut self, other: Self) -> Result<(), JournalError>
+    fn put(&mut self, other: Self) -> Result<(), ReplaceError>
     where
         Self: Sized,
         requires durable { IsOnDisk Self.disk other }
         ensures replaced { OnOk result (Shows Self.disk self.new (Self.disk.seen other)) }
         ensures durable { OnOk result (IsOnDisk Self.disk self.new) }
         ensures stays { OnErr result (StaysSettled Self.disk self.old self.new) }
-        // After an error it is the one or the other.
+        // After an error it is the one or the other, and after a refusal it is as it was.
         ensures unfinished { OnErr result (IsOneOf Self.disk self.old other self.new) }
-        // A crash leaves what it might have left before, or all of the other file.
+        ensures refused { OnRefused result (Shows Self.disk self.new (Self.disk.seen self.old)) }
+        // A crash leaves what it might have left before, or all of the other file; after a refusal only what it might have left before.
         ensures crash { CrashAdds Self.disk (λ c. c ≡ Self.disk.seen other) self.old self.new }
         ensures time { TakesTime Self.disk (λ c. c ≡ Self.disk.seen other) self.old self.new }
-        ensures fault { FailsOnlyByDisk Self.disk self.old self.new result };
+        ensures refused_crash { OnRefused result (CrashAddsNothing Self.disk self.old self.new) }
+        ensures refused_time { OnRefused result (TakesTime Self.disk (Self.disk.may_leave self.new) self.old self.new) }
+        ensures fault { FailsOnlyByDisk Self.disk self.old self.new (journal_result result) };
+
+    /// Reports to whom the system reports errors why no file has taken the place of this one, unless it has reported that since one did.
+    fn report(&mut self, error: JournalError)
+        ensures { IsTrue Self.disk.is_honest → self.new ≡ self.old };
 }
