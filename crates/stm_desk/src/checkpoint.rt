@@ -1,27 +1,22 @@
 //! A history that begins from where the desk is.
 
-ghost use Rattle.std.specs.Prelude.{◌≡◌, ◌<◌, ◌≤◌, ◌↔◌, length, option_map, IfOk, OnOk, OnErr, IsErrOf};
+ghost use Rattle.std.specs.Prelude.{◌≡◌, ◌<◌, ◌≤◌, ◌↔◌, length, Some, option_map, IfOk, OnOk, OnErr, IsErrOf};
 ghost use Rattle.stm_events.specs.States.{observed};
-ghost use Rattle.stm_machine.specs.Checkpoints.{max_next};
+ghost use Rattle.stm_machine.specs.Checkpoints.{MayStart, checkpoint_of, max_next};
 ghost use Rattle.stm_desk.specs.DeskView.{state_of, checkpointed};
 
 use crate::desk::Desk;
 use stm_machine::{Checkpoint, CheckpointError};
 
 impl Desk {
-    /// Makes a checkpoint: from now on the history is empty, and begins from the present state. Returns how many events it had.
-    /// No answer to any later call differs, except that the history has room for as many events as the desk takes, and that `why` no
-    /// longer knows why a block became stale before. Queued tickets stay queued, and tickets that are out stay out.
-    pub fn checkpoint(&mut self) -> Result<u32, CheckpointError>
-        ensures events { IfOk result (λ n. n ≡ length self.old.history) }
-        ensures taken { OnOk result (self.new ≡ checkpointed self.old) }
-        // The same is observed of the state before and of the state after, so no later event or question tells them apart.
-        ensures unseen { OnOk result (observed (state_of self.new) ≡ observed (state_of self.old)) }
+    /// The checkpoint of the present state, from which the history can begin (`begin_from`).
+    pub fn next_checkpoint(&self) -> Result<Checkpoint, CheckpointError>
+        ensures taken { IfOk result (λ c. c ≡ checkpoint_of (state_of self.now)) }
+        ensures start { IfOk result (λ c. MayStart self.now.table (Some c)) }
         // Refused if and only if tickets could run out in a history from here, or for lack of memory.
-        ensures room { OnOk result ((state_of self.old).next ≤ max_next) }
-        ensures full { IsErrOf result CheckpointError.TicketsFull → max_next < (state_of self.old).next }
-        ensures first { IsErrOf result CheckpointError.NoMemory → (state_of self.old).next ≤ max_next }
-        ensures unchanged { OnErr result (self.new ≡ self.old) }
+        ensures room { OnOk result ((state_of self.now).next ≤ max_next) }
+        ensures full { IsErrOf result CheckpointError.TicketsFull → max_next < (state_of self.now).next }
+        ensures first { IsErrOf result CheckpointError.NoMemory → (state_of self.now).next ≤ max_next }
     {
         // The variables are known to be well typed by this.
         let _variables = self.table.len();
@@ -32,10 +27,46 @@ impl Desk {
         };
         // It is known to be a checkpoint by this.
         let _next = checkpoint.next();
+        Ok(checkpoint)
+    }
+
+    /// Lets the history begin from the checkpoint of the present state, and returns how many events it had. No answer to any later call
+    /// differs, except that the history has room for as many events as the desk takes, and that `why` no longer knows why a block
+    /// became stale before. Queued tickets stay queued, and tickets that are out stay out.
+    pub fn begin_from(&mut self, checkpoint: Checkpoint) -> u32
+        requires { checkpoint ≡ checkpoint_of (state_of self.old) }
+        ensures events { result ≡ length self.old.history }
+        ensures taken { self.new ≡ checkpointed self.old }
+        // The same is observed of the state before and of the state after, so no later event or question tells them apart.
+        ensures unseen { observed (state_of self.new) ≡ observed (state_of self.old) }
+    {
+        // The variables are known to be well typed by this.
+        let _variables = self.table.len();
+        // It is known to be a checkpoint by this.
+        let _next = checkpoint.next();
+        let alloc = *self.history.allocator();
         let events = self.history.len() as u32;
         self.history = Vec::new(alloc);
         self.checkpoint = Some(checkpoint);
-        Ok(events)
+        events
+    }
+
+    /// Makes a checkpoint: from now on the history is empty, and begins from the present state, as after `begin_from`. Returns how many
+    /// events it had.
+    pub fn checkpoint(&mut self) -> Result<u32, CheckpointError>
+        ensures events { IfOk result (λ n. n ≡ length self.old.history) }
+        ensures taken { OnOk result (self.new ≡ checkpointed self.old) }
+        ensures unseen { OnOk result (observed (state_of self.new) ≡ observed (state_of self.old)) }
+        // Refused if and only if tickets could run out in a history from here, or for lack of memory.
+        ensures room { OnOk result ((state_of self.old).next ≤ max_next) }
+        ensures full { IsErrOf result CheckpointError.TicketsFull → max_next < (state_of self.old).next }
+        ensures first { IsErrOf result CheckpointError.NoMemory → (state_of self.old).next ≤ max_next }
+        ensures unchanged { OnErr result (self.new ≡ self.old) }
+    {
+        match self.next_checkpoint() {
+            Ok(checkpoint) => Ok(self.begin_from(checkpoint)),
+            Err(refused) => Err(refused),
+        }
     }
 
     /// The checkpoint that the history begins from; none if it begins with the first values of the variables.
