@@ -1,5 +1,5 @@
 -- What an open desk keeps over a checkpoint: the store, the next ticket, and which blocks wait under which tickets stay.
-use Rattle.std.proofs.Common.{◌≡◌, ℕ, Bool, true, false, cond, Result, Ok, Err, OnOk, OnErr, List, [], ◌∷◌, map, Option, Some, None, refl, sym, ap, ◌∙◌, subst}
+use Rattle.std.proofs.Common.{◌≡◌, ℕ, Bool, true, false, cond, List, [], ◌∷◌, map, Option, Some, None, refl, sym, ap, ◌∙◌, subst}
 use Rattle.std.specs.Prelude.{nat_eq, option_map}
 use Rattle.stm_terms.specs.declared.kinds.Ty.{Ty}
 use Rattle.stm_terms.specs.declared.values.Value.{Value}
@@ -8,7 +8,6 @@ use Rattle.stm_store.specs.Tables.{Declared}
 use Rattle.stm_check.specs.TypedBlock.{Block}
 use Rattle.stm_events.specs.SlowDesk.{Slow, Waiter, find_waiter}
 use Rattle.stm_events.specs.States.{IsTicketOf, IsLegalFrom}
-use Rattle.stm_machine.specs.declared.checkpoint.CheckpointError.{CheckpointError}
 use Rattle.stm_machine.specs.Checkpoints.{waiter_of, checkpoint_state, checkpoint_of, block_of_waiter, MayStart}
 use Rattle.stm_desk.specs.DeskView.{DeskView, start_state, state_of, checkpointed}
 use Rattle.stm_commands.specs.declared.jobs.KeptJob.{KeptJob}
@@ -76,7 +75,7 @@ unfolding checkpoint_of
 copied_again d None c = tt
 copied_again d (Some cells) c = c
 
-kept_again : {table : List Declared} → (d e : DeskView) (copy : Option (List (Ty × Value))) (ks : List KeptJob) → e ≡ checkpointed d → MayStart e.table e.checkpoint → IsLegalFrom (start_state e) e.history → OpenInvariant d copy ks table
+pub kept_again : {table : List Declared} → (d e : DeskView) (copy : Option (List (Ty × Value))) (ks : List KeptJob) → e ≡ checkpointed d → MayStart e.table e.checkpoint → IsLegalFrom (start_state e) e.history → OpenInvariant d copy ks table
     → OpenInvariant e copy ks table
 kept_again {table = table} d e copy ks q start legal k = record {
   start = start;
@@ -86,8 +85,3 @@ kept_again {table = table} d e copy ks q start legal k = record {
   have_stores = subst (λ (f : DeskView). HaveStores (state_of f).waiters ks) (sym q) (stored_again d ks k.have_stores);
   same_table = k.same_table ∙ sym (ap (λ (f : DeskView). f.table) q);
 }
-
-pub kept_checkpoint : {table : List Declared} → (d e : DeskView) (copy : Option (List (Ty × Value))) (ks : List KeptJob) (r : Result ℕ CheckpointError) → OnOk r (e ≡ checkpointed d) → OnErr r (e ≡ d)
-    → MayStart e.table e.checkpoint → IsLegalFrom (start_state e) e.history → OpenInvariant d copy ks table → OpenInvariant e copy ks table
-kept_checkpoint d e copy ks (Ok n) p q start legal k = kept_again d e copy ks p start legal k
-kept_checkpoint {table = table} d e copy ks (Err x) p q start legal k = subst (λ (f : DeskView). OpenInvariant f copy ks table) (sym q) k

@@ -1,79 +1,61 @@
 //! `checkpoint`: the history begins from where the desk is.
 
-ghost use Rattle.std.specs.Prelude.{◌≡◌, ◌++◌, true, false, if◌then◌else◌, Some, None, string_bytes, length, OnOk, OnErr, IfOk};
-ghost use Rattle.stm_commands.specs.Checkpointing.{are_tickets_full, begun_anew, checkpoint_line, checkpoint_now, checkpoint_step, makes_checkpoint, is_due_checkpoint, checkpoint_if};
+ghost use Rattle.std.specs.Prelude.{◌≡◌, ◌++◌, Some, string_bytes, length, is_some, not, OnOk, IfOk, IfSome};
+ghost use Rattle.stm_machine.specs.Checkpoints.{MayStart, checkpoint_of};
+ghost use Rattle.stm_desk.specs.DeskView.{state_of};
+ghost use Rattle.stm_commands.specs.Checkpointing.{are_tickets_full, begun_anew, checkpoint_line, checkpoint_now};
 ghost use Rattle.stm_commands.specs.OpenDesk.{Steps};
 
 use crate::open_desk::OpenDesk;
-use crate::refusals::{refuse, refuse_argument};
+use crate::refusals::refuse;
 use std::alloc::AllocError;
-use stm_desk::CheckpointError;
+use stm_desk::{Checkpoint, CheckpointError};
 use stm_terms::NoMemory;
 
+/// Appends the answer to `checkpoint`: how many events the history had before.
 #[tactic(auto, unfolding(crate::specs::Checkpointing::checkpoint_line))]
-fn write_checkpoint_line(count: u32, out: &mut String) -> Result<(), NoMemory>
+pub fn write_checkpoint_line(count: u32, out: &mut String) -> Result<(), NoMemory>
     ensures { OnOk result (string_bytes out.new ≡ string_bytes out.old ++ checkpoint_line count) }
 {
     write!(out, "checkpoint {count}\n")
 }
 
 impl OpenDesk {
-    /// Makes a checkpoint, and returns how many events the history had before; none if tickets could run out after it.
-    fn begin_anew(&mut self) -> Result<Option<u32>, NoMemory>
-        ensures count { IfOk result (λ n. n
-            ≡ (if are_tickets_full self.old then None else Some (length self.old.desk.history))) }
-        ensures begun { OnOk result
-            (self.new ≡ (if are_tickets_full self.old then self.old else begun_anew self.old)) }
-        ensures unchanged { OnErr result (self.new ≡ self.old) }
+    /// The checkpoint of the present state, from which the history can begin (`begin_from`); none if tickets could run out after it.
+    pub fn next_checkpoint(&self) -> Result<Option<Checkpoint>, NoMemory>
+        ensures made { IfOk result (λ o. is_some o ≡ not (are_tickets_full self.now)) }
+        ensures taken { IfOk result (λ o. IfSome o (λ c. c ≡ checkpoint_of (state_of self.now.desk))) }
+        ensures start { IfOk result (λ o. IfSome o (λ c. MayStart self.now.desk.table (Some c))) }
     {
-        let answer = self.desk.checkpoint();
-        // The history is known to be legal by this.
-        let _events = self.desk.history();
-        match answer {
-            Ok(count) => Ok(Some(count)),
+        match self.desk.next_checkpoint() {
+            Ok(checkpoint) => Ok(Some(checkpoint)),
             Err(CheckpointError::TicketsFull) => Ok(None),
             Err(CheckpointError::NoMemory) => Err(AllocError),
         }
     }
 
-    /// Answers `checkpoint`: how many events the history had before. Returns whether a checkpoint was made.
-    #[tactic(auto, unfolding(crate::specs::Checkpointing::checkpoint_step))]
-    pub fn answer_checkpoint(&mut self, argument: &str, out: &mut String) -> Result<bool, NoMemory>
-        ensures step { OnOk result (Steps self.new (string_bytes out.old) (string_bytes out.new)
-            (checkpoint_step self.old argument.now)) }
-        ensures made { IfOk result (λ made. made ≡ makes_checkpoint self.old argument.now) }
-        ensures begun { IfOk result (λ made. made ≡ true → self.new ≡ begun_anew self.old) }
-        ensures same { IfOk result (λ made. made ≡ false → self.new ≡ self.old) }
+    /// Lets the history begin from the checkpoint of the present state, and returns how many events it had.
+    pub fn begin_from(&mut self, checkpoint: Checkpoint) -> u32
+        requires { checkpoint ≡ checkpoint_of (state_of self.old.desk) }
+        ensures count { result ≡ length self.old.desk.history }
+        ensures begun { self.new ≡ begun_anew self.old }
     {
-        if !argument.is_empty() {
-            refuse_argument(out)?;
-            return Ok(false);
-        }
-        match self.begin_anew()? {
-            Some(count) => {
-                write_checkpoint_line(count, out)?;
-                Ok(true)
-            }
-            None => {
-                refuse("TicketsFull", out)?;
-                Ok(false)
-            }
-        }
+        let count = self.desk.begin_from(checkpoint);
+        // The history is known to be legal by this.
+        let _events = self.desk.history();
+        count
     }
 
-    /// Makes a checkpoint if the history has at least `every` events, and no tickets could run out after it. Returns whether it
-    /// was made.
-    pub fn checkpoint_if(&mut self, every: u32) -> Result<bool, NoMemory>
-        ensures state { OnOk result (self.new ≡ checkpoint_if every self.old) }
-        ensures made { IfOk result (λ made. made ≡ is_due_checkpoint every self.old) }
-        ensures begun { IfOk result (λ made. made ≡ true → self.new ≡ begun_anew self.old) }
-        ensures same { IfOk result (λ made. made ≡ false → self.new ≡ self.old) }
-        ensures unchanged { OnErr result (self.new ≡ self.old) }
+    /// Answers `checkpoint`, without an argument: how many events the history had before.
+    pub fn answer_checkpoint(&mut self, out: &mut String) -> Result<(), NoMemory>
+        ensures { OnOk result (Steps self.new (string_bytes out.old) (string_bytes out.new) (checkpoint_now self.old)) }
     {
-        if self.desk.history().len() < every as usize {
-            return Ok(false);
+        match self.next_checkpoint()? {
+            Some(checkpoint) => {
+                let count = self.begin_from(checkpoint);
+                write_checkpoint_line(count, out)
+            }
+            None => refuse("TicketsFull", out),
         }
-        let made = self.begin_anew()?;
-        Ok(made.is_some())
     }
 }

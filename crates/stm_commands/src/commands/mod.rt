@@ -1,7 +1,7 @@
 //! The commands, each in a file of its own: `OpenDesk::answer_..` prints the answer, and makes the step.
 
 mod cancel;
-mod checkpoint;
+pub mod checkpoint;
 mod deliver;
 mod drain;
 mod eval;
