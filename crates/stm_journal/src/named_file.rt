@@ -216,18 +216,35 @@ fn is_begun(file: &NamedFile) -> bool {
     }
 }
 
-/// Puts one file in the place of another, both open. It fails, and changes nothing, if a path leads to another file meanwhile,
-/// which then isn't lost.
-fn rename(from: &NamedFile, to: &NamedFile) -> Result<(), Obstacle> {
+/// The paths of one file and of another that it is to take the place of, both open. It fails if a path leads to another file
+/// meanwhile, which then isn't lost.
+fn paths_of<'a>(from: &'a NamedFile, to: &'a NamedFile) -> Result<(&'a str, &'a str), Obstacle> {
     let (Some(from_path), Some(to_path)) = (&from.path, &to.path) else {
         return Err(Obstacle::NoPath);
     };
-    if !leads_to(to.rt, from_path, &from.device.file)?
-        || !leads_to(to.rt, to_path, &to.device.file)?
-    {
-        return Err(Obstacle::Moved);
+    if leads_to(to.rt, from_path, &from.device.file)? && leads_to(to.rt, to_path, &to.device.file)? {
+        Ok((from_path, to_path))
+    } else {
+        Err(Obstacle::Moved)
     }
+}
+
+/// Puts one file in the place of another, both open. It fails, and changes nothing, if a path leads to another file meanwhile.
+fn rename(from: &NamedFile, to: &NamedFile) -> Result<(), Obstacle> {
+    let (from_path, to_path) = paths_of(from, to)?;
     Ok(system::rename(to.rt, from_path, to_path)?)
+}
+
+/// The same, and whether nothing has changed if it fails.
+fn try_rename(from: &NamedFile, to: &NamedFile) -> Result<(), (Obstacle, bool)> {
+    let (from_path, to_path) = match paths_of(from, to) {
+        Ok(paths) => paths,
+        Err(obstacle) => return Err((obstacle, true)),
+    };
+    match system::rename(to.rt, from_path, to_path) {
+        Ok(()) => Ok(()),
+        Err(error) => Err((Obstacle::from(error), is_begun(from))),
+    }
 }
 
 impl Device for NamedFile<'_> {
@@ -274,9 +291,9 @@ impl Replace for NamedFile<'_> {
     }
 
     fn put(&mut self, other: Self) -> Result<(), ReplaceError> {
-        if let Err(obstacle) = rename(&other, self) {
+        if let Err((obstacle, is_as_it_was)) = try_rename(&other, self) {
             let error = self.refuse(obstacle);
-            return Err(if is_begun(&other) {
+            return Err(if is_as_it_was {
                 ReplaceError::Refused(error)
             } else {
                 ReplaceError::Unfinished(error)
