@@ -180,7 +180,16 @@ abbrev pub IsOldOrAll : {D : Type 0} → Disk D → HistoryFile D → HistoryFil
 IsOldOrAll disk old new text =
     IsTrue disk.is_honest → (disk.seen new.journal.device ≡ disk.seen old.journal.device) ⊎ (disk.seen new.journal.device ≡ text)
 
--- what is refused leaves each history as it was, and more can be recorded after it
+-- the file has each history that it had, and more can be recorded after it
+abbrev pub KeepsHistories : {D : Type 0} → Disk D → HistoryFile D → HistoryFile D → Type 0
+KeepsHistories disk old new =
+    IsTrue disk.is_honest → (start : Start) (history : List Event) → HistoryKept disk old start history → HistoryKept disk new start history
+
+-- a crash at any moment leaves what it might have left before
+abbrev pub LeavesOld : {D : Type 0} → Disk D → HistoryFile D → HistoryFile D → Type 0
+LeavesOld disk old new = CrashLeaves disk old.journal.device new.journal.device (disk.may_leave old.journal.device)
+
+-- what is too long leaves each history as it was, and more can be recorded after it
 abbrev pub RefusalKeeps : {D : Type 0} → Disk D → HistoryFile D → HistoryFile D → Result (Unit {0}) JournalError → Type 0
 RefusalKeeps disk old new result =
     IsTrue disk.is_honest → IsErrOf result TooLong ⊎ IsErrOf result FullFile

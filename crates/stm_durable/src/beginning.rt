@@ -6,13 +6,14 @@ ghost use Rattle.stm_history.specs.Judgement.{AreShortLines, StartFits};
 ghost use Rattle.stm_history.specs.Starts.{written_start};
 ghost use Rattle.stm_journal.specs.Disk.{Shows, HasLength, IsOnDisk};
 ghost use Rattle.stm_journal.specs.NewFile.{written_bytes};
-ghost use Rattle.stm_durable.specs.Durable.{KeepsAny, KeepsHistory, LeavesOldOrAll, IsOldOrAll, RefusalKeeps, BeginsUnless};
+ghost use Rattle.stm_journal.specs.Replacing.{OnRefused, journal_result};
+ghost use Rattle.stm_durable.specs.Durable.{KeepsAny, KeepsHistory, KeepsHistories, LeavesOld, LeavesOldOrAll, IsOldOrAll, RefusalKeeps, BeginsUnless};
 
 use crate::measured::MeasuredFile;
 use crate::recording::HistoryFile;
 use std::alloc::Global;
 use stm_history::{WriteFault, write_start};
-use stm_journal::{Device, JournalError, NewFile, Replace};
+use stm_journal::{Device, JournalError, NewFile, Replace, ReplaceError};
 use stm_machine::Checkpoint;
 use stm_store::Table;
 
@@ -52,14 +53,15 @@ impl<D: Replace + Drop> HistoryFile<D> {
     /// Lets the history begin again, from a checkpoint and with no events. It writes the checkpoint to a new file beside the old
     /// one, syncs it, and puts it in the place of the old one.
     ///
-    /// A checkpoint with a line of more than 1 MiB is refused as `TooLong`, since no such line is read again. After any other error
-    /// than `TooLong` and `Full` nothing more can be recorded: open the file again. It is the old file or the new one.
+    /// A refusal leaves the file as it was, and more can be recorded in it. After any other error nothing more can be recorded: it is
+    /// the old file or the new one. A checkpoint with a line of more than 1 MiB is refused as `TooLong`, since no such line is read
+    /// again.
     pub fn begin_anew(
         &mut self,
         alloc: Global,
         table: &Table,
         checkpoint: &Checkpoint,
-    ) -> Result<(), JournalError>
+    ) -> Result<(), ReplaceError>
         requires kept { KeepsAny D.disk self.old }
         requires fit { StartFits (written_start table.now (Some checkpoint.now)) }
         ensures begins { OnOk result (KeepsHistory D.disk self.new (written_start table.now (Some checkpoint.now)) []) }
@@ -72,13 +74,33 @@ impl<D: Replace + Drop> HistoryFile<D> {
         // the one or the other.
         ensures any_moment { LeavesOldOrAll D.disk self.old self.new (start_text (written_start table.now (Some checkpoint.now))) }
         ensures left { OnErr result (IsOldOrAll D.disk self.old self.new (start_text (written_start table.now (Some checkpoint.now)))) }
-        ensures refused { RefusalKeeps D.disk self.old self.new result }
-        ensures fault { BeginsUnless D.disk (written_start table.now (Some checkpoint.now)) result }
+        // A refusal leaves each history as it was, and a crash at any moment of it what it might have left before.
+        ensures refused { OnRefused result (KeepsHistories D.disk self.old self.new) }
+        ensures refused_moment { OnRefused result (LeavesOld D.disk self.old self.new) }
+        ensures long { RefusalKeeps D.disk self.old self.new (journal_result result) }
+        ensures fault { BeginsUnless D.disk (written_start table.now (Some checkpoint.now)) (journal_result result) }
     {
-        let file = self.journal.new_file(alloc)?;
-        let (device, len) = write_new(alloc, file, table, checkpoint)?;
-        self.journal.replace(device, len)?;
-        self.begun = true;
-        Ok(())
+        let file = match self.journal.new_file(alloc) {
+            Ok(file) => file,
+            Err(error) => return Err(ReplaceError::Refused(error)),
+        };
+        let (device, len) = match write_new(alloc, file, table, checkpoint) {
+            Ok(new) => new,
+            Err(error) => return Err(ReplaceError::Refused(error)),
+        };
+        match self.journal.replace(device, len) {
+            Ok(()) => {
+                self.begun = true;
+                Ok(())
+            }
+            Err(error) => Err(error),
+        }
+    }
+
+    /// Reports why the history didn't begin again, unless that was reported since it did.
+    pub fn report(&mut self, error: JournalError)
+        ensures { IsTrue D.disk.is_honest → self.new ≡ self.old }
+    {
+        self.journal.report(error)
     }
 }

@@ -5,4 +5,4 @@ use Rattle.stm_durable.proofs.recording.HistoryFile.begin_anew.Goals as goal
 
 pub replace-requires-clause-lines : goal.replace-requires-clause-lines
 replace-requires-clause-lines g c honest =
-    subst IsWhole (sym (c.in_ok-device.ensures.text honest)) (IsWhole-start c.args.table.now (Some c.args.checkpoint.now) c.requires.fit)
+    subst IsWhole (sym (c.in-Ok-write_new.ensures.text honest)) (IsWhole-start c.args.table.now (Some c.args.checkpoint.now) c.requires.fit)
