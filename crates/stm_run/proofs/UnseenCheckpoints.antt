@@ -43,7 +43,7 @@ use Rattle.stm_run.specs.declared.console.Console.TheVariants.{Declaring, Open}
 use Rattle.stm_run.specs.Console.{command_named, answer_to, answers_to, state_after, initial_console, desk_step, command_step, word_step, class_step, step}
 use Rattle.stm_run.specs.ConsoleState.{present_desk, is_open, table_of, events_of, with_checkpoint}
 use Rattle.stm_run.specs.Laws.{state_after_lines}
-use Rattle.stm_run.specs.LineCheckpoints.{auto_checkpoint, auto_step, answers_by}
+use Rattle.stm_run.specs.LineCheckpoints.{auto_checkpoint, answers_by, command_checkpoints, word_checkpoints, class_checkpoints, line_checkpoints, Turn, turn_lines, refused_step, line_step}
 use Rattle.stm_run.specs.Unseen.{LookAlike, is_of_history, word_is_of_history, class_is_of_history, line_is_of_history, TellsFull, HaveRoom, AnswersTheSame, CheckpointsAreUnseenByCommands}
 use Rattle.stm_run.proofs.AlikeSteps.{AlikeSteps, NotFull, submit_alike, cancel_alike, finish_alike, handback_alike, deliver_alike, eval_alike, settle_order, drain_order, run_alike}
 use Rattle.stm_run.proofs.DeliveredJobs.{delivered_stands}
@@ -199,6 +199,47 @@ module _ (judged : (table : List Declared) (text : List ℕ) → BlockOrTold tab
   unfolding step
   line_alike b d d' st k line h = class_alike b d d' st k (line_class line) h
 
+-- ---- a line that isn't of the history makes no checkpoint, so nothing can keep it from that
+no_checkpoint_by : (s : Console) (c : Command) (argument : List ℕ) → is_of_history c ≡ false → command_checkpoints s c argument ≡ false
+no_checkpoint_by s Tvar argument h = refl
+no_checkpoint_by s Try argument h = refl
+no_checkpoint_by s Looks argument h = refl
+no_checkpoint_by s Submit argument h = refl
+no_checkpoint_by s Take argument h = refl
+no_checkpoint_by s Deliver argument h = refl
+no_checkpoint_by s Handback argument h = refl
+no_checkpoint_by s Eval argument h = refl
+no_checkpoint_by s Finish argument h = refl
+no_checkpoint_by s Cancel argument h = refl
+no_checkpoint_by s Show argument h = refl
+no_checkpoint_by s Reads argument h = refl
+no_checkpoint_by s Store argument h = refl
+no_checkpoint_by s Settle argument h = refl
+no_checkpoint_by s Drain argument h = refl
+no_checkpoint_by s History argument h = refl
+no_checkpoint_by s Ready argument h = refl
+no_checkpoint_by s Why argument h = refl
+no_checkpoint_by s Events argument h = refl
+no_checkpoint_by s Checkpoint argument h = absurd (cc h)
+
+no_checkpoint_word : (s : Console) (o : Option Command) (argument : List ℕ) → word_is_of_history o ≡ false → word_checkpoints s o argument ≡ false
+no_checkpoint_word s None argument h = refl
+no_checkpoint_word s (Some c) argument h = no_checkpoint_by s c argument h
+
+no_checkpoint_class : (s : Console) (c : LineClass) → class_is_of_history c ≡ false → class_checkpoints s c ≡ false
+no_checkpoint_class s TooLong h = refl
+no_checkpoint_class s Silent h = refl
+no_checkpoint_class s NotAscii h = refl
+no_checkpoint_class s (Words word argument) h = no_checkpoint_word s (command_named word) argument h
+
+no_checkpoint : (s : Console) (line : List ℕ) → line_is_of_history line ≡ false → line_checkpoints s line ≡ false
+unfolding line_checkpoints
+no_checkpoint s line h = no_checkpoint_class s (line_class line) h
+
+refused_as_step : (s : Console) (line : List ℕ) → line_is_of_history line ≡ false → refused_step s line ≡ step s line
+refused_as_step s line h =
+    ap (λ (b : Bool). cond {A = Console × List ℕ} b (Open (present_desk s), refused (codes "NoCheckpoint")) (step s line)) (no_checkpoint s line h)
+
 -- ---- checkpoints
 low_next : (d : OpenDesk) → are_tickets_full d ≡ false → (state_of d.desk).next ≤ max_next
 low_next d e = grind (arith, nat_tests)
@@ -308,22 +349,40 @@ module _ (blocks : BlockAnswersAreRight) (declarations : DeclarationAnswersAreRi
   to_related (Declaring table limit) s k = absurd k
   to_related (Open d) s k = k
 
-  answers_alike : (every : ℕ) (lines : List (List ℕ)) (t s : Console) → IsReached t → IsReached s → Related t s → HaveRoom t lines → answers_by every s lines ≡ answers_to t lines
+  -- whether a checkpoint comes after a line, if it can be made
+  abbrev comes_after : Console → List ℕ → Option (Unit {0}) → Bool
+  comes_after s line None = nat_lt (length (events_of s)) (length (events_of (state_after s line)))
+  comes_after s line (Some cause) = false
+
+  turn_state : (every : ℕ) (s : Console) (line : List ℕ) (r : Option (Unit {0})) → line_is_of_history line ≡ false
+      → (line_step every s line r).0 ≡ cond (comes_after s line r) (auto_checkpoint every (state_after s line)) (state_after s line)
+  turn_state every s line None h = refl
+  turn_state every s line (Some cause) h = ap (λ (p : Console × List ℕ). p.0) (refused_as_step s line h)
+
+  turn_text : (every : ℕ) (s : Console) (line : List ℕ) (r : Option (Unit {0})) → line_is_of_history line ≡ false → (line_step every s line r).1 ≡ answer_to s line
+  turn_text every s line None h = refl
+  turn_text every s line (Some cause) h = ap (λ (p : Console × List ℕ). p.1) (refused_as_step s line h)
+
+  answers_alike : (every : ℕ) (turns : List (Turn (Unit {0}))) (t s : Console) → IsReached t → IsReached s → Related t s → HaveRoom t (turn_lines turns) → answers_by every s turns ≡ answers_to t (turn_lines turns)
   answers_alike every [] t s r r' k room = refl
-  answers_alike every (line ∷ rest) (Declaring table limit) s r r' k room =
+  answers_alike every (turn ∷ rest) (Declaring table limit) s r r' k room =
       let t : Console = Declaring table limit in
-      let c = nat_lt (length (events_of t)) (length (events_of (state_after t line))) in
+      let line = turn.line in
+      let c = comes_after t line turn.refused in
       let after = after_line t r line in
-      subst (λ (x : Console). answers_by every x (line ∷ rest) ≡ answers_to t (line ∷ rest)) (sym k)
-      (ap (λ (more : List ℕ). answer_to t line ++ more)
-      (answers_alike every rest (state_after t line) (auto_step every t (state_after t line)) after (step_reached every c (state_after t line) after) (opened_related every c (state_after t line) after) room.2))
-  answers_alike every (line ∷ rest) (Open d) s r r' k room =
+      subst (λ (x : Console). answers_by every x (turn ∷ rest) ≡ answers_to t (turn_lines (turn ∷ rest))) (sym k)
+      (ap₂ (λ (x y : List ℕ). x ++ y) (turn_text every t line turn.refused room.0)
+      (ap (λ (x : Console). answers_by every x rest) (turn_state every t line turn.refused room.0)
+      ∙ answers_alike every rest (state_after t line) (cond c (auto_checkpoint every (state_after t line)) (state_after t line)) after (step_reached every c (state_after t line) after) (opened_related every c (state_after t line) after) room.2))
+  answers_alike every (turn ∷ rest) (Open d) s r r' k room =
       let t : Console = Open d in
+      let line = turn.line in
       let next = one_line true t s r k line room.0 (room.1, λ e. absurd (cc e)) in
-      let c = nat_lt (length (events_of s)) (length (events_of (state_after s line))) in
+      let c = comes_after s line turn.refused in
       let after = after_line s r' line in
-      ap₂ (λ (x y : List ℕ). x ++ y) (sym next.1)
-      (answers_alike every rest (state_after t line) (auto_step every s (state_after s line)) (after_line t r line) (step_reached every c (state_after s line) after)
+      ap₂ (λ (x y : List ℕ). x ++ y) (turn_text every s line turn.refused room.0 ∙ sym next.1)
+      (ap (λ (x : Console). answers_by every x rest) (turn_state every s line turn.refused room.0)
+      ∙ answers_alike every rest (state_after t line) (cond c (auto_checkpoint every (state_after s line)) (state_after s line)) (after_line t r line) (step_reached every c (state_after s line) after)
       (to_related (state_after t line) _ (step_related every c (state_after t line) (state_after s line) after next.0)) room.2)
 
   pub unseen_by_commands : CheckpointsAreUnseenByCommands
@@ -336,7 +395,7 @@ module _ (blocks : BlockAnswersAreRight) (declarations : DeclarationAnswersAreRi
         let r = reached blocks declarations faults stable checked m low before in
         let next = one_line false s s' r (from_look s s' r (reached blocks declarations faults stable checked m low before') k) line h (n, λ e. n') in
         record { answer = next.1; after = to_look false (state_after s line) (state_after s' line) next.0 };
-    automatic = λ m low every lines room.
+    automatic = λ m low every turns room.
         let first = start_reached blocks declarations faults stable checked m low in
-        answers_alike every lines (initial_console m) (initial_console m) first first refl room;
+        answers_alike every turns (initial_console m) (initial_console m) first first refl room;
   }

@@ -1,9 +1,12 @@
 -- What the code's replies are to the definitions.
-use Rattle.std.specs.Prelude.{◌≡◌, ℕ, List, [], ◌++◌}
+use Rattle.std.specs.Prelude.{◌≡◌, ℕ, true, List, [], ◌++◌}
 use Rattle.stm_run.specs.declared.console.Console.{Console}
 use Rattle.stm_run.specs.declared.console.Console.TheVariants.{Declaring, Open}
+use Rattle.stm_run.specs.Console.{on_console}
+use Rattle.stm_run.specs.ConsoleState.{present_desk, is_open}
 use Rattle.stm_run.specs.declared.reply.Reply.{Reply}
 use Rattle.stm_run.specs.declared.reply.Reply.TheVariants as reply
+use Rattle.stm_commands.specs.Checkpointing.{checkpoint_now}
 use Rattle.stm_commands.specs.Questions.{later_events_text}
 use Rattle.stm_commands.specs.Contents.{events_text}
 
@@ -17,12 +20,13 @@ abbrev pub later_events_of : Console → ℕ → List ℕ
 later_events_of (Open d) n = later_events_text d n
 later_events_of (Declaring table limit) n = []
 
--- the answer was appended to the text; or it is the history, or a part of it, which is to be written
+-- The answer was appended to the text; or it is the history, or a part of it, which is to be written. If a checkpoint is to be made,
+-- the answer is not known yet, and nothing was appended.
 abbrev pub IsReply : Reply → List ℕ → List ℕ → Console → List ℕ → Type 0
 IsReply reply.Text old new c answer = new ≡ old ++ answer
 IsReply reply.History old new c answer = (new ≡ old) × (answer ≡ history_of c)
 IsReply (reply.Events n) old new c answer = (new ≡ old) × (answer ≡ later_events_of c n)
-IsReply reply.Checkpoint old new c answer = new ≡ old ++ answer
+IsReply reply.Checkpoint old new c answer = new ≡ old
 
 -- what a reply is to write, by the console after the step and what was appended to an empty text
 abbrev pub reply_text : Reply → Console → List ℕ → List ℕ
@@ -31,6 +35,13 @@ reply_text reply.History c appended = history_of c
 reply_text (reply.Events n) c appended = later_events_of c n
 reply_text reply.Checkpoint c appended = appended
 
--- this is the console after a step, and the reply is what the step writes
+-- This is the console after a step; or if a checkpoint is to be made, the open desk before it.
+abbrev pub IsAfter : Reply → Console → Console × List ℕ → Type 0
+IsAfter reply.Text c s = c ≡ s.0
+IsAfter reply.History c s = c ≡ s.0
+IsAfter (reply.Events n) c s = c ≡ s.0
+IsAfter reply.Checkpoint c s = (is_open c ≡ true) × (s ≡ on_console (checkpoint_now (present_desk c)))
+
+-- this is the console, and the reply is what the step writes
 abbrev pub IsStep : Reply → List ℕ → List ℕ → Console → Console × List ℕ → Type 0
-IsStep r old new c s = (c ≡ s.0) × IsReply r old new c s.1
+IsStep r old new c s = IsAfter r c s × IsReply r old new c s.1

@@ -13,7 +13,7 @@ use Rattle.stm_run.specs.declared.console.Console.{Console}
 use Rattle.stm_run.specs.Console.{command_named, answer_to, answers_to, state_after, initial_console}
 use Rattle.stm_run.specs.ConsoleState.{present_desk, is_open, table_of, with_checkpoint}
 use Rattle.stm_run.specs.Laws.{state_after_lines}
-use Rattle.stm_run.specs.LineCheckpoints.{answers_by}
+use Rattle.stm_run.specs.LineCheckpoints.{Turn, turn_lines, answers_by}
 
 -- ---- consoles that look alike
 -- Both desks are open on the same table, take as many events, have the same tickets queued and out and the same jobs, and the same is
@@ -85,8 +85,8 @@ pub record CheckpointsAreUnseenByCommands : Type 0 where
       → ¬ TellsFull (answer_to (state_after_lines (initial_console max_events) before) line)
       → ¬ TellsFull (answer_to (state_after_lines (initial_console max_events) before') line)
       → AnswersTheSame (state_after_lines (initial_console max_events) before) (state_after_lines (initial_console max_events) before') line
-  -- so a run that makes checkpoints by itself answers as one that makes none
+  -- so a run that makes checkpoints by itself, whichever of them can't be made, answers as one that makes none
   pub automatic :
-      (max_events : ℕ) → max_events ≤ slow.max_events → (every : ℕ) (lines : List (List ℕ))
-      → HaveRoom (initial_console max_events) lines
-      → answers_by every (initial_console max_events) lines ≡ answers_to (initial_console max_events) lines
+      (max_events : ℕ) → max_events ≤ slow.max_events → (every : ℕ) (turns : List (Turn (Unit {0})))
+      → HaveRoom (initial_console max_events) (turn_lines turns)
+      → answers_by every (initial_console max_events) turns ≡ answers_to (initial_console max_events) (turn_lines turns)

@@ -1,15 +1,17 @@
 //! What the console knows, and its answer to a line.
 
-ghost use Rattle.std.specs.Prelude.{◌≡◌, ◌++◌, [], true, false, length, Some, string_bytes, OnOk, OnErr, IfOk};
+ghost use Rattle.std.specs.Prelude.{◌≡◌, ◌++◌, [], true, false, not, length, Some, is_some, string_bytes, OnOk, OnErr, IfOk, IfSome};
 ghost use Rattle.stm_history.specs.HistoryText.{WritesText};
 ghost use Rattle.stm_commands.specs.Contents.{history_answer};
 ghost use Rattle.stm_commands.specs.OpenDesk.{Steps};
 ghost use Rattle.stm_commands.specs.Questions.{events_answer};
 ghost use Rattle.stm_run.specs.Abstraction.{IsReply, IsStep, history_of, later_events_of};
 ghost use Rattle.stm_run.specs.Console.{initial_console, command_named, desk_step, on_console, word_step, step};
-ghost use Rattle.stm_commands.specs.Checkpointing.{checkpoint_step, makes_checkpoint};
-ghost use Rattle.stm_run.specs.ConsoleState.{present_desk, events_of, with_checkpoint};
-ghost use Rattle.stm_run.specs.LineCheckpoints.{tells_checkpoint, is_streamed, command_checkpoints, word_checkpoints, line_checkpoints, auto_checkpoint};
+ghost use Rattle.stm_machine.specs.Checkpoints.{MayStart, checkpoint_of};
+ghost use Rattle.stm_desk.specs.DeskView.{state_of};
+ghost use Rattle.stm_commands.specs.Checkpointing.{are_tickets_full, checkpoint_now, checkpoint_step, makes_checkpoint};
+ghost use Rattle.stm_run.specs.ConsoleState.{present_desk, is_open, table_of, events_of, with_checkpoint};
+ghost use Rattle.stm_run.specs.LineCheckpoints.{asks_checkpoint, reply_checkpoints, is_streamed, command_checkpoints, word_checkpoints, line_checkpoints};
 ghost use Rattle.stm_run.specs.Declaring.{tvar_line, tvar_step};
 ghost use Rattle.stm_run.specs.declared.console.Console.TheVariants.{Open as IsOpen};
 
@@ -23,7 +25,7 @@ use std::thread::Threads;
 use stm_blocks::declaring::declare;
 use stm_commands::refusals::{refuse, refuse_argument, write_refusal};
 use stm_commands::{OpenDesk, Threading};
-use stm_desk::Desk;
+use stm_desk::{Checkpoint, Desk};
 use stm_history::WriteFault;
 use stm_lines::arguments::number_of;
 use stm_lines::judging::{Judgement, judge};
@@ -51,7 +53,8 @@ fn write_declared(number: u32, name: &str, out: &mut String) -> Result<(), NoMem
 fn answer_history(desk: &OpenDesk, argument: &str, out: &mut String) -> Result<Reply, NoMemory>
     ensures reply { IfOk result (λ r. IsReply r (string_bytes out.old) (string_bytes out.new)
         (IsOpen desk.now) (history_answer desk.now argument.now)) }
-    ensures made { IfOk result (λ r. tells_checkpoint r ≡ false) }
+    ensures asked { IfOk result (λ r. asks_checkpoint r ≡ false) }
+    ensures made { IfOk result (λ r. reply_checkpoints desk.now r ≡ false) }
 {
     if argument.is_empty() {
         return Ok(Reply::History);
@@ -64,7 +67,8 @@ fn answer_history(desk: &OpenDesk, argument: &str, out: &mut String) -> Result<R
 fn answer_events(desk: &OpenDesk, argument: &str, out: &mut String) -> Result<Reply, NoMemory>
     ensures reply { IfOk result (λ r. IsReply r (string_bytes out.old) (string_bytes out.new)
         (IsOpen desk.now) (events_answer desk.now argument.now)) }
-    ensures made { IfOk result (λ r. tells_checkpoint r ≡ false) }
+    ensures asked { IfOk result (λ r. asks_checkpoint r ≡ false) }
+    ensures made { IfOk result (λ r. reply_checkpoints desk.now r ≡ false) }
 {
     match number_of(argument.as_bytes()) {
         Some(n) => Ok(Reply::Events(n)),
@@ -72,23 +76,18 @@ fn answer_events(desk: &OpenDesk, argument: &str, out: &mut String) -> Result<Re
     }
 }
 
-/// Answers `checkpoint`.
-fn answer_checkpoint(
-    desk: &mut OpenDesk,
-    argument: &str,
-    out: &mut String,
-) -> Result<Reply, NoMemory>
+/// Answers `checkpoint`: it is still to be made, unless there is an argument.
+#[tactic(auto, unfolding(stm_commands::specs::Checkpointing::checkpoint_step))]
+fn answer_checkpoint(desk: &OpenDesk, argument: &str, out: &mut String) -> Result<Reply, NoMemory>
     ensures step { IfOk result (λ r. IsStep r (string_bytes out.old) (string_bytes out.new)
-        (IsOpen desk.new) (on_console (checkpoint_step desk.old argument.now))) }
-    ensures made { IfOk result (λ r. tells_checkpoint r ≡ makes_checkpoint desk.old argument.now) }
-    ensures streamed { IfOk result (λ r. is_streamed r ≡ true
-        → desk.new.desk.history ≡ desk.old.desk.history) }
+        (IsOpen desk.now) (on_console (checkpoint_step desk.now argument.now))) }
+    ensures made { IfOk result (λ r. reply_checkpoints desk.now r ≡ makes_checkpoint desk.now argument.now) }
+    ensures streamed { IfOk result (λ r. is_streamed r ≡ false) }
 {
-    if desk.answer_checkpoint(argument, out)? {
-        Ok(Reply::Checkpoint)
-    } else {
-        Ok(Reply::Text)
+    if argument.is_empty() {
+        return Ok(Reply::Checkpoint);
     }
+    refuse_argument(out).and(Ok(Reply::Text))
 }
 
 /// Answers a command on the open desk, and starts no thread.
@@ -101,7 +100,8 @@ fn answer_on_desk_here(
 ) -> Result<Reply, NoMemory>
     ensures step { IfOk result (λ r. IsStep r (string_bytes out.old) (string_bytes out.new)
         (IsOpen desk.new) (on_console (desk_step desk.old command argument.now))) }
-    ensures made { IfOk result (λ r. tells_checkpoint r
+    ensures asked { IfOk result (λ r. asks_checkpoint r ≡ true → desk.new ≡ desk.old) }
+    ensures made { IfOk result (λ r. reply_checkpoints desk.old r
         ≡ command_checkpoints (IsOpen desk.old) command argument.now) }
     ensures streamed { IfOk result (λ r. is_streamed r ≡ true
         → desk.new.desk.history ≡ desk.old.desk.history) }
@@ -143,7 +143,8 @@ fn answer_on_desk<T: Threads + Sync>(
 ) -> Result<Reply, NoMemory>
     ensures step { IfOk result (λ r. IsStep r (string_bytes out.old) (string_bytes out.new)
         (IsOpen desk.new) (on_console (desk_step desk.old command argument.now))) }
-    ensures made { IfOk result (λ r. tells_checkpoint r
+    ensures asked { IfOk result (λ r. asks_checkpoint r ≡ true → desk.new ≡ desk.old) }
+    ensures made { IfOk result (λ r. reply_checkpoints desk.old r
         ≡ command_checkpoints (IsOpen desk.old) command argument.now) }
     ensures streamed { IfOk result (λ r. is_streamed r ≡ true
         → desk.new.desk.history ≡ desk.old.desk.history) }
@@ -234,7 +235,8 @@ impl Console {
     ) -> Result<Reply, NoMemory>
         ensures step { IfOk result (λ r. IsStep r (string_bytes out.old) (string_bytes out.new)
             self.new (word_step self.old (command_named word.now) argument.now)) }
-        ensures made { IfOk result (λ r. tells_checkpoint r
+        ensures asked { IfOk result (λ r. asks_checkpoint r ≡ true → self.new ≡ IsOpen (present_desk self.old)) }
+        ensures made { IfOk result (λ r. reply_checkpoints (present_desk self.old) r
             ≡ word_checkpoints self.old (command_named word.now) argument.now) }
         ensures streamed { IfOk result (λ r. is_streamed r ≡ true
             → events_of self.new ≡ events_of self.old) }
@@ -292,7 +294,7 @@ impl Console {
         }
     }
 
-    /// Appends the answer to a line, or says that it is the history. Tells whether a checkpoint was made.
+    /// Appends the answer to a line, or says that it is the history, or that a checkpoint is to be made (`answer_checkpoint`).
     #[tactic(auto, unfolding(crate::specs::Console::step, crate::specs::LineCheckpoints::line_checkpoints))]
     pub fn answer<T: Threads + Sync>(
         &mut self,
@@ -304,7 +306,9 @@ impl Console {
     ) -> Result<Reply, NoMemory>
         ensures step { IfOk result (λ r. IsStep r (string_bytes out.old) (string_bytes out.new)
             self.new (step self.old line.now)) }
-        ensures made { IfOk result (λ r. tells_checkpoint r ≡ line_checkpoints self.old line.now) }
+        // If a checkpoint is to be made, the desk is open, and otherwise as before.
+        ensures asked { IfOk result (λ r. asks_checkpoint r ≡ true → self.new ≡ IsOpen (present_desk self.old)) }
+        ensures made { IfOk result (λ r. reply_checkpoints (present_desk self.old) r ≡ line_checkpoints self.old line.now) }
         // What is still to be written is the answer to a line that adds no event.
         ensures streamed { IfOk result (λ r. is_streamed r ≡ true
             → events_of self.new ≡ events_of self.old) }
@@ -330,17 +334,59 @@ impl Console {
         }
     }
 
-    /// Makes a checkpoint if the desk is open, its history has at least `every` events, and no tickets could run out after it.
-    /// Returns whether it was made.
-    pub fn checkpoint(&mut self, every: u32) -> Result<bool, NoMemory>
-        ensures state { OnOk result (self.new ≡ auto_checkpoint every self.old) }
-        ensures begun { IfOk result (λ made. made ≡ true → self.new ≡ with_checkpoint self.old) }
-        ensures same { IfOk result (λ made. made ≡ false → self.new ≡ self.old) }
-        ensures unchanged { OnErr result (self.new ≡ self.old) }
+    /// Whether the desk is open.
+    pub fn is_open(&self) -> bool
+        ensures { result ≡ is_open self.now }
+    {
+        matches!(self, Console::Open(_))
+    }
+
+    /// The declared variables.
+    pub fn table(&self) -> &Table
+        ensures { result.now ≡ table_of self.now }
     {
         match self {
-            Console::Declaring { .. } => Ok(false),
-            Console::Open(desk) => desk.checkpoint_if(every),
+            Console::Declaring { table, .. } => table,
+            Console::Open(desk) => desk.table(),
+        }
+    }
+
+    /// The checkpoint of the present state of the open desk, from which the history can begin (`begin_from`); none if tickets could run
+    /// out after it.
+    pub fn next_checkpoint(&self) -> Result<Option<Checkpoint>, NoMemory>
+        requires { is_open self.now ≡ true }
+        ensures made { IfOk result (λ o. is_some o ≡ not (are_tickets_full (present_desk self.now))) }
+        ensures taken { IfOk result (λ o. IfSome o (λ c. c ≡ checkpoint_of (state_of (present_desk self.now).desk))) }
+        ensures start { IfOk result (λ o. IfSome o (λ c. MayStart (table_of self.now) (Some c))) }
+    {
+        match self {
+            Console::Declaring { .. } => unreachable!(),
+            Console::Open(desk) => desk.next_checkpoint(),
+        }
+    }
+
+    /// Lets the history of the open desk begin from the checkpoint of its present state, and returns how many events it had.
+    pub fn begin_from(&mut self, checkpoint: Checkpoint) -> u32
+        requires open { is_open self.old ≡ true }
+        requires taken { checkpoint ≡ checkpoint_of (state_of (present_desk self.old).desk) }
+        ensures count { result ≡ length (events_of self.old) }
+        ensures begun { self.new ≡ with_checkpoint self.old }
+    {
+        match self {
+            Console::Declaring { .. } => unreachable!(),
+            Console::Open(desk) => desk.begin_from(checkpoint),
+        }
+    }
+
+    /// Makes the checkpoint that the open desk was asked for, unless tickets could run out after it, and appends the answer.
+    pub fn answer_checkpoint(&mut self, out: &mut String) -> Result<(), NoMemory>
+        requires { is_open self.old ≡ true }
+        ensures { OnOk result (Steps self.new (string_bytes out.old) (string_bytes out.new)
+            (on_console (checkpoint_now (present_desk self.old)))) }
+    {
+        match self {
+            Console::Declaring { .. } => unreachable!(),
+            Console::Open(desk) => desk.answer_checkpoint(out),
         }
     }
 

@@ -9,6 +9,6 @@ pub enum Reply {
     History,
     /// It is the events from the one with this number on, counted from 1, and how many there are: still to be written, too.
     Events(u32),
-    /// In the text that was appended; and a checkpoint was made, from which the history begins.
+    /// Not known yet: it is asked for a checkpoint, which is still to be made.
     Checkpoint,
 }

@@ -1,9 +1,10 @@
 //! A run under way: lines in, answers out.
 
-ghost use Rattle.std.specs.Prelude.{◌≡◌, ◌≢◌, ℕ, List, string_bytes, OnOk, OnErr, IfErr};
+ghost use Rattle.std.specs.Prelude.{◌≡◌, ◌≢◌, ℕ, List, [], string_bytes, OnOk, OnErr, IfErr};
 ghost use Rattle.std.specs.Io.KnownBytes.{Appends};
 ghost use Rattle.stm_terms.specs.Texts.{IsPrefixOf};
-ghost use Rattle.stm_run.specs.Abstraction.{reply_text};
+ghost use Rattle.stm_run.specs.declared.console.Console.{Console as AnyConsole};
+ghost use Rattle.stm_run.specs.Abstraction.{IsStep, reply_text};
 ghost use Rattle.stm_run.specs.Console.{initial_console, answer_to, state_after};
 
 use crate::console::Console;
@@ -99,6 +100,30 @@ impl Session {
         }
     }
 
+    /// Makes the checkpoint that a line asked for, if it did, and writes the reply.
+    fn finish_line<W: Write>(
+        &mut self,
+        alloc: Global,
+        reply: Reply,
+        writer: &mut W,
+    ) -> Result<(), RunFault>
+        requires { (s : AnyConsole × List ℕ) × IsStep reply [] (string_bytes self.old.answer) self.old.console s }
+        ensures done { OnOk result ((s : AnyConsole × List ℕ) → IsStep reply [] (string_bytes self.old.answer) self.old.console s
+            → Appends (W.contents writer.old) (W.contents writer.new) s.1) }
+        ensures state { OnOk result ((s : AnyConsole × List ℕ) → IsStep reply [] (string_bytes self.old.answer) self.old.console s
+            → self.new.console ≡ s.0) }
+        ensures part { OnErr result ((s : AnyConsole × List ℕ) → IsStep reply [] (string_bytes self.old.answer) self.old.console s
+            → (front : List ℕ) × IsPrefixOf front s.1 × Appends (W.contents writer.old) (W.contents writer.new) front) }
+        ensures fault { IfErr result (λ e. e ≢ RunFault.Read) }
+    {
+        if let Reply::Checkpoint = reply {
+            if self.console.answer_checkpoint(&mut self.answer).is_err() {
+                return Err(RunFault::NoMemory);
+            }
+        }
+        self.write_reply(alloc, reply, writer)
+    }
+
     /// Answers a line.
     pub fn answer_line<T: Threads + Sync, W: Write>(
         &mut self,
@@ -120,7 +145,7 @@ impl Session {
             .console
             .answer(rt, alloc, self.threading, line, &mut self.answer)
         {
-            Ok(reply) => self.write_reply(alloc, reply, writer),
+            Ok(reply) => self.finish_line(alloc, reply, writer),
             Err(_) => Err(RunFault::NoMemory),
         }
     }
@@ -146,7 +171,7 @@ impl Session {
             return Err(RunFault::NoMemory);
         }
         match self.console.answer_here(alloc, line, &mut self.answer) {
-            Ok(reply) => self.write_reply(alloc, reply, writer),
+            Ok(reply) => self.finish_line(alloc, reply, writer),
             Err(_) => Err(RunFault::NoMemory),
         }
     }
