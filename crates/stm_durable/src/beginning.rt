@@ -99,7 +99,8 @@ impl<D: Replace + Drop> HistoryFile<D> {
 
     /// Reports why the history didn't begin again, unless that was reported since it did.
     pub fn report(&mut self, error: JournalError)
-        ensures { IsTrue D.disk.is_honest → self.new ≡ self.old }
+        ensures same { IsTrue D.disk.is_honest → self.new ≡ self.old }
+        ensures sync { self.new.journal.sync ≡ self.old.journal.sync }
     {
         self.journal.report(error)
     }
