@@ -138,8 +138,9 @@ def judge_refused(done, path, status, message):
 
 
 def uncounted(printed):
-    """What was printed, without the number of events that a checkpoint let go: it depends on the checkpoints that came by themselves."""
-    return re.sub(rb"(?m)^checkpoint \d+$", b"checkpoint", printed)
+    """What was printed, without the number of events that a checkpoint let go, which depends on the checkpoints that came by themselves, and
+    without whether it could be made."""
+    return re.sub(rb"(?m)^(checkpoint \d+|refused NoCheckpoint)$", b"checkpoint", printed)
 
 
 def text_of(lines):

@@ -324,7 +324,8 @@ class Desk:
         """Lets the events so far go, and returns how many there were: the history begins again from where the desk is. No other answer
         differs but what `history` and `events` return, and `why` of a block that is stale already; and the history has room again.
 
-        With a journal this is done by itself when the history has `checkpoint_every` events, and the file becomes short.
+        With a journal this is done by itself when the history has `checkpoint_every` events, and the file becomes short. If no new file
+        can take the place of the old one, `Refused` is raised with the name `NoCheckpoint`, and the desk goes on in the old file.
 
         >>> ticket = desk.submit("retry")
         >>> desk.checkpoint(), desk.checkpoint(), desk.show()

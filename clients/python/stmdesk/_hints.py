@@ -81,6 +81,7 @@ _NAMES = {
     "Late": "declare all variables before the first other command",
     "LineTooLong": "a command has at most 65,536 bytes",
     "NameTooLong": "a name has at most 32 bytes",
+    "NoCheckpoint": "no new file could take the place of the journal: standard error says why, and the desk goes on in the old file",
     "NoJob": "`take` has handed out no job of this number",
     "NoTicket": "no block waits under this ticket: it finished, or was cancelled, or never was",
     "NotAVariable": "a variable is needed here, and this is a value",

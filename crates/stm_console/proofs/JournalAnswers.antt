@@ -1,6 +1,7 @@
 -- That a run on a file does what its definition says.
-use Rattle.std.proofs.Common.{◌≡◌, ◌<◌, ℕ, Bool, List, inl, inr, refl, subst, Option, Some, None}
-use Rattle.std.specs.Prelude.{◌⊎◌, IfSome, IsTrue}
+use Rattle.std.proofs.Common.{◌≡◌, ◌<◌, ℕ, Bool, List, [], ◌∷◌, ◌++◌, inl, inr, refl, sym, ap, ◌∙◌, subst, Option, Some, None}
+use Rattle.std.specs.Prelude.{◌⊎◌, IfSome, IsTrue, option_map}
+use Rattle.std.specs.Io.KnownBytes.{Appends}
 use Rattle.stm_history.specs.declared.files.fault.HistoryFault.TheVariants as history_fault
 use Rattle.stm_history.specs.declared.files.loading.LoadFault.{LoadFault}
 use Rattle.stm_history.specs.declared.files.loading.LoadFault.TheVariants.{Fault, OldFormat}
@@ -11,6 +12,9 @@ use Rattle.stm_journal.specs.Text.{recovered, dropped_count}
 use Rattle.stm_durable.specs.Durable.{ReportsOpenFault}
 use Rattle.stm_durable.specs.declared.resuming.OpenFault.{OpenFault}
 use Rattle.stm_durable.specs.declared.resuming.OpenFault.TheVariants.{Journal, History, Foreign}
+use Rattle.stm_lines.specs.Lines.{lines_of}
+use Rattle.stm_run.specs.declared.console.Console.{Console}
+use Rattle.stm_run.specs.LineCheckpoints.{Turn, turn_lines, line_step, answer_by, state_after_turn, answers_by, ForTurns}
 use Rattle.stm_durable_run.specs.DurableRun.{durable_status}
 use Rattle.stm_durable_run.specs.declared.fault.DurableFault.{DurableFault}
 use Rattle.stm_durable_run.specs.declared.fault.DurableFault.TheVariants as durable_fault
@@ -18,6 +22,7 @@ use Rattle.stm_console.specs.ExitStatus.{IsFailure}
 use Rattle.stm_console.specs.Journal.{HasNoHistory, IsFaultOfBytes, open_status, unopened_status}
 use Rattle.stm_console.specs.declared.files.OpenError.{OpenError}
 use Rattle.stm_console.specs.declared.files.OpenError.TheVariants as open_error
+use Rattle.stm_console.specs.Program.{OverLines}
 use Rattle.stm_console.specs.declared.status.TheConstants.{NOT_RIGHT}
 use Rattle.stm_console.proofs.ProgramAnswers.{failed}
 
@@ -26,6 +31,40 @@ pub known : (P : List ℕ → Type 0) (honest : Bool) (contents : Option (List �
     → IfSome contents (λ bytes. IsTrue honest × (seen ≡ bytes)) → (IsTrue honest → P seen) → IfSome contents P
 known P honest None seen is h = tt
 known P honest (Some bytes) seen is h = subst P is.1 (h is.0)
+
+-- ---- why a checkpoint couldn't be made isn't said here
+abbrev forget : {Cause : Type 0} → List (Turn Cause) → List (Turn (Unit {0}))
+forget [] = []
+forget (turn ∷ turns) = record { line = turn.line; refused = option_map (λ c. tt) turn.refused } ∷ forget turns
+
+same_lines : {Cause : Type 0} (turns : List (Turn Cause)) → turn_lines (forget turns) ≡ turn_lines turns
+same_lines [] = refl
+same_lines (turn ∷ turns) = ap (λ (ls : List (List ℕ)). turn.line ∷ ls) (same_lines turns)
+
+same_step : {Cause : Type 0} (every : ℕ) (s : Console) (line : List ℕ) (refused : Option Cause) → line_step every s line (option_map (λ c. tt {0}) refused) ≡ line_step every s line refused
+same_step every s line None = refl
+same_step every s line (Some c) = refl
+
+same_answers : {Cause : Type 0} (every : ℕ) (s : Console) (turns : List (Turn Cause)) → answers_by every s (forget turns) ≡ answers_by every s turns
+same_answers every s [] = refl
+same_answers every s (turn ∷ turns) =
+    let e = same_step every s turn.line turn.refused in
+    ap (λ (p : Console × List ℕ). p.1 ++ answers_by every p.0 (forget turns)) e
+    ∙ ap (λ (text : List ℕ). answer_by every s turn ++ text) (same_answers every (state_after_turn every s turn) turns)
+
+-- what holds of a run's answers holds of them without the causes
+pub over_lines : {Cause : Type 0} (every : ℕ) (s : Console) (input : Option (List ℕ)) (P : List ℕ → Type 0)
+    → IfSome input (λ bytes. ForTurns Cause (lines_of bytes) (λ turns. P (answers_by every s turns)))
+    → IfSome input (λ bytes. OverLines bytes (λ turns. P (answers_by every s turns)))
+over_lines every s None P h = tt
+over_lines every s (Some bytes) P h = (forget h.0, same_lines h.0 ∙ h.1, subst P (sym (same_answers every s h.0)) h.2)
+
+-- all was answered
+pub answered_lines : {Cause : Type 0} (every : ℕ) (s : Console) (input old new : Option (List ℕ)) (K : List (Turn Cause) → Type 0)
+    → IfSome input (λ bytes. ForTurns Cause (lines_of bytes) (λ turns. Appends old new (answers_by every s turns) × K turns))
+    → IfSome input (λ bytes. OverLines bytes (λ turns. Appends old new (answers_by every s turns)))
+answered_lines every s None old new K h = tt
+answered_lines every s (Some bytes) old new K h = over_lines every s (Some bytes) (Appends old new) (h.0, h.1, h.2.0)
 
 -- ---- what failed
 

@@ -9,7 +9,7 @@ use Rattle.stm_journal.specs.Text.{recovered}
 use Rattle.stm_durable.specs.Durable.{LoadsFront}
 use Rattle.stm_run.specs.declared.console.Console.{Console}
 use Rattle.stm_run.specs.Console.{console_text}
-use Rattle.stm_run.specs.LineCheckpoints.{answers_by}
+use Rattle.stm_run.specs.LineCheckpoints.{Turn, answers_by, ForTurns}
 use Rattle.stm_options.specs.declared.options.Options.{Options}
 use Rattle.stm_durable_run.specs.DurableRun.{resumed_console}
 use Rattle.stm_storm.specs.StormText.{IsFailedStormText, IsStormText}
@@ -88,12 +88,16 @@ WritesPartOf s text = AppendsPartOf s.before s.after text
 
 -- ---- a run on a file
 
+-- this holds of the lines of an input, if for some of them the checkpoint can't be made; the contract of `run_durable` says why it can't
+abbrev pub OverLines : List ℕ → (List (Turn (Unit {0})) → Type 0) → Type 0
+OverLines input P = ForTurns (Unit {0}) (lines_of input) P
+
 -- a run that begins as this console, and makes a checkpoint by itself at as many events as this, writes the whole text of its input, or a part
 -- of it
 abbrev pub RunsFrom : ℕ → Console → Streams → ℕ → Type 0
 RunsFrom every console s status =
-    ((status ≡ DONE) × IfSome s.input (λ input. Writes s (answers_by every console (lines_of input))))
-    ⊎ (IsFailure status × IfSome s.input (λ input. WritesPartOf s (answers_by every console (lines_of input))))
+    ((status ≡ DONE) × IfSome s.input (λ input. OverLines input (λ turns. Writes s (answers_by every console turns))))
+    ⊎ (IsFailure status × IfSome s.input (λ input. OverLines input (λ turns. WritesPartOf s (answers_by every console turns))))
 
 -- It goes on from the history that was loaded of the file, of which these are the bytes if they are known; or it ends before
 -- anything is read or written: the file has no history, or it can't be opened.

@@ -1,6 +1,5 @@
 -- What each exit status says.
 use Rattle.std.specs.Prelude.{◌≡◌, ◌≢◌, ◌⊎◌, ℕ, List, [], Option, IfSome, IsTrue, ⊤}
-use Rattle.stm_lines.specs.Lines.{lines_of}
 use Rattle.stm_history.specs.declared.files.loading.Loaded.{Loaded}
 use Rattle.stm_journal.specs.declared.sync_mode.SyncMode.{SyncMode}
 use Rattle.stm_journal.specs.Text.{recovered}
@@ -17,7 +16,7 @@ use Rattle.stm_words.specs.declared.command_line.Request.{Request}
 use Rattle.stm_words.specs.declared.command_line.Request.TheVariants.{Run, RunOn, Storm, Explore, Check, CheckWhy}
 use Rattle.stm_console.specs.Checking.{BeginsFindingText}
 use Rattle.stm_console.specs.Journal.{HasNoHistory}
-use Rattle.stm_console.specs.Program.{Asked, Do, Help, Mistake, Version, asked_by, ProgramDoes, ReadsNothing, Streams, Writes, WritesNothing, WritesPartOf}
+use Rattle.stm_console.specs.Program.{Asked, Do, Help, Mistake, Version, asked_by, OverLines, ProgramDoes, ReadsNothing, Streams, Writes, WritesNothing, WritesPartOf}
 use Rattle.stm_console.specs.declared.status.TheConstants.{DONE, NOT_RIGHT, REFUSED}
 
 -- ---- what words ask for
@@ -82,7 +81,8 @@ abbrev pub DoneFilesAnswer : Type 0
 DoneFilesAnswer = (options : Options) (sync : SyncMode) (file : List ℕ) (s : Streams)
     → ProgramDoes (Do (RunOn options sync file)) s DONE
     → (loaded : Option Loaded) × IfSome (s.files file) (λ bytes. LoadsFront (recovered bytes) loaded)
-    × IfSome s.input (λ input. Writes s (answers_by options.checkpoint_every (resumed_console options.max_events loaded) (lines_of input)))
+    × IfSome s.input (λ input. OverLines input (λ turns.
+    Writes s (answers_by options.checkpoint_every (resumed_console options.max_events loaded) turns)))
 
 -- a storm's script is right, and a text of it was written
 abbrev pub DoneStormsReport : Type 0
@@ -111,7 +111,8 @@ OtherFilesWriteAPart = (options : Options) (sync : SyncMode) (file : List ℕ) (
     → ProgramDoes (Do (RunOn options sync file)) s status → status ≢ DONE
     → WritesNothing s
     ⊎ ((loaded : Option Loaded) × IfSome (s.files file) (λ bytes. LoadsFront (recovered bytes) loaded)
-    × IfSome s.input (λ input. WritesPartOf s (answers_by options.checkpoint_every (resumed_console options.max_events loaded) (lines_of input))))
+    × IfSome s.input (λ input. OverLines input (λ turns.
+    WritesPartOf s (answers_by options.checkpoint_every (resumed_console options.max_events loaded) turns))))
 
 -- a part of what a check prints of the bytes was written, if not all of it
 abbrev pub OtherChecksWriteAPart : Type 0

@@ -1,5 +1,5 @@
 -- A line more, and what a commit makes of it.
-use Rattle.std.proofs.Common.{◌≡◌, ◌≢◌, ⊎_elim, ℕ, zero, ◌<◌, ◌≤◌, List, [], ◌∷◌, ◌++◌, length, Bool, true, false, cond, IsTrue, Option, Result, Ok, Err, OnOk, IfErr, refl, sym, ap, ap₂, ◌∙◌, subst, arith, append_assoc, append-nil}
+use Rattle.std.proofs.Common.{◌≡◌, ◌≢◌, ⊎_elim, ℕ, zero, ◌<◌, ◌≤◌, List, [], ◌∷◌, ◌++◌, length, Bool, true, false, cond, IsTrue, Option, Some, None, Result, Ok, Err, OnOk, IfErr, refl, sym, ap, ap₂, ◌∙◌, subst, arith, append_assoc, append-nil}
 use Rattle.std.specs.Prelude.{◌⊎◌, nat_lt, MatchBool, IfOk}
 use Rattle.std.proofs.lemmas.Bool.Decides.{nat_tests}
 use Rattle.std.specs.Io.KnownBytes.{Appends, Keeps}
@@ -15,40 +15,50 @@ use Rattle.stm_run.specs.declared.reply.Reply.{Reply}
 use Rattle.stm_run.specs.declared.reply.Reply.TheVariants as reply
 use Rattle.stm_run.specs.Abstraction.{IsReply, IsStep}
 use Rattle.stm_run.specs.Console.{answer_to, state_after, class_step, step}
-use Rattle.stm_run.specs.ConsoleState.{table_of, events_of, with_checkpoint}
+use Rattle.stm_run.specs.declared.console.Console.TheVariants.{Declaring, Open}
+use Rattle.stm_run.specs.ConsoleState.{present_desk, table_of, events_of, with_checkpoint}
 use Rattle.stm_run.specs.Fitting.{VariablesFit, VariablesStayFit}
 use Rattle.stm_run.specs.Growing.{Grows}
-use Rattle.stm_run.specs.LineCheckpoints.{auto_checkpoint, auto_step, line_checkpoints, tells_checkpoint, states_after, answers_by}
+use Rattle.stm_run.specs.LineCheckpoints.{auto_checkpoint, auto_step, class_checkpoints, line_checkpoints, asks_checkpoint, reply_checkpoints, Turn, turn_of, line_step, state_after_turn, answer_by, states_after, answers_by}
 use Rattle.stm_run.proofs.EventsOfConsole.{consoles_grow, grows_not, grows_trans}
 use Rattle.stm_durable_run.specs.declared.fault.DurableFault.{DurableFault}
 use Rattle.stm_durable_run.specs.declared.fault.DurableFault.TheVariants.{Run, Journal}
 use Rattle.stm_durable_run.specs.DurableRun.{LeavesBetween, CoversAnswers}
-use Rattle.stm_durable_run.specs.Committing.{MayCommit, MayBeginAnew, IsBehind, IsAfterLines, streamed_text, HasFinished, HasNotWritten, HasEndedAtRest, HasFailed}
+use Rattle.stm_durable_run.specs.Committing.{MayCommit, MayBeginAnew, IsBehind, IsAfterLines, streamed_text, no_checkpoint_text, HasFinished, HasNotWritten, HasEndedAtRest, HasFailed}
 use Rattle.stm_durable_run.specs.NewEvents.{MayBeginRun}
 use Rattle.stm_durable_run.proofs.NewEvents.{grown_begins}
 
 -- ---- lines after lines
-pub after_append : (every : ℕ) (s : Console) (xs ys : List (List ℕ)) → states_after every s (xs ++ ys) ≡ states_after every (states_after every s xs) ys
+pub after_append : {Cause : Type 0} (every : ℕ) (s : Console) (xs ys : List (Turn Cause)) → states_after every s (xs ++ ys) ≡ states_after every (states_after every s xs) ys
 after_append every s [] ys = refl
-after_append every s (x ∷ xs) ys = after_append every (auto_step every s (state_after s x)) xs ys
+after_append every s (x ∷ xs) ys = after_append every (state_after_turn every s x) xs ys
 
-pub answers_append : (every : ℕ) (s : Console) (xs ys : List (List ℕ)) → answers_by every s (xs ++ ys) ≡ answers_by every s xs ++ answers_by every (states_after every s xs) ys
+pub answers_append : {Cause : Type 0} (every : ℕ) (s : Console) (xs ys : List (Turn Cause)) → answers_by every s (xs ++ ys) ≡ answers_by every s xs ++ answers_by every (states_after every s xs) ys
 answers_append every s [] ys = refl
 answers_append every s (x ∷ xs) ys =
-    let t = auto_step every s (state_after s x) in
-    ap (λ (l : List ℕ). answer_to s x ++ l) (answers_append every t xs ys) ∙ sym (append_assoc (answer_to s x) (answers_by every t xs) (answers_by every (states_after every t xs) ys))
+    let t = state_after_turn every s x in
+    ap (λ (l : List ℕ). answer_by every s x ++ l) (answers_append every t xs ys) ∙ sym (append_assoc (answer_by every s x) (answers_by every t xs) (answers_by every (states_after every t xs) ys))
 
 -- of a line no more counts than how it is judged
 pub same_step : (s : Console) (line judged : List ℕ) → line_class line ≡ line_class judged → step s line ≡ step s judged
 unfolding step
 same_step s line judged e = ap (class_step s) e
 
+same_checkpoints : (s : Console) (line judged : List ℕ) → line_class line ≡ line_class judged → line_checkpoints s line ≡ line_checkpoints s judged
+unfolding line_checkpoints
+same_checkpoints s line judged e = ap (class_checkpoints s) e
+
+pub same_line_step : {Cause : Type 0} (every : ℕ) (s : Console) (line judged : List ℕ) (refused : Option Cause) → line_class line ≡ line_class judged → line_step every s line refused ≡ line_step every s judged refused
+same_line_step every s line judged None e = ap (λ (p : Console × List ℕ). (auto_step every s p.0, p.1)) (same_step s line judged e)
+same_line_step every s line judged (Some cause) e =
+    ap₂ (λ (b : Bool) (p : Console × List ℕ). cond {A = Console × List ℕ} b (Open (present_desk s), no_checkpoint_text) p) (same_checkpoints s line judged e) (same_step s line judged e)
+
 -- ---- what is written of a reply
-pub reply_text : (r : Reply) (old new : List ℕ) (c : Console) (answer : List ℕ) → IsReply r old new c answer → new ++ streamed_text r c ≡ old ++ answer
-reply_text reply.Text old new c answer h = append-nil new ∙ h
-reply_text reply.History old new c answer h = ap₂ (λ (a b : List ℕ). a ++ b) h.0 (sym h.1)
-reply_text (reply.Events n) old new c answer h = ap₂ (λ (a b : List ℕ). a ++ b) h.0 (sym h.1)
-reply_text reply.Checkpoint old new c answer h = append-nil new ∙ h
+pub reply_text : (r : Reply) (old new : List ℕ) (c : Console) (answer : List ℕ) → asks_checkpoint r ≡ false → IsReply r old new c answer → new ++ streamed_text r c ≡ old ++ answer
+reply_text reply.Text old new c answer told h = append-nil new ∙ h
+reply_text reply.History old new c answer told h = ap₂ (λ (a b : List ℕ). a ++ b) h.0 (sym h.1)
+reply_text (reply.Events n) old new c answer told h = ap₂ (λ (a b : List ℕ). a ++ b) h.0 (sym h.1)
+reply_text reply.Checkpoint old new c answer told h = absurd (cc told)
 
 -- ---- the checkpoint that is due after a line
 not_more : (m n : ℕ) → n ≤ m → nat_lt m n ≡ false
@@ -61,33 +71,41 @@ none_due every s t h = ap (λ (b : Bool). cond {A = Console} b (auto_checkpoint 
 pub streamed_step : (every : ℕ) (s t : Console) → events_of t ≡ events_of s → t ≡ auto_step every s t
 streamed_step every s t e = let n : length (events_of t) ≡ length (events_of s) = ap length e in sym (none_due every s t (omega arith))
 
-pub checkpoint_step : (every : ℕ) (s t : Console) → t ≡ with_checkpoint s → t ≡ auto_step every s t
-checkpoint_step every s t e = let n : length (events_of t) ≡ zero = ap (λ (x : Console). length (events_of x)) e in sym (none_due every s t (omega arith))
-
 -- ---- what a line leaves, by its reply
+pub grows_opened : (s : Console) → Grows s (Open (present_desk s))
+grows_opened (Declaring table limit) = record { added = []; events = refl; of_console = tt; same_start = refl; opened = λ e. absurd (cc e) }
+grows_opened (Open d) = grows_not (Open d)
+
+grown_by_step : (s t : Console) (line : List ℕ) → false ≡ line_checkpoints s line → t ≡ state_after s line → Grows s t
+grown_by_step s t line makes is =
+    subst (Grows s) (sym is) (subst (λ (b : Bool). MatchBool b (state_after s line ≡ with_checkpoint s) (Grows s (state_after s line))) (sym makes) (consoles_grow s line))
+
+fit_after_step : (s t : Console) (line : List ℕ) → VariablesStayFit → t ≡ state_after s line → VariablesFit (table_of s) → VariablesFit (table_of t)
+fit_after_step s t line law is v = subst (λ (c : Console). VariablesFit (table_of c)) (sym is) (law s (line ∷ []) v)
+
 module _ {X : Type 0} (s t : Console) (line old new : List ℕ) where
   abbrev Told : Result Reply X → Type 0
-  Told r = IfOk r (λ r. IsStep r old new t (step s line)) × IfOk r (λ r. tells_checkpoint r ≡ line_checkpoints s line)
+  Told r = IfOk r (λ r. IsStep r old new t (step s line)) × IfOk r (λ r. asks_checkpoint r ≡ true → t ≡ Open (present_desk s))
+      × IfOk r (λ r. reply_checkpoints (present_desk s) r ≡ line_checkpoints s line)
 
-  -- it makes a checkpoint
-  pub made_by_line : (r : Result Reply X) → Told r → IfOk r (λ r. tells_checkpoint r ≡ true → t ≡ with_checkpoint s)
-  made_by_line (Err x) h = tt
-  made_by_line (Ok r) h = λ e.
-      h.0.0 ∙ subst (λ (b : Bool). MatchBool b (state_after s line ≡ with_checkpoint s) (Grows s (state_after s line))) (sym h.1 ∙ e) (consoles_grow s line)
-
-  -- or lets the console grow
-  pub grown_by_line : (r : Result Reply X) → Told r → IfOk r (λ r. tells_checkpoint r ≡ false → Grows s t)
+  -- it lets the console grow, if its checkpoint isn't made
+  pub grown_by_line : (r : Result Reply X) → Told r → OnOk r (Grows s t)
   grown_by_line (Err x) h = tt
-  grown_by_line (Ok r) h = λ e.
-      subst (Grows s) (sym h.0.0) (subst (λ (b : Bool). MatchBool b (state_after s line ≡ with_checkpoint s) (Grows s (state_after s line))) (sym h.1 ∙ e) (consoles_grow s line))
+  grown_by_line (Ok reply.Text) h = grown_by_step s t line h.2 h.0.0
+  grown_by_line (Ok reply.History) h = grown_by_step s t line h.2 h.0.0
+  grown_by_line (Ok (reply.Events n)) h = grown_by_step s t line h.2 h.0.0
+  grown_by_line (Ok reply.Checkpoint) h = subst (Grows s) (sym (h.1 refl)) (grows_opened s)
 
   -- the variables can still be in lines
   pub fit_after_line : VariablesStayFit → (r : Result Reply X) → Told r → OnOk r (VariablesFit (table_of s) → VariablesFit (table_of t))
   fit_after_line law (Err x) h = tt
-  fit_after_line law (Ok r) h = λ v. subst (λ (c : Console). VariablesFit (table_of c)) (sym h.0.0) (law s (line ∷ []) v)
+  fit_after_line law (Ok reply.Text) h = fit_after_step s t line law h.0.0
+  fit_after_line law (Ok reply.History) h = fit_after_step s t line law h.0.0
+  fit_after_line law (Ok (reply.Events n)) h = fit_after_step s t line law h.0.0
+  fit_after_line law (Ok reply.Checkpoint) h = λ v. subst (λ (c : Console). VariablesFit (table_of c)) (sym (h.1 refl)) v
 
 -- ---- a run after some lines
-abbrev pub may_commit : (K : Console → Type 0) (every : ℕ) (s : Console) (lines : List (List ℕ)) (old new : Option (List ℕ)) (console : Console) (held : List ℕ) (recorded : ℕ)
+abbrev pub may_commit : {Cause : Type 0} (K : Console → Type 0) (every : ℕ) (s : Console) (lines : List (Turn Cause)) (old new : Option (List ℕ)) (console : Console) (held : List ℕ) (recorded : ℕ)
     → IsAfterLines K every s lines old new console held recorded → MayCommit K console recorded
 may_commit K every s lines old new console held recorded a =
     record {
@@ -99,22 +117,23 @@ may_commit K every s lines old new console held recorded a =
       kept = a.behind.kept;
     }
 
-module _ (K : Console → Type 0) (every : ℕ) (s : Console) (lines : List (List ℕ)) (old new : Option (List ℕ)) (console : Console) (held : List ℕ) (recorded : ℕ) (a : IsBehind K every s lines old new console held recorded) where
+module _ {Cause : Type 0} (K : Console → Type 0) (every : ℕ) (s : Console) (lines : List (Turn Cause)) (old new : Option (List ℕ)) (console : Console) (held : List ℕ) (recorded : ℕ) (a : IsBehind K every s lines old new console held recorded) where
   -- one line more, whose answer is held
-  unfoldable pub line_more : (line judged : List ℕ) (next : Console) (more : List ℕ) (count : ℕ) → line_class line ≡ line_class judged → next ≡ auto_step every console (state_after console line) → more ≡ held ++ answer_to console line → count ≡ recorded
-      → IsBehind K every s (lines ++ judged ∷ []) old new next more count
-  line_more line judged next more count same e h n =
+  unfoldable pub line_more : (line judged : List ℕ) (refused : Option Cause) (next : Console) (more : List ℕ) (count : ℕ) → line_class line ≡ line_class judged → next ≡ (line_step every console line refused).0 → more ≡ held ++ (line_step every console line refused).1 → count ≡ recorded
+      → IsBehind K every s (lines ++ turn_of judged refused ∷ []) old new next more count
+  line_more line judged refused next more count same e h n =
       let x = states_after every s a.answered in
-      let one = same_step console line judged same in
+      let turn : Turn Cause = turn_of judged refused in
+      let one = same_line_step every console line judged refused same in
       record {
         answered = a.answered;
-        awaiting = a.awaiting ++ judged ∷ [];
-        parts = ap (λ (l : List (List ℕ)). l ++ judged ∷ []) a.parts ∙ append_assoc a.answered a.awaiting (judged ∷ []);
+        awaiting = a.awaiting ++ turn ∷ [];
+        parts = ap (λ (l : List (Turn Cause)). l ++ turn ∷ []) a.parts ∙ append_assoc a.answered a.awaiting (turn ∷ []);
         may_begin = a.may_begin;
         appended = a.appended;
-        since = e ∙ ap (λ p. auto_step every console p.0) one ∙ ap (λ (c : Console). auto_step every c (state_after c judged)) a.since ∙ sym (after_append every x a.awaiting (judged ∷ []));
-        held_is = h ∙ ap (λ p. held ++ p.1) one ∙ ap₂ (λ (t : List ℕ) (c : Console). t ++ answer_to c judged) a.held_is a.since
-            ∙ ap (λ (t : List ℕ). answers_by every x a.awaiting ++ t) (sym (append-nil (answer_to (states_after every x a.awaiting) judged))) ∙ sym (answers_append every x a.awaiting (judged ∷ []));
+        since = e ∙ ap (λ (p : Console × List ℕ). p.0) one ∙ ap (λ (c : Console). state_after_turn every c turn) a.since ∙ sym (after_append every x a.awaiting (turn ∷ []));
+        held_is = h ∙ ap (λ (p : Console × List ℕ). held ++ p.1) one ∙ ap₂ (λ (t : List ℕ) (c : Console). t ++ answer_by every c turn) a.held_is a.since
+            ∙ ap (λ (t : List ℕ). answers_by every x a.awaiting ++ t) (sym (append-nil (answer_by every (states_after every x a.awaiting) turn))) ∙ sym (answers_append every x a.awaiting (turn ∷ []));
         count = n ∙ a.count;
         kept = a.kept;
       }
@@ -177,7 +196,7 @@ module _ (K : Console → Type 0) (every : ℕ) (s : Console) (lines : List (Lis
   }
 
   -- the writer failed in what is held
-  stopped_in : (K' : Console → Type 0) (later : Option (List ℕ)) (front : List ℕ) → IsPrefixOf front held → Appends new later front → K' console → HasEndedAtRest K' every s lines old later
+  pub stopped_in : (K' : Console → Type 0) (later : Option (List ℕ)) (front : List ℕ) → IsPrefixOf front held → Appends new later front → K' console → HasEndedAtRest K' every s lines old later
   stopped_in K' later front p w k = record {
     answered = lines;
     others = [];
@@ -203,7 +222,7 @@ module _ (K : Console → Type 0) (every : ℕ) (s : Console) (lines : List (Lis
       reached = [];
       unreached = a.awaiting;
       parts_reached = refl;
-      left = subst (λ (ls : List (List ℕ)). LeavesBetween sync zeros (states_after every s a.answered) (states_after every s ls) c) (sym (append-nil a.answered)) h;
+      left = subst (λ (ls : List (Turn Cause)). LeavesBetween sync zeros (states_after every s a.answered) (states_after every s ls) c) (sym (append-nil a.answered)) h;
     }
 
     covers_new : LeavesBetween sync zeros (states_after every s a.answered) console c → CoversAnswers sync zeros every s lines written c
@@ -239,27 +258,48 @@ module _ (K : Console → Type 0) (every : ℕ) (s : Console) (lines : List (Lis
     covered = λ real c l. covers_answered sync zeros c (left real c l);
   }
 
--- a checkpoint was made after it
-abbrev pub may_begin_anew : (K : Console → Type 0) (every : ℕ) (s : Console) (lines : List (List ℕ)) (old new : Option (List ℕ)) (console : Console) (held : List ℕ) (recorded : ℕ) → IsAfterLines K every s lines old new console held recorded
-    → (before next : Console) → Grows console before → VariablesFit (table_of before) → next ≡ with_checkpoint before → MayBeginAnew K next
-may_begin_anew K every s lines old new console held recorded a before next g v made =
-    let first = states_after every s a.behind.answered in
-    record { committed = first; before = before; may_begin = a.behind.may_begin; grows = grows_trans first console before a.grows g; variables = v; made = made; kept = a.behind.kept }
+-- a checkpoint may be made after it
+abbrev pub anew_after : (K : Console → Type 0) (s t : Console) (recorded : ℕ) → Grows s t → VariablesFit (table_of t) → MayCommit K s recorded → MayBeginAnew K (with_checkpoint t)
+anew_after K s t recorded g v c = record { committed = c.committed; before = t; may_begin = c.may_begin; grows = grows_trans c.committed s t c.grows g; variables = v; made = refl; kept = c.kept }
 
 -- what is committed may begin a run
-pub may_begin_next : (K : Console → Type 0) (every : ℕ) (s : Console) (lines : List (List ℕ)) (old new : Option (List ℕ)) (console : Console) (held : List ℕ) (recorded : ℕ) → IsAfterLines K every s lines old new console held recorded
+pub may_begin_next : {Cause : Type 0} (K : Console → Type 0) (every : ℕ) (s : Console) (lines : List (Turn Cause)) (old new : Option (List ℕ)) (console : Console) (held : List ℕ) (recorded : ℕ) → IsAfterLines K every s lines old new console held recorded
     → MayBeginRun console
 may_begin_next K every s lines old new console held recorded a = grown_begins (states_after every s a.behind.answered) console a.behind.may_begin a.grows a.variables
 
 -- one line more after which no checkpoint was made
-pub held_more : (K : Console → Type 0) (every : ℕ) (s : Console) (lines : List (List ℕ)) (old new : Option (List ℕ)) (console : Console) (held : List ℕ) (recorded : ℕ) → IsAfterLines K every s lines old new console held recorded
-    → (line judged : List ℕ) (next : Console) (more : List ℕ) (count : ℕ) → line_class line ≡ line_class judged → next ≡ auto_step every console (state_after console line) → more ≡ held ++ answer_to console line → count ≡ recorded
-    → Grows console next → VariablesFit (table_of next) → IsAfterLines K every s (lines ++ judged ∷ []) old new next more count
+pub held_more : {Cause : Type 0} (K : Console → Type 0) (every : ℕ) (s : Console) (lines : List (Turn Cause)) (old new : Option (List ℕ)) (console : Console) (held : List ℕ) (recorded : ℕ) → IsAfterLines K every s lines old new console held recorded
+    → (line judged : List ℕ) (refused : Option Cause) (next : Console) (more : List ℕ) (count : ℕ) → line_class line ≡ line_class judged → next ≡ (line_step every console line refused).0 → more ≡ held ++ (line_step every console line refused).1 → count ≡ recorded
+    → Grows console next → VariablesFit (table_of next) → IsAfterLines K every s (lines ++ turn_of judged refused ∷ []) old new next more count
 unfolding line_more
-held_more K every s lines old new console held recorded a line judged next more count same e h n g v = record {
-  behind = line_more K every s lines old new console held recorded a.behind line judged next more count same e h n;
+held_more K every s lines old new console held recorded a line judged refused next more count same e h n g v = record {
+  behind = line_more K every s lines old new console held recorded a.behind line judged refused next more count same e h n;
   grows = grows_trans (states_after every s a.behind.answered) console next a.grows g;
   variables = v;
+}
+
+-- another file keeps what this one kept
+pub behind_kept : {Cause : Type 0} (K K' : Console → Type 0) (every : ℕ) (s : Console) (lines : List (Turn Cause)) (old new : Option (List ℕ)) (console : Console) (held : List ℕ) (recorded : ℕ)
+    → ((c : Console) → K c → K' c) → IsBehind K every s lines old new console held recorded → IsBehind K' every s lines old new console held recorded
+behind_kept K K' every s lines old new console held recorded keeps a = record {
+  answered = a.answered;
+  awaiting = a.awaiting;
+  parts = a.parts;
+  may_begin = a.may_begin;
+  appended = a.appended;
+  since = a.since;
+  held_is = a.held_is;
+  count = a.count;
+  kept = keeps (states_after every s a.answered) a.kept;
+}
+
+pub after_kept : {Cause : Type 0} (K K' : Console → Type 0) (every : ℕ) (s : Console) (lines : List (Turn Cause)) (old new : Option (List ℕ)) (console : Console) (held : List ℕ) (recorded : ℕ)
+    → ((c : Console) → K c → K' c) → IsAfterLines K every s lines old new console held recorded → IsAfterLines K' every s lines old new console held recorded
+unfolding behind_kept
+after_kept K K' every s lines old new console held recorded keeps a = record {
+  behind = behind_kept K K' every s lines old new console held recorded keeps a.behind;
+  grows = a.grows;
+  variables = a.variables;
 }
 
 -- ---- what a commit and what follows it wrote
@@ -281,10 +321,6 @@ unstreamed f old mid new held text kept not w p h =
 pub on_done : {A B C X G : Type 0} (hon : Type 0) (r : Result Unit X) → OnOk r A → OnOk r B → OnOk r C → OnOk r (hon → G) → (H : Type 0) → (A → B → C → (hon → G) → H) → OnOk r H
 on_done hon (Ok x) a b c k H f = f a b c k
 on_done hon (Err x) a b c k H f = tt
-
-pub on_begun : {A B C M X G : Type 0} (hon : Type 0) (r : Result Unit X) → OnOk r A → OnOk r B → OnOk r C → OnOk r M → OnOk r (hon → G) → (H : Type 0) → (A → B → C → M → (hon → G) → H) → OnOk r H
-on_begun hon (Ok x) a b c m k H f = f a b c m k
-on_begun hon (Err x) a b c m k H f = tt
 
 pub on_ok : {T E A B : Type 0} (r : Result T E) → OnOk r A → (A → B) → OnOk r B
 on_ok (Ok x) h f = f h

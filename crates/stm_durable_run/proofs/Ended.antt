@@ -30,7 +30,7 @@ use Rattle.stm_lines.specs.Lines.{lines_of}
 use Rattle.stm_run.specs.declared.console.Console.{Console}
 use Rattle.stm_run.specs.Console.{initial_console}
 use Rattle.stm_run.specs.Fitting.{VariablesFit}
-use Rattle.stm_run.specs.LineCheckpoints.{states_after, answers_by}
+use Rattle.stm_run.specs.LineCheckpoints.{Turn, turn_lines, states_after, answers_by, ForTurns}
 use Rattle.stm_run.proofs.EventsOfConsole.{grows_not}
 use Rattle.stm_durable_run.specs.declared.fault.DurableFault.{DurableFault}
 use Rattle.stm_durable_run.specs.declared.fault.DurableFault.TheVariants.{Run, Journal}
@@ -38,6 +38,7 @@ use Rattle.stm_durable_run.specs.DurableRun.{resumed_console, KeepsConsole, Cons
 use Rattle.stm_durable_run.specs.NewEvents.{AreTexts, MayBeginRun}
 use Rattle.stm_durable_run.specs.Committing.{HasFinished, HasFailed, LeavesRun}
 use Rattle.stm_durable_run.proofs.Committing.{answers_append}
+use Rattle.stm_durable_run.proofs.Turns.{plains, lines_of_plains}
 use Rattle.stm_durable_run.proofs.RecordedEvents.{between_none, between_still}
 
 -- ---- the beginning
@@ -97,7 +98,7 @@ may_begin limit (Some l) text = record {
 }
 
 -- ---- the end
-prefix_more : (every : ℕ) (s : Console) (lines answered others : List (List ℕ)) (written : List ℕ) → lines ≡ answered ++ others → IsPrefixOf written (answers_by every s answered) → IsPrefixOf written (answers_by every s lines)
+prefix_more : {Cause : Type 0} (every : ℕ) (s : Console) (lines answered others : List (Turn Cause)) (written : List ℕ) → lines ≡ answered ++ others → IsPrefixOf written (answers_by every s answered) → IsPrefixOf written (answers_by every s lines)
 prefix_more every s lines answered others written e p =
     let more = answers_by every (states_after every s answered) others in
     (p.0 ++ more, ap (answers_by every s) e ∙ answers_append every s answered others ∙ ap (λ (t : List ℕ). t ++ more) p.1 ∙ append_assoc written p.0 more)
@@ -105,76 +106,63 @@ prefix_more every s lines answered others written e p =
 whole_prefix : (text : List ℕ) → IsPrefixOf text text
 whole_prefix text = ([], sym (append-nil text))
 
-module _ {D : Type 0} (disk : Disk D) (f : HistoryFile D) (was : SyncMode) (same : f.journal.sync ≡ was) (every : ℕ) (s : Console) (input old new : Option (List ℕ)) where
-  abbrev K : Console → Type 0
-  K t = KeepsConsole disk f t
+module _ {D : Type 0} (Cause : Type 0) (disk : Disk D) (f : HistoryFile D) (was : SyncMode) (same : f.journal.sync ≡ was) (every : ℕ) (s : Console) (input old new : Option (List ℕ)) where
+  -- this holds of the lines of the input, if for some of them the checkpoint can't be made
+  abbrev Over : (List (Turn Cause) → Type 0) → Type 0
+  Over P = IfSome input (λ bytes. ForTurns Cause (lines_of bytes) P)
 
-  abbrev Finished : List ℕ → Type 0
-  Finished bytes = HasFinished K every s (lines_of bytes) old new
+  over : (P Q : List (Turn Cause) → Type 0) → ((turns : List (Turn Cause)) → P turns → Q turns) → Over P → Over Q
+  over P Q g h = by input h
+    where
+      by : (i : Option (List ℕ)) → IfSome i (λ bytes. ForTurns Cause (lines_of bytes) P) → IfSome i (λ bytes. ForTurns Cause (lines_of bytes) Q)
+      by None h = tt
+      by (Some i) h = (h.0, h.1, g h.0 h.2)
 
-  abbrev Failed : DurableFault → List ℕ → Type 0
-  Failed e bytes = HasFailed disk.is_honest was disk.fills_with_zeros (disk.may_leave f.journal.device) K every s (lines_of bytes) old new e
+  abbrev Finished : List (Turn Cause) → Type 0
+  Finished turns = HasFinished (KeepsConsole disk f) every s turns old new
 
-  pub all_answered : (r : Result Unit DurableFault) → OnOk r (IfSome input Finished) → OnOk r (IfSome input (λ bytes. Appends old new (answers_by every s (lines_of bytes))))
+  abbrev Failed : DurableFault → List (Turn Cause) → Type 0
+  Failed e turns = HasFailed disk.is_honest was disk.fills_with_zeros (disk.may_leave f.journal.device) (KeepsConsole disk f) every s turns old new e
+
+  pub all_answered : (r : Result Unit DurableFault) → OnOk r (Over Finished) → OnOk r (Over (λ turns. Appends old new (answers_by every s turns) × KeepsConsole disk f (states_after every s turns)))
   all_answered (Err e) h = tt
-  all_answered (Ok x) h = by input h
-    where
-      by : (i : Option (List ℕ)) → IfSome i Finished → IfSome i (λ bytes. Appends old new (answers_by every s (lines_of bytes)))
-      by None h = tt
-      by (Some i) h = h.appended
+  all_answered (Ok x) h = over Finished (λ turns. Appends old new (answers_by every s turns) × KeepsConsole disk f (states_after every s turns)) (λ turns p. (p.appended, p.kept)) h
 
-  pub all_kept : (r : Result Unit DurableFault) → OnOk r (IfSome input Finished) → OnOk r (IfSome input (λ bytes. KeepsConsole disk f (states_after every s (lines_of bytes))))
-  all_kept (Err e) h = tt
-  all_kept (Ok x) h = by input h
-    where
-      by : (i : Option (List ℕ)) → IfSome i Finished → IfSome i (λ bytes. KeepsConsole disk f (states_after every s (lines_of bytes)))
-      by None h = tt
-      by (Some i) h = h.kept
+  abbrev PartOf : List (Turn Cause) → Type 0
+  PartOf turns = (front : List ℕ) × IsPrefixOf front (answers_by every s turns) × Appends old new front
 
-  part_of : (e : DurableFault) (bytes : List ℕ) → Failed e bytes → (front : List ℕ) × IsPrefixOf front (answers_by every s (lines_of bytes)) × Appends old new front
-  part_of (Run x) bytes h = (h.written, prefix_more every s (lines_of bytes) h.answered h.others h.written h.parts h.front, h.appended)
-  part_of (Journal e) bytes h =
+  part_of : (e : DurableFault) (turns : List (Turn Cause)) → Failed e turns → PartOf turns
+  part_of (Run x) turns h = (h.written, prefix_more every s turns h.answered h.others h.written h.parts h.front, h.appended)
+  part_of (Journal e) turns h =
       let text = answers_by every s h.answered in
-      (text, prefix_more every s (lines_of bytes) h.answered h.others text h.parts (whole_prefix text), h.appended)
+      (text, prefix_more every s turns h.answered h.others text h.parts (whole_prefix text), h.appended)
 
-  pub part_answered : (r : Result Unit DurableFault) → IfErr r (λ e. IfSome input (Failed e)) → OnErr r (IfSome input (λ bytes. (front : List ℕ) × IsPrefixOf front (answers_by every s (lines_of bytes)) × Appends old new front))
+  pub part_answered : (r : Result Unit DurableFault) → IfErr r (λ e. Over (Failed e)) → OnErr r (Over PartOf)
   part_answered (Ok x) h = tt
-  part_answered (Err e) h = by input h
-    where
-      by : (i : Option (List ℕ)) → IfSome i (Failed e) → IfSome i (λ bytes. (front : List ℕ) × IsPrefixOf front (answers_by every s (lines_of bytes)) × Appends old new front)
-      by None h = tt
-      by (Some i) h = part_of e i h
+  part_answered (Err e) h = over (Failed e) PartOf (part_of e) h
 
-  abbrev Committed : List ℕ → Type 0
-  Committed bytes = (written : List ℕ) × Appends old new written × HasCommitted disk f every s (lines_of bytes) written
+  abbrev Committed : List (Turn Cause) → Type 0
+  Committed turns = (written : List ℕ) × Appends old new written × HasCommitted disk f every s turns written
 
-  finished_is : IsTrue disk.is_honest → (bytes : List ℕ) → Finished bytes → Committed bytes
-  finished_is real bytes h =
-      let text = answers_by every s (lines_of bytes) in
-      (text, h.appended, record { answered = lines_of bytes; others = []; parts = sym (append-nil (lines_of bytes)); front = whole_prefix text; kept = h.kept real })
+  finished_is : IsTrue disk.is_honest → (turns : List (Turn Cause)) → Finished turns → Committed turns
+  finished_is real turns h =
+      let text = answers_by every s turns in
+      (text, h.appended, record { answered = turns; others = []; parts = sym (append-nil turns); front = whole_prefix text; kept = h.kept real })
 
-  stopped_is : IsTrue disk.is_honest → (e : DurableFault) → IsNoJournalFault {A = Unit} (Err e) → (bytes : List ℕ) → Failed e bytes → Committed bytes
-  stopped_is real (Run x) free bytes h = (h.written, h.appended, record { answered = h.answered; others = h.others; parts = h.parts; front = h.front; kept = h.kept real })
-  stopped_is real (Journal e) free bytes h = absurd free
+  stopped_is : IsTrue disk.is_honest → (e : DurableFault) → IsNoJournalFault {A = Unit} (Err e) → (turns : List (Turn Cause)) → Failed e turns → Committed turns
+  stopped_is real (Run x) free turns h = (h.written, h.appended, record { answered = h.answered; others = h.others; parts = h.parts; front = h.front; kept = h.kept real })
+  stopped_is real (Journal e) free turns h = absurd free
 
-  pub is_committed : IsTrue disk.is_honest → (r : Result Unit DurableFault) → IsNoJournalFault r → OnOk r (IfSome input Finished) → IfErr r (λ e. IfSome input (Failed e)) → IfSome input Committed
-  is_committed real (Ok x) free h g = by input h
-    where
-      by : (i : Option (List ℕ)) → IfSome i Finished → IfSome i Committed
-      by None h = tt
-      by (Some i) h = finished_is real i h
-  is_committed real (Err e) free h g = by input g
-    where
-      by : (i : Option (List ℕ)) → IfSome i (Failed e) → IfSome i Committed
-      by None h = tt
-      by (Some i) h = stopped_is real e free i h
+  pub is_committed : IsTrue disk.is_honest → (r : Result Unit DurableFault) → IsNoJournalFault r → OnOk r (Over Finished) → IfErr r (λ e. Over (Failed e)) → Over Committed
+  is_committed real (Ok x) free h g = over Finished Committed (finished_is real) h
+  is_committed real (Err e) free h g = over (Failed e) Committed (stopped_is real e free) g
 
   -- ---- a crash afterwards
-  abbrev Covered : List ℕ → Type 0
-  Covered bytes = (written : List ℕ) × Appends old new written × ((c : List ℕ) → disk.may_leave f.journal.device c → CoversAnswers was disk.fills_with_zeros every s (lines_of bytes) written c)
+  abbrev Covered : List (Turn Cause) → Type 0
+  Covered turns = (written : List ℕ) × Appends old new written × ((c : List ℕ) → disk.may_leave f.journal.device c → CoversAnswers was disk.fills_with_zeros every s turns written c)
 
-  committed_covers : (bytes : List ℕ) → Committed bytes → Covered bytes
-  committed_covers bytes h =
+  committed_covers : (turns : List (Turn Cause)) → Committed turns → Covered turns
+  committed_covers turns h =
       let m = h.2 in
       let t = states_after every s m.answered in (
         h.0,
@@ -187,35 +175,28 @@ module _ {D : Type 0} (disk : Disk D) (f : HistoryFile D) (was : SyncMode) (same
           reached = [];
           unreached = m.others;
           parts_reached = refl;
-          left = subst (λ (ls : List (List ℕ)). LeavesBetween was disk.fills_with_zeros t (states_after every s ls) c) (sym (append-nil m.answered))
+          left = subst (λ (ls : List (Turn Cause)). LeavesBetween was disk.fills_with_zeros t (states_after every s ls) c) (sym (append-nil m.answered))
               (subst (λ (mode : SyncMode). LeavesBetween mode disk.fills_with_zeros t t c) same (between_none disk f t t (grows_not t) m.kept c left));
         },
       )
 
-  failed_covers : IsTrue disk.is_honest → (e : DurableFault) (bytes : List ℕ) → Failed e bytes → Covered bytes
-  failed_covers real (Run x) bytes h = committed_covers bytes (stopped_is real (Run x) tt bytes h)
-  failed_covers real (Journal e) bytes h = (answers_by every s h.answered, h.appended, h.covered real)
+  failed_covers : IsTrue disk.is_honest → (e : DurableFault) (turns : List (Turn Cause)) → Failed e turns → Covered turns
+  failed_covers real (Run x) turns h = committed_covers turns (stopped_is real (Run x) tt turns h)
+  failed_covers real (Journal e) turns h = (answers_by every s h.answered, h.appended, h.covered real)
 
-  pub is_covered : IsTrue disk.is_honest → (r : Result Unit DurableFault) → OnOk r (IfSome input Finished) → IfErr r (λ e. IfSome input (Failed e)) → IfSome input Covered
-  is_covered real (Ok x) h g = by input h
-    where
-      by : (i : Option (List ℕ)) → IfSome i Finished → IfSome i Covered
-      by None h = tt
-      by (Some i) h = committed_covers i (finished_is real i h)
-  is_covered real (Err e) h g = by input g
-    where
-      by : (i : Option (List ℕ)) → IfSome i (Failed e) → IfSome i Covered
-      by None h = tt
-      by (Some i) h = failed_covers real e i h
+  pub is_covered : IsTrue disk.is_honest → (r : Result Unit DurableFault) → OnOk r (Over Finished) → IfErr r (λ e. Over (Failed e)) → Over Covered
+  is_covered real (Ok x) h g = over Finished Covered (λ turns p. committed_covers turns (finished_is real turns p)) h
+  is_covered real (Err e) h g = over (Failed e) Covered (failed_covers real e) g
 
 -- a crash at any moment
-pub leaves_input : {D : Type 0} (disk : Disk D) (old new : D) (sync : SyncMode) (zeros : Bool) (every : ℕ) (s : Console) (input : Option (List ℕ))
-    → LeavesOnly disk old new (LeavesRun sync zeros every s input) → IfSome input (λ bytes. LeavesOnly disk old new (CoversAnswers sync zeros every s (lines_of bytes) []))
-leaves_input disk old new sync zeros every s None h = tt
-leaves_input disk old new sync zeros every s (Some i) h = h
+pub leaves_input : {D : Type 0} (Cause : Type 0) (disk : Disk D) (old new : D) (sync : SyncMode) (zeros : Bool) (every : ℕ) (s : Console) (input : Option (List ℕ))
+    → LeavesOnly disk old new (LeavesRun Cause sync zeros every s input)
+    → IfSome input (λ bytes. LeavesOnly disk old new (λ c. ForTurns Cause (lines_of bytes) (λ turns. CoversAnswers sync zeros every s turns [] c)))
+leaves_input Cause disk old new sync zeros every s None h = tt
+leaves_input Cause disk old new sync zeros every s (Some i) h = h
 
 -- ---- a run that didn't begin
-module _ (every : ℕ) (s : Console) (lines : List (List ℕ)) where
+module _ {Cause : Type 0} (every : ℕ) (s : Console) (lines : List (Turn Cause)) where
   pub covers_still : (sync : SyncMode) (zeros : Bool) (c : List ℕ) → LeavesBetween sync zeros s s c → CoversAnswers sync zeros every s lines [] c
   covers_still sync zeros c h = record {
     answered = [];
@@ -237,16 +218,20 @@ module _ (every : ℕ) (s : Console) (lines : List (List ℕ)) where
   covered_still disk f x k =
       ([], Appends-nil x, λ c left. covers_still f.journal.sync disk.fills_with_zeros c (between_none disk f s s (grows_not s) k c left))
 
-  pub leaves_still : {D : Type 0} (disk : Disk D) (f : HistoryFile D)
-      → ConsoleKept disk f s → ((c : List ℕ) → disk.left_since f.journal.device (disk.moment f.journal.device) c → disk.may_leave f.journal.device c)
-      → LeavesOnly disk f.journal.device f.journal.device (CoversAnswers f.journal.sync disk.fills_with_zeros every s lines [])
-  leaves_still disk f k now =
-      weaker disk f.journal.device f.journal.device (LeavesBetween f.journal.sync disk.fills_with_zeros s s) (CoversAnswers f.journal.sync disk.fills_with_zeros every s lines [])
-      (between_still disk f s s (grows_not s) k now) (covers_still f.journal.sync disk.fills_with_zeros)
-
   pub part_still : (x : Option (List ℕ)) → (front : List ℕ) × IsPrefixOf front (answers_by every s lines) × Appends x x front
   part_still x = ([], (answers_by every s lines, refl), Appends-nil x)
 
 pub if_some : {A : Type 0} (o : Option A) (P : A → Type 0) → ((x : A) → P x) → IfSome o P
 if_some None P f = tt
 if_some (Some x) P f = f x
+
+-- all of its checkpoints can be made
+pub for_plains : {Cause : Type 0} (lines : List (List ℕ)) (P : List (Turn Cause) → Type 0) → ((turns : List (Turn Cause)) → P turns) → ForTurns Cause lines P
+for_plains {Cause = Cause} lines P f = (plains Cause lines, lines_of_plains Cause lines, f (plains Cause lines))
+
+pub leaves_still : {Cause : Type 0} (every : ℕ) (s : Console) (lines : List (List ℕ)) {D : Type 0} (disk : Disk D) (f : HistoryFile D)
+    → ConsoleKept disk f s → ((c : List ℕ) → disk.left_since f.journal.device (disk.moment f.journal.device) c → disk.may_leave f.journal.device c)
+    → LeavesOnly disk f.journal.device f.journal.device (λ c. ForTurns Cause lines (λ turns. CoversAnswers f.journal.sync disk.fills_with_zeros every s turns [] c))
+leaves_still {Cause = Cause} every s lines disk f k now =
+    weaker disk f.journal.device f.journal.device (LeavesBetween f.journal.sync disk.fills_with_zeros s s) _
+    (between_still disk f s s (grows_not s) k now) (λ c h. (plains Cause lines, lines_of_plains Cause lines, covers_still every s (plains Cause lines) f.journal.sync disk.fills_with_zeros c h))

@@ -3,9 +3,13 @@ pub mod NewEvents
 pub mod Batches
 pub mod RecordedEvents
 pub mod Committing
+pub mod Turns
+pub mod Taking
 pub mod Running
 pub mod Ended
 pub mod RunCrashes
+pub mod TakenLines
 pub mod ResumedQueue
 pub mod RangesSoFar
 pub mod Results
+pub mod Refused

@@ -7,13 +7,14 @@ use Rattle.stm_lines.specs.Lines.{drop_return, lines_of, whole_lines_of}
 use Rattle.stm_lines.specs.TakenLines.{TakesPartOfLine, TakesWholeLine, TakesLastLine}
 use Rattle.stm_lines.proofs.ReadLines.{lines_from-whole, lines_from-last, whole_lines_from-whole, whole_lines_from-last}
 use Rattle.stm_run.specs.declared.console.Console.{Console}
-use Rattle.stm_run.specs.LineCheckpoints.{answers_by}
+use Rattle.stm_run.specs.LineCheckpoints.{Turn, turn_of, turn_lines, answers_by, ForTurns}
 use Rattle.stm_run.specs.ConsoleState.{events_of}
 use Rattle.stm_run.proofs.EventsOfConsole.{grows_not}
 use Rattle.stm_durable_run.specs.declared.fault.DurableFault.{DurableFault}
 use Rattle.stm_durable_run.specs.declared.fault.DurableFault.TheVariants.{Run, Journal}
 use Rattle.stm_durable_run.specs.DurableRun.{CoversAnswers}
 use Rattle.stm_durable_run.specs.NewEvents.{MayBeginRun}
+use Rattle.stm_durable_run.proofs.Turns.{plains, turn_lines_append, more_lines}
 use Rattle.stm_durable_run.specs.Committing.{IsAfterLines, AreLinesOf, HasCome, HasComeToEnd, HasFinished, HasFailed, LeavesRun, WholeLinesAnswered}
 
 -- ---- the lines of bytes
@@ -58,98 +59,114 @@ last_begins lines None e = tt
 last_begins lines (Some i) e = ([], e ∙ sym (append-nil lines))
 
 -- ---- what holds of these lines holds of the input
-covers_more : (sync : SyncMode) (zeros : Bool) (every : ℕ) (s : Console) (lines more : List (List ℕ)) (written c : List ℕ) → CoversAnswers sync zeros every s lines written c → CoversAnswers sync zeros every s (lines ++ more) written c
-covers_more sync zeros every s lines more written c h = record {
+covers_more : {Cause : Type 0} (sync : SyncMode) (zeros : Bool) (every : ℕ) (s : Console) (lines more : List (Turn Cause)) (written c : List ℕ) → CoversAnswers sync zeros every s lines written c → CoversAnswers sync zeros every s (lines ++ more) written c
+covers_more {Cause = Cause} sync zeros every s lines more written c h = record {
   answered = h.answered;
   others = h.others ++ more;
-  parts = ap (λ (ls : List (List ℕ)). ls ++ more) h.parts ∙ append_assoc h.answered h.others more;
+  parts = ap (λ (ls : List (Turn Cause)). ls ++ more) h.parts ∙ append_assoc h.answered h.others more;
   front = h.front;
   reached = h.reached;
   unreached = h.unreached ++ more;
-  parts_reached = ap (λ (ls : List (List ℕ)). ls ++ more) h.parts_reached ∙ append_assoc h.reached h.unreached more;
+  parts_reached = ap (λ (ls : List (Turn Cause)). ls ++ more) h.parts_reached ∙ append_assoc h.reached h.unreached more;
   left = h.left;
 }
 
-pub leaves_run : (sync : SyncMode) (zeros : Bool) (every : ℕ) (s : Console) (lines : List (List ℕ)) (input : Option (List ℕ)) (c : List ℕ) → BeginsWith lines input → CoversAnswers sync zeros every s lines [] c → LeavesRun sync zeros every s input c
-leaves_run sync zeros every s lines None c b h = tt
-leaves_run sync zeros every s lines (Some i) c b h =
-    subst (λ (ls : List (List ℕ)). CoversAnswers sync zeros every s ls [] c) (sym b.1) (covers_more sync zeros every s lines b.0 [] c h)
+pub leaves_run : {Cause : Type 0} (sync : SyncMode) (zeros : Bool) (every : ℕ) (s : Console) (lines : List (Turn Cause)) (input : Option (List ℕ)) (c : List ℕ) → BeginsWith (turn_lines lines) input → CoversAnswers sync zeros every s lines [] c → LeavesRun Cause sync zeros every s input c
+leaves_run {Cause = Cause} sync zeros every s lines None c b h = tt
+leaves_run {Cause = Cause} sync zeros every s lines (Some i) c b h = (lines ++ plains Cause b.0, more_lines lines b.0 ∙ sym b.1, covers_more sync zeros every s lines (plains Cause b.0) [] c h)
 
-failed_more : (honest : Bool) (sync : SyncMode) (zeros : Bool) (may_leave : List ℕ → Type 0) (K : Console → Type 0) (every : ℕ) (s : Console) (lines more : List (List ℕ)) (old new : Option (List ℕ)) (e : DurableFault)
+failed_more : {Cause : Type 0} (honest : Bool) (sync : SyncMode) (zeros : Bool) (may_leave : List ℕ → Type 0) (K : Console → Type 0) (every : ℕ) (s : Console) (lines more : List (Turn Cause)) (old new : Option (List ℕ)) (e : DurableFault)
     → HasFailed honest sync zeros may_leave K every s lines old new e → HasFailed honest sync zeros may_leave K every s (lines ++ more) old new e
-failed_more honest sync zeros may_leave K every s lines more old new (Run f) h = record {
+failed_more {Cause = Cause} honest sync zeros may_leave K every s lines more old new (Run f) h = record {
   answered = h.answered;
   others = h.others ++ more;
-  parts = ap (λ (ls : List (List ℕ)). ls ++ more) h.parts ∙ append_assoc h.answered h.others more;
+  parts = ap (λ (ls : List (Turn Cause)). ls ++ more) h.parts ∙ append_assoc h.answered h.others more;
   written = h.written;
   front = h.front;
   appended = h.appended;
   kept = h.kept;
 }
-failed_more honest sync zeros may_leave K every s lines more old new (Journal e) h = record {
+failed_more {Cause = Cause} honest sync zeros may_leave K every s lines more old new (Journal e) h = record {
   answered = h.answered;
   others = h.others ++ more;
-  parts = ap (λ (ls : List (List ℕ)). ls ++ more) h.parts ∙ append_assoc h.answered h.others more;
+  parts = ap (λ (ls : List (Turn Cause)). ls ++ more) h.parts ∙ append_assoc h.answered h.others more;
   appended = h.appended;
   covered = λ real c l. covers_more sync zeros every s lines more (answers_by every s h.answered) c (h.covered real c l);
 }
 
-pub failed_run : (honest : Bool) (sync : SyncMode) (zeros : Bool) (may_leave : List ℕ → Type 0) (K : Console → Type 0) (every : ℕ) (s : Console) (lines : List (List ℕ)) (input old new : Option (List ℕ)) (e : DurableFault)
-    → BeginsWith lines input → HasFailed honest sync zeros may_leave K every s lines old new e → IfSome input (λ bytes. HasFailed honest sync zeros may_leave K every s (lines_of bytes) old new e)
-failed_run honest sync zeros may_leave K every s lines None old new e b h = tt
-failed_run honest sync zeros may_leave K every s lines (Some i) old new e b h =
-    subst (λ (ls : List (List ℕ)). HasFailed honest sync zeros may_leave K every s ls old new e) (sym b.1) (failed_more honest sync zeros may_leave K every s lines b.0 old new e h)
+-- a run over an input, if it is known, has failed
+abbrev pub FailedOver : Type 0 → Bool → SyncMode → Bool → (List ℕ → Type 0) → (Console → Type 0) → ℕ → Console → Option (List ℕ) → Option (List ℕ) → Option (List ℕ) → DurableFault → Type 0
+FailedOver Cause honest sync zeros may_leave K every s input old new e =
+    IfSome input (λ bytes. ForTurns Cause (lines_of bytes) (λ turns. HasFailed honest sync zeros may_leave K every s turns old new e))
 
-pub all_finished : (K : Console → Type 0) (every : ℕ) (s : Console) (lines : List (List ℕ)) (input old new : Option (List ℕ)) → IfSome input (λ all. lines_of all ≡ lines) → HasFinished K every s lines old new → IfSome input (λ bytes. HasFinished K every s (lines_of bytes) old new)
+pub failed_run : {Cause : Type 0} (honest : Bool) (sync : SyncMode) (zeros : Bool) (may_leave : List ℕ → Type 0) (K : Console → Type 0) (every : ℕ) (s : Console) (lines : List (Turn Cause)) (input old new : Option (List ℕ)) (e : DurableFault)
+    → BeginsWith (turn_lines lines) input → HasFailed honest sync zeros may_leave K every s lines old new e → FailedOver Cause honest sync zeros may_leave K every s input old new e
+failed_run {Cause = Cause} honest sync zeros may_leave K every s lines None old new e b h = tt
+failed_run {Cause = Cause} honest sync zeros may_leave K every s lines (Some i) old new e b h =
+    (lines ++ plains Cause b.0, more_lines lines b.0 ∙ sym b.1, failed_more honest sync zeros may_leave K every s lines (plains Cause b.0) old new e h)
+
+pub all_finished : {Cause : Type 0} (K : Console → Type 0) (every : ℕ) (s : Console) (lines : List (Turn Cause)) (input old new : Option (List ℕ)) → IfSome input (λ all. lines_of all ≡ turn_lines lines) → HasFinished K every s lines old new
+    → IfSome input (λ bytes. ForTurns Cause (lines_of bytes) (λ turns. HasFinished K every s turns old new))
 all_finished K every s lines None old new e h = tt
-all_finished K every s lines (Some i) old new e h = subst (λ (ls : List (List ℕ)). HasFinished K every s ls old new) (sym e) h
+all_finished K every s lines (Some i) old new e h = (lines, sym e, h)
 
-pub failed_synced : (honest : Bool) (sync same : SyncMode) (zeros : Bool) (may_leave : List ℕ → Type 0) (K : Console → Type 0) (every : ℕ) (s : Console) (input old new : Option (List ℕ)) (e : DurableFault) → sync ≡ same
-    → IfSome input (λ bytes. HasFailed honest sync zeros may_leave K every s (lines_of bytes) old new e) → IfSome input (λ bytes. HasFailed honest same zeros may_leave K every s (lines_of bytes) old new e)
-failed_synced honest sync same zeros may_leave K every s input old new e is h =
-    subst (λ (m : SyncMode). IfSome input (λ bytes. HasFailed honest m zeros may_leave K every s (lines_of bytes) old new e)) is h
+pub failed_synced : (Cause : Type 0) (honest : Bool) (sync same : SyncMode) (zeros : Bool) (may_leave : List ℕ → Type 0) (K : Console → Type 0) (every : ℕ) (s : Console) (input old new : Option (List ℕ)) (e : DurableFault) → sync ≡ same
+    → FailedOver Cause honest sync zeros may_leave K every s input old new e → FailedOver Cause honest same zeros may_leave K every s input old new e
+failed_synced Cause honest sync same zeros may_leave K every s input old new e is h =
+    subst (λ (m : SyncMode). FailedOver Cause honest m zeros may_leave K every s input old new e) is h
 
 -- ---- a run that has come so far
-module _ (K : Console → Type 0) (every : ℕ) (s : Console) (input rest old new : Option (List ℕ)) (console : Console) (held : List ℕ) (recorded : ℕ) (h : HasCome K every s input rest old new console held recorded) where
-  pub come_begins : BeginsWith h.lines input
-  come_begins = begins h.lines h.taken input rest h.lines_are h.consumed
+module _ {Cause : Type 0} (K : Console → Type 0) (every : ℕ) (s : Console) (input rest old new : Option (List ℕ)) (console : Console) (held : List ℕ) (recorded : ℕ) (h : HasCome Cause K every s input rest old new console held recorded) where
+  pub come_begins : BeginsWith (turn_lines h.lines) input
+  come_begins = begins (turn_lines h.lines) h.taken input rest h.lines_are h.consumed
 
   -- the same lines, with another commit
   pub comes_after : (K' : Console → Type 0) (new' : Option (List ℕ)) (console' : Console) (held' : List ℕ) (recorded' : ℕ) → IsAfterLines K' every s h.lines old new' console' held' recorded'
-      → HasCome K' every s input rest old new' console' held' recorded'
+      → HasCome Cause K' every s input rest old new' console' held' recorded'
   comes_after K' new' console' held' recorded' a = record { taken = h.taken; lines = h.lines; consumed = h.consumed; lines_are = h.lines_are; after = a }
 
-  module _ (next : Option (List ℕ)) (bytes : List ℕ) where
+  -- one line more
+  turns_more : (line : List ℕ) (refused : Option Cause) → turn_lines (h.lines ++ turn_of line refused ∷ []) ≡ turn_lines h.lines ++ line ∷ []
+  turns_more line refused = turn_lines_append h.lines (turn_of line refused ∷ [])
+
+  module _ (next : Option (List ℕ)) (bytes : List ℕ) (refused : Option Cause) where
+    turns_taken : TakesWholeLine rest next bytes → AreLinesOf (turn_lines (h.lines ++ turn_of (drop_return bytes) refused ∷ [])) (h.taken ++ (bytes ++ 10 ∷ []))
+    turns_taken w =
+        subst (λ (ls : List (List ℕ)). AreLinesOf ls (h.taken ++ (bytes ++ 10 ∷ []))) (sym (turns_more (drop_return bytes) refused))
+        (line_taken (turn_lines h.lines) h.taken bytes rest next h.lines_are w)
+
     pub comes_on : (K' : Console → Type 0) (new' : Option (List ℕ)) (console' : Console) (held' : List ℕ) (recorded' : ℕ) → TakesWholeLine rest next bytes
-        → IsAfterLines K' every s (h.lines ++ drop_return bytes ∷ []) old new' console' held' recorded' → HasCome K' every s input next old new' console' held' recorded'
+        → IsAfterLines K' every s (h.lines ++ turn_of (drop_return bytes) refused ∷ []) old new' console' held' recorded' → HasCome Cause K' every s input next old new' console' held' recorded'
     comes_on K' new' console' held' recorded' w a = record {
       taken = h.taken ++ (bytes ++ 10 ∷ []);
-      lines = h.lines ++ drop_return bytes ∷ [];
+      lines = h.lines ++ turn_of (drop_return bytes) refused ∷ [];
       consumed = Consumes-trans input rest next h.taken (bytes ++ 10 ∷ []) h.consumed w.taken;
-      lines_are = line_taken h.lines h.taken bytes rest next h.lines_are w;
+      lines_are = turns_taken w;
       after = a;
     }
 
-    pub on_begins : TakesWholeLine rest next bytes → BeginsWith (h.lines ++ drop_return bytes ∷ []) input
+    pub on_begins : TakesWholeLine rest next bytes → BeginsWith (turn_lines (h.lines ++ turn_of (drop_return bytes) refused ∷ [])) input
     on_begins w =
-        begins (h.lines ++ drop_return bytes ∷ []) (h.taken ++ (bytes ++ 10 ∷ [])) input next (line_taken h.lines h.taken bytes rest next h.lines_are w)
+        begins (turn_lines (h.lines ++ turn_of (drop_return bytes) refused ∷ [])) (h.taken ++ (bytes ++ 10 ∷ [])) input next (turns_taken w)
         (Consumes-trans input rest next h.taken (bytes ++ 10 ∷ []) h.consumed w.taken)
 
-    pub last_lines : TakesLastLine rest next bytes → 0 < length bytes → IfSome input (λ all. lines_of all ≡ h.lines ++ bytes ∷ [])
-    last_lines w k = last_is h.lines h.taken bytes input rest next h.lines_are h.consumed w k
+    pub last_lines : TakesLastLine rest next bytes → 0 < length bytes → IfSome input (λ all. lines_of all ≡ turn_lines (h.lines ++ turn_of bytes refused ∷ []))
+    last_lines w k =
+        subst (λ (ls : List (List ℕ)). IfSome input (λ all. lines_of all ≡ ls)) (sym (turns_more bytes refused))
+        (last_is (turn_lines h.lines) h.taken bytes input rest next h.lines_are h.consumed w k)
 
     pub ends_with : (K' : Console → Type 0) (new' : Option (List ℕ)) (console' : Console) (held' : List ℕ) (recorded' : ℕ) → TakesLastLine rest next bytes → 0 < length bytes
-        → IsAfterLines K' every s (h.lines ++ bytes ∷ []) old new' console' held' recorded' → HasComeToEnd K' every s input old new' console' held' recorded'
-    ends_with K' new' console' held' recorded' w k a = record { lines = h.lines ++ bytes ∷ []; lines_are = last_lines w k; after = a }
+        → IsAfterLines K' every s (h.lines ++ turn_of bytes refused ∷ []) old new' console' held' recorded' → HasComeToEnd Cause K' every s input old new' console' held' recorded'
+    ends_with K' new' console' held' recorded' w k a = record { lines = h.lines ++ turn_of bytes refused ∷ []; lines_are = last_lines w k; after = a }
 
-  pub ends_here : (next : Option (List ℕ)) → TakesLastLine rest next [] → HasComeToEnd K every s input old new console held recorded
-  ends_here next w = record { lines = h.lines; lines_are = end_is h.lines h.taken input rest next h.lines_are h.consumed w; after = h.after }
+  pub ends_here : (next : Option (List ℕ)) → TakesLastLine rest next [] → HasComeToEnd Cause K every s input old new console held recorded
+  ends_here next w = record { lines = h.lines; lines_are = end_is (turn_lines h.lines) h.taken input rest next h.lines_are h.consumed w; after = h.after }
 
   -- the reader failed, and what was held was written
-  pub whole_answered : (chunk left : Option (List ℕ)) (later : Option (List ℕ)) (bytes : List ℕ) → TakesPartOfLine rest chunk bytes → chunk ≡ left → Appends old later (answers_by every s h.lines) → WholeLinesAnswered every s input left old later
+  pub whole_answered : (chunk left : Option (List ℕ)) (later : Option (List ℕ)) (bytes : List ℕ) → TakesPartOfLine rest chunk bytes → chunk ≡ left → Appends old later (answers_by every s h.lines) → WholeLinesAnswered Cause every s input left old later
   whole_answered chunk left later bytes w e a = by input rest chunk h.consumed w.taken e
     where
-      by : (i r c : Option (List ℕ)) → Consumes i r h.taken → Consumes r c bytes → c ≡ left → WholeLinesAnswered every s i left old later
+      by : (i r c : Option (List ℕ)) → Consumes i r h.taken → Consumes r c bytes → c ≡ left → WholeLinesAnswered Cause every s i left old later
       by None r c p q same = tt
       by (Some i) None c p q same = absurd p
       by (Some i) (Some r) None p q same = absurd q
@@ -158,13 +175,12 @@ module _ (K : Console → Type 0) (every : ℕ) (s : Console) (input rest old ne
         c,
         p ∙ ap (λ (x : List ℕ). h.taken ++ x) q ∙ sym (append_assoc h.taken bytes c),
         sym same,
-        subst (λ (ls : List (List ℕ)). Appends old later (answers_by every s ls))
-            (sym (h.lines_are.whole bytes ∙ ap (λ (ls : List (List ℕ)). h.lines ++ ls) (whole_lines_from-last bytes w.plain) ∙ append-nil h.lines)) a,
+        (h.lines, sym (h.lines_are.whole bytes ∙ ap (λ (ls : List (List ℕ)). turn_lines h.lines ++ ls) (whole_lines_from-last bytes w.plain) ∙ append-nil (turn_lines h.lines)), a),
       )
 
 -- a run begins
-pub comes_first : (K : Console → Type 0) (every : ℕ) (s : Console) (input rest x : Option (List ℕ)) (held : List ℕ) (recorded : ℕ) → MayBeginRun s → held ≡ [] → recorded ≡ length (events_of s) → K s → rest ≡ input
-    → HasCome K every s input rest x x s held recorded
+pub comes_first : {Cause : Type 0} (K : Console → Type 0) (every : ℕ) (s : Console) (input rest x : Option (List ℕ)) (held : List ℕ) (recorded : ℕ) → MayBeginRun s → held ≡ [] → recorded ≡ length (events_of s) → K s → rest ≡ input
+    → HasCome Cause K every s input rest x x s held recorded
 comes_first K every s input rest x held recorded m e n k same = record {
   taken = [];
   lines = [];

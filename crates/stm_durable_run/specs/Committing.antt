@@ -1,5 +1,5 @@
 -- What a run keeps between two lines, and how it goes on.
-use Rattle.std.specs.Prelude.{◌≡◌, ◌≢◌, ◌⊎◌, ℕ, Bool, true, IsTrue, List, [], ◌++◌, length, Option, Some, IfSome}
+use Rattle.std.specs.Prelude.{◌≡◌, ◌≢◌, ◌⊎◌, ⊤, ℕ, Bool, true, false, IsTrue, List, [], ◌++◌, length, Option, Some, IfSome, codes}
 use Rattle.std.specs.Io.KnownBytes.{Appends, Consumes}
 use Rattle.stm_terms.specs.Texts.{IsPrefixOf}
 use Rattle.stm_events.specs.declared.event.Event.{Event}
@@ -10,19 +10,26 @@ use Rattle.stm_journal.specs.declared.sync_mode.SyncMode.{SyncMode}
 use Rattle.stm_journal.specs.Disk.{Disk, LeavesOnly}
 use Rattle.stm_durable.specs.Durable.{HistoryKept, LeavesHistory, MayBecome}
 use Rattle.stm_durable.specs.declared.recording.HistoryFile.{HistoryFile}
+use Rattle.stm_commands.specs.Checkpointing.{are_tickets_full, checkpoint_line, checkpoint_now}
+use Rattle.stm_commands.specs.Refusals.{refused}
 use Rattle.stm_lines.specs.Lines.{lines_of, whole_lines_of}
 use Rattle.stm_lines.specs.declared.run_fault.RunFault.TheVariants.{Read}
 use Rattle.stm_run.specs.declared.console.Console.{Console}
 use Rattle.stm_run.specs.declared.reply.Reply.{Reply}
 use Rattle.stm_run.specs.declared.reply.Reply.TheVariants as reply
 use Rattle.stm_run.specs.Abstraction.{history_of, later_events_of}
-use Rattle.stm_run.specs.ConsoleState.{table_of, events_of, with_checkpoint}
+use Rattle.stm_run.specs.Console.{on_console}
+use Rattle.stm_run.specs.ConsoleState.{present_desk, table_of, events_of, with_checkpoint}
 use Rattle.stm_run.specs.Fitting.{VariablesFit}
 use Rattle.stm_run.specs.Growing.{Grows}
-use Rattle.stm_run.specs.LineCheckpoints.{states_after, answers_by}
+use Rattle.stm_run.specs.LineCheckpoints.{Turn, turn_lines, states_after, answers_by, ForTurns}
 use Rattle.stm_durable_run.specs.declared.fault.DurableFault.{DurableFault}
 use Rattle.stm_durable_run.specs.declared.fault.DurableFault.TheVariants.{Run, Journal}
-use Rattle.stm_durable_run.specs.DurableRun.{resumed_console, KeepsConsole, HasCommitted, LeavesBetween, CoversAnswers}
+use Rattle.stm_durable_run.specs.declared.session.Taken.{Taken}
+use Rattle.stm_durable_run.specs.declared.session.Taken.TheVariants.{Held, Begun, Unmade, Streamed}
+use Rattle.stm_durable_run.specs.declared.session.Tried.{Tried}
+use Rattle.stm_durable_run.specs.declared.session.Tried.TheVariants.{Made, TicketsFull, RefusedByFile}
+use Rattle.stm_durable_run.specs.DurableRun.{resumed_console, KeepsConsole, KeepsConsoles, RefusalCause, HasCommitted, LeavesBetween, CoversAnswers}
 use Rattle.stm_durable_run.specs.NewEvents.{MayBeginRun}
 
 -- What a crash may leave while events are recorded in batches, after a history: that and the batches before, and of one batch what
@@ -58,10 +65,10 @@ pub record MayBeginAnew (K : Console → Type 0) (console : Console) : Type 0 wh
 -- After these lines of a run that began as s: the answers to some of them were written, and the file has their history; those to the
 -- others are held. A checkpoint may be the last of what happened.
 pub record IsBehind
-    (K : Console → Type 0) (every : ℕ) (s : Console) (lines : List (List ℕ)) (old new : Option (List ℕ)) (console : Console)
+    {Cause : Type 0} (K : Console → Type 0) (every : ℕ) (s : Console) (lines : List (Turn Cause)) (old new : Option (List ℕ)) (console : Console)
     (held : List ℕ) (recorded : ℕ) : Type 0 where
-  pub answered : List (List ℕ)
-  pub awaiting : List (List ℕ)
+  pub answered : List (Turn Cause)
+  pub awaiting : List (Turn Cause)
   pub parts : lines ≡ answered ++ awaiting
   pub may_begin : MayBeginRun (states_after every s answered)
   pub appended : Appends old new (answers_by every s answered)
@@ -72,7 +79,7 @@ pub record IsBehind
 
 -- The same, and no checkpoint was made since.
 pub record IsAfterLines
-    (K : Console → Type 0) (every : ℕ) (s : Console) (lines : List (List ℕ)) (old new : Option (List ℕ)) (console : Console)
+    {Cause : Type 0} (K : Console → Type 0) (every : ℕ) (s : Console) (lines : List (Turn Cause)) (old new : Option (List ℕ)) (console : Console)
     (held : List ℕ) (recorded : ℕ) : Type 0 where
   pub behind : IsBehind K every s lines old new console held recorded
   pub grows : Grows (states_after every s behind.answered) console
@@ -85,25 +92,25 @@ pub record AreLinesOf (lines : List (List ℕ)) (taken : List ℕ) : Type 0 wher
 
 -- a run that began as s has taken some whole lines of its input
 pub record HasCome
-    (K : Console → Type 0) (every : ℕ) (s : Console) (input rest old new : Option (List ℕ)) (console : Console) (held : List ℕ)
+    (Cause : Type 0) (K : Console → Type 0) (every : ℕ) (s : Console) (input rest old new : Option (List ℕ)) (console : Console) (held : List ℕ)
     (recorded : ℕ) : Type 0 where
   pub taken : List ℕ
-  pub lines : List (List ℕ)
+  pub lines : List (Turn Cause)
   pub consumed : Consumes input rest taken
-  pub lines_are : AreLinesOf lines taken
+  pub lines_are : AreLinesOf (turn_lines lines) taken
   pub after : IsAfterLines K every s lines old new console held recorded
 
 -- it has taken all lines
 pub record HasComeToEnd
-    (K : Console → Type 0) (every : ℕ) (s : Console) (input old new : Option (List ℕ)) (console : Console) (held : List ℕ)
+    (Cause : Type 0) (K : Console → Type 0) (every : ℕ) (s : Console) (input old new : Option (List ℕ)) (console : Console) (held : List ℕ)
     (recorded : ℕ) : Type 0 where
-  pub lines : List (List ℕ)
-  pub lines_are : IfSome input (λ bytes. lines_of bytes ≡ lines)
+  pub lines : List (Turn Cause)
+  pub lines_are : IfSome input (λ bytes. lines_of bytes ≡ turn_lines lines)
   pub after : IsAfterLines K every s lines old new console held recorded
 
 -- all lines were answered, and the file has their history
 pub record HasFinished
-    (K : Console → Type 0) (every : ℕ) (s : Console) (lines : List (List ℕ)) (old new : Option (List ℕ)) : Type 0 where
+    {Cause : Type 0} (K : Console → Type 0) (every : ℕ) (s : Console) (lines : List (Turn Cause)) (old new : Option (List ℕ)) : Type 0 where
   pub appended : Appends old new (answers_by every s lines)
   pub kept : K (states_after every s lines)
 
@@ -124,9 +131,9 @@ HasNotWritten (Journal e) old new text kept = Appends old new []
 
 -- the writer, the reader or memory failed: the file is at rest
 pub record HasEndedAtRest
-    (K : Console → Type 0) (every : ℕ) (s : Console) (lines : List (List ℕ)) (old new : Option (List ℕ)) : Type 0 where
-  pub answered : List (List ℕ)
-  pub others : List (List ℕ)
+    {Cause : Type 0} (K : Console → Type 0) (every : ℕ) (s : Console) (lines : List (Turn Cause)) (old new : Option (List ℕ)) : Type 0 where
+  pub answered : List (Turn Cause)
+  pub others : List (Turn Cause)
   pub parts : lines ≡ answered ++ others
   pub written : List ℕ
   pub front : IsPrefixOf written (answers_by every s answered)
@@ -135,31 +142,32 @@ pub record HasEndedAtRest
 
 -- the journal failed: what a crash may leave covers what was written
 pub record HasNotRecorded
-    (honest : Bool) (sync : SyncMode) (zeros : Bool) (may_leave : List ℕ → Type 0) (every : ℕ) (s : Console) (lines : List (List ℕ))
+    {Cause : Type 0} (honest : Bool) (sync : SyncMode) (zeros : Bool) (may_leave : List ℕ → Type 0) (every : ℕ) (s : Console) (lines : List (Turn Cause))
     (old new : Option (List ℕ)) : Type 0 where
-  pub answered : List (List ℕ)
-  pub others : List (List ℕ)
+  pub answered : List (Turn Cause)
+  pub others : List (Turn Cause)
   pub parts : lines ≡ answered ++ others
   pub appended : Appends old new (answers_by every s answered)
   pub covered : IsTrue honest → (c : List ℕ) → may_leave c → CoversAnswers sync zeros every s lines (answers_by every s answered) c
 
 -- how a run stands after a fault
 abbrev pub HasFailed :
-    Bool → SyncMode → Bool → (List ℕ → Type 0) → (Console → Type 0) → ℕ → Console → List (List ℕ) → Option (List ℕ)
+    {Cause : Type 0} → Bool → SyncMode → Bool → (List ℕ → Type 0) → (Console → Type 0) → ℕ → Console → List (Turn Cause) → Option (List ℕ)
     → Option (List ℕ) → DurableFault → Type 0
 HasFailed honest sync zeros may_leave K every s lines old new (Run f) = HasEndedAtRest K every s lines old new
 HasFailed honest sync zeros may_leave K every s lines old new (Journal e) =
     HasNotRecorded honest sync zeros may_leave every s lines old new
 
 -- what a crash at any moment of a run leaves, if the input is known
-abbrev pub LeavesRun : SyncMode → Bool → ℕ → Console → Option (List ℕ) → List ℕ → Type 0
-LeavesRun sync zeros every s input c = IfSome input (λ bytes. CoversAnswers sync zeros every s (lines_of bytes) [] c)
+abbrev pub LeavesRun : Type 0 → SyncMode → Bool → ℕ → Console → Option (List ℕ) → List ℕ → Type 0
+LeavesRun Cause sync zeros every s input c =
+    IfSome input (λ bytes. ForTurns Cause (lines_of bytes) (λ turns. CoversAnswers sync zeros every s turns [] c))
 
 -- the answers to the lines that were whole in what was taken were written
-abbrev pub WholeLinesAnswered : ℕ → Console → Option (List ℕ) → Option (List ℕ) → Option (List ℕ) → Option (List ℕ) → Type 0
-WholeLinesAnswered every s input left old new =
+abbrev pub WholeLinesAnswered : Type 0 → ℕ → Console → Option (List ℕ) → Option (List ℕ) → Option (List ℕ) → Option (List ℕ) → Type 0
+WholeLinesAnswered Cause every s input left old new =
     IfSome input (λ bytes. (taken rest : List ℕ) × (bytes ≡ taken ++ rest) × (left ≡ Some rest)
-    × Appends old new (answers_by every s (whole_lines_of taken)))
+    × ForTurns Cause (whole_lines_of taken) (λ turns. Appends old new (answers_by every s turns)))
 
 -- ---- on a disk
 
@@ -192,50 +200,118 @@ BeginningLeaves disk old new console =
     (λ f. LeavesBetween old.journal.sync disk.fills_with_zeros c.committed c.committed f
     ⊎ LeavesBetween old.journal.sync disk.fills_with_zeros c.committed console f)
 
+-- what a checkpoint leaves that was asked for: the desk is as it was, unless it can be made
+abbrev pub asked_step : Console → Console × List ℕ
+asked_step s = on_console (checkpoint_now (present_desk s))
+
+-- the answer to `checkpoint` if it can't be made
+abbrev pub no_checkpoint_text : List ℕ
+no_checkpoint_text = refused (codes "NoCheckpoint")
+
+-- What a crash may leave while a checkpoint is tried: what the file had, or the checkpoint.
+abbrev pub BeginningLeavesEither : {D : Type 0} → Disk D → HistoryFile D → HistoryFile D → Console → Type 0
+BeginningLeavesEither disk old new console =
+    IsTrue disk.is_honest → (c : MayBeginAnew (KeepsConsole disk old) (with_checkpoint console))
+    → LeavesOnly disk old.journal.device new.journal.device
+    (λ f. LeavesBetween old.journal.sync disk.fills_with_zeros c.committed c.committed f
+    ⊎ LeavesBetween old.journal.sync disk.fills_with_zeros c.committed (asked_step console).0 f)
+
+-- what is known of a checkpoint that was tried on an open desk
+abbrev pub HasTried : {D : Type 0} → Disk D → HistoryFile D → HistoryFile D → Console → Console → ℕ → ℕ → Tried → Type 0
+HasTried disk old new s t recorded recorded' (Made n) =
+    (asked_step s ≡ (t, checkpoint_line n)) × (recorded' ≡ length (events_of t)) × KeepsConsole disk new t × MayBeginRun t
+HasTried disk old new s t recorded recorded' TicketsFull =
+    (asked_step s ≡ (t, refused (codes "TicketsFull"))) × (t ≡ s) × (recorded' ≡ recorded) × KeepsConsoles disk old new
+HasTried disk old new s t recorded recorded' RefusedByFile =
+    (are_tickets_full (present_desk s) ≡ false) × (t ≡ s) × (recorded' ≡ recorded) × KeepsConsoles disk old new × RefusalCause disk
+
+-- What is known after a line, by how it was taken: `made` is what it does and writes, and `unmade` if its checkpoint can't be made.
+abbrev pub HasTaken :
+    {D : Type 0} → Disk D → HistoryFile D → HistoryFile D → Console × List ℕ → Console × List ℕ → Console → List ℕ → List ℕ → ℕ → ℕ
+    → Taken → Type 0
+HasTaken disk old new made unmade t held held' recorded recorded' Held =
+    (t ≡ made.0) × (held' ≡ held ++ made.1) × (recorded' ≡ recorded) × KeepsConsoles disk old new
+HasTaken disk old new made unmade t held held' recorded recorded' Begun =
+    (t ≡ made.0) × (held' ≡ held ++ made.1) × (recorded' ≡ length (events_of t)) × KeepsConsole disk new t × MayBeginRun t
+HasTaken disk old new made unmade t held held' recorded recorded' Unmade =
+    (t ≡ unmade.0) × (held' ≡ held ++ unmade.1) × (recorded' ≡ recorded) × KeepsConsoles disk old new × RefusalCause disk
+HasTaken disk old new made unmade t held held' recorded recorded' (Streamed r) =
+    (t ≡ made.0) × (held' ++ streamed_text r t ≡ held ++ made.1) × (recorded' ≡ recorded) × KeepsConsoles disk old new
+
+-- whether a line made a checkpoint
+abbrev pub has_begun : Taken → Bool
+has_begun Held = false
+has_begun Begun = true
+has_begun Unmade = false
+has_begun (Streamed r) = false
+
+-- After a line that wasn't taken: nothing was written, and if memory ran out the file is at rest, as before or with the checkpoint.
+abbrev pub HasNotTaken : {D : Type 0} → Disk D → HistoryFile D → HistoryFile D → Console → DurableFault → Type 0
+HasNotTaken disk old new made (Run f) = (f ≢ Read) × (KeepsConsoles disk old new ⊎ KeepsConsole disk new made)
+HasNotTaken disk old new made (Journal e) = ⊤
+
+-- a crash at any moment meanwhile leaves what the file had, or that with the checkpoint
+abbrev pub TakingLeaves : {D : Type 0} → Disk D → HistoryFile D → HistoryFile D → Console → ℕ → Console → Type 0
+TakingLeaves disk old new console recorded made =
+    IsTrue disk.is_honest → (c : MayCommit (KeepsConsole disk old) console recorded)
+    → LeavesOnly disk old.journal.device new.journal.device
+    (λ f. LeavesBetween old.journal.sync disk.fills_with_zeros c.committed c.committed f
+    ⊎ LeavesBetween old.journal.sync disk.fills_with_zeros c.committed made f)
+
 -- how a run over this file stands after a fault
 abbrev pub FailsAfter :
-    {D : Type 0} → Disk D → HistoryFile D → HistoryFile D → ℕ → Console → List (List ℕ) → Option (List ℕ) → Option (List ℕ)
-    → DurableFault → Type 0
+    {D : Type 0} → (disk : Disk D) → HistoryFile D → HistoryFile D → ℕ → Console → List (Turn (RefusalCause disk)) → Option (List ℕ)
+    → Option (List ℕ) → DurableFault → Type 0
 FailsAfter disk file file' every s lines old new e =
     HasFailed disk.is_honest file.journal.sync disk.fills_with_zeros (disk.may_leave file'.journal.device) (KeepsConsole disk file')
     every s lines old new e
 
+-- the same of a run over an input, if it is known
+abbrev pub FailsOver :
+    {D : Type 0} → Disk D → HistoryFile D → HistoryFile D → ℕ → Console → Option (List ℕ) → Option (List ℕ) → Option (List ℕ)
+    → DurableFault → Type 0
+FailsOver disk file file' every s input old new e =
+    IfSome input (λ bytes. ForTurns (RefusalCause disk) (lines_of bytes) (λ turns. FailsAfter disk file file' every s turns old new e))
+
 -- ---- a whole run, if its input is known
 
 -- the answers to these lines, by a run with these options that goes on from what was loaded
-abbrev pub run_answers : Options → Option Loaded → List (List ℕ) → List ℕ
-run_answers options loaded lines = answers_by options.checkpoint_every (resumed_console options.max_events loaded) lines
+abbrev pub run_answers : {Cause : Type 0} → Options → Option Loaded → List (Turn Cause) → List ℕ
+run_answers options loaded turns = answers_by options.checkpoint_every (resumed_console options.max_events loaded) turns
 
 -- the console after them
-abbrev pub console_after : Options → Option Loaded → List (List ℕ) → Console
-console_after options loaded lines = states_after options.checkpoint_every (resumed_console options.max_events loaded) lines
+abbrev pub console_after : {Cause : Type 0} → Options → Option Loaded → List (Turn Cause) → Console
+console_after options loaded turns = states_after options.checkpoint_every (resumed_console options.max_events loaded) turns
 
--- the file has exactly the history of all lines
-abbrev pub KeepsAllLines : {D : Type 0} → Disk D → HistoryFile D → Options → Option Loaded → Option (List ℕ) → Type 0
-KeepsAllLines disk f options loaded input =
-    IfSome input (λ bytes. KeepsConsole disk f (console_after options loaded (lines_of bytes)))
+-- the answers to all lines were written, between these contents of the writer, and the file has exactly the history of all lines
+abbrev pub AnswersAllLines :
+    {D : Type 0} → Disk D → HistoryFile D → Options → Option Loaded → Option (List ℕ) → Option (List ℕ) → Option (List ℕ) → Type 0
+AnswersAllLines disk f options loaded input old new =
+    IfSome input (λ bytes. ForTurns (RefusalCause disk) (lines_of bytes) (λ turns.
+    Appends old new (run_answers options loaded turns) × KeepsConsole disk f (console_after options loaded turns)))
 
--- it has exactly the history of the lines whose answers were written, between these contents of the writer
+-- it has exactly the history of the lines whose answers were written
 abbrev pub KeepsAnswered :
     {D : Type 0} → Disk D → HistoryFile D → Options → Option Loaded → Option (List ℕ) → Option (List ℕ) → Option (List ℕ) → Type 0
 KeepsAnswered disk f options loaded input old new =
-    IfSome input (λ bytes. (written : List ℕ) × Appends old new written
-    × HasCommitted disk f options.checkpoint_every (resumed_console options.max_events loaded) (lines_of bytes) written)
+    IfSome input (λ bytes. ForTurns (RefusalCause disk) (lines_of bytes) (λ turns. (written : List ℕ) × Appends old new written
+    × HasCommitted disk f options.checkpoint_every (resumed_console options.max_events loaded) turns written))
 
 -- a crash now leaves a file that covers what was written
 abbrev pub CoversWritten :
     {D : Type 0} → Disk D → HistoryFile D → HistoryFile D → Options → Option Loaded → Option (List ℕ) → Option (List ℕ)
     → Option (List ℕ) → Type 0
 CoversWritten disk file file' options loaded input old new =
-    IsTrue disk.is_honest → IfSome input (λ bytes. (written : List ℕ) × Appends old new written
+    IsTrue disk.is_honest → IfSome input (λ bytes. ForTurns (RefusalCause disk) (lines_of bytes) (λ turns.
+    (written : List ℕ) × Appends old new written
     × ((c : List ℕ) → disk.may_leave file'.journal.device c
     → CoversAnswers file.journal.sync disk.fills_with_zeros options.checkpoint_every (resumed_console options.max_events loaded)
-    (lines_of bytes) written c))
+    turns written c)))
 
 -- a crash at any moment of the run leaves the history from before it, and a front of the events of its lines
 abbrev pub RunLeaves : {D : Type 0} → Disk D → HistoryFile D → HistoryFile D → Options → Option Loaded → Option (List ℕ) → Type 0
 RunLeaves disk file file' options loaded input =
     IsTrue disk.is_honest → IfSome input (λ bytes.
-    LeavesOnly disk file.journal.device file'.journal.device
-    (CoversAnswers file.journal.sync disk.fills_with_zeros options.checkpoint_every (resumed_console options.max_events loaded)
-    (lines_of bytes) []))
+    LeavesOnly disk file.journal.device file'.journal.device (λ c. ForTurns (RefusalCause disk) (lines_of bytes) (λ turns.
+    CoversAnswers file.journal.sync disk.fills_with_zeros options.checkpoint_every (resumed_console options.max_events loaded)
+    turns [] c)))

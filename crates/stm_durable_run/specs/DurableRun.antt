@@ -1,5 +1,5 @@
 -- A run whose history is kept in a file.
-use Rattle.std.specs.Prelude.{◌≡◌, ◌⊎◌, ⊤, ℕ, Bool, true, false, IsTrue, List, [], ◌++◌, Option, Some, None, Result, Ok, Err, is_some}
+use Rattle.std.specs.Prelude.{◌≡◌, ◌≢◌, ◌⊎◌, ⊤, ℕ, Bool, true, false, IsTrue, List, [], ◌++◌, Option, Some, None, Result, Ok, Err, is_some}
 use Rattle.stm_terms.specs.Texts.{IsPrefixOf}
 use Rattle.stm_events.specs.declared.event.Event.{Event}
 use Rattle.stm_events.specs.SlowDesk.{state_from}
@@ -19,7 +19,7 @@ use Rattle.stm_run.specs.declared.console.Console.{Console}
 use Rattle.stm_run.specs.declared.console.Console.TheVariants.{Open}
 use Rattle.stm_run.specs.Console.{initial_console}
 use Rattle.stm_run.specs.ConsoleState.{is_open, table_of, checkpoint_of_console, start_of_console, events_of}
-use Rattle.stm_run.specs.LineCheckpoints.{states_after, answers_by}
+use Rattle.stm_run.specs.LineCheckpoints.{Turn, states_after, answers_by}
 use Rattle.stm_durable_run.specs.declared.fault.DurableFault.{DurableFault}
 use Rattle.stm_durable_run.specs.declared.fault.DurableFault.TheVariants.{Run, Journal}
 
@@ -53,11 +53,11 @@ KeepsConsole disk f s = IsTrue disk.is_honest → ConsoleKept disk f s
 -- ---- what a run leaves
 
 -- Some of these lines were answered, from the first on: the file has exactly their history, and no more than their answers was
--- written. After a line that adds an event there is a checkpoint if the history has `every` events.
+-- written. After a line that adds an event there is a checkpoint if the history has `every` events, unless it can't be made.
 pub record HasCommitted
-    {D : Type 0} (disk : Disk D) (f : HistoryFile D) (every : ℕ) (s : Console) (lines : List (List ℕ)) (written : List ℕ) : Type 0 where
-  pub answered : List (List ℕ)
-  pub others : List (List ℕ)
+    {D : Type 0} {Cause : Type 0} (disk : Disk D) (f : HistoryFile D) (every : ℕ) (s : Console) (lines : List (Turn Cause)) (written : List ℕ) : Type 0 where
+  pub answered : List (Turn Cause)
+  pub others : List (Turn Cause)
   pub parts : lines ≡ answered ++ others
   pub front : IsPrefixOf written (answers_by every s answered)
   pub kept : ConsoleKept disk f (states_after every s answered)
@@ -91,15 +91,15 @@ LeavesBetween sync zeros earlier later file = LeavesEvents sync zeros earlier la
 -- What a crash may leave of a run of which this was written: each event whose answer was written, even in part, is in the file or
 -- was before a checkpoint that the file has, perhaps with some of the events that followed, and nothing else.
 pub record CoversAnswers
-    (sync : SyncMode) (zeros : Bool) (every : ℕ) (s : Console) (lines : List (List ℕ)) (written file : List ℕ) : Type 0 where
+    {Cause : Type 0} (sync : SyncMode) (zeros : Bool) (every : ℕ) (s : Console) (lines : List (Turn Cause)) (written file : List ℕ) : Type 0 where
   -- the lines whose answers were written, the last perhaps in part
-  pub answered : List (List ℕ)
-  pub others : List (List ℕ)
+  pub answered : List (Turn Cause)
+  pub others : List (Turn Cause)
   pub parts : lines ≡ answered ++ others
   pub front : IsPrefixOf written (answers_by every s answered)
   -- those after them whose events the file may have, too
-  pub reached : List (List ℕ)
-  pub unreached : List (List ℕ)
+  pub reached : List (Turn Cause)
+  pub unreached : List (Turn Cause)
   pub parts_reached : others ≡ reached ++ unreached
   pub left : LeavesBetween sync zeros (states_after every s answered) (states_after every s (answered ++ reached)) file
 
@@ -125,6 +125,17 @@ pub record HasRunCause {D : Type 0} (disk : Disk D) (e : DurableFault) : Type 0 
 
 abbrev pub RunsUnlessDisk : {D : Type 0} → Disk D → DurableFault → Type 0
 RunsUnlessDisk disk e = IsTrue disk.is_honest → HasRunCause disk e
+
+-- Why a checkpoint can't be made: the file refuses it, or has refused one before. On a disk on which no call fails that is only since a
+-- line of the checkpoint or the file would be too long. Memory that runs out is no such cause: it ends the run.
+pub record RefusalCause {D : Type 0} (disk : Disk D) : Type 0 where
+  pub error : JournalError
+  pub not_memory : error ≢ NoMemory
+  pub cause : RunsUnlessDisk disk (Journal error)
+
+-- the file has what it had of each console, and more can be recorded in it
+abbrev pub KeepsConsoles : {D : Type 0} → Disk D → HistoryFile D → HistoryFile D → Type 0
+KeepsConsoles disk old new = (s : Console) → KeepsConsole disk old s → KeepsConsole disk new s
 
 -- the exit status after a fault
 abbrev pub durable_status : DurableFault → ℕ

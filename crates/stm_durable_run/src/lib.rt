@@ -36,7 +36,7 @@ mod tests {
     use std::test::Fail;
     use std::thread::Threads;
     use stm_durable::{Opened, open_history};
-    use stm_journal::{Device, JournalError, Memory, Replace, SyncMode};
+    use stm_journal::{Device, JournalError, Memory, Replace, ReplaceError, SyncMode};
     use stm_options::Options;
     use stm_store::Seed;
 
@@ -215,9 +215,117 @@ evaluated 1
             Err(JournalError::NoSpace)
         }
 
-        fn put(&mut self, _other: ReadOnly) -> Result<(), JournalError> {
-            Err(JournalError::Failed)
+        fn put(&mut self, _other: ReadOnly) -> Result<(), ReplaceError> {
+            Err(ReplaceError::Unfinished(JournalError::Failed))
         }
+
+        fn report(&mut self, _error: JournalError) {}
+    }
+
+    /// A device in memory whose place no other file can take.
+    #[derive(Drop)]
+    struct Alone(Memory);
+
+    impl Device for Alone {
+        ghost use Rattle.stm_journal.specs.Disk.{claims_nothing, lawful_nothing};
+
+        ghost disk = { claims_nothing };
+
+        ghost lawful = { lawful_nothing };
+
+        fn len(&self) -> Result<usize, JournalError> {
+            self.0.len()
+        }
+
+        fn read_at(&self, at: usize, buffer: &mut [u8]) -> Result<usize, JournalError> {
+            if at > self.0.bytes().len() {
+                return Err(JournalError::Failed);
+            }
+            self.0.read_at(at, buffer)
+        }
+
+        fn settle(&mut self) -> Result<(), JournalError> {
+            self.0.settle()
+        }
+
+        fn write_at(&mut self, at: usize, bytes: &[u8]) -> Result<(), JournalError> {
+            if at > self.0.bytes().len() {
+                return Err(JournalError::Failed);
+            }
+            self.0.write_at(at, bytes)
+        }
+
+        fn cut(&mut self, len: usize) -> Result<(), JournalError> {
+            if len > self.0.bytes().len() {
+                return Err(JournalError::Failed);
+            }
+            self.0.cut(len)
+        }
+
+        fn sync(&mut self) -> Result<(), JournalError> {
+            self.0.sync()
+        }
+    }
+
+    impl Replace for Alone {
+        fn beside(&mut self) -> Result<Alone, JournalError> {
+            let file = self.0.beside()?;
+            Ok(Alone(file))
+        }
+
+        fn put(&mut self, _other: Alone) -> Result<(), ReplaceError> {
+            Err(ReplaceError::Refused(JournalError::Failed))
+        }
+
+        fn report(&mut self, _error: JournalError) {}
+    }
+
+    /// What a run over an empty file writes whose place no other file can take, and what the file then has.
+    fn run_alone<T: Threads + RandomSource + Sync>(
+        rt: &T,
+        alloc: Global,
+        input: &[u8],
+        every: u32,
+    ) -> Result<(Vec<u8>, Vec<u8>), Fail>
+        requires { (1 ≤ every) × (every ≤ max_events) }
+    {
+        let device = Alone(Memory::new(alloc, Vec::new(alloc)));
+        let Opened {
+            mut file,
+            loaded,
+            ..
+        } = open_history(alloc, Seed::fixed(), device, SyncMode::Full).map_err(|e| e.1)?;
+        let mut reader = input;
+        let mut out = Vec::new(alloc);
+        let mut options = Options::standard();
+        options.checkpoint_every = every;
+        run_durable(rt, alloc, &mut reader, &mut out, &mut file, loaded, options)?;
+        let left = file.journal.device.0.bytes().to_vec(alloc)?;
+        Ok((out, left))
+    }
+
+    #[test]
+    fn a_checkpoint_that_can_not_be_made_is_refused(rt: HostRuntime) -> Result<(), Fail> {
+        let (out, left) = run_alone(
+            &rt,
+            rt.alloc(),
+            b"checkpoint\ntvar x : Int = 1\ncheckpoint 1\nhistory\n",
+            MANY,
+        )?;
+        assert_eq!(rt;
+            out.as_slice(),
+            b"refused NoCheckpoint\nrefused Late\nrefused Argument\n{\"format\":3,\"vars\":0}\n".as_slice()
+        );
+        assert_eq!(rt; left.as_slice(), b"{\"format\":3,\"vars\":0}\n".as_slice());
+        Ok(())
+    }
+
+    #[test]
+    fn a_run_goes_on_without_its_checkpoints(rt: HostRuntime) -> Result<(), Fail> {
+        let (out, left) = run_alone(&rt, rt.alloc(), FIRST, 1)?;
+        assert_eq!(rt; out.as_slice(), FIRST_OUT);
+        assert_eq!(rt; left.as_slice(), FIRST_FILE);
+        Ok(())
     }
 
     #[test]

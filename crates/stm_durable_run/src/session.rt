@@ -3,7 +3,7 @@
 //! Answers are held until the events of their lines are in the file. Each byte of an answer is written by `write_held` or
 //! `write_streamed`, which ask for a file that has the history of all lines so far.
 
-ghost use Rattle.std.specs.Prelude.{◌≡◌, ◌≢◌, ◌⊎◌, ◌++◌, ◌∷◌, [], true, false, ℕ, MatchBool, List, Option, IsTrue, length, string_bytes, OnOk, OnErr, IfOk, IfErr};
+ghost use Rattle.std.specs.Prelude.{◌≡◌, ◌≢◌, ◌<◌, ◌++◌, ◌∷◌, [], true, false, ℕ, List, Option, Some, IsTrue, length, string_bytes, OnOk, OnErr, IfOk, IfErr};
 ghost use Rattle.std.specs.Io.KnownBytes.{Appends};
 ghost use Rattle.stm_terms.specs.Texts.{IsPrefixOf};
 ghost use Rattle.stm_history.specs.HistoryText.{WritesText};
@@ -12,12 +12,16 @@ ghost use Rattle.stm_lines.specs.LineClass.{line_class};
 ghost use Rattle.stm_run.specs.declared.console.Console.{Console as AnyConsole};
 ghost use Rattle.stm_run.specs.Abstraction.{IsStep};
 ghost use Rattle.stm_run.specs.Console.{step};
-ghost use Rattle.stm_run.specs.ConsoleState.{table_of, events_of, with_checkpoint};
+ghost use Rattle.stm_machine.specs.Checkpoints.{MayStart, checkpoint_of};
+ghost use Rattle.stm_desk.specs.DeskView.{state_of};
+ghost use Rattle.stm_commands.specs.Checkpointing.{are_tickets_full};
+ghost use Rattle.stm_run.specs.declared.console.Console.TheVariants.{Open as IsOpen};
+ghost use Rattle.stm_run.specs.ConsoleState.{present_desk, is_open, table_of, events_of, with_checkpoint};
 ghost use Rattle.stm_run.specs.Fitting.{VariablesFit};
 ghost use Rattle.stm_run.specs.Growing.{Grows};
-ghost use Rattle.stm_run.specs.LineCheckpoints.{auto_step, is_streamed, tells_checkpoint};
-ghost use Rattle.stm_durable_run.specs.DurableRun.{RunsUnlessDisk, KeepsConsole, CoversAnswers};
-ghost use Rattle.stm_durable_run.specs.Committing.{MayCommit, MayBeginAnew, IsAfterLines, streamed_text, HasNotWritten, CommitLeaves, BeginningLeaves, FailsAfter};
+ghost use Rattle.stm_run.specs.LineCheckpoints.{asks_checkpoint, reply_checkpoints, line_checkpoints, is_streamed, Turn, turn_of, plain, refused_step, made_step};
+ghost use Rattle.stm_durable_run.specs.DurableRun.{RunsUnlessDisk, RefusalCause, KeepsConsole, CoversAnswers};
+ghost use Rattle.stm_durable_run.specs.Committing.{MayCommit, MayBeginAnew, IsAfterLines, streamed_text, HasNotWritten, CommitLeaves, BeginningLeaves, BeginningLeavesEither, asked_step, no_checkpoint_text, HasTried, HasTaken, has_begun, HasNotTaken, TakingLeaves, FailsAfter};
 ghost use Rattle.stm_durable_run.specs.NewEvents.{MayBeginRun};
 
 use crate::beginning::begin_file_anew;
@@ -27,9 +31,12 @@ use std::alloc::Global;
 use std::io::Write;
 use std::thread::Threads;
 use stm_commands::Threading;
+use stm_commands::commands::checkpoint::write_checkpoint_line;
+use stm_commands::refusals::refuse;
+use stm_desk::Checkpoint;
 use stm_durable::HistoryFile;
 use stm_history::WriteFault;
-use stm_journal::{Device, Replace};
+use stm_journal::{Device, JournalError, Replace, ReplaceError};
 use stm_lines::RunFault;
 use stm_lines::output::{flush, write_text};
 use stm_run::console::Console;
@@ -49,11 +56,37 @@ fn fault_of(fault: WriteFault) -> RunFault
     }
 }
 
-/// The console, the answers that are held, how many of its events are in the file, and how many threads evaluate.
+/// What became of a checkpoint that was tried.
+#[derive(Clone, Copy)]
+pub(crate) enum Tried {
+    /// It was made, in the file too. The history had this many events.
+    Made(u32),
+    /// Tickets could run out after it.
+    TicketsFull,
+    /// The file refused it.
+    RefusedByFile,
+}
+
+/// How a line was taken, whose answer is held, or all of it that isn't to be streamed.
+#[derive(Clone, Copy)]
+pub(crate) enum Taken {
+    /// Its events are to be recorded.
+    Held,
+    /// It made a checkpoint, which the file has.
+    Begun,
+    /// Its checkpoint couldn't be made, or wasn't tried again. Its events are to be recorded.
+    Unmade,
+    /// What is left of its answer is to be streamed.
+    Streamed(Reply),
+}
+
+/// The console, the answers that are held, how many of its events are in the file, from how many on a checkpoint is tried by itself
+/// after one that was refused, and how many threads evaluate.
 pub(crate) struct DurableSession {
     console: Console,
     held: String,
     recorded: usize,
+    tries_from: usize,
     threading: Threading,
 }
 
@@ -64,6 +97,7 @@ impl Drop for DurableSession {
             console: _,
             held: _,
             recorded: _,
+            tries_from: _,
             threading: _,
         } = self;
     }
@@ -80,11 +114,13 @@ impl DurableSession {
         ensures console { result.console ≡ console }
         ensures held { string_bytes result.held ≡ [] }
         ensures recorded { result.recorded ≡ recorded }
+        ensures tries { result.tries_from ≡ 0 }
     {
         DurableSession {
             console,
             held: String::new(alloc),
             recorded,
+            tries_from: 0,
             threading,
         }
     }
@@ -98,14 +134,17 @@ impl DurableSession {
     ) -> Result<Reply, NoMemory>
         ensures step { IfOk result (λ r. IsStep r (string_bytes self.old.held) (string_bytes self.new.held)
             self.new.console (step self.old.console line.now)) }
-        ensures made { IfOk result (λ r. tells_checkpoint r ≡ true
-            → self.new.console ≡ with_checkpoint self.old.console) }
-        ensures grows { IfOk result (λ r. tells_checkpoint r ≡ false → Grows self.old.console self.new.console) }
+        ensures asked { IfOk result (λ r. asks_checkpoint r ≡ true
+            → self.new.console ≡ IsOpen (present_desk self.old.console)) }
+        ensures made { IfOk result (λ r. reply_checkpoints (present_desk self.old.console) r
+            ≡ line_checkpoints self.old.console line.now) }
+        ensures grows { OnOk result (Grows self.old.console self.new.console) }
         ensures variables { OnOk result (VariablesFit (table_of self.old.console)
             → VariablesFit (table_of self.new.console)) }
         ensures streamed { IfOk result (λ r. is_streamed r ≡ true
             → events_of self.new.console ≡ events_of self.old.console) }
         ensures recorded { self.new.recorded ≡ self.old.recorded }
+        ensures tries { self.new.tries_from ≡ self.old.tries_from }
     {
         stm_run::fitting_laws::variables_stay_fit();
         self.console
@@ -127,6 +166,7 @@ impl DurableSession {
             × Appends (W.contents writer.old) (W.contents writer.new) front) }
         ensures console { self.new.console ≡ self.old.console }
         ensures recorded { self.new.recorded ≡ self.old.recorded }
+        ensures tries { self.new.tries_from ≡ self.old.tries_from }
         ensures fault { IfErr result (λ e. e ≢ RunFault.Read) }
     {
         match write_text(writer, self.held.as_bytes()) {
@@ -176,6 +216,7 @@ impl DurableSession {
         ensures none { OnOk result (string_bytes self.new.held ≡ []) }
         ensures count { OnOk result (self.new.recorded ≡ length (events_of self.old.console)) }
         ensures console { self.new.console ≡ self.old.console }
+        ensures tries { self.new.tries_from ≡ self.old.tries_from }
         ensures sync { file.new.journal.sync ≡ file.old.journal.sync }
         ensures cause { IfErr result (RunsUnlessDisk D.disk) }
         // The file has the events, unless that was the fault; then nothing was written.
@@ -209,6 +250,7 @@ impl DurableSession {
         ensures none { OnOk result (string_bytes self.new.held ≡ []) }
         ensures count { OnOk result (self.new.recorded ≡ length (events_of self.old.console)) }
         ensures console { self.new.console ≡ self.old.console }
+        ensures tries { self.new.tries_from ≡ self.old.tries_from }
         ensures sync { file.new.journal.sync ≡ file.old.journal.sync }
         ensures cause { IfErr result (RunsUnlessDisk D.disk) }
         ensures kept { OnOk result (KeepsConsole D.disk file.new self.old.console) }
@@ -239,6 +281,7 @@ impl DurableSession {
         ensures none { OnOk result (string_bytes self.new.held ≡ []) }
         ensures count { OnOk result (self.new.recorded ≡ length (events_of self.old.console)) }
         ensures console { self.new.console ≡ self.old.console }
+        ensures tries { self.new.tries_from ≡ self.old.tries_from }
         ensures sync { file.new.journal.sync ≡ file.old.journal.sync }
         ensures cause { IfErr result (RunsUnlessDisk D.disk) }
         ensures kept { OnOk result (KeepsConsole D.disk file.new self.old.console) }
@@ -255,57 +298,184 @@ impl DurableSession {
         }
     }
 
-    /// Makes a checkpoint if events were added to the first `before` ones and there are at least `every` of them then. Returns whether it
-    /// was made.
-    fn checkpoint_if_due(&mut self, every: u32, before: usize) -> Result<bool, NoMemory>
-        ensures made { IfOk result (λ made. MatchBool made (self.new.console ≡ with_checkpoint self.old.console)
-            (self.new.console ≡ self.old.console)) }
-        ensures state { OnOk result ((earlier : AnyConsole) → before ≡ length (events_of earlier)
-            → self.new.console ≡ auto_step every earlier self.old.console) }
-        ensures unchanged { OnErr result (self.new.console ≡ self.old.console) }
+    /// Puts a checkpoint of the open desk into a new file, which takes the place of the old one, and lets the history begin from it.
+    fn begin_anew<D: Replace + Drop>(
+        &mut self,
+        alloc: Global,
+        checkpoint: Checkpoint,
+        file: &mut HistoryFile<D>,
+    ) -> Result<Tried, DurableFault>
+        requires open { is_open self.old.console ≡ true }
+        requires may { MayBeginAnew (KeepsConsole D.disk file.old) (with_checkpoint self.old.console) }
+        requires taken { checkpoint ≡ checkpoint_of (state_of (present_desk self.old.console).desk) }
+        requires start { MayStart (table_of self.old.console) (Some checkpoint) }
+        requires room { are_tickets_full (present_desk self.old.console) ≡ false }
+        ensures tried { IfOk result (HasTried D.disk file.old file.new self.old.console self.new.console
+            self.old.recorded self.new.recorded) }
         ensures held { string_bytes self.new.held ≡ string_bytes self.old.held }
-        ensures recorded { self.new.recorded ≡ self.old.recorded }
+        ensures tries { self.new.tries_from ≡ self.old.tries_from }
+        ensures sync { file.new.journal.sync ≡ file.old.journal.sync }
+        ensures cause { IfErr result (RunsUnlessDisk D.disk) }
+        ensures journal { IfErr result (λ e. (f : RunFault) → e ≡ DurableFault.Run f → ⊥) }
+        ensures any_moment { BeginningLeaves D.disk file.old file.new (with_checkpoint self.old.console) }
     {
-        if before < self.console.event_count() {
-            self.console.checkpoint(every)
-        } else {
-            Ok(false)
+        match begin_file_anew(alloc, &self.console, &checkpoint, file) {
+            Ok(()) => {
+                // The history of the console has no event then.
+                self.recorded = 0;
+                Ok(Tried::Made(self.console.begin_from(checkpoint)))
+            }
+            Err(ReplaceError::Refused(JournalError::NoMemory)) => {
+                Err(DurableFault::Journal(JournalError::NoMemory))
+            }
+            Err(ReplaceError::Refused(error)) => {
+                file.report(error);
+                Ok(Tried::RefusedByFile)
+            }
+            Err(ReplaceError::Unfinished(error)) => Err(DurableFault::Journal(error)),
         }
     }
 
-    /// Replaces the file by one that begins from the checkpoint that the console has just made, and then writes the answers that are
-    /// held.
-    fn begin_anew<D: Replace + Drop, W: Write>(
+    /// Makes a checkpoint of the open desk, unless tickets could run out after it or the file refuses it: then nothing has changed.
+    fn try_checkpoint<D: Replace + Drop>(
         &mut self,
         alloc: Global,
         file: &mut HistoryFile<D>,
-        writer: &mut W,
-    ) -> Result<(), DurableFault>
-        requires { MayBeginAnew (KeepsConsole D.disk file.old) self.old.console }
-        ensures done { OnOk result (Appends (W.contents writer.old) (W.contents writer.new)
-            (string_bytes self.old.held)) }
-        ensures none { OnOk result (string_bytes self.new.held ≡ []) }
-        ensures count { OnOk result (self.new.recorded ≡ length (events_of self.old.console)) }
-        ensures may_begin { OnOk result (MayBeginRun self.old.console) }
-        ensures console { self.new.console ≡ self.old.console }
+    ) -> Result<Tried, DurableFault>
+        requires open { is_open self.old.console ≡ true }
+        requires may { MayBeginAnew (KeepsConsole D.disk file.old) (with_checkpoint self.old.console) }
+        ensures tried { IfOk result (HasTried D.disk file.old file.new self.old.console self.new.console
+            self.old.recorded self.new.recorded) }
+        ensures held { string_bytes self.new.held ≡ string_bytes self.old.held }
+        ensures tries { self.new.tries_from ≡ self.old.tries_from }
         ensures sync { file.new.journal.sync ≡ file.old.journal.sync }
         ensures cause { IfErr result (RunsUnlessDisk D.disk) }
-        // The file has the checkpoint, unless that was the fault; then nothing was written.
-        ensures kept { OnOk result (KeepsConsole D.disk file.new self.old.console) }
-        ensures fault { IfErr result (λ e. HasNotWritten e (W.contents writer.old) (W.contents writer.new)
-            (string_bytes self.old.held) (KeepsConsole D.disk file.new self.old.console)) }
-        ensures any_moment { BeginningLeaves D.disk file.old file.new self.old.console }
+        ensures fault { IfErr result (HasNotTaken D.disk file.old file.new (asked_step self.old.console).0) }
+        ensures any_moment { BeginningLeavesEither D.disk file.old file.new self.old.console }
     {
-        match begin_file_anew(alloc, &self.console, file) {
-            Ok(()) => {
-                // The history of the console has no event yet.
-                self.recorded = 0;
-                match self.write_held(file, writer) {
-                    Ok(()) => Ok(()),
-                    Err(fault) => Err(DurableFault::Run(fault)),
+        match self.console.next_checkpoint() {
+            Ok(Some(checkpoint)) => self.begin_anew(alloc, checkpoint, file),
+            Ok(None) => Ok(Tried::TicketsFull),
+            Err(_) => Err(DurableFault::Run(RunFault::NoMemory)),
+        }
+    }
+
+    /// Makes the checkpoint that a line asked for, and holds the answer.
+    fn checkpoint_asked<D: Replace + Drop>(
+        &mut self,
+        alloc: Global,
+        file: &mut HistoryFile<D>,
+    ) -> Result<Taken, DurableFault>
+        requires open { is_open self.old.console ≡ true }
+        requires may { MayBeginAnew (KeepsConsole D.disk file.old) (with_checkpoint self.old.console) }
+        requires because { 0 < self.old.tries_from → RefusalCause D.disk }
+        ensures taken { IfOk result (HasTaken D.disk file.old file.new (asked_step self.old.console)
+            (self.old.console, no_checkpoint_text) self.new.console (string_bytes self.old.held) (string_bytes self.new.held)
+            self.old.recorded self.new.recorded) }
+        ensures room { IfOk result (λ k. k ≡ Taken.Unmade → are_tickets_full (present_desk self.old.console) ≡ false) }
+        ensures same { IfOk result (λ k. has_begun k ≡ false → self.new.console ≡ self.old.console) }
+        ensures because { 0 < self.new.tries_from → RefusalCause D.disk }
+        ensures sync { file.new.journal.sync ≡ file.old.journal.sync }
+        ensures cause { IfErr result (RunsUnlessDisk D.disk) }
+        ensures fault { IfErr result (HasNotTaken D.disk file.old file.new (asked_step self.old.console).0) }
+        ensures any_moment { BeginningLeavesEither D.disk file.old file.new self.old.console }
+    {
+        match self.try_checkpoint(alloc, file) {
+            Ok(Tried::Made(count)) => {
+                self.tries_from = 0;
+                match write_checkpoint_line(count, &mut self.held) {
+                    Ok(()) => Ok(Taken::Begun),
+                    Err(_) => Err(DurableFault::Run(RunFault::NoMemory)),
                 }
             }
-            Err(refused) => Err(DurableFault::Journal(refused)),
+            Ok(Tried::TicketsFull) => match refuse("TicketsFull", &mut self.held) {
+                Ok(()) => Ok(Taken::Held),
+                Err(_) => Err(DurableFault::Run(RunFault::NoMemory)),
+            },
+            Ok(Tried::RefusedByFile) => match refuse("NoCheckpoint", &mut self.held) {
+                Ok(()) => Ok(Taken::Unmade),
+                Err(_) => Err(DurableFault::Run(RunFault::NoMemory)),
+            },
+            Err(fault) => Err(fault),
+        }
+    }
+
+    /// Makes a checkpoint after a line that added events, if they are at least `every` then. After one that was refused, the next is
+    /// tried when an eighth of that has been added.
+    fn checkpoint_due<D: Replace + Drop>(
+        &mut self,
+        alloc: Global,
+        every: u32,
+        file: &mut HistoryFile<D>,
+    ) -> Result<Taken, DurableFault>
+        requires open { is_open self.old.console ≡ true }
+        requires may { MayBeginAnew (KeepsConsole D.disk file.old) (with_checkpoint self.old.console) }
+        requires because { 0 < self.old.tries_from → RefusalCause D.disk }
+        ensures taken { IfOk result (HasTaken D.disk file.old file.new ((asked_step self.old.console).0, [])
+            (self.old.console, []) self.new.console (string_bytes self.old.held) (string_bytes self.new.held)
+            self.old.recorded self.new.recorded) }
+        ensures same { IfOk result (λ k. has_begun k ≡ false → self.new.console ≡ self.old.console) }
+        ensures because { 0 < self.new.tries_from → RefusalCause D.disk }
+        ensures sync { file.new.journal.sync ≡ file.old.journal.sync }
+        ensures cause { IfErr result (RunsUnlessDisk D.disk) }
+        ensures fault { IfErr result (HasNotTaken D.disk file.old file.new (asked_step self.old.console).0) }
+        ensures any_moment { BeginningLeavesEither D.disk file.old file.new self.old.console }
+    {
+        let count = self.console.event_count();
+        if count < self.tries_from {
+            return Ok(Taken::Unmade);
+        }
+        match self.try_checkpoint(alloc, file) {
+            Ok(Tried::Made(_)) => {
+                self.tries_from = 0;
+                Ok(Taken::Begun)
+            }
+            Ok(Tried::TicketsFull) => Ok(Taken::Held),
+            Ok(Tried::RefusedByFile) => {
+                self.tries_from = count.saturating_add(every as usize / 8 + 1);
+                Ok(Taken::Unmade)
+            }
+            Err(fault) => Err(fault),
+        }
+    }
+
+    /// Answers a line, makes the checkpoint that it asks for or that is due after it, and holds the answer, or what of it isn't to be
+    /// streamed.
+    fn take_line<T: Threads + Sync, D: Replace + Drop>(
+        &mut self,
+        rt: &T,
+        alloc: Global,
+        every: u32,
+        line: &[u8],
+        file: &mut HistoryFile<D>,
+    ) -> Result<Taken, DurableFault>
+        requires may { MayCommit (KeepsConsole D.disk file.old) self.old.console self.old.recorded }
+        requires because { 0 < self.old.tries_from → RefusalCause D.disk }
+        ensures taken { IfOk result (HasTaken D.disk file.old file.new (made_step every self.old.console line.now)
+            (refused_step self.old.console line.now) self.new.console (string_bytes self.old.held) (string_bytes self.new.held)
+            self.old.recorded self.new.recorded) }
+        ensures grows { IfOk result (λ k. has_begun k ≡ false → Grows self.old.console self.new.console) }
+        ensures variables { IfOk result (λ k. has_begun k ≡ false → VariablesFit (table_of self.new.console)) }
+        ensures because { 0 < self.new.tries_from → RefusalCause D.disk }
+        ensures sync { file.new.journal.sync ≡ file.old.journal.sync }
+        ensures cause { IfErr result (RunsUnlessDisk D.disk) }
+        ensures fault { IfErr result (HasNotTaken D.disk file.old file.new (made_step every self.old.console line.now).0) }
+        ensures any_moment { TakingLeaves D.disk file.old file.new self.old.console self.old.recorded
+            (made_step every self.old.console line.now).0 }
+    {
+        let before = self.console.event_count();
+        match self.hold_answer(rt, alloc, line) {
+            Ok(Reply::Text) => {
+                let count = self.console.event_count();
+                if before < count && count >= every as usize {
+                    self.checkpoint_due(alloc, every, file)
+                } else {
+                    Ok(Taken::Held)
+                }
+            }
+            Ok(Reply::Checkpoint) => self.checkpoint_asked(alloc, file),
+            Ok(reply) => Ok(Taken::Streamed(reply)),
+            Err(_) => Err(DurableFault::Run(RunFault::NoMemory)),
         }
     }
 
@@ -316,22 +486,23 @@ impl DurableSession {
         file: &mut HistoryFile<D>,
         writer: &mut W,
     ) -> Result<(), DurableFault>
-        requires { (every : ℕ) × (first : AnyConsole) × (lines : List (List ℕ)) × (old : Option (List ℕ))
+        requires { (every : ℕ) × (first : AnyConsole) × (lines : List (Turn (RefusalCause D.disk))) × (old : Option (List ℕ))
             × IsAfterLines (KeepsConsole D.disk file.old) every first lines old (W.contents writer.old) self.old.console
             (string_bytes self.old.held) self.old.recorded }
+        ensures tries { self.new.tries_from ≡ self.old.tries_from }
         ensures sync { file.new.journal.sync ≡ file.old.journal.sync }
         ensures cause { IfErr result (RunsUnlessDisk D.disk) }
-        ensures done { OnOk result ((every : ℕ) (first : AnyConsole) (lines : List (List ℕ)) (old : Option (List ℕ))
+        ensures done { OnOk result ((every : ℕ) (first : AnyConsole) (lines : List (Turn (RefusalCause D.disk))) (old : Option (List ℕ))
             → IsAfterLines (KeepsConsole D.disk file.old) every first lines old (W.contents writer.old) self.old.console
             (string_bytes self.old.held) self.old.recorded
             → IsAfterLines (KeepsConsole D.disk file.new) every first lines old (W.contents writer.new) self.new.console
             (string_bytes self.new.held) self.new.recorded) }
-        ensures fault { IfErr result (λ e. (every : ℕ) (first : AnyConsole) (lines : List (List ℕ)) (old : Option (List ℕ))
+        ensures fault { IfErr result (λ e. (every : ℕ) (first : AnyConsole) (lines : List (Turn (RefusalCause D.disk))) (old : Option (List ℕ))
             → IsAfterLines (KeepsConsole D.disk file.old) every first lines old (W.contents writer.old) self.old.console
             (string_bytes self.old.held) self.old.recorded
             → FailsAfter D.disk file.old file.new
             every first lines old (W.contents writer.new) e) }
-        ensures any_moment { IsTrue D.disk.is_honest → (every : ℕ) (first : AnyConsole) (lines : List (List ℕ)) (old : Option (List ℕ))
+        ensures any_moment { IsTrue D.disk.is_honest → (every : ℕ) (first : AnyConsole) (lines : List (Turn (RefusalCause D.disk))) (old : Option (List ℕ))
             → IsAfterLines (KeepsConsole D.disk file.old) every first lines old (W.contents writer.old) self.old.console
             (string_bytes self.old.held) self.old.recorded
             → LeavesOnly D.disk file.old.journal.device file.new.journal.device
@@ -355,42 +526,43 @@ impl DurableSession {
         file: &mut HistoryFile<D>,
         writer: &mut W,
     ) -> Result<(), DurableFault>
-        requires { (first : AnyConsole) × (before : List (List ℕ)) × (old : Option (List ℕ))
+        requires after { (first : AnyConsole) × (before : List (Turn (RefusalCause D.disk))) × (old : Option (List ℕ))
             × IsAfterLines (KeepsConsole D.disk file.old) every first before old (W.contents writer.old) self.old.console
             (string_bytes self.old.held) self.old.recorded }
+        requires because { 0 < self.old.tries_from → RefusalCause D.disk }
+        ensures because { 0 < self.new.tries_from → RefusalCause D.disk }
         ensures sync { file.new.journal.sync ≡ file.old.journal.sync }
         ensures cause { IfErr result (RunsUnlessDisk D.disk) }
-        ensures done { OnOk result ((first : AnyConsole) (before : List (List ℕ)) (old : Option (List ℕ)) (judged : List ℕ)
+        ensures done { OnOk result ((first : AnyConsole) (before : List (Turn (RefusalCause D.disk))) (old : Option (List ℕ)) (judged : List ℕ)
             → line_class line.now ≡ line_class judged
             → IsAfterLines (KeepsConsole D.disk file.old) every first before old (W.contents writer.old) self.old.console
             (string_bytes self.old.held) self.old.recorded
-            → IsAfterLines (KeepsConsole D.disk file.new) every first (before ++ judged ∷ []) old (W.contents writer.new) self.new.console
+            → (refused : Option (RefusalCause D.disk))
+            × IsAfterLines (KeepsConsole D.disk file.new) every first (before ++ turn_of judged refused ∷ []) old (W.contents writer.new) self.new.console
             (string_bytes self.new.held) self.new.recorded) }
-        ensures fault { IfErr result (λ e. (first : AnyConsole) (before : List (List ℕ)) (old : Option (List ℕ)) (judged : List ℕ)
+        ensures fault { IfErr result (λ e. (first : AnyConsole) (before : List (Turn (RefusalCause D.disk))) (old : Option (List ℕ)) (judged : List ℕ)
             → line_class line.now ≡ line_class judged
             → IsAfterLines (KeepsConsole D.disk file.old) every first before old (W.contents writer.old) self.old.console
             (string_bytes self.old.held) self.old.recorded
             → FailsAfter D.disk file.old file.new
-            every first (before ++ judged ∷ []) old (W.contents writer.new) e) }
-        ensures any_moment { IsTrue D.disk.is_honest → (first : AnyConsole) (before : List (List ℕ)) (old : Option (List ℕ)) (judged : List ℕ)
+            every first (before ++ plain judged ∷ []) old (W.contents writer.new) e) }
+        ensures any_moment { IsTrue D.disk.is_honest → (first : AnyConsole) (before : List (Turn (RefusalCause D.disk))) (old : Option (List ℕ)) (judged : List ℕ)
             → line_class line.now ≡ line_class judged
             → IsAfterLines (KeepsConsole D.disk file.old) every first before old (W.contents writer.old) self.old.console
             (string_bytes self.old.held) self.old.recorded
             → LeavesOnly D.disk file.old.journal.device file.new.journal.device
-            (CoversAnswers file.old.journal.sync D.disk.fills_with_zeros every first (before ++ judged ∷ []) []) }
+            (CoversAnswers file.old.journal.sync D.disk.fills_with_zeros every first (before ++ plain judged ∷ []) []) }
         ensures read { IfErr result (λ e. e ≢ DurableFault.Run RunFault.Read) }
     {
-        let before = self.console.event_count();
-        match self.hold_answer(rt, alloc, line) {
-            Ok(Reply::Text) => match self.checkpoint_if_due(every, before) {
-                Ok(true) => self.begin_anew(alloc, file, writer),
-                Ok(false) => self.commit_if_long(alloc, file, writer),
-                Err(_) => Err(DurableFault::Run(RunFault::NoMemory)),
+        match self.take_line(rt, alloc, every, line, file) {
+            Ok(Taken::Held) => self.commit_if_long(alloc, file, writer),
+            Ok(Taken::Begun) => match self.write_held(file, writer) {
+                Ok(()) => Ok(()),
+                Err(fault) => Err(DurableFault::Run(fault)),
             },
-            Ok(Reply::Checkpoint) => self.begin_anew(alloc, file, writer),
-            Ok(Reply::History) => self.stream(alloc, Reply::History, file, writer),
-            Ok(Reply::Events(n)) => self.stream(alloc, Reply::Events(n), file, writer),
-            Err(_) => Err(DurableFault::Run(RunFault::NoMemory)),
+            Ok(Taken::Unmade) => Ok(()),
+            Ok(Taken::Streamed(reply)) => self.stream(alloc, reply, file, writer),
+            Err(fault) => Err(fault),
         }
     }
 }

@@ -16,8 +16,9 @@ ghost use Rattle.stm_lines.specs.TakenLines.{bytes_to_come};
 ghost use Rattle.stm_options.specs.Options.{AreRunOptions};
 ghost use Rattle.stm_run.specs.declared.console.Console.{Console as AnyConsole};
 ghost use Rattle.stm_run.specs.ConsoleState.{events_of};
-ghost use Rattle.stm_durable_run.specs.DurableRun.{RunsUnlessDisk, resumed_console, KeepsConsole, IsNoJournalFault};
-ghost use Rattle.stm_durable_run.specs.Committing.{HasCome, HasComeToEnd, HasFinished, FailsAfter, LeavesRun, WholeLinesAnswered, run_answers, KeepsAllLines, KeepsAnswered, CoversWritten, RunLeaves};
+ghost use Rattle.stm_run.specs.LineCheckpoints.{ForTurns};
+ghost use Rattle.stm_durable_run.specs.DurableRun.{RunsUnlessDisk, RefusalCause, resumed_console, KeepsConsole, IsNoJournalFault};
+ghost use Rattle.stm_durable_run.specs.Committing.{HasCome, HasComeToEnd, HasFinished, FailsOver, LeavesRun, WholeLinesAnswered, run_answers, AnswersAllLines, KeepsAnswered, CoversWritten, RunLeaves};
 ghost use Rattle.stm_durable_run.specs.NewEvents.{MayBeginRun};
 
 use crate::fault::DurableFault;
@@ -50,26 +51,25 @@ fn commit_before_read<W: Write, D: Device>(
     file: &mut HistoryFile<D>,
 ) -> Result<(), DurableFault>
     requires { (every : ℕ) × (first : AnyConsole) × (input rest old : Option (List ℕ))
-        × HasCome (KeepsConsole D.disk file.old) every first input rest old (W.contents writer.old)
+        × HasCome (RefusalCause D.disk) (KeepsConsole D.disk file.old) every first input rest old (W.contents writer.old)
         session.old.console (string_bytes session.old.held) session.old.recorded }
+    ensures tries { session.new.tries_from ≡ session.old.tries_from }
     ensures sync { file.new.journal.sync ≡ file.old.journal.sync }
     ensures cause { IfErr result (RunsUnlessDisk D.disk) }
     ensures done { OnOk result ((every : ℕ) (first : AnyConsole) (input rest old : Option (List ℕ))
-        → HasCome (KeepsConsole D.disk file.old) every first input rest old (W.contents writer.old)
+        → HasCome (RefusalCause D.disk) (KeepsConsole D.disk file.old) every first input rest old (W.contents writer.old)
         session.old.console (string_bytes session.old.held) session.old.recorded
-        → HasCome (KeepsConsole D.disk file.new) every first input rest old (W.contents writer.new)
+        → HasCome (RefusalCause D.disk) (KeepsConsole D.disk file.new) every first input rest old (W.contents writer.new)
         session.new.console (string_bytes session.new.held) session.new.recorded) }
     ensures fault { IfErr result (λ e. (every : ℕ) (first : AnyConsole) (input rest old : Option (List ℕ))
-        → HasCome (KeepsConsole D.disk file.old) every first input rest old (W.contents writer.old)
+        → HasCome (RefusalCause D.disk) (KeepsConsole D.disk file.old) every first input rest old (W.contents writer.old)
         session.old.console (string_bytes session.old.held) session.old.recorded
-        → IfSome input (λ bytes.
-        FailsAfter D.disk file.old file.new
-        every first (lines_of bytes) old (W.contents writer.new) e)) }
+        → FailsOver D.disk file.old file.new every first input old (W.contents writer.new) e) }
     ensures any_moment { IsTrue D.disk.is_honest → (every : ℕ) (first : AnyConsole) (input rest old : Option (List ℕ))
-        → HasCome (KeepsConsole D.disk file.old) every first input rest old (W.contents writer.old)
+        → HasCome (RefusalCause D.disk) (KeepsConsole D.disk file.old) every first input rest old (W.contents writer.old)
         session.old.console (string_bytes session.old.held) session.old.recorded
         → LeavesOnly D.disk file.old.journal.device file.new.journal.device
-        (LeavesRun file.old.journal.sync D.disk.fills_with_zeros every first input) }
+        (LeavesRun (RefusalCause D.disk) file.old.journal.sync D.disk.fills_with_zeros every first input) }
     ensures read { IfErr result (λ e. e ≢ DurableFault.Run RunFault.Read) }
 {
     if lines.is_buffered() {
@@ -91,9 +91,11 @@ fn answer_next<T: Threads + Sync, R: Read, W: Write, D: Replace + Drop, L: Ledge
     writer: &mut W,
     file: &mut HistoryFile<D>,
 ) -> Result<bool, DurableFault>
-    requires { (first : AnyConsole) × (input old : Option (List ℕ))
-        × HasCome (KeepsConsole D.disk file.old) every first input (prepend_known lines.old.chunk (R.remaining calls.old.reader.now)) old (W.contents writer.old)
+    requires come { (first : AnyConsole) × (input old : Option (List ℕ))
+        × HasCome (RefusalCause D.disk) (KeepsConsole D.disk file.old) every first input (prepend_known lines.old.chunk (R.remaining calls.old.reader.now)) old (W.contents writer.old)
         session.old.console (string_bytes session.old.held) session.old.recorded }
+    requires because { 0 < session.old.tries_from → RefusalCause D.disk }
+    ensures because { 0 < session.new.tries_from → RefusalCause D.disk }
     ensures same_reader { calls.new.reader.ghost_name ≡ calls.old.reader.ghost_name }
     ensures same_steps { calls.new.steps.ghost_name ≡ calls.old.steps.ghost_name }
     ensures shorter { result ≡ Ok true →
@@ -102,28 +104,26 @@ fn answer_next<T: Threads + Sync, R: Read, W: Write, D: Replace + Drop, L: Ledge
     ensures sync { file.new.journal.sync ≡ file.old.journal.sync }
     ensures cause { IfErr result (RunsUnlessDisk D.disk) }
     ensures done { IfOk result (λ more. (first : AnyConsole) (input old : Option (List ℕ))
-        → HasCome (KeepsConsole D.disk file.old) every first input (prepend_known lines.old.chunk (R.remaining calls.old.reader.now)) old (W.contents writer.old)
+        → HasCome (RefusalCause D.disk) (KeepsConsole D.disk file.old) every first input (prepend_known lines.old.chunk (R.remaining calls.old.reader.now)) old (W.contents writer.old)
         session.old.console (string_bytes session.old.held) session.old.recorded
         → MatchBool more
-        (HasCome (KeepsConsole D.disk file.new) every first input (prepend_known lines.new.chunk (R.remaining calls.new.reader.now)) old (W.contents writer.new)
+        (HasCome (RefusalCause D.disk) (KeepsConsole D.disk file.new) every first input (prepend_known lines.new.chunk (R.remaining calls.new.reader.now)) old (W.contents writer.new)
         session.new.console (string_bytes session.new.held) session.new.recorded)
-        (HasComeToEnd (KeepsConsole D.disk file.new) every first input old (W.contents writer.new)
+        (HasComeToEnd (RefusalCause D.disk) (KeepsConsole D.disk file.new) every first input old (W.contents writer.new)
         session.new.console (string_bytes session.new.held) session.new.recorded)) }
     ensures fault { IfErr result (λ e. (first : AnyConsole) (input old : Option (List ℕ))
-        → HasCome (KeepsConsole D.disk file.old) every first input (prepend_known lines.old.chunk (R.remaining calls.old.reader.now)) old (W.contents writer.old)
+        → HasCome (RefusalCause D.disk) (KeepsConsole D.disk file.old) every first input (prepend_known lines.old.chunk (R.remaining calls.old.reader.now)) old (W.contents writer.old)
         session.old.console (string_bytes session.old.held) session.old.recorded
-        → IfSome input (λ bytes.
-        FailsAfter D.disk file.old file.new
-        every first (lines_of bytes) old (W.contents writer.new) e)) }
+        → FailsOver D.disk file.old file.new every first input old (W.contents writer.new) e) }
     ensures read_fault { IsErrOf result (DurableFault.Run RunFault.Read) → (first : AnyConsole) (input old : Option (List ℕ))
-        → HasCome (KeepsConsole D.disk file.old) every first input (prepend_known lines.old.chunk (R.remaining calls.old.reader.now)) old (W.contents writer.old)
+        → HasCome (RefusalCause D.disk) (KeepsConsole D.disk file.old) every first input (prepend_known lines.old.chunk (R.remaining calls.old.reader.now)) old (W.contents writer.old)
         session.old.console (string_bytes session.old.held) session.old.recorded
-        → WholeLinesAnswered every first input (R.remaining calls.new.reader.now) old (W.contents writer.new) }
+        → WholeLinesAnswered (RefusalCause D.disk) every first input (R.remaining calls.new.reader.now) old (W.contents writer.new) }
     ensures any_moment { IsTrue D.disk.is_honest → (first : AnyConsole) (input old : Option (List ℕ))
-        → HasCome (KeepsConsole D.disk file.old) every first input (prepend_known lines.old.chunk (R.remaining calls.old.reader.now)) old (W.contents writer.old)
+        → HasCome (RefusalCause D.disk) (KeepsConsole D.disk file.old) every first input (prepend_known lines.old.chunk (R.remaining calls.old.reader.now)) old (W.contents writer.old)
         session.old.console (string_bytes session.old.held) session.old.recorded
         → LeavesOnly D.disk file.old.journal.device file.new.journal.device
-        (LeavesRun file.old.journal.sync D.disk.fills_with_zeros every first input) }
+        (LeavesRun (RefusalCause D.disk) file.old.journal.sync D.disk.fills_with_zeros every first input) }
 {
     match next_command_line(lines, calls) {
         Ok(CommandLine::Whole) => {
@@ -162,22 +162,22 @@ fn run_session<T: Threads + Sync, R: Read, W: Write, D: Replace + Drop, L: Ledge
     requires may_begin { MayBeginRun session.old.console }
     requires held { string_bytes session.old.held ≡ [] }
     requires recorded { session.old.recorded ≡ length (events_of session.old.console) }
+    requires tries { session.old.tries_from ≡ 0 }
     requires kept { KeepsConsole D.disk file.old session.old.console }
     ensures same_reader { calls.new.reader.ghost_name ≡ calls.old.reader.ghost_name }
     ensures same_steps { calls.new.steps.ghost_name ≡ calls.old.steps.ghost_name }
     ensures sync { file.new.journal.sync ≡ file.old.journal.sync }
     ensures cause { IfErr result (RunsUnlessDisk D.disk) }
-    ensures done { OnOk result (IfSome (R.remaining calls.old.reader.now) (λ bytes. HasFinished (KeepsConsole D.disk file.new)
-        every session.old.console (lines_of bytes) (W.contents writer.old) (W.contents writer.new))) }
-    ensures fault { IfErr result (λ e. IfSome (R.remaining calls.old.reader.now) (λ bytes.
-        FailsAfter D.disk file.old file.new
-        every session.old.console (lines_of bytes) (W.contents writer.old) (W.contents writer.new) e)) }
+    ensures done { OnOk result (IfSome (R.remaining calls.old.reader.now) (λ bytes. ForTurns (RefusalCause D.disk) (lines_of bytes) (λ turns. HasFinished (KeepsConsole D.disk file.new)
+        every session.old.console turns (W.contents writer.old) (W.contents writer.new)))) }
+    ensures fault { IfErr result (FailsOver D.disk file.old file.new every session.old.console (R.remaining calls.old.reader.now)
+        (W.contents writer.old) (W.contents writer.new)) }
     ensures read_fault { IsErrOf result (DurableFault.Run RunFault.Read)
-        → WholeLinesAnswered every session.old.console (R.remaining calls.old.reader.now) (R.remaining calls.new.reader.now)
+        → WholeLinesAnswered (RefusalCause D.disk) every session.old.console (R.remaining calls.old.reader.now) (R.remaining calls.new.reader.now)
         (W.contents writer.old) (W.contents writer.new) }
     ensures any_moment { IsTrue D.disk.is_honest
         → LeavesOnly D.disk file.old.journal.device file.new.journal.device
-        (LeavesRun file.old.journal.sync D.disk.fills_with_zeros every session.old.console (R.remaining calls.old.reader.now)) }
+        (LeavesRun (RefusalCause D.disk) file.old.journal.sync D.disk.fills_with_zeros every session.old.console (R.remaining calls.old.reader.now)) }
 {
     'lines: loop {
         commit_before_read(alloc, session, lines, writer, file)?;
@@ -213,6 +213,7 @@ fn resumed_session<T: Threads + RandomSource + Sync>(
     requires fits { IfSome loaded (λ h. length h.events.items ≤ options.max_events) }
     ensures console { IfOk result (λ s. s.console ≡ resumed_console options.max_events loaded) }
     ensures held { IfOk result (λ s. string_bytes s.held ≡ []) }
+    ensures tries { IfOk result (λ s. s.tries_from ≡ 0) }
     ensures recorded { IfOk result (λ s. s.recorded ≡ length (events_of (resumed_console options.max_events loaded))) }
 {
     let recorded = loaded_count(&loaded);
@@ -237,23 +238,23 @@ fn run_begun<T: Threads + Sync, R: Read, W: Write, D: Replace + Drop, L: Ledger>
     requires may_begin { MayBeginRun session.old.console }
     requires held { string_bytes session.old.held ≡ [] }
     requires recorded { session.old.recorded ≡ length (events_of session.old.console) }
+    requires tries { session.old.tries_from ≡ 0 }
     requires kept { KeepsConsole D.disk file.old session.old.console }
     requires name { blank.name ≡ L.name }
     requires parts { blank.parts ≡ L.parts }
     requires some { 0 < blank.parts }
     ensures sync { file.new.journal.sync ≡ file.old.journal.sync }
     ensures cause { IfErr result (RunsUnlessDisk D.disk) }
-    ensures done { OnOk result (IfSome (R.remaining reader.old) (λ bytes. HasFinished (KeepsConsole D.disk file.new)
-        every session.old.console (lines_of bytes) (W.contents writer.old) (W.contents writer.new))) }
-    ensures fault { IfErr result (λ e. IfSome (R.remaining reader.old) (λ bytes.
-        FailsAfter D.disk file.old file.new
-        every session.old.console (lines_of bytes) (W.contents writer.old) (W.contents writer.new) e)) }
+    ensures done { OnOk result (IfSome (R.remaining reader.old) (λ bytes. ForTurns (RefusalCause D.disk) (lines_of bytes) (λ turns. HasFinished (KeepsConsole D.disk file.new)
+        every session.old.console turns (W.contents writer.old) (W.contents writer.new)))) }
+    ensures fault { IfErr result (FailsOver D.disk file.old file.new every session.old.console (R.remaining reader.old)
+        (W.contents writer.old) (W.contents writer.new)) }
     ensures read_fault { IsErrOf result (DurableFault.Run RunFault.Read)
-        → WholeLinesAnswered every session.old.console (R.remaining reader.old) (R.remaining reader.new)
+        → WholeLinesAnswered (RefusalCause D.disk) every session.old.console (R.remaining reader.old) (R.remaining reader.new)
         (W.contents writer.old) (W.contents writer.new) }
     ensures any_moment { IsTrue D.disk.is_honest
         → LeavesOnly D.disk file.old.journal.device file.new.journal.device
-        (LeavesRun file.old.journal.sync D.disk.fills_with_zeros every session.old.console (R.remaining reader.old)) }
+        (LeavesRun (RefusalCause D.disk) file.old.journal.sync D.disk.fills_with_zeros every session.old.console (R.remaining reader.old)) }
 {
     let mut steps = Steps::<L>::new(blank);
     let mut lines = LineReader::new(alloc);
@@ -271,7 +272,9 @@ fn run_begun<T: Threads + Sync, R: Read, W: Write, D: Replace + Drop, L: Ledger>
 /// refused as `JournalError::TooLong`. After a fault of the journal the file has to be opened again.
 ///
 /// At a checkpoint a new file takes the place of the old one at once. A line asks for a checkpoint, or one comes by itself after a
-/// line that adds an event, once the history has `checkpoint_every` events.
+/// line that adds an event, once the history has `checkpoint_every` events. If the file refuses it, the run goes on in the old file: the
+/// line is refused, or no checkpoint comes by itself, and is tried again when an eighth of `checkpoint_every` events has been added.
+/// `Replace::report` says why.
 pub fn run_durable<T: Threads + RandomSource + Sync, R: Read, W: Write, D: Replace + Drop>(
     rt: &T,
     alloc: Global,
@@ -290,21 +293,21 @@ pub fn run_durable<T: Threads + RandomSource + Sync, R: Read, W: Write, D: Repla
     requires typed { IfSome loaded (λ h. SubmittedAreWellTyped h.events.items) }
     requires kept { HasLoaded D.disk file.old loaded }
     requires fits { IfSome loaded (λ h. length h.events.items ≤ options.max_events) }
-    // The answers to all lines were written.
-    ensures answered { OnOk result (IfSome (R.remaining reader.old) (λ input.
-        Appends (W.contents writer.old) (W.contents writer.new) (run_answers options loaded (lines_of input)))) }
-    // After a read fault those to the lines that were whole before.
+    // The answers to all lines were written, and the file has exactly the history of all lines. Some of the checkpoints may have been
+    // refused, for a cause.
+    ensures answered { OnOk result (AnswersAllLines D.disk file.new options loaded (R.remaining reader.old)
+        (W.contents writer.old) (W.contents writer.new)) }
+    // After a read fault the answers to the lines that were whole before were written.
     ensures read_fault { IsErrOf result (DurableFault.Run RunFault.Read) → IfSome (R.remaining reader.old) (λ input.
         (taken rest : List ℕ) × (input ≡ taken ++ rest) × (R.remaining reader.new ≡ Some rest)
-        × Appends (W.contents writer.old) (W.contents writer.new) (run_answers options loaded (whole_lines_of taken))) }
+        × ForTurns (RefusalCause D.disk) (whole_lines_of taken) (λ turns.
+        Appends (W.contents writer.old) (W.contents writer.new) (run_answers options loaded turns))) }
     // After any fault a front of the answers was written.
-    ensures part { OnErr result (IfSome (R.remaining reader.old) (λ input. (front : List ℕ)
-        × IsPrefixOf front (run_answers options loaded (lines_of input))
-        × Appends (W.contents writer.old) (W.contents writer.new) front)) }
+    ensures part { OnErr result (IfSome (R.remaining reader.old) (λ input. ForTurns (RefusalCause D.disk) (lines_of input) (λ turns.
+        (front : List ℕ) × IsPrefixOf front (run_answers options loaded turns)
+        × Appends (W.contents writer.old) (W.contents writer.new) front))) }
     ensures sync { file.new.journal.sync ≡ file.old.journal.sync }
-    // At the end the file has exactly the history of all lines; after any fault but one of the journal, that of the lines whose
-    // answers were written.
-    ensures kept { OnOk result (KeepsAllLines D.disk file.new options loaded (R.remaining reader.old)) }
+    // After any fault but one of the journal the file has exactly the history of the lines whose answers were written.
     ensures committed { IsTrue D.disk.is_honest → IsNoJournalFault result
         → KeepsAnswered D.disk file.new options loaded (R.remaining reader.old) (W.contents writer.old) (W.contents writer.new) }
     // Whatever the result, a crash now, and one at any moment of the run, leaves a file that covers what was written.

@@ -7,7 +7,7 @@ import Text.Read (readMaybe)
 -- | A refusal, by the name that docs/CONSOLE.md has for it, with when it comes.
 data Refusal
   = Already | Argument | BadByte | BadNumber | Blocks | CellsFull | Command | EndOfText | Gone | HistoryFull | JobsFull | Late | LineTooLong
-  | Mismatch | NameTooLong | NoJob | NoTicket | NotAscii | NotAVariable | NotEvaluated | NotOut | Overtaken | Stale | TableFull
+  | Mismatch | NameTooLong | NoCheckpoint | NoJob | NoTicket | NotAscii | NotAVariable | NotEvaluated | NotOut | Overtaken | Stale | TableFull
   | TicketsFull | TooDeep | TooLarge | Twice | TypeOfValue | TypeTooDeep | Unexpected | Unknown | Untyped | WaitingFull
   | -- | One that this package doesn't know.
     Other String

@@ -10,8 +10,8 @@ returns-then-is_buffered-clause-any_moment g c = λ honest every first input res
     let D = g.D.Device.disk in
     let f = c.args.file.now in
     let a = h.after in
-    input_run D f.journal.sync D.fills_with_zeros every first h.lines input f.journal.device f.journal.device (come_begins _ every first input rest old _ _ _ _ h)
-    (lines_still D f.journal.sync D.fills_with_zeros every first _ h.lines old _ _ _ _ a.behind f refl refl (a.behind.kept honest) (g.met.D.Device.lawful.only_now f.journal.device))
+    input_run _ D f.journal.sync D.fills_with_zeros every first h.lines input f.journal.device f.journal.device (come_begins _ every first input rest old _ _ _ _ h)
+    (lines_still _ D f.journal.sync D.fills_with_zeros every first _ h.lines old _ _ _ _ a.behind f refl refl (a.behind.kept honest) (g.met.D.Device.lawful.only_now f.journal.device))
 
 pub returns-else-is_buffered-clause-done : goal.returns-else-is_buffered-clause-done
 returns-else-is_buffered-clause-done g c =
@@ -41,8 +41,8 @@ returns-else-is_buffered-clause-any_moment g c = λ honest every first input res
     let D = g.D.Device.disk in
     let f = c.args.file.now in
     let a = h.after in
-    input_run D f.journal.sync D.fills_with_zeros every first h.lines input f.journal.device c.hand_on.new.file.journal.device (come_begins _ every first input rest old _ _ _ _ h)
-    (events_run D f.journal.sync D.fills_with_zeros every first _ h.lines old _ _ _ _ a.behind f.journal.device c.hand_on.new.file.journal.device
+    input_run _ D f.journal.sync D.fills_with_zeros every first h.lines input f.journal.device c.hand_on.new.file.journal.device (come_begins _ every first input rest old _ _ _ _ h)
+    (events_run _ D f.journal.sync D.fills_with_zeros every first _ h.lines old _ _ _ _ a.behind f.journal.device c.hand_on.new.file.journal.device
     ((c.hand_on.ensures.any_moment honest (may_commit _ _ _ _ _ _ _ _ _ a))))
 
 pub hand_on-requires : goal.hand_on-requires

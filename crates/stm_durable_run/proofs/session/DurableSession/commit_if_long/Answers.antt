@@ -8,7 +8,7 @@ pub returns-then-len-lt-MOST_HELD-clause-any_moment : goal.returns-then-len-lt-M
 returns-then-len-lt-MOST_HELD-clause-any_moment g c = λ honest every first lines old a.
     let D = g.D.Device.disk in
     let f = c.args.file.now in
-    lines_still D f.journal.sync D.fills_with_zeros every first _ lines old _ _ _ _ a.behind f refl refl (a.behind.kept honest)
+    lines_still _ D f.journal.sync D.fills_with_zeros every first _ lines old _ _ _ _ a.behind f refl refl (a.behind.kept honest)
     (g.met.D.Device.lawful.only_now f.journal.device)
 
 pub returns-else-len-lt-MOST_HELD-clause-done : goal.returns-else-len-lt-MOST_HELD-clause-done
@@ -36,5 +36,5 @@ pub returns-else-len-lt-MOST_HELD-clause-any_moment : goal.returns-else-len-lt-M
 returns-else-len-lt-MOST_HELD-clause-any_moment g c = λ honest every first lines old a.
     let D = g.D.Device.disk in
     let f = c.args.file.now in
-    events_run D f.journal.sync D.fills_with_zeros every first _ lines old _ _ _ _ a.behind f.journal.device c.commit.new.file.journal.device
+    events_run _ D f.journal.sync D.fills_with_zeros every first _ lines old _ _ _ _ a.behind f.journal.device c.commit.new.file.journal.device
     (c.commit.ensures.any_moment honest (may_commit _ _ _ _ _ _ _ _ _ a))

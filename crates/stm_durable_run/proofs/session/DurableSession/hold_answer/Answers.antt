@@ -1,11 +1,8 @@
-use Rattle.stm_durable_run.proofs.Committing.{made_by_line, grown_by_line, fit_after_line}
+use Rattle.stm_durable_run.proofs.Committing.{grown_by_line, fit_after_line}
 use Rattle.stm_durable_run.proofs.session.DurableSession.hold_answer.Goals as goal
 
-pub returns-clause-made : goal.returns-clause-made
-returns-clause-made g c = made_by_line _ _ _ _ _ c.answer.result (c.answer.ensures.step, c.answer.ensures.made)
-
 pub returns-clause-grows : goal.returns-clause-grows
-returns-clause-grows g c = grown_by_line _ _ _ _ _ c.answer.result (c.answer.ensures.step, c.answer.ensures.made)
+returns-clause-grows g c = grown_by_line _ _ _ _ _ c.answer.result (c.answer.ensures.step, c.answer.ensures.asked, c.answer.ensures.made)
 
 pub returns-clause-variables : goal.returns-clause-variables
-returns-clause-variables g c = fit_after_line _ _ _ _ _ c.variables_stay_fit.ensures c.answer.result (c.answer.ensures.step, c.answer.ensures.made)
+returns-clause-variables g c = fit_after_line _ _ _ _ _ c.variables_stay_fit.ensures c.answer.result (c.answer.ensures.step, c.answer.ensures.asked, c.answer.ensures.made)
