@@ -45,7 +45,7 @@ from ._values import (
     Throws, Value, Verdict, Waits,
 )  # fmt: skip
 
-__version__ = "0.9.0"
+__version__ = "0.10.0"
 
 __all__ = [
     "Answer", "BadAnswer", "Batch", "Blocks", "Cancellation", "Cancelled", "Cell", "Change", "Checked", "ClientAt", "ClientState", "Commits",

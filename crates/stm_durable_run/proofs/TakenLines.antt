@@ -8,7 +8,7 @@ use Rattle.stm_journal.specs.Disk.{Disk, LeavesOnly}
 use Rattle.stm_durable.specs.declared.recording.HistoryFile.{HistoryFile}
 use Rattle.stm_lines.specs.LineClass.{line_class}
 use Rattle.stm_run.specs.declared.console.Console.{Console}
-use Rattle.stm_run.specs.LineCheckpoints.{Turn, plain, made_step}
+use Rattle.stm_run.specs.LineCheckpoints.{Turn, made_turn, made_step}
 use Rattle.stm_durable_run.specs.declared.fault.DurableFault.{DurableFault}
 use Rattle.stm_durable_run.specs.declared.fault.DurableFault.TheVariants.{Run, Journal}
 use Rattle.stm_durable_run.specs.DurableRun.{KeepsConsole, LeavesBetween, CoversAnswers}
@@ -25,7 +25,7 @@ module _ {D : Type 0} {Cause : Type 0} (disk : Disk D) (f g : HistoryFile D) (ev
     (a : IsAfterLines (KeepsConsole disk f) every s before x y console held recorded) (line judged : List ℕ) (same : line_class line ≡ line_class judged) where
   -- as if its checkpoint could be made
   abbrev lines : List (Turn Cause)
-  lines = before ++ plain judged ∷ []
+  lines = before ++ made_turn judged ∷ []
 
   abbrev made : Console
   made = (made_step every console line).0

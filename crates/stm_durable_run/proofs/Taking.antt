@@ -28,7 +28,7 @@ use Rattle.stm_durable_run.specs.declared.fault.DurableFault.TheVariants.{Run}
 use Rattle.stm_durable_run.specs.declared.session.Tried.TheVariants.{Made, TicketsFull, RefusedByFile}
 use Rattle.stm_durable_run.specs.DurableRun.{ConsoleKept, KeepsConsole, KeepsConsoles, RecordsUnlessDisk, RefusalCause, LeavesBetween}
 use Rattle.stm_durable_run.specs.NewEvents.{MayBeginRun}
-use Rattle.stm_durable_run.specs.Committing.{MayCommit, MayBeginAnew, asked_step, no_checkpoint_text, HasTried, HasTaken, HasNotTaken, TakingLeaves, BeginningLeaves, BeginningLeavesEither}
+use Rattle.stm_durable_run.specs.Committing.{MayCommit, MayBeginAnew, asked_step, no_checkpoint_text, HasTriedCheckpoint, HasTakenLine, HasNotTaken, TakingLeaves, BeginningLeaves, BeginningLeavesEither}
 use Rattle.stm_durable_run.proofs.Committing.{none_due, anew_after}
 use Rattle.stm_durable_run.proofs.RecordedEvents.{between_still}
 
@@ -137,7 +137,7 @@ unrefused s line e = ap (λ (b : Bool). cond {A = Console × List ℕ} b (Open (
 module _ {D : Type 0} (disk : Disk D) (old new : HistoryFile D) where
   pub taken_as : (made made' unmade unmade' : Console × List ℕ) (t : Console) (before mid after : List ℕ) (n n' m : ℕ) (k : Taken) → n ≡ n'
       → made.0 ≡ made'.0 → mid ++ made.1 ≡ before ++ made'.1 → (k ≡ Unmade → (unmade.0 ≡ unmade'.0) × (mid ++ unmade.1 ≡ before ++ unmade'.1))
-      → HasTaken disk old new made unmade t mid after n m k → HasTaken disk old new made' unmade' t before after n' m k
+      → HasTakenLine disk old new made unmade t mid after n m k → HasTakenLine disk old new made' unmade' t before after n' m k
   taken_as made made' unmade unmade' t before mid after n n' m Held count state text other h = (h.0 ∙ state, h.1 ∙ text, h.2 ∙ count, h.3)
   taken_as made made' unmade unmade' t before mid after n n' m Begun count state text other h = (h.0 ∙ state, h.1 ∙ text, h.2, h.3, h.4)
   taken_as made made' unmade unmade' t before mid after n n' m Unmade count state text other h =
@@ -189,7 +189,7 @@ refusal_cause disk e not h = record {
 
 module _ {D : Type 0} (disk : Disk D) (old new : HistoryFile D) (s t : Console) (n n' : ℕ) where
   pub made_tried : (count : ℕ) → t ≡ with_checkpoint s → count ≡ length (events_of s) → n' ≡ zero → are_tickets_full (present_desk s) ≡ false → KeepsConsole disk new (with_checkpoint s) → MayBeginRun (with_checkpoint s)
-      → HasTried disk old new s t n n' (Made count)
+      → HasTriedCheckpoint disk old new s t n n' (Made count)
   made_tried count is counts none room k may = (
     asked_made s room ∙ ap₂ (λ (c : Console) (m : ℕ). (c, checkpoint_line m)) (sym is) (sym counts),
     none ∙ sym (ap (λ (c : Console). length (events_of c)) is),
@@ -199,28 +199,28 @@ module _ {D : Type 0} (disk : Disk D) (old new : HistoryFile D) (s t : Console) 
 
   module _ (mid after : List ℕ) where
     abbrev Asked : Taken → Type 0
-    Asked k = HasTaken disk old new (asked_step s) (s, no_checkpoint_text) t mid after n n' k
+    Asked k = HasTakenLine disk old new (asked_step s) (s, no_checkpoint_text) t mid after n n' k
 
     abbrev Due : Taken → Type 0
-    Due k = HasTaken disk old new ((asked_step s).0, []) (s, []) t mid after n n' k
+    Due k = HasTakenLine disk old new ((asked_step s).0, []) (s, []) t mid after n n' k
 
-    pub asked_begun : (count : ℕ) → HasTried disk old new s t n n' (Made count) → after ≡ mid ++ checkpoint_line count → Asked Begun
+    pub asked_begun : (count : ℕ) → HasTriedCheckpoint disk old new s t n n' (Made count) → after ≡ mid ++ checkpoint_line count → Asked Begun
     asked_begun count h text =
         (sym (ap (λ (p : Console × List ℕ). p.0) h.0), text ∙ sym (ap (λ (p : Console × List ℕ). mid ++ p.1) h.0), h.1, h.2, h.3)
 
-    pub asked_held : HasTried disk old new s t n n' TicketsFull → after ≡ mid ++ refused (codes "TicketsFull") → Asked Held
+    pub asked_held : HasTriedCheckpoint disk old new s t n n' TicketsFull → after ≡ mid ++ refused (codes "TicketsFull") → Asked Held
     asked_held h text = (sym (ap (λ (p : Console × List ℕ). p.0) h.0), text ∙ sym (ap (λ (p : Console × List ℕ). mid ++ p.1) h.0), h.2, h.3)
 
-    pub asked_unmade : HasTried disk old new s t n n' RefusedByFile → after ≡ mid ++ no_checkpoint_text → Asked Unmade
+    pub asked_unmade : HasTriedCheckpoint disk old new s t n n' RefusedByFile → after ≡ mid ++ no_checkpoint_text → Asked Unmade
     asked_unmade h text = (h.1, text, h.2, h.3, h.4)
 
-    pub due_begun : (count : ℕ) → HasTried disk old new s t n n' (Made count) → after ≡ mid → Due Begun
+    pub due_begun : (count : ℕ) → HasTriedCheckpoint disk old new s t n n' (Made count) → after ≡ mid → Due Begun
     due_begun count h text = (sym (ap (λ (p : Console × List ℕ). p.0) h.0), text ∙ sym (append-nil mid), h.1, h.2, h.3)
 
-    pub due_held : HasTried disk old new s t n n' TicketsFull → after ≡ mid → Due Held
+    pub due_held : HasTriedCheckpoint disk old new s t n n' TicketsFull → after ≡ mid → Due Held
     due_held h text = (sym (ap (λ (p : Console × List ℕ). p.0) h.0), text ∙ sym (append-nil mid), h.2, h.3)
 
-    pub due_unmade : HasTried disk old new s t n n' RefusedByFile → after ≡ mid → Due Unmade
+    pub due_unmade : HasTriedCheckpoint disk old new s t n n' RefusedByFile → after ≡ mid → Due Unmade
     due_unmade h text = (h.1, text ∙ sym (append-nil mid), h.2, h.3, h.4)
 
     -- it isn't tried again yet
@@ -228,7 +228,7 @@ module _ {D : Type 0} (disk : Disk D) (old new : HistoryFile D) (s t : Console) 
     due_later is text count keeps why = (is, text ∙ sym (append-nil mid), count, keeps, why)
 
   -- memory ran out after it
-  pub made_untaken : (count : ℕ) → HasTried disk old new s t n n' (Made count) → HasNotTaken disk old new (asked_step s).0 (Run NoMemoryLeft)
+  pub made_untaken : (count : ℕ) → HasTriedCheckpoint disk old new s t n n' (Made count) → HasNotTaken disk old new (asked_step s).0 (Run NoMemoryLeft)
   made_untaken count h = (λ e. cc e, inr (subst (KeepsConsole disk new) (sym (ap (λ (p : Console × List ℕ). p.0) h.0)) h.2))
 
   pub kept_untaken : KeepsConsoles disk old new → HasNotTaken disk old new (asked_step s).0 (Run NoMemoryLeft)

@@ -1,11 +1,11 @@
 -- Lines, and those of them whose checkpoint can't be made.
 use Rattle.std.proofs.Common.{◌≡◌, ℕ, List, [], ◌∷◌, ◌++◌, refl, ap, ◌∙◌}
-use Rattle.stm_run.specs.LineCheckpoints.{Turn, turn_lines, plain}
+use Rattle.stm_run.specs.LineCheckpoints.{Turn, turn_lines, made_turn}
 
 -- lines whose checkpoints can all be made
 abbrev pub plains : (Cause : Type 0) → List (List ℕ) → List (Turn Cause)
 plains Cause [] = []
-plains Cause (line ∷ lines) = plain line ∷ plains Cause lines
+plains Cause (line ∷ lines) = made_turn line ∷ plains Cause lines
 
 pub lines_of_plains : (Cause : Type 0) (lines : List (List ℕ)) → turn_lines (plains Cause lines) ≡ lines
 lines_of_plains Cause [] = refl

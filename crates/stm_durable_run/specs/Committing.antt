@@ -217,25 +217,25 @@ BeginningLeavesEither disk old new console =
     ⊎ LeavesBetween old.journal.sync disk.fills_with_zeros c.committed (asked_step console).0 f)
 
 -- what is known of a checkpoint that was tried on an open desk
-abbrev pub HasTried : {D : Type 0} → Disk D → HistoryFile D → HistoryFile D → Console → Console → ℕ → ℕ → Tried → Type 0
-HasTried disk old new s t recorded recorded' (Made n) =
+abbrev pub HasTriedCheckpoint : {D : Type 0} → Disk D → HistoryFile D → HistoryFile D → Console → Console → ℕ → ℕ → Tried → Type 0
+HasTriedCheckpoint disk old new s t recorded recorded' (Made n) =
     (asked_step s ≡ (t, checkpoint_line n)) × (recorded' ≡ length (events_of t)) × KeepsConsole disk new t × MayBeginRun t
-HasTried disk old new s t recorded recorded' TicketsFull =
+HasTriedCheckpoint disk old new s t recorded recorded' TicketsFull =
     (asked_step s ≡ (t, refused (codes "TicketsFull"))) × (t ≡ s) × (recorded' ≡ recorded) × KeepsConsoles disk old new
-HasTried disk old new s t recorded recorded' RefusedByFile =
+HasTriedCheckpoint disk old new s t recorded recorded' RefusedByFile =
     (are_tickets_full (present_desk s) ≡ false) × (t ≡ s) × (recorded' ≡ recorded) × KeepsConsoles disk old new × RefusalCause disk
 
 -- What is known after a line, by how it was taken: `made` is what it does and writes, and `unmade` if its checkpoint can't be made.
-abbrev pub HasTaken :
+abbrev pub HasTakenLine :
     {D : Type 0} → Disk D → HistoryFile D → HistoryFile D → Console × List ℕ → Console × List ℕ → Console → List ℕ → List ℕ → ℕ → ℕ
     → Taken → Type 0
-HasTaken disk old new made unmade t held held' recorded recorded' Held =
+HasTakenLine disk old new made unmade t held held' recorded recorded' Held =
     (t ≡ made.0) × (held' ≡ held ++ made.1) × (recorded' ≡ recorded) × KeepsConsoles disk old new
-HasTaken disk old new made unmade t held held' recorded recorded' Begun =
+HasTakenLine disk old new made unmade t held held' recorded recorded' Begun =
     (t ≡ made.0) × (held' ≡ held ++ made.1) × (recorded' ≡ length (events_of t)) × KeepsConsole disk new t × MayBeginRun t
-HasTaken disk old new made unmade t held held' recorded recorded' Unmade =
+HasTakenLine disk old new made unmade t held held' recorded recorded' Unmade =
     (t ≡ unmade.0) × (held' ≡ held ++ unmade.1) × (recorded' ≡ recorded) × KeepsConsoles disk old new × RefusalCause disk
-HasTaken disk old new made unmade t held held' recorded recorded' (Streamed r) =
+HasTakenLine disk old new made unmade t held held' recorded recorded' (Streamed r) =
     (t ≡ made.0) × (held' ++ streamed_text r t ≡ held ++ made.1) × (recorded' ≡ recorded) × KeepsConsoles disk old new
 
 -- whether a line made a checkpoint

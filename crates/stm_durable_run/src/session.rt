@@ -19,9 +19,9 @@ ghost use Rattle.stm_run.specs.declared.console.Console.TheVariants.{Open as IsO
 ghost use Rattle.stm_run.specs.ConsoleState.{present_desk, is_open, table_of, events_of, with_checkpoint};
 ghost use Rattle.stm_run.specs.Fitting.{VariablesFit};
 ghost use Rattle.stm_run.specs.Growing.{Grows};
-ghost use Rattle.stm_run.specs.LineCheckpoints.{asks_checkpoint, reply_checkpoints, line_checkpoints, is_streamed, Turn, turn_of, plain, refused_step, made_step};
+ghost use Rattle.stm_run.specs.LineCheckpoints.{asks_checkpoint, reply_checkpoints, line_checkpoints, is_streamed, Turn, turn_of, made_turn, refused_step, made_step};
 ghost use Rattle.stm_durable_run.specs.DurableRun.{RunsUnlessDisk, RefusalCause, KeepsConsole, CoversAnswers};
-ghost use Rattle.stm_durable_run.specs.Committing.{MayCommit, MayBeginAnew, IsAfterLines, streamed_text, HasNotWritten, CommitLeaves, BeginningLeaves, BeginningLeavesEither, asked_step, no_checkpoint_text, HasTried, HasTaken, has_begun, HasNotTaken, TakingLeaves, FailsAfter};
+ghost use Rattle.stm_durable_run.specs.Committing.{MayCommit, MayBeginAnew, IsAfterLines, streamed_text, HasNotWritten, CommitLeaves, BeginningLeaves, BeginningLeavesEither, asked_step, no_checkpoint_text, HasTriedCheckpoint, HasTakenLine, has_begun, HasNotTaken, TakingLeaves, FailsAfter};
 ghost use Rattle.stm_durable_run.specs.NewEvents.{MayBeginRun};
 
 use crate::beginning::begin_file_anew;
@@ -310,7 +310,7 @@ impl DurableSession {
         requires taken { checkpoint ≡ checkpoint_of (state_of (present_desk self.old.console).desk) }
         requires start { MayStart (table_of self.old.console) (Some checkpoint) }
         requires room { are_tickets_full (present_desk self.old.console) ≡ false }
-        ensures tried { IfOk result (HasTried D.disk file.old file.new self.old.console self.new.console
+        ensures tried { IfOk result (HasTriedCheckpoint D.disk file.old file.new self.old.console self.new.console
             self.old.recorded self.new.recorded) }
         ensures held { string_bytes self.new.held ≡ string_bytes self.old.held }
         ensures tries { self.new.tries_from ≡ self.old.tries_from }
@@ -344,7 +344,7 @@ impl DurableSession {
     ) -> Result<Tried, DurableFault>
         requires open { is_open self.old.console ≡ true }
         requires may { MayBeginAnew (KeepsConsole D.disk file.old) (with_checkpoint self.old.console) }
-        ensures tried { IfOk result (HasTried D.disk file.old file.new self.old.console self.new.console
+        ensures tried { IfOk result (HasTriedCheckpoint D.disk file.old file.new self.old.console self.new.console
             self.old.recorded self.new.recorded) }
         ensures held { string_bytes self.new.held ≡ string_bytes self.old.held }
         ensures tries { self.new.tries_from ≡ self.old.tries_from }
@@ -369,7 +369,7 @@ impl DurableSession {
         requires open { is_open self.old.console ≡ true }
         requires may { MayBeginAnew (KeepsConsole D.disk file.old) (with_checkpoint self.old.console) }
         requires because { 0 < self.old.tries_from → RefusalCause D.disk }
-        ensures taken { IfOk result (HasTaken D.disk file.old file.new (asked_step self.old.console)
+        ensures taken { IfOk result (HasTakenLine D.disk file.old file.new (asked_step self.old.console)
             (self.old.console, no_checkpoint_text) self.new.console (string_bytes self.old.held) (string_bytes self.new.held)
             self.old.recorded self.new.recorded) }
         ensures room { IfOk result (λ k. k ≡ Taken.Unmade → are_tickets_full (present_desk self.old.console) ≡ false) }
@@ -411,7 +411,7 @@ impl DurableSession {
         requires open { is_open self.old.console ≡ true }
         requires may { MayBeginAnew (KeepsConsole D.disk file.old) (with_checkpoint self.old.console) }
         requires because { 0 < self.old.tries_from → RefusalCause D.disk }
-        ensures taken { IfOk result (HasTaken D.disk file.old file.new ((asked_step self.old.console).0, [])
+        ensures taken { IfOk result (HasTakenLine D.disk file.old file.new ((asked_step self.old.console).0, [])
             (self.old.console, []) self.new.console (string_bytes self.old.held) (string_bytes self.new.held)
             self.old.recorded self.new.recorded) }
         ensures same { IfOk result (λ k. has_begun k ≡ false → self.new.console ≡ self.old.console) }
@@ -451,7 +451,7 @@ impl DurableSession {
     ) -> Result<Taken, DurableFault>
         requires may { MayCommit (KeepsConsole D.disk file.old) self.old.console self.old.recorded }
         requires because { 0 < self.old.tries_from → RefusalCause D.disk }
-        ensures taken { IfOk result (HasTaken D.disk file.old file.new (made_step every self.old.console line.now)
+        ensures taken { IfOk result (HasTakenLine D.disk file.old file.new (made_step every self.old.console line.now)
             (refused_step self.old.console line.now) self.new.console (string_bytes self.old.held) (string_bytes self.new.held)
             self.old.recorded self.new.recorded) }
         ensures grows { IfOk result (λ k. has_begun k ≡ false → Grows self.old.console self.new.console) }
@@ -545,13 +545,13 @@ impl DurableSession {
             → IsAfterLines (KeepsConsole D.disk file.old) every first before old (W.contents writer.old) self.old.console
             (string_bytes self.old.held) self.old.recorded
             → FailsAfter D.disk file.old file.new
-            every first (before ++ plain judged ∷ []) old (W.contents writer.new) e) }
+            every first (before ++ made_turn judged ∷ []) old (W.contents writer.new) e) }
         ensures any_moment { IsTrue D.disk.is_honest → (first : AnyConsole) (before : List (Turn (RefusalCause D.disk))) (old : Option (List ℕ)) (judged : List ℕ)
             → line_class line.now ≡ line_class judged
             → IsAfterLines (KeepsConsole D.disk file.old) every first before old (W.contents writer.old) self.old.console
             (string_bytes self.old.held) self.old.recorded
             → LeavesOnly D.disk file.old.journal.device file.new.journal.device
-            (CoversAnswers file.old.journal.sync D.disk.fills_with_zeros every first (before ++ plain judged ∷ []) []) }
+            (CoversAnswers file.old.journal.sync D.disk.fills_with_zeros every first (before ++ made_turn judged ∷ []) []) }
         ensures read { IfErr result (λ e. e ≢ DurableFault.Run RunFault.Read) }
     {
         match self.take_line(rt, alloc, every, line, file) {

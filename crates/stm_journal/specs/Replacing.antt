@@ -5,14 +5,14 @@ use Rattle.stm_journal.specs.declared.replace.ReplaceError.{ReplaceError}
 use Rattle.stm_journal.specs.declared.replace.ReplaceError.TheVariants.{Refused, Unfinished}
 
 -- the error of the journal that it has
-abbrev pub cause_of : ReplaceError → JournalError
-cause_of (Refused e) = e
-cause_of (Unfinished e) = e
+abbrev pub error_within : ReplaceError → JournalError
+error_within (Refused e) = e
+error_within (Unfinished e) = e
 
 -- a result with this error
 abbrev pub journal_result : {T : Type 0} → Result T ReplaceError → Result T JournalError
 journal_result (Ok x) = Ok x
-journal_result (Err e) = Err (cause_of e)
+journal_result (Err e) = Err (error_within e)
 
 -- after a refusal
 abbrev pub OnRefused : {T : Type 0} → Result T ReplaceError → Type 0 → Type 0

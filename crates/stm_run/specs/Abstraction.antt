@@ -36,12 +36,12 @@ reply_text (reply.Events n) c appended = later_events_of c n
 reply_text reply.Checkpoint c appended = appended
 
 -- This is the console after a step; or if a checkpoint is to be made, the open desk before it.
-abbrev pub IsAfter : Reply → Console → Console × List ℕ → Type 0
-IsAfter reply.Text c s = c ≡ s.0
-IsAfter reply.History c s = c ≡ s.0
-IsAfter (reply.Events n) c s = c ≡ s.0
-IsAfter reply.Checkpoint c s = (is_open c ≡ true) × (s ≡ on_console (checkpoint_now (present_desk c)))
+abbrev pub IsAfterReply : Reply → Console → Console × List ℕ → Type 0
+IsAfterReply reply.Text c s = c ≡ s.0
+IsAfterReply reply.History c s = c ≡ s.0
+IsAfterReply (reply.Events n) c s = c ≡ s.0
+IsAfterReply reply.Checkpoint c s = (is_open c ≡ true) × (s ≡ on_console (checkpoint_now (present_desk c)))
 
 -- this is the console, and the reply is what the step writes
 abbrev pub IsStep : Reply → List ℕ → List ℕ → Console → Console × List ℕ → Type 0
-IsStep r old new c s = IsAfter r c s × IsReply r old new c s.1
+IsStep r old new c s = IsAfterReply r c s × IsReply r old new c s.1

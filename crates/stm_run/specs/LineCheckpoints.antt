@@ -77,8 +77,8 @@ abbrev pub turn_of : {Cause : Type 0} → List ℕ → Option Cause → Turn Cau
 turn_of line refused = record { line = line; refused = refused }
 
 -- a line whose checkpoint can be made
-abbrev pub plain : {Cause : Type 0} → List ℕ → Turn Cause
-plain line = turn_of line None
+abbrev pub made_turn : {Cause : Type 0} → List ℕ → Turn Cause
+made_turn line = turn_of line None
 
 -- the lines
 abbrev pub turn_lines : {Cause : Type 0} → List (Turn Cause) → List (List ℕ)

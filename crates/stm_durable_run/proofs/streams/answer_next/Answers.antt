@@ -4,7 +4,7 @@ use Rattle.std.proofs.KnownBytes.{prepend_known-nil}
 use Rattle.stm_lines.specs.LineClass.{line_class}
 use Rattle.stm_lines.specs.Lines.{drop_return}
 use Rattle.stm_lines.specs.declared.run_fault.RunFault.TheVariants.{Read}
-use Rattle.stm_run.specs.LineCheckpoints.{plain, turn_lines}
+use Rattle.stm_run.specs.LineCheckpoints.{made_turn, turn_lines}
 use Rattle.stm_durable_run.specs.declared.fault.DurableFault.TheVariants.{Run}
 use Rattle.stm_durable_run.specs.DurableRun.{KeepsConsole}
 use Rattle.stm_durable_run.proofs.Committing.{may_commit, finished, stopped_after, failed}
@@ -26,7 +26,7 @@ returns-in-Ok-clause-any_moment g c = λ honest first input old h.
     let f = c.args.file.now in
     let w = rw c.in-Ok-Whole.field-0-is at c.in-Ok-Whole.ensures.line in
     let same : line_class c.line.result.now ≡ line_class (drop_return w.0) = ap line_class c.line.ensures ∙ w.2 in
-    input_run _ D f.journal.sync D.fills_with_zeros c.args.every first (h.lines ++ plain (drop_return w.0) ∷ []) input f.journal.device c.answer_line.new.file.journal.device
+    input_run _ D f.journal.sync D.fills_with_zeros c.args.every first (h.lines ++ made_turn (drop_return w.0) ∷ []) input f.journal.device c.answer_line.new.file.journal.device
     (on_begins _ c.args.every first input _ old _ _ _ _ h _ w.0 None w.1) (c.answer_line.ensures.any_moment honest first h.lines old (drop_return w.0) same h.after)
 
 pub returns-in-Err-answer_line-clause-fault : goal.returns-in-Err-answer_line-clause-fault
@@ -34,7 +34,7 @@ returns-in-Err-answer_line-clause-fault g c = λ first input old h.
     let D = g.D.Device.disk in
     let w = rw c.in-Ok-Whole.field-0-is at c.in-Ok-Whole.ensures.line in
     let same : line_class c.line.result.now ≡ line_class (drop_return w.0) = ap line_class c.line.ensures ∙ w.2 in
-    failed_run D.is_honest c.args.file.now.journal.sync D.fills_with_zeros (D.may_leave c.answer_line.new.file.journal.device) _ c.args.every first (h.lines ++ plain (drop_return w.0) ∷ []) input old _ _
+    failed_run D.is_honest c.args.file.now.journal.sync D.fills_with_zeros (D.may_leave c.answer_line.new.file.journal.device) _ c.args.every first (h.lines ++ made_turn (drop_return w.0) ∷ []) input old _ _
     (on_begins _ c.args.every first input _ old _ _ _ _ h _ w.0 None w.1) (c.in-Err-answer_line.ensures.fault first h.lines old (drop_return w.0) same h.after)
 
 pub returns-in-Err-answer_line-clause-any_moment : goal.returns-in-Err-answer_line-clause-any_moment
@@ -43,7 +43,7 @@ returns-in-Err-answer_line-clause-any_moment g c = λ honest first input old h.
     let f = c.args.file.now in
     let w = rw c.in-Ok-Whole.field-0-is at c.in-Ok-Whole.ensures.line in
     let same : line_class c.line.result.now ≡ line_class (drop_return w.0) = ap line_class c.line.ensures ∙ w.2 in
-    input_run _ D f.journal.sync D.fills_with_zeros c.args.every first (h.lines ++ plain (drop_return w.0) ∷ []) input f.journal.device c.answer_line.new.file.journal.device
+    input_run _ D f.journal.sync D.fills_with_zeros c.args.every first (h.lines ++ made_turn (drop_return w.0) ∷ []) input f.journal.device c.answer_line.new.file.journal.device
     (on_begins _ c.args.every first input _ old _ _ _ _ h _ w.0 None w.1) (c.answer_line.ensures.any_moment honest first h.lines old (drop_return w.0) same h.after)
 
 -- ---- the last line
@@ -60,16 +60,16 @@ returns-in-Ok-answer_line-clause-any_moment g c = λ honest first input old h.
     let f = c.args.file.now in
     let w = rw c.in-Ok-Last.field-0-is at c.in-Ok-Last.ensures.line in
     let same : line_class c.line-in-Ok-Last.result.now ≡ line_class w.0 = ap line_class c.line-in-Ok-Last.ensures ∙ w.3 in
-    input_run _ D f.journal.sync D.fills_with_zeros c.args.every first (h.lines ++ plain w.0 ∷ []) input f.journal.device c.answer_line-in-Ok-Last.new.file.journal.device
-    (last_begins (turn_lines (h.lines ++ plain w.0 ∷ [])) input (last_lines _ c.args.every first input _ old _ _ _ _ h _ w.0 None w.1 w.2)) (c.answer_line-in-Ok-Last.ensures.any_moment honest first h.lines old w.0 same h.after)
+    input_run _ D f.journal.sync D.fills_with_zeros c.args.every first (h.lines ++ made_turn w.0 ∷ []) input f.journal.device c.answer_line-in-Ok-Last.new.file.journal.device
+    (last_begins (turn_lines (h.lines ++ made_turn w.0 ∷ [])) input (last_lines _ c.args.every first input _ old _ _ _ _ h _ w.0 None w.1 w.2)) (c.answer_line-in-Ok-Last.ensures.any_moment honest first h.lines old w.0 same h.after)
 
 pub returns-in-Err-answer_line-2-clause-fault : goal.returns-in-Err-answer_line-2-clause-fault
 returns-in-Err-answer_line-2-clause-fault g c = λ first input old h.
     let D = g.D.Device.disk in
     let w = rw c.in-Ok-Last.field-0-is at c.in-Ok-Last.ensures.line in
     let same : line_class c.line-in-Ok-Last.result.now ≡ line_class w.0 = ap line_class c.line-in-Ok-Last.ensures ∙ w.3 in
-    failed_run D.is_honest c.args.file.now.journal.sync D.fills_with_zeros (D.may_leave c.answer_line-in-Ok-Last.new.file.journal.device) _ c.args.every first (h.lines ++ plain w.0 ∷ []) input old _ _
-    (last_begins (turn_lines (h.lines ++ plain w.0 ∷ [])) input (last_lines _ c.args.every first input _ old _ _ _ _ h _ w.0 None w.1 w.2)) (c.in-Err-answer_line-2.ensures.fault first h.lines old w.0 same h.after)
+    failed_run D.is_honest c.args.file.now.journal.sync D.fills_with_zeros (D.may_leave c.answer_line-in-Ok-Last.new.file.journal.device) _ c.args.every first (h.lines ++ made_turn w.0 ∷ []) input old _ _
+    (last_begins (turn_lines (h.lines ++ made_turn w.0 ∷ [])) input (last_lines _ c.args.every first input _ old _ _ _ _ h _ w.0 None w.1 w.2)) (c.in-Err-answer_line-2.ensures.fault first h.lines old w.0 same h.after)
 
 pub returns-in-Err-answer_line-2-clause-any_moment : goal.returns-in-Err-answer_line-2-clause-any_moment
 returns-in-Err-answer_line-2-clause-any_moment g c = λ honest first input old h.
@@ -77,8 +77,8 @@ returns-in-Err-answer_line-2-clause-any_moment g c = λ honest first input old h
     let f = c.args.file.now in
     let w = rw c.in-Ok-Last.field-0-is at c.in-Ok-Last.ensures.line in
     let same : line_class c.line-in-Ok-Last.result.now ≡ line_class w.0 = ap line_class c.line-in-Ok-Last.ensures ∙ w.3 in
-    input_run _ D f.journal.sync D.fills_with_zeros c.args.every first (h.lines ++ plain w.0 ∷ []) input f.journal.device c.answer_line-in-Ok-Last.new.file.journal.device
-    (last_begins (turn_lines (h.lines ++ plain w.0 ∷ [])) input (last_lines _ c.args.every first input _ old _ _ _ _ h _ w.0 None w.1 w.2)) (c.answer_line-in-Ok-Last.ensures.any_moment honest first h.lines old w.0 same h.after)
+    input_run _ D f.journal.sync D.fills_with_zeros c.args.every first (h.lines ++ made_turn w.0 ∷ []) input f.journal.device c.answer_line-in-Ok-Last.new.file.journal.device
+    (last_begins (turn_lines (h.lines ++ made_turn w.0 ∷ [])) input (last_lines _ c.args.every first input _ old _ _ _ _ h _ w.0 None w.1 w.2)) (c.answer_line-in-Ok-Last.ensures.any_moment honest first h.lines old w.0 same h.after)
 
 -- ---- no line is left
 pub returns-in-Ok-End-clause-done : goal.returns-in-Ok-End-clause-done
