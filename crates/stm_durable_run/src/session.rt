@@ -8,6 +8,7 @@ ghost use Rattle.std.specs.Io.KnownBytes.{Appends};
 ghost use Rattle.stm_terms.specs.Texts.{IsPrefixOf};
 ghost use Rattle.stm_history.specs.HistoryText.{WritesText};
 ghost use Rattle.stm_journal.specs.Disk.{LeavesOnly};
+ghost use Rattle.stm_journal.specs.declared.error.JournalError.TheVariants.{NoMemory as OutOfMemory};
 ghost use Rattle.stm_lines.specs.LineClass.{line_class};
 ghost use Rattle.stm_run.specs.declared.console.Console.{Console as AnyConsole};
 ghost use Rattle.stm_run.specs.Abstraction.{IsStep};
@@ -53,6 +54,21 @@ fn fault_of(fault: WriteFault) -> RunFault
     match fault {
         WriteFault::Write => RunFault::Write,
         WriteFault::NoMemory => RunFault::NoMemory,
+    }
+}
+
+/// Whether memory ran out.
+fn is_no_memory(error: JournalError) -> bool
+    ensures yes { result ≡ true → error ≡ OutOfMemory }
+    ensures no { result ≡ false → error ≢ OutOfMemory }
+{
+    match error {
+        JournalError::NoMemory => true,
+        JournalError::Failed => false,
+        JournalError::NoSpace => false,
+        JournalError::Full => false,
+        JournalError::TooLong => false,
+        JournalError::TornTooLong => false,
     }
 }
 
@@ -325,10 +341,10 @@ impl DurableSession {
                 self.recorded = 0;
                 Ok(Tried::Made(self.console.begin_from(checkpoint)))
             }
-            Err(ReplaceError::Refused(JournalError::NoMemory)) => {
-                Err(DurableFault::Journal(JournalError::NoMemory))
-            }
             Err(ReplaceError::Refused(error)) => {
+                if is_no_memory(error) {
+                    return Err(DurableFault::Journal(error));
+                }
                 file.report(error);
                 Ok(Tried::RefusedByFile)
             }
