@@ -1,6 +1,7 @@
 -- That a run on a file does what its definition says.
 use Rattle.std.proofs.Common.{◌≡◌, ◌<◌, ℕ, Bool, List, [], ◌∷◌, ◌++◌, inl, inr, refl, sym, ap, ◌∙◌, subst, Option, Some, None}
 use Rattle.std.specs.Prelude.{◌⊎◌, IfSome, IsTrue, option_map}
+use Rattle.stm_terms.specs.Texts.{IsPrefixOf}
 use Rattle.std.specs.Io.KnownBytes.{Appends}
 use Rattle.stm_history.specs.declared.files.fault.HistoryFault.TheVariants as history_fault
 use Rattle.stm_history.specs.declared.files.loading.LoadFault.{LoadFault}
@@ -53,18 +54,24 @@ same_answers every s (turn ∷ turns) =
     ∙ ap (λ (text : List ℕ). answer_by every s turn ++ text) (same_answers every (state_after_turn every s turn) turns)
 
 -- what holds of a run's answers holds of them without the causes
-pub over_lines : {Cause : Type 0} (every : ℕ) (s : Console) (input : Option (List ℕ)) (P : List ℕ → Type 0)
+over_lines : (Cause : Type 0) (every : ℕ) (s : Console) (input : Option (List ℕ)) (P : List ℕ → Type 0)
     → IfSome input (λ bytes. ForTurns Cause (lines_of bytes) (λ turns. P (answers_by every s turns)))
     → IfSome input (λ bytes. OverLines bytes (λ turns. P (answers_by every s turns)))
-over_lines every s None P h = tt
-over_lines every s (Some bytes) P h = (forget h.0, same_lines h.0 ∙ h.1, subst P (sym (same_answers every s h.0)) h.2)
+over_lines Cause every s None P h = tt
+over_lines Cause every s (Some bytes) P h = (forget h.0, same_lines h.0 ∙ h.1, subst P (sym (same_answers every s h.0)) h.2)
 
 -- all was answered
-pub answered_lines : {Cause : Type 0} (every : ℕ) (s : Console) (input old new : Option (List ℕ)) (K : List (Turn Cause) → Type 0)
+pub answered_lines : (Cause : Type 0) (every : ℕ) (s : Console) (input old new : Option (List ℕ)) (K : List (Turn Cause) → Type 0)
     → IfSome input (λ bytes. ForTurns Cause (lines_of bytes) (λ turns. Appends old new (answers_by every s turns) × K turns))
     → IfSome input (λ bytes. OverLines bytes (λ turns. Appends old new (answers_by every s turns)))
-answered_lines every s None old new K h = tt
-answered_lines every s (Some bytes) old new K h = over_lines every s (Some bytes) (Appends old new) (h.0, h.1, h.2.0)
+answered_lines Cause every s None old new K h = tt
+answered_lines Cause every s (Some bytes) old new K h = over_lines Cause every s (Some bytes) (Appends old new) (h.0, h.1, h.2.0)
+
+-- a part was answered
+pub part_answered : (Cause : Type 0) (every : ℕ) (s : Console) (input old new : Option (List ℕ))
+    → IfSome input (λ bytes. ForTurns Cause (lines_of bytes) (λ turns. (front : List ℕ) × IsPrefixOf front (answers_by every s turns) × Appends old new front))
+    → IfSome input (λ bytes. OverLines bytes (λ turns. (front : List ℕ) × IsPrefixOf front (answers_by every s turns) × Appends old new front))
+part_answered Cause every s input old new h = over_lines Cause every s input (λ text. (front : List ℕ) × IsPrefixOf front text × Appends old new front) h
 
 -- ---- what failed
 

@@ -2,22 +2,20 @@ use Rattle.std.proofs.Common.{ℕ, List, inl, inr, refl}
 use Rattle.std.proofs.KnownBytes.{Keeps-refl}
 use Rattle.stm_journal.specs.Text.{recovered}
 use Rattle.stm_durable.specs.Durable.{LoadsFront}
-use Rattle.std.specs.Io.KnownBytes.{Appends}
-use Rattle.stm_terms.specs.Texts.{IsPrefixOf}
-use Rattle.stm_console.proofs.JournalAnswers.{answered_lines, over_lines, durable_failed, known, unopened}
+use Rattle.stm_console.proofs.JournalAnswers.{answered_lines, part_answered, durable_failed, known, unopened}
 use Rattle.stm_console.proofs.journal.run_on_device.Goals as goal
 
 pub returns-in-Ok-run_durable : goal.returns-in-Ok-run_durable
 returns-in-Ok-run_durable g c = λ contents is.
     let loaded = c.in-Ok.opened.loaded in
     let front = known (λ (bytes : List ℕ). LoadsFront (recovered bytes) loaded) g.D.Device.disk.is_honest contents (g.D.Device.disk.seen c.args.device) is c.in-Ok.ensures.loaded in
-    inl (loaded, front, inl (refl, answered_lines _ _ _ _ _ _ c.in-Ok-run_durable.ensures.answered))
+    inl (loaded, front, inl (refl, answered_lines _ _ _ _ _ _ _ c.in-Ok-run_durable.ensures.answered))
 
 pub returns-in-Ok : goal.returns-in-Ok
 returns-in-Ok g c = λ contents is.
     let loaded = c.in-Ok.opened.loaded in
     let front = known (λ (bytes : List ℕ). LoadsFront (recovered bytes) loaded) g.D.Device.disk.is_honest contents (g.D.Device.disk.seen c.args.device) is c.in-Ok.ensures.loaded in
-    inl (loaded, front, inr (durable_failed c.in-Err-run_durable.fault _ c.report_durable.ensures, over_lines _ _ _ (λ text. (front : List ℕ) × IsPrefixOf front text × Appends _ _ front) c.in-Err-run_durable.ensures.part))
+    inl (loaded, front, inr (durable_failed c.in-Err-run_durable.fault _ c.report_durable.ensures, part_answered _ _ _ _ _ _ c.in-Err-run_durable.ensures.part))
 
 pub returns-in-Some : goal.returns-in-Some
 returns-in-Some g c = λ contents is. inr (Keeps-refl _, Keeps-refl _, inr (inl refl))
