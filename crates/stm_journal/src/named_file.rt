@@ -222,7 +222,9 @@ fn paths_of<'a>(from: &'a NamedFile, to: &'a NamedFile) -> Result<(&'a str, &'a 
     let (Some(from_path), Some(to_path)) = (&from.path, &to.path) else {
         return Err(Obstacle::NoPath);
     };
-    if leads_to(to.rt, from_path, &from.device.file)? && leads_to(to.rt, to_path, &to.device.file)? {
+    if leads_to(to.rt, from_path, &from.device.file)?
+        && leads_to(to.rt, to_path, &to.device.file)?
+    {
         Ok((from_path, to_path))
     } else {
         Err(Obstacle::Moved)
