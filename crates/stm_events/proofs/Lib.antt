@@ -1,4 +1,5 @@
 pub mod Alike
+pub mod Atomically
 pub mod Covered
 pub mod DrainCounts
 pub mod Draining

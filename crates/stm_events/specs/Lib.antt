@@ -9,6 +9,7 @@ pub mod Laws
 pub mod Ready
 pub mod Refusals
 pub mod Rounds
+pub mod SlowAtomically
 pub mod SlowDesk
 pub mod SlowDrain
 pub mod SlowSettle
