@@ -36,7 +36,7 @@ last_delivered : (t n k : ℕ) (store : List Cell) (one : Waiter) (ws : List Wai
 last_delivered t n k store one [] e l r = rw (e, itself t) refl
 last_delivered t n k store one (w ∷ ws) e l r = rw (above t n w.ticket l r.1) (ap (λ (vs : List Waiter). w ∷ vs) (last_delivered t n w.ticket store one ws e l r.2))
 
-last_found : (t n k : ℕ) (one : Waiter) (ws : List Waiter) → one.ticket ≡ t → n ≤ t → AreRising n k ws → find_waiter t (ws ++ one ∷ []) ≡ Some one
+pub last_found : (t n k : ℕ) (one : Waiter) (ws : List Waiter) → one.ticket ≡ t → n ≤ t → AreRising n k ws → find_waiter t (ws ++ one ∷ []) ≡ Some one
 last_found t n k one [] e l r = rw (e, itself t) refl
 last_found t n k one (w ∷ ws) e l r = rw (above t n w.ticket l r.1) (last_found t n w.ticket one ws e l r.2)
 

@@ -19,6 +19,7 @@ pub mod Moves
 pub mod Reading
 pub mod Ready
 pub mod RightDeliveries
+pub mod RunAtOnce
 pub mod SameObserved
 pub mod States
 pub mod Taking

@@ -66,7 +66,7 @@ stands_install s m watch' t w h k f n holds q =
     }
 
 -- what is kept of a ticket is what its block read
-reads_there : (u : ℕ) (es : List (ℕ × Waiting)) (ws : List Waiter) (w : Waiter) → AreDue es ws → find_waiter u ws ≡ Some w → kept_reads (kept_at u es) ≡ read_since w.block w.since
+pub reads_there : (u : ℕ) (es : List (ℕ × Waiting)) (ws : List Waiter) (w : Waiter) → AreDue es ws → find_waiter u ws ≡ Some w → kept_reads (kept_at u es) ≡ read_since w.block w.since
 reads_there u es ws w d e = same (kept_at u es) (find_waiter u ws) (found u es ws d) e where
   same : (o : Option Waiting) (p : Option Waiter) → IsFound o p → p ≡ Some w → kept_reads o ≡ read_since w.block w.since
   same None p f h = absurd (none p f h) where

@@ -2,6 +2,7 @@
 pub mod Checkpoints
 pub mod CheckpointEntries
 -- What the machine holds and hands out.
+pub mod Atomic
 pub mod Entries
 pub mod IndexEncoding
 pub mod JobsHandedOut

@@ -36,7 +36,7 @@ pub struct Plan {
 }
 
 /// Whether the new variables of a verdict don't fit the store.
-fn overflows_store(store: &Store, verdict: &Verdict) -> bool
+pub(crate) fn overflows_store(store: &Store, verdict: &Verdict) -> bool
     ensures { result ≡ overflows store.now (Some verdict.now) }
 {
     news_of(verdict) > Store::LIMIT - store.len()
@@ -52,7 +52,7 @@ fn news_of(verdict: &Verdict) -> usize
 }
 
 /// The verdict, the number and the tickets that a finish needs.
-fn make_plan(
+pub(crate) fn make_plan(
     alloc: Global,
     rule: StalenessRule,
     store: &Store,
@@ -77,7 +77,7 @@ fn make_plan(
 }
 
 /// Makes room for a finish, and then its writes.
-fn take_effect(
+pub(crate) fn take_effect(
     pending: &mut Pending,
     store: &mut Store,
     verdict: &SharedVerdict,

@@ -4,6 +4,7 @@
 //! desk is a machine with a list of its events; a checker is a machine alone.
 #![tactic(auto)]
 
+pub mod atomic;
 pub mod cancel;
 pub mod checkpoint;
 pub mod deliver;

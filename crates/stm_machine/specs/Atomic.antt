@@ -1,0 +1,45 @@
+-- What running a block atomically is to do, made before its first change.
+use Rattle.std.specs.Prelude.{◌≡◌, ℕ, ◌+◌, ◌≤◌, false, List, [], ◌∷◌, Some, None, length}
+use Rattle.stm_terms.specs.declared.values.Value.{Value}
+use Rattle.stm_terms.specs.declared.verdicts.Verdict.{Verdict}
+use Rattle.stm_terms.specs.ReadSet.{reads_of}
+use Rattle.stm_store.specs.Cells.{plains, Fits, made_by}
+use Rattle.stm_check.specs.TypedBlock.{Block}
+use Rattle.stm_events.specs.declared.event.What.{What}
+use Rattle.stm_events.specs.declared.event.What.TheVariants.{Submitted, Installed, Finished}
+use Rattle.stm_events.specs.Refusals.{overflows, submit_refused}
+use Rattle.stm_events.specs.SlowAtomically.{AllowsEach}
+use Rattle.stm_events.specs.SlowDesk.{Slow, under, verdict_on, waking, is_blocks, stale_after, max_cells}
+use Rattle.stm_events.specs.SlowDrain.{after_all}
+use Rattle.stm_machine.specs.Machine.{Parts, IsAt}
+
+-- on the present store the block has this verdict, which fits it, and reads this
+pub record IsVerdictOf (s : Slow) (block : Block) (v : Verdict) (reads : List (ℕ × Value)) : Type 0 where
+  pub verdict : verdict_on s.store block ≡ Some v
+  pub fits : Fits (plains s.store) v
+  pub reads_are : reads ≡ reads_of (under s.store) block.tree
+
+-- a block that doesn't wait yet may end by this verdict, with this first new variable and these stale tickets
+pub record IsRunPlan (s : Slow) (verdict : Verdict) (first_new : ℕ) (stale : List ℕ) : Type 0 where
+  pub fits : Fits (plains s.store) verdict
+  pub ends : is_blocks verdict ≡ false
+  pub first_new_is : first_new ≡ length s.store
+  pub room : length s.store + length (made_by verdict) ≤ max_cells
+  pub listed : stale ≡ stale_after (waking s.rule s.store verdict) s.waiters
+
+-- at each state that the machine is at, a block may end so by this verdict, if the verdict fits the store, doesn't block, and its new
+-- variables have room
+abbrev pub PlansRun : Parts → Verdict → ℕ → List ℕ → Type 0
+PlansRun m v first_new stale =
+    (s : Slow) → IsAt m s → Fits (plains s.store) v → is_blocks v ≡ false → overflows s.store (Some v) ≡ false → IsRunPlan s v first_new stale
+
+-- each of these in its turn is allowed on each state that the machine is at, and they take the machine to the state after them
+abbrev pub MovesThrough : List What → Parts → Parts → Type 0
+MovesThrough whats old new = (s : Slow) → IsAt old s → (AllowsEach s whats × IsAt new (after_all s whats))
+
+-- whichever block that may be submitted has this verdict: it is submitted, evaluated and finished so
+abbrev pub RunsBlocks : Verdict → ℕ → List ℕ → Parts → Parts → Type 0
+RunsBlocks v first_new stale old new =
+    (s : Slow) (block : Block) → IsAt old s → submit_refused s false block ≡ None → verdict_on s.store block ≡ Some v
+    → (AllowsEach s (Submitted s.next block ∷ Installed s.next v ∷ Finished s.next v first_new stale ∷ [])
+    × IsAt new (after_all s (Submitted s.next block ∷ Installed s.next v ∷ Finished s.next v first_new stale ∷ [])))
