@@ -1,3 +1,4 @@
+pub mod Atomically
 pub mod Calls
 pub mod Causes
 pub mod Checkpointed

@@ -1,5 +1,5 @@
 -- What contracts see of a desk: all else follows from it.
-use Rattle.std.specs.Prelude.{◌≡◌, ℕ, Bool, true, nat_le, List, [], ◌∷◌, ◌++◌, length, Option, Some, option_map, is_some}
+use Rattle.std.specs.Prelude.{◌≡◌, ℕ, ◌+◌, Bool, true, nat_le, nat_lt, List, [], ◌∷◌, ◌++◌, length, Option, Some, option_map, is_some}
 use Rattle.stm_store.specs.Tables.{Declared}
 use Rattle.stm_queue.specs.Queue.{Entry, has_ticket, with_ticket, without_ticket}
 use Rattle.stm_events.specs.declared.event.Event.{Event}
@@ -51,6 +51,10 @@ standing_of s t = option_map (standing s.store) (find_waiter t s.waiters)
 -- there is no room for an event
 abbrev pub is_full : DeskView → Bool
 is_full d = nat_le d.limit (length d.history)
+
+-- there is no room for n events
+abbrev pub lacks_room : DeskView → ℕ → Bool
+lacks_room d n = nat_lt d.limit (length d.history + n)
 
 -- each ticket of a new or stale block is queued or out, and no other is
 abbrev pub DeskQueueIsRight : DeskView → Type 0

@@ -1,5 +1,7 @@
 -- Why each call on a desk is refused: the first reason that holds. An out-of-memory error is reported only if none holds.
-use Rattle.std.specs.Prelude.{ℕ, Option, Result}
+use Rattle.std.specs.Prelude.{ℕ, Bool, false, if◌then◌else◌, nat_le, length, Option, Some, None, Result}
+use Rattle.stm_terms.specs.declared.verdicts.Verdict.{Verdict}
+use Rattle.stm_store.specs.Cells.{plains}
 use Rattle.stm_check.specs.TypedBlock.{Block}
 use Rattle.stm_eval.specs.declared.message.Evaluated.{Evaluated}
 use Rattle.stm_eval.specs.EvaluatedFields.{message_ticket, message_block, message_reads}
@@ -7,8 +9,11 @@ use Rattle.stm_events.specs.declared.errors.SubmitError.{SubmitError}
 use Rattle.stm_events.specs.declared.errors.CancelError.{CancelError}
 use Rattle.stm_events.specs.declared.errors.DeliverError.{DeliverError}
 use Rattle.stm_events.specs.declared.errors.FinishError.{FinishError}
-use Rattle.stm_events.specs.Refusals.{submit_refused, cancel_refused, finish_refused, DeliveryRefusedAs, pending_left}
-use Rattle.stm_desk.specs.DeskView.{DeskView, state_of, is_full}
+use Rattle.stm_events.specs.SlowDesk.{Slow, verdict_on, max_waiting}
+use Rattle.stm_events.specs.Refusals.{missing, blocks_there, overflows, submit_refused, cancel_refused, finish_refused, DeliveryRefusedAs, pending_left}
+use Rattle.stm_desk.specs.declared.errors.AtomicError.{AtomicError}
+use Rattle.stm_desk.specs.declared.errors.AtomicError.TheVariants as atomic
+use Rattle.stm_desk.specs.DeskView.{DeskView, state_of, is_full, lacks_room}
 
 -- why a block can't be submitted, if it can't
 abbrev pub submit_refusal : DeskView → Block → Option SubmitError
@@ -30,3 +35,33 @@ RefusesDelivery result d message =
 -- the desk after a delivery to a ticket was refused: if the message was overtaken, the ticket is queued
 abbrev pub requeued_if_overtaken : DeliverError → ℕ → DeskView → DeskView
 requeued_if_overtaken e t d = record d { pending = pending_left e t d.pending }
+
+-- ---- atomically
+-- the first that holds: a variable is missing, too many blocks wait, the history has no room for all events, the store has none for
+-- the new variables
+abbrev pub atomic_first : Option ℕ → Bool → Bool → Bool → Option AtomicError
+atomic_first (Some i) many full crowded = Some (atomic.Foreign i)
+atomic_first None many full crowded =
+    if many then Some atomic.WaitingFull
+    else if full then Some atomic.HistoryFull
+    else if crowded then Some atomic.CellsFull else None
+
+-- how many events it has: two if the block blocks, and otherwise three
+abbrev pub events_needed : Option Verdict → ℕ
+events_needed v = if blocks_there v then 2 else 3
+
+-- why a block can't be run atomically on a state, by which numbers of events have no room
+abbrev pub atomic_refused : Slow → (ℕ → Bool) → Block → Option AtomicError
+atomic_refused s lacks block =
+    atomic_first (missing (plains s.store) block.uses) (nat_le max_waiting (length s.waiters)) (lacks (events_needed (verdict_on s.store block)))
+    (overflows s.store (verdict_on s.store block))
+
+-- why a block can't be run atomically, if it can't
+abbrev pub atomic_refusal : DeskView → Block → Option AtomicError
+atomic_refusal d block = atomic_refused (state_of d) (lacks_room d) block
+
+-- the same as far as it shows before the block is evaluated: each takes two events at least
+abbrev pub atomic_refusal_before : DeskView → Block → Option AtomicError
+atomic_refusal_before d block =
+    let s = state_of d in
+    atomic_first (missing (plains s.store) block.uses) (nat_le max_waiting (length s.waiters)) (lacks_room d 2) false

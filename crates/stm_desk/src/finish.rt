@@ -70,7 +70,7 @@ fn finished_event(
 }
 
 /// What a finish did by its plan.
-fn finish_by(plan: Plan, applied: Applied) -> Finish
+pub(crate) fn finish_by(plan: Plan, applied: Applied) -> Finish
     ensures verdict { result.verdict ≡ plan.verdict }
     ensures applied { result.applied ≡ applied }
     ensures stale { result.stale ≡ plan.stale }

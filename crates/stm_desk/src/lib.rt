@@ -4,11 +4,12 @@
 //! events it takes, and the list of its events. Contracts see these and the tickets that are queued or out (`specs/DeskView`); all else
 //! is what the slow desk makes of the history (`stm_events/specs/SlowDesk`). `specs/Refusals` says what each call is refused for,
 //! `specs/Evaluating` what evaluating the queued blocks does, `specs/Settling` what settling does and why it stops, and
-//! `specs/Reasons` what a waiting block waits for. Each accepted call adds exactly its event. Only `evaluate_queued` and
-//! `settle` evaluate blocks.
+//! `specs/Reasons` what a waiting block waits for. Each accepted call adds exactly its event, and `atomically` all of its events or
+//! none. Only `evaluate_queued`, `settle`, `drain` and `atomically` evaluate blocks.
 #![tactic(auto)]
 
 // The desk and its calls.
+pub mod atomic;
 pub mod cancel;
 pub mod checkpoint;
 pub mod deliver;
@@ -23,11 +24,12 @@ pub mod submit;
 pub mod take;
 pub mod why;
 
-// Why settling stops.
+// Why a block isn't run atomically, and why settling stops.
 pub mod errors;
 
+pub use atomic::Ran;
 pub use desk::Desk;
-pub use errors::{SettleStop, SettleWhy};
+pub use errors::{AtomicError, SettleStop, SettleWhy};
 pub use evaluate::Evaluation;
 pub use finish::Finish;
 pub use reason::{Change, Reason};

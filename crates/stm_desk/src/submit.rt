@@ -14,7 +14,7 @@ use stm_check::SharedBlock;
 use stm_events::{Event, SubmitError, What};
 
 /// Every block is well typed. Its type keeps that, and this says it.
-fn say_typed(block: &SharedBlock)
+pub(crate) fn say_typed(block: &SharedBlock)
     ensures { IsWellTyped block.now }
 {
     let _action = block.block().action();
