@@ -12,7 +12,7 @@ use Rattle.stm_machine.specs.Checkpoints.{waiter_of, checkpoint_state, checkpoin
 use Rattle.stm_desk.specs.DeskView.{DeskView, start_state, state_of, checkpointed}
 use Rattle.stm_commands.specs.declared.jobs.KeptJob.{KeptJob}
 use Rattle.stm_commands.specs.OpenDesk.{HandedOut}
-use Rattle.stm_commands.specs.OpenInvariant.{job_kept, HasStore, HaveStores, JobStands, JobsStand, IsPresentCopy, OpenInvariant}
+use Rattle.stm_commands.specs.OpenInvariant.{job_kept, HaveStores, JobsStand, IsPresentCopy, OpenInvariant}
 
 -- a waiting block as the state of a checkpoint has it
 abbrev seen_again : List Cell → Waiter → Waiter

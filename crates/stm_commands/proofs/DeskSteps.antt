@@ -1,9 +1,8 @@
 -- What the calls of a command did is its step.
-use Rattle.std.proofs.Common.{◌≡◌, ◌≢◌, ℕ, ◌+◌, Bool, false, cond, List, ◌++◌, length, Option, Some, None, Result, Ok, Err, OnOk, refl, sym, ap, ap₂, subst, ◌∙◌, append_assoc}
+use Rattle.std.proofs.Common.{◌≡◌, ◌≢◌, ℕ, ◌+◌, Bool, false, cond, List, ◌∷◌, ◌++◌, length, Option, Some, None, Result, Ok, Err, OnOk, refl, sym, ap, ap₂, subst, ◌∙◌, append_assoc}
 use Rattle.std.specs.Prelude.{codes, nat_lt}
 use Rattle.stm_check.specs.TypedBlock.{Block}
 use Rattle.stm_terms.specs.UnlessNoMemory.{RefusedAs}
-use Rattle.stm_terms.specs.declared.verdicts.Verdict.{Verdict}
 use Rattle.stm_store.specs.Cells.{changed_by}
 use Rattle.stm_queue.specs.Queue.{Entry, is_out}
 use Rattle.stm_machine.specs.JobsHandedOut.{sent}
@@ -16,27 +15,34 @@ use Rattle.stm_events.specs.declared.errors.FinishError.{FinishError}
 use Rattle.stm_events.specs.declared.errors.FinishError.TheVariants as finish
 use Rattle.stm_events.specs.declared.event.What.TheVariants.{Submitted, Finished, Cancelled}
 use Rattle.stm_events.specs.declared.staleness.StalenessRule.{StalenessRule}
-use Rattle.stm_events.specs.SlowDesk.{Waiter, verdict_on, find_waiter, without_waiter, stale_after, waking}
+use Rattle.stm_events.specs.SlowDesk.{find_waiter, without_waiter, stale_after, waking}
 use Rattle.stm_events.specs.SlowSettle.{Order, finishes}
 use Rattle.stm_events.proofs.Folds.{state-rule}
 use Rattle.stm_machine.specs.Plans.{IsPlan}
 use Rattle.stm_desk.specs.declared.errors.SettleWhy.{SettleWhy}
 use Rattle.stm_desk.specs.declared.errors.SettleWhy.TheVariants.{HistoryFull, CellsFull, NoMemory}
-use Rattle.stm_desk.specs.Refusals.{submit_refusal, cancel_refusal, finish_refusal}
+use Rattle.stm_events.specs.SlowAtomically.{atomically}
+use Rattle.stm_desk.specs.declared.atomic.Ran.{Ran}
+use Rattle.stm_desk.specs.declared.errors.AtomicError.{AtomicError}
+use Rattle.stm_desk.specs.declared.errors.AtomicError.TheVariants as atomic
+use Rattle.stm_desk.specs.Refusals.{submit_refusal, atomic_refusal, cancel_refusal, finish_refusal}
 use Rattle.stm_desk.proofs.Calls.{accepted}
 use Rattle.stm_desk.proofs.Starts.{start_rule}
 use Rattle.stm_desk.specs.declared.finish.Finish.{Finish}
-use Rattle.stm_desk.specs.Events.{finish_of}
+use Rattle.stm_desk.specs.Events.{finish_of, evaluated_and_finished, whats_ran}
 use Rattle.stm_desk.specs.DeskView.{DeskView, start_state, state_of, with_event}
 use Rattle.stm_desk.specs.Settling.{with_whats, requeued_all, slow_run, slow_run_stop, HasRun, HasHalted}
+use Rattle.stm_commands.specs.Atomically.{ran_text, atomically_block_step, atomically_text_step, atomically_step}
 use Rattle.stm_commands.specs.Blocks.{ticket_line, submit_block_step}
 use Rattle.stm_commands.specs.Endings.{finished_line, finish_verdict_step, finish_waiter_step, finish_ticket_step, cancelled_line, cancel_ticket_step, why_text, run_text, run_desk_step}
+use Rattle.stm_blocks.specs.declared.refusal.Refusal.{Refusal}
+use Rattle.stm_blocks.specs.CompiledBlock.{compiled_block}
 use Rattle.stm_commands.specs.declared.evaluation.Progress.{Progress}
 use Rattle.stm_commands.specs.Evaluation.{DeliveredSoFar, evaluated, evaluation_text, eval_desk_step}
 use Rattle.stm_commands.specs.Jobs.{max_jobs, jobs_of, taken, jobs_line, with_jobs, take_jobs_step, delivery_refusal, delivery_step, deliver_job_step, queued_line, handed_back, handback_ticket_step}
 use Rattle.stm_commands.specs.OpenDesk.{HandedOut, OpenDesk, on_desk, Steps}
 use Rattle.stm_commands.specs.OpenInvariant.{delivered_so_far}
-use Rattle.stm_commands.specs.Refusals.{refused, submit_error_text, finish_error_text, cancel_error_text}
+use Rattle.stm_commands.specs.Refusals.{refused, submit_error_text, atomic_error_text, finish_error_text, cancel_error_text}
 use Rattle.stm_commands.proofs.EvaluatedHere.{marked_queued}
 
 abbrev opened_as : List HandedOut → DeskView → OpenDesk
@@ -139,6 +145,33 @@ pub finish_err : {A E : Type 0} → (d e : DeskView) (js : List HandedOut) (t : 
 finish_err d e js t x old new (Ok y) p n m h =
     subst (λ (o : Option FinishError). Steps (opened_as js e) old new (on_desk (opened_as js d) (finish_ticket_step d t o))) (sym (refusal_is Finish finish.NoMemory (finish_refusal d t) x n m)) (ap (opened_as js) p, h)
 finish_err d e js t x old new (Err y) p n m h = tt
+
+-- ---- atomically
+-- the submission comes first, and what came after it is printed
+ran_last : (b : Block) (t : ℕ) (f : Option Finish) → ran_text (evaluated_and_finished t f) ≡ ran_text (Submitted t b ∷ evaluated_and_finished t f)
+ran_last b t None = refl
+ran_last b t (Some f) = refl
+
+pub ran_ok : {A E : Type 0} → (d e : DeskView) (js : List HandedOut) (b : Block) (ran : Ran) (old new : List ℕ) (r : Result A E) → e ≡ with_whats d 0 (atomically (state_of d) b) → atomically (state_of d) b ≡ whats_ran b ran → atomic_refusal d b ≡ None
+    → OnOk r (new ≡ old ++ ran_text (evaluated_and_finished ran.ticket ran.finish)) → OnOk r (Steps (opened_as js e) old new (on_desk (opened_as js d) (atomically_block_step d b (atomic_refusal d b))))
+ran_ok d e js b ran old new (Ok x) p q n h =
+    subst (λ (o : Option AtomicError). Steps (opened_as js e) old new (on_desk (opened_as js d) (atomically_block_step d b o))) (sym n)
+    (ap (opened_as js) p, h ∙ ap (λ (t : List ℕ). old ++ t) (ran_last b ran.ticket ran.finish ∙ ap ran_text (sym q)))
+ran_ok d e js b ran old new (Err x) p q n h = tt
+
+pub ran_err : {A E : Type 0} → (d e : DeskView) (js : List HandedOut) (b : Block) (x : AtomicError) (old new : List ℕ) (r : Result A E) → e ≡ d → (x ≢ atomic.NoMemory → atomic_refusal d b ≡ Some x) → OnOk r (x ≢ atomic.NoMemory)
+    → OnOk r (new ≡ old ++ atomic_error_text x) → OnOk r (Steps (opened_as js e) old new (on_desk (opened_as js d) (atomically_block_step d b (atomic_refusal d b))))
+ran_err d e js b x old new (Ok y) p n t h =
+    subst (λ (o : Option AtomicError). Steps (opened_as js e) old new (on_desk (opened_as js d) (atomically_block_step d b o))) (sym (n t)) (ap (opened_as js) p, h)
+ran_err d e js b x old new (Err y) p n t h = tt
+
+-- of a text that was compiled to this block
+pub text_ran : {A E : Type 0} → (d e after : OpenDesk) (text : List ℕ) (b : Block) (old new : List ℕ) (r : Result A E) → e ≡ d → compiled_block d.desk.table text ≡ Ok b
+    → OnOk r (Steps after old new (on_desk e (atomically_block_step e.desk b (atomic_refusal e.desk b)))) → OnOk r (Steps after old new (atomically_step d text))
+unfolding atomically_step
+text_ran d e after text b old new r same is h =
+    subst (λ (x : Result Block Refusal). OnOk r (Steps after old new (on_desk d (atomically_text_step d.desk x)))) (sym is)
+    (subst (λ (x : OpenDesk). OnOk r (Steps after old new (on_desk x (atomically_block_step x.desk b (atomic_refusal x.desk b))))) same h)
 
 -- ---- settle and drain
 pub run_ok : {A E : Type 0} → (next : Order) (line : ℕ → ℕ → List ℕ) (d e : DeskView) (js : List HandedOut) (f n : ℕ) (old new : List ℕ) (r : Result A E) → HasRun next 0 (requeued_all d) e f n None → OnOk r (new ≡ old ++ line f n)

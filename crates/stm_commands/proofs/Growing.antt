@@ -1,5 +1,5 @@
 -- What an open desk keeps as events join its history.
-use Rattle.std.proofs.Common.{◌≡◌, ℕ, Bool, Result, Ok, Err, IfOk, IfErr, OnOk, OnErr, List, [], ◌∷◌, ◌++◌, Option, Some, None, refl, sym, ap, ◌∙◌, subst, append_assoc, append-nil}
+use Rattle.std.proofs.Common.{◌≡◌, ℕ, Bool, Result, Ok, Err, IfOk, OnOk, OnErr, List, [], ◌∷◌, ◌++◌, Option, Some, None, refl, sym, ap, ◌∙◌, subst, append_assoc, append-nil}
 use Rattle.std.specs.Prelude.{map, option_map}
 use Rattle.stm_terms.specs.declared.kinds.Ty.{Ty}
 use Rattle.stm_terms.specs.declared.values.Value.{Value}
@@ -12,7 +12,7 @@ use Rattle.stm_events.specs.declared.errors.FinishError.{FinishError}
 use Rattle.stm_events.specs.declared.errors.SubmitError.{SubmitError}
 use Rattle.stm_events.specs.declared.event.Event.{Event}
 use Rattle.stm_events.specs.declared.event.What.{What}
-use Rattle.stm_events.specs.declared.event.What.TheVariants.{Submitted, Finished, Cancelled}
+use Rattle.stm_events.specs.declared.event.What.TheVariants.{Submitted, Cancelled}
 use Rattle.stm_machine.specs.JobsHandedOut.{block_at, AreJobs, AreJobsCovered}
 use Rattle.stm_machine.specs.Machine.{event}
 use Rattle.stm_machine.specs.Checkpoints.{MayStart}
@@ -21,6 +21,9 @@ use Rattle.stm_events.specs.States.{IsPossible, IsTicketOf, IsLegalFrom}
 use Rattle.stm_events.proofs.Folds.{state-append}
 use Rattle.stm_events.proofs.Kept.{ticket_waiting, ticket_from}
 use Rattle.stm_desk.specs.DeskView.{DeskView, start_state, state_of, with_event}
+use Rattle.stm_events.specs.SlowAtomically.{atomically}
+use Rattle.stm_desk.specs.declared.atomic.Ran.{Ran}
+use Rattle.stm_desk.specs.declared.errors.AtomicError.{AtomicError}
 use Rattle.stm_desk.specs.declared.errors.SettleStop.{SettleStop}
 use Rattle.stm_desk.specs.declared.errors.SettleWhy.{SettleWhy}
 use Rattle.stm_desk.specs.declared.errors.SettleWhy.TheVariants.{HistoryFull, CellsFull, NoMemory}
@@ -197,6 +200,18 @@ grown_whats d e client ws p start legal = record {
   legal = legal;
 }
 
+-- the same where no ticket was taken back
+pub grown_by : (d e : DeskView) (client : ℕ) (ws : List What) → e ≡ with_whats d client ws → MayStart e.table e.checkpoint → IsLegalFrom (start_state e) e.history → HasGrown d e
+grown_by d e client ws p start legal = record {
+  table = ap (λ s. s.table) p ∙ whats_table d client ws;
+  checkpoint = ap (λ s. s.checkpoint) p ∙ whats_checkpoint d client ws;
+  limit = ap (λ s. s.limit) p ∙ whats_limit d client ws;
+  more = map (event client) ws;
+  history = ap (λ s. s.history) p ∙ whats_history d client ws;
+  start = start;
+  legal = legal;
+}
+
 -- ---- by call
 submitted_grown : (d e : DeskView) (b : Block) (r : Result ℕ SubmitError) → IfOk r (λ t. e ≡ with_event d 0 (Submitted t b)) → OnErr r (e ≡ d) → MayStart e.table e.checkpoint → IsLegalFrom (start_state e) e.history
     → HasGrown d e × ((state_of e).store ≡ (state_of d).store)
@@ -235,3 +250,11 @@ run_grown next d e (Err s) p start legal = halted_grown next d e s.why s.finishe
 
 pub kept_run : {table : List Declared} → (next : Order) (d e : DeskView) (copy : Option (List (Ty × Value))) (ks : List KeptJob) (r : Result Settled SettleStop) → RunsAs next 0 (requeued_all d) e r → MayStart e.table e.checkpoint → IsLegalFrom (start_state e) e.history → OpenInvariant d copy ks table → OpenInvariant e None ks table
 kept_run next d e copy ks r p start legal k = kept_without d e copy ks (run_grown next d e r p start legal) k
+
+ran_grown : (d e : DeskView) (b : Block) (r : Result Ran AtomicError) → OnOk r (e ≡ with_whats d 0 (atomically (state_of d) b)) → OnErr r (e ≡ d) → MayStart e.table e.checkpoint → IsLegalFrom (start_state e) e.history → HasGrown d e
+ran_grown d e b (Ok x) p q start legal = grown_by d e 0 (atomically (state_of d) b) p start legal
+ran_grown d e b (Err x) p q start legal = grown_same d e q start legal
+
+pub kept_ran : {table : List Declared} → (d e : DeskView) (copy : Option (List (Ty × Value))) (ks : List KeptJob) (b : Block) (r : Result Ran AtomicError)
+    → OnOk r (e ≡ with_whats d 0 (atomically (state_of d) b)) → OnErr r (e ≡ d) → MayStart e.table e.checkpoint → IsLegalFrom (start_state e) e.history → OpenInvariant d copy ks table → OpenInvariant e None ks table
+kept_ran d e copy ks b r p q start legal k = kept_without d e copy ks (ran_grown d e b r p q start legal) k

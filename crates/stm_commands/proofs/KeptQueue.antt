@@ -16,7 +16,6 @@ use Rattle.stm_events.specs.declared.errors.DeliverError.{DeliverError}
 use Rattle.stm_events.specs.declared.errors.DeliverError.TheVariants as deliver
 use Rattle.stm_events.specs.declared.event.What.{What}
 use Rattle.stm_events.specs.declared.event.What.TheVariants.{Submitted, Installed, Finished, Cancelled}
-use Rattle.stm_events.specs.declared.staleness.StalenessRule.TheVariants.{Changed}
 use Rattle.stm_machine.specs.JobsHandedOut.{sent}
 use Rattle.stm_events.specs.Laws.{AreRising}
 use Rattle.stm_machine.specs.QueueAndIndex.{AreQueued, due_of, with_tickets}

@@ -1,5 +1,6 @@
 -- What a reader has to believe: what each command does, and what it prints.
 pub mod Arguments
+pub mod Atomically
 pub mod Blocks
 pub mod Checkpointing
 pub mod Contents

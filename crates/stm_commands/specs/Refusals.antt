@@ -14,6 +14,8 @@ use Rattle.stm_events.specs.declared.errors.FinishError.{FinishError}
 use Rattle.stm_events.specs.declared.errors.FinishError.TheVariants as finish
 use Rattle.stm_events.specs.declared.errors.CancelError.{CancelError}
 use Rattle.stm_events.specs.declared.errors.CancelError.TheVariants as cancel
+use Rattle.stm_desk.specs.declared.errors.AtomicError.{AtomicError}
+use Rattle.stm_desk.specs.declared.errors.AtomicError.TheVariants as atomic
 use Rattle.stm_blocks.specs.declared.refusal.Refusal.{Refusal}
 use Rattle.stm_blocks.specs.declared.refusal.Refusal.TheVariants.{Parsing, Typing, Unknown, Declaring}
 
@@ -62,6 +64,14 @@ submit_error_text (submit.Foreign i) = refused_variable (codes "Foreign") i
 submit_error_text submit.WaitingFull = refused (codes "WaitingFull")
 submit_error_text submit.HistoryFull = refused (codes "HistoryFull")
 submit_error_text submit.NoMemory = []
+
+-- why a block isn't run atomically
+abbrev pub atomic_error_text : AtomicError → List ℕ
+atomic_error_text (atomic.Foreign i) = refused_variable (codes "Foreign") i
+atomic_error_text atomic.WaitingFull = refused (codes "WaitingFull")
+atomic_error_text atomic.HistoryFull = refused (codes "HistoryFull")
+atomic_error_text atomic.CellsFull = refused (codes "CellsFull")
+atomic_error_text atomic.NoMemory = []
 
 -- why a verdict isn't delivered
 abbrev pub deliver_error_text : DeliverError → List ℕ

@@ -3,12 +3,12 @@
 ghost use Rattle.std.specs.Prelude.{◌≡◌, ◌≢◌, ◌++◌, Some, string_bytes, OnOk};
 ghost use Rattle.stm_blocks.specs.OutOfMemory.{IsOutOfMemory};
 ghost use Rattle.stm_commands.specs.Arguments.{argument_refused};
-ghost use Rattle.stm_commands.specs.Refusals.{refused, refused_at, refused_variable, parse_fault_text, type_fault_text, declare_error_text, submit_error_text, deliver_error_text, finish_error_text, cancel_error_text, refusal_text};
+ghost use Rattle.stm_commands.specs.Refusals.{refused, refused_at, refused_variable, parse_fault_text, type_fault_text, declare_error_text, submit_error_text, atomic_error_text, deliver_error_text, finish_error_text, cancel_error_text, refusal_text};
 
 use std::alloc::AllocError;
 use stm_blocks::Refusal;
 use stm_check::TypeFault;
-use stm_desk::{CancelError, DeliverError, FinishError, SubmitError};
+use stm_desk::{AtomicError, CancelError, DeliverError, FinishError, SubmitError};
 use stm_parse::ParseFault;
 use stm_store::DeclareError;
 use stm_terms::NoMemory;
@@ -118,6 +118,21 @@ pub fn refuse_submit(error: SubmitError, out: &mut String) -> Result<(), NoMemor
         SubmitError::WaitingFull => refuse("WaitingFull", out),
         SubmitError::HistoryFull => refuse("HistoryFull", out),
         SubmitError::NoMemory => Err(AllocError),
+    }
+}
+
+/// Appends why a block isn't run atomically; an out-of-memory error is handed on.
+pub fn refuse_atomically(error: AtomicError, out: &mut String) -> Result<(), NoMemory>
+    ensures text { OnOk result
+        (string_bytes out.new ≡ string_bytes out.old ++ atomic_error_text error) }
+    ensures memory { OnOk result (error ≢ AtomicError.NoMemory) }
+{
+    match error {
+        AtomicError::Foreign(number) => refuse_variable("Foreign", number, out),
+        AtomicError::WaitingFull => refuse("WaitingFull", out),
+        AtomicError::HistoryFull => refuse("HistoryFull", out),
+        AtomicError::CellsFull => refuse("CellsFull", out),
+        AtomicError::NoMemory => Err(AllocError),
     }
 }
 

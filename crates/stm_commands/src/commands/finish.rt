@@ -82,7 +82,7 @@ fn write_finished(
 }
 
 /// Appends the answer to a finish.
-fn write_finish(ticket: u32, finish: Finish, out: &mut String) -> Result<(), NoMemory>
+pub(super) fn write_finish(ticket: u32, finish: Finish, out: &mut String) -> Result<(), NoMemory>
     requires { (cells : List Cell) × (finish.applied ≡ applied_answer cells finish.verdict) }
     ensures { OnOk result (string_bytes out.new ≡ string_bytes out.old
         ++ finished_line ticket finish.applied.first_new finish.verdict finish.stale) }

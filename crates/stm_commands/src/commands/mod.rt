@@ -1,5 +1,6 @@
 //! The commands, each in a file of its own: `OpenDesk::answer_..` prints the answer, and makes the step.
 
+mod atomically;
 mod cancel;
 pub mod checkpoint;
 mod deliver;
