@@ -23,20 +23,29 @@ use Rattle.stm_events.specs.declared.errors.SubmitError.TheVariants as submit
 use Rattle.stm_events.specs.declared.event.What.{What}
 use Rattle.stm_events.specs.declared.event.What.TheVariants.{Submitted, Installed, Finished, Cancelled}
 use Rattle.stm_events.specs.Answers.{AnswersAlike, install_answer}
+use Rattle.stm_events.specs.SlowAtomically.{install_at_once, atomically}
+use Rattle.stm_events.specs.declared.staleness.StalenessRule.{StalenessRule}
+use Rattle.stm_events.specs.declared.staleness.StalenessRule.TheVariants.{Changed}
+use Rattle.stm_events.proofs.Atomically.{whats_waiting, whats_ending}
+use Rattle.stm_events.proofs.Folds.{state-rule}
+use Rattle.stm_desk.proofs.Starts.{start_rule}
+use Rattle.stm_desk.specs.declared.errors.AtomicError.{AtomicError}
+use Rattle.stm_desk.specs.declared.errors.AtomicError.TheVariants as atomic
 use Rattle.stm_events.specs.Laws.{IsWellTyped}
 use Rattle.stm_events.specs.Refusals.{missing, submit_first, submit_refused, cancel_first, cancel_refused, differing, overtaken_first, install_first, pending_left, blocks_there, overflows, finish_first, finish_refused}
-use Rattle.stm_events.specs.SlowDesk.{Waiter, Slow, under, verdict_on, is_new, is_current, find_waiter, without_waiter, stale_after, max_waiting, after, Allows, LegalFrom}
+use Rattle.stm_events.specs.SlowDesk.{Waiter, Slow, under, verdict_on, waking, is_blocks, is_new, is_current, find_waiter, without_waiter, stale_after, max_waiting, after, Allows, LegalFrom}
 use Rattle.stm_events.specs.SlowSettle.{Order, next_what, has_cells, settle_on, running, Stop, NoRoom, NoCells, stop_on, run_stop, finishes, installs}
 use Rattle.stm_events.specs.SlowDrain.{next_drain}
 use Rattle.stm_events.specs.States.{IsPossible}
-use Rattle.stm_events.proofs.Alike.{MayBeAlike, alike_without, same_stales, same_verdict}
+use Rattle.stm_events.proofs.Alike.{AreAlike, MayBeAlike, alike_without, same_stales, same_verdict}
 use Rattle.stm_events.proofs.Possible.{had_without, possible_after}
 use Rattle.stm_machine.specs.Machine.{event}
 use Rattle.stm_machine.specs.JobsHandedOut.{sent}
-use Rattle.stm_desk.specs.Refusals.{submit_refusal, finish_refusal, cancel_refusal, requeued_if_overtaken}
-use Rattle.stm_desk.specs.DeskView.{DeskView, start_state, state_of, is_full, with_event}
+use Rattle.stm_desk.specs.Refusals.{submit_refusal, atomic_first, events_needed, atomic_refusal, finish_refusal, cancel_refusal, requeued_if_overtaken}
+use Rattle.stm_desk.specs.DeskView.{DeskView, start_state, state_of, is_full, lacks_room, with_event}
 use Rattle.stm_desk.specs.Settling.{slow_run, slow_run_stop, with_whats}
 use Rattle.stm_blocks.specs.declared.refusal.Refusal.{Refusal}
+use Rattle.stm_commands.specs.Atomically.{ran_text, atomically_block_step, atomically_text_step}
 use Rattle.stm_commands.specs.Blocks.{ticket_line, submit_block_step, submit_text_step}
 use Rattle.stm_commands.specs.Endings.{finish_verdict_step, finish_waiter_step, finish_ticket_step, finished_line, cancel_ticket_step, run_text, run_desk_step}
 use Rattle.stm_commands.specs.Evaluation.{DeliveredSoFar, delivered_by, delivered_next, delivered_all, all_queued, evaluated, evaluation_text, eval_desk_step}
@@ -44,6 +53,7 @@ use Rattle.stm_commands.specs.Jobs.{jobs_of, taken, delivery_first, delivery_ref
 use Rattle.stm_commands.specs.OpenDesk.{HandedOut}
 use Rattle.stm_commands.specs.Refusals.{refused, submit_error_text, deliver_error_text, finish_error_text, cancel_error_text}
 use Rattle.stm_run.specs.Unseen.{TellsFull}
+use Rattle.stm_run.proofs.RunAtOnce.{each_legal, run_allowed}
 use Rattle.stm_run.proofs.DeliveredJobs.{next_stands, queued_stand}
 use Rattle.stm_run.proofs.DeskMoves.{submitted_stands, finished_stands, cancelled_stands}
 use Rattle.stm_run.proofs.LegalSettling.{IsAllowed, IsLawful, next_allowed, drain_allowed}
@@ -436,3 +446,86 @@ run_alike next order line b d d' k n =
       desks = subst (λ (xs : List What). AlikeDesks b (with_whats d 0 (slow_run next d)) (with_whats d' 0 xs)) whats (whats_alike b (slow_run next d) d d' (run_legal next order.lawful room s k.possible) k);
       text = ap₂ (run_text line) whats stop;
     }
+
+-- ---- atomically
+rule_is : (d : DeskView) → (state_of d).rule ≡ Changed
+rule_is d = state-rule (start_state d) d.history ∙ start_rule d.table d.checkpoint
+
+-- the same is done on states that look alike
+runs_alike : (s s' : Slow) (block : Block) (v : Verdict) (c : Bool) → IsPossible s → IsPossible s' → AreAlike s.waiters s'.waiters → s.store ≡ s'.store → s.next ≡ s'.next → s.rule ≡ s'.rule
+    → verdict_on s.store block ≡ Some v → verdict_on s'.store block ≡ Some v → is_blocks v ≡ c → atomically s block ≡ atomically s' block
+runs_alike s s' block v true p p' alike store next rule e e' q =
+    whats_waiting s block v p e q ∙ ap (λ (t : ℕ). Submitted t block ∷ Installed t v ∷ []) next ∙ sym (whats_waiting s' block v p' e' q)
+runs_alike s s' block v false p p' alike store next rule e e' q =
+    let stale = stale_after (waking s.rule s.store v) s.waiters in
+    let stale' = stale_after (waking s'.rule s'.store v) s'.waiters in
+    let rest : stale ≡ stale' =
+    same_stales (waking s.rule s.store v) s.waiters s'.waiters alike p.evaluated p'.evaluated
+    ∙ ap (λ (r : StalenessRule). stale_after (waking r s.store v) s'.waiters) rule
+    ∙ ap (λ (c : List Cell). stale_after (waking s'.rule c v) s'.waiters) store in
+    whats_ending s block v p stale e q refl
+    ∙ ap (λ (t : ℕ). Submitted t block ∷ Installed t v ∷ Finished t v (length s.store) stale ∷ []) next
+    ∙ ap (λ (n : ℕ). Submitted s'.next block ∷ Installed s'.next v ∷ Finished s'.next v n stale ∷ []) (ap length store)
+    ∙ ap (λ (l : List ℕ). Submitted s'.next block ∷ Installed s'.next v ∷ Finished s'.next v (length s'.store) l ∷ []) rest
+    ∙ sym (whats_ending s' block v p' stale' e' q refl)
+
+runs_same : (b : Bool) (d d' : DeskView) (block : Block) (o : Option Verdict) → AlikeDesks b d d' → verdict_on (state_of d).store block ≡ o → verdict_on (state_of d').store block ≡ o → atomically (state_of d) block ≡ atomically (state_of d') block
+runs_same b d d' block None k e e' =
+    let s = state_of d in
+    let s' = state_of d' in
+    ap (λ (o : Option Verdict). Submitted s.next block ∷ install_at_once (after s (Submitted s.next block)) s.next o) e
+    ∙ ap (λ (t : ℕ). Submitted t block ∷ []) (same_next b d d' k)
+    ∙ sym (ap (λ (o : Option Verdict). Submitted s'.next block ∷ install_at_once (after s' (Submitted s'.next block)) s'.next o) e')
+runs_same b d d' block (Some v) k e e' =
+    runs_alike (state_of d) (state_of d') block v (is_blocks v) k.possible k.possible_too (same_waiters b d d' k) (same_store b d d' k) (same_next b d d' k) (rule_is d ∙ sym (rule_is d')) e e' refl
+
+run_same_whats : (b : Bool) (d d' : DeskView) (block : Block) → AlikeDesks b d d' → atomically (state_of d) block ≡ atomically (state_of d') block
+run_same_whats b d d' block k =
+    runs_same b d d' block (verdict_on (state_of d).store block) k refl (ap (λ (c : List Cell). verdict_on c block) (sym (same_store b d d' k)))
+
+atomic_either : (m : Option ℕ) (many crowded : Bool) → (atomic_first m many true crowded ≡ atomic_first m many false crowded) ⊎ (atomic_first m many true crowded ≡ Some atomic.HistoryFull)
+atomic_either (Some i) many crowded = inl refl
+atomic_either None true crowded = inl refl
+atomic_either None false crowded = inr refl
+
+atomic_full : (d : DeskView) (block : Block) (o : Option AtomicError) → o ≡ Some atomic.HistoryFull → TellsFull (atomically_block_step d block o).1
+atomic_full d block o e = inl (ap (λ (x : Option AtomicError). (atomically_block_step d block x).1) e)
+
+fewer_lack : (limit m n k : ℕ) → m ≤ n → nat_lt limit (m + k) ≡ true → nat_lt limit (n + k) ≡ true
+fewer_lack limit m n k l e = grind (arith, nat_tests)
+
+lacks_too : (b : Bool) (d d' : DeskView) (n : ℕ) → AlikeDesks b d d' → b ≡ true → lacks_room d' n ≡ true → lacks_room d n ≡ true
+lacks_too b d d' n k e f =
+    fewer_lack d.limit (length d'.history) (length d.history) n (k.fewer e) (ap (λ (l : ℕ). nat_lt l (length d'.history + n)) k.limit ∙ f)
+
+atomic_same : (b : Bool) (d d' : DeskView) (block : Block) → AlikeDesks b d d' → NotFull b (atomically_block_step d block (atomic_refusal d block)).1 (atomically_block_step d' block (atomic_refusal d' block)).1
+    → atomic_refusal d block ≡ atomic_refusal d' block
+atomic_same b d d' block k n =
+    let s = state_of d in
+    let s' = state_of d' in
+    let many = nat_le max_waiting (length s.waiters) in
+    let crowded = overflows s.store (verdict_on s.store block) in
+    let needed = events_needed (verdict_on s.store block) in
+    let first : Bool → Option AtomicError = λ full. atomic_first (missing (plains s.store) block.uses) many full crowded in
+    let there : first (lacks_room d' needed) ≡ atomic_refusal d' block =
+    ap₂ (λ (c : List Cell) (w : ℕ). atomic_first (missing (plains c) block.uses) (nat_le max_waiting w) (lacks_room d' (events_needed (verdict_on c block))) (overflows c (verdict_on c block))) (same_store b d d' k) (same_answers b d d' k).waiting in
+    same_refusal first atomic.HistoryFull (atomic_either (missing (plains s.store) block.uses) many crowded) b (lacks_room d needed) (lacks_room d' needed) (lacks_too b d d' needed k)
+    (λ e. n.0 (atomic_full d block (atomic_refusal d block) e)) (λ q e. n.1 q (atomic_full d' block (atomic_refusal d' block) (sym there ∙ e))) ∙ there
+
+atomic_by : (b : Bool) (d d' : DeskView) (jobs : List HandedOut) (block : Block) → Stands d jobs → AlikeDesks b d d' → (o : Option AtomicError) → atomic_refusal d block ≡ o
+    → AlikeSteps b (atomically_block_step d block o) (atomically_block_step d' block o)
+atomic_by b d d' jobs block st k (Some x) e = record { desks = k; text = refl }
+atomic_by b d d' jobs block st k None e =
+    let xs = atomically (state_of d) block in
+    let same = run_same_whats b d d' block k in
+    record {
+      desks = subst (λ (ys : List What). AlikeDesks b (with_whats d 0 xs) (with_whats d' 0 ys)) same (whats_alike b xs d d' (each_legal (state_of d) xs (run_allowed d jobs block e st)) k);
+      text = ap ran_text same;
+    }
+
+pub atomically_alike : (b : Bool) (d d' : DeskView) (jobs : List HandedOut) (r : Result Block Refusal) → BlockOrTold d.table r → Stands d jobs → AlikeDesks b d d'
+    → NotFull b (atomically_text_step d r).1 (atomically_text_step d' r).1 → AlikeSteps b (atomically_text_step d r) (atomically_text_step d' r)
+atomically_alike b d d' jobs (Err x) h st k n = record { desks = k; text = refl }
+atomically_alike b d d' jobs (Ok block) h st k n =
+    subst (λ (o : Option AtomicError). AlikeSteps b (atomically_block_step d block (atomic_refusal d block)) (atomically_block_step d' block o)) (atomic_same b d d' block k n)
+    (atomic_by b d d' jobs block st k (atomic_refusal d block) refl)

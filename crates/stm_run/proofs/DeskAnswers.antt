@@ -1,6 +1,6 @@
 -- On a desk that stands, each command answers with a text that ends with a line feed: `try` has a verdict to tell, `finish`
 -- has an effect, and no refusal is an out-of-memory error.
-use Rattle.std.proofs.Common.{◌≡◌, ℕ, ◌+◌, false, List, ◌∷◌, ◌++◌, length, Option, Some, None, Result, Ok, Err, refl, ap, ◌∙◌}
+use Rattle.std.proofs.Common.{◌≡◌, ℕ, ◌+◌, Bool, true, false, List, ◌∷◌, ◌++◌, length, Option, Some, None, Result, Ok, Err, refl, sym, subst, ap, ◌∙◌}
 use Rattle.std.specs.Prelude.{codes, decimal, nat_lt, nat_le, ◌-◌, drop}
 use Rattle.stm_terms.specs.declared.verdicts.Verdict.{Verdict}
 use Rattle.stm_terms.specs.declared.verdicts.Verdict.TheVariants.{Commits, Throws, Blocks}
@@ -16,21 +16,26 @@ use Rattle.stm_events.specs.declared.errors.DeliverError.{DeliverError}
 use Rattle.stm_events.specs.declared.errors.FinishError.{FinishError}
 use Rattle.stm_events.specs.declared.errors.SubmitError.{SubmitError}
 use Rattle.stm_events.specs.declared.event.What.{What}
+use Rattle.stm_events.specs.SlowAtomically.{atomically}
+use Rattle.stm_events.specs.States.{IsPossible}
+use Rattle.stm_events.proofs.Atomically.{whats_waiting, whats_ending}
 use Rattle.stm_events.proofs.TypedStores.{typed_verdict}
 use Rattle.stm_history.specs.Starts.{written_start}
 use Rattle.stm_events.specs.Refusals.{missing, blocks_there, overflows, finish_first}
-use Rattle.stm_events.specs.SlowDesk.{Since, Waiter, Slow, under, verdict_on, is_blocks, is_new, is_current, find_waiter, without_waiter, stale_after, max_waiting}
+use Rattle.stm_events.specs.SlowDesk.{Since, Waiter, Slow, under, verdict_on, waking, is_blocks, is_new, is_current, find_waiter, without_waiter, stale_after, max_waiting}
 use Rattle.stm_events.specs.SlowSettle.{Stop, NoRoom, NoCells, finishes, installs}
-use Rattle.stm_desk.specs.Refusals.{submit_refusal, finish_refusal, cancel_refusal}
+use Rattle.stm_desk.specs.declared.errors.AtomicError.{AtomicError}
+use Rattle.stm_desk.specs.Refusals.{submit_refusal, events_needed, atomic_refusal, finish_refusal, cancel_refusal}
 use Rattle.stm_desk.specs.Reasons.{WaitReason, reason_of}
-use Rattle.stm_desk.specs.DeskView.{DeskView, state_of, is_full}
+use Rattle.stm_desk.specs.DeskView.{DeskView, state_of, is_full, lacks_room}
 use Rattle.stm_desk.specs.Settling.{slow_settle, slow_stop, slow_drain, slow_drain_stop, requeued_all}
 use Rattle.stm_run.specs.declared.command.Command.{Command}
-use Rattle.stm_run.specs.declared.command.Command.TheVariants.{Tvar, Try, Looks, Submit, Take, Deliver, Handback, Eval, Finish, Cancel, Show, Reads, Store, Settle, Drain, History, Ready, Why, Events, Checkpoint}
+use Rattle.stm_run.specs.declared.command.Command.TheVariants.{Tvar, Try, Looks, Submit, Atomically, Take, Deliver, Handback, Eval, Finish, Cancel, Show, Reads, Store, Settle, Drain, History, Ready, Why, Events, Checkpoint}
 use Rattle.stm_blocks.specs.declared.refusal.Refusal.{Refusal}
 use Rattle.stm_lines.specs.NumberArgument.{number_argument}
 use Rattle.stm_blocks.specs.CompiledBlock.{compiled_block}
 use Rattle.stm_commands.specs.Arguments.{argument_refused}
+use Rattle.stm_commands.specs.Atomically.{waits_line, ran_text, atomically_block_step, atomically_text_step, atomically_step}
 use Rattle.stm_commands.specs.Blocks.{verdict_line, tried_text, try_answer, reads_line, looked_text, looks_answer, ticket_line, submit_block_step, submit_text_step, submit_step}
 use Rattle.stm_commands.specs.Checkpointing.{are_tickets_full, begun_anew, checkpoint_line, checkpoint_now, checkpoint_step}
 use Rattle.stm_commands.specs.Contents.{waiter_lines, show_text, show_answer, read_text, waiter_reads_text, reads_answer, stored_lines, store_text, store_answer, history_answer, events_text}
@@ -43,10 +48,11 @@ use Rattle.stm_commands.specs.Refusals.{refused}
 use Rattle.stm_run.specs.Console.{desk_step}
 use Rattle.stm_run.specs.Laws.{EndsALine}
 use Rattle.stm_run.proofs.ArgumentCases.{either_has, number_has, nothing_has}
-use Rattle.stm_run.proofs.EndedLines.{refused_ends, refusal_ends, submit_error_ends, deliver_error_ends, finish_error_ends, cancel_error_ends, history_ends, counted_end}
+use Rattle.stm_run.proofs.EndedLines.{refused_ends, refusal_ends, submit_error_ends, atomic_error_ends, deliver_error_ends, finish_error_ends, cancel_error_ends, history_ends, counted_end}
 use Rattle.stm_run.proofs.TextsJudged.{BlockOrTold}
 use Rattle.stm_run.proofs.StandingDesk.{Stands, stands_sound}
 use Rattle.stm_run.proofs.DeskMoves.{submit_told, cancel_told, finish_told, may_end}
+use Rattle.stm_run.proofs.RunAtOnce.{atomic_told}
 use Rattle.stm_run.proofs.DeliveredJobs.{refusal_told, evaluated_told}
 use Rattle.stm_queue.specs.Queue.{is_out}
 
@@ -111,6 +117,27 @@ effect_ends t n (Commits writes news result) stale h =
 effect_ends t n (Throws fault) stale h = (codes "finished " ++ decimal t ++ 32 ∷ verdict_text (Throws fault), refl)
 effect_ends t n Blocks stale h = absurd cc
 
+waits_ends : (t : ℕ) → EndsALine (waits_line t)
+unfolding waits_line
+waits_ends t = (codes "waits " ++ decimal t, refl)
+
+-- a block that was run at once
+ran_ends : (s : Slow) (block : Block) (v : Verdict) → IsPossible s → verdict_on s.store block ≡ Some v → EndsALine (ran_text (atomically s block))
+ran_ends s block v p e = by (is_blocks v) refl
+  where
+    by : (b : Bool) → is_blocks v ≡ b → EndsALine (ran_text (atomically s block))
+    by true q = subst (λ (xs : List What). EndsALine (ran_text xs)) (sym (whats_waiting s block v p e q)) (waits_ends s.next)
+    by false q =
+        let stale = stale_after (waking s.rule s.store v) s.waiters in
+        subst (λ (xs : List What). EndsALine (ran_text xs)) (sym (whats_ending s block v p stale e q refl)) (effect_ends s.next (length s.store) v stale q)
+
+run_ends : (d : DeskView) (block : Block) (o : Option AtomicError) → atomic_refusal d block ≡ o → EndsALine (ran_text (atomically (state_of d) block)) → EndsALine (atomically_block_step d block o).1
+run_ends d block None e h = h
+run_ends d block (Some x) e h =
+    let s = state_of d in
+    let v = verdict_on s.store block in
+    atomic_error_ends x (λ m. atomic_told (missing (plains s.store) block.uses) (nat_le max_waiting (length s.waiters)) (lacks_room d (events_needed v)) (overflows s.store v) (e ∙ ap Some m))
+
 cancel_ends : (d : DeskView) (t : ℕ) (o : Option CancelError) → cancel_refusal d t ≡ o → EndsALine (cancel_ticket_step d t o).1
 unfolding cancelled_line
 cancel_ends d t None e = (codes "cancelled " ++ decimal t, refl)
@@ -174,6 +201,13 @@ module _ (judged : (table : List Declared) (text : List ℕ) → BlockOrTold tab
       verdict_ends v.0 (verdict_on (present d) b) v.1
   tried_ends d k (Err x) h = refusal_ends x h
 
+  atomically_ends : (d : OpenDesk) → Stands d.desk d.jobs → (r : Result Block Refusal) → BlockOrTold d.desk.table r → EndsALine (atomically_text_step d.desk r).1
+  atomically_ends d k (Ok b) h =
+      let sound = stands_sound d.desk d.jobs k in
+      let v = fits (plains (present d)) b.uses b.tree h.0.0 sound.typed.store (sound.declared b.uses h.1) h.0.1 in
+      run_ends d.desk b (atomic_refusal d.desk b) refl (ran_ends (state_of d.desk) b v.0 sound.possible v.1)
+  atomically_ends d k (Err x) h = refusal_ends x h
+
   -- and so has a block that waits
   ending_ends : (d : DeskView) (t : ℕ) (w : Waiter) (v : Verdict) (o : Option Verdict) → o ≡ Some v → blocks_there o ≡ false → EndsALine (finish_verdict_step d t o).1
   ending_ends d t w v None e h = absurd cc
@@ -193,11 +227,12 @@ module _ (judged : (table : List Declared) (text : List ℕ) → BlockOrTold tab
   finish_ends d jobs t (Some x) e k = finish_error_ends x (λ m. finish_told (state_of d).store (is_full d) (find_waiter t (state_of d).waiters) (e ∙ ap Some m))
 
   pub desk_ends : (d : OpenDesk) → Stands d.desk d.jobs → (c : Command) (argument : List ℕ) → Ends (desk_step d c argument)
-  unfolding try_answer looks_answer submit_step checkpoint_step take_step deliver_step handback_step eval_step finish_step cancel_step show_answer reads_answer store_answer settle_step drain_step history_answer ready_answer why_answer events_answer
+  unfolding try_answer looks_answer submit_step atomically_step checkpoint_step take_step deliver_step handback_step eval_step finish_step cancel_step show_answer reads_answer store_answer settle_step drain_step history_answer ready_answer why_answer events_answer
   desk_ends d k Tvar argument = refused_ends (codes "Late")
   desk_ends d k Try argument = tried_ends d k (compiled_block d.desk.table argument) (judged d.desk.table argument)
   desk_ends d k Looks argument = looked_ends d.desk.table (present d) (compiled_block d.desk.table argument) (judged d.desk.table argument)
   desk_ends d k Submit argument = submit_ends d.desk (compiled_block d.desk.table argument) (judged d.desk.table argument)
+  desk_ends d k Atomically argument = atomically_ends d k (compiled_block d.desk.table argument) (judged d.desk.table argument)
   desk_ends d k Take argument = number_has Ends (take_jobs_step d) (d, argument_refused) (number_argument argument) (take_ends d) bad_ends
   desk_ends d k Deliver argument = number_has Ends (λ n. on_desk d (deliver_job_step d.desk (job_at n d.jobs))) (d, argument_refused) (number_argument argument) (λ n. deliver_ends d.desk (job_at n d.jobs)) bad_ends
   desk_ends d k Handback argument = number_has Ends (λ t. on_desk d (handback_ticket_step d.desk t)) (d, argument_refused) (number_argument argument) (handback_ends d.desk) bad_ends

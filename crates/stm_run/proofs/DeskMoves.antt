@@ -45,7 +45,7 @@ covered_first : (cells : List (Ty × Value)) (u : ℕ × Ty) (us : List (ℕ × 
 covered_first cells u us true h more e = (same_kind (kinds_of cells u.0) u.1 h, more e)
 covered_first cells u us false h more e = absurd cc
 
-none_missing : (cells : List (Ty × Value)) (us : List (ℕ × Ty)) → missing cells us ≡ None → Covers cells us
+pub none_missing : (cells : List (Ty × Value)) (us : List (ℕ × Ty)) → missing cells us ≡ None → Covers cells us
 none_missing cells [] e = tt
 none_missing cells (u ∷ us) e = covered_first cells u us (is_type (kinds_of cells u.0) u.1) refl (none_missing cells us) e
 

@@ -8,6 +8,8 @@ use Rattle.stm_store.specs.Tables.{Declared}
 use Rattle.stm_events.specs.declared.event.Event.{Event}
 use Rattle.stm_events.specs.declared.errors.SubmitError.{SubmitError}
 use Rattle.stm_events.specs.declared.errors.SubmitError.TheVariants as submit
+use Rattle.stm_desk.specs.declared.errors.AtomicError.{AtomicError}
+use Rattle.stm_desk.specs.declared.errors.AtomicError.TheVariants as atomic
 use Rattle.stm_events.specs.declared.errors.DeliverError.{DeliverError}
 use Rattle.stm_events.specs.declared.errors.DeliverError.TheVariants as deliver
 use Rattle.stm_events.specs.declared.errors.FinishError.{FinishError}
@@ -23,7 +25,7 @@ use Rattle.stm_event_lines.specs.CheckpointLines.{cell_line, checkpoint_header_l
 use Rattle.stm_event_lines.specs.Lines.{event_line, header_line, variable_line}
 use Rattle.stm_blocks.specs.declared.refusal.Refusal.{Refusal}
 use Rattle.stm_blocks.specs.declared.refusal.Refusal.TheVariants.{Parsing, Typing, Unknown, Declaring}
-use Rattle.stm_commands.specs.Refusals.{refused, refused_at, refused_variable, refusal_text, submit_error_text, deliver_error_text, finish_error_text, cancel_error_text}
+use Rattle.stm_commands.specs.Refusals.{refused, refused_at, refused_variable, refusal_text, submit_error_text, atomic_error_text, deliver_error_text, finish_error_text, cancel_error_text}
 use Rattle.stm_blocks.specs.OutOfMemory.{IsOutOfMemory}
 use Rattle.stm_run.specs.Laws.{EndsALine}
 
@@ -66,6 +68,13 @@ submit_error_ends (submit.Foreign i) h = refused_variable_ends (codes "Foreign")
 submit_error_ends submit.WaitingFull h = refused_ends (codes "WaitingFull")
 submit_error_ends submit.HistoryFull h = refused_ends (codes "HistoryFull")
 submit_error_ends submit.NoMemory h = absurd (h refl)
+
+pub atomic_error_ends : (e : AtomicError) → e ≢ atomic.NoMemory → EndsALine (atomic_error_text e)
+atomic_error_ends (atomic.Foreign i) h = refused_variable_ends (codes "Foreign") i
+atomic_error_ends atomic.WaitingFull h = refused_ends (codes "WaitingFull")
+atomic_error_ends atomic.HistoryFull h = refused_ends (codes "HistoryFull")
+atomic_error_ends atomic.CellsFull h = refused_ends (codes "CellsFull")
+atomic_error_ends atomic.NoMemory h = absurd (h refl)
 
 pub deliver_error_ends : (e : DeliverError) → e ≢ deliver.NoMemory → EndsALine (deliver_error_text e)
 deliver_error_ends deliver.Gone h = refused_ends (codes "Gone")

@@ -23,7 +23,7 @@ use Rattle.stm_events.specs.declared.errors.SubmitError.{SubmitError}
 use Rattle.stm_events.specs.declared.event.Event.{Event}
 use Rattle.stm_events.specs.declared.event.What.{What}
 use Rattle.stm_events.specs.declared.event.What.TheVariants.{Submitted, Installed, Finished, Cancelled}
-use Rattle.stm_events.specs.SlowDesk.{Waiter, Slow, verdict_on, find_waiter, without_waiter, delivered as delivered_to, after_writes, with_delivery, after, state_from, waking}
+use Rattle.stm_events.specs.SlowDesk.{Waiter, Slow, verdict_on, is_blocks, find_waiter, without_waiter, delivered as delivered_to, after_writes, with_delivery, after, state_from, waking}
 use Rattle.std.specs.Prelude.{nat_eq}
 use Rattle.stm_events.proofs.Folds.{state-append}
 use Rattle.stm_events.specs.SlowSettle.{lowest, is_due, can_end, installing, ending, next_of, Order, next_what, has_cells, settle_on, running}
@@ -33,7 +33,9 @@ use Rattle.stm_machine.specs.Checkpoints.{CheckpointView, waiter_of, checkpoint_
 use Rattle.stm_machine.specs.declared.checkpoint.CheckpointBlock.{CheckpointBlock}
 use Rattle.stm_machine.specs.JobsHandedOut.{sent}
 use Rattle.stm_event_lines.specs.WholeBlocks.{BlockFault, NotParsed, NotTyped, given_type, block_if_typed, block_if_parsed, checked_block}
-use Rattle.stm_desk.specs.Refusals.{submit_refusal, finish_refusal, cancel_refusal}
+use Rattle.stm_events.specs.SlowAtomically.{install_at_once}
+use Rattle.stm_desk.specs.declared.errors.AtomicError.{AtomicError}
+use Rattle.stm_desk.specs.Refusals.{submit_refusal, atomic_refusal, finish_refusal, cancel_refusal}
 use Rattle.stm_desk.specs.DeskView.{DeskView, start_state, state_of, with_event}
 use Rattle.stm_desk.specs.Settling.{slow_run, requeued_all, with_whats}
 use Rattle.stm_blocks.specs.declared.refusal.Refusal.{Refusal}
@@ -42,6 +44,7 @@ use Rattle.stm_blocks.specs.DeclaredVariable.{variable_of}
 use Rattle.stm_lines.specs.NumberArgument.{number_argument}
 use Rattle.stm_lines.specs.LineClass.{LineClass, TooLong, Silent, NotAscii, Words, line_class}
 use Rattle.stm_commands.specs.Arguments.{argument_refused, with_nothing}
+use Rattle.stm_commands.specs.Atomically.{atomically_block_step, atomically_text_step, atomically_step}
 use Rattle.stm_commands.specs.Blocks.{submit_block_step, submit_text_step, submit_step}
 use Rattle.stm_commands.specs.Checkpointing.{are_tickets_full, begun_anew, checkpoint_line, checkpoint_now, checkpoint_step, makes_checkpoint}
 use Rattle.stm_commands.specs.Endings.{finish_verdict_step, finish_waiter_step, finish_ticket_step, finish_step, cancel_ticket_step, cancel_step, settled_line, drained_line, run_desk_step, settle_desk_step, settle_step, drain_desk_step, drain_step}
@@ -50,7 +53,7 @@ use Rattle.stm_commands.specs.Jobs.{max_jobs, taken, with_jobs, jobs_of, jobs_li
 use Rattle.stm_commands.specs.OpenDesk.{HandedOut, OpenDesk, on_desk}
 use Rattle.stm_commands.specs.Refusals.{refused}
 use Rattle.stm_run.specs.declared.command.Command.{Command}
-use Rattle.stm_run.specs.declared.command.Command.TheVariants.{Tvar, Submit, Take, Deliver, Handback, Eval, Finish, Cancel, Settle, Drain, Checkpoint}
+use Rattle.stm_run.specs.declared.command.Command.TheVariants.{Tvar, Submit, Atomically, Take, Deliver, Handback, Eval, Finish, Cancel, Settle, Drain, Checkpoint}
 use Rattle.stm_run.specs.declared.console.Console.{Console}
 use Rattle.stm_run.specs.declared.console.Console.TheVariants.{Declaring, Open}
 use Rattle.stm_run.specs.Console.{command_named, state_after, initial_console, desk_step, on_console, command_step, word_step, class_step, step}
@@ -171,6 +174,15 @@ running_quiet : (next : Order) → IsQuietOrder next → (room : ℕ) (s : Slow)
 running_quiet next quiet zero s = tt
 running_quiet next quiet (suc room) s = runs_quiet next room s (next s) (running_quiet next quiet room) (quiet s)
 
+-- ---- running a block at once: it is submitted, and nothing else is
+finish_quiet : (b : Bool) (t n : ℕ) (v : Verdict) (stale : List ℕ) → AreQuiet (cond b [] (Finished t v n stale ∷ []))
+finish_quiet true t n v stale = tt
+finish_quiet false t n v stale = (tt, tt)
+
+install_quiet : (s : Slow) (t : ℕ) (o : Option Verdict) → AreQuiet (install_at_once s t o)
+install_quiet s t None = tt
+install_quiet s t (Some v) = (tt, finish_quiet (is_blocks v) t _ v _)
+
 module _ (table : List Declared) (checkpoint : Option CheckpointView) (before : List Event) where
   abbrev Holds : DeskView → Type 0
   Holds d = Added table checkpoint before d.table d.checkpoint d.history
@@ -249,6 +261,17 @@ module _ (table : List Declared) (checkpoint : Option CheckpointView) (before : 
   whats_more d [] q k = k
   whats_more d (x ∷ xs) q k = whats_more (with_event d 0 x) xs q.1 (more d x k (quiet_text d.table x q.0))
 
+  ran : (d : DeskView) (block : Block) (o : Option AtomicError) → checked_block d.table block.text ≡ Ok block → Holds d → Holds (atomically_block_step d block o).0
+  ran d block None f k =
+      let s = state_of d in
+      let what = Submitted s.next block in
+      whats_more (with_event d 0 what) (install_at_once (after s what) s.next (verdict_on s.store block)) (install_quiet (after s what) s.next (verdict_on s.store block)) (more d what k f)
+  ran d block (Some e) f k = k
+
+  atomically_runs : (d : DeskView) (r : Result Block Refusal) → ((b : Block) → r ≡ Ok b → checked_block d.table b.text ≡ Ok b) → Holds d → Holds (atomically_text_step d r).0
+  atomically_runs d (Ok b) h k = ran d b (atomic_refusal d b) (h b refl) k
+  atomically_runs d (Err e) h k = k
+
   runs : (next : Order) → IsQuietOrder next → (line : ℕ → ℕ → List ℕ) (d : DeskView) → Holds d → Holds (run_desk_step next line d).0
   runs next quiet line d k = whats_more d (slow_run next d) (running_quiet next quiet (d.limit - length d.history) (state_of d)) k
 
@@ -257,8 +280,9 @@ module _ (table : List Declared) (checkpoint : Option CheckpointView) (before : 
   After p = Holds p.0.desk
 
   desk_after : (d : OpenDesk) → Holds d.desk → (c : Command) → c ≢ Checkpoint → (argument : List ℕ) → After (desk_step d c argument)
-  unfolding submit_step take_step deliver_step handback_step eval_step finish_step cancel_step settle_step drain_step
+  unfolding submit_step atomically_step take_step deliver_step handback_step eval_step finish_step cancel_step settle_step drain_step
   desk_after d k Submit n argument = submits d.desk (compiled_block d.desk.table argument) (λ b e. of_text d.desk.table argument b e) k
+  desk_after d k Atomically n argument = atomically_runs d.desk (compiled_block d.desk.table argument) (λ b e. of_text d.desk.table argument b e) k
   desk_after d k Take n argument = number_has After (take_jobs_step d) (d, argument_refused) (number_argument argument) (λ n. takes d n k) k
   desk_after d k Deliver n argument =
       number_has After (λ n. on_desk d (deliver_job_step d.desk (job_at n d.jobs))) (d, argument_refused) (number_argument argument) (λ n. delivers d.desk (job_at n d.jobs) k) k

@@ -16,6 +16,7 @@ pub mod InputInParts
 pub mod LegalSettling
 pub mod LookingAlike
 pub mod ReachedConsole
+pub mod RunAtOnce
 pub mod Running
 pub mod ShownVerdicts
 pub mod SmallNumbers

@@ -10,12 +10,12 @@ use Rattle.stm_queue.specs.Queue.{is_out, marked, recalled}
 use Rattle.stm_store.specs.Tables.{Declared}
 use Rattle.stm_event_lines.specs.WholeBlocks.{CheckedAreWellTyped}
 use Rattle.stm_events.specs.SlowDesk as slow
-use Rattle.stm_desk.specs.Refusals.{submit_refusal, finish_refusal, cancel_refusal}
+use Rattle.stm_desk.specs.Refusals.{submit_refusal, atomic_refusal, finish_refusal, cancel_refusal}
 use Rattle.stm_machine.specs.Checkpoints.{max_next}
 use Rattle.stm_desk.specs.DeskView.{DeskView, state_of}
 use Rattle.stm_desk.specs.Settling.{requeued_all}
 use Rattle.stm_run.specs.declared.command.Command.{Command}
-use Rattle.stm_run.specs.declared.command.Command.TheVariants.{Tvar, Submit, Take, Deliver, Handback, Eval, Finish, Cancel, Settle, Drain, Checkpoint}
+use Rattle.stm_run.specs.declared.command.Command.TheVariants.{Tvar, Submit, Atomically, Take, Deliver, Handback, Eval, Finish, Cancel, Settle, Drain, Checkpoint}
 use Rattle.stm_run.specs.declared.console.Console.{Console}
 use Rattle.stm_run.specs.declared.console.Console.TheVariants.{Declaring, Open}
 use Rattle.stm_blocks.specs.declared.refusal.Refusal.{Refusal}
@@ -24,6 +24,7 @@ use Rattle.stm_blocks.specs.CompiledBlock.{compiled_block}
 use Rattle.stm_blocks.specs.DeclaredVariable.{variable_of}
 use Rattle.stm_lines.specs.LineClass.{LineClass, TooLong, Silent, NotAscii, Words, line_class}
 use Rattle.stm_commands.specs.Arguments.{argument_refused}
+use Rattle.stm_commands.specs.Atomically.{atomically_text_step, atomically_step}
 use Rattle.stm_commands.specs.Blocks.{submit_text_step, submit_step}
 use Rattle.stm_commands.specs.Checkpointing.{are_tickets_full, begun_anew, checkpoint_line, checkpoint_now, checkpoint_step}
 use Rattle.stm_events.specs.SlowSettle.{next_what}
@@ -45,6 +46,7 @@ use Rattle.stm_run.proofs.DeskMoves.{submitted_stands, finished_stands, cancelle
 use Rattle.stm_run.proofs.DeclaredVariables.{MayBeNext, may_be_next}
 use Rattle.stm_run.proofs.EventsOfConsole.{fits_more}
 use Rattle.stm_run.proofs.FitTables.{table_sound}
+use Rattle.stm_run.proofs.RunAtOnce.{ran_stands}
 use Rattle.stm_run.proofs.LegalSettling.{next_allowed, drain_allowed, run_stands}
 use Rattle.stm_commands.proofs.KeptQueue.{tickets_marked, tickets_recalled}
 use Rattle.stm_run.proofs.StandingDesk.{Stands, stands_marked, stands_checkpointed}
@@ -80,6 +82,10 @@ submit_stands : (d : DeskView) (jobs : List HandedOut) (r : Result Block Refusal
 submit_stands d jobs (Ok b) h k = submitted_stands d jobs b h.0 (submit_refusal d b) refl k
 submit_stands d jobs (Err e) h k = k
 
+atomically_stands : (d : DeskView) (jobs : List HandedOut) (r : Result Block Refusal) → BlockOrTold d.table r → Stands d jobs → Stands (atomically_text_step d r).0 jobs
+atomically_stands d jobs (Ok b) h k = ran_stands d jobs b h.0 (atomic_refusal d b) refl k
+atomically_stands d jobs (Err e) h k = k
+
 handback_stands : (d : DeskView) (jobs : List HandedOut) (t : ℕ) → Stands d jobs → Stands (handback_ticket_step d t).0 jobs
 handback_stands d jobs t k =
     either_has (λ (p : DeskView × List ℕ). Stands p.0 jobs) (is_out t d.pending) (handed_back d t, queued_line t) (d, refused (codes "NotOut"))
@@ -112,8 +118,9 @@ module _ (blocks : BlockAnswersAreRight) (declarations : DeclarationAnswersAreRi
   judged = compiled blocks declarations faults checked
 
   desk_stands : (d : OpenDesk) → Stands d.desk d.jobs → (c : Command) (argument : List ℕ) → StandsAfter (desk_step d c argument)
-  unfolding submit_step take_step deliver_step handback_step eval_step finish_step cancel_step settle_step drain_step checkpoint_step
+  unfolding submit_step atomically_step take_step deliver_step handback_step eval_step finish_step cancel_step settle_step drain_step checkpoint_step
   desk_stands d k Submit argument = submit_stands d.desk d.jobs (compiled_block d.desk.table argument) (judged d.desk.table argument) k
+  desk_stands d k Atomically argument = atomically_stands d.desk d.jobs (compiled_block d.desk.table argument) (judged d.desk.table argument) k
   desk_stands d k Take argument = number_has StandsAfter (take_jobs_step d) (d, argument_refused) (number_argument argument) (λ n. take_stands d n k) k
   desk_stands d k Deliver argument =
       number_has StandsAfter (λ n. on_desk d (deliver_job_step d.desk (job_at n d.jobs))) (d, argument_refused) (number_argument argument) (λ n. delivered_stands stable d.desk d.jobs n k) k

@@ -24,6 +24,7 @@ use Rattle.stm_lines.specs.NumberArgument.{number_argument}
 use Rattle.stm_blocks.specs.declared.refusal.Refusal.{Refusal}
 use Rattle.stm_blocks.specs.CompiledBlock.{compiled_block}
 use Rattle.stm_commands.specs.Arguments.{with_number, with_nothing, argument_refused}
+use Rattle.stm_commands.specs.Atomically.{atomically_text_step, atomically_step}
 use Rattle.stm_commands.specs.Blocks.{tried_text, try_answer, looked_text, looks_answer, submit_text_step, submit_step}
 use Rattle.stm_commands.specs.Checkpointing.{are_tickets_full, begun_anew, is_due_checkpoint, checkpoint_if}
 use Rattle.stm_commands.specs.Contents.{show_text, show_answer, waiter_reads_text, reads_answer, store_text, store_answer}
@@ -37,7 +38,7 @@ use Rattle.stm_commands.specs.Questions.{ready_text, ready_answer}
 use Rattle.stm_commands.specs.Refusals.{refused}
 use Rattle.stm_commands.proofs.KeptQueue.{tickets_recalled}
 use Rattle.stm_run.specs.declared.command.Command.{Command}
-use Rattle.stm_run.specs.declared.command.Command.TheVariants.{Tvar, Try, Looks, Submit, Take, Deliver, Handback, Eval, Finish, Cancel, Show, Reads, Store, Settle, Drain, History, Ready, Why, Events, Checkpoint}
+use Rattle.stm_run.specs.declared.command.Command.TheVariants.{Tvar, Try, Looks, Submit, Atomically, Take, Deliver, Handback, Eval, Finish, Cancel, Show, Reads, Store, Settle, Drain, History, Ready, Why, Events, Checkpoint}
 use Rattle.stm_run.specs.declared.console.Console.{Console}
 use Rattle.stm_run.specs.declared.console.Console.TheVariants.{Declaring, Open}
 use Rattle.stm_run.specs.Console.{command_named, answer_to, answers_to, state_after, initial_console, desk_step, command_step, word_step, class_step, step}
@@ -45,7 +46,7 @@ use Rattle.stm_run.specs.ConsoleState.{present_desk, is_open, table_of, events_o
 use Rattle.stm_run.specs.Laws.{state_after_lines}
 use Rattle.stm_run.specs.LineCheckpoints.{auto_checkpoint, answers_by, command_checkpoints, word_checkpoints, class_checkpoints, line_checkpoints, Turn, turn_lines, refused_step, line_step}
 use Rattle.stm_run.specs.Unseen.{LookAlike, is_of_history, word_is_of_history, class_is_of_history, line_is_of_history, TellsFull, HaveRoom, AnswersTheSame, CheckpointsAreUnseenByCommands}
-use Rattle.stm_run.proofs.AlikeSteps.{AlikeSteps, NotFull, submit_alike, cancel_alike, finish_alike, handback_alike, deliver_alike, eval_alike, settle_order, drain_order, run_alike}
+use Rattle.stm_run.proofs.AlikeSteps.{AlikeSteps, NotFull, submit_alike, atomically_alike, cancel_alike, finish_alike, handback_alike, deliver_alike, eval_alike, settle_order, drain_order, run_alike}
 use Rattle.stm_run.proofs.DeliveredJobs.{delivered_stands}
 use Rattle.stm_run.proofs.LookingAlike.{AlikeDesks, same_store, same_found, alike_pending, show_alike, reads_alike, ready_alike, jobs_alike}
 use Rattle.stm_run.proofs.ReachedConsole.{IsReached, present_stands, auto_reached, line_reached, start_reached, reached}
@@ -119,7 +120,7 @@ module _ (judged : (table : List Declared) (text : List ℕ) → BlockOrTold tab
   -- with the same jobs
   desk_alike : (b : Bool) (d d' : DeskView) (jobs : List HandedOut) → Stands d jobs → AlikeDesks b d d' → (c : Command) → is_of_history c ≡ false → (argument : List ℕ)
       → Follows b (desk_step (record { desk = d; jobs = jobs }) c argument) (desk_step (record { desk = d'; jobs = jobs }) c argument)
-  unfolding try_answer looks_answer submit_step take_step deliver_step handback_step eval_step finish_step cancel_step show_answer reads_answer store_answer settle_step drain_step ready_answer
+  unfolding try_answer looks_answer submit_step atomically_step take_step deliver_step handback_step eval_step finish_step cancel_step show_answer reads_answer store_answer settle_step drain_step ready_answer
   desk_alike b d d' jobs st k Tvar h argument = said b _ _ _ _ (record { desks = k; jobs = refl }) refl
   desk_alike b d d' jobs st k Try h argument =
       said b _ _ _ _ (record { desks = k; jobs = refl }) (ap₂ (λ (cells : List Cell) (t : List Declared). tried_text cells (compiled_block t argument)) (same_store b d d' k) k.table)
@@ -130,6 +131,11 @@ module _ (judged : (table : List Declared) (text : List ℕ) → BlockOrTold tab
       → AlikeResults b (on_desk (record { desk = d; jobs = jobs }) (submit_text_step d (compiled_block d.table argument))) (on_desk (record { desk = d'; jobs = jobs }) (submit_text_step d' r)))
       (ap (λ (t : List Declared). compiled_block t argument) k.table)
       (λ m. stepped b _ _ _ _ (record { desks = k; jobs = refl }) (submit_alike b d d' jobs (compiled_block d.table argument) (judged d.table argument) st k m)) n
+  desk_alike b d d' jobs st k Atomically h argument = λ n.
+      subst (λ (r : Result Block Refusal). NotFull b (atomically_text_step d (compiled_block d.table argument)).1 (atomically_text_step d' r).1
+      → AlikeResults b (on_desk (record { desk = d; jobs = jobs }) (atomically_text_step d (compiled_block d.table argument))) (on_desk (record { desk = d'; jobs = jobs }) (atomically_text_step d' r)))
+      (ap (λ (t : List Declared). compiled_block t argument) k.table)
+      (λ m. stepped b _ _ _ _ (record { desks = k; jobs = refl }) (atomically_alike b d d' jobs (compiled_block d.table argument) (judged d.table argument) st k m)) n
   desk_alike b d d' jobs st k Take h argument =
       by_number b (take_jobs_step (record { desk = d; jobs = jobs })) (take_jobs_step (record { desk = d'; jobs = jobs })) _ _ (number_argument argument)
       (λ n m. take_alike b d d' jobs n k) (said b _ _ _ _ (record { desks = k; jobs = refl }) refl)

@@ -3,6 +3,7 @@ use Rattle.std.specs.Prelude.{ℕ, List, [], ◌∷◌, ◌++◌, Option, Some, 
 use Rattle.std.specs.Str.{bytes_eq}
 use Rattle.stm_lines.specs.LineClass.{LineClass, TooLong, Silent, NotAscii, Words, line_class}
 use Rattle.stm_lines.specs.Lines.{lines_of, whole_lines_of}
+use Rattle.stm_commands.specs.Atomically.{atomically_step}
 use Rattle.stm_commands.specs.Blocks.{try_answer, looks_answer, submit_step}
 use Rattle.stm_commands.specs.Checkpointing.{checkpoint_step}
 use Rattle.stm_commands.specs.Contents.{show_answer, reads_answer, store_answer, history_answer}
@@ -13,7 +14,7 @@ use Rattle.stm_commands.specs.OpenDesk.{OpenDesk}
 use Rattle.stm_commands.specs.Questions.{ready_answer, why_answer, events_answer}
 use Rattle.stm_commands.specs.Refusals.{refused}
 use Rattle.stm_run.specs.declared.command.Command.{Command}
-use Rattle.stm_run.specs.declared.command.Command.TheVariants.{Tvar, Try, Looks, Submit, Take, Deliver, Handback, Eval, Finish, Cancel, Show, Reads, Store, Settle, Drain, History, Ready, Why, Events, Checkpoint}
+use Rattle.stm_run.specs.declared.command.Command.TheVariants.{Tvar, Try, Looks, Submit, Atomically, Take, Deliver, Handback, Eval, Finish, Cancel, Show, Reads, Store, Settle, Drain, History, Ready, Why, Events, Checkpoint}
 use Rattle.stm_run.specs.declared.console.Console.{Console}
 use Rattle.stm_run.specs.declared.console.Console.TheVariants.{Declaring, Open}
 use Rattle.stm_run.specs.ConsoleState.{present_desk}
@@ -24,8 +25,8 @@ abbrev pub command_words : List (List ℕ × Command)
 command_words =
     (codes "tvar", Tvar) ∷ (codes "try", Try) ∷ (codes "looks", Looks) ∷ (codes "show", Show) ∷ (codes "reads", Reads)
     ∷ (codes "store", Store) ∷ (codes "history", History) ∷ (codes "ready", Ready) ∷ (codes "why", Why)
-    ∷ (codes "events", Events) ∷ (codes "submit", Submit) ∷ (codes "take", Take) ∷ (codes "deliver", Deliver)
-    ∷ (codes "handback", Handback) ∷ (codes "eval", Eval) ∷ (codes "finish", Finish) ∷ (codes "cancel", Cancel)
+    ∷ (codes "events", Events) ∷ (codes "submit", Submit) ∷ (codes "atomically", Atomically) ∷ (codes "take", Take)
+    ∷ (codes "deliver", Deliver) ∷ (codes "handback", Handback) ∷ (codes "eval", Eval) ∷ (codes "finish", Finish) ∷ (codes "cancel", Cancel)
     ∷ (codes "settle", Settle) ∷ (codes "drain", Drain) ∷ (codes "checkpoint", Checkpoint) ∷ []
 
 -- the command of a word, by some commands with their words
@@ -43,6 +44,7 @@ desk_step d Tvar argument = (d, refused (codes "Late"))
 desk_step d Try argument = (d, try_answer d argument)
 desk_step d Looks argument = (d, looks_answer d argument)
 desk_step d Submit argument = submit_step d argument
+desk_step d Atomically argument = atomically_step d argument
 desk_step d Take argument = take_step d argument
 desk_step d Deliver argument = deliver_step d argument
 desk_step d Handback argument = handback_step d argument

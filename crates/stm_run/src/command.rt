@@ -10,6 +10,7 @@ pub enum Command {
     Try,
     Looks,
     Submit,
+    Atomically,
     Take,
     Deliver,
     Handback,
@@ -53,9 +54,9 @@ fn of_first_six(word: &[u8]) -> Option<Command>
     None
 }
 
-// The command of a word, of the next six.
-fn of_next_six(word: &[u8]) -> Option<Command>
-    ensures { result ≡ command_in (take 6 (drop 6 command_words)) word.now }
+// The command of a word, of the next seven.
+fn of_next_seven(word: &[u8]) -> Option<Command>
+    ensures { result ≡ command_in (take 7 (drop 6 command_words)) word.now }
 {
     if word == b"history".as_slice() {
         return Some(Command::History);
@@ -72,6 +73,9 @@ fn of_next_six(word: &[u8]) -> Option<Command>
     if word == b"submit".as_slice() {
         return Some(Command::Submit);
     }
+    if word == b"atomically".as_slice() {
+        return Some(Command::Atomically);
+    }
     if word == b"take".as_slice() {
         return Some(Command::Take);
     }
@@ -80,7 +84,7 @@ fn of_next_six(word: &[u8]) -> Option<Command>
 
 // The command of a word, of the last eight.
 fn of_last_eight(word: &[u8]) -> Option<Command>
-    ensures { result ≡ command_in (drop 12 command_words) word.now }
+    ensures { result ≡ command_in (drop 13 command_words) word.now }
 {
     if word == b"deliver".as_slice() {
         return Some(Command::Deliver);
@@ -116,7 +120,7 @@ pub fn command_of(word: &[u8]) -> Option<Command>
     if let Some(command) = of_first_six(word) {
         return Some(command);
     }
-    if let Some(command) = of_next_six(word) {
+    if let Some(command) = of_next_seven(word) {
         return Some(command);
     }
     of_last_eight(word)

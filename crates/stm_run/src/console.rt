@@ -114,6 +114,7 @@ fn answer_on_desk_here(
         Command::Try => desk.answer_try(alloc, argument, out),
         Command::Looks => desk.answer_looks(alloc, argument, out),
         Command::Submit => desk.answer_submit(alloc, argument, out),
+        Command::Atomically => desk.answer_atomically(alloc, argument, out),
         Command::Take => desk.answer_take(alloc, argument, out),
         Command::Deliver => desk.answer_deliver(alloc, argument, out),
         Command::Handback => desk.answer_handback(argument, out),
