@@ -160,6 +160,15 @@ class Desk:
         self.waiters[ticket] = Waiter(blocks.parsed(text, self.names))
         return [f"ticket {ticket}"]
 
+    def do_atomically(self, text):
+        action = blocks.parsed(text, self.names)
+        verdict, reads = self.outcome(action, self.cells)
+        if self.events + (2 if verdict == "blocks" else 3) > self.limit:
+            raise Full
+        ticket = self.do_submit(text)[0].split()[1]
+        self.deliver_to(int(ticket), verdict, reads)
+        return [f"waits {ticket}"] if verdict == "blocks" else self.do_finish(ticket)
+
     def do_take(self, count):
         taken = self.queued()[: int(count)]
         first = len(self.jobs) + 1

@@ -12,7 +12,7 @@ HELP_NAMES = ("stmdesk", "run", "storm", "explore", "check")
 VERSION_FILE = ROOT / "crates" / "stm_words" / "src" / "version.rt"
 
 ARGUMENTS = {  # of each command of the console
-    **{"tvar": "NAME : TYPE = INIT", "try": "BLOCK", "looks": "BLOCK", "submit": "BLOCK", "take": "N", "deliver": "J"},
+    **{"tvar": "NAME : TYPE = INIT", "try": "BLOCK", "looks": "BLOCK", "submit": "BLOCK", "atomically": "BLOCK", "take": "N", "deliver": "J"},
     **{"handback": "T", "eval": "", "finish": "T", "cancel": "T", "show": "", "reads": "T", "store": "", "settle": ""},
     **{"drain": "", "history": "", "ready": "", "events": "N", "why": "T", "checkpoint": ""},
 }

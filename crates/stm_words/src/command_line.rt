@@ -73,6 +73,8 @@ Commands on standard input, one per line. A line that begins with `--` is a comm
       looks readTVar x
   submit BLOCK             Puts a block on the desk, where it waits: `ticket 1`
       submit do { a <- readTVar x; if a < 1 then retry else writeTVar x (a + 1) }
+  atomically BLOCK         Submits, evaluates and finishes a block: `finished 3 result 7 stale 1 2`; `waits 3` if it blocks
+      atomically writeTVar x 5
   take N                   Hands out the N lowest queued tickets as jobs on the present store: `jobs 1=1 2=3`
       take 2
   deliver J                Evaluates job J on the store of its `take`, and delivers its verdict: `delivered 1`
