@@ -45,7 +45,7 @@ import stmdesk
 from stmdesk import (
     BadAnswer, Blocks, Cancellation, Cell, Change, ClientAt, Commits, Current, Delivery, Desk, Ended, FinalCell, Finish, Finished,
     FinishedThrows, Job, JournalError, New, NewRef, Ready, Ref, Refused, ScriptRefused, Settled, Stale, StaleBefore, StaleBy, Stopped,
-    Submission, Throws, Waits, _commands, _helper, _hints, _program, aio, check, explore, find_program,
+    Submission, Throws, Waiting, Waits, _commands, _helper, _hints, _program, aio, check, explore, find_program,
 )  # fmt: skip
 
 HERE = pathlib.Path(__file__).resolve().parent
@@ -747,6 +747,10 @@ class Ends(OnProgram):
             "settled 1 evaluations 2": lambda desk: desk.drain(),
             "stopped HistoryFull drained 1 evaluations 2": lambda desk: desk.settle(),
             "ticket": lambda desk: desk.submit("retry"),
+            "ticket 1": lambda desk: desk.atomically("retry"),
+            "waits": lambda desk: desk.atomically("retry"),
+            "waits x": lambda desk: desk.atomically("retry"),
+            "waits 1": lambda desk: desk.submit("retry"),
             "ticket x": lambda desk: desk.submit("retry"),
             "refused X y": lambda desk: desk.submit("retry"),
             "commits": lambda desk: desk.try_("retry"),
@@ -1190,7 +1194,7 @@ class Batches(OnProgram):
                     batch.submit("writeTVar x 5"), batch.submit("do { f <- readTVar flag; retry }"), batch.take(2), batch.handback(2),
                     batch.deliver(Job(1, 1)), batch.eval(), batch.show(), batch.reads(2), batch.finish(1), batch.store(),
                     batch.cancel(2), batch.settle(), batch.history(), batch.eval(), batch.submit("retry"), batch.ready(), batch.why(3),
-                    batch.events(6), batch.drain(), batch.events(),
+                    batch.events(6), batch.drain(), batch.atomically("readTVar x"), batch.atomically("retry"), batch.events(),
                 ]  # fmt: skip
             self.assertEqual(list(batch), answers)
             self.assert_is(
@@ -1199,8 +1203,8 @@ class Batches(OnProgram):
                     X, FLAG, Commits({X: 2}, [], 1), {X: 1}, 1, 2, [Job(1, 1), Job(2, 2)], None, 1, 1,
                     [Current(1, Commits({X: 5}, [], None)), Current(2, Blocks())], {FLAG: False}, Finished(1, None, []),
                     [cell(0, "x", "Int", 5, 1), cell(1, "flag", "Bool", False, 0)], None, Settled(0, 0),
-                    "".join(desk.history().splitlines(keepends=True)[:-2]), 0, 3, [], New(3),
-                    [Cancellation(6, 0, 2), Submission(7, 0, 3, "retry")], Settled(0, 1), desk.events(),
+                    "".join(desk.history().splitlines(keepends=True)[:-7]), 0, 3, [], New(3),
+                    [Cancellation(6, 0, 2), Submission(7, 0, 3, "retry")], Settled(0, 1), Finished(4, 5, []), Waiting(5), desk.events(),
                 ],
             )  # fmt: skip
 
@@ -1417,7 +1421,7 @@ class Atomically(InThreads):
             with self.assertRaises(Refused) as caught:
                 desk.atomically("return a + 1")
             refused = caught.exception
-            self.assertEqual((refused.name, refused.place, refused.command), ("Unexpected", 9, "submit"))
+            self.assertEqual((refused.name, refused.place, refused.command), ("Unexpected", 9, "atomically"))
             self.assertIn("write `return (a + 1)`", str(refused))
             self.assert_is(desk.atomically("return 1"), 1)
         with self.assertRaises(ValueError):
@@ -1621,16 +1625,16 @@ class Atomically(InThreads):
         self.assert_gone(desk.pid)
 
     def test_a_program_that_ends_in_the_midst(self):
-        path = self.stand_in("read line", "echo ticket 1", "read line", "exit 3")
+        path = self.stand_in("read line", "echo waits 1", "read line", "exit 3")
         desk = Desk(path)
         self.assertEqual([(type(it), it.status) for it in in_threads(8, desk.atomically, "retry")], [(Ended, 3)] * 8)
         self.assert_gone(desk.pid)
 
     def test_an_answer_that_no_stmdesk_gives(self):
-        path = self.stand_in("read line", "echo ticket 1", "read line", "echo ticket 2", "sleep 1000")
+        path = self.stand_in("read line", "echo ticket 1", "sleep 1000")
         desk = Desk(path)
         (error,) = in_threads(1, desk.atomically, "retry")
-        self.assertEqual((type(error), error.args), (BadAnswer, ("eval", "ticket 2")))
+        self.assertEqual((type(error), error.args), (BadAnswer, ("atomically retry", "ticket 1")))
         self.assert_gone(desk.pid)
 
     def test_a_close_while_it_waits(self):
@@ -1670,21 +1674,52 @@ class Atomically(InThreads):
         path = self.stand_in(
             "while read command argument",
             "do case $command in",
-            "submit) echo ticket 1;;",
-            "eval) echo evaluated 1;;",
-            "finish) echo refused CellsFull;;",
+            "atomically) echo refused CellsFull;;",
+            "eval) echo evaluated 0;;",
             'cancel) echo "$argument" > "$0.cancelled"; echo cancelled 1;;',
             "esac; done",
         )
         with Desk(path) as desk:
             self.assert_refused(lambda: desk.atomically("newTVar 1"), "CellsFull")
             desk.eval()
+        self.assertFalse(path.with_name("stand_in.cancelled").exists())
+
+    def test_a_store_that_is_full_when_a_block_goes_on(self):
+        path = self.stand_in(
+            "while read command argument",
+            "do case $command$argument in",
+            "atomically*) echo waits 1;;",
+            "eval) echo evaluated 1;;",
+            "finish1) echo refused CellsFull;;",
+            "finish*) echo finished 2 'result () stale 1';;",
+            'cancel*) echo "$argument" > "$0.cancelled"; echo cancelled 1;;',
+            "esac; done",
+        )
+        with Desk(path) as desk:
+            with concurrent.futures.ThreadPoolExecutor() as pool:
+                wait = pool.submit(desk.atomically, "retry")
+                while not wait.done():
+                    desk.finish(2)
+            self.assert_refused(wait.result, "CellsFull")
+            desk.eval()
         self.assertEqual(path.with_name("stand_in.cancelled").read_text(), "1\n")
 
-    def test_a_ticket_that_was_not_foreseen(self):
+    def test_one_line_for_a_transaction(self):
+        desk = self.start()
+        self.assert_is(desk.atomically(INCREMENT), 1)
+        with desk.batch() as batch:
+            waits, ends, throws = (batch.atomically(it) for it in (waits_for(5), "do { writeTVar x 5; return x }", "throw 4"))
+            wrong = batch.atomically("return y")
+        self.assert_is(waits.result(), Waiting(2))
+        self.assert_is(ends.result(), Finished(3, Ref(0, "x"), [2]))
+        self.assert_is(throws.result(), FinishedThrows(4, 4))
+        self.assert_refused(wrong.result, "Unknown", 7)
+        self.assert_is([it.ticket for it in desk.events() if isinstance(it, Finish)], [1, 3, 4])
+        self.assertEqual(len(desk.events()), 3 + 2 + 3 + 3)
+
+    def test_blocks_of_which_some_are_refused(self):
         desk = self.start()
         desk.atomically("return 1")
-        # Of many blocks at once some are refused, so the tickets of those after them are lower than foreseen.
         blocks = iter(["return 1 2", INCREMENT] * 100)
         lock = threading.Lock()
 
@@ -2337,8 +2372,8 @@ class Asynchronous(OnProgram):
     def test_the_loop_goes_on_meanwhile(self):
         async def main(call):
             self.path = self.stand_in(
-                "read line", 'while [ ! -e "$0.goes" ]; do sleep 0.01; done', "echo ticket 1", "while read line; do", "case $line in",
-                "eval) echo evaluated 1;; finish*) echo finished 1 result 7 stale none;; esac; done",
+                "read line", 'while [ ! -e "$0.goes" ]; do sleep 0.01; done', "case $line in",
+                "atomically*) echo finished 1 result 7 stale none;; submit*) echo ticket 1;; esac; cat > /dev/null",
             )  # fmt: skip
             async with aio.Desk(self.path) as desk:
                 task = asyncio.create_task(call(desk))

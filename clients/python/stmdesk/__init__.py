@@ -42,7 +42,7 @@ from ._program import find_program
 from ._values import (
     Blocks, Cancellation, Cell, Change, Commits, Current, Delivery, Event, Events, Fault, FinalCell, FinalStore, Finish,
     Finished, FinishedThrows, Job, New, NewRef, Ready, Reason, Ref, Settled, Stale, StaleBefore, StaleBy, Status, Store, Submission,
-    Throws, Value, Verdict, Waits,
+    Throws, Value, Verdict, Waiting, Waits,
 )  # fmt: skip
 
 __version__ = "0.10.0"
@@ -52,7 +52,7 @@ __all__ = [
     "Current", "Delivery", "Desk", "DeskClosed", "DeskError", "Ended", "Event", "Events", "Exploration", "Fault", "FinalCell", "FinalStore", "Finding",
     "Finish", "Finished", "FinishedThrows", "Job", "JournalError", "New", "NewRef", "Outcome", "OutcomeUnknown", "Ready", "Reason", "Ref",
     "Refused", "ScriptRefused", "Settled", "Stale", "StaleBefore", "StaleBy", "Status", "Stopped", "Store", "Submission", "Thrown", "Throws",
-    "TimedOut", "Value", "Verdict", "Waits", "check", "connect", "explore", "find_program", "or_else",
+    "TimedOut", "Value", "Verdict", "Waiting", "Waits", "check", "connect", "explore", "find_program", "or_else",
 ]  # fmt: skip
 
 for _name in __all__:

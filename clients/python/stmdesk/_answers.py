@@ -12,7 +12,7 @@ from ._hints import JOURNAL, SERVER, hint
 from ._values import (
     Blocks, Cancellation, Cell, Change, Commits, Current, Delivery, Event, Events, Fault, FinalCell, FinalStore, Finish,
     Finished, FinishedThrows, Job, New, NewRef, Ready, Reason, Ref, Settled, Stale, StaleBefore, StaleBy, Status, Store, Submission, Throws,
-    Value, Verdict, Waits,
+    Value, Verdict, Waiting, Waits,
 )  # fmt: skip
 
 _CONSTANTS: dict[str, bool | None] = {"True": True, "False": False, "()": None}
@@ -182,6 +182,14 @@ class Answers:
             raise ValueError("no finish")
         stale = [] if words[5] == "none" else [int(word) for word in words[5:]]
         return Finished(ticket, self.value(words[3]), stale)
+
+    def ran(self, words: Sequence[str]) -> Finished | FinishedThrows | Waiting:
+        """`waits 3`, or what `finish` is answered"""
+        if words[0] == "waits":
+            return Waiting(int(words[1]))
+        if words[0] != "finished":
+            raise ValueError("no run")
+        return self.finished(words)
 
     def cell(self, line: str) -> Cell:
         """A line of `store`: `#0 x : Int = 1 count 0`"""

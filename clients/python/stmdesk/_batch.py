@@ -7,10 +7,10 @@ from types import TracebackType
 from typing import Any, TypeVar
 
 from ._commands import (
-    CANCEL, CHECKPOINT, DELIVER, DRAIN, EVAL, EVENTS, FINISH, HANDBACK, HISTORY, LOOKS, READS, READY, SETTLE, SHOW, STORE, SUBMIT, TAKE,
-    TRY, TVAR, WHY, Answer, Command, decimal, number_of,
+    ATOMICALLY, CANCEL, CHECKPOINT, DELIVER, DRAIN, EVAL, EVENTS, FINISH, HANDBACK, HISTORY, LOOKS, READS, READY, SETTLE, SHOW, STORE, SUBMIT,
+    TAKE, TRY, TVAR, WHY, Answer, Command, decimal, number_of,
 )  # fmt: skip
-from ._values import Events, Finished, FinishedThrows, Job, Reason, Ref, Settled, Status, Store, Value, Verdict
+from ._values import Events, Finished, FinishedThrows, Job, Reason, Ref, Settled, Status, Store, Value, Verdict, Waiting
 
 T = TypeVar("T")
 
@@ -62,6 +62,17 @@ class Commands:
     def submit(self, block: str) -> Answer[int]:
         """`Desk.submit`, when the batch is sent."""
         return self._add(SUBMIT, block)
+
+    def atomically(self, block: str) -> Answer[Finished | FinishedThrows | Waiting]:
+        """Submits, evaluates and finishes a block when the batch is sent. If it blocks, it isn't finished: it waits under its ticket.
+        `Desk.atomically` waits for its result, and this doesn't.
+
+        >>> with desk.batch() as batch:
+        ...     answer = batch.atomically("do { a <- readTVar x; writeTVar x (a + 1); return a }")
+        >>> answer.result()
+        Finished(ticket=1, result=1, stale=[])
+        """
+        return self._add(ATOMICALLY, block)
 
     def take(self, count: int) -> Answer[list[Job]]:
         """`Desk.take`, when the batch is sent."""

@@ -13,7 +13,7 @@ from typing import Generic, TypeVar
 from ._answers import Answers
 from ._errors import Refused
 from ._transport import Odd, Transport
-from ._values import Events, Finished, FinishedThrows, Job, Reason, Ref, Settled, Status, Store, Value, Verdict
+from ._values import Events, Finished, FinishedThrows, Job, Reason, Ref, Settled, Status, Store, Value, Verdict, Waiting
 
 # How many tickets wait, variables are, and events happen at most.
 WAITING_LIMIT = 65_536
@@ -147,6 +147,7 @@ DELIVER: Command[int] = Command("deliver", Answers.second, "delivered")
 HANDBACK: Command[None] = Command("handback", Answers.nothing, "queued")
 EVAL: Command[int] = Command("eval", Answers.second, "evaluated")
 FINISH: Command[Finished | FinishedThrows] = Command("finish", Answers.finished, "finished")
+ATOMICALLY: Command[Finished | FinishedThrows | Waiting] = Command("atomically", Answers.ran)
 CANCEL: Command[None] = Command("cancel", Answers.nothing, "cancelled")
 READS: Command[dict[Ref, Value]] = Command("reads", Answers.reads, "reads")
 READY: Command[list[int]] = Command("ready", Answers.tickets, "ready")

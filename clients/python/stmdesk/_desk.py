@@ -19,7 +19,7 @@ from ._commands import (
 )  # fmt: skip
 from ._errors import BadAnswer, Cancelled, Refused, TimedOut
 from ._program import Process, check_built, find_program, is_ours
-from ._transport import Closed, Odd, Transport, Waiting
+from ._transport import Closed, Odd, Transport, AtomicBlocks
 from ._values import Commits, Events, Finished, FinishedThrows, Job, Reason, Ref, Settled, Status, Store, Value, Verdict
 from ._waits import Wait
 
@@ -99,7 +99,7 @@ class Desk:
         self._caller = 0  # the thread that gives a command, so that a signal handler that calls again is seen
         self._is_closed = False
         self._answers = Answers()
-        self._waits: Waiting | None = None  # there is none before the first `atomically`
+        self._waits: AtomicBlocks | None = None  # there is none before the first `atomically`
         self._beginning = threading.Lock()  # so that two threads don't begin it
         self._is_resumed = False
         self._dropped = 0
@@ -424,7 +424,7 @@ class Desk:
             raise TimedOut(timeout)
         return wait.outcome()
 
-    def _begin_waits(self) -> Waiting:
+    def _begin_waits(self) -> AtomicBlocks:
         """The waits of this desk, and their thread. Raises ValueError if the desk is closed, and `Ended`."""
         self._transport.check_owner()
         with self._beginning:
@@ -518,7 +518,7 @@ class Desk:
                 raise RuntimeError("settle and drain would finish blocks of atomically, and don't say with what result")
             self._perform(answers, waits)
 
-    def _perform(self, answers: Sequence[Answer[Any]], waits: Waiting | None = None) -> None:
+    def _perform(self, answers: Sequence[Answer[Any]], waits: AtomicBlocks | None = None) -> None:
         """The same for a caller that has the lock. Shows the answers to the waits if these are given."""
         try:
             self._caller = get_ident()
@@ -532,7 +532,7 @@ class Desk:
         finally:
             self._caller = 0
 
-    def _exchange(self, answers: Sequence[Answer[Any]], waits: Waiting | None) -> None:
+    def _exchange(self, answers: Sequence[Answer[Any]], waits: AtomicBlocks | None) -> None:
         """Writes the commands' lines, takes the answers and reads them. Any exception ends the program."""
         process, read = self._transport, self._answers
         lines = process.lines

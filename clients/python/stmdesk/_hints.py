@@ -140,7 +140,7 @@ def hint(
     if name == "Argument" and command in ("eval", "show", "ready", "store", "settle", "drain", "history", "checkpoint"):
         return f"`{command}` takes no argument"
     found = None
-    if command in ("tvar", "try", "looks", "submit"):
+    if command in ("tvar", "try", "looks", "submit", "atomically"):
         tokens = _Tokens(text, place, types)
         is_declaration = command == "tvar"
         rules: dict[str, Callable[[], str | None]] = {

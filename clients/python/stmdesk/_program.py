@@ -18,7 +18,7 @@ from pathlib import Path
 from typing import TYPE_CHECKING, Any
 
 from ._errors import JOURNAL_FAULT, DeskError, Ended, JournalError
-from ._transport import Closed, Odd, Transport, Waiting
+from ._transport import Closed, Odd, Transport, AtomicBlocks
 
 if TYPE_CHECKING:
     from ._answers import Answers
@@ -232,7 +232,7 @@ class Process(Transport):
         perform: Callable[[Sequence[Answer[Any]]], None],
         answers: Answers,
         patience: float,
-    ) -> Waiting:
+    ) -> AtomicBlocks:
         from ._waits import Waits
 
         return Waits(lock, perform, self, patience)

@@ -25,7 +25,7 @@ from ._errors import BadAnswer, Cancelled, DeskClosed, DeskError, OutcomeUnknown
 from ._helper import Helper
 from ._hints import hint
 from ._numbers import Numbers
-from ._transport import Odd, Transport, Waiting
+from ._transport import Odd, Transport, AtomicBlocks
 from ._values import FinishedThrows
 from ._waits import Wait
 
@@ -161,7 +161,7 @@ class Session(Transport):
         perform: Callable[[Sequence[Answer[Any]]], None],
         answers: Answers,
         patience: float,
-    ) -> Waiting:
+    ) -> AtomicBlocks:
         return _ServerWaits(self, answers)
 
     def alive(self) -> int:
@@ -444,7 +444,7 @@ def _line_of(it: socket.socket, rest: bytearray) -> str:
     return line.decode("ascii", "replace")
 
 
-class _ServerWaits(Waiting):
+class _ServerWaits(AtomicBlocks):
     """Blocks that wait at the server: each is a request `wait BLOCK`. The rounds of `Waits` would foresee tickets, which only one that
     sees all submissions can."""
 

@@ -26,7 +26,7 @@ class Odd(Exception):
     """What stmdesk never prints was printed: the argument, or a text that begins with it."""
 
 
-class Waiting(ABC):
+class AtomicBlocks(ABC):
     """The blocks of a desk's `atomically`, and a thread of the desk's own."""
 
     helper: Helper
@@ -94,5 +94,5 @@ class Transport(Owned, ABC):
         perform: Callable[[Sequence[Answer[Any]]], None],
         answers: Answers,
         patience: float,
-    ) -> Waiting:
+    ) -> AtomicBlocks:
         """What runs the blocks of `atomically`. Raises what a call raises."""

@@ -261,6 +261,19 @@ class FinishedThrows:
 
 
 @dataclass(frozen=True)
+class Waiting:
+    """A block of `Batch.atomically` blocks: it waits under this ticket.
+
+    >>> with desk.batch() as batch:
+    ...     answer = batch.atomically("retry")
+    >>> answer.result()
+    Waiting(ticket=1)
+    """
+
+    ticket: int
+
+
+@dataclass(frozen=True)
 class Settled:
     """How many blocks a `settle` or a `drain` finished, and how many evaluations that took.
 

@@ -9,25 +9,25 @@ from contextlib import AbstractContextManager
 from copy import copy
 from typing import Any
 
-from ._commands import CANCEL, EVAL, FINISH, HANDBACK, SUBMIT, Answer
+from ._commands import ATOMICALLY, CANCEL, EVAL, FINISH, HANDBACK, Answer
 from ._errors import Cancelled, DeskError, Refused, Thrown
 from ._fork import Owned
 from ._helper import Helper
 from ._program import Process
-from ._transport import Waiting
-from ._values import Finished, FinishedThrows, Value
+from ._transport import AtomicBlocks
+from ._values import Finished, FinishedThrows, Value, Waiting
 
 
 class Wait:
     """A block that a caller gave to `atomically`, until its outcome is there: a result or an error."""
 
-    __slots__ = ("_tell", "error", "is_over", "is_withdrawn", "result", "submission", "ticket")
+    __slots__ = ("_tell", "error", "is_over", "is_withdrawn", "result", "run", "ticket")
 
     def __init__(self, block: str, tell: Callable[[], None]) -> None:
         """`tell` is called once, by another thread, when the outcome is there."""
-        self.submission = Answer(SUBMIT, block)
+        self.run = Answer(ATOMICALLY, block)
         self.ticket: int | None = None
-        self.is_withdrawn = False  # then the block isn't submitted any more
+        self.is_withdrawn = False  # then the block isn't run any more
         self.result: Value = None
         self.error: Exception | None = None
         self.is_over = False
@@ -43,18 +43,18 @@ class Wait:
         return self.result
 
 
-class Waits(Owned, Waiting):
+class Waits(Owned, AtomicBlocks):
     """All blocks of the `atomically` of a desk that one process has for itself.
 
-    A turn submits, evaluates and finishes them in rounds, no matter who asked. Each caller runs a turn in its own thread until
+    A turn runs them in rounds, no matter who asked: the new ones by the command `atomically`, which finishes a block or says that it
+    waits, and of those that wait the ones that may go on by `eval` and `finish`. Each caller runs a turn in its own thread until
     its block was tried. The main thread, which a signal handler may interrupt anywhere, and a task, whose event loop has to
     go on, leave that to the helper, a thread of the desk's own. Then the caller sleeps on a lock of its own, which is released
     when the outcome is there. The helper sleeps until a turn is queued or the program ends. So nobody polls.
 
     Why no wake-up is lost: every command is given under the lock of the desk, and its answer is looked at under the same lock:
     those of a round in `_round`, those of other calls in `see`. Whenever that lock is free, each ticket in `_waiting` is due,
-    or else the last try to finish it, right after an evaluation, was refused with `Blocks`, and no finish since then has named
-    it as stale. The program names each ticket whose evaluation read what a finish changed. So a ticket that isn't due blocks
+    or else it blocked when it was run or last tried, right after an evaluation, and no finish since then has named it as stale. The program names each ticket whose evaluation read what a finish changed. So a ticket that isn't due blocks
     on the present store. While a ticket is due or a block is asked, a turn is under way or queued in the helper: whoever adds
     one runs or queues a turn after that, and a turn ends when there is none, or queues another. Two commands of others need
     care. `settle` and `drain` don't say what they finished, so the desk refuses them while something waits. A ticket that `take` has handed
@@ -70,15 +70,14 @@ class Waits(Owned, Waiting):
     ) -> None:
         """`lock` is the lock of the desk. `perform` gives commands, with that lock."""
         self._lock, self._perform, self._process, self._patience = lock, perform, process, patience
-        self._asked: deque[Wait] = deque()  # whose blocks aren't submitted yet
+        self._asked: deque[Wait] = deque()  # whose blocks aren't run yet
         self._given_up: deque[Wait] = deque()  # which are to be cancelled, each after it was asked
         # What follows is used with the lock only.
-        self._new: list[Wait] = []  # whose blocks are being submitted
+        self._new: list[Wait] = []  # whose blocks are being run
         self._waiting: dict[int, Wait] = {}  # by ticket
         self._due: set[int] = set()  # tickets that may be able to finish
         self._out: set[int] = set()  # those of them that somebody else has taken
         self._unwanted: set[int] = set()  # tickets to cancel
-        self._last: int | None = None  # the last ticket that the program gave, if that is known
         this = weakref.ref(self)  # so that the thread doesn't keep a desk alive that nobody uses
 
         def on_end() -> None:
@@ -102,7 +101,7 @@ class Waits(Owned, Waiting):
             self._turn(wait)
 
     def give_up(self, wait: Wait, *, withdraw: bool) -> None:
-        """Ends a wait with `Cancelled`, unless it has another outcome first. A block that isn't submitted yet is withdrawn, or
+        """Ends a wait with `Cancelled`, unless it has another outcome first. A block that isn't run yet is withdrawn, or
         else tried once."""
         wait.is_withdrawn = withdraw
         self._given_up.append(wait)
@@ -121,8 +120,10 @@ class Waits(Owned, Waiting):
                 self._finished(answer.result())
             elif answer.command is CANCEL:
                 self._cancelled(int(answer.text))
-            elif answer.command is SUBMIT:
-                self._last = answer.result()
+            elif answer.command is ATOMICALLY:
+                done = answer.result()
+                if not isinstance(done, Waiting):
+                    self._finished(done)
         if self._due:
             self.helper.run(self._turn, once=True)
 
@@ -174,41 +175,39 @@ class Waits(Owned, Waiting):
         for wait in given_up:
             if wait.ticket is None and wait not in self._new and not wait.is_over:  # it was broken off before it was asked
                 wait.end(error=Cancelled())
-        # A finish that goes with its submission has to foresee the ticket. If a submission is refused, the tickets after it
-        # are lower than foreseen; those foreseen aren't given yet then, and their finish is refused with `NoTicket`.
-        tries: list[tuple[Wait | None, Answer[Finished | FinishedThrows] | None]]
-        tries = [(None, Answer(FINISH, str(ticket))) for ticket in sorted(self._due)]
-        for number, wait in enumerate(self._new, 1):
-            tries.append((wait, None if self._last is None else Answer(FINISH, str(self._last + number))))
+        tries = [Answer(FINISH, str(ticket)) for ticket in sorted(self._due)]
         backs = [Answer(HANDBACK, str(ticket)) for ticket in self._out]  # refused if others did it meanwhile
         evaluated = Answer(EVAL)  # which is given before each finish, and keeps a refusal
         commands: list[Answer[Any]] = [*backs]
-        for new, finish in tries:
-            if new:
-                commands.append(new.submission)
-            if finish:
-                commands += (evaluated, finish)
+        for finish in tries:
+            commands += (evaluated, finish)
+        commands += [new.run for new in self._new]
         if commands:
             self._perform(commands)
         self._out.clear()
-        for new, finish in tries:
-            if new:
-                self._submitted(new)
-            if finish:
-                self._tried(finish)
+        for finish in tries:
+            self._tried(finish)
+        full = evaluated.error  # HistoryFull: no block can finish any more
+        for new in self._new:
+            full = self._ran(new) or full
         self._new.clear()
-        if evaluated.error is not None:  # HistoryFull: no block can finish any more
-            raise evaluated.error
+        if full is not None:
+            raise full
         if given_up or self._unwanted:
             self._cancel(given_up)
 
-    def _submitted(self, wait: Wait) -> None:
-        if wait.submission.error is not None:
-            wait.end(error=wait.submission.error)
-            return
-        wait.ticket = self._last = wait.submission.result()
-        self._waiting[wait.ticket] = wait
-        self._due.add(wait.ticket)
+    def _ran(self, wait: Wait) -> Exception | None:
+        """Looks at the answer to a run. Returns a refusal after which no block can finish any more."""
+        refused = wait.run.error
+        if refused is not None:
+            wait.end(error=refused)
+            return refused if isinstance(refused, Refused) and refused.name == "HistoryFull" else None
+        done = wait.run.result()
+        wait.ticket = done.ticket
+        self._waiting[done.ticket] = wait
+        if not isinstance(done, Waiting):
+            self._finished(done)
+        return None
 
     def _tried(self, finish: Answer[Finished | FinishedThrows]) -> None:
         """Looks at the answer to a try to finish. Raises a refusal after which no block can finish any more."""
@@ -219,8 +218,6 @@ class Waits(Owned, Waiting):
         ticket = int(finish.text)
         if refused.name == "HistoryFull":
             raise refused
-        elif ticket not in self._waiting:
-            self._due.discard(ticket)  # it was foreseen and not given
         elif refused.name == "Blocks":
             self._due.discard(ticket)
         elif refused.name in ("Stale", "NotEvaluated"):
