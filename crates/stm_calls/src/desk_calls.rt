@@ -9,8 +9,8 @@ use std::alloc::AllocError;
 use std::fmt::Write;
 use stm_check::SharedBlock;
 use stm_desk::{
-    CancelError, CheckpointError, Desk, Finish, FinishError, SettleStop, SettleWhy, Settled,
-    SubmitError,
+    AtomicError, CancelError, CheckpointError, Desk, Finish, FinishError, SettleStop, SettleWhy,
+    Settled, SubmitError,
 };
 use stm_terms::verdicts::Verdict;
 use stm_terms::{write_value, write_verdict};
@@ -62,6 +62,28 @@ pub fn finish(desk: &mut Desk, client: u32, ticket: u32, out: &mut String) -> Re
     match desk.finish(client, ticket) {
         Ok(done) => say_finish(&done, out),
         Err(FinishError::NoMemory) => Err(AllocError),
+        Err(refusal) => writeln!(out, "refused {refusal:?}"),
+    }
+}
+
+/// Runs a block atomically, and answers with its ticket, and with what its finish did or that it waits.
+pub fn atomically(
+    desk: &mut Desk,
+    client: u32,
+    block: SharedBlock,
+    out: &mut String,
+) -> Result<(), AllocError>
+    requires { client < max_clients }
+{
+    match desk.atomically(client, block) {
+        Ok(ran) => {
+            write!(out, "ticket {} ", ran.ticket)?;
+            match &ran.finish {
+                Some(done) => say_finish(done, out),
+                None => say("waits", out),
+            }
+        }
+        Err(AtomicError::NoMemory) => Err(AllocError),
         Err(refusal) => writeln!(out, "refused {refusal:?}"),
     }
 }

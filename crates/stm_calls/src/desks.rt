@@ -86,9 +86,11 @@ fn open(
     say("done", out)
 }
 
-fn answer_submit(
+/// Makes a call that takes a block.
+fn answer_block(
     desk: &mut Desk,
     client: u32,
+    call: &str,
     table: &Table,
     alloc: Global,
     text: &str,
@@ -97,7 +99,10 @@ fn answer_submit(
     requires { client < max_clients }
 {
     match block_of(alloc, table, text, out)? {
-        Some(block) => desk_calls::submit(desk, client, block, out),
+        Some(block) => match call {
+            "atomically" => desk_calls::atomically(desk, client, block, out),
+            _ => desk_calls::submit(desk, client, block, out),
+        },
         None => Ok(()),
     }
 }
@@ -146,7 +151,9 @@ fn answer_desk(
         Some(desk) => {
             let (call, rest) = first_word(text);
             match call {
-                "submit" => answer_submit(desk, client, table, alloc, rest, out),
+                "submit" | "atomically" => {
+                    answer_block(desk, client, call, table, alloc, rest, out)
+                }
                 _ => answer_change(
                     desk,
                     &mut desks.work,
