@@ -42,7 +42,7 @@ IsSkipped false old new = (bytes : List ℕ) × TakesLastLine old new bytes
 -- ---- inside the reader
 -- at most this many bytes are still to come, with these calls of the reader left and these bytes in the chunk
 abbrev pub bytes_to_come : ℕ → List ℕ → ℕ
-bytes_to_come left chunk = left * 8192 + length chunk
+bytes_to_come left chunk = left * 65536 + length chunk
 
 -- what a part of the chunk adds to the line that has begun, and what of the chunk is left
 abbrev pub IsPart : Part → ℕ → List ℕ → List ℕ → List ℕ → List ℕ → Type 0

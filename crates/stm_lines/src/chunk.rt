@@ -12,7 +12,7 @@ use std::marker::Model;
 use std::sync::ledger::Ledger;
 
 /// The most bytes that one call of a reader gives.
-pub const CHUNK: usize = 8_192;
+pub const CHUNK: usize = 65_536;
 
 /// Bytes that one call of a reader gave, as far as they are not yet taken. Contracts see these. The place of the first line feed
 /// among them is kept, so that it is searched for once.

@@ -66,7 +66,7 @@ fn take_to_feed(
 ) -> Result<Part, RunFault>
     requires begun { length line.old.items ≤ limit }
     requires feed { IsFirstByte (is_byte 10) chunk.old (Some at) }
-    requires low { at < 8192 }
+    requires low { at < 65536 }
     ensures part { IfOk result (λ part.
         IsPart part limit line.old.items line.new.items chunk.old chunk.new) }
     ensures same_line { OnErr result (line.new.items ≡ line.old.items) }
@@ -151,7 +151,7 @@ fn fill<R: Read, L: Ledger>(chunk: &mut Chunk, calls: &mut Calls<R, L>) -> Resul
     ensures same_steps { calls.new.steps.ghost_name ≡ calls.old.steps.ghost_name }
     ensures counted { calls.new.steps.now + calls.new.left ≡ calls.old.steps.now + calls.old.left }
     ensures fewer { OnOk result (calls.new.left < calls.old.left) }
-    ensures few { OnOk result (length chunk.new ≤ 8192) }
+    ensures few { OnOk result (length chunk.new ≤ 65536) }
     ensures bytes { OnOk result (Consumes (R.remaining calls.old.reader.now)
         (R.remaining calls.new.reader.now) chunk.new) }
     ensures end { IfOk result (λ some. some ≡ false →

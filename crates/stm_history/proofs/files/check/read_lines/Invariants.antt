@@ -7,7 +7,7 @@ use Rattle.stm_history.proofs.files.check.read_lines.Given as goal
 abbrev pub invariant-lines : goal.invariant-lines
 invariant-lines g l = record {
   reached : (taken : List ℕ) × Consumes (g.R.Read.remaining l.initial.calls.reader.now) (prepend_known l.lines.chunk (g.R.Read.remaining l.calls.reader.now)) taken
-      × Reached l.checker.stage l.checker.whole [] taken × (bytes_to_come l.calls.left l.lines.chunk + length taken ≤ 4294967295 * 8192);
+      × Reached l.checker.stage l.checker.whole [] taken × (bytes_to_come l.calls.left l.lines.chunk + length taken ≤ 4294967295 * 65536);
   none : l.checker.line.items ≡ [];
   keeps : keeps l.checker.stage ≡ keeps l.initial.checker.stage;
 }
