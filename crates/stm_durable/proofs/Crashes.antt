@@ -45,7 +45,7 @@ leaves_batch Never zeros begun start history events text batch c is longer parts
 
 -- ---- what is left if nothing was written
 
-nothing_dropped : (c : List ℕ) → IsWhole c → dropped_count c ≤ most_batch
+pub nothing_dropped : (c : List ℕ) → IsWhole c → dropped_count c ≤ most_batch
 nothing_dropped c is = omega (arith, is)
 
 left_alone : (s : SyncMode) (zeros begun : Bool) (start : Start) (history events : List Event) (c : List ℕ) → IsWhole c → c ≡ file_text begun start history
@@ -58,7 +58,7 @@ left_alone Append false true start history events c is text =
     record { more = []; lines = recovered_whole c is ∙ text ∙ sym (append-nil (history_text start history)); dropped = nothing_dropped c is }
 left_alone Never zeros begun start history events c is text = tt
 
-if_synced : (s : SyncMode) (zeros begun : Bool) (start : Start) (history events : List Event) (c : List ℕ) → (s ≢ Never → LeavesHistory s zeros begun start history events c)
+pub if_synced : (s : SyncMode) (zeros begun : Bool) (start : Start) (history events : List Event) (c : List ℕ) → (s ≢ Never → LeavesHistory s zeros begun start history events c)
     → LeavesHistory s zeros begun start history events c
 if_synced Full zeros begun start history events c h = h (λ e. cc)
 if_synced Append zeros begun start history events c h = h (λ e. cc)

@@ -3,6 +3,7 @@ pub mod FirstEvents
 pub mod FrontsOfFiles
 pub mod OwnFiles
 pub mod Crashes
+pub mod Beginnings
 pub mod RepairedFiles
 pub mod LeftIsLoaded
 pub mod LinesMeasured

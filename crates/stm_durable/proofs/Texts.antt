@@ -12,7 +12,7 @@ use Rattle.stm_machine.specs.declared.checkpoint.CheckpointBlock.{CheckpointBloc
 use Rattle.stm_machine.specs.Checkpoints.{CheckpointView}
 use Rattle.stm_event_lines.specs.Fits.{Is32Bit, WhatFitsFormat, IsOneLine, BeginsWithBrace}
 use Rattle.stm_history.specs.HistoryText.{variable_lines, event_lines, head_text, cell_lines, cells_text, block_line, block_lines, checkpoint_text, history_text, start_text, text_before}
-use Rattle.stm_history.specs.Judgement.{AreVariables, AreVariablesFrom, AreEvents, FitCells, FitBlocks, CheckpointFits, FitsBefore, IsBefore}
+use Rattle.stm_history.specs.Judgement.{AreVariables, AreVariablesFrom, AreEvents, FitCells, FitBlocks, CheckpointFits, FitsBefore, IsBefore, StartFits}
 use Rattle.stm_history.specs.Loading.{HasText}
 use Rattle.stm_history.specs.Starts.{Start, delivery_of_block, written_start}
 use Rattle.stm_event_lines.specs.Lines.{latest_format, IsFormat, event_line, header_line, variable_line}
@@ -90,6 +90,10 @@ IsWhole-checkpoint table c fits =
 pub IsWhole-start : (table : List Declared) (o : Option CheckpointView) → FitsBefore table o → IsWhole (start_text (written_start table o))
 IsWhole-start table None fits = IsWhole-head table fits
 IsWhole-start table (Some c) fits = IsWhole-checkpoint table c fits
+
+pub IsWhole-written : (table : List Declared) (o : Option CheckpointView) → StartFits (written_start table o) → IsWhole (start_text (written_start table o))
+IsWhole-written table None fits = IsWhole-start table None fits
+IsWhole-written table (Some c) fits = IsWhole-start table (Some c) fits
 
 -- ---- batches
 pub IsWhole-batch : (begun : Bool) (table : List Declared) (o : Option CheckpointView) (events : List Event) → FitLines (written_start table o) events

@@ -1,13 +1,12 @@
-//! A history that begins again, from a checkpoint, in a new file.
+//! A history that begins, or begins again from a checkpoint, in a new file.
 
-ghost use Rattle.std.specs.Prelude.{◌≡◌, [], true, Some, IsTrue, IfOk, OnOk, OnErr};
+ghost use Rattle.std.specs.Prelude.{◌≡◌, [], true, false, Some, IsTrue, IfOk, OnOk, OnErr};
 ghost use Rattle.stm_history.specs.HistoryText.{start_text};
 ghost use Rattle.stm_history.specs.Judgement.{AreShortLines, StartFits};
-ghost use Rattle.stm_history.specs.Starts.{written_start};
 ghost use Rattle.stm_journal.specs.Disk.{Shows, HasLength, IsOnDisk};
 ghost use Rattle.stm_journal.specs.NewFile.{written_bytes};
 ghost use Rattle.stm_journal.specs.Replacing.{OnRefused, journal_result};
-ghost use Rattle.stm_durable.specs.Durable.{KeepsAny, KeepsHistory, KeepsHistories, LeavesOld, LeavesOldOrAll, IsOldOrAll, RefusalKeeps, BeginsUnless};
+ghost use Rattle.stm_durable.specs.Durable.{lent_start, KeepsAny, KeepsSome, KeepsHistory, KeepsHistories, LeavesOld, LeavesOldOrAll, IsOldOrAll, LeavesAtAnyMoment, RefusalKeeps, BeginsUnless, FitLines, Records};
 
 use crate::measured::MeasuredFile;
 use crate::recording::HistoryFile;
@@ -17,25 +16,25 @@ use stm_journal::{Device, JournalError, NewFile, Replace, ReplaceError};
 use stm_machine::Checkpoint;
 use stm_store::Table;
 
-/// Writes the lines of a checkpoint to a new file, and syncs it. Returned are the device and the length of its file.
+/// Writes the lines before the events to a new file, and syncs it. Returned are the device and the length of its file.
 fn write_new<D: Device + Drop>(
     alloc: Global,
     file: NewFile<D>,
     table: &Table,
-    checkpoint: &Checkpoint,
+    checkpoint: Option<&Checkpoint>,
 ) -> Result<(D, usize), JournalError>
     requires empty { IsTrue D.disk.is_honest → written_bytes D.disk file.device file.len file.pending.items ≡ Some [] }
-    ensures text { IfOk result (λ r. Shows D.disk r.0 (start_text (written_start table.now (Some checkpoint.now)))) }
+    ensures text { IfOk result (λ r. Shows D.disk r.0 (start_text (lent_start table.now checkpoint.entry))) }
     ensures len { IfOk result (λ r. HasLength D.disk r.0 r.1) }
     ensures durable { IfOk result (λ r. IsOnDisk D.disk r.0) }
-    ensures short { IsTrue D.disk.is_honest → OnOk result (AreShortLines (start_text (written_start table.now (Some checkpoint.now)))) }
-    ensures fault { BeginsUnless D.disk (written_start table.now (Some checkpoint.now)) result }
+    ensures short { IsTrue D.disk.is_honest → OnOk result (AreShortLines (start_text (lent_start table.now checkpoint.entry))) }
+    ensures fault { BeginsUnless D.disk (lent_start table.now checkpoint.entry) result }
 {
     let mut measured = MeasuredFile {
         file,
         line: Some(0),
     };
-    match write_start(alloc, &mut measured, table, Some(checkpoint)) {
+    match write_start(alloc, &mut measured, table, checkpoint) {
         Ok(()) => {}
         Err(WriteFault::NoMemory) => return Err(JournalError::NoMemory),
         Err(WriteFault::Write) => {
@@ -50,35 +49,36 @@ fn write_new<D: Device + Drop>(
 }
 
 impl<D: Replace + Drop> HistoryFile<D> {
-    /// Lets the history begin again, from a checkpoint and with no events. It writes the checkpoint to a new file beside the old
-    /// one, syncs it, and puts it in the place of the old one.
+    /// Lets the history begin again, from a checkpoint and with no events, or from a table if there is no checkpoint. It writes the lines
+    /// before the events to a new file beside the old one, syncs it, and puts it in the place of the old one. They may be longer than
+    /// a batch.
     ///
     /// A refusal leaves the file as it was, and more can be recorded in it. After any other error nothing more can be recorded: it is
-    /// the old file or the new one. A checkpoint with a line of more than 1 MiB is refused as `TooLong`, since no such line is read
-    /// again.
+    /// the old file or the new one. A line of more than 1 MiB is refused as `TooLong`, since no such line is read again.
+    #[tactic(auto, using(stm_journal::proofs::Faults::may_fail))]
     pub fn begin_anew(
         &mut self,
         alloc: Global,
         table: &Table,
-        checkpoint: &Checkpoint,
+        checkpoint: Option<&Checkpoint>,
     ) -> Result<(), ReplaceError>
         requires kept { KeepsAny D.disk self.old }
-        requires fit { StartFits (written_start table.now (Some checkpoint.now)) }
-        ensures begins { OnOk result (KeepsHistory D.disk self.new (written_start table.now (Some checkpoint.now)) []) }
+        requires fit { StartFits (lent_start table.now checkpoint) }
+        ensures begins { OnOk result (KeepsHistory D.disk self.new (lent_start table.now checkpoint.entry) []) }
         ensures begun { OnOk result (self.new.begun ≡ true) }
         ensures unbegun { OnErr result (self.new.begun ≡ self.old.begun) }
         ensures sync { self.new.journal.sync ≡ self.old.journal.sync }
         // No line is longer than a line of a history may be.
-        ensures short { IsTrue D.disk.is_honest → OnOk result (AreShortLines (start_text (written_start table.now (Some checkpoint.now)))) }
+        ensures short { IsTrue D.disk.is_honest → OnOk result (AreShortLines (start_text (lent_start table.now checkpoint.entry))) }
         // A crash at any moment of the call leaves what it might have left before, or the whole new file; after an error the file is
         // the one or the other.
-        ensures any_moment { LeavesOldOrAll D.disk self.old self.new (start_text (written_start table.now (Some checkpoint.now))) }
-        ensures left { OnErr result (IsOldOrAll D.disk self.old self.new (start_text (written_start table.now (Some checkpoint.now)))) }
+        ensures any_moment { LeavesOldOrAll D.disk self.old self.new (start_text (lent_start table.now checkpoint.entry)) }
+        ensures left { OnErr result (IsOldOrAll D.disk self.old self.new (start_text (lent_start table.now checkpoint.entry))) }
         // A refusal leaves each history as it was, and a crash at any moment of it what it might have left before.
         ensures refused { OnRefused result (KeepsHistories D.disk self.old self.new) }
         ensures refused_moment { OnRefused result (LeavesOld D.disk self.old self.new) }
         ensures long { RefusalKeeps D.disk self.old self.new (journal_result result) }
-        ensures fault { BeginsUnless D.disk (written_start table.now (Some checkpoint.now)) (journal_result result) }
+        ensures fault { BeginsUnless D.disk (lent_start table.now checkpoint.entry) (journal_result result) }
     {
         let file = match self.journal.new_file(alloc) {
             Ok(file) => file,
@@ -93,6 +93,36 @@ impl<D: Replace + Drop> HistoryFile<D> {
                 self.begun = true;
                 Ok(())
             }
+            Err(error) => Err(error),
+        }
+    }
+
+    /// Lets a history begin in a file that has none: records the lines before the events as a batch or, if they are too long for one, in a
+    /// new file, which takes the place of the old one. After an error other than `NoMemory` and `TooLong` nothing more can be recorded.
+    #[tactic(auto, using(stm_journal::proofs::Faults::may_fail))]
+    pub fn begin(
+        &mut self,
+        alloc: Global,
+        table: &Table,
+        checkpoint: Option<&Checkpoint>,
+    ) -> Result<(), JournalError>
+        requires kept { KeepsSome D.disk self.old (lent_start table.now checkpoint) }
+        requires fit { FitLines (lent_start table.now checkpoint) [] }
+        requires none { self.old.begun ≡ false }
+        ensures recorded { OnOk result (Records D.disk self.old self.new (lent_start table.now checkpoint.entry) []) }
+        ensures begun { OnOk result (self.new.begun ≡ true) }
+        ensures sync { self.new.journal.sync ≡ self.old.journal.sync }
+        // A crash at any moment, and an error, leave no history yet, or all lines before the events, or what the sync mode promises.
+        ensures any_moment { LeavesAtAnyMoment D.disk self.old self.new (lent_start table.now checkpoint.entry) [] }
+        ensures fault { BeginsUnless D.disk (lent_start table.now checkpoint.entry) result }
+    {
+        match self.record(alloc, table, checkpoint, &[]) {
+            Ok(()) => Ok(()),
+            Err(JournalError::TooLong) => match self.begin_anew(alloc, table, checkpoint) {
+                Ok(()) => Ok(()),
+                Err(ReplaceError::Refused(error)) => Err(error),
+                Err(ReplaceError::Unfinished(error)) => Err(error),
+            },
             Err(error) => Err(error),
         }
     }

@@ -39,7 +39,7 @@ fn begin_desk_anew<D: Replace + Drop>(
     cells_in_range(checkpoint.store());
     blocks_in_range(checkpoint.blocks());
     checkpoints_fit();
-    file.begin_anew(alloc, desk.table(), checkpoint)
+    file.begin_anew(alloc, desk.table(), Some(checkpoint))
 }
 
 /// Replaces the file of a console by one that begins from the checkpoint of its open desk. A refusal leaves the file as it was.

@@ -14,7 +14,7 @@ use std::alloc::Global;
 use stm_commands::OpenDesk;
 use stm_durable::HistoryFile;
 use stm_events::Event;
-use stm_journal::{Device, JournalError};
+use stm_journal::{Device, JournalError, Replace};
 use stm_run::console::Console;
 
 /// The most events of a batch.
@@ -99,8 +99,8 @@ fn record_batches<D: Device>(
     record_batches(alloc, desk, rest, file)
 }
 
-/// Records the lines before the events, in a batch of their own, unless the file has them.
-fn begin_file<D: Device>(
+/// Records the lines before the events, unless the file has them.
+fn begin_file<D: Replace + Drop>(
     alloc: Global,
     desk: &OpenDesk,
     file: &mut HistoryFile<D>,
@@ -116,12 +116,12 @@ fn begin_file<D: Device>(
     if file.begun {
         Ok(())
     } else {
-        record_after(alloc, desk, &[], file)
+        file.begin(alloc, desk.table(), desk.begins_from())
     }
 }
 
 /// Records the events of a desk after the first ones, which the file has.
-fn record_from<D: Device>(
+fn record_from<D: Replace + Drop>(
     alloc: Global,
     desk: &OpenDesk,
     recorded: usize,
@@ -156,7 +156,7 @@ fn later_events(history: &[Event], recorded: usize) -> &[Event]
 }
 
 /// Records the events of an open desk that its file doesn't have. How many it then has.
-fn record_open<D: Device>(
+fn record_open<D: Replace + Drop>(
     alloc: Global,
     desk: &OpenDesk,
     recorded: usize,
@@ -178,7 +178,7 @@ fn record_open<D: Device>(
 }
 
 /// Records the events of a console that its file doesn't have, once the desk is open. How many it then has.
-pub(crate) fn record_new<D: Device>(
+pub(crate) fn record_new<D: Replace + Drop>(
     alloc: Global,
     console: &Console,
     recorded: usize,

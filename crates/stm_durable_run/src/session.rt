@@ -220,7 +220,7 @@ impl DurableSession {
     }
 
     /// Records the events of all lines so far in the file, and then writes the answers that are held.
-    pub(crate) fn commit<D: Device, W: Write>(
+    pub(crate) fn commit<D: Replace + Drop, W: Write>(
         &mut self,
         alloc: Global,
         file: &mut HistoryFile<D>,
@@ -254,7 +254,7 @@ impl DurableSession {
     }
 
     /// Commits, and then hands on what the writer holds.
-    pub(crate) fn hand_on<D: Device, W: Write>(
+    pub(crate) fn hand_on<D: Replace + Drop, W: Write>(
         &mut self,
         alloc: Global,
         file: &mut HistoryFile<D>,
@@ -284,7 +284,7 @@ impl DurableSession {
     }
 
     /// Commits, and then writes what is to be streamed.
-    fn stream<D: Device, W: Write>(
+    fn stream<D: Replace + Drop, W: Write>(
         &mut self,
         alloc: Global,
         reply: Reply,
@@ -496,7 +496,7 @@ impl DurableSession {
     }
 
     /// Commits if what is held is long.
-    fn commit_if_long<D: Device, W: Write>(
+    fn commit_if_long<D: Replace + Drop, W: Write>(
         &mut self,
         alloc: Global,
         file: &mut HistoryFile<D>,

@@ -43,7 +43,7 @@ use stm_terms::NoMemory;
 
 /// Commits and hands on what the writer holds, unless the next line is whole in the bytes that were read: the reader isn't called
 /// before the answers to all lines were handed on.
-fn commit_before_read<W: Write, D: Device>(
+fn commit_before_read<W: Write, D: Replace + Drop>(
     alloc: Global,
     session: &mut DurableSession,
     lines: &LineReader,
