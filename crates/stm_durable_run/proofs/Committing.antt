@@ -1,5 +1,5 @@
 -- A line more, and what a commit makes of it.
-use Rattle.std.proofs.Common.{◌≡◌, ◌≢◌, ⊎_elim, ℕ, zero, ◌<◌, ◌≤◌, List, [], ◌∷◌, ◌++◌, length, Bool, true, false, cond, IsTrue, Option, Some, None, Result, Ok, Err, OnOk, IfErr, refl, sym, ap, ap₂, ◌∙◌, subst, arith, append_assoc, append-nil}
+use Rattle.std.proofs.Common.{◌≡◌, ◌≢◌, ⊎_elim, ℕ, ◌≤◌, List, [], ◌∷◌, ◌++◌, length, Bool, true, false, cond, IsTrue, Option, Some, None, Result, Ok, Err, OnOk, IfErr, refl, sym, ap, ap₂, ◌∙◌, subst, arith, append_assoc, append-nil}
 use Rattle.std.specs.Prelude.{◌⊎◌, nat_lt, MatchBool, IfOk}
 use Rattle.std.proofs.lemmas.Bool.Decides.{nat_tests}
 use Rattle.std.specs.Io.KnownBytes.{Appends, Keeps}
@@ -14,7 +14,7 @@ use Rattle.stm_run.specs.declared.console.Console.{Console}
 use Rattle.stm_run.specs.declared.reply.Reply.{Reply}
 use Rattle.stm_run.specs.declared.reply.Reply.TheVariants as reply
 use Rattle.stm_run.specs.Abstraction.{IsReply, IsStep}
-use Rattle.stm_run.specs.Console.{answer_to, state_after, class_step, step}
+use Rattle.stm_run.specs.Console.{state_after, class_step, step}
 use Rattle.stm_run.specs.declared.console.Console.TheVariants.{Declaring, Open}
 use Rattle.stm_run.specs.ConsoleState.{present_desk, table_of, events_of, with_checkpoint}
 use Rattle.stm_run.specs.Fitting.{VariablesFit, VariablesStayFit}

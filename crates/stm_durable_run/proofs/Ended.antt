@@ -3,16 +3,15 @@ use Rattle.std.proofs.Common.{◌≡◌, ℕ, ◌≤◌, length, ◌∷◌, Resu
 use Rattle.std.specs.Io.KnownBytes.{Appends}
 use Rattle.std.proofs.KnownBytes.{Appends-nil}
 use Rattle.stm_terms.specs.Texts.{IsPrefixOf}
-use Rattle.stm_events.specs.Laws.{SubmittedAreWellTyped}
 use Rattle.stm_history.specs.Loading.{HasText, loaded_start}
 use Rattle.stm_history.specs.Judgement.{IsStart, AreEvents, AreVariablesFrom}
-use Rattle.stm_history.specs.Starts.{Start, written_start}
+use Rattle.stm_history.specs.Starts.{written_start}
 use Rattle.stm_machine.specs.Checkpoints.{CheckpointView}
 use Rattle.stm_history.specs.declared.files.loading.Loaded.{Loaded}
 use Rattle.stm_journal.specs.declared.sync_mode.SyncMode.{SyncMode}
 use Rattle.stm_journal.specs.Disk.{Disk, LeavesOnly}
 use Rattle.stm_journal.proofs.Moments.{weaker}
-use Rattle.stm_durable.specs.Durable.{HistoryKept, LoadedKept}
+use Rattle.stm_durable.specs.Durable.{LoadedKept}
 use Rattle.stm_durable.specs.declared.recording.HistoryFile.{HistoryFile}
 use Rattle.stm_event_lines.specs.Fits.{WhatFitsTable}
 use Rattle.stm_events.specs.declared.event.Event.{Event}
@@ -30,7 +29,7 @@ use Rattle.stm_lines.specs.Lines.{lines_of}
 use Rattle.stm_run.specs.declared.console.Console.{Console}
 use Rattle.stm_run.specs.Console.{initial_console}
 use Rattle.stm_run.specs.Fitting.{VariablesFit}
-use Rattle.stm_run.specs.LineCheckpoints.{Turn, turn_lines, states_after, answers_by, ForTurns}
+use Rattle.stm_run.specs.LineCheckpoints.{Turn, states_after, answers_by, ForTurns}
 use Rattle.stm_run.proofs.EventsOfConsole.{grows_not}
 use Rattle.stm_durable_run.specs.declared.fault.DurableFault.{DurableFault}
 use Rattle.stm_durable_run.specs.declared.fault.DurableFault.TheVariants.{Run, Journal}

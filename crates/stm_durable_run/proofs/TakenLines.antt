@@ -1,7 +1,5 @@
 -- A run after a line that was taken, or that couldn't be.
-use Rattle.std.proofs.Common.{◌≡◌, ⊎_elim, inl, inr, ℕ, ◌≤◌, List, [], ◌∷◌, ◌++◌, Bool, IsTrue, Option, None, refl, subst}
-use Rattle.std.specs.Prelude.{◌⊎◌}
-use Rattle.std.specs.Io.KnownBytes.{Appends}
+use Rattle.std.proofs.Common.{◌≡◌, ⊎_elim, ℕ, ◌≤◌, List, [], ◌∷◌, ◌++◌, Bool, IsTrue, Option, None, refl, subst}
 use Rattle.std.proofs.KnownBytes.{Appends-nil}
 use Rattle.stm_journal.specs.declared.sync_mode.SyncMode.{SyncMode}
 use Rattle.stm_journal.specs.Disk.{Disk, LeavesOnly}
@@ -11,8 +9,8 @@ use Rattle.stm_run.specs.declared.console.Console.{Console}
 use Rattle.stm_run.specs.LineCheckpoints.{Turn, made_turn, made_step}
 use Rattle.stm_durable_run.specs.declared.fault.DurableFault.{DurableFault}
 use Rattle.stm_durable_run.specs.declared.fault.DurableFault.TheVariants.{Run, Journal}
-use Rattle.stm_durable_run.specs.DurableRun.{KeepsConsole, LeavesBetween, CoversAnswers}
-use Rattle.stm_durable_run.specs.Committing.{MayCommit, IsBehind, IsAfterLines, HasFailed, HasNotTaken, TakingLeaves}
+use Rattle.stm_durable_run.specs.DurableRun.{KeepsConsole, CoversAnswers}
+use Rattle.stm_durable_run.specs.Committing.{IsBehind, IsAfterLines, HasFailed, HasNotTaken, TakingLeaves}
 use Rattle.stm_durable_run.proofs.Committing.{line_more, may_commit, stopped_before, stopped_in, failed}
 use Rattle.stm_durable_run.proofs.RunCrashes.{lines_run}
 

@@ -15,7 +15,7 @@ use Rattle.stm_commands.specs.OpenDesk.{OpenDesk}
 use Rattle.stm_commands.specs.Refusals.{refused}
 use Rattle.stm_run.specs.declared.console.Console.{Console}
 use Rattle.stm_run.specs.declared.console.Console.TheVariants.{Declaring, Open}
-use Rattle.stm_run.specs.Console.{on_console, answer_to, state_after, step}
+use Rattle.stm_run.specs.Console.{on_console, step}
 use Rattle.stm_run.specs.ConsoleState.{present_desk, is_open, table_of, events_of, with_checkpoint}
 use Rattle.stm_run.specs.Fitting.{VariablesFit}
 use Rattle.stm_run.specs.Growing.{Grows}
@@ -28,7 +28,7 @@ use Rattle.stm_durable_run.specs.declared.fault.DurableFault.TheVariants.{Run}
 use Rattle.stm_durable_run.specs.declared.session.Tried.TheVariants.{Made, TicketsFull, RefusedByFile}
 use Rattle.stm_durable_run.specs.DurableRun.{ConsoleKept, KeepsConsole, KeepsConsoles, RecordsUnlessDisk, RefusalCause, LeavesBetween}
 use Rattle.stm_durable_run.specs.NewEvents.{MayBeginRun}
-use Rattle.stm_durable_run.specs.Committing.{MayCommit, MayBeginAnew, asked_step, no_checkpoint_text, HasTriedCheckpoint, HasTakenLine, HasNotTaken, TakingLeaves, BeginningLeaves, BeginningLeavesEither}
+use Rattle.stm_durable_run.specs.Committing.{MayBeginAnew, asked_step, no_checkpoint_text, HasTriedCheckpoint, HasTakenLine, HasNotTaken, TakingLeaves, BeginningLeaves, BeginningLeavesEither}
 use Rattle.stm_durable_run.proofs.Committing.{none_due, anew_after}
 use Rattle.stm_durable_run.proofs.RecordedEvents.{between_still}
 

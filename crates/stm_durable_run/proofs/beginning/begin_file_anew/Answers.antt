@@ -1,4 +1,4 @@
-use Rattle.std.proofs.Common.{IsTrue, sym, subst}
+use Rattle.std.proofs.Common.{sym, subst}
 use Rattle.std.specs.Prelude.{◌⊎◌}
 use Rattle.stm_journal.specs.Disk.{LeavesOnly}
 use Rattle.stm_run.specs.ConsoleState.{with_checkpoint}
