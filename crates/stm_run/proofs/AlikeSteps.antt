@@ -1,5 +1,5 @@
 -- Desks of which the same is observed do the same at each command, unless one of them tells that its history has no room.
-use Rattle.std.proofs.Common.{◌≡◌, ◌⊎◌, inl, inr, ℕ, zero, suc, ◌+◌, ◌-◌, ◌<◌, ◌≤◌, Bool, true, false, cond, not, List, [], ◌∷◌, ◌++◌, map, length, Option, Some, None, Result, Ok, Err, refl, sym, ap, ap₂, ◌∙◌, subst, arith}
+use Rattle.std.proofs.Common.{◌≡◌, ◌⊎◌, inl, inr, ℕ, zero, suc, ◌+◌, ◌-◌, ◌≤◌, Bool, true, false, cond, not, List, [], ◌∷◌, ◌++◌, map, length, Option, Some, None, Result, Ok, Err, refl, sym, ap, ap₂, ◌∙◌, subst, arith}
 use Rattle.std.specs.Prelude.{nat_lt, nat_le, codes, is_some, take, option_map}
 use Rattle.std.proofs.lemmas.Bool.Decides.{nat_tests}
 use Rattle.stm_terms.specs.declared.values.Value.{Value}
@@ -11,7 +11,7 @@ use Rattle.stm_check.specs.TypedBlock.{Block}
 use Rattle.stm_eval.specs.Laws.{VerdictIsStable}
 use Rattle.stm_store.specs.declared.cell.Cell.{Cell}
 use Rattle.stm_store.specs.Cells.{plains, changed_by}
-use Rattle.stm_queue.specs.Queue.{Entry, is_out, marked, queued, recalled}
+use Rattle.stm_queue.specs.Queue.{Entry, is_out, marked, queued}
 use Rattle.stm_events.specs.declared.errors.CancelError.{CancelError}
 use Rattle.stm_events.specs.declared.errors.CancelError.TheVariants as cancel
 use Rattle.stm_events.specs.declared.errors.DeliverError.{DeliverError}
@@ -49,9 +49,9 @@ use Rattle.stm_commands.specs.Atomically.{ran_text, atomically_block_step, atomi
 use Rattle.stm_commands.specs.Blocks.{ticket_line, submit_block_step, submit_text_step}
 use Rattle.stm_commands.specs.Endings.{finish_verdict_step, finish_waiter_step, finish_ticket_step, finished_line, cancel_ticket_step, run_text, run_desk_step}
 use Rattle.stm_commands.specs.Evaluation.{DeliveredSoFar, delivered_by, delivered_next, delivered_all, all_queued, evaluated, evaluation_text, eval_desk_step}
-use Rattle.stm_commands.specs.Jobs.{jobs_of, taken, delivery_first, delivery_refusal, installed, delivery_step, deliver_job_step, handed_back, queued_line, handback_ticket_step}
+use Rattle.stm_commands.specs.Jobs.{jobs_of, delivery_first, delivery_refusal, installed, delivery_step, deliver_job_step, handed_back, queued_line, handback_ticket_step}
 use Rattle.stm_commands.specs.OpenDesk.{HandedOut}
-use Rattle.stm_commands.specs.Refusals.{refused, submit_error_text, deliver_error_text, finish_error_text, cancel_error_text}
+use Rattle.stm_commands.specs.Refusals.{refused}
 use Rattle.stm_run.specs.Unseen.{TellsFull}
 use Rattle.stm_run.proofs.RunAtOnce.{each_legal, run_allowed}
 use Rattle.stm_run.proofs.DeliveredJobs.{next_stands, queued_stand}

@@ -29,7 +29,7 @@ use Rattle.stm_events.proofs.Folds.{state-append}
 use Rattle.stm_events.specs.SlowSettle.{lowest, is_due, can_end, installing, ending, next_of, Order, next_what, has_cells, settle_on, running}
 use Rattle.stm_events.specs.SlowDrain.{is_next, drain_of, next_drain}
 use Rattle.stm_machine.specs.Machine.{event}
-use Rattle.stm_machine.specs.Checkpoints.{CheckpointView, waiter_of, checkpoint_state, block_of_waiter, checkpoint_of, start_of, max_next}
+use Rattle.stm_machine.specs.Checkpoints.{CheckpointView, waiter_of, block_of_waiter, checkpoint_of, start_of}
 use Rattle.stm_machine.specs.declared.checkpoint.CheckpointBlock.{CheckpointBlock}
 use Rattle.stm_machine.specs.JobsHandedOut.{sent}
 use Rattle.stm_event_lines.specs.WholeBlocks.{BlockFault, NotParsed, NotTyped, given_type, block_if_typed, block_if_parsed, checked_block}
@@ -43,7 +43,7 @@ use Rattle.stm_blocks.specs.CompiledBlock.{block_or_refusal, compiled_block}
 use Rattle.stm_blocks.specs.DeclaredVariable.{variable_of}
 use Rattle.stm_lines.specs.NumberArgument.{number_argument}
 use Rattle.stm_lines.specs.LineClass.{LineClass, TooLong, Silent, NotAscii, Words, line_class}
-use Rattle.stm_commands.specs.Arguments.{argument_refused, with_nothing}
+use Rattle.stm_commands.specs.Arguments.{argument_refused}
 use Rattle.stm_commands.specs.Atomically.{atomically_block_step, atomically_text_step, atomically_step}
 use Rattle.stm_commands.specs.Blocks.{submit_block_step, submit_text_step, submit_step}
 use Rattle.stm_commands.specs.Checkpointing.{are_tickets_full, begun_anew, checkpoint_line, checkpoint_now, checkpoint_step, makes_checkpoint}
@@ -62,7 +62,7 @@ use Rattle.stm_run.specs.Declaring.{declare_step, tvar_step}
 use Rattle.stm_run.specs.Fitting.{IsOfText, AreOfConsole, IsOfConsole, EventsAreOfConsole, AreOfTheirTexts, WaitAsTheirTexts, WaitingStayOfText, VariablesFit, VariablesFitLines, VariablesStayFit}
 use Rattle.stm_run.specs.Growing.{Grows, ConsolesGrow}
 use Rattle.stm_run.specs.Laws.{state_after_lines}
-use Rattle.stm_run.specs.LineCheckpoints.{command_checkpoints, word_checkpoints, class_checkpoints, line_checkpoints, auto_checkpoint}
+use Rattle.stm_run.specs.LineCheckpoints.{command_checkpoints, word_checkpoints, class_checkpoints, line_checkpoints}
 use Rattle.stm_run.proofs.DeclaredVariables.{MayBeNext, may_be_next}
 use Rattle.stm_parse.specs.ParseFunction.{DeclarationAnswersAreRight}
 use Rattle.stm_history.specs.Judgement.{MayDeclare, AreVariablesFrom}

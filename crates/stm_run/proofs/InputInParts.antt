@@ -1,5 +1,5 @@
 -- An input is taken line by line, and the text is that of the whole.
-use Rattle.std.proofs.Common.{◌≡◌, ℕ, ◌<◌, List, [], ◌∷◌, ◌++◌, length, refl, sym, ap, ◌∙◌, append_assoc, append-nil, arith}
+use Rattle.std.proofs.Common.{◌≡◌, ℕ, ◌<◌, List, [], ◌∷◌, ◌++◌, length, refl, sym, ap, ◌∙◌, append_assoc, append-nil}
 use Rattle.stm_lines.proofs.ReadLines.{lines_from-whole, lines_from-last, whole_lines_from-whole, whole_lines_from-last}
 use Rattle.stm_lines.specs.LineClass.{line_class}
 use Rattle.stm_lines.specs.Lines.{drop_return, lines_of, whole_lines_of, NoLineFeed}

@@ -1,24 +1,21 @@
 -- Desks of which the same is observed: what is shown of them is the same, and events keep them so.
-use Rattle.std.proofs.Common.{◌≡◌, ◌⊎◌, ⊎_elim, inl, inr, ℕ, zero, suc, ◌+◌, ◌≤◌, Bool, true, false, cond, not, List, [], ◌∷◌, ◌++◌, map, length, Option, Some, None, refl, sym, ap, ap₂, ◌∙◌, subst, arith, length-append}
+use Rattle.std.proofs.Common.{◌≡◌, ◌⊎◌, ⊎_elim, ℕ, ◌≤◌, Bool, true, false, cond, List, [], ◌∷◌, ◌++◌, map, length, Option, Some, None, refl, sym, ap, ap₂, ◌∙◌, subst, arith, length-append}
 use Rattle.std.specs.Prelude.{◌&&◌, nat_le, decimal, codes, filter, option_map}
 use Rattle.std.proofs.lemmas.Bool.Decides.{nat_tests}
-use Rattle.stm_terms.specs.declared.values.Value.{Value}
 use Rattle.stm_terms.specs.ReadSet.{reads_of}
 use Rattle.stm_check.specs.TypedBlock.{Block}
 use Rattle.stm_store.specs.declared.cell.Cell.{Cell}
 use Rattle.stm_store.specs.Cells.{plains}
-use Rattle.stm_store.specs.Tables.{Declared}
 use Rattle.stm_queue.specs.Queue.{Entry}
-use Rattle.stm_events.specs.declared.event.Event.{Event}
 use Rattle.stm_events.specs.declared.event.What.{What}
 use Rattle.stm_events.specs.Answers.{AnswersAlike}
 use Rattle.stm_events.specs.BlockStatus.{read_since_then}
 use Rattle.stm_events.specs.Ready.{is_ready}
-use Rattle.stm_events.specs.SlowSettle.{can_end, ends}
-use Rattle.stm_events.specs.SlowDesk.{Since, Waiter, Slow, under, is_current, find_waiter, after, Allows, state_from, standing}
+use Rattle.stm_events.specs.SlowSettle.{ends}
+use Rattle.stm_events.specs.SlowDesk.{Since, Waiter, Slow, under, find_waiter, Allows}
 use Rattle.stm_events.specs.States.{IsPossible, observed}
 use Rattle.stm_events.proofs.Alike.{IsAlike, AreAlike, MayBeAlike, alike_from, alike_found, same_length, same_standing, same_current, same_verdict}
-use Rattle.stm_events.proofs.Folds.{IsLegalPush, legal_split}
+use Rattle.stm_events.proofs.Folds.{legal_split}
 use Rattle.stm_events.proofs.Observed.{observed_after, observed_answers}
 use Rattle.stm_events.proofs.Possible.{possible_after}
 use Rattle.stm_machine.specs.Machine.{event}
@@ -27,7 +24,7 @@ use Rattle.stm_desk.specs.DeskView.{DeskView, start_state, state_of, is_full, wi
 use Rattle.stm_commands.specs.Contents.{waiter_line, waiter_lines, standing_text, show_text, read_text, waiter_reads_text}
 use Rattle.stm_commands.specs.Blocks.{reads_line}
 use Rattle.stm_commands.specs.Jobs.{job_of, jobs_of}
-use Rattle.stm_commands.specs.OpenDesk.{HandedOut, OpenDesk}
+use Rattle.stm_commands.specs.OpenDesk.{HandedOut}
 use Rattle.stm_commands.specs.Questions.{ready_tickets, ready_text}
 use Rattle.stm_commands.specs.Endings.{tickets_text}
 use Rattle.stm_run.proofs.StandingDesk.{Stands, state_later}

@@ -26,7 +26,7 @@ use Rattle.stm_lines.specs.LineClass.{LineClass, TooLong, Silent, NotAscii, Word
 use Rattle.stm_commands.specs.Arguments.{argument_refused}
 use Rattle.stm_commands.specs.Atomically.{atomically_text_step, atomically_step}
 use Rattle.stm_commands.specs.Blocks.{submit_text_step, submit_step}
-use Rattle.stm_commands.specs.Checkpointing.{are_tickets_full, begun_anew, checkpoint_line, checkpoint_now, checkpoint_step}
+use Rattle.stm_commands.specs.Checkpointing.{begun_anew, checkpoint_line, checkpoint_now, checkpoint_step}
 use Rattle.stm_events.specs.SlowSettle.{next_what}
 use Rattle.stm_events.specs.SlowDrain.{next_drain}
 use Rattle.stm_commands.specs.Endings.{finish_ticket_step, finish_step, cancel_ticket_step, cancel_step, settle_desk_step, settle_step, drain_desk_step, drain_step}

@@ -1,16 +1,15 @@
 -- What `atomically` does is allowed if it isn't refused, so the desk goes on standing.
-use Rattle.std.proofs.Common.{◌≡◌, ℕ, ◌+◌, ◌<◌, ◌≤◌, Bool, true, false, cond, not, List, [], ◌∷◌, ◌++◌, map, length, Option, Some, None, refl, sym, subst, ap, ◌∙◌, arith, length-append}
+use Rattle.std.proofs.Common.{◌≡◌, ℕ, ◌+◌, ◌<◌, ◌≤◌, Bool, true, false, cond, not, List, [], ◌∷◌, map, length, Option, Some, None, refl, sym, subst, arith, length-append}
 use Rattle.std.specs.Prelude.{nat_le, nat_lt}
 use Rattle.std.proofs.lemmas.Bool.Decides.{nat_tests}
 use Rattle.stm_terms.specs.declared.verdicts.Verdict.{Verdict}
-use Rattle.stm_store.specs.declared.cell.Cell.{Cell}
 use Rattle.stm_store.specs.Cells.{plains, Covers, made_by}
 use Rattle.stm_check.specs.TypedBlock.{Block}
 use Rattle.stm_events.specs.declared.event.What.{What}
 use Rattle.stm_events.specs.declared.event.What.TheVariants.{Submitted, Installed, Finished}
 use Rattle.stm_events.specs.Laws.{IsWellTyped, SubmitsWellTyped}
 use Rattle.stm_events.specs.Refusals.{missing, overflows}
-use Rattle.stm_events.specs.SlowAtomically.{finish_at_once, install_at_once, atomically, AllowsEach}
+use Rattle.stm_events.specs.SlowAtomically.{install_at_once, atomically, AllowsEach}
 use Rattle.stm_events.specs.SlowDesk.{Slow, verdict_on, waking, is_blocks, stale_after, after, LegalFrom, max_cells, max_waiting}
 use Rattle.stm_events.specs.States.{IsPossible}
 use Rattle.stm_events.proofs.Atomically.{MayRun, whats_waiting, waiting_allowed, whats_ending, ending_allowed}

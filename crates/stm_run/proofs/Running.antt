@@ -7,7 +7,7 @@ use Rattle.stm_lines.specs.Lines.{drop_return}
 use Rattle.stm_lines.specs.TakenLines.{TakesPartOfLine, TakesLastLine, TakesWholeLine}
 use Rattle.stm_run.proofs.InputInParts.{Continues-nil, Continues-line, Continues-trans, rest_text-last, rest_text-nil, whole_rest_text-begun, IsPrefixOf-line}
 use Rattle.stm_terms.specs.Texts.{IsPrefixOf}
-use Rattle.stm_run.specs.Streaming.{HasAnswered, HasAnsweredAll, HasAnsweredPart, HasAnsweredWhole, rest_text, whole_rest_text}
+use Rattle.stm_run.specs.Streaming.{HasAnswered, HasAnsweredAll, HasAnsweredPart, HasAnsweredWhole, rest_text}
 use Rattle.stm_run.specs.declared.console.Console.{Console}
 use Rattle.stm_run.specs.Console.{answer_to, state_after, initial_console, console_text}
 

@@ -1,11 +1,9 @@
 -- The states that a console's desk may be in: events may go on from each, all in it is well typed, and it has the declared
 -- variables. Allowed events and checkpoints lead from one to another.
-use Rattle.std.proofs.Common.{◌≡◌, ℕ, ◌+◌, ◌≤◌, List, [], ◌∷◌, length, Option, Some, None, IsSome, refl, sym, ap, subst, ◌∙◌}
+use Rattle.std.proofs.Common.{◌≡◌, ℕ, ◌≤◌, List, [], ◌∷◌, Option, Some, None, refl, sym, subst, ◌∙◌}
 use Rattle.std.specs.Prelude.{IsSomeAnd}
 use Rattle.stm_terms.specs.declared.kinds.Ty.{Ty}
-use Rattle.stm_terms.specs.declared.values.Value.{Value}
 use Rattle.stm_terms.specs.declared.verdicts.Verdict.{Verdict}
-use Rattle.stm_store.specs.declared.cell.Cell.{Cell}
 use Rattle.stm_store.specs.Cells.{plains, Covers, Fits, IsStore}
 use Rattle.stm_store.specs.Tables.{Declared, opened}
 use Rattle.stm_store.proofs.ApplyPreservesTyping.{kept_store}
@@ -14,14 +12,14 @@ use Rattle.stm_events.specs.declared.event.What.{What}
 use Rattle.stm_events.specs.declared.event.What.TheVariants.{Submitted, Installed, Finished, Cancelled}
 use Rattle.stm_events.specs.declared.staleness.StalenessRule.TheVariants.{Changed}
 use Rattle.stm_events.specs.Laws.{SubmitsWellTyped, SubmittedAreWellTyped}
-use Rattle.stm_events.specs.SlowDesk.{Waiter, Slow, verdict_on, find_waiter, after, MayFinish, Allows, initial_state, state_from, LegalFrom}
+use Rattle.stm_events.specs.SlowDesk.{Waiter, Slow, find_waiter, after, MayFinish, Allows, state_from, LegalFrom}
 use Rattle.stm_events.specs.States.{IsPossible, IsTypedState, observed}
 use Rattle.stm_events.proofs.Folds.{after-rule}
 use Rattle.stm_events.proofs.Kept.{variables_stay_covered}
-use Rattle.stm_events.proofs.Possible.{possible_initial, possible_after}
-use Rattle.stm_events.proofs.TypedStores.{typed_initial, typed_after, typed_verdict}
+use Rattle.stm_events.proofs.Possible.{possible_after}
+use Rattle.stm_events.proofs.TypedStores.{typed_after, typed_verdict}
 use Rattle.stm_machine.specs.Machine.{event}
-use Rattle.stm_machine.specs.Checkpoints.{CheckpointView, IsCheckpoint, checkpoint_state, checkpoint_of, max_next}
+use Rattle.stm_machine.specs.Checkpoints.{IsCheckpoint, checkpoint_state, checkpoint_of, max_next}
 use Rattle.stm_machine.proofs.CheckpointStates.{checkpoints_are_possible, checkpoints_are_unseen}
 
 pub record IsSound (table : List Declared) (s : Slow) : Type 0 where

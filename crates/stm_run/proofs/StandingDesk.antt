@@ -10,7 +10,7 @@ use Rattle.stm_store.specs.Tables.{Declared}
 use Rattle.stm_events.specs.declared.event.Event.{Event}
 use Rattle.stm_events.specs.declared.event.What.{What}
 use Rattle.stm_events.specs.Laws.{SubmitsWellTyped, SubmittedAreWellTyped}
-use Rattle.stm_events.specs.SlowDesk.{Waiter, Slow, is_current, find_waiter, after, Allows, AllowsEvent, state_from, LegalFrom, max_events}
+use Rattle.stm_events.specs.SlowDesk.{Waiter, Slow, find_waiter, after, Allows, AllowsEvent, state_from, LegalFrom, max_events}
 use Rattle.stm_events.specs.States.{IsPossible, IsTicketOf, observed, IsLegalFrom}
 use Rattle.stm_events.proofs.Alike.{MayBeAlike, alike_from, alike_found, same_current}
 use Rattle.stm_events.proofs.Kept.{ticket_after}

@@ -1,22 +1,19 @@
 -- Consoles that look alike answer alike, and a console looks like itself with a checkpoint.
-use Rattle.std.proofs.Common.{◌≡◌, ℕ, ◌+◌, ◌≤◌, Bool, true, false, cond, not, List, [], ◌∷◌, ◌++◌, length, Option, Some, None, Result, Ok, Err, refl, sym, ap, ap₂, ◌∙◌, subst, arith}
+use Rattle.std.proofs.Common.{◌≡◌, ℕ, ◌+◌, ◌≤◌, Bool, true, false, cond, List, [], ◌∷◌, ◌++◌, length, Option, Some, None, Result, refl, sym, ap, ap₂, ◌∙◌, subst, arith}
 use Rattle.std.specs.Prelude.{◌==◌, ◌&&◌, nat_lt, nat_le, codes}
 use Rattle.std.proofs.lemmas.Bool.Decides.{nat_tests}
-use Rattle.stm_terms.specs.Texts.{list_text}
 use Rattle.stm_check.specs.Laws.{CheckNeverSaysNoMemory}
 use Rattle.stm_check.specs.TypedBlock.{Block}
 use Rattle.stm_eval.specs.Laws.{VerdictIsStable}
 use Rattle.stm_parse.specs.ParseFunction.{BlockAnswersAreRight, DeclarationAnswersAreRight}
 use Rattle.stm_store.specs.declared.cell.Cell.{Cell}
 use Rattle.stm_store.specs.Tables.{Declared}
-use Rattle.stm_queue.specs.Queue.{Entry, queued, recalled}
-use Rattle.stm_events.specs.SlowDesk as slow
-use Rattle.stm_events.specs.SlowDesk.{Slow, find_waiter}
-use Rattle.stm_events.specs.States.{observed}
+use Rattle.stm_queue.specs.Queue.{Entry, recalled}
+use Rattle.stm_events.specs.SlowDesk.{find_waiter}
 use Rattle.stm_event_lines.specs.WholeBlocks.{CheckedAreWellTyped}
-use Rattle.stm_machine.specs.Checkpoints.{checkpoint_state, checkpoint_of, max_next}
+use Rattle.stm_machine.specs.Checkpoints.{max_next}
 use Rattle.stm_machine.specs.JobsHandedOut.{sent}
-use Rattle.stm_desk.specs.DeskView.{DeskView, start_state, state_of, checkpointed}
+use Rattle.stm_desk.specs.DeskView.{DeskView, state_of, checkpointed}
 use Rattle.stm_desk.specs.Refusals.{finish_refusal, cancel_refusal}
 use Rattle.stm_desk.specs.Settling.{requeued_all}
 use Rattle.stm_lines.specs.LineClass.{LineClass, TooLong, Silent, NotAscii, Words, line_class}
@@ -26,32 +23,31 @@ use Rattle.stm_blocks.specs.CompiledBlock.{compiled_block}
 use Rattle.stm_commands.specs.Arguments.{with_number, with_nothing, argument_refused}
 use Rattle.stm_commands.specs.Atomically.{atomically_text_step, atomically_step}
 use Rattle.stm_commands.specs.Blocks.{tried_text, try_answer, looked_text, looks_answer, submit_text_step, submit_step}
-use Rattle.stm_commands.specs.Checkpointing.{are_tickets_full, begun_anew, is_due_checkpoint, checkpoint_if}
-use Rattle.stm_commands.specs.Contents.{show_text, show_answer, waiter_reads_text, reads_answer, store_text, store_answer}
+use Rattle.stm_commands.specs.Checkpointing.{are_tickets_full, begun_anew}
+use Rattle.stm_commands.specs.Contents.{show_answer, waiter_reads_text, reads_answer, store_text, store_answer}
 use Rattle.stm_events.specs.SlowSettle.{next_what}
 use Rattle.stm_events.specs.SlowDrain.{next_drain}
 use Rattle.stm_commands.specs.Endings.{finish_ticket_step, finish_step, cancel_ticket_step, cancel_step, settled_line, drained_line, settle_desk_step, settle_step, drain_desk_step, drain_step}
 use Rattle.stm_commands.specs.Evaluation.{eval_desk_step, eval_step}
-use Rattle.stm_commands.specs.Jobs.{max_jobs, taken, jobs_of, with_jobs, jobs_line, take_jobs_step, take_step, job_at, deliver_job_step, deliver_step, handback_ticket_step, handback_step}
-use Rattle.stm_commands.specs.OpenDesk.{HandedOut, OpenDesk, present, on_desk}
-use Rattle.stm_commands.specs.Questions.{ready_text, ready_answer}
+use Rattle.stm_commands.specs.Jobs.{max_jobs, taken, with_jobs, jobs_line, take_jobs_step, take_step, job_at, deliver_job_step, deliver_step, handback_ticket_step, handback_step}
+use Rattle.stm_commands.specs.OpenDesk.{HandedOut, OpenDesk, on_desk}
+use Rattle.stm_commands.specs.Questions.{ready_answer}
 use Rattle.stm_commands.specs.Refusals.{refused}
-use Rattle.stm_commands.proofs.KeptQueue.{tickets_recalled}
 use Rattle.stm_run.specs.declared.command.Command.{Command}
 use Rattle.stm_run.specs.declared.command.Command.TheVariants.{Tvar, Try, Looks, Submit, Atomically, Take, Deliver, Handback, Eval, Finish, Cancel, Show, Reads, Store, Settle, Drain, History, Ready, Why, Events, Checkpoint}
 use Rattle.stm_run.specs.declared.console.Console.{Console}
 use Rattle.stm_run.specs.declared.console.Console.TheVariants.{Declaring, Open}
 use Rattle.stm_run.specs.Console.{command_named, answer_to, answers_to, state_after, initial_console, desk_step, command_step, word_step, class_step, step}
-use Rattle.stm_run.specs.ConsoleState.{present_desk, is_open, table_of, events_of, with_checkpoint}
+use Rattle.stm_run.specs.ConsoleState.{present_desk, is_open, events_of, with_checkpoint}
 use Rattle.stm_run.specs.Laws.{state_after_lines}
 use Rattle.stm_run.specs.LineCheckpoints.{auto_checkpoint, answers_by, command_checkpoints, word_checkpoints, class_checkpoints, line_checkpoints, Turn, turn_lines, refused_step, line_step}
-use Rattle.stm_run.specs.Unseen.{LookAlike, is_of_history, word_is_of_history, class_is_of_history, line_is_of_history, TellsFull, HaveRoom, AnswersTheSame, CheckpointsAreUnseenByCommands}
+use Rattle.stm_run.specs.Unseen.{LookAlike, is_of_history, word_is_of_history, class_is_of_history, line_is_of_history, HaveRoom, CheckpointsAreUnseenByCommands}
 use Rattle.stm_run.proofs.AlikeSteps.{AlikeSteps, NotFull, submit_alike, atomically_alike, cancel_alike, finish_alike, handback_alike, deliver_alike, eval_alike, settle_order, drain_order, run_alike}
 use Rattle.stm_run.proofs.DeliveredJobs.{delivered_stands}
 use Rattle.stm_run.proofs.LookingAlike.{AlikeDesks, same_store, same_found, alike_pending, show_alike, reads_alike, ready_alike, jobs_alike}
-use Rattle.stm_run.proofs.ReachedConsole.{IsReached, present_stands, auto_reached, line_reached, start_reached, reached}
+use Rattle.stm_run.proofs.ReachedConsole.{IsReached, auto_reached, line_reached, start_reached, reached}
 use Rattle.stm_run.proofs.SoundStates.{unseen}
-use Rattle.stm_run.proofs.StandingDesk.{Stands, stands_sound, stands_marked, stands_checkpointed}
+use Rattle.stm_run.proofs.StandingDesk.{Stands, stands_sound, stands_checkpointed}
 use Rattle.stm_run.proofs.TextsJudged.{BlockOrTold, compiled}
 
 -- ---- open desks
@@ -211,6 +207,7 @@ no_checkpoint_by s Tvar argument h = refl
 no_checkpoint_by s Try argument h = refl
 no_checkpoint_by s Looks argument h = refl
 no_checkpoint_by s Submit argument h = refl
+no_checkpoint_by s Atomically argument h = refl
 no_checkpoint_by s Take argument h = refl
 no_checkpoint_by s Deliver argument h = refl
 no_checkpoint_by s Handback argument h = refl
