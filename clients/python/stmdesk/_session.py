@@ -20,7 +20,7 @@ from functools import partial
 from typing import Any
 
 from ._answers import Answers
-from ._commands import SUBMIT, Answer
+from ._commands import ATOMICALLY, Answer
 from ._errors import BadAnswer, Cancelled, DeskClosed, DeskError, OutcomeUnknown, Refused, Thrown
 from ._helper import Helper
 from ._hints import hint
@@ -471,7 +471,7 @@ class _ServerWaits(AtomicBlocks):
         ready = threading.Lock()  # held until the request is known
         with ready:
             try:
-                line = f"wait{wait.submission.line().removeprefix(SUBMIT.word)}"
+                line = f"wait{wait.run.line().removeprefix(ATOMICALLY.word)}"
                 asked.append(self._session.begin([line], partial(self._over, wait, asked, ready)))
                 self._requests[wait] = asked[0]
             except DeskError as error:
@@ -500,7 +500,7 @@ class _ServerWaits(AtomicBlocks):
         words = line.split(" ")
         try:
             if words[0] == "refused":
-                wait.end(error=self._answers.refusal(words, SUBMIT.word, wait.submission.text.lstrip()))
+                wait.end(error=self._answers.refusal(words, ATOMICALLY.word, wait.run.text.lstrip()))
             elif words[0] == "cancelled":
                 wait.end(error=Cancelled())
             elif words[0] == "finished":
@@ -512,4 +512,4 @@ class _ServerWaits(AtomicBlocks):
             else:
                 raise ValueError("no end of a block")
         except (ValueError, LookupError):
-            wait.end(error=BadAnswer(wait.submission.line(), line))
+            wait.end(error=BadAnswer(wait.run.line(), line))
