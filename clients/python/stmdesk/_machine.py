@@ -20,8 +20,11 @@ from ._numbers import Numbers, Range
 # Commands that change nothing, and those that may. A question that is the first command ends the declarations all the same.
 QUESTIONS = {b"try", b"looks", b"show", b"ready", b"reads", b"why", b"store", b"history", b"events", b"declared"}
 CHANGES = {
-    b"tvar", b"submit", b"take", b"deliver", b"handback", b"eval", b"finish", b"cancel", b"settle", b"drain", b"checkpoint", b"wait",
+    b"tvar", b"submit", b"atomically", b"take", b"deliver", b"handback", b"eval", b"finish", b"cancel", b"settle", b"drain", b"checkpoint",
+    b"wait",
 }  # fmt: skip
+# Those that give a block a ticket.
+SUBMISSIONS = {b"submit", b"atomically", b"wait"}
 # How the last line of an answer of many lines begins.
 LAST = {b"store": b"cells ", b"show": b"waiting ", b"events": b"events "}
 MARK = b"try return ()"  # a question whose answer begins with no brace: it ends a history
@@ -227,7 +230,7 @@ class Machine:
         for kind, name, *rest in items:
             if kind == "req":
                 number, acks, lines = rest
-                self._request(name, number, acks, lines, script)
+                await self._request(name, number, acks, lines, script)
                 continue
             await self._flush(script)
             if kind == "open":
@@ -283,7 +286,7 @@ class Machine:
                 old = session.requests.pop(it, None)
                 session.stored -= old.size if old else 0
 
-    def _request(self, name: str, number: int, acks: Sequence[Range], lines: Lines, script: list[Given]) -> None:
+    async def _request(self, name: str, number: int, acks: Sequence[Range], lines: Lines, script: list[Given]) -> None:
         session = self.sessions.get(name)
         if session is None:
             self.done.append((name, number, b"NoSession"))
@@ -300,6 +303,8 @@ class Machine:
         else:
             session.requests[number] = Request([[] if word(it) is None else None for it in lines])
             for place, line in enumerate(lines):
+                if word(line) in SUBMISSIONS and len(self.waiting) + self._submissions >= self.max_waiting:
+                    await self._flush(script)  # some of the blocks in the script may end at once
                 self._line(line, (name, number, place), session.requests[number].slots, script)
             self._answered(name, number)
 
@@ -315,7 +320,7 @@ class Machine:
         if its in (b"settle", b"drain") and (self.waits or self._new_waits):
             slots[where[2]] = [b"refused Waits"]  # it wouldn't say what it finishes
             return
-        if its in (b"wait", b"submit") and len(self.waiting) + self._submissions >= self.max_waiting:
+        if its in SUBMISSIONS and len(self.waiting) + self._submissions >= self.max_waiting:
             slots[where[2]] = [b"refused WaitingFull"]
             return
         if its == b"tvar" and self.is_declaring:
@@ -331,7 +336,7 @@ class Machine:
             # At most this ticket. If a submission before it is refused, this one isn't given yet, and the rounds try the right one.
             ticket = self.next + self._submissions
             script += [Given(b"eval", "eval"), Given(b"finish %d" % ticket, "finish", None, ticket)]
-        self._submissions += its in (b"wait", b"submit")
+        self._submissions += its in SUBMISSIONS
         self._new_waits += its == b"wait"
 
     async def _flush(self, script: list[Given]) -> None:
@@ -378,10 +383,14 @@ class Machine:
     def _accepted(self, given: Given, answer: Lines) -> None:
         words = answer[0].split(b" ")
         self._count(given, words)
-        if given.word == b"submit":
+        if given.word in (b"submit", b"atomically"):
             ticket = int(words[1])
             self.next = ticket + 1
-            self.waiting[ticket] = given.line.strip(b"\t\r ")[6:].strip(b"\t\r ")
+            if words[0] == b"finished":  # by `atomically`, so it never waited
+                self._finished(words)
+                self._fill(given.where, answer)
+                return
+            self.waiting[ticket] = given.line.strip(b"\t\r ")[len(given.word) :].strip(b"\t\r ")
             if given.kind == "wait" and given.where:
                 self.waits[ticket] = given.where
                 self.due.add(ticket)
@@ -394,13 +403,17 @@ class Machine:
             self.declared[-1] = b"%s %s : %s" % (words[1], name.strip(), b" ".join(kind.split()))
         elif given.word == b"finish":
             self._over(int(words[1]), answer)
-            if b"stale" in words and words[-1] != b"none":
-                stale = map(int, words[words.index(b"stale") + 1 :])
-                self.due.update(it for it in stale if it in self.waits)
+            self._finished(words)
         elif given.word == b"cancel":
             self._over(int(words[1]), answer)
         if given.kind in ("line", "declared"):
             self._fill(given.where, answer)
+
+    def _finished(self, words: list[bytes]) -> None:
+        """Of what a finish made stale, the blocks of waits may be able to finish now."""
+        if b"stale" in words and words[-1] != b"none":
+            stale = map(int, words[words.index(b"stale") + 1 :])
+            self.due.update(it for it in stale if it in self.waits)
 
     def _keeps(self, name: str) -> bool:
         return name not in self.sessions or self.sessions[name].keeps
@@ -417,6 +430,10 @@ class Machine:
             self.counts["finished"] += given.word == b"finish"
             self.counts["evaluations"] += given.word == b"deliver"
             self.counts["cancelled"] += given.word == b"cancel"
+        elif given.word == b"atomically":
+            events = 3 if words[0] == b"finished" else 2
+            self.counts["evaluations"] += 1
+            self.counts["finished"] += words[0] == b"finished"
         elif given.word == b"eval":
             events = int(words[1])
             self.counts["evaluations"] += events
