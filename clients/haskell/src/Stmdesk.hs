@@ -28,9 +28,9 @@ module Stmdesk
   , render, Limit (..)
     -- * Desks
   , Desk, Options (..), Sync (..), defaults, withDesk, findProgram, declareVar, declareVars, atomically, atomicallyWithin, tryBlock, looks
-  , submit, eval, finish, cancel, ready, standings, readsOf, why, board, store, settle, drain, checkpoint, history
+  , submit, eval, finish, atomicallyNow, cancel, ready, standings, readsOf, why, board, store, settle, drain, checkpoint, history
     -- * Answers
-  , Value (..), Ticket, ticketNumber, Verdict (..), Finished (..), Standing (..), Reason (..), Cell (..), Settled (..)
+  , Value (..), Ticket, ticketNumber, Verdict (..), Finished (..), Ran (..), Standing (..), Reason (..), Cell (..), Settled (..)
     -- * What is thrown
   , Refused (..), DeskError (..), Fault (..)
     -- * On GHC

@@ -108,6 +108,47 @@ desks path =
       checkpoint desk >>= (`is` 3)
       length <$> standings desk >>= (`is` 2)
       tryBlock desk (readVar x) >>= (`is` Commits [] [] 2)
+  , test "transactions at once" $ on $ \desk -> do
+      _ <- declareVar desk x
+      atomicallyNow desk (modifyVar x (+ 1)) >>= shows' "Ran (ticket 1) (Finished () [])"
+      answer <- atomicallyNow desk (atLeast 5)
+      shows' "Waiting (ticket 2)" answer
+      standings desk >>= (`is` [(2, Current Blocks)]) . numbered
+      atomicallyNow desk (writeVar x 5 >> pure x) >>= shows' "Ran (ticket 3) (Finished (Var (Ref 0 (Just \"x\"))) [ticket 2])"
+      standings desk >>= (`is` [(2, Stale Blocks)]) . numbered
+      atomicallyNow desk (throwInt 4 :: Block ()) >>= shows' "Ran (ticket 4) (FinishedThrows (Thrown 4))"
+      atomicallyNow desk (newVar true) >>= shows' "Ran (ticket 5) (Finished (Var (Ref 1 Nothing)) [])"
+      it <- throws (atomicallyNow desk (readVar y))
+      (refused it, refusedAt it, refusedLine it) `is` (Refusal.Unknown, Just 9, "atomically readTVar y")
+      throws (atomicallyNow desk (pure (9223372036854775808 :: Exp Int))) >>= (`is` NumberOutOfRange 9223372036854775808)
+      _ <- eval desk
+      -- the ticket of a block that waited knows its type
+      case answer of
+        Waiting ticket -> finish desk ticket >>= shows' "Finished 5 []"
+        Ran _ _ -> fail "it can't have finished"
+  , test "transactions at once beside blocks that wait" $ on $ \desk -> do
+      _ <- declareVar desk x
+      ends <- mapM (inThread . atomically desk . atLeast) [5, 6]
+      untilWaits desk 2
+      atomicallyNow desk (writeVar x 6) >>= shows' "Ran (ticket 3) (Finished () [ticket 1,ticket 2])"
+      mapM joined ends >>= (`is` [6, 6])
+      atomically desk (readVar x) >>= (`is` 6)
+      atomicallyNow desk (readVar x) >>= shows' "Ran (ticket 5) (Finished 6 [])"
+      -- what waits by it isn't finished by anybody else's block
+      atomicallyNow desk (atLeast 9) >>= shows' "Waiting (ticket 6)"
+      atomically desk (writeVar x 9)
+      atomically desk (pure ())
+      standings desk >>= (`is` [(6, Current (Commits [] [] (IntValue 9)))]) . numbered
+      settle desk >>= (`is` Settled 1 0 Nothing)
+  , test "transactions at once in a full history" $ withDesk options {maxEvents = Just 4} $ \desk -> do
+      refused' Refusal.Unknown (atomicallyNow desk (readVar y))
+      atomicallyNow desk (retry :: Block ()) >>= shows' "Waiting (ticket 1)"
+      refused' Refusal.HistoryFull (atomicallyNow desk (pure ()))
+      atomicallyNow desk (retry :: Block ()) >>= shows' "Waiting (ticket 2)"
+      refused' Refusal.HistoryFull (atomicallyNow desk (retry :: Block ()))
+      standings desk >>= (`is` [(1, Current Blocks), (2, Current Blocks)]) . numbered
+      checkpoint desk >>= (`is` 4)
+      atomicallyNow desk (pure true) >>= shows' "Ran (ticket 3) (Finished True [])"
   , test "threads that count" $ on $ \desk -> do
       _ <- declareVar desk x
       ends <- replicateM 8 (inThread (replicateM_ 50 (atomically desk (modifyVar x (+ 1)))))
@@ -133,11 +174,12 @@ desks path =
         _ <- store desk
         _ <- history desk
         atomically desk (modifyVar x (+ 1))
+        _ <- atomicallyNow desk (modifyVar x (+ 1))
         when (even n) (cancel desk ticket)
       mapM_ joined ends
       done <- settle desk
       finishedTickets done `is` 16
-      valueOf' desk x >>= (`is` 49)
+      valueOf' desk x >>= (`is` 81)
   , test "a wait that a finish of others ends" $ on $ \desk -> do
       _ <- declareVar desk x
       end <- inThread (atomically desk (atLeast 5))

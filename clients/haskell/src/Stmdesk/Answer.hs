@@ -3,11 +3,11 @@
 -- | What stmdesk prints (docs/CONSOLE.md), as values; and what goes wrong.
 module Stmdesk.Answer
   ( -- * Values
-    Value (..), Ticket (..), Verdict (..), Finished (..), Standing (..), Reason (..), Cell (..), Settled (..)
+    Value (..), Ticket (..), Verdict (..), Finished (..), Ran (..), Standing (..), Reason (..), Cell (..), Settled (..)
     -- * What goes wrong
   , Refused (..), DeskError (..)
     -- * Reading: 'Nothing' if stmdesk never prints such a text
-  , Names, Words, valueOf, fromValue, refOf, assignments, verdict, finished, standing, reason, cells, settled, numberAfter, tickets
+  , Names, Words, valueOf, fromValue, refOf, assignments, verdict, finished, ran, standing, reason, cells, settled, numberAfter, tickets
   , refusal, decimal
   ) where
 
@@ -47,6 +47,10 @@ data Verdict a
 -- | What a finish did: the block's result, and the tickets that this made stale; or what the block threw, which changed nothing.
 data Finished a = Finished a [Ticket Value] | FinishedThrows Fault
   deriving (Show, Functor, Foldable, Traversable)
+
+-- | What a transaction at once did: the block blocks, and waits under this ticket; or it has finished, under this one.
+data Ran a = Waiting (Ticket a) | Ran (Ticket a) (Finished a)
+  deriving (Show)
 
 -- | How a waiting block stands: never evaluated; evaluated, with a verdict that is out of date; or with one that counts.
 data Standing = New | Stale (Verdict Value) | Current (Verdict Value)
@@ -187,6 +191,13 @@ finished :: Names -> Words -> Maybe (Finished Value)
 finished names them = case them of
   ["finished", _, "throws", it] -> FinishedThrows <$> fault it
   "finished" : _ : "result" : it : "stale" : stale -> Finished <$> valueOf names it <*> tickets stale
+  _ -> Nothing
+
+-- | @waits 3@, or what a finish prints; with what reads the result
+ran :: (Value -> Maybe a) -> Names -> Words -> Maybe (Ran a)
+ran reading names them = case them of
+  ["waits", it] -> Waiting . (`Ticket` reading) <$> decimal it
+  "finished" : it : _ -> Ran . (`Ticket` reading) <$> decimal it <*> (finished names them >>= traverse reading)
   _ -> Nothing
 
 -- | @1 3@, or @none@

@@ -5,8 +5,8 @@ module Stmdesk.Desk
   ( -- * A desk
     Desk, Options (..), Sync (..), defaults, withDesk, withTransport
     -- * Commands
-  , declareVar, declareVars, tryBlock, looks, submit, eval, finish, cancel, standings, ready, readsOf, why, board, store, settle, drain
-  , checkpoint, history
+  , declareVar, declareVars, tryBlock, looks, submit, eval, finish, atomicallyNow, cancel, standings, ready, readsOf, why, board, store
+  , settle, drain, checkpoint, history
     -- * Transactions
   , atomically, atomicallyWithin
   ) where
@@ -225,6 +225,19 @@ eval desk = askOne desk "eval" (const (numberAfter "evaluated"))
 -- Finished True []
 finish :: Desk -> Ticket a -> IO (Finished a)
 finish desk it = askOne desk (about "finish " it) (\known them -> finished known them >>= traverse (readResult it))
+
+-- | Submits, evaluates and finishes a block, as one: the console's @atomically@. If the block blocks it isn't finished, and waits under
+-- its ticket, current; 'atomically' waits for its result, and this doesn't. If it is refused, it has no ticket. Other tickets stay as they
+-- are, but for those that the finish makes stale.
+--
+-- >>> withDesk defaults (\desk -> atomicallyNow desk (pure true))
+-- Ran (ticket 1) (Finished True [])
+-- >>> withDesk defaults (\desk -> atomicallyNow desk (retry :: Block ()))
+-- Waiting (ticket 1)
+atomicallyNow :: forall r. Result r => Desk -> Block r -> IO (Ran (Returned r))
+atomicallyNow desk block = do
+  line <- lineOf "atomically " block
+  askOne desk line (ran (fromValue typeOf))
 
 -- | Ends the waiting of a ticket.
 --
@@ -505,7 +518,7 @@ itemsOf console next some = case some of
       else (((lineOfWait wait, submitted console wait) : maybe [] (tries console) next) ++) <$> itemsOf console (fmap (+ 1) next) rest
   _ -> pure []
   where
-    after line = if "submit " `Bytes.isPrefixOf` line then fmap (+ 1) next else next
+    after line = if any (`Bytes.isPrefixOf` line) ["submit ", "atomically "] then fmap (+ 1) next else next
 
 -- | What evaluates all, and tries to finish a ticket.
 tries :: Console -> Int -> [Item]
@@ -582,7 +595,7 @@ exchange console items = do
       give (consoleOf console) (Bytes.unlines (concatMap (sent . fst) some))
       forM_ some $ \(line, act) -> do
         answer <- answerTo console line
-        see console answer
+        see console line answer
         act answer
     sent line = if line == "history" then [line, "take 0"] else [line]
 
@@ -596,16 +609,19 @@ parts items = case items of
     fit total (it : rest) | total + size it <= 4096 = let (some, others) = fit (total + size it) rest in (it : some, others)
     fit _ rest = ([], rest)
 
--- | Looks at an answer for what it says of blocks of 'atomically', whoever asked.
-see :: Console -> [ByteString] -> IO ()
-see console answer = case map Bytes.words answer of
-  [["ticket", it]] -> with it (\ticket now -> now {lastTicket = Just ticket})
+-- | Looks at the answer to a line for what it says of blocks of 'atomically', whoever asked.
+see :: Console -> ByteString -> [ByteString] -> IO ()
+see console line answer = case map Bytes.words answer of
+  [["ticket", it]] -> given it
+  [["waits", it]] -> given it
   [["cancelled", it]] -> ending it (Left (toException Cancelled)) []
-  ["finished" : it : rest] -> ending it (Right (Bytes.concat answer)) (drop 3 rest)  -- after its result, or what it throws
+  ["finished" : it : rest] -> do
+    when ("atomically " `Bytes.isPrefixOf` line) (given it)
+    ending it (Right (Bytes.concat answer)) (drop 3 rest)  -- after its result, or what it throws
   [["checkpoint", _]] -> modifyIORef' (waits console) (\now -> now {mayCancel = not (IntSet.null (unwanted now))})
   _ -> pure ()
   where
-    with it f = forM_ (decimal it) (\ticket -> modifyIORef' (waits console) (f ticket))
+    given it = forM_ (decimal it) (\ticket -> modifyIORef' (waits console) (\now -> now {lastTicket = Just ticket}))
     ending it outcome stale = forM_ (decimal it) $ \ticket -> do
       now <- readIORef (waits console)
       let left = IntMap.delete ticket (byTicket now)
