@@ -45,7 +45,7 @@ import stmdesk
 from stmdesk import (
     BadAnswer, Blocks, Cancellation, Cell, Change, ClientAt, Commits, Current, Delivery, Desk, Ended, FinalCell, Finish, Finished,
     FinishedThrows, Job, JournalError, New, NewRef, Ready, Ref, Refused, ScriptRefused, Settled, Stale, StaleBefore, StaleBy, Stopped,
-    Submission, Throws, Waiting, Waits, _commands, _helper, _hints, _program, aio, check, explore, find_program,
+    Submission, Throws, Waiting, Waits, _commands, _desk, _helper, _hints, _program, aio, check, explore, find_program,
 )  # fmt: skip
 
 HERE = pathlib.Path(__file__).resolve().parent
@@ -1717,6 +1717,55 @@ class Atomically(InThreads):
         self.assert_is([it.ticket for it in desk.events() if isinstance(it, Finish)], [1, 3, 4])
         self.assertEqual(len(desk.events()), 3 + 2 + 3 + 3)
 
+    def test_what_a_full_history_left_is_cancelled(self):
+        """Blocks whose calls have raised HistoryFull wait until there is room to cancel them."""
+        for is_batch in (False, True):
+            desk = self.start(max_events=6)
+            other = desk.submit("retry")
+            waits = self.waiting_after(desk, other, "retry", "retry")
+            self.assert_refused(lambda desk=desk: desk.atomically("retry"), "HistoryFull")
+            for wait in waits:
+                self.assert_refused(wait.result, "HistoryFull")
+            with self.assertRaises(Refused):
+                desk.atomically("retry", timeout=0)
+            self.assertEqual(len(desk.show()), 3)
+            if is_batch:
+                with desk.batch() as batch:
+                    batch.checkpoint()
+                    batch.cancel(2)  # one that was left, so the other remains
+            else:
+                desk.checkpoint()
+            while [it.ticket for it in desk.show()] != [other]:
+                time.sleep(0.001)
+            self.assert_is(desk.atomically("return 1"), 1)
+            self.assertEqual([it.ticket for it in desk.events() if isinstance(it, Cancellation)], [2, 3])
+
+    def test_what_a_full_history_left_and_others_finish(self):
+        desk = self.start(max_events=7)
+        waits = self.waiting(desk, waits_for(5), "retry")
+        for _ in range(2):
+            desk.submit("writeTVar x 5")
+        self.assert_refused(lambda: desk.atomically("return 1"), "HistoryFull")
+        for wait in waits:
+            self.assert_refused(wait.result, "HistoryFull")
+        with desk.batch() as batch:
+            batch.checkpoint()
+            settled = batch.settle()
+        self.assert_is(settled.result(), Settled(3, 3))
+        while desk.show():
+            time.sleep(0.001)
+        desk.checkpoint()
+        self.assert_is([desk.atomically("return 1"), desk.value("x")], [1, 5])
+
+    def waiting_after(self, desk, other, *blocks):
+        """Futures of blocks that wait beside a ticket that is evaluated with the first of them."""
+        desk.eval()
+        futures = []
+        for number, block in enumerate(blocks, 1):
+            futures.append(self.begin(desk.atomically, block))
+            self.until_blocked(desk, other, *range(other + 1, other + number + 1))
+        return futures
+
     def test_blocks_of_which_some_are_refused(self):
         desk = self.start()
         desk.atomically("return 1")
@@ -1800,6 +1849,39 @@ class Interrupted(InThreads):
         wanted.set()
         sender.result()
         self.assertTrue(done <= desk.value("x") - 1 <= done + broken)
+        self.assert_is(desk.show(), [])
+
+    def test_a_signal_that_was_missed(self):
+        """Python runs no handler for a signal that comes just before it sleeps on a lock. The next look at it does."""
+
+        class Missing:  # a lock whose first wait notices no signal
+            def __init__(self):
+                self.lock, self.waits = lock(), 0
+
+            def __getattr__(self, name):
+                return getattr(self.lock, name)
+
+            def acquire(self, blocking=True, timeout=-1):
+                self.waits += self.lock.locked()
+                if self.waits != 1 or threading.current_thread() is not threading.main_thread():
+                    return self.lock.acquire(blocking, timeout)
+                signal.pthread_sigmask(signal.SIG_BLOCK, [signal.SIGUSR1])
+                try:
+                    signal.raise_signal(signal.SIGUSR1)
+                    return self.lock.acquire(blocking, timeout)
+                finally:
+                    signal.pthread_sigmask(signal.SIG_UNBLOCK, [signal.SIGUSR1])
+
+        def interrupt(number, frame):
+            raise KeyboardInterrupt
+
+        lock = threading.Lock
+        signal.signal(signal.SIGUSR1, interrupt)
+        desk = self.start()
+        desk.atomically("return 1")  # so that its thread has locks of the usual kind
+        with mock.patch.object(_desk, "SIGNALS", 0.01), mock.patch.object(_desk.threading, "Lock", Missing):
+            with self.assertRaises(KeyboardInterrupt):
+                desk.atomically("retry")
         self.assert_is(desk.show(), [])
 
     def test_a_handler_can_not_call_it_in_the_midst_of_a_call(self):
@@ -2826,7 +2908,7 @@ class Explorations(OnProgram):
         self.assertEqual(found, found[:1] * 8)
 
 
-class Journals(OnProgram):
+class Journals(InThreads):
     def setUp(self):
         super().setUp()
         folder = tempfile.TemporaryDirectory()
@@ -2940,6 +3022,202 @@ class Journals(OnProgram):
             self.assert_is(desk.atomically("writeTVar x 5"), None)
             self.assert_is(desk.eval(), 1)
             self.assert_is(desk.finish(1), Finished(1, 5, []))
+
+    def after_a_kill(self, code):
+        """Runs a script that opens the journal as `desk` and prints `ready`, kills its process then, and opens the journal."""
+        script = "import sys, threading\nimport stmdesk\ndesk = stmdesk.Desk(sys.argv[1], journal=sys.argv[2])\n" + code
+        environment = {**os.environ, "PYTHONPATH": str(HERE), "PYTHONDONTWRITEBYTECODE": "1"}
+        words = [sys.executable, "-c", script, program, str(self.path)]
+        with subprocess.Popen(words, stdout=subprocess.PIPE, env=environment, text=True) as process:
+            try:
+                self.assertEqual(process.stdout.readline(), "ready\n")
+            finally:
+                process.kill()
+        while True:  # the program has the file until it has noticed the end of its input
+            try:
+                return self.open()
+            except JournalError as error:
+                self.assertIn("in use", str(error))
+                time.sleep(0.01)
+
+    def test_orphans_of_a_killed_process(self):
+        code = """if 1:
+            desk.tvar("x : Int = 1")
+            desk.submit("do { a <- readTVar x; if a < 7 then retry else return a }")
+            for number in (5, 6):
+                block = f"do {{ a <- readTVar x; if a < {number} then retry else return a }}"
+                threading.Thread(target=desk.atomically, args=(block,)).start()
+                while len(desk.show()) < number - 3:
+                    pass
+            assert desk.orphans() == []
+            if len(desk.show()) == 3:
+                desk.checkpoint() if CHECKPOINT else None
+                print("ready", flush=True)
+        """
+        for is_short in (False, True):
+            self.path = self.path.with_name(f"{is_short}")
+            with self.after_a_kill(code.replace("CHECKPOINT", str(is_short))) as desk:
+                self.assert_is((desk.is_resumed, desk.orphans()), (True, [1, 2, 3]))
+                own = desk.submit("retry")
+                waiting = []
+                thread = threading.Thread(target=lambda desk=desk, waiting=waiting: waiting.append(desk.atomically(waits_for(9))))
+                thread.start()
+                while len(desk.show()) < 5:
+                    time.sleep(0.001)
+                self.assert_is((own, desk.orphans()), (4, [1, 2, 3]))
+                desk.eval()
+                with desk.batch() as batch:
+                    batch.atomically("writeTVar x 5")
+                    taken = batch.take(10)
+                self.assert_is([it.ticket for it in taken.result()], [1, 2, 3, 5])
+                self.assert_is(desk.orphans(), [1, 2, 3])  # they stay, whoever evaluates them
+                desk.deliver(2)
+                desk.checkpoint()
+                self.assert_is(desk.orphans(), [1, 2, 3])
+                self.assert_is(desk.finish(2), Finished(2, 5, []))
+                self.assert_is(desk.orphans(), [1, 3])
+                desk.cancel(3)
+                self.assert_is(desk.orphans(), [1])
+                desk.atomically("writeTVar x 9")
+                thread.join()
+                self.assert_is(waiting, [9])
+                self.assert_is(desk.drain(), Settled(1, 1))
+                self.assert_is((desk.orphans(), [it.ticket for it in desk.show()]), ([], [own]))
+            with self.assertRaises(ValueError):
+                desk.orphans()
+            with self.open() as desk:  # a ticket of the process before is one now
+                self.assert_is(desk.orphans(), [own])
+            self.assertTrue(check(self.path, program=program))
+
+    def test_orphans_of_a_process_that_is_killed_within_asyncio(self):
+        code = """if 1:
+            import asyncio
+            from stmdesk import aio
+            desk.close()
+            async def main():
+                async with aio.Desk(sys.argv[1], journal=sys.argv[2]) as desk:
+                    waits = [asyncio.ensure_future(desk.atomically("retry")) for _ in range(3)]
+                    while len(await desk.show()) < 3:
+                        pass
+                    waits[1].cancel()
+                    while len(await desk.show()) > 2:
+                        pass
+                    print("ready", flush=True)
+                    await asyncio.wait(waits)
+            asyncio.run(main())
+        """
+
+        async def main():
+            async with aio.Desk(program, journal=self.path) as desk:
+                self.assert_is(await desk.orphans(), [1, 3])
+                task = asyncio.create_task(desk.atomically("retry"))
+                while len(await desk.show()) < 3:
+                    await asyncio.sleep(0.001)
+                for ticket in await desk.orphans():
+                    await desk.cancel(ticket)
+                self.assert_is((await desk.orphans(), [it.ticket for it in await desk.show()]), ([], [4]))
+                task.cancel()
+
+        self.after_a_kill(code).close()
+        asyncio.run(main())
+        with self.open() as desk:
+            self.assert_is((desk.orphans(), desk.show()), ([], []))
+
+    def test_orphans_of_a_new_desk(self):
+        """To ask for them ends no declarations."""
+        with self.open() as desk:
+            self.assert_is((desk.orphans(), desk.variable("x : Int = 1")), ([], X))
+            desk.submit("retry")
+            self.assert_is(desk.orphans(), [])
+        with self.open() as desk:
+            self.assert_is((desk.orphans(), desk.show()), ([1], [New(1)]))
+            desk.cancel(1)
+            self.assert_is((desk.orphans(), desk.orphans()), ([], []))
+        with Desk(program) as desk:
+            desk.submit("retry")
+            self.assert_is(desk.orphans(), [])
+
+    def test_calls_that_end_leave_no_orphan(self):
+        """Blocks whose calls timed out, were interrupted or cancelled don't wait in the journal, however soon the desk is closed."""
+        self.path.touch()
+
+        def timeouts():
+            with self.open() as desk:
+                for error in in_threads(4, lambda: desk.atomically("retry", timeout=0.001)):
+                    self.assertIsInstance(error, stmdesk.TimedOut)
+
+        def interrupted():
+            def interrupt(number, frame):
+                raise KeyboardInterrupt
+
+            def send():
+                while not desk.show():
+                    time.sleep(0.001)
+                signal.pthread_kill(threading.main_thread().ident, signal.SIGUSR1)
+
+            signal.signal(signal.SIGUSR1, interrupt)
+            with self.assertRaises(KeyboardInterrupt), self.open() as desk:
+                sender = threading.Thread(target=send)
+                sender.start()
+                try:
+                    desk.atomically("retry")
+                finally:
+                    sender.join()
+
+        async def cancelled(is_kept):
+            tasks = []
+            async with aio.Desk(program, journal=self.path) as desk:
+                tasks += [asyncio.create_task(desk.atomically("retry")) for _ in range(20)]
+                while len(await desk.show()) < 20:
+                    await asyncio.sleep(0.001)
+                for it in tasks:
+                    it.cancel()
+                await asyncio.gather(*tasks, return_exceptions=True)
+                if not is_kept:
+                    raise KeyError
+
+        async def cancelled_itself(desks):
+            async with aio.Desk(program, journal=self.path) as desk:
+                desks.append(desk)
+                await desk.atomically("retry")
+
+        async def a_task_of_that():
+            desks = []
+            task = asyncio.create_task(cancelled_itself(desks))
+            while not desks or not await desks[0].show():
+                await asyncio.sleep(0.001)
+            task.cancel()
+            with self.assertRaises(asyncio.CancelledError):
+                await task
+
+        def raising():
+            with self.assertRaises(KeyError):
+                asyncio.run(cancelled(False))
+
+        for end in (timeouts, interrupted, lambda: asyncio.run(cancelled(True)), raising, lambda: asyncio.run(a_task_of_that())):
+            for _ in range(3):
+                end()
+                with self.open() as desk:
+                    self.assert_is((desk.orphans(), desk.show()), ([], []))
+
+    def test_a_program_that_hangs_when_calls_were_given_up(self):
+        """Then the end of the desk waits for its patience, and kills it."""
+        path = self.stand_in("read line", "echo waits 1", "sleep 1000")
+        for is_kept in (True, False):
+            desk = Desk(path, patience=0.1)
+            (error,) = in_threads(1, partial(self.give_up_and_end, desk, is_kept))
+            self.assertIsInstance(error, Ended)
+            self.assert_gone(desk.pid)
+
+    def give_up_and_end(self, desk, is_kept):
+        def end():
+            while not desk._waits._leaving:
+                time.sleep(0.001)
+            with contextlib.suppress(Ended):
+                desk.close() if is_kept else desk.__exit__(KeyError, KeyError(), None)
+
+        self.begin(end)
+        desk.atomically("retry", timeout=0)
 
     def test_a_torn_end(self):
         with self.open() as desk:

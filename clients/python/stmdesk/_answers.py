@@ -145,6 +145,10 @@ class Answers:
         """The lines of `show`"""
         return [self.status(line.split(" ")) for line in counted(lines)]
 
+    def waiting(self, lines: Sequence[str]) -> list[int]:
+        """The tickets of the lines of `show`"""
+        return [int(line.partition(" ")[0]) for line in counted(lines)]
+
     def tickets(self, words: Sequence[str]) -> list[int]:
         """`ready 1 3`, or `ready none`"""
         return [int(word) for word in words[1:] if word != "none"]

@@ -158,6 +158,8 @@ CHECKPOINT: Command[int] = Command("checkpoint", Answers.second, "checkpoint")
 SHOW: Command[list[Status]] = Command(
     "show", Answers.statuses, take=_lines_to("waiting ", tuple("123456789"), lambda: WAITING_LIMIT)
 )
+# The tickets alone of what `show` prints.
+WAITING: Command[list[int]] = Command("show", Answers.waiting, take=SHOW.take)
 STORE: Command[Store] = Command("store", Answers.cells, take=_lines_to("cells ", ("#",), lambda: CELLS_LIMIT))
 EVENTS: Command[Events] = Command("events", Answers.events, take=_lines_to("events ", ("{",), lambda: EVENTS_LIMIT))
 # Of a server alone: the variables that anybody has declared. It ends no declarations.

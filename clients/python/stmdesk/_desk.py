@@ -2,9 +2,11 @@
 
 from __future__ import annotations
 
+import math
 import os
 import re
 import threading
+import time
 from collections.abc import Iterable, Iterator, Sequence
 from copy import copy
 from threading import get_ident
@@ -15,7 +17,7 @@ from ._answers import Answers
 from ._batch import Batch
 from ._commands import (
     CANCEL, CHECKPOINT, DECLARED, DELIVER, DRAIN, EVAL, EVENTS, FINISH, HANDBACK, HISTORY, LOOKS, READS, READY, SETTLE, SHOW, STORE, SUBMIT, TAKE,
-    TRY, TVAR, WHY, Answer, Command, decimal, number_of,
+    TRY, TVAR, WAITING, WHY, Answer, Command, decimal, number_of,
 )  # fmt: skip
 from ._errors import BadAnswer, Cancelled, Refused, TimedOut
 from ._program import Process, check_built, find_program, is_ours
@@ -24,6 +26,7 @@ from ._values import Commits, Events, Finished, FinishedThrows, Job, Reason, Ref
 from ._waits import Wait
 
 PATIENCE = 5.0  # seconds that the program has to end after its input has ended
+SIGNALS = 1.0  # seconds after which the main thread looks for a signal that it has missed
 FEW = 8  # commands that are sent in one go whatever their length
 
 Sync = Literal["full", "append", "none"]
@@ -103,6 +106,7 @@ class Desk:
         self._beginning = threading.Lock()  # so that two threads don't begin it
         self._is_resumed = False
         self._dropped = 0
+        self._inherited: set[int] = set()  # tickets that waited when the journal was opened, and may still wait
         self._transport = transport
 
     @classmethod
@@ -133,6 +137,9 @@ class Desk:
                 store = Answer(STORE)
                 self._perform((store,))
                 self._answers.go_on(store.result())
+                waiting = Answer(WAITING)
+                self._perform((waiting,))
+                self._inherited = set(waiting.result())
                 self._is_resumed = True
 
     # One method for each command.
@@ -409,9 +416,10 @@ class Desk:
         wait = Wait(block, over.release)
         waits = self._begin_waits()
         is_late = False
+        is_main = threading.current_thread() is threading.main_thread()
         try:
-            waits.ask(wait, by_helper=threading.current_thread() is threading.main_thread())
-            if not over.acquire(timeout=-1 if timeout is None else min(max(timeout, 0), threading.TIMEOUT_MAX)):
+            waits.ask(wait, by_helper=is_main)
+            if not _acquire(over, -1 if timeout is None else min(max(timeout, 0), threading.TIMEOUT_MAX), is_main):
                 is_late = True
                 waits.give_up(wait, withdraw=False)
                 over.acquire()
@@ -433,6 +441,25 @@ class Desk:
             if self._waits is None:
                 self._waits = self._transport.waits(self._calls, self._perform, self._answers, self._patience)
             return self._waits
+
+    def orphans(self) -> list[int]:
+        """The tickets that waited already when this desk went on from its journal, and still wait, in ascending order. There is no call
+        any more that would get their results, so finish or cancel them.
+
+        Such are the blocks of each `atomically` in which the last process was when it died, or when it closed the desk. A history doesn't
+        say by which command a block came, so they are also what was given by `submit` and hadn't ended; leave out those that you know of. A
+        ticket that this process has out by `take` is among them as long as it waits, since nobody waits for its result. One that this
+        process submitted never is. No checkpoint changes them. A desk without a journal, and one of `connect`, has none.
+
+        >>> desk.orphans()
+        []
+        """
+        self._transport.check_owner()
+        if self._is_closed:
+            raise ValueError("the desk is closed")
+        if self._inherited:  # otherwise nothing is sent, since that would end the declarations of a new desk
+            self._inherited.intersection_update(self._ask(WAITING))
+        return sorted(self._inherited)
 
     def batch(self) -> Batch:
         """Commands that are sent in one go when the `with` of the batch ends.
@@ -472,7 +499,8 @@ class Desk:
         return self._dropped
 
     def close(self) -> None:
-        """Ends the program's input and waits for the program to end; kills it if that takes more than `patience` seconds.
+        """Ends the program's input and waits for the program to end; kills it if that takes more than `patience` seconds. Before that, it
+        waits as long for blocks of `atomically` to be cancelled that timed out or were broken off.
 
         Raises `Ended` if the exit status isn't 0 and no call has raised `Ended` yet. A second `close` does nothing, and neither does one
         in a forked process.
@@ -483,6 +511,7 @@ class Desk:
         if self._is_closed or not self._transport.is_owner():
             return
         self._is_closed = True
+        self._let_go()
         error = self._transport.close(self._patience)
         if error:
             raise error
@@ -495,7 +524,13 @@ class Desk:
             self.close()
         elif self._transport.is_owner():
             self._is_closed = True
+            self._let_go()
             self._transport.kill()
+
+    def _let_go(self) -> None:
+        """Waits until blocks of `atomically` that were given up are cancelled, so that no journal has them."""
+        if self._waits is not None and not self._transport.end:
+            self._waits.let_go(self._patience)
 
     # Lines out, lines in.
 
@@ -578,6 +613,18 @@ class Desk:
                 process.kill()
                 raise BadAnswer(it.line(), said if isinstance(said, str) else "\n".join(said)) from None
             raise
+
+
+def _acquire(lock: threading.Lock, timeout: float, is_main: bool) -> bool:
+    """Acquires the lock in this time; -1 is for ever. The main thread wakes up now and then: Python runs no handler for a signal that comes
+    in the moment in which it begins to sleep on a lock."""
+    if not is_main:
+        return lock.acquire(timeout=timeout)
+    end = time.monotonic() + timeout if timeout >= 0 else math.inf
+    while not lock.acquire(timeout=max(0.0, min(SIGNALS, end - time.monotonic()))):
+        if time.monotonic() >= end:
+            return False
+    return True
 
 
 def _one_text(kind: str) -> str:

@@ -40,6 +40,10 @@ class AtomicBlocks(ABC):
         """Ends a wait with `Cancelled`, unless it has another outcome first. A block that isn't submitted yet is withdrawn, or else
         tried once."""
 
+    def let_go(self, patience: float) -> None:
+        """Waits until what was given up is cancelled, for at most `patience` seconds, if this desk itself has to care for that."""
+        return
+
     def is_any(self) -> bool:
         """Whether this desk itself has to care for a block that waits. Needs the lock."""
         return False

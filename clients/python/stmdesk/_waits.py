@@ -2,6 +2,7 @@
 
 from __future__ import annotations
 
+import threading
 import weakref
 from collections import deque
 from collections.abc import Callable, Sequence
@@ -9,7 +10,7 @@ from contextlib import AbstractContextManager
 from copy import copy
 from typing import Any
 
-from ._commands import ATOMICALLY, CANCEL, EVAL, FINISH, HANDBACK, Answer
+from ._commands import ATOMICALLY, CANCEL, CHECKPOINT, EVAL, FINISH, HANDBACK, Answer
 from ._errors import Cancelled, DeskError, Refused, Thrown
 from ._fork import Owned
 from ._helper import Helper
@@ -52,13 +53,19 @@ class Waits(Owned, AtomicBlocks):
     go on, leave that to the helper, a thread of the desk's own. Then the caller sleeps on a lock of its own, which is released
     when the outcome is there. The helper sleeps until a turn is queued or the program ends. So nobody polls.
 
-    Why no wake-up is lost: every command is given under the lock of the desk, and its answer is looked at under the same lock:
-    those of a round in `_round`, those of other calls in `see`. Whenever that lock is free, each ticket in `_waiting` is due,
-    or else it blocked when it was run or last tried, right after an evaluation, and no finish since then has named it as stale. The program names each ticket whose evaluation read what a finish changed. So a ticket that isn't due blocks
-    on the present store. While a ticket is due or a block is asked, a turn is under way or queued in the helper: whoever adds
-    one runs or queues a turn after that, and a turn ends when there is none, or queues another. Two commands of others need
-    care. `settle` and `drain` don't say what they finished, so the desk refuses them while something waits. A ticket that `take` has handed
-    out is left out by `eval`; its finish is then refused with `Stale` or `NotEvaluated`, so it is handed back and stays due.
+    Why no wake-up is lost: every command is given under the lock of the desk, and its answer is looked at under the same lock: those of a
+    round in `_round`, those of other calls in `see`. Whenever that lock is free, each ticket in `_waiting` is due, or else it blocked
+    when it was run or last tried, right after an evaluation, and no finish since then has named it as stale. The program names each
+    ticket whose evaluation read what a finish changed. So a ticket that isn't due blocks on the present store. While a ticket is due or a
+    block is asked, a turn is under way or queued in the helper: whoever adds one runs or queues a turn after that, and a turn ends when
+    there is none, or queues another. Two commands of others need care. `settle` and `drain` don't say what they finished, so the desk
+    refuses them while something waits. A ticket that `take` has handed out is left out by `eval`; its finish is then refused with `Stale`
+    or `NotEvaluated`, so it is handed back and stays due.
+
+    Why no block is left waiting though its call has ended: a call that ends without its block's outcome has given it up before, and what is
+    given up is cancelled by the next round. Two things can come between. The desk is closed: that waits for the round (`let_go`). Or the
+    history is full, so that nothing can be cancelled, and each call raises that: then the tickets are kept (`_left`), and cancelled
+    by the first round after which there is room. If the process dies, its tickets are what `Desk.orphans` returns in the next one.
     """
 
     def __init__(
@@ -72,12 +79,14 @@ class Waits(Owned, AtomicBlocks):
         self._lock, self._perform, self._process, self._patience = lock, perform, process, patience
         self._asked: deque[Wait] = deque()  # whose blocks aren't run yet
         self._given_up: deque[Wait] = deque()  # which are to be cancelled, each after it was asked
+        self._leaving: deque[Wait] = deque()  # the same, until they are
         # What follows is used with the lock only.
         self._new: list[Wait] = []  # whose blocks are being run
         self._waiting: dict[int, Wait] = {}  # by ticket
         self._due: set[int] = set()  # tickets that may be able to finish
         self._out: set[int] = set()  # those of them that somebody else has taken
         self._unwanted: set[int] = set()  # tickets to cancel
+        self._left: set[int] = set()  # tickets to cancel as soon as the history has room
         this = weakref.ref(self)  # so that the thread doesn't keep a desk alive that nobody uses
 
         def on_end() -> None:
@@ -104,8 +113,18 @@ class Waits(Owned, AtomicBlocks):
         """Ends a wait with `Cancelled`, unless it has another outcome first. A block that isn't run yet is withdrawn, or
         else tried once."""
         wait.is_withdrawn = withdraw
+        self._leaving.append(wait)
         self._given_up.append(wait)
         self.helper.run(self._turn, once=True)
+
+    def let_go(self, patience: float) -> None:
+        """Waits until what was given up is cancelled, for at most `patience` seconds."""
+        if all(it.is_over for it in self._leaving.copy()):
+            return
+        done = threading.Lock()
+        done.acquire()
+        self.helper.run(done.release)  # after the turn that `give_up` has queued
+        done.acquire(timeout=min(patience, threading.TIMEOUT_MAX))
 
     def is_any(self) -> bool:
         """Whether a block waits. Needs the lock."""
@@ -124,7 +143,9 @@ class Waits(Owned, AtomicBlocks):
                 done = answer.result()
                 if not isinstance(done, Waiting):
                     self._finished(done)
-        if self._due:
+            elif answer.command is CHECKPOINT:
+                self._has_room()
+        if self._due or self._unwanted:
             self.helper.run(self._turn, once=True)
 
     def _turn(self, only: Wait | None = None) -> None:
@@ -132,7 +153,7 @@ class Waits(Owned, AtomicBlocks):
         and leaves the rest to the helper. The helper leaves it to a later turn if it has something else to do: while tasks give
         blocks without end, their turns would go on, and a plain call of another task would wait as long."""
         is_first = True
-        while self._asked or self._due or self._given_up:
+        while self._asked or self._due or self._given_up or self._unwanted:
             if only is not None and (only.is_over or only.ticket is not None) or only is None and not is_first and self.helper.has_more():
                 self.helper.run(self._turn, once=True)
                 return
@@ -153,6 +174,8 @@ class Waits(Owned, AtomicBlocks):
 
     def _fail(self, error: Exception) -> None:
         """Ends every wait with the error."""
+        if isinstance(error, Refused):  # the history is full, and the program goes on
+            self._left |= self._waiting.keys() | self._unwanted
         failed = [*self._waiting.values(), *self._new, *self._asked, *self._given_up]
         self._waiting.clear()
         self._new.clear()
@@ -193,8 +216,12 @@ class Waits(Owned, AtomicBlocks):
         self._new.clear()
         if full is not None:
             raise full
+        if commands:
+            self._has_room()
         if given_up or self._unwanted:
             self._cancel(given_up)
+        while self._leaving and self._leaving[0].is_over:
+            self._leaving.popleft()
 
     def _ran(self, wait: Wait) -> Exception | None:
         """Looks at the answer to a run. Returns a refusal after which no block can finish any more."""
@@ -230,6 +257,7 @@ class Waits(Owned, AtomicBlocks):
     def _finished(self, done: Finished | FinishedThrows) -> None:
         wait = self._waiting.pop(done.ticket, None)
         self._due.discard(done.ticket)
+        self._left.discard(done.ticket)
         if isinstance(done, Finished):
             self._due.update(ticket for ticket in done.stale if ticket in self._waiting)
         if wait is not None:
@@ -241,8 +269,14 @@ class Waits(Owned, AtomicBlocks):
     def _cancelled(self, ticket: int) -> None:
         wait = self._waiting.pop(ticket, None)
         self._due.discard(ticket)
+        self._left.discard(ticket)
         if wait is not None:
             wait.end(error=Cancelled())
+
+    def _has_room(self) -> None:
+        """The history may have room again for what it refused to cancel."""
+        self._unwanted |= self._left
+        self._left.clear()
 
     def _cancel(self, given_up: Sequence[Wait]) -> None:
         for wait in given_up:
@@ -252,9 +286,15 @@ class Waits(Owned, AtomicBlocks):
         self._unwanted.clear()
         if cancels:
             self._perform(cancels)
+        full: Refused | None = None
         for cancel in cancels:
-            cancel.result()
-            self._cancelled(int(cancel.text))
+            if isinstance(cancel.error, Refused) and cancel.error.name == "HistoryFull":
+                full = cancel.error
+                self._left.add(int(cancel.text))
+            else:  # or refused as NoTicket: somebody has finished it since it was left
+                self._cancelled(int(cancel.text))
+        if full is not None:
+            raise full
 
 
 def _taken(waits: deque[Wait]) -> list[Wait]:

@@ -319,6 +319,14 @@ class Desk:
             raise TimedOut(timeout)
         return wait.outcome()
 
+    async def orphans(self) -> list[int]:
+        """The tickets that waited already when this desk went on from its journal, and still wait, as of `stmdesk.Desk.orphans`.
+
+        >>> run(desk.orphans())
+        []
+        """
+        return await self._call(self._desk.orphans)
+
     def batch(self) -> Batch:
         """Commands that are sent in one go when the `async with` of the batch ends.
 
@@ -360,6 +368,7 @@ class Desk:
 
         >>> run(desk.close())
         """
+        await asyncio.sleep(0)  # so that tasks which were cancelled give their blocks up before
         await asyncio.to_thread(self._desk.close)
 
     async def __aenter__(self) -> Desk:
@@ -369,6 +378,7 @@ class Desk:
     async def __aexit__(
         self, kind: type[BaseException] | None, error: BaseException | None, trace: TracebackType | None
     ) -> None:
+        await asyncio.sleep(0)
         await asyncio.to_thread(self._desk.__exit__, kind, error, trace)
 
     async def _call(self, function: Callable[[], T]) -> T:
