@@ -3210,8 +3210,10 @@ class Journals(InThreads):
             self.assert_gone(desk.pid)
 
     def give_up_and_end(self, desk, is_kept):
+        waits = desk._begin_waits()
+
         def end():
-            while not desk._waits._leaving:
+            while not waits._leaving:
                 time.sleep(0.001)
             with contextlib.suppress(Ended):
                 desk.close() if is_kept else desk.__exit__(KeyError, KeyError(), None)
@@ -3272,7 +3274,8 @@ class Journals(InThreads):
                 self.assert_is(desk.atomically("do { a <- readTVar x; writeTVar x (a + 1); return a }"), number)
             waiting = desk.submit("do { a <- readTVar x; if a < 51 then retry else return a }")
             self.assertLess(desk.events().next, 14)
-        self.assertTrue(self.path.read_text().startswith('{"format":4,"next":5'))
+        # A block is one line with three events, so a checkpoint comes after each fourth: the last one after 48 of them.
+        self.assertTrue(self.path.read_text().startswith('{"format":4,"next":49,'))
         self.assertTrue(check(self.path, program=program))
         with self.open(checkpoint_every=1) as desk:
             self.assertTrue(desk.is_resumed)

@@ -34,6 +34,12 @@ class Command(Generic[T]):
     begin: str | None = None  # the first word of each answer but a refusal, if that is always the same
     take: Callable[[Transport, str], list[str]] | None = None  # takes the lines of an answer of many, given the first
     then: str = ""  # what is sent after it
+    is_seen: bool = False  # whether its answer may say what came of a block that `atomically` waits for
+
+    def line(self, text: str) -> bytes:
+        """What is sent. Raises ValueError if the argument has a control character, and TypeError if it is no text."""
+        line = text if str.isprintable(text) else _in_one_line(text)
+        return f"{self.word} {line}\n".encode() if text else self.bare
 
     @cached_property
     def bare(self) -> bytes:
@@ -63,8 +69,7 @@ class Answer(Generic[T]):
         """Raises ValueError if the text has a control character, and TypeError if it is no text."""
         self.command = command
         self.text = text
-        line = text if str.isprintable(text) else _in_one_line(text)
-        self.sent = f"{command.word} {line}\n".encode() if text else command.bare
+        self.sent = command.line(text)
         self.value: T | Unset = UNSET
         self.error: Exception | None = None
 
@@ -146,15 +151,15 @@ TAKE: Command[list[Job]] = Command("take", Answers.jobs, "jobs")
 DELIVER: Command[int] = Command("deliver", Answers.second, "delivered")
 HANDBACK: Command[None] = Command("handback", Answers.nothing, "queued")
 EVAL: Command[int] = Command("eval", Answers.second, "evaluated")
-FINISH: Command[Finished | FinishedThrows] = Command("finish", Answers.finished, "finished")
-ATOMICALLY: Command[Finished | FinishedThrows | Waiting] = Command("atomically", Answers.ran)
-CANCEL: Command[None] = Command("cancel", Answers.nothing, "cancelled")
+FINISH: Command[Finished | FinishedThrows] = Command("finish", Answers.finished, "finished", is_seen=True)
+ATOMICALLY: Command[Finished | FinishedThrows | Waiting] = Command("atomically", Answers.ran, is_seen=True)
+CANCEL: Command[None] = Command("cancel", Answers.nothing, "cancelled", is_seen=True)
 READS: Command[dict[Ref, Value]] = Command("reads", Answers.reads, "reads")
 READY: Command[list[int]] = Command("ready", Answers.tickets, "ready")
 WHY: Command[Reason] = Command("why", Answers.reason, "why")
-SETTLE: Command[Settled] = Command("settle", Answers.settled)
-DRAIN: Command[Settled] = Command("drain", Answers.drained)
-CHECKPOINT: Command[int] = Command("checkpoint", Answers.second, "checkpoint")
+SETTLE: Command[Settled] = Command("settle", Answers.settled, is_seen=True)
+DRAIN: Command[Settled] = Command("drain", Answers.drained, is_seen=True)
+CHECKPOINT: Command[int] = Command("checkpoint", Answers.second, "checkpoint", is_seen=True)
 SHOW: Command[list[Status]] = Command(
     "show", Answers.statuses, take=_lines_to("waiting ", tuple("123456789"), lambda: WAITING_LIMIT)
 )

@@ -9,6 +9,7 @@ import threading
 import time
 from collections.abc import Iterable, Iterator, Sequence
 from copy import copy
+from os import getpid
 from threading import get_ident
 from types import TracebackType
 from typing import Any, Literal, TypeVar, get_args
@@ -19,7 +20,7 @@ from ._commands import (
     CANCEL, CHECKPOINT, DECLARED, DELIVER, DRAIN, EVAL, EVENTS, FINISH, HANDBACK, HISTORY, LOOKS, READS, READY, SETTLE, SHOW, STORE, SUBMIT, TAKE,
     TRY, TVAR, WAITING, WHY, Answer, Command, decimal, number_of,
 )  # fmt: skip
-from ._errors import BadAnswer, Cancelled, Refused, TimedOut
+from ._errors import BadAnswer, Cancelled, DeskError, Refused, TimedOut
 from ._program import Process, check_built, find_program, is_ours
 from ._transport import Closed, Odd, Transport, AtomicBlocks
 from ._values import Commits, Events, Finished, FinishedThrows, Job, Reason, Ref, Settled, Status, Store, Value, Verdict
@@ -458,7 +459,8 @@ class Desk:
         if self._is_closed:
             raise ValueError("the desk is closed")
         if self._inherited:  # otherwise nothing is sent, since that would end the declarations of a new desk
-            self._inherited.intersection_update(self._ask(WAITING))
+            waiting = self._ask(WAITING)
+            self._inherited.intersection_update(waiting)
         return sorted(self._inherited)
 
     def batch(self) -> Batch:
@@ -535,7 +537,51 @@ class Desk:
     # Lines out, lines in.
 
     def _ask(self, command: Command[T], text: str = "") -> T:
-        """Gives a command with its argument, and returns what its answer says."""
+        """Gives a command with its argument, and returns what its answer says. This is what `_run` does with one `Answer`, written out for
+        the usual case, since it is most of what a call costs: one line that is answered by one line, which no block of `atomically` needs
+        to see."""
+        transport, read = self._transport, self._answers
+        if command.take is not None or read.first is None or transport.is_shared:
+            return self._ask_alone(command, text)
+        sent = command.line(text)
+        if getpid() != transport.owner:
+            raise transport.not_owner()
+        with self._calls:
+            me = get_ident()
+            if self._caller == me:
+                raise RuntimeError("a signal handler called the desk in the midst of another call")
+            if self._is_closed:
+                raise ValueError("the desk is closed")
+            if command.is_seen and self._waits is not None:
+                return self._ask_alone(command, text)
+            said = ""
+            try:
+                self._caller = me
+                if transport.end is not None:
+                    raise copy(transport.end)
+                try:
+                    transport.send(sent)
+                    said = transport.line()
+                    words = said.split(" ")
+                    if words[0] == "refused":
+                        value: T | Refused = read.refusal(words, command.word, text.lstrip())
+                    elif command.begin is None or command.begin == words[0]:
+                        value = command.read(read, words)
+                    else:
+                        raise ValueError("the answer to another command")
+                except BaseException as error:
+                    why = self._broken(error, sent, said)
+                    if why is None:
+                        raise
+                    raise why from None
+            finally:
+                self._caller = 0
+        if isinstance(value, Refused):
+            raise value
+        return value
+
+    def _ask_alone(self, command: Command[T], text: str) -> T:
+        """The same for any command."""
         answer = Answer(command, text)
         self._run((answer,))
         return answer.result()
@@ -602,17 +648,27 @@ class Desk:
                         read.note(command.word, it.text, value)
             if waits:
                 waits.see(answers)
-        except Closed:
-            raise copy(process.ended(self._patience)) from None
-        except Odd as odd:
-            process.kill()
-            raise BadAnswer(it.line(), str(odd)) from None
         except BaseException as error:
-            process.broken_off()
-            if isinstance(error, (ValueError, LookupError, TypeError)) and is_ours(error):
-                process.kill()
-                raise BadAnswer(it.line(), said if isinstance(said, str) else "\n".join(said)) from None
-            raise
+            why = self._broken(error, it.sent, said)
+            if why is None:
+                raise
+            raise why from None
+
+    def _broken(self, error: BaseException, sent: bytes, said: str | Sequence[str]) -> DeskError | None:
+        """An error has come between a command that was sent and the end of its answer, of which `said` is there. Ends the program. Returns
+        what is to be raised in place of the error, if that is none of the caller's own."""
+        transport = self._transport
+        if isinstance(error, Closed):
+            return copy(transport.ended(self._patience))
+        line = sent.decode().partition("\n")[0]
+        if isinstance(error, Odd):
+            transport.kill()
+            return BadAnswer(line, str(error))
+        transport.broken_off()
+        if isinstance(error, (ValueError, LookupError, TypeError)) and is_ours(error):
+            transport.kill()
+            return BadAnswer(line, said if isinstance(said, str) else "\n".join(said))
+        return None
 
 
 def _acquire(lock: threading.Lock, timeout: float, is_main: bool) -> bool:

@@ -17,11 +17,11 @@ class Owned:
 
     def __init__(self) -> None:
         """To be called last, when there are descriptors."""
-        self._owner = os.getpid()
+        self.owner = os.getpid()
         _owned.add(self)
 
     def is_owner(self) -> bool:
-        return os.getpid() == self._owner
+        return os.getpid() == self.owner
 
     def check_owner(self) -> None:
         """Raises RuntimeError in another process than the owner."""
@@ -30,7 +30,7 @@ class Owned:
 
     def not_owner(self) -> RuntimeError:
         return RuntimeError(
-            f"this desk belongs to process {self._owner}, and process {os.getpid()} was forked from it and can't use it: see "
+            f"this desk belongs to process {self.owner}, and process {os.getpid()} was forked from it and can't use it: see "
             '"Several processes" in clients/python/README.md'
         )
 

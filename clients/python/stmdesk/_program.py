@@ -187,7 +187,11 @@ class Process(Transport):
             self._read()
 
     def _read(self) -> None:
-        """Reads what the program prints next. Raises `Closed` if it prints no more."""
+        """Reads what the program prints next, and keeps its lines. Raises `Closed` if it prints no more."""
+        self._keep(self._piece())
+
+    def _piece(self) -> bytes:
+        """What the program prints next. Raises `Closed` if it prints no more."""
         try:
             piece = self._output.read1(PIECE)
         except ValueError as error:
@@ -196,6 +200,9 @@ class Process(Transport):
             raise Closed from None
         if not piece:
             raise Closed
+        return piece
+
+    def _keep(self, piece: bytes) -> None:
         rest = self._rest
         if not rest and piece.endswith(b"\n"):
             self.lines.extend(piece[:-1].decode("ascii", "replace").split("\n"))
@@ -210,9 +217,13 @@ class Process(Transport):
 
     def line(self) -> str:
         """The next line that the program prints, without its line feed. Raises `Closed` if it prints no more."""
-        while not self.lines:
-            self._read()
-        return self.lines.popleft()
+        lines = self.lines
+        while not lines:
+            piece = self._piece()
+            if not self._rest and piece.find(b"\n") == len(piece) - 1:  # the usual case
+                return piece[:-1].decode("ascii", "replace")
+            self._keep(piece)
+        return lines.popleft()
 
     def broken_off(self) -> None:
         """Kills the program: what it still prints would be taken for the answer to the next call."""

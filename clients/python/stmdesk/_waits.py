@@ -51,7 +51,8 @@ class Waits(Owned, AtomicBlocks):
     waits, and of those that wait the ones that may go on by `eval` and `finish`. Each caller runs a turn in its own thread until
     its block was tried. The main thread, which a signal handler may interrupt anywhere, and a task, whose event loop has to
     go on, leave that to the helper, a thread of the desk's own. Then the caller sleeps on a lock of its own, which is released
-    when the outcome is there. The helper sleeps until a turn is queued or the program ends. So nobody polls.
+    when the outcome is there. The helper sleeps until a turn is queued or the program ends. So nobody polls; only the main thread
+    wakes up once a second, to let handlers of signals run.
 
     Why no wake-up is lost: every command is given under the lock of the desk, and its answer is looked at under the same lock: those of a
     round in `_round`, those of other calls in `see`. Whenever that lock is free, each ticket in `_waiting` is due, or else it blocked
