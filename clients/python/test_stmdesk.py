@@ -2351,6 +2351,30 @@ class Asynchronous(OnProgram):
 
         asyncio.run(main())
 
+    def test_a_task_that_is_cancelled_at_the_end(self):
+        """The end of an `async with` ends the program, also if its task is cancelled for a second time."""
+
+        async def within(desks):
+            async with aio.Desk(program) as desk:
+                desks.append(desk)
+                try:
+                    await desk.atomically("retry")
+                finally:
+                    asyncio.current_task().cancel()
+
+        async def main():
+            desks = []
+            task = asyncio.create_task(within(desks))
+            while not desks:
+                await asyncio.sleep(0.001)
+            await self.until_blocked(desks[0], 1)
+            task.cancel()
+            with self.assertRaises(asyncio.CancelledError):
+                await task
+            self.assert_gone(desks[0].pid)
+
+        asyncio.run(main())
+
     def test_calls_come_between_turns(self):
         """A plain call waits for the blocks that were given before it, and not for all that other tasks give meanwhile."""
         tasks = 4

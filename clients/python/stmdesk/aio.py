@@ -368,8 +368,7 @@ class Desk:
 
         >>> run(desk.close())
         """
-        await asyncio.sleep(0)  # so that tasks which were cancelled give their blocks up before
-        await asyncio.to_thread(self._desk.close)
+        await self._end(self._desk.close)
 
     async def __aenter__(self) -> Desk:
         await self._call(self._desk.check_opened)
@@ -378,8 +377,14 @@ class Desk:
     async def __aexit__(
         self, kind: type[BaseException] | None, error: BaseException | None, trace: TracebackType | None
     ) -> None:
-        await asyncio.sleep(0)
-        await asyncio.to_thread(self._desk.__exit__, kind, error, trace)
+        await self._end(partial(self._desk.__exit__, kind, error, trace))
+
+    async def _end(self, end: Callable[[], None]) -> None:
+        """Ends the desk, also if this task is cancelled meanwhile."""
+        try:
+            await asyncio.sleep(0)  # so that tasks which were cancelled give their blocks up before
+        finally:
+            await asyncio.to_thread(end)
 
     async def _call(self, function: Callable[[], T]) -> T:
         """Calls the function in the desk's thread."""
