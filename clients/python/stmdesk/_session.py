@@ -445,8 +445,8 @@ def _line_of(it: socket.socket, rest: bytearray) -> str:
 
 
 class _ServerWaits(AtomicBlocks):
-    """Blocks that wait at the server: each is a request `wait BLOCK`. The rounds of `Waits` would foresee tickets, which only one that
-    sees all submissions can."""
+    """Blocks that wait at the server: each is a request `wait BLOCK`. The rounds of `Waits` need every finish, and only the server sees those
+    of all."""
 
     def __init__(self, session: Session, answers: Answers) -> None:
         self._session, self._answers = session, answers
