@@ -1460,6 +1460,38 @@ class Atomically(InThreads):
             self.assert_is(wait.result(), 5)
             self.assert_is(desk.show(), [])
 
+    def test_a_call_that_began_before_the_first_block(self):
+        """A finish that was called before the desk had any block of `atomically`, and is made when one waits, lets that go on."""
+
+        class Late:  # the desk's lock, before whose first use something is done
+            def __init__(self, lock, before):
+                self.lock, self.before = lock, [before]
+
+            def __enter__(self):
+                while self.before:
+                    self.before.pop()()
+                return self.lock.__enter__()
+
+            def __exit__(self, *error):
+                return self.lock.__exit__(*error)
+
+        for is_batch in (False, True):
+            desk, waits = self.start(), []
+            ticket, _ = desk.submit("writeTVar x 5"), desk.eval()
+
+            def begin(desk=desk, waits=waits, ticket=ticket):
+                waits.append(self.begin(desk.atomically, waits_for(5)))
+                while desk.show()[1:] != [Current(2, Blocks())]:
+                    time.sleep(0.001)
+
+            desk._calls = Late(desk._calls, begin)
+            if is_batch:
+                with desk.batch() as batch:
+                    batch.finish(ticket)
+            else:
+                self.assert_is(desk.finish(ticket), Finished(1, None, [2]))
+            self.assert_is(waits[0].result(), 5)
+
     def test_it_waits_for_a_block_that_waited(self):
         desk = self.start()
         steps = [f"do {{ a <- readTVar x; if a == {n} then writeTVar x {n + 1} else retry }}" for n in range(100, 1, -1)]
