@@ -36,7 +36,7 @@ class Command(Generic[T]):
     then: str = ""  # what is sent after it
     is_seen: bool = False  # whether its answer may say what came of a block that `atomically` waits for
 
-    def line(self, text: str) -> bytes:
+    def sent(self, text: str) -> bytes:
         """What is sent. Raises ValueError if the argument has a control character, and TypeError if it is no text."""
         line = text if str.isprintable(text) else _in_one_line(text)
         return f"{self.word} {line}\n".encode() if text else self.bare
@@ -69,7 +69,7 @@ class Answer(Generic[T]):
         """Raises ValueError if the text has a control character, and TypeError if it is no text."""
         self.command = command
         self.text = text
-        self.sent = command.line(text)
+        self.sent = command.sent(text)
         self.value: T | Unset = UNSET
         self.error: Exception | None = None
 

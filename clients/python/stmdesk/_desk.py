@@ -543,7 +543,7 @@ class Desk:
         transport, read = self._transport, self._answers
         if command.take is not None or read.first is None or transport.is_shared:
             return self._ask_alone(command, text)
-        sent = command.line(text)
+        sent = command.sent(text)
         if getpid() != transport.owner:
             raise transport.not_owner()
         with self._calls:
