@@ -1,6 +1,6 @@
 //! The section of a script that is being read.
 
-ghost use Rattle.std.specs.Prelude.{◌≡◌, ◌++◌, ◌∷◌, [], ◌+◌, OnOk};
+ghost use Rattle.std.specs.Prelude.{◌≡◌, ◌++◌, ◌∷◌, [], ◌+◌, length, OnOk};
 
 use std::alloc::Global;
 use std::marker::Model;
@@ -45,6 +45,13 @@ impl BegunSection {
         ensures { result ≡ self.now.submissions }
     {
         self.submissions
+    }
+
+    /// How many tasks there are.
+    pub fn tasks(&self) -> usize
+        ensures { result ≡ length self.now.tasks }
+    {
+        self.tasks.len()
     }
 
     /// One task more, which is no submission.
