@@ -25,8 +25,9 @@ HELP_OF_RUN = [r"Usage: stmdesk run .*", r" +--workers .*", r" +--levels .*", r"
 HELP_OF_RUN += [r" +--checkpoint-every .*", *COMMANDS]
 HELP_OF_STORM = [r"Usage: stmdesk storm .*", r" +--workers .*", r" +--levels .*", r" +--max-events .*"]
 HELP_OF_STORM += [rf"  {word}( .*)?" for word in ("tvar NAME", "client", "submit BLOCK", "finish K", "cancel K", "expect NAME VALUE")]
-HELP_OF_EXPLORE = [r"Usage: stmdesk explore .*", r" +--max-states .*", r" +--history .*", r" +--all .*", r"  always BLOCK .*", r"  never BLOCK .*"]
+HELP_OF_EXPLORE = [r"Usage: stmdesk explore .*", r" +--max-states .*", r" +--history .*", r" +--all .*", r" +--allow-throws .*"]
 HELP_OF_EXPLORE += [rf"  {word}( .*)?" for word in ("tvar NAME", "client", "submit BLOCK", "finish K", "cancel K", "expect NAME VALUE")]
+HELP_OF_EXPLORE += [rf"  {word} .*" for word in ("always BLOCK", "never BLOCK", "assert BLOCK", "throws K")]
 HELP_OF_CHECK = [r"Usage: stmdesk check \[OPTIONS\]", r" +--why .*", r".*histor.*"]
 FORMS_OF_HELP = [["--help"], ["-h"], ["help"]]
 FORMS_OF_HELP_OF_RUN = [["run", "--help"], ["run", "-h"], ["help", "run"]]
@@ -61,10 +62,11 @@ REFUSED = [
     *(["explore", *rest] for rest in (["--max-states"], ["--max-states=0"], ["--max-states", "2", "--max-states", "2"])),
     *(["explore", *rest] for rest in (["--history=true"], ["--history", "--history"], ["--history", "1"], ["--", "--history"])),
     *(["explore", *rest] for rest in (["--all=true"], ["--all", "--all"], ["--all", "1"], ["--", "--all"], ["--al"], ["--reduce"])),
-    *([option] for option in ("--max-states", "--history", "--all", "--why")),
+    *(["explore", *rest] for rest in (["--allow-throws=true"], ["--allow-throws", "--allow-throws"], ["--allow-throws", "1"], ["--allow"])),
+    *([option] for option in ("--max-states", "--history", "--all", "--allow-throws", "--why")),
     *(["check", *rest] for rest in (["--why=true"], ["--why", "--why"], ["--why", "1"], ["--", "--why"], ["--wh"])),
     *([word, "--why"] for word in ("run", "storm", "explore")),
-    *([word, option] for word in ("run", "storm", "check") for option in ("--history", "--all")),
+    *([word, option] for word in ("run", "storm", "check") for option in ("--history", "--all", "--allow-throws")),
     *(["run", *rest] for rest in (["--journal"], ["--journal="], ["--journal", ""], ["--journal", "a", "--journal", "a"], ["--journal", b"\xff"])),
     *(["run", *rest] for rest in (["--sync"], ["--sync", "full"], ["--sync=none"], ["--journal", "a", "--sync"], ["--", "--journal", "a"])),
     *(["run", "--journal", "a", "--sync", mode] for mode in ("", "Full", "full ", "never", "0")),
@@ -96,6 +98,8 @@ EXPLORE_ACCEPTED = [  # behind `explore`
     ["--max-states=1"],
     ["--all"],
     ["--all", "--max-states", "1"],
+    ["--allow-throws"],
+    ["--allow-throws", "--all", "--max-states", "1"],
 ]
 EMPTY = b'{"format":3,"vars":0}\n'
 SCRIPT = b"tvar x : Int = 1\nclient\nexpect x 1\n"  # of a storm without events, so that it takes any number of them
@@ -191,7 +195,7 @@ def judged(program, cases):
         yield f"words {words}", judge_run(program, words, SCRIPT, COUNTS)
     for words in [["explore", *options] for options in EXPLORE_ACCEPTED]:
         yield f"words {words}", judge_run(program, words, NO_STEP, EXPLORED)
-    for words in [["explore", "--history"], ["explore", "--max-states", "1", "--history"], ["explore", "--all", "--history"]]:
+    for words in [["explore", "--history"], ["explore", "--max-states", "1", "--history"], ["explore", "--all", "--allow-throws", "--history"]]:
         yield f"words {words}", judge_run(program, words, NO_STEP, b"", NO_FAULT)
     for words, text, printed in ((["check", "--why"], b"", b"bad header\nline 1 unreadable\n"), (["check", "--why", "--"], EMPTY, b"legal 0 events\n")):
         case = transcript.Case(f"words {words}", words, printed=printed, status=0 if text else 3)

@@ -84,12 +84,16 @@ storm_command = with_options (new_app (codes "storm"))
 abbrev pub flag_option : List ℕ → Rule
 flag_option name = record (new_rule name) { long = Some name; action = Some SetTrue }
 
--- `explore` with its options
-abbrev pub explore_command : App
-explore_command = with_rule (with_rule (with_rule (new_app (codes "explore"))
+-- `explore` with the options of how it searches and what it writes
+abbrev pub search_command : App
+search_command = with_rule (with_rule (with_rule (new_app (codes "explore"))
     (number_option (codes "max-states") 1 4294967295 (codes "1000000")))
     (flag_option (codes "history")))
     (flag_option (codes "all"))
+
+-- `explore` with its options
+abbrev pub explore_command : App
+explore_command = with_rule search_command (flag_option (codes "allow-throws"))
 
 -- `check` with its option
 abbrev pub check_command : App
@@ -231,6 +235,7 @@ explore_options_said rows = record {
   max_states = number_said (codes "max-states") 1 4294967295 1000000 rows;
   history = flag_said (codes "history") rows;
   all = flag_said (codes "all") rows;
+  allow_throws = flag_said (codes "allow-throws") rows;
 }
 
 -- a check, with what would be accepted instead if that is said

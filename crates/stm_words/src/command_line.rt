@@ -6,7 +6,7 @@ ghost use Rattle.clap.specs.Values.{kind_of};
 ghost use Rattle.clap.specs.Walk.{first_of, one_of, rows_of, rule_of};
 ghost use Rattle.clap.specs.Words.{app_of, found_of, new_app, with_subcommand, FailsBy, HasKind};
 ghost use Rattle.clap.specs.declared.builder.command.Command.TheViews.{out-Command as fields_of};
-ghost use Rattle.stm_words.specs.CommandLine.{answers_of, asks_for_run, check_command, checkpoint_fault, checkpoint_option, check_said, command_line, explore_command, explore_options_said, flag_option, flag_said, is_said, journal_fault, journal_option, mode_of, mode_said, number_of_text, number_option, number_said, number_within, options_said, request_fault, request_of, request_said, run_command, run_fault, run_on, run_said, storm_command, storm_fault, sync_fault, sync_option, with_numbers, with_options, with_version, AreExploreOptions, HasOptionsInRange};
+ghost use Rattle.stm_words.specs.CommandLine.{answers_of, asks_for_run, check_command, checkpoint_fault, checkpoint_option, check_said, command_line, explore_command, explore_options_said, flag_option, flag_said, is_said, journal_fault, journal_option, mode_of, mode_said, number_of_text, number_option, number_said, number_within, options_said, request_fault, request_of, request_said, run_command, run_fault, run_on, run_said, search_command, storm_command, storm_fault, sync_fault, sync_option, with_numbers, with_options, with_version, AreExploreOptions, HasOptionsInRange};
 ghost use Rattle.stm_options.specs.Options.{AreRunOptions};
 
 use crate::file_name::FileName;
@@ -156,21 +156,25 @@ depend on which thread comes first. The number of an option may begin with `+` o
 docs/STORM.md describes scripts in full.";
 
 const EXPLORATION: &str = "\
-A script on standard input, as for `stmdesk storm`, with invariants before the first section:
+A script on standard input, as for `stmdesk storm`, with invariants before the first section, and checks in sections:
   tvar NAME : TYPE = INIT  Declares a variable
   always BLOCK             In every state the block has to commit with the result True; what it writes counts for nothing
   never BLOCK              In every state the block has to retry
   client                   Begins the section of the next client
   submit BLOCK             Names the next block of the client; this is no step
-  finish K                 A step: finishes the block of the section's K-th `submit`, and waits while the block retries
+  finish K                 A step: finishes the block of the section's K-th `submit`, and waits while the block retries. A block that
+                           throws is a fault
+  throws K                 Says that this block may throw; this is no step
   cancel K                 Withdraws that block; this is no step, and a `finish K` after it is none
   expect NAME VALUE        A step: the variable has to hold the value
+  assert BLOCK             A step: the block has to commit with the result True; it waits while the block retries, and changes nothing
 
 Each client does its steps in their order, and every interleaving of the clients is searched; but where a client's steps can't
 matter to the others until later, it may be left for later, unless `--all` is given. Prints how many states were met and how many
 steps lead on from them, how many states have ended, with the stores of the first ten, and then `right`, `incomplete` if there are
 more states than may be kept, or the first fault by the fewest steps: `broken line L` (an invariant), `missed line L` (an `expect`),
-or `deadlock`. A fault is followed by the order of the clients' steps that leads there, and by the line at which each client is.
+`failed line L` (an `assert`), `threw line L` (a `finish`), or `deadlock`. A fault is followed by the order of the clients' steps
+that leads there, and by the line at which each client is.
 
 Example:
   $ printf 'tvar x : Int = 0\\nalways do { a <- readTVar x; return (a < 2) }\\nclient\\nsubmit writeTVar x 1\\nfinish 1\\n' | stmdesk explore
@@ -216,6 +220,8 @@ const MAX_STATES: &str = "How many states may be kept, from 1 to 4294967295";
 const HISTORY: &str = "Prints the history of the fault instead";
 
 const ALL: &str = "Explores every state, and leaves no client for later";
+
+const ALLOW_THROWS: &str = "Takes no throw of a block for a fault";
 
 const JOURNAL: &str = "Keeps the history in FILE, and goes on from what is in it";
 
@@ -374,9 +380,9 @@ fn flag_option<'a>(alloc: Global, name: &'a str, help: &'a str) -> Arg<'a>
         .help(help)
 }
 
-/// `explore` with its options.
-fn explore_words<'a>(alloc: Global) -> Result<Command<'a>, AllocError>
-    ensures app { IfOk result (λ c. app_of c ≡ explore_command) }
+/// `explore` with the options of how it searches and what it writes.
+fn search_words<'a>(alloc: Global) -> Result<Command<'a>, AllocError>
+    ensures app { IfOk result (λ c. app_of c ≡ search_command) }
     ensures local { IfOk result (λ c. (fields_of c).has_globals ≡ false) }
 {
     let max_states = number_option(
@@ -395,6 +401,15 @@ fn explore_words<'a>(alloc: Global) -> Result<Command<'a>, AllocError>
         .arg(max_states)?
         .arg(history)?
         .arg(all)
+}
+
+/// `explore` with its options.
+fn explore_words<'a>(alloc: Global) -> Result<Command<'a>, AllocError>
+    ensures app { IfOk result (λ c. app_of c ≡ explore_command) }
+    ensures local { IfOk result (λ c. (fields_of c).has_globals ≡ false) }
+{
+    let allow_throws = flag_option(alloc, "allow-throws", ALLOW_THROWS);
+    search_words(alloc)?.arg(allow_throws)
 }
 
 /// The program with its version and the commands that take the options of a run: `run`, which is the default, and `storm`.
@@ -541,6 +556,7 @@ fn explore_options_of(matches: &ArgMatches) -> ExploreOptions
         ),
         history: flag_of(matches, "history"),
         all: flag_of(matches, "all"),
+        allow_throws: flag_of(matches, "allow-throws"),
     }
 }
 
