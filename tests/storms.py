@@ -89,8 +89,10 @@ RIGHT = [  # scripts of one client that does nothing
 STORM_ONLY = [  # what only a storm's script may not have
     ("always return True\nclient\n", 1),
     ("never retry\nclient\n", 1),
+    ("client\nassert return True\n", 2),
+    ("client\nsubmit retry\nthrows 1\n", 3),
 ]
-EXPLORE_ONLY = [  # wrong invariants of an exploration
+EXPLORE_ONLY = [  # wrong invariants and checks of an exploration
     (X + "always\nclient\n", 2),
     (X + "never\nclient\n", 2),
     (X + "always readTVar y\nclient\n", 2),
@@ -102,6 +104,24 @@ EXPLORE_ONLY = [  # wrong invariants of an exploration
     (X + "client\nnever retry\n", 3),
     (X + "always return True\nnever retry\n", 4),
     (X + "always return True\ntvar x : Int = 1\nclient\n", 3),
+    ("assert return True\nclient\n", 1),
+    ("client\nassert\n", 2),
+    ("client\nassert return 1\n", 2),
+    ("client\nassert return ()\n", 2),
+    ("client\nassert newTVar True\n", 2),
+    ("client\nassert return True True\n", 2),
+    ("client\nASSERT return True\n", 2),
+    (X + "client\nassert readTVar x\n", 3),
+    (X + "client\nassert return True\nassert readTVar y\n", 4),
+    ("throws 1\nclient\n", 1),
+    ("client\nthrows 1\nsubmit retry\n", 2),
+    ("client\nsubmit retry\nthrows\n", 3),
+    ("client\nsubmit retry\nthrows 0\n", 3),
+    ("client\nsubmit retry\nthrows 2\n", 3),
+    ("client\nsubmit retry\nthrows 1 1\n", 3),
+    ("client\nsubmit retry\nthrows one\n", 3),
+    ("client\nsubmit retry\nthrows 4294967297\n", 3),
+    ("client\nsubmit retry\nclient\nthrows 1\n", 4),
 ]
 NOTHING = {
     "storm": b"client 0 submitted 0 finished 0 cancelled 0 refused 0 missed 0\nevents 0\nreplay ok\n",

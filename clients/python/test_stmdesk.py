@@ -2829,6 +2829,25 @@ class Explorations(OnProgram):
         found = self.explore("tvar x : Int = 0\nclient\nexpect x 1\n")
         self.assert_found(found, 1, 0, 0, "missed", 3, (), [ClientAt(0, 3, "ready", {})])
 
+    def test_threw(self):
+        script = "tvar x : Int = 0\nclient\nsubmit writeTVar x 1\nfinish 1\nclient\n"
+        script += "submit do { a <- readTVar x; if a == 1 then throw 5 else return () }\nfinish 1\n"
+        found = self.explore(script)
+        self.assert_found(found, 3, 2, 0, "threw", 7, (0,), [ClientAt(1, 7, "ready", {})])
+        self.assertIn('"throws":5', found.history())
+        self.assert_found(self.explore(script, allow_throws=True), 4, 4, 1, "right")
+        self.assert_found(self.explore(script + "throws 1\n"), 4, 4, 1, "right")
+
+    def test_failed(self):
+        script = "tvar x : Int = 0\nclient\nsubmit writeTVar x 1\nfinish 1\nclient\nassert do { a <- readTVar x; return (a == 0) }\n"
+        found = self.explore(script)
+        self.assert_found(found, 3, 2, 0, "failed", 6, (0,), [ClientAt(1, 6, "fails", {})])
+        self.assert_found(self.explore("client\nassert throw 1\n", allow_throws=True), 1, 0, 0, "failed", 2, (), [ClientAt(0, 2, "fails", {})])
+
+    def test_an_assertion_that_waits(self):
+        found = self.explore("tvar x : Int = 0\nclient\nassert do { a <- readTVar x; if a == 0 then retry else return True }\n")
+        self.assert_found(found, 1, 0, 0, "deadlock", None, (), [ClientAt(0, 3, "waits", {X: 0})])
+
     def test_incomplete(self):
         script = "tvar x : Int = 0\nclient\nsubmit writeTVar x 1\nfinish 1\n"
         found = self.explore(script, max_states=1)
@@ -2933,6 +2952,7 @@ class Explorations(OnProgram):
     def test_answers_that_no_stmdesk_gives(self):
         head, fault = "states 1 steps 0\\nended 0\\n", "deadlock\\norder 0\\n"
         ends = ["", "wrong\\n", "right\\n", "broken\\norder 0\\n", "deadlock line 1\\norder 0\\n", "deadlock\\n", "deadlock\\norder\\n"]
+        ends += ["threw\\norder 0\\n", "failed\\norder 0\\n", "thrown line 1\\norder 0\\n", fault + "client 0 line 1 fails x\\n"]
         ends += ["deadlock\\norder x\\n", "incomplete\\nmore\\n", "cells 1\\nincomplete\\n", "#0 x\\ncells 1\\nincomplete\\n"]
         ends += [fault + it for it in ("client 0\\n", "client 0 line 1 waits\\n", "client 0 line 1 waits x\\n", "client 0 line 1 ready x\\n")]
         answers = ["", "hello\\n", *(head + it for it in ends)]

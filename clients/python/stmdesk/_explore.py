@@ -13,16 +13,18 @@ from ._errors import BadAnswer, Ended, ScriptRefused
 from ._program import check_built, find_program, run_once
 from ._values import FinalStore, Ref, Value
 
-Outcome = Literal["right", "incomplete", "deadlock", "broken", "missed"]
-ClientState = Literal["waits", "ready", "refused"]
+Outcome = Literal["right", "incomplete", "deadlock", "broken", "missed", "failed", "threw"]
+ClientState = Literal["waits", "ready", "refused", "fails"]
+
+_AT_A_LINE = ("broken", "missed", "failed", "threw")
 
 _FOUND = re.compile(
     r"states (?P<states>\d+) steps (?P<steps>\d+)\nended (?P<ended>\d+)\n(?P<stores>(?:(?:#.*\n)*cells \d+\n)*)"
-    r"(?:(?P<end>right|incomplete)\n|(?P<fault>deadlock|broken|missed)(?: line (?P<line>\d+))?\n"
+    r"(?:(?P<end>right|incomplete)\n|(?P<fault>deadlock|broken|missed|failed|threw)(?: line (?P<line>\d+))?\n"
     r"order (?P<order>.*)\n(?P<clients>(?:client .*\n)*))"
 )
 _STORE = re.compile(r"(?:#.*\n)*cells \d+\n")
-_CLIENT = re.compile(r"client (\d+) line (\d+) (waits|ready|refused)(?: (.+))?")
+_CLIENT = re.compile(r"client (\d+) line (\d+) (waits|ready|refused|fails)(?: (.+))?")
 _DECLARED = re.compile(r"(?m)^[ \t\r]*tvar[ \t\r]+([a-z][A-Za-z0-9_']*)")
 _REFUSED = re.compile(r"(?m)^stmdesk: script line (\d+)$")
 
@@ -32,7 +34,8 @@ class ClientAt:
     """Where a client is in the state with the fault, if it isn't at its end: the line of its next step, and `what` about that.
 
     It "waits", since the block retries, for one of the variables that the block read, `reads`, to change; it is "ready" to
-    do the step; or the step is "refused", since a store has no room for the variables that the block makes.
+    do the step; the step is "refused", since a store has no room for the variables that the block makes; or it is an assertion
+    that "fails".
 
     >>> explore("tvar x : Int = 1\\nclient\\nsubmit do { a <- readTVar x; retry }\\nfinish 1").clients
     [ClientAt(client=0, line=4, what='waits', reads={Ref(0, 'x'): 1})]
@@ -56,7 +59,9 @@ class Exploration:
     - "incomplete": more than `max_states` states can be reached, and no fault was found;
     - "deadlock": in a state that can be reached nobody can go on;
     - "broken": in such a state the invariant of line `line` doesn't hold;
-    - "missed": in such a state the expectation of line `line` isn't met.
+    - "missed": in such a state the expectation of line `line` isn't met;
+    - "failed": in such a state the assertion of line `line` fails;
+    - "threw": in such a state the block throws that the `finish` of line `line` finishes, and isn't allowed to.
 
     After a fault `order` are the clients in the order of their steps that leads there, and `clients` where each client is that
     isn't at its end. Else `order` is None, and `clients` is empty. No shorter order leads to a fault, unless more than `max_states`
@@ -123,12 +128,14 @@ def explore(
     program: str | os.PathLike[str] | None = None,
     max_states: int | None = None,
     all: bool = False,
+    allow_throws: bool = False,
 ) -> Exploration:
     """Tries every order in which the clients of a script can do their steps, by `program explore`.
 
     docs/EXPLORE.md says what a script is. At most `max_states` states are kept, 1,000,000 if nothing else is given. With
-    `all` each state that can be reached is met and counted; else those that can't matter may be left out. Without `program` it runs what `find_program` returns. Raises `ScriptRefused` if a line of the script is invalid, and `Ended` if the
-    program ends otherwise, for example since it is out of memory.
+    `all` each state that can be reached is met and counted; else those that can't matter may be left out. With `allow_throws` no
+    throw of a block is a fault. Without `program` it runs what `find_program` returns. Raises `ScriptRefused` if a line of the
+    script is invalid, and `Ended` if the program ends otherwise, for example since it is out of memory.
 
     >>> found = explore('''
     ...     tvar a : Int = 100
@@ -148,6 +155,7 @@ FinalCell(variable=Ref(1, 'b'), name='b', type='Int', value=30)]], outcome='righ
     path = find_program() if program is None else os.fspath(program)
     options = [] if max_states is None else ["--max-states", decimal(max_states)]
     options += ["--all"] if all else []
+    options += ["--allow-throws"] if allow_throws else []
     check_built(path)
     command = [path, "explore", *options]
     status, printed, said = run_once(command, script)
@@ -169,7 +177,7 @@ FinalCell(variable=Ref(1, 'b'), name='b', type='Int', value=30)]], outcome='righ
 def _read(printed: str, script: str, command: list[str]) -> Exploration:
     """What the program printed of a script. Raises ValueError or LookupError if it never prints such a text."""
     answers, found = Answers(), _FOUND.fullmatch(printed)
-    if not found or (found["line"] is None) == (found["fault"] in ("broken", "missed")):
+    if not found or (found["line"] is None) == (found["fault"] in _AT_A_LINE):
         raise ValueError("no exploration")
     answers.refs = {f"#{number}": Ref(number, name) for number, name in enumerate(_DECLARED.findall(script))}
     order = None if found["order"] is None else tuple(int(it) for it in found["order"].split(" ") if it != "none")
@@ -191,7 +199,7 @@ def _read(printed: str, script: str, command: list[str]) -> Exploration:
 def _client(answers: Answers, line: str) -> ClientAt:
     """A line of a client: `client 0 line 4 waits #0=1`"""
     found = _CLIENT.fullmatch(line)
-    if not found or (found[3] == "ready") != (found[4] is None):
+    if not found or (found[3] in ("ready", "fails")) != (found[4] is None):
         raise ValueError("no client")
     client, number, what, rest = found.groups()
     return ClientAt(int(client), int(number), cast(ClientState, what), answers.pairs(rest.split(" ")) if what == "waits" else {})
