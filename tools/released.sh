@@ -1,5 +1,10 @@
-# The functions of the launcher `./stmdesk` for the program of release/. `here` is the folder of the repository, `say` and `stop` print.
-# They set `sum`, the SHA-256 of that program.
+# The functions of the launcher `./stmdesk` for the program and the library of release/. `here` is the folder of the repository, `say` and
+# `stop` print. They set `sum`, the SHA-256 of the one that is looked at: the program, unless `of_library` was called.
+kind=program base=stmdesk packed=release/stmdesk.xz used=run
+
+of_library() {
+    kind=library base=libstmdesk.so packed=release/libstmdesk.so.xz used=loaded
+}
 
 # What release/stmdesk.txt has under this name.
 fact() {
@@ -16,20 +21,33 @@ fits() {
     [ "$sources" = "$(fact sources)" ] && sum=$(fact executable)
 }
 
+# Whether release/ has a library that was made from these sources. If not, `why` says why.
+fits_library() {
+    why="there is no release/stmdesk.txt"
+    [ -r "$here/release/stmdesk.txt" ] || return 1
+    why="release/ has no library"
+    sum=$(fact library)
+    [ -n "$sum" ] || return 1
+    why="the sum of the sources can't be computed"
+    sources=$("$here/tools/source_sum" --library) || return 1
+    why="the library of release/ was made from other sources than these"
+    [ "$sources" = "$(fact library_sources)" ]
+}
+
 need_unpacker() {
     command -v xz >/dev/null || python3 -c 'import lzma' 2>/dev/null ||
-        stop "to unpack release/stmdesk.xz, the command 'xz', or 'python3' with its module lzma, must be on the PATH"
+        stop "to unpack $packed, the command 'xz', or 'python3' with its module lzma, must be on the PATH"
 }
 
 unpacked() {
     if command -v xz >/dev/null; then
-        xz -dc "$here/release/stmdesk.xz"
+        xz -dc "$here/$packed"
     else
-        python3 -c 'import lzma, shutil, sys; shutil.copyfileobj(lzma.open(sys.argv[1]), sys.stdout.buffer)' "$here/release/stmdesk.xz"
+        python3 -c 'import lzma, shutil, sys; shutil.copyfileobj(lzma.open(sys.argv[1]), sys.stdout.buffer)' "$here/$packed"
     fi
 }
 
-# What sha256sum prints of the program in release/stmdesk.xz, and of something else if that file is damaged.
+# What sha256sum prints of what is in the packed file, and of something else if that file is damaged.
 packed_sum() {
     { unpacked || echo damaged; } | sha256sum
 } 2>/dev/null
@@ -38,11 +56,11 @@ has_sum() {
     [ "$(sha256sum <"$1")" = "$sum  -" ]
 }
 
-# Unpacks the program into a folder and checks it; it gets its name when it is whole.
+# Unpacks it into a folder and checks it; it gets its name when it is whole. Sets `program` to its path.
 unpack_into() {
     mkdir -p "$1" && part=$(mktemp "$1/part.XXXXXX") || return 1
-    if unpacked >"$part" && has_sum "$part" && chmod 755 "$part" && mv -f "$part" "$1/stmdesk"; then
-        program=$1/stmdesk
+    if unpacked >"$part" && has_sum "$part" && chmod 755 "$part" && mv -f "$part" "$1/$base"; then
+        program=$1/$base
     else
         rm -f "$part"
         return 1
@@ -52,17 +70,26 @@ unpack_into() {
 # Sets `program` to the program of release/, which is unpacked once and checked each time, and to nothing if it can't be unpacked below
 # out/. Fails if release/ doesn't fit, and ends if it isn't what it says that it is.
 released() {
-    fits || return 1
+    fits && unpack_once
+}
+
+# The same for the library.
+released_library() {
+    of_library
+    fits_library && unpack_once
+}
+
+unpack_once() {
     why="release/ is for Linux on x86-64"
     [ "$(uname -sm)" = "Linux x86_64" ] || return 1
-    program=$here/out/release/$sum/stmdesk
+    program=$here/out/release/$sum/$base
     if [ -e "$program" ]; then
         [ -x "$program" ] && has_sum "$program" && return
-        say "$program was changed after it was unpacked: it isn't run, and is unpacked again"
+        say "$program was changed after it was unpacked: it isn't $used, and is unpacked again"
     fi
     need_unpacker
     [ "$(packed_sum)" = "$sum  -" ] ||
-        stop "release/stmdesk.xz ISN'T the program that release/stmdesk.txt names (SHA-256 $sum), so it isn't run"
+        stop "$packed ISN'T the $kind that release/stmdesk.txt names (SHA-256 $sum), so it isn't $used"
     unpack_into "$here/out/release/$sum" || program=''
 }
 

@@ -3,9 +3,10 @@
     python3 clients/python/build_package.py [--pure] [FOLDER]
 
 So `pip install ./clients/python` needs no network. The wheel brings the program, as stmdesk/bin/stmdesk: the one that the repository's
-`./stmdesk` runs, built or of release/. A wheel with --pure (for pip: `--config-settings pure=yes`) has no program. pip gets
-such a wheel, too, if there is no program that runs here. This script writes a wheel to FOLDER, the present one if it isn't given, and fails
-if there is no program. The version is `__version__` in stmdesk/__init__.py; the other facts are those of pyproject.toml.
+`./stmdesk` runs, built or of release/. It also brings the library, as stmdesk/bin/libstmdesk.so, if `./stmdesk --which-library` names one.
+A wheel with --pure (for pip: `--config-settings pure=yes`) has neither. pip gets such a wheel, too, if there is no program that runs here.
+This script writes a wheel to FOLDER, the present one if it isn't given, and fails if there is no program. The version is `__version__` in
+stmdesk/__init__.py; the other facts are those of pyproject.toml.
 """
 
 from __future__ import annotations
@@ -29,7 +30,7 @@ from typing import Any
 HERE = Path(__file__).resolve().parent
 TOP = HERE.parent.parent
 SOURCES = ["pyproject.toml", "build_package.py", "README.md"]
-PROGRAM = "stmdesk/bin/stmdesk"
+PROGRAM, LIBRARY = "stmdesk/bin/stmdesk", "stmdesk/bin/libstmdesk.so"
 PURE = "any"  # the platform of a wheel without the program
 
 
@@ -89,11 +90,27 @@ def program() -> tuple[bytes, str]:
     found = Path(ran.stdout.removesuffix("\n"))
     is_unpacked = not found.samefile(TOP / "stmdesk")
     data = found.read_bytes() if is_unpacked else lzma.decompress((TOP / "release" / "stmdesk.xz").read_bytes())
-    needed = max((tuple(map(int, it.split(b"."))) for it in re.findall(rb"GLIBC_(\d+\.\d+)", data)), default=(2, 17))
+    needed = glibc(data)
     there = re.fullmatch(r"glibc (\d+)\.(\d+).*", (hasattr(os, "confstr") and os.confstr("CS_GNU_LIBC_VERSION")) or "")
     if sysconfig.get_platform() != "linux-x86_64" or not there or tuple(map(int, there.groups())) < needed:
         raise OSError(f"the program needs Linux on x86-64 with glibc {needed[0]}.{needed[1]} or later, and Python of the same kind")
     return data, f"manylinux_{needed[0]}_{needed[1]}_x86_64"
+
+
+def glibc(data: bytes) -> tuple[int, ...]:
+    """The version of the C library that a file needs."""
+    return max((tuple(map(int, it.split(b"."))) for it in re.findall(rb"GLIBC_(\d+\.\d+)", data)), default=(2, 17))
+
+
+def library(program: bytes) -> dict[str, bytes]:
+    """The repository's library by its path in the package, if there is one that needs nothing newer than this program does."""
+    ran = subprocess.run(
+        [TOP / "stmdesk", "--which-library"], stdin=subprocess.DEVNULL, capture_output=True, text=True, errors="surrogateescape"
+    )
+    if ran.returncode:
+        return {}
+    data = Path(ran.stdout.removesuffix("\n")).read_bytes()
+    return {LIBRARY: data} if glibc(data) <= glibc(program) else {}
 
 
 def write_wheel(folder: str, texts: dict[str, str], executables: dict[str, bytes], platform: str) -> str:
@@ -123,7 +140,7 @@ def write_pure(folder: str) -> str:
 def write_with_program(folder: str) -> str:
     """Raises OSError if there is no program that runs here."""
     data, platform = program()
-    return write_wheel(folder, package(), {PROGRAM: data}, platform)
+    return write_wheel(folder, package(), {PROGRAM: data} | library(data), platform)
 
 
 def build_wheel(wheel_directory: str, config_settings: Any = None, metadata_directory: str | None = None) -> str:

@@ -1,9 +1,13 @@
 #!/usr/bin/env python3
-"""Tests of the package stmdesk against the program.
+"""Tests of the package stmdesk against the program, or, with --local, against the library of docs/EMBEDDING.md.
 
 The program is the argument, or what the environment variable STMDESK names, or the script `stmdesk` at the top of the
 repository. Expected answers are from docs/CONSOLE.md and docs/LANGUAGE.md. If a program has to misbehave, a script of a few
-lines stands in for it. The last line is 'N passed, M failed'.
+lines stands in for it.
+
+With --local, or STMDESK_LOCAL=1, each desk is one of `Desk(local=True)`, of the library that `find_library` finds. A test that needs a
+process for its desk, or has no desk, is then skipped, and a line says why. The last line is 'N passed, M failed', with the number of
+tests that were skipped.
 """
 
 import argparse
@@ -44,8 +48,9 @@ import job_engine
 import stmdesk
 from stmdesk import (
     BadAnswer, Blocks, Cancellation, Cell, Change, ClientAt, Commits, Current, Delivery, Desk, Ended, FinalCell, Finish, Finished,
-    FinishedThrows, Job, JournalError, New, NewRef, Ready, Ref, Refused, ScriptRefused, Settled, Stale, StaleBefore, StaleBy, Stopped,
-    Submission, Throws, Waiting, Waits, _commands, _desk, _helper, _hints, _program, aio, check, explore, find_program,
+    FinishedThrows, Job, JournalError, New, NewRef, OutOfMemory, Ready, Ref, Refused, ScriptRefused, Settled, Stale, StaleBefore, StaleBy,
+    Stopped, Submission, Throws, Waiting, Waits, _commands, _desk, _helper, _hints, _local, _program, aio, check, explore, find_library,
+    find_program,
 )  # fmt: skip
 
 HERE = pathlib.Path(__file__).resolve().parent
@@ -58,6 +63,32 @@ CHAIN = "do { a <- newTVar 0; b <- newTVar a; c <- newTVar b; d <- newTVar c; e 
     "g <- newTVar f; h <- newTVar g; i <- newTVar h; j <- newTVar i; return j }"  # fmt: skip
 
 program = os.environ.get("STMDESK") or str(REPOSITORY / "stmdesk")
+library = ""  # with --local its path
+
+
+def new_desk(**options):
+    """A desk of the program, or of the library."""
+    return Desk(local=True, library=library, **options) if library else Desk(program, **options)
+
+
+def new_aio_desk(**options):
+    return aio.Desk(local=True, library=library, **options) if library else aio.Desk(program, **options)
+
+
+def needs_process(why):
+    """Of a test, or of a class of them, which is skipped with --local."""
+
+    def mark(of):
+        of.needs_process = why
+        return of
+
+    return mark
+
+
+def needs_library(of):
+    """Of a test, or of a class of them, which is skipped without --local."""
+    of.needs_library = True
+    return of
 
 
 def cell(number, name, kind, value, count):
@@ -68,6 +99,13 @@ class OnProgram(unittest.TestCase):
     """Each test has `seconds` to end; then it fails, and the program with it."""
 
     def setUp(self):
+        test = getattr(self, self._testMethodName)
+        why = getattr(test, "needs_process", None) or getattr(self, "needs_process", None)
+        if library and why:
+            self.skipTest(why)
+        if not library and (hasattr(test, "needs_library") or hasattr(self, "needs_library")):
+            self.skipTest("of a desk in this process: see --local")
+
         def hang(number, frame):
             raise TimeoutError(f"no end after {SECONDS} seconds")
 
@@ -76,8 +114,8 @@ class OnProgram(unittest.TestCase):
         self.addCleanup(signal.alarm, 0)
 
     def start(self, **options):
-        """A desk of the program with x = 1, which ends with the test."""
-        desk = Desk(program, **options)
+        """A desk with x = 1, which ends with the test."""
+        desk = new_desk(**options)
         self.addCleanup(desk.close)
         self.assertEqual(desk.tvar("x : Int = 1"), X)
         return desk
@@ -94,6 +132,8 @@ class OnProgram(unittest.TestCase):
 
     def stand_in(self, *lines):
         """The path of a shell script in place of the program."""
+        if library:
+            self.skipTest("a script stands in for the program")
         folder = tempfile.TemporaryDirectory()
         self.addCleanup(folder.cleanup)
         path = pathlib.Path(folder.name) / "stand_in"
@@ -103,6 +143,9 @@ class OnProgram(unittest.TestCase):
 
     def assert_gone(self, pid):
         """No process of this number is left, not even one that was not waited for."""
+        if library:
+            self.assertEqual(pid, os.getpid())
+            return
         with self.assertRaises(ProcessLookupError):
             os.kill(pid, 0)
 
@@ -128,7 +171,7 @@ class Answers(OnProgram):
         )
 
     def test_an_empty_store_has_no_cells(self):
-        with Desk(program) as desk:
+        with new_desk() as desk:
             self.assert_is(desk.store(), [])
 
     def test_verdicts(self):
@@ -258,7 +301,8 @@ class Answers(OnProgram):
         self.assert_refused(lambda: desk.why(2), "NoTicket")
 
     def test_options_change_no_answer(self):
-        for options in ({"workers": 1, "levels": 8, "max_events": 1 << 20}, {"workers": 64, "levels": 0}):
+        of_a_process = ({"workers": 1, "levels": 8, "max_events": 1 << 20}, {"workers": 64, "levels": 0})
+        for options in ({"workers": 1, "levels": 0, "max_events": 3},) if library else of_a_process:
             desk = self.start(**options)
             desk.submit(INCREMENT)
             self.assert_is(desk.settle(), Settled(1, 1))
@@ -269,7 +313,7 @@ class Answers(OnProgram):
         self.assert_refused(lambda: desk.submit("retry"), "HistoryFull")
 
     def test_the_help_of_the_module(self):
-        with Desk(program) as desk:
+        with new_desk() as desk:
             desk.tvar("x : Int = 1")
             ticket = desk.submit("do { a <- readTVar x; writeTVar x (a + 1); return a }")
             desk.eval()
@@ -302,7 +346,7 @@ class Histories(OnProgram):
         self.assert_is(desk.try_("return 3"), Commits({}, [], 3))  # nothing of the answer is left
 
     def test_of_nothing(self):
-        with Desk(program) as desk:
+        with new_desk() as desk:
             self.assertEqual(desk.history(), '{"format":3,"vars":0}\n')
             self.assertEqual(desk.history(), '{"format":3,"vars":0}\n')
 
@@ -345,7 +389,7 @@ class Histories(OnProgram):
         self.assert_is(desk.try_("return 3"), Commits({}, [], 3))  # nothing of an answer is left
 
     def test_checkpoint(self):
-        with Desk(program, max_events=5) as desk:
+        with new_desk(max_events=5) as desk:
             x = desk.tvar("x : Int = 1")
             reader, writer = desk.submit("readTVar x"), desk.submit("writeTVar x 5")
             self.assert_is((desk.eval(), desk.finish(writer).stale), (2, [reader]))
@@ -548,7 +592,7 @@ class Lines(OnProgram):
 
     def test_large_answers(self):
         count = 3000
-        with Desk(program) as desk:
+        with new_desk() as desk:
             for number in range(count):
                 desk.tvar(f"variable_of_a_long_name_{number:04} : Int = {number}")
             for number in range(count):
@@ -563,7 +607,7 @@ class Lines(OnProgram):
 
     def test_as_many_waiting_blocks_as_there_can_be(self):
         count = 65536
-        with Desk(program) as desk:
+        with new_desk() as desk:
             for _ in range(count):
                 desk.submit("retry")
             self.assert_refused(lambda: desk.submit("retry"), "WaitingFull")
@@ -590,7 +634,7 @@ class Lines(OnProgram):
 
 class Ends(OnProgram):
     def test_a_with_ends_the_program(self):
-        with Desk(program) as desk:
+        with new_desk() as desk:
             desk.store()
         self.assert_gone(desk.pid)
         desk.close()
@@ -598,7 +642,7 @@ class Ends(OnProgram):
             desk.store()
 
     def test_a_with_of_no_call(self):
-        with Desk(program) as desk:
+        with new_desk() as desk:
             pass
         self.assert_gone(desk.pid)
 
@@ -606,18 +650,19 @@ class Ends(OnProgram):
         def job():
             raise ZeroDivisionError
 
-        with self.assertRaises(ZeroDivisionError), Desk(program) as desk:
+        with self.assertRaises(ZeroDivisionError), new_desk() as desk:
             desk.submit("retry")
             job()
         self.assert_gone(desk.pid)
 
     def test_a_refusal_passes_out_of_a_with(self):
-        with self.assertRaises(Refused), Desk(program) as desk:
+        with self.assertRaises(Refused), new_desk() as desk:
             desk.finish(1)
         self.assert_gone(desk.pid)
 
+    @needs_process("the program is killed")
     def test_a_program_that_is_killed(self):
-        with Desk(program) as desk:
+        with new_desk() as desk:
             desk.submit("retry")
             os.kill(desk.pid, signal.SIGKILL)
             for _ in range(2):
@@ -626,27 +671,30 @@ class Ends(OnProgram):
                 self.assertEqual((caught.exception.status, caught.exception.said), (-signal.SIGKILL, ""))
         self.assert_gone(desk.pid)
 
+    @needs_process("the program is killed")
     def test_a_program_that_is_killed_between_the_calls_is_told_at_the_end(self):
-        with self.assertRaises(Ended), Desk(program) as desk:
+        with self.assertRaises(Ended), new_desk() as desk:
             desk.submit("retry")
             os.kill(desk.pid, signal.SIGKILL)
         self.assert_gone(desk.pid)
 
+    @needs_process("the program isn't there")
     def test_a_program_that_is_not_there(self):
         with self.assertRaises(FileNotFoundError):
             Desk(HERE / "no_such_program")
         with self.assertRaises(PermissionError):
             Desk(HERE / "job_engine.out")
 
+    @needs_process("the program refuses options")
     def test_options_that_are_refused(self):
         for options in ({"workers": 0}, {"workers": 65}, {"levels": 9}, {"max_events": 1048577}):
-            with self.subTest(options=options), Desk(program, **options) as desk:
+            with self.subTest(options=options), new_desk(**options) as desk:
                 with self.assertRaises(Ended) as caught:
                     desk.store()
                 self.assertEqual(caught.exception.status, 2)
                 self.assertTrue(caught.exception.said.startswith("error: "))
         with self.assertRaises(TypeError):
-            Desk(program, workers="2")
+            new_desk(workers="2")
 
     def test_the_status_and_what_was_said(self):
         for status, said in ((1, "stmdesk: write fault"), (4, "stmdesk: out of memory")):
@@ -1134,6 +1182,7 @@ class BrokenOff(OnProgram):
             self.assertIs(caught.exception, error)
             self.assert_gone(desk.pid)
 
+    @needs_process("a call that is broken off ends the program")
     def test_its_error_comes_out_of_the_program(self):
         desk = self.start()
         self.on_alarm(self.throwing(TimeoutError("mine")))
@@ -1187,7 +1236,7 @@ class Stores(OnProgram):
 
 class Batches(OnProgram):
     def test_all_commands(self):
-        with Desk(program) as desk:
+        with new_desk() as desk:
             with desk.batch() as batch:
                 answers = [
                     batch.tvar("x : Int = 1"), batch.tvar("flag : Bool = False"), batch.try_(INCREMENT), batch.looks("readTVar x"),
@@ -1253,7 +1302,7 @@ class Batches(OnProgram):
         self.assert_is(desk.show(), [])
 
     def test_hints_know_what_a_batch_declared(self):
-        with Desk(program) as desk:
+        with new_desk() as desk:
             with desk.batch() as batch:
                 batch.tvar("x : Int = 1")
                 wrong, late = batch.submit("if x == 0 then retry else return 1"), batch.tvar("y : Int = 1")
@@ -1262,8 +1311,8 @@ class Batches(OnProgram):
 
     def test_full_pipes(self):
         for is_small in (False, True):
-            with Desk(program) as desk:
-                if is_small and hasattr(fcntl, "F_SETPIPE_SZ"):  # 4096 bytes in each pipe
+            with new_desk() as desk:
+                if is_small and not library and hasattr(fcntl, "F_SETPIPE_SZ"):  # 4096 bytes in each pipe
                     for pipe in (desk._transport._input, desk._transport._output):
                         fcntl.fcntl(pipe.fileno(), fcntl.F_SETPIPE_SZ, 4096)
                 with desk.batch() as batch:
@@ -1307,6 +1356,7 @@ class Batches(OnProgram):
                     answer.result()
         self.assert_gone(desk.pid)
 
+    @needs_process("the program is killed")
     def test_a_program_that_is_killed_within_a_large_one(self):
         desk, read = self.start(), _commands.Answers.refusal
 
@@ -1342,7 +1392,7 @@ class Batches(OnProgram):
         self.assert_gone(desk.pid)
 
     def test_of_a_closed_desk(self):
-        with Desk(program) as desk:
+        with new_desk() as desk:
             pass
         with self.assertRaises(ValueError), desk.batch() as batch:
             answer = batch.eval()
@@ -1590,7 +1640,7 @@ class Atomically(InThreads):
         self.assert_is((desk.value("x"), desk.show()), (801, []))
 
     def test_many_threads_pass_values_on(self):
-        desk = Desk(program)
+        desk = new_desk()
         self.addCleanup(desk.close)
         for slot in ("a", "b"):
             desk.tvar(f"{slot} : Int = 0")
@@ -1633,6 +1683,7 @@ class Atomically(InThreads):
         self.assertEqual(in_threads(4, atomic) + others.result(), [None] * 8)
         self.assert_is((desk.value("x"), desk.show()), (201, []))
 
+    @needs_process("the program is killed")
     def test_a_program_that_is_killed(self):
         for count in (1, 8):
             desk = self.start()
@@ -1646,9 +1697,10 @@ class Atomically(InThreads):
                     desk.atomically("return 1")
             self.assert_gone(desk.pid)
 
+    @needs_process("the program is killed")
     def test_a_program_that_is_killed_while_nothing_waits(self):
         before = threading.enumerate()
-        with self.assertRaises(Ended), Desk(program) as desk:
+        with self.assertRaises(Ended), new_desk() as desk:
             desk.atomically("return 1")
             os.kill(desk.pid, signal.SIGKILL)
             for thread in threading.enumerate():
@@ -1677,10 +1729,11 @@ class Atomically(InThreads):
         with self.assertRaises(ValueError):
             desk.atomically("return 1")
 
+    @needs_process("no thread of a desk in this process runs a block that doesn't wait")
     def test_its_thread_ends_with_the_program(self):
         for is_closed in (True, False):
             before = threading.enumerate()
-            desk = Desk(program)
+            desk = new_desk()
             desk.atomically("return 1")
             (thread,) = (it for it in threading.enumerate() if it not in before)
             self.assertEqual(thread.name, "stmdesk")
@@ -2010,7 +2063,7 @@ class Forks(InThreads):
 
     def test_each_call_of_asyncio_raises(self):
         for is_begun in (False, True):
-            desk = aio.Desk(program)
+            desk = new_aio_desk()
             if is_begun:
                 asyncio.run(desk.tvar("x : Int = 1"))
 
@@ -2080,7 +2133,7 @@ class Forks(InThreads):
         self.assert_is(waiting.result(), 5)
 
     def test_a_child_drops_its_copy(self):
-        desks = [Desk(program)]
+        desks = [new_desk()]
         desks[0].tvar("x : Int = 1")
         desks[0].atomically("writeTVar x 2")
 
@@ -2098,7 +2151,7 @@ class Forks(InThreads):
             "import os, sys, warnings",
             "from stmdesk import Desk",
             "warnings.simplefilter('ignore', DeprecationWarning)",
-            "with Desk(sys.argv[1]) as desk:",
+            "with Desk(local=True, library=sys.argv[1]) as desk:" if library else "with Desk(sys.argv[1]) as desk:",
             "    x = desk.tvar('x : Int = 1')",
             "    desk.atomically('writeTVar x 2')",
             "    child = os.fork()",
@@ -2106,10 +2159,11 @@ class Forks(InThreads):
             "        sys.exit(7)  # through the end of the `with`, and of the interpreter",
             "    print(os.waitstatus_to_exitcode(os.waitpid(child, 0)[1]), desk.value('x'))",
         ]
-        command = [sys.executable, "-B", "-c", "\n".join(code), program]
+        command = [sys.executable, "-B", "-c", "\n".join(code), library or program]
         done = subprocess.run(command, capture_output=True, text=True, timeout=SECONDS, cwd=HERE)
         self.assertEqual((done.returncode, done.stdout, done.stderr), (0, "7 2\n", ""))
 
+    @needs_process("the end of a program that is waited for")
     def test_the_program_ends_though_a_child_lives(self):
         for is_begun in (False, True):
             ours, theirs = os.pipe()
@@ -2127,6 +2181,7 @@ class Forks(InThreads):
             os.close(ours)
             os.waitpid(child, 0)
 
+    @needs_process("a journal")
     def test_the_program_ends_after_its_owner_though_a_child_lives(self):
         code = [
             "import os, sys, signal, warnings",
@@ -2151,24 +2206,29 @@ class Forks(InThreads):
                 fcntl.flock(file, fcntl.LOCK_SH)  # waits for the program's end
             os.kill(child, signal.SIGKILL)
             owner.stdout.close()
-            with Desk(program, journal=path) as desk:
+            with new_desk(journal=path) as desk:
                 self.assert_is(desk.show(), [New(1)])
 
-    def test_a_signal_handler_forks(self):
-        owner, children = os.getpid(), []
+    def handler(self, children, after=lambda: None):
+        """A signal handler that forks once, puts the child's number into the list, and does what comes after that."""
 
         def handle(number, frame):
-            children.append(self.fork())
+            if not children:
+                children.append(self.fork())
+                after()
 
-        def end_child(got):
-            """Ends the child, if this is one."""
-            if os.getpid() != owner:
-                os._exit(0 if got == self.refused_in(os.getpid(), owner) else 1)
+        return handle
 
-        def assert_ended_well():
-            self.assertEqual(os.waitstatus_to_exitcode(os.waitpid(children.pop(), 0)[1]), 0)
+    def assert_forked_well(self, got, owner, children):
+        """What comes of a call in which such a handler forked: it is refused in the child, which ends here, and not in its owner."""
+        if os.getpid() != owner:
+            os._exit(0 if got == self.refused_in(os.getpid(), owner) else 1)
+        self.assertEqual(got, "no error")
+        return lambda: self.assertEqual(os.waitstatus_to_exitcode(os.waitpid(children.pop(), 0)[1]), 0)
 
-        signal.signal(signal.SIGUSR1, handle)
+    def test_a_signal_handler_forks_while_a_block_waits(self):
+        owner, children = os.getpid(), []
+        signal.signal(signal.SIGUSR1, self.handler(children))
         for timeout in (None, 10**6):
             desk = self.start()
 
@@ -2181,31 +2241,26 @@ class Forks(InThreads):
 
             sender = self.begin(send)
             got = self.outcome(desk.atomically, waits_for(5), timeout=timeout)
-            end_child(got)
-            self.assertEqual(got, "no error")
+            assert_ended_well = self.assert_forked_well(got, owner, children)
             sender.result()
             assert_ended_well()
+
+    def test_a_signal_handler_forks_in_the_midst_of_a_call(self):
+        owner, children = os.getpid(), []
         with tempfile.TemporaryDirectory() as folder:
             has_forked = pathlib.Path(folder) / "has_forked"
-
-            def handle_and_say(number, frame):
-                handle(number, frame)
-                has_forked.touch()
-
-            signal.signal(signal.SIGUSR1, handle_and_say)
+            signal.signal(signal.SIGUSR1, self.handler(children, has_forked.touch))
             until = f"until [ -e {has_forked} ]; do sleep 0.01; done"
             desk = Desk(self.stand_in("read line", "kill -USR1 $PPID", until, "echo evaluated 0", "cat >/dev/null"))
             got = self.outcome(desk.eval)
-            end_child(got)
-            self.assertEqual(got, "no error")
-            assert_ended_well()
+            self.assert_forked_well(got, owner, children)()
             desk.close()
 
     def test_a_child_has_a_desk_of_its_own(self):
         desk = self.start()
 
         def other():
-            with Desk(program) as mine:
+            with new_desk() as mine:
                 mine.tvar("x : Int = 8")
                 return mine.atomically(INCREMENT), mine.value("x")
 
@@ -2233,6 +2288,387 @@ class Forks(InThreads):
         self.assert_is(desk.value("x"), 2)
 
 
+class Interruption(Exception):
+    """What a signal handler of a test raises."""
+
+
+@needs_library
+class InThisProcess(InThreads):
+    """What differs if the desk is the library."""
+
+    def test_it_starts_nothing(self):
+        threads, descriptors = threading.enumerate(), os.listdir("/proc/self/fd")
+        children = pathlib.Path(f"/proc/self/task/{threading.get_native_id()}/children").read_text()
+        desk = self.start()
+        self.assert_is([desk.atomically(INCREMENT) for _ in range(3)], [1, 2, 3])
+        self.assert_is(desk.pid, os.getpid())
+        self.assertEqual((threading.enumerate(), os.listdir("/proc/self/fd")), (threads, descriptors))
+        self.assertEqual(pathlib.Path(f"/proc/self/task/{threading.get_native_id()}/children").read_text(), children)
+
+    def test_what_needs_a_process_is_refused(self):
+        for options in (
+            {"program": program}, {"journal": "desk"}, {"journal": "desk", "sync": "full"}, {"workers": 2}, {"levels": 1},
+            {"checkpoint_every": 5}, {"sync": "none"},
+        ):  # fmt: skip
+            for kind in (Desk, aio.Desk):
+                with self.subTest(options=options, kind=kind), self.assertRaisesRegex(ValueError, f"{[*options][0]}=.* local=True"):
+                    kind(local=True, library=library, **options)
+        for kind in (Desk, aio.Desk):
+            with self.assertRaisesRegex(ValueError, "library=.* local=True"):
+                kind(library=library)
+        for wrong in (-1, 1048577):
+            with self.assertRaisesRegex(ValueError, f"max_events={wrong} isn't from 0 to 1048576"):
+                new_desk(max_events=wrong)
+        with self.assertRaises(TypeError):
+            new_desk(max_events="5")
+
+    def test_no_events(self):
+        self.assert_refused(lambda: new_desk(max_events=0).submit("retry"), "HistoryFull")
+
+    def test_many_desks(self):
+        desks = [self.start() for _ in range(1000)]
+        for number, desk in enumerate(desks):
+            desk.atomically(f"writeTVar x {number}")
+        self.assertEqual([desk.value("x") for desk in desks], list(range(1000)))
+
+    def test_answers_of_any_length(self):
+        """Around the length that one call of the library gives, so that a second one gives the rest."""
+        desk = new_desk()
+        self.addCleanup(desk.close)
+        for length in (*(_local.ROOM + it for it in range(-20, 20)), 2 * _local.ROOM, 65536, 65537, 200_000):
+            short = 7 * length % 18  # of 13 bytes each, `checkpoint 0` and a line feed; the others have 18
+            with desk.batch() as batch:
+                counts = [batch.checkpoint() for _ in range(short)]
+                refused = [batch.try_("") for _ in range((length - 13 * short) // 18)]
+            self.assertEqual(13 * len(counts) + len("refused EndOfText\n") * len(refused), length)
+            self.assert_is([it.result() for it in counts], [0] * short)
+            for it in refused:
+                self.assert_refused(it.result, "EndOfText")
+        self.assert_is(desk.eval(), 0)
+
+    def test_a_close_while_others_call(self):
+        for _ in range(20):
+            desk = self.start()
+            calls = [self.begin(lambda: [desk.atomically(INCREMENT) for _ in range(10**6)]) for _ in range(4)]
+            while desk.value("x") < 20:
+                pass
+            desk.close()
+            for it in calls:
+                self.assertIsInstance(it.exception(), (Ended, ValueError))
+            self.assertFalse(desk._transport._free.alive)
+
+    def test_a_handler_that_closes(self):
+        desk = self.start()
+        self.after_the_call(desk, desk.close)
+        self.assert_is(desk.eval(), 0)  # the answer was there
+        self.assertFalse(desk._transport._free.alive)
+        with self.assertRaises(ValueError):
+            desk.eval()
+
+    def test_a_desk_that_nobody_uses_is_freed(self):
+        for is_begun in (False, True):
+            threads = threading.enumerate()
+            desk = self.start()
+            self.doCleanups()
+            desk = new_desk()
+            if is_begun:
+                with self.assertRaises(stmdesk.TimedOut):
+                    desk.atomically("retry", timeout=0)
+            free = desk._transport._free
+            self.assertTrue(free.alive)
+            (thread,) = [it for it in threading.enumerate() if it not in threads] or [None]
+            self.assertEqual(thread is not None, is_begun)
+            del desk
+            gc.collect()
+            self.assertFalse(free.alive)
+            if thread:
+                thread.join()
+
+    def test_what_is_no_library(self):
+        with tempfile.TemporaryDirectory() as folder:
+            text = pathlib.Path(folder) / "libstmdesk.so"
+            text.write_text("no library")
+            for wrong in (text, pathlib.Path(folder) / "none"):
+                with self.assertRaises(OSError):
+                    Desk(local=True, library=wrong)
+        with self.assertRaisesRegex(OSError, "is no library of stmdesk"):
+            Desk(local=True, library=next(it.split()[-1] for it in open("/proc/self/maps") if "/libc" in it and ".so" in it))
+
+    # An exception in the midst of a call.
+
+    def after_the_call(self, desk, action, count=1):
+        """Lets this be done in the thread that calls, right after the library has done the next call, or the next few."""
+        transport, call, left = desk._transport, desk._transport._feed, [count]
+
+        def feed(*given):
+            status = call(*given)
+            if left[0]:
+                left[0] -= 1
+                action()
+            return status
+
+        transport._feed = feed
+
+    def before_the_call(self, desk, action):
+        call = desk._transport._feed
+
+        def feed(*given):
+            desk._transport._feed = call
+            action()
+            return call(*given)
+
+        desk._transport._feed = feed
+
+    def interrupt(self):
+        raise Interruption
+
+    def test_a_call_that_is_broken_off(self):
+        for when, is_done in ((self.before_the_call, False), (self.after_the_call, True)):
+            desk = self.start()
+            when(desk, self.interrupt)
+            with self.assertRaises(Interruption):
+                desk.tvar("flag : Bool = False")
+            if is_done:
+                self.assert_is(desk.variable("flag : Bool = True"), FLAG)  # its answer was read after all
+            when(desk, self.interrupt)
+            with self.assertRaises(Interruption):
+                desk.submit("retry")
+            self.assert_is(desk.show(), [New(1)] if is_done else [])
+            when(desk, self.interrupt)
+            with self.assertRaises(Interruption), desk.batch() as batch:
+                tickets = [batch.submit("return 1") for _ in range(3)]
+            for it in tickets:
+                with self.assertRaises(Interruption):
+                    it.result()
+            self.assertEqual(len(desk.show()), 4 if is_done else 0)  # all of a batch, or nothing
+            when(desk, self.interrupt)
+            with self.assertRaises(Interruption):
+                desk.history()
+            self.assertEqual(desk.history().count("submitted"), 4 if is_done else 0)
+
+    def test_a_long_answer_that_is_broken_off(self):
+        """Within the call that gives the first part of it, and within the one that gives the rest."""
+        for count in (1, 2):
+            desk = self.start()
+            with desk.batch() as batch:
+                for _ in range(3000):
+                    batch.submit(INCREMENT)
+            history = desk.history()
+            self.assertGreater(len(history), 1 << 17)
+            self.after_the_call(desk, self.interrupt, count)
+            for _ in range(count):
+                with self.assertRaises(Interruption):
+                    desk.history()
+            self.assert_is(desk.try_("return 3"), Commits({}, [], 3))
+            self.assertEqual(desk.history(), history)
+
+    def test_an_atomically_that_is_broken_off(self):
+        for when, is_done in ((self.before_the_call, False), (self.after_the_call, True)):
+            for block, tickets in ((INCREMENT, []), ("retry", []), ("throw 1", []), ("return y", [])):
+                desk = self.start()
+                when(desk, self.interrupt)
+                with self.assertRaises(Interruption):
+                    desk.atomically(block)
+                self.assert_is((desk.value("x"), desk.show()), (2 if is_done and block == INCREMENT else 1, tickets))
+                self.assert_is(desk.atomically("return 7"), 7)
+
+    def test_a_call_that_is_broken_off_wakes_others(self):
+        """Its answer names a block of `atomically` that may go on, has finished it, or has cancelled it."""
+        for change, outcome in (
+            (lambda desk: desk.finish(2), 5), (lambda desk: desk.atomically("writeTVar x 5"), 5),
+            (lambda desk: desk.cancel(1), stmdesk.Cancelled),
+        ):  # fmt: skip
+            desk = self.start()
+            (wait,) = self.waiting(desk, waits_for(5))
+            desk.submit("writeTVar x 5")
+            desk.eval()
+            self.after_the_call(desk, self.interrupt)
+            with self.assertRaises(Interruption):
+                change(desk)
+            if outcome == 5:
+                self.assert_is(wait.result(), 5)
+            else:
+                self.assertIsInstance(wait.exception(), outcome)
+            self.assertLessEqual(len(desk.show()), 1)
+        desk = self.start()
+        (wait,) = self.waiting(desk, waits_for(5))
+        with self.assertRaises(Interruption), desk.batch() as batch:
+            batch.submit("writeTVar x 5")
+            batch.eval()
+            batch.finish(2)
+            batch.eval()
+            batch.finish(1)
+            self.after_the_call(desk, self.interrupt)
+        self.assert_is(wait.result(), 5)
+
+    def test_batches_at_any_time(self):
+        desk = self.start()
+        is_over = threading.Event()
+
+        def interrupt(number, frame):
+            while frame and frame.f_code is not Desk._run.__code__:
+                frame = frame.f_back
+            if frame:
+                raise Interruption
+
+        def send():
+            while not is_over.is_set():
+                time.sleep(random.random() * 0.0005)
+                signal.pthread_kill(threading.main_thread().ident, signal.SIGUSR1)
+
+        signal.signal(signal.SIGUSR1, interrupt)
+        sender = self.begin(send)
+        done = broken = last = 0
+        try:
+            while broken < 300:
+                try:
+                    with desk.batch() as batch:
+                        ticket, drained = batch.submit(INCREMENT), batch.drain()
+                except Interruption:
+                    broken += 1
+                else:
+                    done += 1
+                    self.assertEqual(drained.result(), Settled(1, 1))
+                    self.assertGreater(ticket.result(), last)  # it is no answer to an earlier one
+                    last = ticket.result()
+        finally:
+            signal.signal(signal.SIGUSR1, signal.SIG_IGN)
+            is_over.set()
+            sender.result()
+        self.assertTrue(done <= desk.value("x") - 1 <= done + broken)
+        self.assert_is(desk.atomically("return 7"), 7)
+        self.assert_is(desk.show(), [])
+
+    def test_a_handler_can_not_call_it_in_the_midst_of_a_call(self):
+        for call in (lambda desk: desk.submit("retry"), lambda desk: desk.atomically("retry"), lambda desk: desk.eval()):
+            desk = self.start()
+            self.after_the_call(desk, partial(call, desk))
+            with self.assertRaisesRegex(RuntimeError, "signal handler"):
+                desk.submit("retry")
+            self.assert_is(desk.show(), [New(1)])
+
+    # Out of memory.
+
+    def refuse(self, desk, word, *, is_done):
+        """The next command of this word has no memory. It is done all the same, or not."""
+        transport, call = desk._transport, desk._transport._feed
+
+        def feed(at, text, *others):
+            lines = text.splitlines(keepends=True)
+            found = next((it for it, line in enumerate(lines) if line.startswith(word.encode())), None)
+            if found is None:
+                return call(at, text, *others)
+            transport._feed = call
+            before = b"".join(lines[:found])
+            call(at, before, len(before), *others[1:])
+            if is_done:
+                unseen, fed = bytearray(1 << 16), _local._Fed()
+                into = _local.ctypes.c_char.from_buffer(unseen)
+                call(at, lines[found], len(lines[found]), _local.ctypes.addressof(into), len(unseen), _local.ctypes.addressof(fed))
+            return 2
+
+        transport._feed = feed
+
+    def test_out_of_memory(self):
+        for is_done in (False, True):
+            desk = self.start()
+            self.refuse(desk, "submit", is_done=is_done)
+            with self.assertRaises(OutOfMemory) as caught:
+                desk.submit("retry")
+            self.assertIsInstance(caught.exception, (MemoryError, stmdesk.DeskError))
+            self.assert_is(str(caught.exception), "there was no memory for a command")
+            self.assert_is(desk.show(), [New(1)] if is_done else [])  # the desk goes on
+            self.refuse(desk, "eval", is_done=is_done)
+            with self.assertRaises(OutOfMemory), desk.batch() as batch:
+                before, refused, after = batch.submit("return 1"), batch.eval(), batch.submit("return 2")
+            self.assert_is(before.result(), 2 if is_done else 1)
+            for it in (refused, after):
+                with self.assertRaises(OutOfMemory):
+                    it.result()
+            self.assertEqual([type(it) for it in desk.show()], [Current, Current] if is_done else [New])
+            self.refuse(desk, "try", is_done=is_done)  # the second line of `history`
+            with self.assertRaises(OutOfMemory):
+                desk.history()
+            self.assertEqual(desk.history().count("submitted"), 2 if is_done else 1)
+
+    def test_out_of_memory_of_an_atomically(self):
+        for is_done in (False, True):
+            desk = self.start()
+            self.refuse(desk, "atomically", is_done=is_done)
+            with self.assertRaises(OutOfMemory):
+                desk.atomically(INCREMENT)
+            self.assert_is((desk.value("x"), desk.atomically("return 7")), (2 if is_done else 1, 7))
+
+    def test_out_of_memory_while_a_block_waits(self):
+        """Its wake-up isn't lost with the answer; if the answer was its result, it raises `OutOfMemory`, too."""
+        for word, call in (("finish", lambda desk: desk.finish(2)), ("atomically", lambda desk: desk.atomically("writeTVar x 5"))):
+            desk = self.start()
+            (wait,) = self.waiting(desk, waits_for(5))
+            desk.submit("writeTVar x 5")
+            desk.eval()
+            self.refuse(desk, word, is_done=True)
+            with self.assertRaises(OutOfMemory):
+                call(desk)
+            self.assert_is(wait.result(), 5)
+        desk = self.start()
+        (wait,) = self.waiting(desk, waits_for(5))
+        with self.assertRaises(OutOfMemory), desk.batch() as batch:
+            batch.submit("writeTVar x 5")
+            batch.eval()
+            batch.finish(2)
+            batch.eval()
+            self.refuse(desk, "finish 1", is_done=True)
+            batch.finish(1)
+        self.assertIsInstance(wait.exception(), OutOfMemory)
+
+    def test_out_of_memory_of_a_turn(self):
+        """Of a thread that runs blocks for others: all that wait raise it, and their tickets are cancelled."""
+        desk = self.start()
+        waits = self.waiting(desk, waits_for(5), "retry")
+        self.refuse(desk, "eval", is_done=False)
+        desk.atomically("writeTVar x 5")
+        for it in waits:
+            self.assertIsInstance(it.exception(), OutOfMemory)
+        self.assert_is((desk.show(), desk.atomically("return 7")), ([], 7))
+
+    def test_no_memory_for_a_desk(self):
+        functions = _local.load(library)._replace(new=lambda *given: False)
+        with mock.patch.object(_local, "load", lambda path: functions), self.assertRaisesRegex(OutOfMemory, "for a new desk"):
+            new_desk()
+
+
+class FindingTheLibrary(OnProgram):
+    def test_the_order(self):
+        """STMDESK_LIBRARY, the package's own, the repository's; the first that is there."""
+        with tempfile.TemporaryDirectory() as folder, mock.patch.dict(os.environ):
+            os.environ.pop("STMDESK_LIBRARY", None)
+            top = pathlib.Path(folder).resolve()
+            package = top / "repo" / "clients" / "python" / "stmdesk"
+            (package / "bin").mkdir(parents=True)
+            (top / "repo" / "crates" / "stmdesk").mkdir(parents=True)
+            with mock.patch.object(_local, "__file__", str(package / "x")):
+                with self.assertRaises(FileNotFoundError) as caught:
+                    find_library()
+                own = package / "bin" / "libstmdesk.so"
+                for looked in ("library=..", "STMDESK_LIBRARY isn't set", str(own), f"no folder above {package}"):
+                    self.assertIn(looked, str(caught.exception))
+                launcher = top / "repo" / "stmdesk"
+                launcher.write_text('#!/bin/sh\n[ "$*" = --which-library ] || exit 9\necho "none fits" >&2\nexit 1\n')
+                launcher.chmod(0o755)
+                with self.assertRaisesRegex(FileNotFoundError, "none fits"):
+                    find_library()
+                launcher.write_text('#!/bin/sh\n[ "$*" = --which-library ] && echo /of/the/repository\n')
+                self.assertEqual(find_library(), "/of/the/repository")
+                own.touch()
+                self.assertEqual(find_library(), str(own))
+                named = top / "named"
+                os.environ["STMDESK_LIBRARY"] = str(named)
+                with self.assertRaisesRegex(FileNotFoundError, f"STMDESK_LIBRARY names '{named}'"):
+                    find_library()
+                named.touch()
+                self.assertEqual(find_library(), str(named))
+
+
 class Asynchronous(OnProgram):
     """The package's `aio`."""
 
@@ -2240,7 +2676,7 @@ class Asynchronous(OnProgram):
         """Runs a coroutine function on a desk with x = 1."""
 
         async def run():
-            async with aio.Desk(program, **options) as desk:
+            async with new_aio_desk(**options) as desk:
                 self.assert_is(await desk.tvar("x : Int = 1"), X)
                 self.desk = desk
                 return await main(desk)
@@ -2357,6 +2793,7 @@ class Asynchronous(OnProgram):
 
         self.run_on_desk(main)
 
+    @needs_process("the program is killed")
     def test_a_program_that_is_killed(self):
         async def main(desk):
             tasks = [asyncio.create_task(desk.atomically("retry")) for _ in range(8)]
@@ -2373,7 +2810,7 @@ class Asynchronous(OnProgram):
     def test_a_body_that_raises(self):
         async def main():
             with self.assertRaises(ZeroDivisionError):
-                async with aio.Desk(program) as desk:
+                async with new_aio_desk() as desk:
                     task = asyncio.create_task(desk.atomically("retry"))
                     await self.until_blocked(desk, 1)
                     raise ZeroDivisionError
@@ -2387,7 +2824,7 @@ class Asynchronous(OnProgram):
         """The end of an `async with` ends the program, also if its task is cancelled for a second time."""
 
         async def within(desks):
-            async with aio.Desk(program) as desk:
+            async with new_aio_desk() as desk:
                 desks.append(desk)
                 try:
                     await desk.atomically("retry")
@@ -2524,7 +2961,7 @@ class Asynchronous(OnProgram):
             self.assertEqual(in_threads(1, lambda: asyncio.run(main(call))), [result])
 
     def test_a_loop_that_ended(self):
-        desk = aio.Desk(program)
+        desk = new_aio_desk()
 
         async def begin():
             asyncio.create_task(desk.atomically("retry"))
@@ -2538,6 +2975,7 @@ class Asynchronous(OnProgram):
         self.assert_gone(desk.pid)
 
 
+@needs_process("no desk: a thread")
 class Helpers(OnProgram):
     def test_what_comes_while_the_end_is_noticed(self):
         """It runs after all that came before it, and not at once."""
@@ -2602,6 +3040,7 @@ class Floods(OnProgram):
 NO_STEP = "tvar x : Int = 1\nclient\n"
 
 
+@needs_process("no desk: `find_program`")
 class Finding(OnProgram):
     def setUp(self):
         super().setUp()
@@ -2736,6 +3175,7 @@ CHECKED = '''{"format":3,"vars":1}
 '''
 
 
+@needs_process("no desk: `check`")
 class Checks(OnProgram):
     def check(self, text, **options):
         with tempfile.TemporaryDirectory() as folder:
@@ -2785,6 +3225,7 @@ class Checks(OnProgram):
                 self.check(CHECKED, why=why, program=self.stand_in(f"printf '{answer}'; exit {status}"))
 
 
+@needs_process("no desk: `explore`")
 class Explorations(OnProgram):
     def explore(self, script, **options):
         return explore(script, program=program, **options)
@@ -2984,6 +3425,7 @@ class Explorations(OnProgram):
         self.assertEqual(found, found[:1] * 8)
 
 
+@needs_process("journals")
 class Journals(InThreads):
     def setUp(self):
         super().setUp()
@@ -2993,7 +3435,7 @@ class Journals(InThreads):
 
     def open(self, **options):
         """A desk whose history is kept in the file, which ends with the test."""
-        desk = Desk(program, journal=self.path, **options)
+        desk = new_desk(journal=self.path, **options)
         self.addCleanup(desk.__exit__, ValueError, None, None)
         return desk
 
@@ -3041,7 +3483,7 @@ class Journals(InThreads):
 
         path = self.path.with_name("caf\u00e9")
         for number, given in enumerate((path, str(path), os.fsencode(path), Path())):
-            with Desk(program, journal=given) as desk:
+            with new_desk(journal=given) as desk:
                 self.assert_is((desk.is_resumed, desk.submit("retry")), (number > 0, number + 1))
         self.assertEqual(os.listdir(path.parent), ["caf\u00e9"])
 
@@ -3363,19 +3805,19 @@ class Journals(InThreads):
 
     def test_wrong_arguments(self):
         with self.assertRaises(ValueError):
-            Desk(program, checkpoint_every=10)
+            new_desk(checkpoint_every=10)
         with self.assertRaises(TypeError):
-            Desk(program, journal=self.path, checkpoint_every="10")
+            new_desk(journal=self.path, checkpoint_every="10")
         with self.assertRaises(Ended) as caught:
-            Desk(program, journal=self.path, checkpoint_every=0)
+            new_desk(journal=self.path, checkpoint_every=0)
         self.assertEqual((caught.exception.status, type(caught.exception)), (2, Ended))
         for options in ({"sync": "full"}, {"sync": "always", "journal": self.path}, {"sync": "", "journal": self.path}):
             with self.assertRaises(ValueError):
-                Desk(program, **options)
+                new_desk(**options)
         with self.assertRaises(TypeError):
-            Desk(program, journal=3)
+            new_desk(journal=3)
         with self.assertRaises(Ended) as caught:
-            Desk(program, journal="")
+            new_desk(journal="")
         self.assertEqual((caught.exception.status, type(caught.exception)), (2, Ended))
 
     def test_a_program_that_ends_while_it_opens(self):
@@ -3408,18 +3850,18 @@ class Journals(InThreads):
 
     def test_asyncio(self):
         async def first():
-            async with aio.Desk(program, journal=self.path, sync="none") as desk:
+            async with new_aio_desk(journal=self.path, sync="none") as desk:
                 self.assert_is((desk.is_resumed, await desk.variable("x : Int = 1")), (False, X))
                 return await desk.atomically(INCREMENT)
 
         async def second():
-            desk = aio.Desk(program, journal=self.path)
+            desk = new_aio_desk(journal=self.path)
             self.assert_is(await desk.value("x"), 2)
             self.assert_is((desk.is_resumed, desk.dropped), (True, 1))
             with self.assertRaisesRegex(JournalError, "in use$"):
-                async with aio.Desk(program, journal=self.path):
+                async with new_aio_desk(journal=self.path):
                     self.fail("the file was opened twice")
-            again = aio.Desk(program, journal=self.path)
+            again = new_aio_desk(journal=self.path)
             for call in (again.store, again.store, partial(again.atomically, "retry")):
                 with self.assertRaisesRegex(JournalError, "in use$"):
                     await call()
@@ -3501,6 +3943,7 @@ class Journals(InThreads):
         return events
 
 
+@needs_process("no desk: the package")
 class Package(OnProgram):
     def test_its_version_is_the_program_s(self):
         source = REPOSITORY / "crates" / "stm_words" / "src" / "version.rt"
@@ -3561,6 +4004,18 @@ class Package(OnProgram):
         facts = [f"stmdesk-{stmdesk.__version__}.dist-info/{it}" for it in ("WHEEL", "RECORD")]
         self.assertEqual([entries.pop(it) == pure.pop(it) for it in facts], [False, False])
         self.assertEqual(entries, pure)
+
+    def test_a_wheel_with_the_library(self):
+        """If there is one, which needs no newer C library than the program."""
+        top, text = self.built()
+        (top / "stmdesk").write_text('#!/bin/sh\n[ "$*" = --which-library ] && it=library || it=built\necho "$(dirname "$0")/$it"\n')
+        (top / "library").write_bytes(b"GLIBC_2.2.5 GLIBC_2.14")
+        entries = self.wheel_of(top)[1]
+        self.assertEqual(entries["stmdesk/bin/stmdesk"], (0o100755, text))
+        self.assertEqual(entries["stmdesk/bin/libstmdesk.so"], (0o100755, b"GLIBC_2.2.5 GLIBC_2.14"))
+        (top / "library").write_bytes(b"GLIBC_2.18")
+        self.assertNotIn("stmdesk/bin/libstmdesk.so", self.wheel_of(top)[1])
+        self.assertNotIn("stmdesk/bin/libstmdesk.so", self.wheel_of(top, "--pure")[1])
 
     def test_a_wheel_of_what_can_not_be_unpacked(self):
         """The launcher then names itself, and the wheel has what release/ has."""
@@ -3639,6 +4094,7 @@ class Pages(OnProgram):
         patch.start()
         self.addCleanup(patch.stop)
 
+    @needs_process("an example runs the program")
     def test_the_job_engine(self):
         command = [sys.executable, "-B", str(HERE / "job_engine.py"), program]
         done = subprocess.run(command, capture_output=True, text=True, timeout=SECONDS)
@@ -3652,7 +4108,7 @@ class Pages(OnProgram):
                 calls.append(command.word)
                 return super()._ask(command, text)
 
-        with Counted(program) as desk, contextlib.redirect_stdout(None):
+        with Counted(**{"local": True, "library": library} if library else {"program": program}) as desk, contextlib.redirect_stdout(None):
             for number in range(count + 1):
                 desk.tvar(f"done{number} : Bool = False")
             engine = job_engine.Engine(desk)
@@ -3666,6 +4122,7 @@ class Pages(OnProgram):
             self.assertEqual(engine.asked, {})
         self.assertEqual(len(calls), 3 * (count + 1) + 2)  # of each round; and one in which nothing is ready
 
+    @needs_process("an example runs the program")
     def test_the_readmes(self):
         for page in (HERE / "README.md", REPOSITORY / "README.md", *sorted((REPOSITORY / "docs").glob("*.md"))):
             if page.name == "HASKELL.md":  # its examples are of another language
@@ -3675,6 +4132,7 @@ class Pages(OnProgram):
                 self.assertGreaterEqual(tried.attempted, page.parent == HERE)
                 self.assertEqual(tried.failed, 0)
 
+    @needs_process("an example runs the program")
     def test_the_engine_of_the_examples(self):
         folder = REPOSITORY / "examples" / "engine"
         if not folder.exists():
@@ -3711,6 +4169,7 @@ class Pages(OnProgram):
                     fcntl.flock(file, fcntl.LOCK_SH)
         raise AssertionError("it didn't end")
 
+    @needs_process("an example runs the program")
     def test_the_engine_of_the_examples_goes_on(self):
         folder = REPOSITORY / "examples" / "engine"
         if not folder.exists():
@@ -3730,6 +4189,7 @@ class Pages(OnProgram):
         self.assertTrue(lines.endswith("\n10 blocks, of which 8 finished.\n"))
         self.assertEqual(again, lines)
 
+    @needs_process("an example runs the program")
     def test_the_job_engine_goes_on(self):
         command = [sys.executable, "-B", str(HERE / "job_engine.py"), program]
         for more in ([], ["4"], ["1"]):
@@ -3741,6 +4201,7 @@ class Pages(OnProgram):
                 self.assertEqual(again.stderr, "")
                 self.assert_went_on(printed, again.stdout)
 
+    @needs_process("an example runs the program")
     def test_the_job_engine_goes_on_after_each_command(self):
         class Crash(Exception):
             pass
@@ -3779,6 +4240,7 @@ class Pages(OnProgram):
                         break
             self.assertGreater(left, 40)
 
+    @needs_process("an example runs the program")
     def test_notes_of_the_job_engine_that_do_not_fit(self):
         with tempfile.TemporaryDirectory() as folder, contextlib.redirect_stdout(None):
             path, notes = pathlib.Path(folder) / "journal", pathlib.Path(folder) / "journal.notes"
@@ -3813,7 +4275,9 @@ class Pages(OnProgram):
         runner = doctest.DocTestRunner()
         for test in tests.values():
             with self.subTest(test=test.name):
-                desk = aio.Desk() if test.name.startswith("stmdesk.aio") else Desk()
+                if test.name == "stmdesk.find_library" and not library:
+                    continue
+                desk = new_aio_desk() if test.name.startswith("stmdesk.aio") else new_desk()
                 with getattr(desk, "_desk", desk) as plain:
                     plain.tvar("x : Int = 1")
                     test.globs = vars(stmdesk) | {"desk": desk, "aio": aio, "run": asyncio.run}
@@ -3821,19 +4285,27 @@ class Pages(OnProgram):
 
 
 def main():
-    global program
+    global program, library
     parser = argparse.ArgumentParser(description=__doc__, formatter_class=argparse.RawDescriptionHelpFormatter)
+    parser.add_argument("--local", action="store_true", help="tests desks in this process, of the library that find_library() returns")
     parser.add_argument("program", metavar="PROGRAM", nargs="?", help="the built program")
     parser.add_argument("part", metavar="PART", nargs="?", default="", help="only tests that have this in their name")
     asked = parser.parse_args()
     if asked.program:
         program = str(pathlib.Path(asked.program).resolve())
+    if asked.local or os.environ.get("STMDESK_LOCAL") == "1":
+        library = os.path.abspath(find_library())
     os.environ["PYTHONPATH"] = str(pathlib.Path(__file__).resolve().parent)  # of programs that a test starts, such as a server
     loader = unittest.TestLoader()
     loader.testNamePatterns = [f"*{asked.part}*"]
     result = unittest.TextTestRunner(sys.stdout).run(loader.loadTestsFromModule(sys.modules[__name__]))
     failed = {getattr(test, "test_case", test).id() for test, _ in result.failures + result.errors}  # a test, not its parts
-    print(f"{result.testsRun - len(failed)} passed, {len(failed)} failed", flush=True)
+    skipped = collections.Counter(why for _, why in result.skipped)
+    for why, count in sorted(skipped.items()):
+        names = sorted(test.id().partition(".")[2] for test, it in result.skipped if it == why)
+        print(f"skipped ({why}): {', '.join(names) if count < 4 else f'{count} tests'}")
+    said = f", {len(result.skipped)} skipped" if skipped else ""
+    print(f"{result.testsRun - len(failed) - len(result.skipped)} passed, {len(failed)} failed{said}", flush=True)
     return 1 if failed or not result.testsRun else 0
 
 

@@ -26,6 +26,9 @@ the program ended, and `JournalError`, which is an `Ended`, if that was because 
 printed what stmdesk never prints; `ValueError` or `TypeError` for an argument that is no text or number of the right kind, in
 which case nothing is sent. `atomically` also raises `Thrown`, `TimedOut` and `Cancelled`. A desk of `connect` raises `DeskClosed` if no server
 takes the call, and `OutcomeUnknown` if its answer didn't come.
+
+`Desk(local=True)` is a desk in this process, by a library in place of the program (docs/EMBEDDING.md). It starts nothing; a call may raise
+`OutOfMemory`.
 """
 
 from ._batch import Batch
@@ -35,9 +38,11 @@ from ._commands import Answer
 from ._connect import connect
 from ._desk import Desk
 from ._errors import (
-    BadAnswer, Cancelled, DeskClosed, DeskError, Ended, JournalError, OutcomeUnknown, Refused, ScriptRefused, Stopped, Thrown, TimedOut,
+    BadAnswer, Cancelled, DeskClosed, DeskError, Ended, JournalError, OutcomeUnknown, OutOfMemory, Refused, ScriptRefused, Stopped, Thrown,
+    TimedOut,
 )  # fmt: skip
 from ._explore import ClientAt, ClientState, Exploration, Outcome, explore
+from ._local import find_library
 from ._program import find_program
 from ._values import (
     Blocks, Cancellation, Cell, Change, Commits, Current, Delivery, Event, Events, Fault, FinalCell, FinalStore, Finish,
@@ -50,13 +55,13 @@ __version__ = "0.12.0"
 __all__ = [
     "Answer", "BadAnswer", "Batch", "Blocks", "Cancellation", "Cancelled", "Cell", "Change", "Checked", "ClientAt", "ClientState", "Commits",
     "Current", "Delivery", "Desk", "DeskClosed", "DeskError", "Ended", "Event", "Events", "Exploration", "Fault", "FinalCell", "FinalStore", "Finding",
-    "Finish", "Finished", "FinishedThrows", "Job", "JournalError", "New", "NewRef", "Outcome", "OutcomeUnknown", "Ready", "Reason", "Ref",
+    "Finish", "Finished", "FinishedThrows", "Job", "JournalError", "New", "NewRef", "OutOfMemory", "Outcome", "OutcomeUnknown", "Ready", "Reason", "Ref",
     "Refused", "ScriptRefused", "Settled", "Stale", "StaleBefore", "StaleBy", "Status", "Stopped", "Store", "Submission", "Thrown", "Throws",
-    "TimedOut", "Value", "Verdict", "Waiting", "Waits", "check", "connect", "explore", "find_program", "or_else",
+    "TimedOut", "Value", "Verdict", "Waiting", "Waits", "check", "connect", "explore", "find_library", "find_program", "or_else",
 ]  # fmt: skip
 
 for _name in __all__:
     _it = globals()[_name]
-    if isinstance(_it, type) or _it in (check, connect, explore, find_program, or_else):
+    if isinstance(_it, type) or _it in (check, connect, explore, find_library, find_program, or_else):
         _it.__module__ = __name__  # so that a traceback says stmdesk.Refused, which can be imported
 del _it, _name

@@ -75,8 +75,12 @@ class Answer(Generic[T]):
 
     def fail(self, error: BaseException) -> None:
         """The answer, if it isn't there, doesn't come, since the error broke the batch off."""
-        if self.value is UNSET and self.error is None:
+        if not self.is_there():
             self.error = copy(error) if isinstance(error, Exception) else RuntimeError("the batch was broken off")
+
+    def is_there(self) -> bool:
+        """Whether a result or an error is there."""
+        return self.error is not None or not isinstance(self.value, Unset)
 
     def result(self) -> T:
         """What the method of `Desk` of this name returns. Raises what it raises: `Refused` for a refused command.

@@ -8,6 +8,7 @@ import re
 import threading
 import time
 from collections.abc import Iterable, Iterator, Sequence
+from contextlib import suppress
 from copy import copy
 from os import getpid
 from threading import get_ident
@@ -20,10 +21,11 @@ from ._commands import (
     CANCEL, CHECKPOINT, DECLARED, DELIVER, DRAIN, EVAL, EVENTS, FINISH, HANDBACK, HISTORY, LOOKS, READS, READY, SETTLE, SHOW, STORE, SUBMIT, TAKE,
     TRY, TVAR, WAITING, WHY, Answer, Command, decimal, number_of,
 )  # fmt: skip
-from ._errors import BadAnswer, Cancelled, DeskError, Refused, TimedOut
+from ._errors import BadAnswer, Cancelled, DeskError, OutOfMemory, Refused, Thrown, TimedOut
+from ._local import begin_local
 from ._program import Process, check_built, find_program, is_ours
 from ._transport import Closed, Odd, Transport, AtomicBlocks
-from ._values import Commits, Events, Finished, FinishedThrows, Job, Reason, Ref, Settled, Status, Store, Value, Verdict
+from ._values import Commits, Events, Finished, FinishedThrows, Job, Reason, Ref, Settled, Status, Store, Value, Verdict, Waiting
 from ._waits import Wait
 
 PATIENCE = 5.0  # seconds that the program has to end after its input has ended
@@ -64,6 +66,8 @@ class Desk:
         levels: int | None = None,
         max_events: int | None = None,
         patience: float = PATIENCE,
+        local: bool = False,
+        library: str | bytes | os.PathLike[str] | os.PathLike[bytes] | None = None,
     ) -> None:
         """Starts `program run`, with the options that are given: `stmdesk run --help` has what they mean.
 
@@ -75,10 +79,22 @@ class Desk:
         it takes more than `patience` seconds to end. Raises OSError, FileNotFoundError for example, if the program can't be
         started. If the program refuses an option it ends, and the first call raises `Ended`.
 
+        With `local` nothing is started: the desk is in this process, and ends with it. It is the library `libstmdesk.so` at the path
+        `library`, or else what `find_library` returns. It has one thread and no journal, so of the options `max_events` alone goes with it.
+        A call may raise `OutOfMemory`; an exception that breaks off a call doesn't end the desk. Raises OSError if the library can't
+        be loaded, and ValueError for an option that doesn't go with it.
+
         >>> with Desk(workers=4, max_events=1000) as desk:
         ...     desk.eval()
         0
         """
+        if local:
+            of_a_process = {"program": program, "journal": journal, "sync": sync, "checkpoint_every": checkpoint_every}
+            threads = {"workers": None if workers == 1 else workers, "levels": None if levels == 0 else levels}
+            self._begin(begin_local(library, max_events, **of_a_process, **threads), patience)
+            return
+        if library is not None:
+            raise ValueError(f"library={library!r} goes with local=True")
         if sync is not None and (journal is None or sync not in get_args(Sync)):
             raise ValueError(f"sync={sync!r} goes with a journal, and is one of {', '.join(get_args(Sync))}")
         if checkpoint_every is not None and journal is None:
@@ -107,6 +123,7 @@ class Desk:
         self._beginning = threading.Lock()  # so that two threads don't begin it
         self._is_resumed = False
         self._dropped = 0
+        self._under_way: Sequence[Answer[Any]] = ()  # whose answers the transport keeps, and which aren't all read
         self._inherited: set[int] = set()  # tickets that waited when the journal was opened, and may still wait
         self._transport = transport
 
@@ -368,6 +385,9 @@ class Desk:
         (Ref(0, 'x'), Ref(1, 'y'))
         """
         self._transport.check_owner()
+        if self._under_way:
+            with self._calls:
+                self._perform(())  # it may declare the variable
         found = self._found(declaration)
         if found is not None:
             return found
@@ -415,23 +435,66 @@ class Desk:
         over = threading.Lock()
         over.acquire()
         wait = Wait(block, over.release)
-        waits = self._begin_waits()
+        waits = None if self._transport.keeps_answers else self._begin_waits()
         is_late = False
         is_main = threading.current_thread() is threading.main_thread()
         try:
-            waits.ask(wait, by_helper=is_main)
+            if waits is None:
+                waits = self._try_here(wait)
+            else:
+                waits.ask(wait, by_helper=is_main)
             if not _acquire(over, -1 if timeout is None else min(max(timeout, 0), threading.TIMEOUT_MAX), is_main):
                 is_late = True
+                assert waits
                 waits.give_up(wait, withdraw=False)
                 over.acquire()
         except BaseException:
-            waits.give_up(wait, withdraw=True)
+            if waits is None:
+                self._take_back(wait)
+            else:
+                waits.give_up(wait, withdraw=True)
             if not wait.is_over:  # else the lock may be acquired already
                 over.acquire()
             raise
         if is_late and isinstance(wait.error, Cancelled) and timeout is not None:
             raise TimedOut(timeout)
         return wait.outcome()
+
+    def _try_here(self, wait: Wait) -> AtomicBlocks | None:
+        """Runs a block by a call of this thread, which is enough if the transport keeps answers. Ends the wait, or returns what waits for
+        it from now on."""
+        with self._calls:
+            self._run((wait.run,))
+            refused = wait.run.error
+            if refused is not None:
+                if isinstance(refused, Refused) and refused.name == "HistoryFull" and self._waits:
+                    self._waits.fail(refused)  # no block can finish any more
+                wait.end(error=refused)
+                return None
+            done = wait.run.result()
+            if isinstance(done, Waiting):
+                waits = self._begin_waits()
+                waits.adopt(wait, done.ticket)
+                return waits
+            if isinstance(done, FinishedThrows):
+                wait.end(error=Thrown(done.fault))
+            else:
+                wait.end(done.result)
+            return None
+
+    def _take_back(self, wait: Wait) -> None:
+        """Ends a wait after an exception broke `_try_here` off. Cancels the block if it was run and waits."""
+        if not self._transport.is_owner():
+            wait.end(error=self._transport.not_owner())
+            return
+        with self._calls:
+            with suppress(DeskError):
+                self._perform(())  # has the answer read, if the block was run
+                done = wait.run.value
+                if isinstance(done, Waiting) and not wait.is_over:
+                    self._perform((Answer(CANCEL, str(done.ticket)),), self._waits)
+            if not wait.is_over:
+                wait.end(error=Cancelled())
 
     def _begin_waits(self) -> AtomicBlocks:
         """The waits of this desk, and their thread. Raises ValueError if the desk is closed, and `Ended`."""
@@ -541,7 +604,7 @@ class Desk:
         the usual case, since it is most of what a call costs: one line that is answered by one line, which no block of `atomically` needs
         to see."""
         transport, read = self._transport, self._answers
-        if command.take is not None or read.first is None or transport.is_shared:
+        if command.take is not None or read.first is None or transport.is_shared or transport.keeps_answers:
             return self._ask_alone(command, text)
         sent = command.sent(text)
         if getpid() != transport.owner:
@@ -609,19 +672,52 @@ class Desk:
                 self._transport.is_new = False
                 self._answers.forget()
                 self._exchange((Answer(DECLARED),), None)
-            self._exchange(answers, waits)
+            if self._under_way:
+                self._mend()
+            if answers:
+                self._exchange(answers, waits)
         finally:
             self._caller = 0
 
-    def _exchange(self, answers: Sequence[Answer[Any]], waits: AtomicBlocks | None) -> None:
-        """Writes the commands' lines, takes the answers and reads them. Any exception ends the program."""
+    def _mend(self) -> None:
+        """Reads the answers to a call that an exception broke off, which the transport still has, and shows them to the waits."""
+        broken_off = self._under_way
+        again = [Answer(it.command, it.text) for it in broken_off]
+        try:
+            if self._transport.again():
+                self._exchange(again, self._waits, is_sent=True)
+        except OutOfMemory:
+            pass  # it is seen to
+        except MemoryError:
+            self._lose(again, OutOfMemory("an answer"))
+        for new, it in zip(again, broken_off):
+            if not it.is_there():
+                it.value, it.error = new.value, new.error
+        self._under_way = ()
+
+    def _lose(self, answers: Sequence[Answer[Any]], error: OutOfMemory) -> None:
+        """There was no memory for the first of these commands that has no answer."""
+        if self._waits:
+            self._waits.see([it for it in answers if it.is_there()])
+            self._waits.lose(error)
+        self._under_way = ()
+
+    def _exchange(self, answers: Sequence[Answer[Any]], waits: AtomicBlocks | None, *, is_sent: bool = False) -> None:
+        """Writes the commands' lines, if that isn't done, takes the answers and reads them. Any exception ends the program; but after one
+        from outside a transport that keeps answers goes on."""
         process, read = self._transport, self._answers
         lines = process.lines
         it = answers[0]
         said: str | Sequence[str] = ""
         parts: Iterable[tuple[Sequence[Answer[Any]], bytes]]
-        parts = _parts(answers, process.part) if len(answers) > 1 else ((answers, it.sent),)
+        if is_sent:
+            parts = ((answers, b""),)
+        else:
+            parts = _parts(answers, process.part) if len(answers) > 1 else ((answers, it.sent),)
         try:
+            if process.keeps_answers and not is_sent:
+                process.forget()
+                self._under_way = answers
             for part, sent in parts:
                 if sent:
                     process.send(sent)
@@ -648,6 +744,11 @@ class Desk:
                         read.note(command.word, it.text, value)
             if waits:
                 waits.see(answers)
+            if process.keeps_answers:
+                self._under_way = ()
+        except OutOfMemory as error:
+            self._lose(answers, error)
+            raise
         except BaseException as error:
             why = self._broken(error, it.sent, said)
             if why is None:
@@ -665,6 +766,8 @@ class Desk:
             transport.kill()
             return BadAnswer(line, str(error))
         transport.broken_off()
+        if transport.keeps_answers and self._waits:
+            self._waits.look_again()
         if isinstance(error, (ValueError, LookupError, TypeError)) and is_ours(error):
             transport.kill()
             return BadAnswer(line, said if isinstance(said, str) else "\n".join(said))

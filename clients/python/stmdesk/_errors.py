@@ -198,6 +198,23 @@ class JournalError(Ended):
         return message if is_there else super().__str__()
 
 
+class OutOfMemory(DeskError, MemoryError):
+    """There was no memory for a command of a desk of `Desk(local=True)`. The desk goes on. The command was done, or not; `eval`, `settle`
+    and `drain` may be done in part; and a block of `atomically` may have finished, or wait under a ticket. So look at the desk, by `show`
+    or `events`, before you give it again. Of a batch, the commands before it were done, and those after it weren't.
+
+    >>> print(OutOfMemory("a new desk"))
+    there was no memory for a new desk
+    """
+
+    def __init__(self, what: str) -> None:
+        super().__init__(what)
+        self.what = what
+
+    def __str__(self) -> str:
+        return f"there was no memory for {self.what}"
+
+
 class BadAnswer(DeskError):
     """The program printed what stmdesk never prints, so it was ended. `line` is the command, `answer` what came.
 

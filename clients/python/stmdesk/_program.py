@@ -10,19 +10,15 @@ import subprocess
 import tempfile
 import threading
 from collections import deque
-from collections.abc import Callable, Sequence
-from contextlib import AbstractContextManager, suppress
+from collections.abc import Sequence
+from contextlib import suppress
 from copy import copy
 from io import BufferedReader, BufferedWriter
 from pathlib import Path
-from typing import TYPE_CHECKING, Any
+from typing import Any
 
 from ._errors import JOURNAL_FAULT, DeskError, Ended, JournalError
-from ._transport import Closed, Odd, Transport, AtomicBlocks
-
-if TYPE_CHECKING:
-    from ._answers import Answers
-    from ._commands import Answer
+from ._transport import Closed, Odd, OwnTransport
 
 PART = 1 << 15  # bytes of commands that are sent in one go; while one such is answered, the next is sent
 PIECE = 1 << 16  # bytes that are read at a time: what a pipe holds
@@ -112,7 +108,7 @@ def is_ours(error: BaseException) -> bool:
     return trace is not None and trace.tb_frame.f_globals.get("__package__") == __package__
 
 
-class Process(Transport):
+class Process(OwnTransport):
     """The running program, with pipes to its standard input and output."""
 
     part = PART
@@ -154,7 +150,7 @@ class Process(Transport):
     def pid(self) -> int:
         return self._process.pid
 
-    def output_again(self) -> int:
+    def alive(self) -> int:
         """A second descriptor of the pipe from the program, which is the caller's to close. Raises `Ended`."""
         with self._ending:
             if self.end:
@@ -236,17 +232,6 @@ class Process(Transport):
         ended_before = self.end
         end = self.wait(patience)
         return end if end.status and not ended_before else None
-
-    def waits(
-        self,
-        lock: AbstractContextManager[Any],
-        perform: Callable[[Sequence[Answer[Any]]], None],
-        answers: Answers,
-        patience: float,
-    ) -> AtomicBlocks:
-        from ._waits import Waits
-
-        return Waits(lock, perform, self, patience)
 
     def wait(self, patience: float) -> Ended:
         """Ends the program's input and waits for the program to end. Kills it after `patience` seconds."""

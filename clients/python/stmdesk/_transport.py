@@ -1,4 +1,4 @@
-"""What a `Desk` needs of that which answers it: a program over two pipes, or a server over a socket."""
+"""What a `Desk` needs of that which answers it: a program over two pipes, a server over a socket, or a library in this process."""
 
 from __future__ import annotations
 
@@ -52,6 +52,24 @@ class AtomicBlocks(ABC):
         """Looks at the answers to commands of other calls. Needs the lock."""
         return
 
+    # What follows is used if the transport `keeps_answers`.
+
+    def adopt(self, wait: Wait, ticket: int) -> None:
+        """Waits for a block that another call has run, and that waits under this ticket. Needs the lock."""
+        raise NotImplementedError
+
+    def fail(self, error: Exception) -> None:
+        """Ends every wait with the error. Needs the lock."""
+        raise NotImplementedError
+
+    def look_again(self) -> None:
+        """An exception broke another call off: has the answers looked at that the transport still has."""
+        raise NotImplementedError
+
+    def lose(self, error: DeskError) -> None:
+        """A command of another call has no answer because of this error, and may have been done. Needs the lock."""
+        raise NotImplementedError
+
 
 class Transport(Owned, ABC):
     """Takes lines and gives lines, for one desk. Commands are given by one caller at a time, who has the desk's lock."""
@@ -59,6 +77,7 @@ class Transport(Owned, ABC):
     part: int | None  # bytes of commands that are sent in one go; None if all of a batch has to be
     is_shared = False  # whether others may declare variables, submit and finish on the same desk
     is_new = False  # whether the desk may be another one than before, since its server was started again
+    keeps_answers = False  # whether it has the answers to the last `send` until the next, also if an exception came between
     end: DeskError | None  # what each call raises from now on
     lines: deque[str]  # that have come and weren't taken
 
@@ -74,6 +93,13 @@ class Transport(Owned, ABC):
     @abstractmethod
     def line(self) -> str:
         """The next line that is answered, without its line feed. Raises `Closed` if none comes."""
+
+    def forget(self) -> None:
+        """Before a `send`, if it `keeps_answers`: `again` is false from now on."""
+
+    def again(self) -> bool:
+        """Has the answers to the last `send` once more as `lines`. False if it wasn't made."""
+        return False
 
     @abstractmethod
     def ended(self, patience: float) -> DeskError:
@@ -100,3 +126,26 @@ class Transport(Owned, ABC):
         patience: float,
     ) -> AtomicBlocks:
         """What runs the blocks of `atomically`. Raises what a call raises."""
+
+
+class OwnTransport(Transport):
+    """That of a desk which one process has for itself."""
+
+    @abstractmethod
+    def alive(self) -> int:
+        """A descriptor whose other end is closed when the desk ends. It is the caller's to close. Raises what a call raises."""
+
+    @abstractmethod
+    def wait(self, patience: float) -> DeskError:
+        """Ends, in at most `patience` seconds. Returns what calls raise from now on."""
+
+    def waits(
+        self,
+        lock: AbstractContextManager[Any],
+        perform: Callable[[Sequence[Answer[Any]]], None],
+        answers: Answers,
+        patience: float,
+    ) -> AtomicBlocks:
+        from ._waits import Waits
+
+        return Waits(lock, perform, self, patience)

@@ -6,16 +6,15 @@ import threading
 import weakref
 from collections import deque
 from collections.abc import Callable, Sequence
-from contextlib import AbstractContextManager
+from contextlib import AbstractContextManager, suppress
 from copy import copy
 from typing import Any
 
 from ._commands import ATOMICALLY, CANCEL, CHECKPOINT, EVAL, FINISH, HANDBACK, Answer
-from ._errors import Cancelled, DeskError, Refused, Thrown
+from ._errors import Cancelled, DeskError, OutOfMemory, Refused, Thrown
 from ._fork import Owned
 from ._helper import Helper
-from ._program import Process
-from ._transport import AtomicBlocks
+from ._transport import AtomicBlocks, OwnTransport
 from ._values import Finished, FinishedThrows, Value, Waiting
 
 
@@ -73,11 +72,11 @@ class Waits(Owned, AtomicBlocks):
         self,
         lock: AbstractContextManager[Any],
         perform: Callable[[Sequence[Answer[Any]]], None],
-        process: Process,
+        transport: OwnTransport,
         patience: float,
     ) -> None:
         """`lock` is the lock of the desk. `perform` gives commands, with that lock."""
-        self._lock, self._perform, self._process, self._patience = lock, perform, process, patience
+        self._lock, self._perform, self._transport, self._patience = lock, perform, transport, patience
         self._asked: deque[Wait] = deque()  # whose blocks aren't run yet
         self._given_up: deque[Wait] = deque()  # which are to be cancelled, each after it was asked
         self._leaving: deque[Wait] = deque()  # the same, until they are
@@ -87,6 +86,7 @@ class Waits(Owned, AtomicBlocks):
         self._due: set[int] = set()  # tickets that may be able to finish
         self._out: set[int] = set()  # those of them that somebody else has taken
         self._unwanted: set[int] = set()  # tickets to cancel
+        self._lost: DeskError | None = None  # why an answer is lost that may have named or finished any ticket
         self._left: set[int] = set()  # tickets to cancel as soon as the history has room
         this = weakref.ref(self)  # so that the thread doesn't keep a desk alive that nobody uses
 
@@ -95,12 +95,12 @@ class Waits(Owned, AtomicBlocks):
             if waits is not None:
                 waits._program_ended()
 
-        self.helper = Helper(process.output_again(), on_end)
+        self.helper = Helper(transport.alive(), on_end)
         super().__init__()
 
     def forked(self) -> None:
         """Ends what waits, in case that a signal handler forked while its thread waited."""
-        self._fail(self.not_owner())
+        self.fail(self.not_owner())
 
     def ask(self, wait: Wait, *, by_helper: bool) -> None:
         """Runs a block in this thread or by the helper, and waits while it blocks. `wait.end` is called with the outcome."""
@@ -149,6 +149,26 @@ class Waits(Owned, AtomicBlocks):
         if self._due or self._unwanted:
             self.helper.run(self._turn, once=True)
 
+    def adopt(self, wait: Wait, ticket: int) -> None:
+        self._waiting[ticket] = wait
+        wait.ticket = ticket  # at last: a signal handler may raise before, and then the caller cancels the ticket
+
+    def look_again(self) -> None:
+        self.helper.run(self._look_again, once=True)
+
+    def _look_again(self) -> None:
+        with self._lock:
+            try:
+                self._perform(())
+            except DeskError as error:
+                self.fail(error)
+
+    def lose(self, error: DeskError) -> None:
+        self._lost = error
+        self._due.update(self._waiting)
+        if self._due:
+            self.helper.run(self._turn, once=True)
+
     def _turn(self, only: Wait | None = None) -> None:
         """Does what there is to do, until each block that still waits blocks. If a wait is given, stops when that was tried,
         and leaves the rest to the helper. The helper leaves it to a later turn if it has something else to do: while tasks give
@@ -162,18 +182,31 @@ class Waits(Owned, AtomicBlocks):
             with self._lock:  # for each round by itself, so that other calls come between
                 try:
                     self._round()
+                except OutOfMemory as error:
+                    self._run_out(error)
                 except DeskError as error:
-                    self._fail(error)
+                    self.fail(error)
                 except BaseException:
-                    self._fail(self._process.kill())
+                    self.fail(self._transport.kill())
                     raise
 
     def _program_ended(self) -> None:
         with self._lock:
             if self._waiting or self._asked or self._given_up:  # else nobody sees it yet, and `close` has to raise it
-                self._fail(self._process.wait(self._patience))
+                self.fail(self._transport.wait(self._patience))
 
-    def _fail(self, error: Exception) -> None:
+    def _run_out(self, error: OutOfMemory) -> None:
+        """Ends every wait with the error, but those whose answers came before the command that there was no memory for. Cancels what then
+        waits for nobody, if there is memory for that."""
+        for new in self._new:
+            if new.run.is_there():
+                self._ran(new)
+        tickets = [*self._waiting]
+        self.fail(error)
+        with suppress(DeskError):
+            self._perform([Answer(CANCEL, str(ticket)) for ticket in tickets])
+
+    def fail(self, error: Exception) -> None:
         """Ends every wait with the error."""
         if isinstance(error, Refused):  # the history is full, and the program goes on
             self._left |= self._waiting.keys() | self._unwanted
@@ -190,6 +223,8 @@ class Waits(Owned, AtomicBlocks):
 
     def _round(self) -> None:
         """Tries once to finish each block that is due or new, all in one go; then cancels those that were given up."""
+        if self._transport.keeps_answers:
+            self._perform(())  # looks at the answers to a call that was broken off, before the tickets to try are chosen
         given_up = _taken(self._given_up)
         for wait in _taken(self._asked):
             if wait.is_withdrawn:
@@ -250,6 +285,9 @@ class Waits(Owned, AtomicBlocks):
             self._due.discard(ticket)
         elif refused.name in ("Stale", "NotEvaluated"):
             self._out.add(ticket)
+        elif refused.name == "NoTicket" and self._lost is not None:
+            self._due.discard(ticket)
+            self._waiting.pop(ticket).end(error=copy(self._lost))
         else:
             self._due.discard(ticket)
             self._unwanted.add(ticket)

@@ -88,9 +88,12 @@ class Desk:
         levels: int | None = None,
         max_events: int | None = None,
         patience: float = _desk.PATIENCE,
+        local: bool = False,
+        library: str | bytes | os.PathLike[str] | os.PathLike[bytes] | None = None,
     ) -> None:
         """Starts the program, as `stmdesk.Desk` does, and doesn't wait until a journal is opened. If it isn't, `async with`
-        raises `JournalError`, or else the first call does.
+        raises `JournalError`, or else the first call does. With `local` the desk is in this process, and the event loop stands still while
+        a command is done.
 
         >>> other = aio.Desk(workers=4, max_events=1000)
         >>> run(other.close())
@@ -104,6 +107,8 @@ class Desk:
             levels=levels,
             max_events=max_events,
             patience=patience,
+            local=local,
+            library=library,
         )
 
     async def tvar(self, declaration: str) -> Ref:
