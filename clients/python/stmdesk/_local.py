@@ -4,7 +4,6 @@ from __future__ import annotations
 
 import ctypes
 import os
-import subprocess
 import threading
 import weakref
 from collections import deque
@@ -16,7 +15,7 @@ from pathlib import Path
 from typing import Any, NamedTuple
 
 from ._errors import DeskError, Ended, OutOfMemory
-from ._program import is_repository
+from ._program import of_repository_above
 from ._transport import Closed, Odd, OwnTransport
 
 MAX_EVENTS = 1 << 20  # that a desk takes
@@ -65,27 +64,13 @@ def find_library() -> str:
     own = folder / "bin" / "libstmdesk.so"
     if own.is_file():
         return os.fspath(own)
-    said = f"no folder above {folder} is stmdesk's repository"
-    for above in folder.parents:
-        if is_repository(above):
-            try:
-                return library_of(above)
-            except OSError as error:
-                said = f"the repository {above} has none ({error})"
-                break
-    raise FileNotFoundError(
-        "no library to call. Give its path to Desk(local=True, library=..) or in the environment variable STMDESK_LIBRARY. STMDESK_LIBRARY "
-        f"isn't set; the package brings none ({own}); {said}."
-    )
-
-
-def library_of(repository: Path) -> str:
-    """The path of the repository's library. Raises OSError if none is of its present sources."""
-    command = [os.fspath(repository / "stmdesk"), "--which-library"]
-    done = subprocess.run(command, stdin=subprocess.DEVNULL, capture_output=True, text=True, errors="surrogateescape")
-    if done.returncode:
-        raise FileNotFoundError(done.stderr.strip())
-    return done.stdout.removesuffix("\n")
+    try:
+        return of_repository_above(folder, "--which-library")
+    except OSError as error:
+        raise FileNotFoundError(
+            "no library to call. Give its path to Desk(local=True, library=..) or in the environment variable STMDESK_LIBRARY. "
+            f"STMDESK_LIBRARY isn't set; the package brings none ({own}); {error}."
+        ) from None
 
 
 @lru_cache(maxsize=None)

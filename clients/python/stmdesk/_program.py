@@ -44,14 +44,10 @@ def find_program() -> str:
     own = os.fspath(folder / "bin" / "stmdesk")
     if shutil.which(own):
         return own
-    said = f"no folder above {folder} is stmdesk's repository"
-    for above in folder.parents:
-        if is_repository(above):
-            try:
-                return program_of(above)
-            except OSError as error:
-                said = f"the repository {above} has none ({error})"
-                break
+    try:
+        return of_repository_above(folder, "--which")
+    except OSError as error:
+        said = str(error)
     found = shutil.which("stmdesk")
     if found:
         return found
@@ -66,10 +62,22 @@ def is_repository(folder: Path) -> bool:
     return (folder / "stmdesk").is_file() and (folder / "crates" / "stmdesk").is_dir()
 
 
-def program_of(repository: Path) -> str:
-    """The path of the repository's program: the built one, or that of release/. Raises OSError if neither is of its present sources.
-    The repository's script would then build it for an hour, or run all commands together at the end of its input."""
-    command = [os.fspath(repository / "stmdesk"), "--which"]
+def of_repository_above(folder: Path, which: str) -> str:
+    """What `of_repository` returns of the repository that the folder is in. Raises OSError if there is none, or none of this kind in it."""
+    for above in folder.parents:
+        if is_repository(above):
+            try:
+                return of_repository(above, which)
+            except OSError as error:
+                raise FileNotFoundError(f"the repository {above} has none ({error})") from None
+    raise FileNotFoundError(f"no folder above {folder} is stmdesk's repository")
+
+
+def of_repository(repository: Path, which: str) -> str:
+    """The path of the repository's program (`--which`: the built one, or that of release/) or library (`--which-library`: that of release/,
+    or the one that tools/library has made). Raises OSError if none is of its present sources. The repository's script would then build the
+    program for an hour, or run all commands together at the end of its input."""
+    command = [os.fspath(repository / "stmdesk"), which]
     done = subprocess.run(command, stdin=subprocess.DEVNULL, capture_output=True, text=True, errors="surrogateescape")
     if done.returncode:
         raise FileNotFoundError(done.stderr.strip())
@@ -80,7 +88,7 @@ def check_built(program: str) -> None:
     """Raises OSError if the program is the script of a repository that has no program to run at once."""
     path = Path(shutil.which(program) or program).resolve()
     if path.name == "stmdesk" and is_repository(path.parent):
-        program_of(path.parent)
+        of_repository(path.parent, "--which")
 
 
 def run_once(command: Sequence[str], text: str | bytes) -> tuple[int, str, str]:
