@@ -7,7 +7,7 @@ import transcript
 
 HERE = pathlib.Path(__file__).resolve().parent
 HEADER = b'{"format":'  # how the text of a history begins
-EXAMPLE = "the_example_of_a_history.case"  # it stands in docs/HISTORY.md; its variable has line 2, its events lines 3 to 8
+EXAMPLE = "history/the_example_of_a_history.case"  # it stands in docs/HISTORY.md; its variable has line 2, its events lines 3 to 8
 
 SAME = "expected SAME"  # the line that stands in the example is expected
 UNREADABLE = "unreadable"

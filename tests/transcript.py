@@ -119,14 +119,20 @@ def parsed(name, lines):
     return case
 
 
-def read(path):
+def read(path, name=None):
     path = pathlib.Path(path)
-    return parsed(path.name, path.read_text(ENCODING).split("\n")[:-1])
+    return parsed(name or path.name, path.read_text(ENCODING).split("\n")[:-1])
+
+
+def cases_of(folder):
+    """The cases of a folder of tests/ and of the folders in it, named by their paths in it."""
+    paths = sorted((HERE / folder).rglob("*.case"))
+    return [read(path, path.relative_to(HERE / folder).as_posix()) for path in paths]
 
 
 def all_cases():
     """The cases of tests/cases, and the examples, NAME.stm with NAME.out; those of examples/explore are explored."""
-    found = [read(path) for path in sorted((HERE / "cases").glob("*.case"))]
+    found = cases_of("cases")
     for path in sorted((HERE.parent / "examples").glob("*.stm")):
         found.append(Case(path.name, printed=path.with_suffix(".out").read_bytes()))
         found[-1].text = path.read_bytes()
