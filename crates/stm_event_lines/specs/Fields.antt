@@ -138,8 +138,8 @@ what_of table d kind ticket =
     else None
 
 -- the client of an event: one that there may be
-abbrev pub client_of : Data → Option ℕ
-client_of d = option_and_then (λ n. if nat_lt n max_clients then Some n else None) (number_field (codes "client") d)
+abbrev pub client_field : Data → Option ℕ
+client_field d = option_and_then (λ n. if nat_lt n max_clients then Some n else None) (number_field (codes "client") d)
 
 -- an event of a history over this table
 abbrev pub event_of : List Declared → Data → Option Event
@@ -147,7 +147,7 @@ event_of table d =
     option_and_then (λ kind. option_and_then (λ client. option_and_then (λ ticket.
     option_map (λ w. record { client = client; what = w }) (what_of table d kind ticket))
     (number_field (codes "ticket") d))
-    (client_of d))
+    (client_field d))
     (text_field (codes "event") d)
 
 -- a first line, whether or not its format is read

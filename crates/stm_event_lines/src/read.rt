@@ -6,7 +6,7 @@ ghost use Rattle.serde_json.specs.View.{view};
 ghost use Rattle.stm_events.specs.declared.event.Event.{Event as AnyEvent};
 ghost use Rattle.stm_store.specs.Tables.{Declared};
 ghost use Rattle.stm_event_lines.specs.Fields.{block_of_text};
-ghost use Rattle.stm_event_lines.specs.Fields.{event_of as event_meant, header_of as header_meant, what_of as what_meant, client_of, submitted_of, installed_of, finished_of, number_field, declared_from_json as variable_meant, type_in as type_meant, text_field};
+ghost use Rattle.stm_event_lines.specs.Fields.{event_of as event_meant, header_of as header_meant, what_of as what_meant, client_field, submitted_of, installed_of, finished_of, number_field, declared_from_json as variable_meant, type_in as type_meant, text_field};
 ghost use Rattle.stm_terms.specs.Limits.{most_refs};
 ghost use Rattle.stm_events.specs.SlowDesk.{max_clients};
 ghost use Rattle.stm_event_lines.specs.Fits.{Is32Bit, FitsTable, WhatFitsTable, FitsValue, FitsVariable};
@@ -60,7 +60,7 @@ pub fn json_of(alloc: Global, line: &[u8]) -> Result<Json, LineError>
 }
 
 fn client_at(json: &Json) -> Option<u32>
-    ensures value { result ≡ client_of (view json.now) }
+    ensures value { result ≡ client_field (view json.now) }
     ensures fits { IfSome result (λ n. n < max_clients) }
 {
     let client = number_at(json, "client")?;

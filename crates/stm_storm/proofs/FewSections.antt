@@ -1,6 +1,6 @@
 -- No line begins more sections than a script may have.
 use Rattle.std.proofs.Common.{◌≡◌, ℕ, ◌+◌, ◌≤◌, ◌<◌, true, false, Bool, List, [], ◌∷◌, ◌++◌, length, refl, sym, subst, arith, cond, length-append, Option, Some, None, Result, Ok, Err}
-use Rattle.std.specs.Prelude.{nat_lt, nat_eq, ◌&&◌, ⊤}
+use Rattle.std.specs.Prelude.{nat_lt, ⊤}
 use Rattle.std.proofs.lemmas.Bool.Decides.{nat_tests}
 use Rattle.stm_check.specs.TypedBlock.{Block}
 use Rattle.stm_parse.specs.ExpectationFunction.{parsed_expectation}
@@ -15,13 +15,15 @@ use Rattle.stm_blocks.specs.declared.refusal.Refusal.{Refusal}
 use Rattle.stm_storm.specs.declared.storm_word.StormWord.{StormWord}
 use Rattle.stm_storm.specs.declared.storm_word.StormWord.TheVariants.{Tvar, Client, Submit, Finish, Cancel, Expect}
 use Rattle.stm_lines.specs.LineClass.{LineClass, TooLong, Silent, NotAscii, Words}
+use Rattle.stm_storm.specs.declared.script_fault.Reason.{Reason}
+use Rattle.stm_storm.specs.declared.script_fault.Reason.TheVariants as reason
 use Rattle.stm_storm.specs.ScriptReading.{HasFewSections, after_class_at}
-use Rattle.stm_storm.specs.StormScript.{PartialScript, Begun, sections_so_far, most_lines, numbered_result, declared_more, after_client, with_task, with_block, submission_of, with_submission, with_expectation, expected_task, after_task, before_sections, after_word, after_words, after_class, storm_word_named}
+use Rattle.stm_storm.specs.StormScript.{PartialScript, Begun, sections_so_far, faulty_line, most_lines, numbered_result, with_section, declared_more, after_client, with_task, with_block, submission_of, with_submission, with_expectation, expected_task, after_task, before_sections, after_word, after_words, after_class, storm_word_named}
 
 -- a step that leads to a script leads to one with few sections
-abbrev pub Few : Option PartialScript → Type 0
-Few None = ⊤
-Few (Some s) = length (sections_so_far s.ended s.begun) ≤ max_sections
+abbrev pub Few : Result PartialScript Reason → Type 0
+Few (Err why) = ⊤
+Few (Ok s) = length (sections_so_far s.ended s.begun) ≤ max_sections
 
 -- the section under way may change, and the variables
 same : (sections : List (List Task)) (b c : Begun) → length (sections ++ b.tasks ∷ []) ≤ max_sections → length (sections ++ c.tasks ∷ []) ≤ max_sections
@@ -35,28 +37,28 @@ one_more : (sections : List (List Task)) → length sections < max_sections → 
 one_more sections h = omega (arith, length-append sections ([] ∷ []))
 
 few_client : (r : PartialScript) (argument : List ℕ) → Few (after_client r argument)
-few_client r argument = by (nat_eq (length argument) 0) (nat_lt (length (sections_so_far r.ended r.begun)) max_sections) refl
+few_client r argument = by (nat_lt 0 (length argument)) (nat_lt (length (sections_so_far r.ended r.begun)) max_sections) refl
   where
-    by : (none few : Bool) → nat_lt (length (sections_so_far r.ended r.begun)) max_sections ≡ few
-        → Few (cond (none && few) (Some (record { table = r.table; ended = sections_so_far r.ended r.begun; begun = Some (record { tasks = []; submissions = 0 }) })) None)
-    by false few e = tt
-    by true false e = tt
-    by true true e = one_more (sections_so_far r.ended r.begun) (grind (arith, nat_tests))
+    by : (some few : Bool) → nat_lt (length (sections_so_far r.ended r.begun)) max_sections ≡ few
+        → Few (cond some (Err reason.Argument) (cond few (Ok (with_section r)) (Err reason.ClientsFull)))
+    by true few e = tt
+    by false false e = tt
+    by false true e = one_more (sections_so_far r.ended r.begun) (grind (arith, nat_tests))
 
 few_block : (r : PartialScript) (b : Begun) (block : Result Block Refusal) → length (r.ended ++ b.tasks ∷ []) ≤ max_sections → Few (with_block r b block)
 few_block r b (Ok block) h = same r.ended b (record { tasks = b.tasks ++ task.Submit block ∷ []; submissions = b.submissions + 1 }) h
 few_block r b (Err e) h = tt
 
-few_task : (r : PartialScript) (b : Begun) (t : Task) → length (r.ended ++ b.tasks ∷ []) ≤ max_sections → Few (Some (with_task r b t))
+few_task : (r : PartialScript) (b : Begun) (t : Task) → length (r.ended ++ b.tasks ∷ []) ≤ max_sections → Few (Ok (with_task r b t))
 few_task r b t h = same r.ended b (record { tasks = b.tasks ++ t ∷ []; submissions = b.submissions }) h
 
 few_submission : (r : PartialScript) (b : Begun) (make : ℕ → Task) (k : Option ℕ) → length (r.ended ++ b.tasks ∷ []) ≤ max_sections → Few (with_submission r b make k)
 few_submission r b make (Some k) h = few_task r b (make k) h
 few_submission r b make None h = tt
 
-few_expectation : (r : PartialScript) (b : Begun) (t : Option Task) → length (r.ended ++ b.tasks ∷ []) ≤ max_sections → Few (with_expectation r b t)
-few_expectation r b (Some t) h = few_task r b t h
-few_expectation r b None h = tt
+few_expectation : (r : PartialScript) (b : Begun) (t : Result Task Refusal) → length (r.ended ++ b.tasks ∷ []) ≤ max_sections → Few (with_expectation r b t)
+few_expectation r b (Ok t) h = few_task r b t h
+few_expectation r b (Err e) h = tt
 
 few_in_section : (r : PartialScript) (b : Begun) (word : StormWord) (argument : List ℕ) → length (r.ended ++ b.tasks ∷ []) ≤ max_sections → Few (after_task r b word argument)
 few_in_section r b Tvar argument h = tt
@@ -92,10 +94,11 @@ few_class r (Words word argument) h = few_words r (storm_word_named word) argume
 pub few_more : (r s : PartialScript) (n : ℕ) (class : LineClass) → HasFewSections r → after_class_at r n class ≡ Ok s → HasFewSections s
 few_more r s n class h e = by (nat_lt most_lines n) (after_class r class) (few_class r class h) e
   where
-    by : (many : Bool) (x : Option PartialScript) → Few x → cond many (Err n) (numbered_result n x) ≡ Ok s → HasFewSections s
+    by : (many : Bool) (x : Result PartialScript Reason) → Few x → cond many (Err (faulty_line n reason.ScriptTooLong)) (numbered_result n x) ≡ Ok s
+        → HasFewSections s
     by true x f p = absurd (cc)
-    by false None f p = absurd (cc)
-    by false (Some t) f p = let same : t ≡ s = cc in subst HasFewSections same f
+    by false (Err why) f p = absurd (cc)
+    by false (Ok t) f p = let same : t ≡ s = cc in subst HasFewSections same f
 
 pub few_at_first : (r : PartialScript) → r ≡ record { table = []; ended = []; begun = None } → HasFewSections r
 few_at_first r e = subst HasFewSections (sym e) (omega arith)

@@ -4,11 +4,12 @@ use Rattle.std.proofs.lemmas.List.{length-map}
 use Rattle.stm_lines.specs.LineClass.{LineClass, line_class}
 use Rattle.stm_lines.specs.LineReading.{classes_from, IsNextLine, IsNoLine}
 use Rattle.stm_lines.specs.Lines.{lines_of}
+use Rattle.stm_storm.specs.declared.script_fault.ScriptFault.{ScriptFault}
 use Rattle.stm_storm.specs.ScriptReading.{after_class_at, after_classes, rest_script, IsReadTo}
 use Rattle.stm_storm.specs.StormScript.{PartialScript, nothing_read, after_line, after_lines, script_result, storm_script}
 
 -- of a line no more counts than how it is judged
-by_classes : (r : Result PartialScript ℕ) (n : ℕ) (lines : List (List ℕ)) → after_lines r n lines ≡ after_classes r n (map line_class lines)
+by_classes : (r : Result PartialScript ScriptFault) (n : ℕ) (lines : List (List ℕ)) → after_lines r n lines ≡ after_classes r n (map line_class lines)
 unfolding after_line
 by_classes (Err e) n lines = refl
 by_classes (Ok r) n [] = refl
@@ -40,12 +41,12 @@ read_more (Some all) (Some rest) None line r s n h k e = absurd k
 read_more (Some all) (Some rest) (Some left) line r s n h k e =
     h ∙ ap (rest_script (Ok r) n) k ∙ next r n (line_class line) (classes_from [] left) ∙ ap (λ x. rest_script x (n + 1) (classes_from [] left)) e
 
-fault_stays : (m n : ℕ) (rest : List LineClass) → rest_script (Err m) n rest ≡ Err m
+fault_stays : (m : ScriptFault) (n : ℕ) (rest : List LineClass) → rest_script (Err m) n rest ≡ Err m
 unfolding rest_script
 fault_stays m n rest = refl
 
 -- a faulty line
-pub read_fault : (a b c : Option (List ℕ)) (line : List ℕ) (r : PartialScript) (n m : ℕ) → IsReadTo a b r n → IsNextLine b c line → after_class_at r n (line_class line) ≡ Err m
+pub read_fault : (a b c : Option (List ℕ)) (line : List ℕ) (r : PartialScript) (n : ℕ) (m : ScriptFault) → IsReadTo a b r n → IsNextLine b c line → after_class_at r n (line_class line) ≡ Err m
     → IfSome a (λ input. storm_script input ≡ Err m)
 read_fault None b c line r n m h k e = tt
 read_fault (Some all) None c line r n m h k e = absurd h

@@ -1,4 +1,5 @@
 -- What a reader has to believe: what a script says, and what a storm of it writes.
+pub mod FaultText
 pub mod StormHistory
 pub mod StormScript
 pub mod StormText

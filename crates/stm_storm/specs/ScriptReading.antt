@@ -1,21 +1,30 @@
 -- The code's script under way, and what its calls return, by the definitions of scripts.
 use Rattle.std.specs.Prelude.{◌≡◌, ◌≤◌, ℕ, ◌+◌, nat_lt, List, [], ◌∷◌, Option, Some, None, Result, Ok, Err, length, map, if◌then◌else◌, ⊤}
+use Rattle.stm_blocks.specs.declared.refusal.Refusal.{Refusal}
 use Rattle.stm_store.specs.Tables.{Declared}
 use Rattle.stm_pool.specs.declared.section.Section.{Section}
 use Rattle.stm_pool.specs.declared.section.Task.{Task}
 use Rattle.stm_pool.specs.Limits.{max_sections}
 use Rattle.stm_storm.specs.declared.script_line.LineFault.{LineFault}
 use Rattle.stm_storm.specs.declared.script_line.LineFault.TheVariants.{Faulty}
+use Rattle.stm_storm.specs.declared.script_fault.Reason.{Reason}
+use Rattle.stm_storm.specs.declared.script_fault.Reason.TheVariants.{Refused, ScriptTooLong}
+use Rattle.stm_storm.specs.declared.script_fault.ScriptFault.{ScriptFault}
 use Rattle.stm_storm.specs.declared.script_so_far.ScriptSoFar.{ScriptSoFar}
 use Rattle.stm_storm.specs.declared.script_reader.Script.{Script}
 use Rattle.stm_lines.specs.LineClass.{LineClass}
 use Rattle.stm_lines.specs.LineReading.{classes_from}
-use Rattle.stm_storm.specs.StormScript.{Begun, PartialScript, StormScript, most_lines, numbered_result, after_class, script_result, sections_so_far, storm_script}
+use Rattle.stm_storm.specs.StormScript.{Begun, PartialScript, StormScript, faulty_line, most_lines, numbered_result, after_class, script_result, sections_so_far, storm_script}
 
--- what the definitions of scripts give, as a result: if they give none, the line is faulty
-abbrev pub some_or_faulty : {Y : Type 0} → Option Y → Result Y LineFault
-some_or_faulty (Some y) = Ok y
-some_or_faulty None = Err Faulty
+-- what the definitions of scripts give, as the calls return it
+abbrev pub or_faulty : {Y : Type 0} → Result Y Reason → Result Y LineFault
+or_faulty (Ok y) = Ok y
+or_faulty (Err why) = Err (Faulty why)
+
+-- the same of a block, a variable or an expectation
+abbrev pub or_refused : {Y : Type 0} → Result Y Refusal → Result Y LineFault
+or_refused (Ok y) = Ok y
+or_refused (Err refusal) = Err (Faulty (Refused refusal))
 
 -- what a client is to do
 abbrev pub tasks_of : Section → List Task
@@ -39,17 +48,18 @@ HasFewSections r = length (sections_so_far r.ended r.begun) ≤ max_sections
 
 -- ---- lines by their judgement alone
 -- what a line that is judged so leads to, with its number
-abbrev pub after_class_at : PartialScript → ℕ → LineClass → Result PartialScript ℕ
-after_class_at r n class = if nat_lt most_lines n then Err n else numbered_result n (after_class r class)
+abbrev pub after_class_at : PartialScript → ℕ → LineClass → Result PartialScript ScriptFault
+after_class_at r n class =
+    if nat_lt most_lines n then Err (faulty_line n ScriptTooLong) else numbered_result n (after_class r class)
 
 -- lines that are judged so, from this number on
-abbrev pub after_classes : Result PartialScript ℕ → ℕ → List LineClass → Result PartialScript ℕ
+abbrev pub after_classes : Result PartialScript ScriptFault → ℕ → List LineClass → Result PartialScript ScriptFault
 after_classes (Err e) n classes = Err e
 after_classes (Ok r) n [] = Ok r
 after_classes (Ok r) n (class ∷ rest) = after_classes (after_class_at r n class) (n + 1) rest
 
 -- the script that they lead to
-unfoldable pub rest_script : Result PartialScript ℕ → ℕ → List LineClass → Result StormScript ℕ
+unfoldable pub rest_script : Result PartialScript ScriptFault → ℕ → List LineClass → Result StormScript ScriptFault
 rest_script r n classes = script_result (after_classes r n classes) (n + length classes)
 
 -- if it is known what the input was and what is left, the lines from this number on lead to its script

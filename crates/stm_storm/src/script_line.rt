@@ -1,7 +1,6 @@
 //! What a line of a storm's script says.
 
 ghost use Rattle.std.specs.Prelude.{◌≡◌, ◌<◌, ◌⊎◌, length, slice_get};
-ghost use Rattle.std.specs.Result.{result_ok};
 ghost use Rattle.stm_terms.specs.UnlessNoMemory.{AnswersUnless};
 ghost use Rattle.stm_parse.specs.Declarations.{parsed_initial};
 ghost use Rattle.stm_parse.specs.ExpectationFunction.{parsed_expectation};
@@ -9,9 +8,10 @@ ghost use Rattle.stm_lines.specs.NumberArgument.{number_argument};
 ghost use Rattle.stm_blocks.specs.CompiledBlock.{compiled_block};
 ghost use Rattle.stm_blocks.specs.DeclaredVariable.{initial as initial_of};
 ghost use Rattle.stm_blocks.specs.OutOfMemory.{IsOutOfMemory};
-ghost use Rattle.stm_storm.specs.ScriptReading.{some_or_faulty};
+ghost use Rattle.stm_storm.specs.ScriptReading.{or_refused};
 ghost use Rattle.stm_storm.specs.StormScript.{submission_of, expected_at, expected_task};
 
+use crate::script_fault::Reason;
 use std::alloc::Global;
 use stm_blocks::Refusal;
 use stm_blocks::block::compile_block;
@@ -25,27 +25,34 @@ use stm_store::{DeclareError, Table};
 /// Why a line of a script isn't taken.
 #[derive(Clone, Copy, Debug, PartialEq, Eq, Drop)]
 pub enum LineFault {
-    Faulty,
+    Faulty(Reason),
     NoMemory,
+}
+
+/// A line is faulty for this refusal.
+fn faulty(refusal: Refusal) -> LineFault
+    ensures { result ≡ LineFault.Faulty (Reason.Refused refusal) }
+{
+    LineFault::Faulty(Reason::Refused(refusal))
 }
 
 /// What a refusal is to a script: a line that would be refused is faulty.
 pub fn fault_of(refusal: Refusal) -> LineFault
     ensures { (IsOutOfMemory refusal × (result ≡ LineFault.NoMemory))
-        ⊎ (¬ IsOutOfMemory refusal × (result ≡ LineFault.Faulty)) }
+        ⊎ (¬ IsOutOfMemory refusal × (result ≡ LineFault.Faulty (Reason.Refused refusal))) }
 {
     match refusal {
         Refusal::Parsing(ParseFault::NoMemory) => LineFault::NoMemory,
         Refusal::Typing(TypeFault::NoMemory) => LineFault::NoMemory,
         Refusal::Declaring(DeclareError::NoMemory) => LineFault::NoMemory,
-        _ => LineFault::Faulty,
+        _ => LineFault::Faulty(Reason::Refused(refusal)),
     }
 }
 
 /// The block of a `submit`.
 pub fn submitted_block(alloc: Global, table: &Table, text: &str) -> Result<SharedBlock, LineFault>
     ensures { AnswersUnless LineFault.NoMemory (λ b. b) result
-        (some_or_faulty (result_ok (compiled_block table.now text.now))) }
+        (or_refused (compiled_block table.now text.now)) }
 {
     match compile_block(alloc, table, text) {
         Ok(block) => match SharedBlock::new(alloc, block) {
@@ -69,7 +76,7 @@ pub fn named_submission(submissions: usize, argument: &str) -> Option<usize>
 /// What is expected of a declared variable: a value that it may hold.
 fn expected_value(table: &Table, number: u32, init: &Init) -> Result<Task, LineFault>
     requires { number < length table.now }
-    ensures { result ≡ some_or_faulty
+    ensures { result ≡ or_refused
         (expected_at table.now number (slice_get table.now number)
         (initial_of table.now (parsed_initial init.now))) }
 {
@@ -78,24 +85,24 @@ fn expected_value(table: &Table, number: u32, init: &Init) -> Result<Task, LineF
             if table.is_of(value, table.kind(number)) {
                 Ok(Task::Expect(number, value))
             } else {
-                Err(LineFault::Faulty)
+                Err(faulty(Refusal::Declaring(DeclareError::TypeOfValue)))
             }
         }
-        Err(_) => Err(LineFault::Faulty),
+        Err(refusal) => Err(faulty(refusal)),
     }
 }
 
 /// What an `expect` expects.
 pub fn expectation(alloc: Global, table: &Table, text: &str) -> Result<Task, LineFault>
     ensures { AnswersUnless LineFault.NoMemory (λ t. t) result
-        (some_or_faulty (expected_task table.now (parsed_expectation text.now))) }
+        (or_refused (expected_task table.now (parsed_expectation text.now))) }
 {
     match parse_expectation(alloc, text) {
         Ok(expectation) => match table.find(expectation.name.as_str()) {
             Some(number) => expected_value(table, number, &expectation.value),
-            None => Err(LineFault::Faulty),
+            None => Err(faulty(Refusal::Unknown(0))),
         },
         Err(ParseFault::NoMemory) => Err(LineFault::NoMemory),
-        Err(_) => Err(LineFault::Faulty),
+        Err(fault) => Err(faulty(Refusal::Parsing(fault))),
     }
 }

@@ -1,0 +1,159 @@
+//! Why a line of a script is faulty.
+
+ghost use Rattle.std.specs.Prelude.{◌≡◌};
+ghost use Rattle.stm_storm.specs.FaultText.{declare_error_name, parse_fault_name, parse_fault_place, reason_name, reason_place, refusal_name, refusal_place, type_fault_name, type_fault_place};
+
+use stm_blocks::Refusal;
+use stm_check::TypeFault;
+use stm_parse::ParseFault;
+use stm_store::DeclareError;
+use thiserror::Error;
+
+/// Why a line of a script is faulty: the first reason that holds (docs/STORM.md, "Scripts").
+#[derive(Clone, Copy, PartialEq, Eq, Debug)]
+pub enum Reason {
+    /// More than 65,536 bytes.
+    LineTooLong,
+    /// A byte over 127.
+    NotAscii,
+    /// A word that no line begins with.
+    Command,
+    /// Not the number of a `submit` before in the section, or an argument of `client`.
+    Argument,
+    /// A line that has to stand before the first section.
+    Late,
+    /// A line of a section before the first section, or a script without a section.
+    NoClient,
+    /// One more section than a script may have.
+    ClientsFull,
+    /// One more line than a script may have.
+    ScriptTooLong,
+    /// A block, a variable or an expectation that is refused.
+    Refused(Refusal),
+}
+
+/// The first faulty line of a script: its number, counted from 1, and why it is faulty.
+#[derive(Clone, Copy, PartialEq, Eq, Debug, Error)]
+#[error("stmdesk: script line {line}")]
+pub struct ScriptFault {
+    pub line: u32,
+    pub reason: Reason,
+}
+
+fn parse_name(fault: ParseFault) -> &'static str
+    ensures { result.now ≡ parse_fault_name fault }
+{
+    match fault {
+        ParseFault::BadByte(_) => "BadByte",
+        ParseFault::BadNumber(_) => "BadNumber",
+        ParseFault::NameTooLong(_) => "NameTooLong",
+        ParseFault::Unexpected(_) => "Unexpected",
+        ParseFault::EndOfText => "EndOfText",
+        ParseFault::TooDeep => "TooDeep",
+        ParseFault::TooLarge => "TooLarge",
+        ParseFault::NoMemory => "NoMemory",
+    }
+}
+
+fn parse_place(fault: ParseFault) -> Option<usize>
+    ensures { result ≡ parse_fault_place fault }
+{
+    match fault {
+        ParseFault::BadByte(place) => Some(place),
+        ParseFault::BadNumber(place) => Some(place),
+        ParseFault::NameTooLong(place) => Some(place),
+        ParseFault::Unexpected(place) => Some(place),
+        ParseFault::EndOfText => None,
+        ParseFault::TooDeep => None,
+        ParseFault::TooLarge => None,
+        ParseFault::NoMemory => None,
+    }
+}
+
+fn type_name(fault: TypeFault) -> &'static str
+    ensures { result.now ≡ type_fault_name fault }
+{
+    match fault {
+        TypeFault::Unknown(_) => "Unknown",
+        TypeFault::Mismatch(_) => "Mismatch",
+        TypeFault::NotAVariable(_) => "NotAVariable",
+        TypeFault::Untyped(_) => "Untyped",
+        TypeFault::TypeTooDeep(_) => "TypeTooDeep",
+        TypeFault::NoMemory => "NoMemory",
+    }
+}
+
+fn type_place(fault: TypeFault) -> Option<usize>
+    ensures { result ≡ type_fault_place fault }
+{
+    match fault {
+        TypeFault::Unknown(place) => Some(place),
+        TypeFault::Mismatch(place) => Some(place),
+        TypeFault::NotAVariable(place) => Some(place),
+        TypeFault::Untyped(place) => Some(place),
+        TypeFault::TypeTooDeep(place) => Some(place),
+        TypeFault::NoMemory => None,
+    }
+}
+
+fn declare_name(error: DeclareError) -> &'static str
+    ensures { result.now ≡ declare_error_name error }
+{
+    match error {
+        DeclareError::Twice => "Twice",
+        DeclareError::TypeOfValue => "TypeOfValue",
+        DeclareError::TableFull => "TableFull",
+        DeclareError::NoMemory => "NoMemory",
+    }
+}
+
+fn name_of_refusal(refusal: Refusal) -> &'static str
+    ensures { result.now ≡ refusal_name refusal }
+{
+    match refusal {
+        Refusal::Parsing(fault) => parse_name(fault),
+        Refusal::Typing(fault) => type_name(fault),
+        Refusal::Unknown(_) => "Unknown",
+        Refusal::Declaring(error) => declare_name(error),
+    }
+}
+
+fn place_of_refusal(refusal: Refusal) -> Option<usize>
+    ensures { result ≡ refusal_place refusal }
+{
+    match refusal {
+        Refusal::Parsing(fault) => parse_place(fault),
+        Refusal::Typing(fault) => type_place(fault),
+        Refusal::Unknown(place) => Some(place),
+        Refusal::Declaring(_) => None,
+    }
+}
+
+impl Reason {
+    /// The name of the reason; that of a block or a variable is the console's (docs/CONSOLE.md).
+    pub fn name(self) -> &'static str
+        ensures { result.now ≡ reason_name self }
+    {
+        match self {
+            Reason::LineTooLong => "LineTooLong",
+            Reason::NotAscii => "NotAscii",
+            Reason::Command => "Command",
+            Reason::Argument => "Argument",
+            Reason::Late => "Late",
+            Reason::NoClient => "no client",
+            Reason::ClientsFull => "ClientsFull",
+            Reason::ScriptTooLong => "ScriptTooLong",
+            Reason::Refused(refusal) => name_of_refusal(refusal),
+        }
+    }
+
+    /// The place of the cause, in bytes from 0 in the line's argument; none if the reason has none.
+    pub fn place(self) -> Option<usize>
+        ensures { result ≡ reason_place self }
+    {
+        match self {
+            Reason::Refused(refusal) => place_of_refusal(refusal),
+            _ => None,
+        }
+    }
+}
