@@ -14,7 +14,7 @@ IsFailure status = (status ≡ FAILED) ⊎ (status ≡ NO_MEMORY)
 -- after a storm that didn't succeed
 abbrev pub storm_status : StormFault → ℕ
 storm_status (Run fault) = status_of fault
-storm_status (Script line) = FAILED
+storm_status (Script fault) = FAILED
 storm_status Replay = NOT_RIGHT
 
 -- after a check: the history is legal, or not

@@ -6,7 +6,7 @@ ghost use Rattle.clap.specs.Values.{kind_of};
 ghost use Rattle.stm_terms.specs.Texts.{IsPrefixOf};
 ghost use Rattle.stm_console.specs.ExitStatus.{IsFailure, storm_status};
 ghost use Rattle.stm_console.specs.Program.{AppendsPartOf, Do, ProgramDoes, asked_by, streams, with_files};
-ghost use Rattle.stm_console.specs.declared.status.TheConstants.{DONE, NO_MEMORY, REFUSED};
+ghost use Rattle.stm_console.specs.declared.status.TheConstants.{DONE, FAILED, NO_MEMORY, REFUSED};
 ghost use Rattle.stm_exploration.specs.ExploreStatus.{explore_status};
 ghost use Rattle.stm_lines.specs.RunStatus.{status_of};
 ghost use Rattle.stm_options.specs.Options.{AreRunOptions};
@@ -25,14 +25,14 @@ use std::io::{Read, Write};
 use std::random::RandomSource;
 use std::sync::Wait;
 use std::thread::Threads;
-use stm_exploration::ExploreFault;
 use stm_exploration::exploring::explore_with;
+use stm_exploration::{ExploreFault, Warning};
 use stm_lines::RunFault;
 use stm_lines::output::{flush, write_flushed};
 use stm_options::{ExploreOptions, Options};
 use stm_run::run;
 use stm_store::Seed;
-use stm_storm::{StormFault, storm};
+use stm_storm::{ScriptFault, StormFault, storm};
 use stm_words::version::version_line;
 use stm_words::{Request, read_words};
 
@@ -110,26 +110,43 @@ fn print_words<W: Write, E: Write>(
     print_help(error, writer, errors)
 }
 
+/// Reports the first faulty line of a script: its number, and then why it is faulty.
+fn report_script<E: Write>(fault: ScriptFault, errors: &mut E) -> u8
+    ensures { result ≡ FAILED }
+{
+    let _ = writeln!(errors, "{fault}");
+    let name = fault.reason.name();
+    match fault.reason.place() {
+        Some(place) => {
+            let _ = writeln!(errors, "{fault}: {name} {place}");
+        }
+        None => {
+            let _ = writeln!(errors, "{fault}: {name}");
+        }
+    }
+    FAILED
+}
+
 /// Reports why a storm didn't succeed, and returns the status. Of a replay that failed only the storm's text and the status say it.
 fn report_storm<E: Write>(fault: StormFault, errors: &mut E) -> u8
     ensures { result ≡ storm_status fault }
 {
     match fault {
         StormFault::Run(fault) => report(fault, errors),
-        StormFault::Script(line) => {
-            let _ = writeln!(errors, "{}", StormFault::Script(line));
-            FAILED
-        }
+        StormFault::Script(fault) => report_script(fault, errors),
         StormFault::Replay => NOT_RIGHT,
     }
 }
 
-/// Reports that there is no history of a fault, if one is asked for.
-fn report_right<E: Write>(options: ExploreOptions, errors: &mut E) -> u8
+/// Reports that there is no history of a fault, if one is asked for, and what may be a mistake in the script.
+fn report_right<E: Write>(options: ExploreOptions, warnings: &[Warning], errors: &mut E) -> u8
     ensures { result ≡ DONE }
 {
     if options.history {
         let _ = writeln!(errors, "stmdesk: right: there is no history of a fault");
+    }
+    for warning in warnings {
+        let _ = writeln!(errors, "{warning}");
     }
     DONE
 }
@@ -141,10 +158,7 @@ fn report_exploration<E: Write>(fault: ExploreFault, options: ExploreOptions, er
 {
     match fault {
         ExploreFault::Run(fault) => report(fault, errors),
-        ExploreFault::Script(line) => {
-            let _ = writeln!(errors, "{}", ExploreFault::Script(line));
-            FAILED
-        }
+        ExploreFault::Script(fault) => report_script(fault, errors),
         ExploreFault::Faulty => NOT_RIGHT,
         ExploreFault::Incomplete => {
             if options.history {
@@ -214,7 +228,7 @@ fn do_exploration<R: Read, W: Write, E: Write>(
         (W.contents writer.old) (W.contents writer.new)) result }
 {
     match explore_with(alloc, seed, reader, writer, options) {
-        Ok(()) => report_right(options, errors),
+        Ok(warnings) => report_right(options, &warnings, errors),
         Err(fault) => report_exploration(fault, options, errors),
     }
 }
