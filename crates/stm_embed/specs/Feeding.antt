@@ -1,8 +1,9 @@
 -- The console that C holds, and the bytes that wait to be given.
-use Rattle.std.specs.Prelude.{◌≡◌, ◌≤◌, ℕ, List, ◌++◌, length, take, drop}
+use Rattle.std.specs.Prelude.{◌≡◌, ◌≤◌, ℕ, List, [], ◌++◌, length, min, take, drop}
+use Rattle.stm_events.specs.SlowDesk.{max_events}
 use Rattle.stm_lines.specs.Lines.{whole_lines_of}
 use Rattle.stm_run.specs.declared.console.Console.{Console}
-use Rattle.stm_run.specs.Console.{answers_to}
+use Rattle.stm_run.specs.Console.{answers_to, initial_console}
 use Rattle.stm_run.specs.Laws.{state_after_lines}
 use Rattle.stm_embed.specs.declared.feeding.Embedded.{Embedded}
 
@@ -13,6 +14,14 @@ console_of e = e.session.console
 -- the answers that were not given
 abbrev pub unread_answers : Embedded → List ℕ
 unread_answers e = drop e.given e.answers.items
+
+-- a desk that takes as many events as these, at most 1,048,576: no variable is declared, and no answer waits
+abbrev pub IsNew : ℕ → Embedded → Type 0
+IsNew events e = (console_of e ≡ initial_console (min events max_events)) × (unread_answers e ≡ [])
+
+-- a desk that takes no events, on which no variable is declared, and these are the bytes that wait
+abbrev pub HasOnly : List ℕ → Embedded → Type 0
+HasOnly bytes e = (console_of e ≡ initial_console 0) × (unread_answers e ≡ bytes)
 
 -- ---- inside
 -- some bytes are whole lines: what follows them begins a line

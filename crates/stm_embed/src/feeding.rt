@@ -1,16 +1,19 @@
 //! The console, and the answers that were not fetched.
 
-ghost use Rattle.std.specs.Prelude.{◌≡◌, ◌≢◌, ◌<◌, ◌≤◌, true, false, [], ◌++◌, length, take, drop, vec_len, OnOk, OnErr};
+ghost use Rattle.std.specs.Prelude.{◌≡◌, ◌≢◌, ◌<◌, ◌≤◌, ℕ, List, true, false, [], ◌++◌, length, take, drop, vec_len, OnOk, OnErr, IfOk};
 ghost use Rattle.stm_lines.specs.Lines.{drop_return, whole_lines_of, NoLineFeed};
 ghost use Rattle.stm_run.specs.Console.{answer_to, answers_to, initial_console, state_after};
 ghost use Rattle.stm_run.specs.Laws.{state_after_lines};
+ghost use Rattle.stm_embed.specs.Exploring.{IsExplored};
 ghost use Rattle.stm_embed.specs.Feeding.{HasFed, console_of, unread_answers};
 ghost use Rattle.stm_embed.specs.Status.{all_taken, part_of_line, no_memory};
 
+use crate::exploring::{Ended, explore_script};
 use crate::status::{ALL_TAKEN, NO_MEMORY, PART_OF_LINE};
 use memchr::memchr;
 use std::alloc::{AllocError, Global};
 use stm_commands::Threading;
+use stm_options::ExploreOptions;
 use stm_run::limit::EventLimit;
 use stm_run::session::Session;
 use stm_store::Seed;
@@ -118,7 +121,7 @@ fn answer_lines(session: &mut Session, alloc: Global, lines: &[u8], answers: &mu
 }
 
 /// Copies the front of some bytes, as much as there is room for.
-fn copy_front(from: &[u8], to: &mut [u8]) -> usize
+pub(crate) fn copy_front(from: &[u8], to: &mut [u8]) -> usize
     ensures few { result ≤ length from.now }
     ensures room { result ≤ length to.old }
     ensures all { result < length to.old → result ≡ length from.now }
@@ -156,6 +159,35 @@ impl Embedded {
             answers: Vec::new(alloc),
             given: 0,
         }
+    }
+
+    /// Keeps a text after the answers that wait to be given.
+    fn keep(&mut self, text: &[u8]) -> Result<(), NoMemory>
+        ensures done { OnOk result (unread_answers self.new ≡ unread_answers self.old ++ text.now) }
+        ensures same { OnErr result (unread_answers self.new ≡ unread_answers self.old) }
+        ensures console { console_of self.new ≡ console_of self.old }
+    {
+        let given = self.given.min(self.answers.len());
+        self.given = drop_given(&mut self.answers, given);
+        self.answers.extend_from_slice(text)
+    }
+
+    /// Explores a script, and keeps what is written of it after the answers that wait to be given. Returns how many bytes that are.
+    pub fn explore(
+        &mut self,
+        alloc: Global,
+        script: &[u8],
+        options: ExploreOptions,
+    ) -> Result<(Ended, usize), NoMemory>
+        ensures done { IfOk result (λ r. (text : List ℕ) × IsExplored script.now options r.0 text
+            × (unread_answers self.new ≡ unread_answers self.old ++ text) × (r.1 ≡ length text)) }
+        ensures same { OnErr result (unread_answers self.new ≡ unread_answers self.old) }
+        ensures console { console_of self.new ≡ console_of self.old }
+    {
+        let mut text = Vec::new(alloc);
+        let ended = explore_script(alloc, script, options, &mut text)?;
+        self.keep(&text)?;
+        Ok((ended, text.len()))
     }
 
     /// Answers the whole lines among some bytes, one after another. The answers wait to be given.

@@ -1,29 +1,50 @@
-//! The console in the process of a program that isn't Rattle's, by three functions for C: `stmdesk_new`, `stmdesk_feed` and
-//! `stmdesk_free`. docs/EMBEDDING.md says how they are called, and include/stmdesk.h declares them.
+//! The console in the process of a program that isn't Rattle's, as functions for C.
 //!
-//! `feeding` has the console with the answers that were not fetched, and `handle` the pointer by which C holds it. No thread is
-//! started: a static library may start none.
+//! `stmdesk_new`, `stmdesk_new_seeded`, `stmdesk_feed` and `stmdesk_free` are those of a desk. `stmdesk_check` judges a history and
+//! `stmdesk_explore` explores a script without one, and `stmdesk_version` has the version. docs/EMBEDDING.md says how they are called, and
+//! include/stmdesk.h declares them.
 //!
-//! What a reader has to believe is in specs/Feeding: what a call did, in the words of `stm_run/specs/Console`.
+//! `feeding` has the console with the answers that were not fetched, and `handle` the pointer by which C holds it. `checking` has the
+//! check of a history, `exploring` the exploration of a script, `seed` the seed of names that C chooses, and `version` the version. No
+//! thread is started: a static library may start none.
+//!
+//! What a reader has to believe is in specs/: `Feeding` has what a call did, in the words of `stm_run/specs/Console`, `Checking` what a
+//! check found, and `Exploring` how an exploration ended.
 #![tactic(auto)]
 
+mod checking;
+mod exploring;
 mod feeding;
 mod handle;
+mod seed;
 mod status;
+mod version;
 
-ghost use Rattle.std.specs.Prelude.{◌≡◌, ◌≢◌, ◌<◌, ◌≤◌, [], ◌++◌, length, take, drop};
+ghost use Rattle.std.specs.Prelude.{◌≡◌, ◌≢◌, ◌<◌, ◌≤◌, ℕ, List, [], ◌∷◌, ◌++◌, false, length, take, drop, IfOk, IsSomeAnd, IsTrue, OnErr};
 ghost use Rattle.stm_lines.specs.Lines.{whole_lines_of, NoLineFeed};
 ghost use Rattle.stm_run.specs.Console.{answers_to};
 ghost use Rattle.stm_run.specs.Laws.{state_after_lines};
-ghost use Rattle.stm_embed.specs.Feeding.{console_of, unread_answers};
+ghost use Rattle.stm_words.specs.declared.version.TheConstants.{VERSION};
+ghost use Rattle.stm_embed.specs.Checking.{IsJudgement, found_status, numbers_of};
+ghost use Rattle.stm_embed.specs.Exploring.{IsExplored, ended_status, explore_options, invalid_line};
+ghost use Rattle.stm_embed.specs.Feeding.{HasOnly, IsNew, console_of, unread_answers};
 ghost use Rattle.stm_embed.specs.Status.{all_taken, part_of_line, no_memory};
+ghost use Rattle.stm_embed.specs.declared.checking.Found.{Found as AnyFound};
+ghost use Rattle.stm_embed.specs.declared.exploring.Ended.{Ended as AnyEnded};
 
+use checking::{Checked, judge};
+use exploring::{Ended, Explored, Wanted};
 use feeding::Embedded;
-use handle::Handle;
+use handle::{Handle, Room};
+use seed::CallersSeed;
+use status::NO_MEMORY;
 use std::alloc::Global;
 use stm_desk::Desk;
+use stm_options::ExploreOptions;
 use stm_run::limit::EventLimit;
 use stm_store::Seed;
+use stm_terms::NoMemory;
+use version::{VERSION_TEXT, VersionText};
 
 /// What a call did.
 #[repr(C)]
@@ -36,18 +57,47 @@ pub struct Fed {
     pub waiting: usize,
 }
 
-/// Makes a console of no variables, whose desk will take `max_events` events, at most 1,048,576; writes a pointer to it, and returns
-/// whether there was memory for it.
-#[unsafe(no_mangle)]
-pub extern "C" fn stmdesk_new(alloc: Global, max_events: u32, desk: &mut *mut u8) -> bool {
+/// Makes a console of no variables, whose names will be looked up under the seed, and puts its handle into the room.
+fn make(alloc: Global, seed: Seed, max_events: u32, desk: &mut Room) -> bool
+    ensures made { IsTrue result → IsSomeAnd desk.new.embedded (λ e. IsNew max_events e) }
+    ensures same { result ≡ false → desk.new ≡ desk.old }
+{
     let limit = EventLimit::new(max_events.min(Desk::MAX_EVENTS));
-    match Box::new(alloc, Embedded::new(alloc, Seed::fixed(), limit)) {
+    match Box::new(alloc, Embedded::new(alloc, seed, limit)) {
         Ok(made) => {
-            *desk = Box::into_raw(made) as *mut u8;
+            *desk = Room::of(made);
             true
         }
         Err(_) => false,
     }
+}
+
+/// Makes a console of no variables, whose desk will take `max_events` events, at most 1,048,576; writes a pointer to it, and returns
+/// whether there was memory for it. Names of variables will be looked up under the seed that is always the same.
+#[unsafe(no_mangle)]
+pub extern "C" fn stmdesk_new(alloc: Global, max_events: u32, desk: &mut Room) -> bool
+    // There is a new console behind the pointer.
+    ensures made { IsTrue result → IsSomeAnd desk.new.embedded (λ e. IsNew max_events e) }
+    // Or the variable is as it was.
+    ensures same { result ≡ false → desk.new ≡ desk.old }
+{
+    make(alloc, Seed::fixed(), max_events, desk)
+}
+
+/// Does what `stmdesk_new` does, under a seed that the caller chooses.
+#[unsafe(no_mangle)]
+pub extern "C" fn stmdesk_new_seeded(
+    alloc: Global,
+    max_events: u32,
+    seed: &CallersSeed,
+    desk: &mut Room,
+) -> bool
+    // There is a new console behind the pointer.
+    ensures made { IsTrue result → IsSomeAnd desk.new.embedded (λ e. IsNew max_events e) }
+    // Or the variable is as it was.
+    ensures same { result ≡ false → desk.new ≡ desk.old }
+{
+    make(alloc, Seed::random(seed), max_events, desk)
 }
 
 /// Answers lines, each ended by a line feed, and gives as much as there is room for of the answers that wait, the oldest first.
@@ -83,6 +133,83 @@ pub extern "C" fn stmdesk_feed(
     fed.given = embedded.give(out);
     fed.waiting = embedded.waiting();
     done.status(lines)
+}
+
+/// Explores a script, and puts a console into the room whose answers that wait are what is written of it. Returns how the exploration
+/// ended, and how many bytes are written.
+fn explore(
+    alloc: Global,
+    script: &[u8],
+    options: ExploreOptions,
+    text: &mut Room,
+) -> Result<(Ended, usize), NoMemory>
+    ensures done { IfOk result (λ r. (bytes : List ℕ) × IsExplored script.now options r.0 bytes
+        × (r.1 ≡ length bytes) × IsSomeAnd text.new.embedded (λ e. HasOnly bytes e)) }
+    ensures same { OnErr result (text.new ≡ text.old) }
+{
+    let mut answer = Embedded::new(alloc, Seed::fixed(), EventLimit::new(0));
+    let (ended, length) = answer.explore(alloc, script, options)?;
+    *text = Room::of(Box::new(alloc, answer)?);
+    Ok((ended, length))
+}
+
+/// Explores every order of the steps of a script's clients; writes a pointer to a console that has no variables, takes no event, and has
+/// what is written of the exploration as answers that wait, and how many bytes these are. If memory runs out there is none.
+#[unsafe(no_mangle)]
+pub extern "C" fn stmdesk_explore(
+    alloc: Global,
+    script: &[u8],
+    options: &Wanted,
+    text: &mut Room,
+    explored: &mut Explored,
+) -> u32
+    // What the status and the line say was found of the script, and the text is what is written of that.
+    ensures found { result ≢ no_memory → (e : AnyEnded) × (bytes : List ℕ)
+        × IsExplored script.now (explore_options options.now) e bytes
+        × (result ≡ ended_status e) × (explored.new.line ≡ invalid_line e) × (explored.new.length ≡ length bytes)
+        × IsSomeAnd text.new.embedded (λ d. HasOnly bytes d) }
+    // If memory ran out, the variable for the text is as it was.
+    ensures memory { result ≡ no_memory → (text.new ≡ text.old)
+        × (explored.new.line ≡ 0) × (explored.new.length ≡ 0) }
+{
+    match explore(alloc, script, options.options(), text) {
+        Ok((ended, length)) => {
+            explored.length = length;
+            explored.line = ended.line();
+            ended.status()
+        }
+        Err(_) => {
+            explored.length = 0;
+            explored.line = 0;
+            NO_MEMORY
+        }
+    }
+}
+
+/// Judges the bytes of a history, and writes its numbers, or the line of its first fault. Names of variables are looked up under the
+/// seed.
+#[unsafe(no_mangle)]
+pub extern "C" fn stmdesk_check(
+    alloc: Global,
+    history: &[u8],
+    seed: &CallersSeed,
+    checked: &mut Checked,
+) -> u32
+    // What the status and the numbers say was found of the bytes.
+    ensures { (f : AnyFound) × IsJudgement history.now f × (result ≡ found_status f)
+        × (checked.new ≡ numbers_of f) }
+{
+    let found = judge(alloc, Seed::random(seed), history);
+    *checked = found.numbers();
+    found.status()
+}
+
+/// Writes a reference to the version, which a byte 0 ends.
+#[unsafe(no_mangle)]
+pub extern "C" fn stmdesk_version(version: &mut &'static VersionText)
+    ensures { version.new.now.bytes ≡ VERSION.now ++ 0 ∷ [] }
+{
+    *version = &VERSION_TEXT;
 }
 
 /// Drops a desk.

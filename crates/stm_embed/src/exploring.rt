@@ -1,0 +1,150 @@
+//! The exploration of a script, which needs no desk.
+
+ghost use Rattle.std.specs.Prelude.{◌≡◌, ◌≢◌, [], true, false, IfOk};
+ghost use Rattle.stm_embed.specs.Exploring.{IsExplored, explore_options, ended_status, invalid_line};
+ghost use Rattle.stm_embed.specs.Status.{no_memory};
+
+use crate::status::{BAD_SCRIPT, FAULTY, INCOMPLETE, NO_ROOM, RIGHT};
+use std::alloc::{AllocError, Global};
+use stm_exploration::{ExploreFault, write_exploration, write_fault_history};
+use stm_options::ExploreOptions;
+use stm_store::Seed;
+use stm_storm::ScriptFault;
+use stm_terms::NoMemory;
+
+/// The options of an exploration, as C gives them.
+#[repr(C)]
+pub struct Wanted {
+    /// How many states are kept at most.
+    pub max_states: u32,
+    /// Whether the history of the fault is written in place of what was found.
+    pub history: bool,
+    /// Whether every state is explored.
+    pub all: bool,
+    /// Whether every block may throw.
+    pub allow_throws: bool,
+}
+
+impl Wanted {
+    pub fn options(&self) -> ExploreOptions
+        ensures { result ≡ explore_options self.now }
+    {
+        ExploreOptions {
+            max_states: self.max_states,
+            history: self.history,
+            all: self.all,
+            allow_throws: self.allow_throws,
+        }
+    }
+}
+
+/// What C gets of an exploration besides its text.
+#[repr(C)]
+pub struct Explored {
+    /// How many bytes its text has.
+    pub length: usize,
+    /// The first line of the script that is invalid, counted from 1; 0 if none is.
+    pub line: u32,
+}
+
+/// How an exploration ended. Lines of scripts count from 1.
+#[derive(Clone, Copy, Drop)]
+pub enum Ended {
+    Right,
+    Faulty,
+    Incomplete,
+    BadScript(ScriptFault),
+    NoRoom,
+}
+
+impl Ended {
+    /// The status of an exploration that ended so.
+    pub fn status(self) -> u32
+        ensures status { result ≡ ended_status self }
+        ensures some { result ≢ no_memory }
+    {
+        match self {
+            Ended::Right => RIGHT,
+            Ended::Faulty => FAULTY,
+            Ended::Incomplete => INCOMPLETE,
+            Ended::BadScript(_) => BAD_SCRIPT,
+            Ended::NoRoom => NO_ROOM,
+        }
+    }
+
+    /// The line of the script that is invalid, or 0.
+    pub fn line(self) -> u32
+        ensures { result ≡ invalid_line self }
+    {
+        match self {
+            Ended::BadScript(fault) => fault.line,
+            Ended::Right => 0,
+            Ended::Faulty => 0,
+            Ended::Incomplete => 0,
+            Ended::NoRoom => 0,
+        }
+    }
+}
+
+/// Explores a script, and writes what was found.
+fn explore_states(
+    alloc: Global,
+    script: &[u8],
+    options: ExploreOptions,
+    text: &mut Vec<u8>,
+) -> Result<Ended, NoMemory>
+    requires empty { text.old.items ≡ [] }
+    requires states { options.history ≡ false }
+    ensures { IfOk result (λ e. IsExplored script.now options e text.new.items) }
+{
+    let mut reader = script;
+    match write_exploration(alloc, Seed::fixed(), &mut reader, text, options) {
+        Ok(_warnings) => Ok(Ended::Right),
+        Err(ExploreFault::Faulty) => Ok(Ended::Faulty),
+        Err(ExploreFault::Incomplete) => Ok(Ended::Incomplete),
+        Err(ExploreFault::Script(fault)) => Ok(Ended::BadScript(fault)),
+        Err(ExploreFault::NoRoom) => Err(AllocError),
+        Err(ExploreFault::Replay) => Err(AllocError),
+        Err(ExploreFault::Run(_)) => Err(AllocError),
+    }
+}
+
+/// Explores a script, and writes the history of the fault.
+fn explore_history(
+    alloc: Global,
+    script: &[u8],
+    options: ExploreOptions,
+    text: &mut Vec<u8>,
+) -> Result<Ended, NoMemory>
+    requires empty { text.old.items ≡ [] }
+    requires history { options.history ≡ true }
+    ensures { IfOk result (λ e. IsExplored script.now options e text.new.items) }
+{
+    let mut reader = script;
+    match write_fault_history(alloc, Seed::fixed(), &mut reader, text, options) {
+        Ok(_warnings) => Ok(Ended::Right),
+        Err(ExploreFault::Faulty) => Ok(Ended::Faulty),
+        Err(ExploreFault::Incomplete) => Ok(Ended::Incomplete),
+        Err(ExploreFault::Script(fault)) => Ok(Ended::BadScript(fault)),
+        Err(ExploreFault::NoRoom) => Ok(Ended::NoRoom),
+        Err(ExploreFault::Replay) => Err(AllocError),
+        Err(ExploreFault::Run(_)) => Err(AllocError),
+    }
+}
+
+/// Explores a script, and writes what the options ask for, on memory that holds nothing else.
+pub fn explore_script(
+    alloc: Global,
+    script: &[u8],
+    options: ExploreOptions,
+    text: &mut Vec<u8>,
+) -> Result<Ended, NoMemory>
+    requires { text.old.items ≡ [] }
+    ensures { IfOk result (λ e. IsExplored script.now options e text.new.items) }
+{
+    if options.history {
+        explore_history(alloc, script, options, text)
+    } else {
+        explore_states(alloc, script, options, text)
+    }
+}
