@@ -41,7 +41,7 @@ from ._errors import (
     BadAnswer, Cancelled, DeskClosed, DeskError, Ended, JournalError, OutcomeUnknown, OutOfMemory, Refused, ScriptRefused, Stopped, Thrown,
     TimedOut,
 )  # fmt: skip
-from ._explore import ClientAt, ClientState, Exploration, Outcome, explore
+from ._explore import ClientAt, ClientState, Exploration, LineWarning, Outcome, explore
 from ._local import find_library
 from ._program import find_program
 from ._values import (
@@ -50,13 +50,13 @@ from ._values import (
     Throws, Value, Verdict, Waiting, Waits,
 )  # fmt: skip
 
-__version__ = "0.12.0"
+__version__ = "0.13.0"
 
 __all__ = [
     "Answer", "BadAnswer", "Batch", "Blocks", "Cancellation", "Cancelled", "Cell", "Change", "Checked", "ClientAt", "ClientState", "Commits",
     "Current", "Delivery", "Desk", "DeskClosed", "DeskError", "Ended", "Event", "Events", "Exploration", "Fault", "FinalCell", "FinalStore", "Finding",
-    "Finish", "Finished", "FinishedThrows", "Job", "JournalError", "New", "NewRef", "OutOfMemory", "Outcome", "OutcomeUnknown", "Ready", "Reason", "Ref",
-    "Refused", "ScriptRefused", "Settled", "Stale", "StaleBefore", "StaleBy", "Status", "Stopped", "Store", "Submission", "Thrown", "Throws",
+    "Finish", "Finished", "FinishedThrows", "Job", "JournalError", "LineWarning", "New", "NewRef", "OutOfMemory", "Outcome", "OutcomeUnknown", "Ready", "Reason",
+    "Ref", "Refused", "ScriptRefused", "Settled", "Stale", "StaleBefore", "StaleBy", "Status", "Stopped", "Store", "Submission", "Thrown", "Throws",
     "TimedOut", "Value", "Verdict", "Waiting", "Waits", "check", "connect", "explore", "find_library", "find_program", "or_else",
 ]  # fmt: skip
 

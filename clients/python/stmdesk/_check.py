@@ -9,7 +9,9 @@ from pathlib import Path
 from typing import Literal, cast
 
 from ._errors import BadAnswer, Ended
+from ._local import File
 from ._program import check_built, find_program, run_once
+from ._stateless import check_once, library_of
 
 Finding = Literal["legal", "bad header", "bad line", "not legal"]
 
@@ -25,7 +27,7 @@ class Checked:
 
     `finding` is "legal", "bad header", "bad line" or "not legal", and `events` the number of the events of a legal history, else None.
     `line` is the number of the first line that isn't accepted, counted from 1 with the header; None if the history is legal, or if the
-    header is bad and `why` wasn't asked.
+    header is bad and neither `why` nor `local` was asked.
 
     With `why`, `expected` is the line that would be accepted there for the same call, or `refused` why a desk refuses that call there, as
     "Stale"; both are None if the line can't be read, if the history is legal, or without `why`.
@@ -58,13 +60,21 @@ class Checked:
 
 
 def check(
-    path: str | os.PathLike[str], *, why: bool = False, program: str | os.PathLike[str] | None = None
+    path: str | os.PathLike[str],
+    *,
+    why: bool = False,
+    program: str | os.PathLike[str] | None = None,
+    local: bool = False,
+    library: File | None = None,
 ) -> Checked:
     """Whether the file at this path is a legal history, by `program check` (docs/HISTORY.md).
 
     With `why` also what would be accepted in place of the first line that isn't, by `check --why`. Without `program` it runs what
     `find_program` returns. Raises OSError if the file can't be read, and `Ended` if the program ends otherwise, for example since it is
     out of memory.
+
+    With `local` no program is run: the history is checked in this process, by the library `libstmdesk.so` at the path `library`, or else
+    by what `find_library` returns. Raises OSError if the library can't be loaded, `OutOfMemory`, and ValueError together with `why`.
 
     >>> import tempfile
     >>> from pathlib import Path
@@ -83,6 +93,10 @@ def check(
     >>> print(found.expected)
     {"client":0,"event":"installed","ticket":1,"verdict":{"commits":{"news":[],"result":1,"writes":[]}}}
     """
+    called = library_of(local, library, program=program, why=why)
+    if called is not None:
+        text, fault = check_once(called, Path(path).read_bytes())
+        return _checked(text, fault)
     command = [find_program() if program is None else os.fspath(program), "check"]
     check_built(command[0])
     status, printed, said = run_once(command + ["--why"] * why, Path(path).read_bytes())
@@ -92,10 +106,17 @@ def check(
     if not found or bool(found["legal"]) != (status == 0) or bool(found["why"]) != (why and status == 3):
         raise BadAnswer("check", printed or said)
     line = found["line"] or found["at"]
+    return _checked(printed, int(line) if line else None)
+
+
+def _checked(printed: str, line: int | None) -> Checked:
+    """What was found, by what the program prints, with the line of the fault."""
+    found = _PRINTED.fullmatch(printed)
+    assert found
     return Checked(
         cast(Finding, found["legal"] or found["header"] or found["bad"]),
         int(found["events"]) if found["events"] else None,
-        int(line) if line else None,
+        line,
         found["expected"],
         found["refused"],
         printed,

@@ -146,23 +146,32 @@ class ScriptRefused(DeskError):
     """A line of the script of `explore` is invalid, so nothing was explored. `line` is its number, counted from 1, and `text`
     the line, which is empty if the script ends too early.
 
+    `reason` is the name of what is wrong (docs/STORM.md, "Scripts"), as "Mismatch" or "no client". `place` is the byte of the line's
+    argument that caused it, counted from 0, or None: the argument is what follows the line's word and the blanks after it. `hint`
+    says what to write instead, or is None.
+
     >>> explore("client\\nsubmit readTVar z")
     Traceback (most recent call last):
-    stmdesk.ScriptRefused: line 2 of the script is refused
+    stmdesk.ScriptRefused: line 2 of the script is refused: Unknown 9
         submit readTVar z
+                        ^
+        hint: nothing of this name is declared
     >>> explore("tvar x : Int = 1")
     Traceback (most recent call last):
-    stmdesk.ScriptRefused: the script is refused at its end, line 2
+    stmdesk.ScriptRefused: the script is refused at its end, line 2: no client
+        hint: what a client does begins with a line `client`
     """
 
-    def __init__(self, line: int, text: str) -> None:
-        super().__init__(line, text)
-        self.line, self.text = line, text
+    def __init__(self, line: int, text: str, reason: str = "", place: int | None = None, hint: str | None = None) -> None:
+        super().__init__(line, text, reason, place, hint)
+        self.line, self.text, self.reason, self.place, self.hint = line, text, reason, place, hint
 
     def __str__(self) -> str:
-        if not self.text:
-            return f"the script is refused at its end, line {self.line}"
-        return f"line {self.line} of the script is refused\n    {self.text[:_WIDTH]}"
+        word, *argument = self.text.split(None, 1)[:2] or [""]
+        refused = Refused(self.reason, self.place, None, word, "".join(argument), self.hint)
+        where = f"line {self.line} of the script is refused" if self.text else f"the script is refused at its end, line {self.line}"
+        answer, *shown = str(refused).split("\n")
+        return "\n".join([f"{where}: {answer}" if self.reason else where, *shown])
 
 
 class Ended(DeskError):

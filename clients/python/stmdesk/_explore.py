@@ -5,12 +5,16 @@ from __future__ import annotations
 import os
 import re
 from dataclasses import dataclass, field
+from operator import index
 from typing import Literal, cast
 
 from ._answers import Answers
 from ._commands import decimal
 from ._errors import BadAnswer, Ended, ScriptRefused
+from ._hints import script_hint
+from ._local import File
 from ._program import check_built, find_program, run_once
+from ._stateless import MAX_STATES, STATES, explore_once, library_of
 from ._values import FinalStore, Ref, Value
 
 Outcome = Literal["right", "incomplete", "deadlock", "broken", "missed", "failed", "threw"]
@@ -21,12 +25,14 @@ _AT_A_LINE = ("broken", "missed", "failed", "threw")
 _FOUND = re.compile(
     r"states (?P<states>\d+) steps (?P<steps>\d+)\nended (?P<ended>\d+)\n(?P<stores>(?:(?:#.*\n)*cells \d+\n)*)"
     r"(?:(?P<end>right|incomplete)\n|(?P<fault>deadlock|broken|missed|failed|threw)(?: line (?P<line>\d+))?\n"
-    r"order (?P<order>.*)\n(?P<clients>(?:client .*\n)*))"
+    r"order (?P<order>.*)\n(?P<choices>(?:chose line .*\n)*)(?P<clients>(?:client .*\n)*))"
 )
 _STORE = re.compile(r"(?:#.*\n)*cells \d+\n")
+_CHOICE = re.compile(r"chose line (\d+) (.+)")
 _CLIENT = re.compile(r"client (\d+) line (\d+) (waits|ready|refused|fails)(?: (.+))?")
-_DECLARED = re.compile(r"(?m)^[ \t\r]*tvar[ \t\r]+([a-z][A-Za-z0-9_']*)")
-_REFUSED = re.compile(r"(?m)^stmdesk: script line (\d+)$")
+_WARNING = re.compile(r"(?m)^stmdesk: warning: line (\d+): (.+)$")
+_DECLARED = re.compile(r"(?m)^[ \t\r]*tvar[ \t\r]+([a-z][A-Za-z0-9_']*)(?:[ \t\r]*:[ \t\r]*([^=\n]*[^=\s]))?")
+_REFUSED = re.compile(r"(?m)^stmdesk: script line (\d+)(?:: (.+?)(?: (\d+))?)?$")
 
 
 @dataclass(frozen=True)
@@ -48,6 +54,18 @@ class ClientAt:
 
 
 @dataclass(frozen=True)
+class LineWarning:
+    """A line of a script that can't matter, though nothing is wrong: its number, counted from 1, and why.
+
+    >>> explore("tvar x : Int = 1\\nclient\\nsubmit writeTVar x 2").warnings
+    [LineWarning(line=3, text='no `finish` and no `cancel` names this block')]
+    """
+
+    line: int
+    text: str
+
+
+@dataclass(frozen=True)
 class Exploration:
     """What `explore` found. It is true if `outcome` is "right", and as text it is what the program prints.
 
@@ -63,9 +81,10 @@ class Exploration:
     - "failed": in such a state the assertion of line `line` fails;
     - "threw": in such a state the block throws that the `finish` of line `line` finishes, and isn't allowed to.
 
-    After a fault `order` are the clients in the order of their steps that leads there, and `clients` where each client is that
-    isn't at its end. Else `order` is None, and `clients` is empty. No shorter order leads to a fault, unless more than `max_states`
-    states can be reached.
+    After a fault `order` are the clients in the order of their steps that leads there, `choices` the line and the value of each `choose`
+    of this order, in their turn, and `clients` where each client is that isn't at its end. Else `order` is None, and the others are
+    empty. No shorter order leads to a fault, unless more than `max_states` states can be reached. If the outcome is "right", `warnings`
+    are the lines that can't matter (docs/EXPLORE.md, "Output").
 
     >>> found = explore('''
     ...     tvar x : Int = 0
@@ -94,9 +113,11 @@ class Exploration:
     line: int | None
     order: tuple[int, ...] | None
     clients: list[ClientAt]
+    choices: list[tuple[int, Value]]
     text: str = field(repr=False)
     script: str = field(repr=False)
-    _command: list[str] = field(repr=False, compare=False)
+    _by: list[str] | tuple[str, int, bool, bool] = field(repr=False, compare=False)  # a command, or the library and the options
+    warnings: list[LineWarning] = field(default_factory=list, repr=False)
 
     def __bool__(self) -> bool:
         return self.outcome == "right"
@@ -107,7 +128,7 @@ class Exploration:
     def history(self) -> str | None:
         """The history of the order that leads to the fault, which `check` and tools/timeline read; None if there is no fault.
 
-        It runs the program once more. Raises `Ended` if the history would have more events than a history may have.
+        It explores once more. Raises `Ended` if the history would have more events than a history may have.
 
         >>> print(explore("client\\nsubmit retry\\nfinish 1").history(), end="")
         {"format":3,"vars":0}
@@ -116,7 +137,7 @@ class Exploration:
         """
         if self.order is None:
             return None
-        status, printed, said = run_once([*self._command, "--history"], self.script)
+        status, printed, said = _explored(self._by, self.script, history=True)
         if status != 3 or not printed:
             raise Ended(status, said)
         return printed
@@ -129,6 +150,8 @@ def explore(
     max_states: int | None = None,
     all: bool = False,
     allow_throws: bool = False,
+    local: bool = False,
+    library: File | None = None,
 ) -> Exploration:
     """Tries every order in which the clients of a script can do their steps, by `program explore`.
 
@@ -136,6 +159,10 @@ def explore(
     `all` each state that can be reached is met and counted; else those that can't matter may be left out. With `allow_throws` no
     throw of a block is a fault. Without `program` it runs what `find_program` returns. Raises `ScriptRefused` if a line of the
     script is invalid, and `Ended` if the program ends otherwise, for example since it is out of memory.
+
+    With `local` no program is run: the script is explored in this process, by the library `libstmdesk.so` at the path `library`, or else by
+    what `find_library` returns. Raises OSError if the library can't be loaded, and `OutOfMemory`. The library tells no warnings and
+    no reason of a refusal. An exception of a signal handler then comes after the exploration.
 
     >>> found = explore('''
     ...     tvar a : Int = 100
@@ -147,26 +174,19 @@ def explore(
     ... ''')
     >>> found
     Exploration(states=2, steps=1, ended=1, stores=[[FinalCell(variable=Ref(0, 'a'), name='a', type='Int', value=70), \
-FinalCell(variable=Ref(1, 'b'), name='b', type='Int', value=30)]], outcome='right', line=None, order=None, clients=[])
+FinalCell(variable=Ref(1, 'b'), name='b', type='Int', value=30)]], outcome='right', line=None, order=None, clients=[], choices=[])
     >>> assert found, found
     """
     if not isinstance(script, str):
         raise TypeError(f"a script is a text, not {type(script).__name__}")
-    path = find_program() if program is None else os.fspath(program)
-    options = [] if max_states is None else ["--max-states", decimal(max_states)]
-    options += ["--all"] if all else []
-    options += ["--allow-throws"] if allow_throws else []
-    check_built(path)
-    command = [path, "explore", *options]
-    status, printed, said = run_once(command, script)
-    refused = _REFUSED.search(said)
-    if status == 1 and refused:
-        line = int(refused[1])
-        raise ScriptRefused(line, "".join(script.split("\n")[line - 1 : line]).strip())
+    by = _asked(program, max_states, all, allow_throws, library_of(local, library, program=program))
+    status, printed, said = _explored(by, script)
+    if status == 1 and _REFUSED.search(said):
+        raise _refusal(said, script)
     if status not in (0, 3):
         raise Ended(status, said)
     try:
-        found = _read(printed, script, command)
+        found = _read(printed, said, script, by)
     except (ValueError, LookupError):
         raise BadAnswer("explore", printed or said) from None
     if bool(found) != (status == 0):
@@ -174,12 +194,47 @@ FinalCell(variable=Ref(1, 'b'), name='b', type='Int', value=30)]], outcome='righ
     return found
 
 
-def _read(printed: str, script: str, command: list[str]) -> Exploration:
-    """What the program printed of a script. Raises ValueError or LookupError if it never prints such a text."""
+def _refusal(said: str, script: str) -> ScriptRefused:
+    """What the program said of the first invalid line of a script: its number, and then the same with the reason."""
+    line, reason, place = _REFUSED.findall(said)[-1]
+    lines = script.split("\n")
+    text = "".join(lines[int(line) - 1 : int(line)]).strip()
+    types = dict(_DECLARED.findall("\n".join(lines[: int(line) - 1])))
+    word, *argument = text.split(None, 1)[:2] or [""]
+    at = int(place) if place else None
+    return ScriptRefused(int(line), text, reason, at, script_hint(reason, at, word, "".join(argument), types))
+
+
+def _asked(
+    program: str | os.PathLike[str] | None, max_states: int | None, all: bool, allow_throws: bool, library: str | None
+) -> list[str] | tuple[str, int, bool, bool]:
+    """The command that explores with these options, or the library at this path with them."""
+    if library is not None:
+        states = STATES if max_states is None else index(max_states)
+        if not 1 <= states <= MAX_STATES:
+            raise ValueError(f"max_states={max_states!r} isn't from 1 to {MAX_STATES}")
+        return library, states, all, allow_throws
+    path = find_program() if program is None else os.fspath(program)
+    options = [] if max_states is None else ["--max-states", decimal(max_states)]
+    options += ["--all"] if all else []
+    options += ["--allow-throws"] if allow_throws else []
+    check_built(path)
+    return [path, "explore", *options]
+
+
+def _explored(by: list[str] | tuple[str, int, bool, bool], script: str, history: bool = False) -> tuple[int, str, str]:
+    """The exit status of an exploration, and what is written to the two outputs; with `history` the history of the fault."""
+    if isinstance(by, list):
+        return run_once([*by, "--history"] if history else by, script)
+    return explore_once(*by, script, history)
+
+
+def _read(printed: str, said: str, script: str, by: list[str] | tuple[str, int, bool, bool]) -> Exploration:
+    """What the program printed of a script, and said on standard error. Raises ValueError or LookupError if it never prints such a text."""
     answers, found = Answers(), _FOUND.fullmatch(printed)
     if not found or (found["line"] is None) == (found["fault"] in _AT_A_LINE):
         raise ValueError("no exploration")
-    answers.refs = {f"#{number}": Ref(number, name) for number, name in enumerate(_DECLARED.findall(script))}
+    answers.refs = {f"#{number}": Ref(number, name) for number, (name, _) in enumerate(_DECLARED.findall(script))}
     order = None if found["order"] is None else tuple(int(it) for it in found["order"].split(" ") if it != "none")
     return Exploration(
         int(found["states"]),
@@ -190,9 +245,11 @@ def _read(printed: str, script: str, command: list[str]) -> Exploration:
         None if found["line"] is None else int(found["line"]),
         order,
         [_client(answers, it) for it in (found["clients"] or "").splitlines()],
+        [(int(line), answers.value(value)) for line, value in _CHOICE.findall(found["choices"] or "")],
         printed,
         script,
-        command,
+        by,
+        [LineWarning(int(line), text) for line, text in _WARNING.findall(said)],
     )
 
 

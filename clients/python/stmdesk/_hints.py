@@ -105,6 +105,16 @@ _NAMES = {
     "Waits": "`settle` and `drain` don't say what they finish, and a block of `atomically` waits on the server",
 }
 
+# The same of what is wrong with a line of a script (docs/STORM.md), if it means something else there.
+_SCRIPT_NAMES = {
+    "ClientsFull": "a script has at most 64 clients",
+    "Command": "no line of a script begins with this word",
+    "Late": "write variables and invariants above the first `client`",
+    "LineTooLong": "a line has at most 65,536 bytes",
+    "ScriptTooLong": "a script has at most 1,048,576 lines",
+    "no client": "what a client does begins with a line `client`",
+}
+
 
 JOURNAL = "journal"  # stands for the first command of a desk that goes on from a journal
 SERVER = "server"  # and for that of a server's desk
@@ -152,6 +162,20 @@ def hint(
         }
         found = rules[name]() if name in rules else None
     return found or _NAMES.get(name)
+
+
+def script_hint(reason: str, place: int | None, word: str, text: str, types: Mapping[str, str]) -> str | None:
+    """The hint for the reason why a line of a script with this word and argument is invalid, or None. `types` has the variables that are
+    declared before, with their types."""
+    if reason == "Argument" and word == "choose":
+        return "`choose` takes a declared variable and 1 to 16 values of its type, parted by blanks, no two the same"
+    if reason == "Argument":
+        return "`client` takes nothing" if word == "client" else f"`{word}` takes the number of a `submit` above it in its section, counted from 1"
+    if word == "assert" and reason == "Mismatch" and place == 0:
+        return "the block of an `assert` returns a Bool"
+    if reason in _SCRIPT_NAMES:
+        return _SCRIPT_NAMES[reason]
+    return hint(reason, place, None, "submit" if word in ("always", "never", "assert") else word, text, types, None)
 
 
 def _bad_byte(text: str, place: int) -> str | None:
