@@ -168,13 +168,14 @@ A script on standard input, as for `stmdesk storm`, with invariants before the f
   cancel K                 Withdraws that block; this is no step, and a `finish K` after it is none
   expect NAME VALUE        A step: the variable has to hold the value
   assert BLOCK             A step: the block has to commit with the result True; it waits while the block retries, and changes nothing
+  choose NAME VALUE ..     A step: the variable takes one of these values, of which there are 1 to 16; all are followed
 
 Each client does its steps in their order, and every interleaving of the clients is searched; but where a client's steps can't
 matter to the others until later, it may be left for later, unless `--all` is given. Prints how many states were met and how many
 steps lead on from them, how many states have ended, with the stores of the first ten, and then `right`, `incomplete` if there are
 more states than may be kept, or the first fault by the fewest steps: `broken line L` (an invariant), `missed line L` (an `expect`),
 `failed line L` (an `assert`), `threw line L` (a `finish`), or `deadlock`. A fault is followed by the order of the clients' steps
-that leads there, and by the line at which each client is.
+that leads there, by a line `chose line L VALUE` for each choice on the way, and by the line at which each client is.
 
 Example:
   $ printf 'tvar x : Int = 0\\nalways do { a <- readTVar x; return (a < 2) }\\nclient\\nsubmit writeTVar x 1\\nfinish 1\\n' | stmdesk explore

@@ -8,7 +8,7 @@ use stm_lines::RunFault;
 use stm_terms::NoMemory;
 
 /// The version, which `--version` prints. No other place states it.
-pub const VERSION: &str = "0.12.0";
+pub const VERSION: &str = "0.13.0";
 
 /// Appends the line that `--version` prints.
 fn write_version(out: &mut String) -> Result<(), NoMemory>
