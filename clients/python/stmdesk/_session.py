@@ -363,8 +363,11 @@ class Session(Transport):
                     self._queue(b"?\n")
 
     def _answered(self, number: int, lines: list[str], refusal: str) -> None:
-        """Takes the answer to a request: lines, or the refusal of the whole."""
+        """Takes the answer to a request: lines, or the refusal of the whole. None is taken after `kill`, whose `bye` has waiting blocks
+        cancelled: whether that is heard would depend on time."""
         with self._lock:
+            if self._is_killed:
+                return
             request = self._pending.pop(number, None)
             if request and refusal not in ("", "AnswerLost"):
                 self._acks_of(request.acks)  # it wasn't taken
