@@ -4,12 +4,16 @@ pub mod Declaring
 pub mod FirstPage
 pub mod FitsDecided
 pub mod FreshNumbersInRange
+pub mod KnownNumbers
 pub mod Lookups
+pub mod Naming
+pub mod NewNames
 pub mod Opening
 pub mod PageListSplit
 pub mod PageLists
 pub mod Places
 pub mod RangeWriteLemmas
+pub mod TableNames
 pub mod TypeTestsDecide
 pub mod Typed
 pub mod WritesInTurn

@@ -1,8 +1,8 @@
-//! The declared variables, the store of their values, and unchanging copies of it.
+//! The declared variables, their names, the store of their values, and unchanging copies of it.
 //!
 //! What a reader has to believe is in `specs/`: `Cells` (what holds of every store, which verdicts fit it, and what
-//! applying one does), `Tables` (what holds of every table, and why a variable can't be declared), and `Laws` (what applying
-//! a verdict keeps).
+//! applying one does), `Tables` (what holds of every table, and why a variable can't be declared), `Naming` (the names that blocks may
+//! use), and `Laws` (what applying a verdict keeps).
 #![tactic(auto)]
 
 mod apply;
@@ -15,6 +15,7 @@ mod fits;
 pub mod frozen;
 mod in_place;
 pub mod laws;
+pub mod names;
 mod page;
 mod paged_list;
 mod parts;
@@ -28,6 +29,7 @@ mod types;
 
 pub use cell::Cell;
 pub use frozen::Frozen;
+pub use names::Names;
 pub use ready::{Applied, ApplyError, Ready};
 pub use seed::Seed;
 pub use store::{Store, StoreError};

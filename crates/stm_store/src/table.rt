@@ -88,6 +88,11 @@ impl Table {
         Ok(Table { entries })
     }
 
+    /// The seed under which its names are looked up.
+    pub(crate) fn seed(&self) -> Seed {
+        *self.entries.hasher()
+    }
+
     /// How many variables there are. The other clauses hold of every table.
     pub fn len(&self) -> usize
         ensures len { result ≡ length self.now }
