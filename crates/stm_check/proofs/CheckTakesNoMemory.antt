@@ -5,7 +5,7 @@ use Rattle.stm_terms.specs.declared.kinds.Ty.{Ty}
 use Rattle.stm_terms.specs.Ast.{Act}
 use Rattle.stm_terms.specs.ParsedAst as raw
 use Rattle.stm_terms.specs.Typing.{int_ty, bool_ty, deref_ty, same_ty, ActionType, Gives, Any, join_types}
-use Rattle.stm_store.specs.Tables.{Declared}
+use Rattle.stm_store.specs.Naming.{Named}
 use Rattle.stm_check.specs.Scopes.{Locals, innermost}
 use Rattle.stm_check.specs.CheckFunction.{variable, wanted, as_wanted, wanted_right, on_ok, unless, on_some, on_type, resolved, checked_expr, checked}
 use Rattle.stm_check.specs.Laws.{CheckNeverSaysNoMemory}
@@ -51,57 +51,57 @@ name_not_memory at (Some l) v = tt
 name_not_memory at None (Some v) = tt
 name_not_memory at None None = unknown at
 
-module _ (table : List Declared) (text : List ℕ) where
-  expr_not_memory : (e : raw.RawTerm) (ls : Locals) → IfErr (checked_expr table text ls e) NotMemory
+module _ (known : List Named) (text : List ℕ) where
+  expr_not_memory : (e : raw.RawTerm) (ls : Locals) → IfErr (checked_expr known text ls e) NotMemory
   expr_not_memory (raw.int n at) ls = tt
   expr_not_memory (raw.truth b at) ls = tt
   expr_not_memory (raw.unit at) ls = tt
   expr_not_memory (raw.name span) ls =
-      name_not_memory span.start (innermost (raw.text_at text span) ls) (variable table (raw.text_at text span))
+      name_not_memory span.start (innermost (raw.text_at text span) ls) (variable known (raw.text_at text span))
   expr_not_memory (raw.bin op a b) ls =
-      ok_not_memory (checked_expr table text ls a) _ (expr_not_memory a ls) (λ x. unless_not_memory (as_wanted (wanted op) x.1) (Mismatch (raw.place a)) _ (mismatch (raw.place a))
-      (ok_not_memory (checked_expr table text ls b) _ (expr_not_memory b ls) (λ y. unless_not_memory (same_ty y.1 (wanted_right (wanted op) x.1)) (Mismatch (raw.place b)) _ (mismatch (raw.place b)) tt)))
+      ok_not_memory (checked_expr known text ls a) _ (expr_not_memory a ls) (λ x. unless_not_memory (as_wanted (wanted op) x.1) (Mismatch (raw.place a)) _ (mismatch (raw.place a))
+      (ok_not_memory (checked_expr known text ls b) _ (expr_not_memory b ls) (λ y. unless_not_memory (same_ty y.1 (wanted_right (wanted op) x.1)) (Mismatch (raw.place b)) _ (mismatch (raw.place b)) tt)))
 
-  act_not_memory : (a : raw.RawAct) (ls : Locals) → IfErr (checked table text ls a) NotMemory
-  act_not_memory (raw.return e) ls = ok_not_memory (checked_expr table text ls e) _ (expr_not_memory e ls) (λ x. tt)
+  act_not_memory : (a : raw.RawAct) (ls : Locals) → IfErr (checked known text ls a) NotMemory
+  act_not_memory (raw.return e) ls = ok_not_memory (checked_expr known text ls e) _ (expr_not_memory e ls) (λ x. tt)
   act_not_memory (raw.read e) ls =
-      ok_not_memory (checked_expr table text ls e) _ (expr_not_memory e ls) (λ x.
+      ok_not_memory (checked_expr known text ls e) _ (expr_not_memory e ls) (λ x.
       some_not_memory (deref_ty x.1) (NotAVariable (raw.place e)) _ (no_variable (raw.place e)) (λ t. tt))
   act_not_memory (raw.write r e) ls =
-      ok_not_memory (checked_expr table text ls r) _ (expr_not_memory r ls) (λ x.
+      ok_not_memory (checked_expr known text ls r) _ (expr_not_memory r ls) (λ x.
       some_not_memory (deref_ty x.1) (NotAVariable (raw.place r)) _ (no_variable (raw.place r)) (λ t.
-      ok_not_memory (checked_expr table text ls e) _ (expr_not_memory e ls) (λ y.
+      ok_not_memory (checked_expr known text ls e) _ (expr_not_memory e ls) (λ y.
       unless_not_memory (same_ty y.1 t) (Mismatch (raw.place e)) _ (mismatch (raw.place e)) tt)))
   act_not_memory (raw.make e) ls =
-      ok_not_memory (checked_expr table text ls e) _ (expr_not_memory e ls) (λ x.
+      ok_not_memory (checked_expr known text ls e) _ (expr_not_memory e ls) (λ x.
       unless_not_memory (nat_le x.1.refs 8) (TypeTooDeep (raw.place e)) _ (too_deep (raw.place e)) tt)
   act_not_memory raw.retry ls = tt
   act_not_memory (raw.throw e) ls =
-      ok_not_memory (checked_expr table text ls e) _ (expr_not_memory e ls) (λ x.
+      ok_not_memory (checked_expr known text ls e) _ (expr_not_memory e ls) (λ x.
       unless_not_memory (same_ty x.1 int_ty) (Mismatch (raw.place e)) _ (mismatch (raw.place e)) tt)
   act_not_memory (raw.if_else e a at b) ls =
-      ok_not_memory (checked_expr table text ls e) _ (expr_not_memory e ls) (λ x.
+      ok_not_memory (checked_expr known text ls e) _ (expr_not_memory e ls) (λ x.
       unless_not_memory (same_ty x.1 bool_ty) (Mismatch (raw.place e)) _ (mismatch (raw.place e))
-      (ok_not_memory (checked table text ls a) _ (act_not_memory a ls) (λ y. ok_not_memory (checked table text ls b) _ (act_not_memory b ls) (λ z.
+      (ok_not_memory (checked known text ls a) _ (act_not_memory a ls) (λ y. ok_not_memory (checked known text ls b) _ (act_not_memory b ls) (λ z.
       some_not_memory (join_types y.1 z.1) (Mismatch at) _ (mismatch at) (λ r. tt)))))
   act_not_memory (raw.or_else a at b) ls =
-      ok_not_memory (checked table text ls a) _ (act_not_memory a ls) (λ y. ok_not_memory (checked table text ls b) _ (act_not_memory b ls) (λ z.
+      ok_not_memory (checked known text ls a) _ (act_not_memory a ls) (λ y. ok_not_memory (checked known text ls b) _ (act_not_memory b ls) (λ z.
       some_not_memory (join_types y.1 z.1) (Mismatch at) _ (mismatch at) (λ r. tt)))
   act_not_memory (raw.bind span at a b) ls =
-      ok_not_memory (checked table text ls a) _ (act_not_memory a ls) (λ x. type_not_memory x.1 (Untyped at) _ (untyped at) (λ t.
-      ok_not_memory (checked table text ((raw.text_at text span, t) ∷ ls) b) _ (act_not_memory b ((raw.text_at text span, t) ∷ ls)) (λ y. tt)))
+      ok_not_memory (checked known text ls a) _ (act_not_memory a ls) (λ x. type_not_memory x.1 (Untyped at) _ (untyped at) (λ t.
+      ok_not_memory (checked known text ((raw.text_at text span, t) ∷ ls) b) _ (act_not_memory b ((raw.text_at text span, t) ∷ ls)) (λ y. tt)))
   act_not_memory (raw.let_in span e b) ls =
-      ok_not_memory (checked_expr table text ls e) _ (expr_not_memory e ls) (λ x.
-      ok_not_memory (checked table text ((raw.text_at text span, x.1) ∷ ls) b) _ (act_not_memory b ((raw.text_at text span, x.1) ∷ ls)) (λ y. tt))
+      ok_not_memory (checked_expr known text ls e) _ (expr_not_memory e ls) (λ x.
+      ok_not_memory (checked known text ((raw.text_at text span, x.1) ∷ ls) b) _ (act_not_memory b ((raw.text_at text span, x.1) ∷ ls)) (λ y. tt))
   act_not_memory (raw.seq a b) ls =
-      ok_not_memory (checked table text ls a) _ (act_not_memory a ls) (λ x. ok_not_memory (checked table text ls b) _ (act_not_memory b ls) (λ y. tt))
+      ok_not_memory (checked known text ls a) _ (act_not_memory a ls) (λ x. ok_not_memory (checked known text ls b) _ (act_not_memory b ls) (λ y. tt))
   act_not_memory (raw.catch a span at b) ls =
-      ok_not_memory (checked table text ls a) _ (act_not_memory a ls) (λ y.
-      ok_not_memory (checked table text ((raw.text_at text span, int_ty) ∷ ls) b) _ (act_not_memory b ((raw.text_at text span, int_ty) ∷ ls)) (λ z.
+      ok_not_memory (checked known text ls a) _ (act_not_memory a ls) (λ y.
+      ok_not_memory (checked known text ((raw.text_at text span, int_ty) ∷ ls) b) _ (act_not_memory b ((raw.text_at text span, int_ty) ∷ ls)) (λ z.
       some_not_memory (join_types y.1 z.1) (Mismatch at) _ (mismatch at) (λ r. tt)))
 
 pub faults_are_the_text : CheckNeverSaysNoMemory
-faults_are_the_text table text w ls e =
-    let h : IfErr (checked table text ls w) NotMemory = act_not_memory table text w ls in
+faults_are_the_text known text w ls e =
+    let h : IfErr (checked known text ls w) NotMemory = act_not_memory known text w ls in
     let no : NotMemory NoMemory = subst (λ (o : Result (Act × ActionType) TypeFault). IfErr o NotMemory) e h in
     no refl

@@ -6,9 +6,9 @@ use Rattle.stm_terms.specs.declared.kinds.Ty.{Ty}
 use Rattle.stm_terms.specs.Ast.{Term, bin, Act, write, if_else, or_else, bind, let_in, seq, catch}
 use Rattle.stm_terms.specs.ParsedAst as raw
 use Rattle.stm_terms.specs.Typing.{TypeEnv, int_ty, bool_ty, unit_ty, deref_ty, same_ty, ActionType, Gives, join_types}
-use Rattle.stm_store.specs.Tables.{Declared, number_of}
+use Rattle.stm_store.specs.Naming.{Named, number_named, known_kinds}
 use Rattle.stm_check.specs.Scopes.{Locals, innermost, names_of}
-use Rattle.stm_check.specs.CheckFunction.{table_kinds, with_kind, variable, wanted, given, as_wanted, wanted_right, declared_as, resolved, checked_expr, checked}
+use Rattle.stm_check.specs.CheckFunction.{with_kind, variable, wanted, given, as_wanted, wanted_right, declared_as, resolved, checked_expr, checked}
 use Rattle.stm_check.specs.Resolving.{number_in, IsNamed, IsTerm, IsAct}
 use Rattle.stm_check.proofs.CheckedTyped.{ok_then, unless_then, some_then, type_then}
 
@@ -34,23 +34,23 @@ has_number : (kinds : TypeEnv) (o : Option ℕ) (v : ℕ × Ty) → with_kind ki
 has_number kinds (Some i) v e = ap Some (kind_number kinds i (kinds i) v e)
 has_number kinds None v e = absurd (cc)
 
-module _ (table : List Declared) (text : List ℕ) where
+module _ (known : List Named) (text : List ℕ) where
   abbrev NamedExpr : List (List ℕ) → raw.RawTerm → Term × Ty → Type 0
-  NamedExpr ns e x = IsTerm table text ns e x.0
+  NamedExpr ns e x = IsTerm known text ns e x.0
 
   abbrev NamedAct : List (List ℕ) → raw.RawAct → Act × ActionType → Type 0
-  NamedAct ns a x = IsAct table text ns a x.0
+  NamedAct ns a x = IsAct known text ns a x.0
 
-  declared_named : (at : ℕ) (ns : List (List ℕ)) (name : List ℕ) (o : Option (ℕ × Ty)) → number_in name ns ≡ None → variable table name ≡ o → IfOk (declared_as at o) (λ x. IsNamed table text ns name x.0)
-  declared_named at ns name (Some v) h e = (h, has_number (table_kinds table) (number_of name table) v e)
+  declared_named : (at : ℕ) (ns : List (List ℕ)) (name : List ℕ) (o : Option (ℕ × Ty)) → number_in name ns ≡ None → variable known name ≡ o → IfOk (declared_as at o) (λ x. IsNamed known text ns name x.0)
+  declared_named at ns name (Some v) h e = (h, has_number (known_kinds known) (number_named name known) v e)
   declared_named at ns name None h e = tt
 
-  name_named : (at : ℕ) (ls : Locals) (name : List ℕ) (o : Option (ℕ × Ty)) → innermost name ls ≡ o → IfOk (resolved at o (variable table name)) (λ x. IsNamed table text (names_of ls) name x.0)
+  name_named : (at : ℕ) (ls : Locals) (name : List ℕ) (o : Option (ℕ × Ty)) → innermost name ls ≡ o → IfOk (resolved at o (variable known name)) (λ x. IsNamed known text (names_of ls) name x.0)
   name_named at ls name (Some l) e = numbered name ls ∙ ap (option_map (λ v. v.0)) e
   name_named at ls name None e =
-      declared_named at (names_of ls) name (variable table name) (numbered name ls ∙ ap (option_map (λ v. v.0)) e) refl
+      declared_named at (names_of ls) name (variable known name) (numbered name ls ∙ ap (option_map (λ v. v.0)) e) refl
 
-  pub expr_named : (e : raw.RawTerm) (ls : Locals) → IfOk (checked_expr table text ls e) (λ x. IsTerm table text (names_of ls) e x.0)
+  pub expr_named : (e : raw.RawTerm) (ls : Locals) → IfOk (checked_expr known text ls e) (λ x. IsTerm known text (names_of ls) e x.0)
   expr_named (raw.int n at) ls = refl
   expr_named (raw.truth b at) ls = refl
   expr_named (raw.unit at) ls = refl
@@ -61,7 +61,7 @@ module _ (table : List Declared) (text : List ℕ) where
       ok_then _ _ (NamedExpr (names_of ls) a) P (expr_named a ls) (λ x p. unless_then (as_wanted (wanted op) x.1) _ _ P (λ f.
       ok_then _ _ (NamedExpr (names_of ls) b) P (expr_named b ls) (λ y q. unless_then (same_ty y.1 (wanted_right (wanted op) x.1)) _ _ P (λ g. let d : NamedExpr (names_of ls) (raw.bin op a b) (bin op x.0 y.0, given op) = (refl, p, q) in d))))
 
-  pub act_named : (a : raw.RawAct) (ls : Locals) → IfOk (checked table text ls a) (λ x. IsAct table text (names_of ls) a x.0)
+  pub act_named : (a : raw.RawAct) (ls : Locals) → IfOk (checked known text ls a) (λ x. IsAct known text (names_of ls) a x.0)
   act_named (raw.return e) ls =
       ok_then _ _ (NamedExpr (names_of ls) e) (NamedAct (names_of ls) (raw.return e)) (expr_named e ls) (λ x p. p)
   act_named (raw.read e) ls =

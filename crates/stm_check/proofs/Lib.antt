@@ -4,8 +4,8 @@ pub mod CheckExact
 pub mod CheckTakesNoMemory
 pub mod CheckedResolved
 pub mod CheckedTyped
-pub mod Depth
 pub mod ExpressionsSound
+pub mod LaterNames
 pub mod RecordedUses
 pub mod SameTypes
 mod Sizes
@@ -13,4 +13,5 @@ pub mod Strengthening
 pub mod TypedBlockInvariant
 pub mod TypingLaws
 pub mod UsesApart
+pub mod Variables
 pub mod Weakening

@@ -11,7 +11,8 @@ use Rattle.stm_check.specs.declared.fault.TypeFault.{TypeFault}
 use Rattle.stm_check.specs.declared.fault.TypeFault.TheVariants.{NoMemory}
 use Rattle.stm_check.specs.declared.checker.Checker.{Checker}
 use Rattle.stm_check.specs.Scopes.{scope, ScopeHasFewRefs}
-use Rattle.stm_check.specs.CheckFunction.{table_kinds, checked_expr, checked}
+use Rattle.stm_check.specs.CheckFunction.{checked_expr, checked}
+use Rattle.stm_store.specs.Naming.{known_kinds}
 
 -- the names of an expression can be looked up
 abbrev pub CanLookUp : Checker → raw.RawTerm → Type 0
@@ -27,19 +28,19 @@ CanCheck checker a =
 
 -- what the check of an expression finds, by the names that the checker can look up
 abbrev pub expr_found : Checker → raw.RawTerm → Result (Term × Ty) TypeFault
-expr_found checker e = checked_expr checker.table.now checker.text.now (scope checker.locals.now) e
+expr_found checker e = checked_expr checker.known.now checker.text.now (scope checker.locals.now) e
 
 -- so too of an action
 abbrev pub act_found : Checker → raw.RawAct → Result (Act × ActionType) TypeFault
-act_found checker a = checked checker.table.now checker.text.now (scope checker.locals.now) a
+act_found checker a = checked checker.known.now checker.text.now (scope checker.locals.now) a
 
 -- the variables of a tree are noted after those from before
 abbrev pub recorded_expr : Checker → Term → List (ℕ × Ty) → List (ℕ × Ty)
-recorded_expr checker e uses = record_uses (table_kinds checker.table.now) (named_in e) uses
+recorded_expr checker e uses = record_uses (known_kinds checker.known.now) (named_in e) uses
 
 -- so too those of an action
 abbrev pub recorded_act : Checker → Act → List (ℕ × Ty) → List (ℕ × Ty)
-recorded_act checker a uses = record_uses (table_kinds checker.table.now) (named a) uses
+recorded_act checker a uses = record_uses (known_kinds checker.known.now) (named a) uses
 
 -- a type has at most one `TVar` more than that of what a variable holds, if it has a type
 abbrev pub HasFewRefs : Option Ty → Type 0

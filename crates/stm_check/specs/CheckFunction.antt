@@ -8,8 +8,7 @@ use Rattle.stm_terms.specs.Ast.{Term, lit, local, global, bin, Act, return, read
 use Rattle.stm_terms.specs.Limits.{most_refs}
 use Rattle.stm_terms.specs.ParsedAst as raw
 use Rattle.stm_terms.specs.Typing.{TypeEnv, int_ty, bool_ty, unit_ty, var_ty, deref_ty, same_ty, ActionType, Gives, Any, join_types}
-use Rattle.stm_store.specs.Cells.{kinds_of}
-use Rattle.stm_store.specs.Tables.{Declared, number_of, declared_cells}
+use Rattle.stm_store.specs.Naming.{Named, known_kinds, number_named}
 use Rattle.stm_check.specs.Scopes.{Locals, innermost}
 use Rattle.stm_check.specs.declared.fault.TypeFault.{TypeFault}
 use Rattle.stm_check.specs.declared.fault.TypeFault.TheVariants.{Unknown, Mismatch, NotAVariable, Untyped, TypeTooDeep}
@@ -65,18 +64,14 @@ abbrev pub on_type : {B : Type 0} → ActionType → TypeFault → (Ty → Resul
 on_type (Gives t) fault go = go t
 on_type Any fault go = Err fault
 
--- the types of the declared variables
-abbrev pub table_kinds : List Declared → TypeEnv
-table_kinds table = kinds_of (declared_cells table)
-
 -- a variable by its number, if it has one, with the type of its cell
 abbrev pub with_kind : TypeEnv → Option ℕ → Option (ℕ × Ty)
 with_kind kinds (Some i) = option_map (λ t. (i, t)) (kinds i)
 with_kind kinds None = None
 
 -- the declared variable of a name: its number, and the type of its cell
-abbrev pub variable : List Declared → List ℕ → Option (ℕ × Ty)
-variable table name = with_kind (table_kinds table) (number_of name table)
+abbrev pub variable : List Named → List ℕ → Option (ℕ × Ty)
+variable known name = with_kind (known_kinds known) (number_named name known)
 
 -- a name that is no local is a reference to a declared variable; a name of neither is unknown
 abbrev pub declared_as : ℕ → Option (ℕ × Ty) → Result (Term × Ty) TypeFault
@@ -88,14 +83,14 @@ abbrev pub resolved : ℕ → Option (ℕ × Ty) → Option (ℕ × Ty) → Resu
 resolved at (Some l) v = Ok (local l.0, l.1)
 resolved at None v = declared_as at v
 
-module _ (table : List Declared) (text : List ℕ) where
+module _ (known : List Named) (text : List ℕ) where
   -- an expression: each operand, then the judgement on it
   abbrev pub checked_expr : Locals → raw.RawTerm → Result (Term × Ty) TypeFault
   checked_expr ls (raw.int n at) = Ok (lit (value.Int n), int_ty)
   checked_expr ls (raw.truth b at) = Ok (lit (value.Bool b), bool_ty)
   checked_expr ls (raw.unit at) = Ok (lit value.Unit, unit_ty)
   checked_expr ls (raw.name span) =
-      resolved span.start (innermost (raw.text_at text span) ls) (variable table (raw.text_at text span))
+      resolved span.start (innermost (raw.text_at text span) ls) (variable known (raw.text_at text span))
   checked_expr ls (raw.bin op a b) =
       on_ok (checked_expr ls a) (λ x. unless (as_wanted (wanted op) x.1) (Mismatch (raw.place a))
       (on_ok (checked_expr ls b) (λ y. unless (same_ty y.1 (wanted_right (wanted op) x.1)) (Mismatch (raw.place b))

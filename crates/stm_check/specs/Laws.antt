@@ -1,5 +1,5 @@
 -- What typing promises, and how the check is tied to it.
-use Rattle.std.specs.Prelude.{◌≡◌, ◌≢◌, ◌↔◌, ℕ, List, [], ◌∷◌, Some, None, Ok, Err, ⊤}
+use Rattle.std.specs.Prelude.{◌≡◌, ◌≢◌, ◌↔◌, ℕ, ◌⊎◌, List, [], ◌∷◌, ◌++◌, Some, None, Result, Ok, Err, ⊤}
 use Rattle.stm_terms.specs.declared.kinds.Ty.{Ty}
 use Rattle.stm_terms.specs.declared.values.Value.{Value}
 use Rattle.stm_terms.specs.declared.verdicts.Verdict.{Verdict}
@@ -10,12 +10,12 @@ use Rattle.stm_terms.specs.Semantics.{Returned, Stuck, run}
 use Rattle.stm_terms.specs.Typing.{TypeEnv, type_of, ActionType, Gives, Any, kinds_in, action_type, uses_of, WellTyped, HaveTypes}
 use Rattle.stm_terms.specs.Verdict.{verdict}
 use Rattle.stm_store.specs.Cells.{StoreIsTyped, Covers, Fits}
-use Rattle.stm_store.specs.Tables.{Declared}
-use Rattle.stm_check.specs.CheckFunction.{table_kinds, checked}
+use Rattle.stm_store.specs.Naming.{Named, known_kinds}
+use Rattle.stm_check.specs.CheckFunction.{checked}
 use Rattle.stm_check.specs.Resolving.{IsAct}
 use Rattle.stm_check.specs.Scopes.{Locals, types_of, names_of}
 use Rattle.stm_check.specs.declared.fault.TypeFault.{TypeFault}
-use Rattle.stm_check.specs.declared.fault.TypeFault.TheVariants.{NoMemory}
+use Rattle.stm_check.specs.declared.fault.TypeFault.TheVariants.{NoMemory, Unknown}
 
 -- a well typed action that runs in a well typed view, under locals of their types, is never stuck
 abbrev pub Progress : Type 0
@@ -56,16 +56,16 @@ VerdictFits =
 -- that type
 abbrev pub CheckIsExact : Type 0
 CheckIsExact =
-    (table : List Declared) (text : List ℕ) (parsed : raw.RawAct) (locals : Locals) (a : Act) (r : ActionType)
-    → (checked table text locals parsed ≡ Ok (a, r))
-    ↔ (IsAct table text (names_of locals) parsed a × (action_type (table_kinds table) (types_of locals) a ≡ Some r))
+    (known : List Named) (text : List ℕ) (parsed : raw.RawAct) (locals : Locals) (a : Act) (r : ActionType)
+    → (checked known text locals parsed ≡ Ok (a, r))
+    ↔ (IsAct known text (names_of locals) parsed a × (action_type (known_kinds known) (types_of locals) a ≡ Some r))
 
 -- and it reports a fault exactly if no tree that the names give has a type
 abbrev pub CheckErrsExactly : Type 0
 CheckErrsExactly =
-    (table : List Declared) (text : List ℕ) (parsed : raw.RawAct) (locals : Locals)
-    → ((f : TypeFault) × (checked table text locals parsed ≡ Err f))
-    ↔ ((a : Act) → IsAct table text (names_of locals) parsed a → action_type (table_kinds table) (types_of locals) a ≡ None)
+    (known : List Named) (text : List ℕ) (parsed : raw.RawAct) (locals : Locals)
+    → ((f : TypeFault) × (checked known text locals parsed ≡ Err f))
+    ↔ ((a : Act) → IsAct known text (names_of locals) parsed a → action_type (known_kinds known) (types_of locals) a ≡ None)
 
 -- the types of the variables that a block names are enough to type it
 abbrev pub Strengthening : Type 0
@@ -85,5 +85,27 @@ UsesAreDistinct = (kinds : TypeEnv) (a : Act) → AreDistinct (uses_of kinds a)
 -- a fault that the check reports is the text's: an out-of-memory error is none
 abbrev pub CheckNeverSaysNoMemory : Type 0
 CheckNeverSaysNoMemory =
-    (table : List Declared) (text : List ℕ) (parsed : raw.RawAct) (locals : Locals)
-    → checked table text locals parsed ≢ Err NoMemory
+    (known : List Named) (text : List ℕ) (parsed : raw.RawAct) (locals : Locals)
+    → checked known text locals parsed ≢ Err NoMemory
+
+-- ---- names that are declared later
+-- the check stopped at a name that is unknown
+abbrev pub IsUnknown : {A : Type 0} → Result A TypeFault → Type 0
+IsUnknown (Ok x) = ⊥
+IsUnknown (Err (Unknown at)) = ⊤
+IsUnknown (Err f) = ⊥
+
+-- More names change what the check finds only if it stopped at an unknown one: what it accepts it accepts as the same tree of the
+-- same type, and any other fault stays the same.
+abbrev pub LaterNamesChangeNothing : Type 0
+LaterNamesChangeNothing =
+    (few more : List Named) (text : List ℕ) (parsed : raw.RawAct) (locals : Locals)
+    → (checked few text locals parsed ≡ checked (few ++ more) text locals parsed) ⊎ IsUnknown (checked few text locals parsed)
+
+-- so a block that the check accepts stays what it is, with its type and the variables that it names
+abbrev pub CheckedStay : Type 0
+CheckedStay =
+    (few more : List Named) (text : List ℕ) (parsed : raw.RawAct) (locals : Locals) (a : Act) (r : ActionType)
+    → checked few text locals parsed ≡ Ok (a, r)
+    → (checked (few ++ more) text locals parsed ≡ Ok (a, r))
+    × (uses_of (known_kinds (few ++ more)) a ≡ uses_of (known_kinds few) a)

@@ -5,18 +5,18 @@ use Rattle.std.specs.Str.{bytes_eq}
 use Rattle.stm_terms.specs.declared.values.Value.TheVariants as value
 use Rattle.stm_terms.specs.Ast.{Term, lit, local, global, bin, Act, return, read, write, make, retry, throw, if_else, or_else, bind, let_in, seq, catch}
 use Rattle.stm_terms.specs.ParsedAst as raw
-use Rattle.stm_store.specs.Tables.{Declared, number_of}
+use Rattle.stm_store.specs.Naming.{Named, number_named}
 
 -- the number of the innermost local of a name, counted from the outermost; the names are innermost first
 abbrev pub number_in : List ℕ → List (List ℕ) → Option ℕ
 number_in name [] = None
 number_in name (n ∷ outer) = if bytes_eq n name then Some (length outer) else number_in name outer
 
-module _ (table : List Declared) (text : List ℕ) where
+module _ (known : List Named) (text : List ℕ) where
   -- a name is a local if there is one of that name, else a declared variable
   abbrev pub IsNamed : List (List ℕ) → List ℕ → Term → Type 0
   IsNamed ns name (local i) = number_in name ns ≡ Some i
-  IsNamed ns name (global i) = (number_in name ns ≡ None) × (number_of name table ≡ Some i)
+  IsNamed ns name (global i) = (number_in name ns ≡ None) × (number_named name known ≡ Some i)
   IsNamed ns name x = ⊥
 
   -- an expression is this term, with each name resolved

@@ -151,7 +151,7 @@ impl Checker<'_> {
         let local = name_at(self.text, name);
         let inner = Checker {
             alloc: self.alloc,
-            table: self.table,
+            known: self.known,
             text: self.text,
             locals: &Scope::Local(local, INT, self.locals),
         };
@@ -184,7 +184,7 @@ impl Checker<'_> {
         let local = name_at(self.text, name);
         let inner = Checker {
             alloc: self.alloc,
-            table: self.table,
+            known: self.known,
             text: self.text,
             locals: &Scope::Local(local, kind, self.locals),
         };
@@ -210,7 +210,7 @@ impl Checker<'_> {
         let local = name_at(self.text, name);
         let inner = Checker {
             alloc: self.alloc,
-            table: self.table,
+            known: self.known,
             text: self.text,
             locals: &Scope::Local(local, kind, self.locals),
         };

@@ -6,14 +6,15 @@ ghost use Rattle.stm_terms.specs.ParsedAst.{raw_act_of, SpansWithin, actions};
 ghost use Rattle.stm_terms.specs.Ast.{act_of};
 ghost use Rattle.stm_terms.specs.Typing.{result_type, uses_of};
 ghost use Rattle.stm_terms.specs.UnlessNoMemory.{AnswersUnless};
-ghost use Rattle.stm_check.specs.CheckFunction.{checked, table_kinds};
+ghost use Rattle.stm_check.specs.CheckFunction.{checked};
+ghost use Rattle.stm_store.specs.Naming.{known_kinds};
 
 use crate::checker::Checker;
 use crate::fault::TypeFault;
 use crate::scope::Scope;
 use crate::typed::Typed;
 use std::alloc::Global;
-use stm_store::Table;
+use stm_store::Names;
 use stm_terms::action::Action;
 use stm_terms::kinds::Ty;
 use stm_terms::raw::RawAction;
@@ -22,7 +23,7 @@ use stm_terms::raw_block::Raw;
 /// The check of the tree of a text: the tree, the type of its result, and the variables that it names.
 fn check_tree(
     alloc: Global,
-    table: &Table,
+    known: &Names,
     text: &str,
     raw: &RawAction,
 ) -> Result<(Action, Option<Ty>, Vec<(u32, Ty)>), TypeFault>
@@ -30,13 +31,13 @@ fn check_tree(
     requires spans { SpansWithin (length text.now) (raw_act_of raw.now) }
     requires small { actions (raw_act_of raw.now) ≤ 2 ^ 32 }
     ensures says { AnswersUnless TypeFault.NoMemory (λ r. (act_of r.0, result_type r.1)) result
-        (checked table.now text.now [] (raw_act_of raw.now)) }
-    ensures uses { IfOk result (λ r. r.2.items ≡ uses_of (table_kinds table.now) (act_of r.0)) }
+        (checked known.now text.now [] (raw_act_of raw.now)) }
+    ensures uses { IfOk result (λ r. r.2.items ≡ uses_of (known_kinds known.now) (act_of r.0)) }
 {
     let mut uses = Vec::new(alloc);
     let checker = Checker {
         alloc,
-        table,
+        known,
         text,
         locals: &Scope::Empty,
     };
@@ -47,7 +48,7 @@ fn check_tree(
 /// The check of a text, which the block keeps, and its tree.
 pub(crate) fn check_raw(
     alloc: Global,
-    table: &Table,
+    known: &Names,
     text: String,
     raw: &RawAction,
 ) -> Result<Typed, TypeFault>
@@ -55,11 +56,11 @@ pub(crate) fn check_raw(
     requires spans { SpansWithin (length (string_bytes text)) (raw_act_of raw.now) }
     requires small { actions (raw_act_of raw.now) ≤ 2 ^ 32 }
     ensures says { AnswersUnless TypeFault.NoMemory (λ t. (t.tree, result_type t.result_type)) result
-        (checked table.now (string_bytes text) [] (raw_act_of raw.now)) }
-    ensures uses { IfOk result (λ t. t.uses ≡ uses_of (table_kinds table.now) t.tree) }
+        (checked known.now (string_bytes text) [] (raw_act_of raw.now)) }
+    ensures uses { IfOk result (λ t. t.uses ≡ uses_of (known_kinds known.now) t.tree) }
     ensures text { IfOk result (λ t. t.text ≡ string_bytes text) }
 {
-    let (action, kind, uses) = check_tree(alloc, table, text.as_str(), raw)?;
+    let (action, kind, uses) = check_tree(alloc, known, text.as_str(), raw)?;
     Ok(Typed::of_checked(action, text, kind, uses))
 }
 
@@ -68,12 +69,12 @@ pub(crate) fn check_raw(
 /// Names are resolved: a local has its number, counted from 0 and from the outermost, and a declared variable its number
 /// in the table. Where locals have one name, the innermost is meant; a local hides a declared variable (docs/LANGUAGE.md,
 /// "Types"). The fault is the one of docs/LANGUAGE.md, "Type errors", or `NoMemory` if memory ran out before it was found.
-pub fn check(alloc: Global, table: &Table, raw: Raw) -> Result<Typed, TypeFault>
+pub fn check(alloc: Global, known: &Names, raw: Raw) -> Result<Typed, TypeFault>
     ensures says { AnswersUnless TypeFault.NoMemory (λ t. (t.tree, result_type t.result_type)) result
-        (checked table.now raw.text [] raw.tree) }
-    ensures uses { IfOk result (λ t. t.uses ≡ uses_of (table_kinds table.now) t.tree) }
+        (checked known.now raw.text [] raw.tree) }
+    ensures uses { IfOk result (λ t. t.uses ≡ uses_of (known_kinds known.now) t.tree) }
     ensures text { IfOk result (λ t. t.text ≡ raw.text) }
 {
     let (text, action) = raw.into_parts();
-    check_raw(alloc, table, text, &action)
+    check_raw(alloc, known, text, &action)
 }

@@ -50,7 +50,7 @@ impl Checker<'_> {
         if let Some((number, kind)) = find_local(self.locals, text) {
             return Ok((Expr::Local(number), kind));
         }
-        match find_variable(self.table, text) {
+        match find_variable(self.known, text) {
             Some((id, kind)) => {
                 record_use(uses, id, kind)?;
                 Ok((Expr::Global(id), reference_to(kind)))

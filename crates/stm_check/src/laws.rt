@@ -1,6 +1,6 @@
 //! What typing promises, as laws of the definitions: each function's contract is one, and its body is empty.
 
-ghost use Rattle.stm_check.specs.Laws.{Progress, Preservation, Weakening, VerdictFits, CheckIsExact, CheckErrsExactly, CheckNeverSaysNoMemory, Strengthening, UsesAreDistinct};
+ghost use Rattle.stm_check.specs.Laws.{Progress, Preservation, Weakening, VerdictFits, CheckIsExact, CheckErrsExactly, CheckNeverSaysNoMemory, Strengthening, UsesAreDistinct, LaterNamesChangeNothing, CheckedStay};
 
 /// A well typed action has an outcome in every well typed view that has its variables.
 pub fn progress()
@@ -45,4 +45,14 @@ pub fn uses_are_distinct()
 /// A fault that the definition of the check reports is one of the text, and never an out-of-memory error.
 pub fn check_never_says_no_memory()
     ensures { CheckNeverSaysNoMemory }
+{}
+
+/// Names that are declared later change what the check finds only if it stopped at an unknown name.
+pub fn later_names_change_nothing()
+    ensures { LaterNamesChangeNothing }
+{}
+
+/// A block that the check accepts stays what it is if more names are known.
+pub fn checked_stay()
+    ensures { CheckedStay }
 {}

@@ -3,9 +3,10 @@
 ghost use Rattle.std.specs.Prelude.{◌≡◌, ◌+◌, ◌<◌, ◌≤◌, ◌^◌, length, IfSome, Some};
 ghost use Rattle.stm_terms.specs.Limits.{most_refs};
 ghost use Rattle.stm_check.specs.Scopes.{innermost, scope, ScopeHasFewRefs};
-ghost use Rattle.stm_check.specs.CheckFunction.{variable, table_kinds};
+ghost use Rattle.stm_check.specs.CheckFunction.{variable};
+ghost use Rattle.stm_store.specs.Naming.{known_kinds};
 
-use stm_store::Table;
+use stm_store::Names;
 use stm_terms::kinds::Ty;
 
 /// The locals, innermost first.
@@ -45,15 +46,10 @@ pub(crate) fn find_local(locals: &Scope, name: &str) -> Option<(u32, Ty)>
 }
 
 /// The declared variable of a name: its number, and the type of its cell.
-pub(crate) fn find_variable(table: &Table, name: &str) -> Option<(u32, Ty)>
-    ensures found { result ≡ variable table.now name.now }
-    ensures kind { IfSome result (λ v. table_kinds table.now v.0 ≡ Some v.1) }
+pub(crate) fn find_variable(known: &Names, name: &str) -> Option<(u32, Ty)>
+    ensures found { result ≡ variable known.now name.now }
+    ensures kind { IfSome result (λ v. known_kinds known.now v.0 ≡ Some v.1) }
     ensures low { IfSome result (λ v. v.1.refs ≤ most_refs) }
 {
-    // The table's types are known to have at most `most_refs` `TVar` by this.
-    let _count = table.len();
-    match table.find(name) {
-        Some(id) => Some((id, table.kind(id))),
-        None => None,
-    }
+    known.find(name)
 }

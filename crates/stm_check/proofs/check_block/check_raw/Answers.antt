@@ -8,11 +8,11 @@ use Rattle.stm_check.proofs.check_block.check_raw.Goals as goal
 pub of_checked-requires-clause-typed : goal.of_checked-requires-clause-typed
 of_checked-requires-clause-typed c =
     let says = rw c.as_str.ensures.value at c.in_ok-action.ensures.says in
-    kept_type c.args.table.now (string_bytes c.args.text) (raw_act_of c.args.raw.now) (act_of c.in_ok-action.action) (result_type c.in_ok-action.kind) c.in_ok-action.uses.items says c.in_ok-action.ensures.uses
+    kept_type c.args.known.now (string_bytes c.args.text) (raw_act_of c.args.raw.now) (act_of c.in_ok-action.action) (result_type c.in_ok-action.kind) c.in_ok-action.uses.items says c.in_ok-action.ensures.uses
 
 pub of_checked-requires-clause-small : goal.of_checked-requires-clause-small
 of_checked-requires-clause-small c =
     let says = rw c.as_str.ensures.value at c.in_ok-action.ensures.says in
     let few : makes (act_of c.in_ok-action.action) ≤ actions (raw_act_of c.args.raw.now) =
-    kept_small c.args.table.now (string_bytes c.args.text) (raw_act_of c.args.raw.now) (act_of c.in_ok-action.action) (result_type c.in_ok-action.kind) says in
+    kept_small c.args.known.now (string_bytes c.args.text) (raw_act_of c.args.raw.now) (act_of c.in_ok-action.action) (result_type c.in_ok-action.kind) says in
     omega arith
