@@ -193,7 +193,7 @@ both_rest r s k ds r' p n e =
       finishes = refl;
       store = refl;
       fewer = omega arith;
-      observed = λ q. ap (λ (xs : List ObservedWaiter). record { rule = s.rule; store = s.store; next = s.next; waiters = xs }) (alike_to ds s.waiters k');
+      observed = λ q. ap (λ (xs : List ObservedWaiter). record { rule = s.rule; store = s.store; names = s.names; next = s.next; waiters = xs }) (alike_to ds s.waiters k');
       all_block = λ q. rest_blocks d p.drained p.drained_typed a.0 a.1;
     })
 

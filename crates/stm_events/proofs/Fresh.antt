@@ -3,6 +3,7 @@ use Rattle.std.proofs.Common.{◌≡◌, ⊎_elim, ℕ, Bool, true, false, ◌||
 use Rattle.std.specs.Prelude.{nat_eq}
 use Rattle.std.specs.List.{list_any}
 use Rattle.std.proofs.lemmas.List.Folds.{list_any-append}
+use Rattle.stm_terms.specs.declared.kinds.Ty.{Ty}
 use Rattle.stm_terms.specs.declared.values.Value.{Value}
 use Rattle.stm_terms.specs.declared.verdicts.Verdict.{Verdict}
 use Rattle.stm_terms.specs.Changes.{find}
@@ -16,9 +17,10 @@ use Rattle.stm_eval.specs.Messages.{Agrees, Holds}
 use Rattle.stm_eval.proofs.FragmentsAndStores.{looked, holds_agrees, holds_again}
 use Rattle.stm_events.specs.declared.event.Event.{Event}
 use Rattle.stm_events.specs.declared.event.What.{What}
-use Rattle.stm_events.specs.declared.event.What.TheVariants.{Submitted, Installed, Finished, Cancelled}
+use Rattle.stm_events.specs.declared.event.What.TheVariants.{Submitted, Installed, Finished, Cancelled, Declared as DeclaredLate}
 use Rattle.stm_events.specs.declared.staleness.StalenessRule.{StalenessRule}
-use Rattle.stm_events.specs.SlowDesk.{Since, Waiter, Slow, under, looked_on, waking, intersects, is_stale_since, find_waiter, without_waiter, with_delivery, delivered, woken_more, after_writes, after, initial_state, state_from, state_by}
+use Rattle.stm_events.specs.declared.staleness.StalenessRule.TheVariants.{Written}
+use Rattle.stm_events.specs.SlowDesk.{Since, Waiter, Slow, declaration, under, looked_on, waking, intersects, is_stale_since, find_waiter, without_waiter, with_delivery, delivered, woken_more, after_writes, after, initial_state, state_from, state_by}
 use Rattle.stm_events.specs.Laws.{CurrentHolds}
 use Rattle.stm_events.specs.States.{IsUnwoken, AreUnwoken}
 use Rattle.stm_events.proofs.Stores.{or_left, or_right, value_stays}
@@ -54,11 +56,21 @@ fresh_marks : (rule : StalenessRule) (v : Verdict) (store : List Cell) (ws : Lis
 fresh_marks rule v store [] c = tt
 fresh_marks rule v store (w ∷ ws) c = (unwoken_more rule v store w.since c.0, fresh_marks rule v store ws c.1)
 
+-- a variable more
+unwoken_declared : (kind : Ty) (value : Value) (store : List Cell) (o : Option Since) → IsUnwoken store o → IsUnwoken (applied store (declaration kind value)) o
+unwoken_declared kind value store None u = tt
+unwoken_declared kind value store (Some s) u = λ i x h e. value_stays Written store (declaration kind value) i x refl (u i x h e)
+
+fresh_declared : (kind : Ty) (value : Value) (store : List Cell) (ws : List Waiter) → AreUnwoken store ws → AreUnwoken (applied store (declaration kind value)) ws
+fresh_declared kind value store [] c = tt
+fresh_declared kind value store (w ∷ ws) c = (unwoken_declared kind value store w.since c.0, fresh_declared kind value store ws c.1)
+
 pub fresh_after : (s : Slow) (d : What) → AreUnwoken s.store s.waiters → AreUnwoken (after s d).store (after s d).waiters
 fresh_after s (Submitted t b) c = fresh_push s.store _ s.waiters c refl
 fresh_after s (Installed t v) c = fresh_delivered t s.store s.waiters c
 fresh_after s (Finished t v n l) c = fresh_marks s.rule v s.store (without_waiter t s.waiters) (fresh_without t s.store s.waiters c)
 fresh_after s (Cancelled t) c = fresh_without t s.store s.waiters c
+fresh_after s (DeclaredLate name kind value) c = fresh_declared kind value s.store s.waiters c
 
 pub fresh_from : (s : Slow) (es : List Event) → AreUnwoken s.store s.waiters → AreUnwoken (state_from s es).store (state_from s es).waiters
 fresh_from s [] c = c

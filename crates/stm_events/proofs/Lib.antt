@@ -1,6 +1,7 @@
 pub mod Alike
 pub mod Atomically
 pub mod Covered
+pub mod Declaring
 pub mod DrainCounts
 pub mod Draining
 pub mod DrainLists
@@ -10,6 +11,7 @@ pub mod Fresh
 pub mod Headline
 pub mod HeadlineFrom
 pub mod Kept
+pub mod NamedVariables
 pub mod Observed
 pub mod Possible
 pub mod Ready

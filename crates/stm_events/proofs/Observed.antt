@@ -9,12 +9,12 @@ use Rattle.stm_events.specs.declared.errors.DeliverError.TheVariants as deliver
 use Rattle.stm_events.specs.declared.errors.FinishError.TheVariants as finish
 use Rattle.stm_events.specs.declared.event.Event.{Event}
 use Rattle.stm_events.specs.declared.event.What.{What}
-use Rattle.stm_events.specs.declared.event.What.TheVariants.{Submitted, Installed, Finished, Cancelled}
+use Rattle.stm_events.specs.declared.event.What.TheVariants.{Submitted, Installed, Finished, Cancelled, Declared as DeclaredLate}
 use Rattle.stm_events.specs.Answers.{install_answer, AnswersAlike, ObservedAnswerAlike}
 use Rattle.stm_events.specs.BlockStatus.{read_then}
 use Rattle.stm_events.specs.Ready.{is_ready}
 use Rattle.stm_events.specs.Refusals.{missing, submit_first, cancel_first, differing, overtaken_first, blocks_there, overflows, finish_first}
-use Rattle.stm_events.specs.SlowDesk.{Waiter, Slow, under, verdict_on, waking, is_current, standing, find_waiter, without_waiter, stale_after, max_waiting, MayInstall, MayFinish, after, Allows, state_from, LegalFrom}
+use Rattle.stm_events.specs.SlowDesk.{Waiter, Slow, declaration, with_name, under, verdict_on, waking, is_current, standing, find_waiter, without_waiter, stale_after, max_waiting, MayInstall, MayFinish, after, Allows, state_from, LegalFrom}
 use Rattle.stm_events.specs.SlowSettle.{Stop, NoRoom, NoCells, lowest, is_due, ends, can_end, installing, ending, next_of, Order, next_what, has_cells, settle_on, running, stop_on, run_stop}
 use Rattle.stm_events.specs.SlowDrain.{is_next, drain_of, next_drain}
 use Rattle.stm_events.specs.Laws.{AreRising}
@@ -26,13 +26,13 @@ use Rattle.stm_events.proofs.SettlingAllowed.{IsAllowed, next_allowed}
 
 -- ---- from the equation to the relation of the waiting blocks, and back
 same_state : (s s' : Slow) → observed s ≡ observed s' → with_waiters s s'.waiters ≡ s'
-same_state s s' e = λ i. record { rule = ap (λ x. x.rule) e i; store = ap (λ x. x.store) e i; next = ap (λ x. x.next) e i; waiters = s'.waiters }
+same_state s s' e = λ i. record { rule = ap (λ x. x.rule) e i; store = ap (λ x. x.store) e i; names = ap (λ x. x.names) e i; next = ap (λ x. x.next) e i; waiters = s'.waiters }
 
 alike_of : (s s' : Slow) → observed s ≡ observed s' → AreAlike s.waiters s'.waiters
 alike_of s s' e = alike_from s.waiters s'.waiters (ap (λ x. x.waiters) e)
 
 observed_with : (s : Slow) (ws ws' : List Waiter) → AreAlike ws ws' → observed (with_waiters s ws) ≡ observed (with_waiters s ws')
-observed_with s ws ws' k = ap (λ (xs : List ObservedWaiter). record { rule = s.rule; store = s.store; next = s.next; waiters = xs }) (alike_to ws ws' k)
+observed_with s ws ws' k = ap (λ (xs : List ObservedWaiter). record { rule = s.rule; store = s.store; names = s.names; next = s.next; waiters = xs }) (alike_to ws ws' k)
 
 -- ---- an event on a state with other waiting blocks
 observed_step : (s : Slow) (ws' : List Waiter) (d : What) → AreAlike (after s d).waiters (after (with_waiters s ws') d).waiters → observed (after s d) ≡ observed (after (with_waiters s ws') d)
@@ -40,6 +40,8 @@ observed_step s ws' (Submitted t b) k = observed_with (record s { next = s.next 
 observed_step s ws' (Installed t v) k = observed_with s (after s (Installed t v)).waiters (after (with_waiters s ws') (Installed t v)).waiters k
 observed_step s ws' (Finished t v n l) k =
     observed_with (record s { store = applied s.store v }) (after s (Finished t v n l)).waiters (after (with_waiters s ws') (Finished t v n l)).waiters k
+observed_step s ws' (DeclaredLate name kind value) k =
+    observed_with (record s { store = applied s.store (declaration kind value); names = with_name s name kind }) (after s (DeclaredLate name kind value)).waiters (after (with_waiters s ws') (DeclaredLate name kind value)).waiters k
 observed_step s ws' (Cancelled t) k = observed_with s (after s (Cancelled t)).waiters (after (with_waiters s ws') (Cancelled t)).waiters k
 
 moved_some : (o o' : Option Waiter) (P P' : Waiter → Type 0) → MayBeAlike o o' → ((w w' : Waiter) → IsAlike w w' → P w → P' w') → IsSomeAnd o P → IsSomeAnd o' P'
@@ -71,6 +73,7 @@ module _ (s : Slow) (ws' : List Waiter) (k : AreAlike s.waiters ws') (h : HadVer
       moved_some (find_waiter t s.waiters) (find_waiter t ws') (λ w. MayInstall s w v) (λ w. MayInstall (with_waiters s ws') w v) (alike_found t s.waiters ws' k) (may_install v) a
   allows_alike (Finished t v n l) a =
       moved_some (find_waiter t s.waiters) (find_waiter t ws') (λ w. MayFinish s t w v n l) (λ w. MayFinish (with_waiters s ws') t w v n l) (alike_found t s.waiters ws' k) (may_finish t v n l) a
+  allows_alike (DeclaredLate name kind value) a = record { name_is = a.name_is; fresh = a.fresh; holds = a.holds; room = a.room }
   allows_alike (Cancelled t) a =
       moved_some (find_waiter t s.waiters) (find_waiter t ws') (λ w. Unit {0}) (λ w. Unit {0}) (alike_found t s.waiters ws' k) (λ w w' a u. u) a
 
@@ -200,6 +203,7 @@ cells_with s ws' (Submitted t b) = refl
 cells_with s ws' (Installed t v) = refl
 cells_with s ws' (Finished t v n l) = refl
 cells_with s ws' (Cancelled t) = refl
+cells_with s ws' (DeclaredLate name kind value) = refl
 
 cells_alike : (s s' : Slow) (d : What) → observed s ≡ observed s' → has_cells s d ≡ has_cells s' d
 cells_alike s s' d e = cells_with s s'.waiters d ∙ ap (λ (x : Slow). has_cells x d) (same_state s s' e)
@@ -255,6 +259,7 @@ answers_with s ws' k p p' e =
     let found = λ (t : ℕ). alike_found t s.waiters ws' k in
     record {
       submit = λ full block. ap (λ (n : ℕ). submit_first (missing (plains s.store) block.uses) (nat_le max_waiting n) full) (same_length s.waiters ws' k);
+      declare = λ full name kind value. refl;
       cancel = λ full t. cancel_by full (find_waiter t s.waiters) (find_waiter t ws') (found t);
       finish = λ full t. finish_by s.store full (find_waiter t s.waiters) (find_waiter t ws') (found t);
       deliver = λ full t reads. deliver_by s.store full reads (find_waiter t s.waiters) (find_waiter t ws') (found t);

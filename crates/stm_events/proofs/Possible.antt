@@ -7,12 +7,13 @@ use Rattle.stm_store.specs.Tables.{Declared}
 use Rattle.stm_check.specs.TypedBlock.{Block}
 use Rattle.stm_events.specs.declared.event.Event.{Event}
 use Rattle.stm_events.specs.declared.event.What.{What}
-use Rattle.stm_events.specs.declared.event.What.TheVariants.{Submitted, Installed, Finished, Cancelled}
+use Rattle.stm_events.specs.declared.event.What.TheVariants.{Submitted, Installed, Finished, Cancelled, Declared as DeclaredLate}
 use Rattle.stm_events.specs.declared.staleness.StalenessRule.{StalenessRule}
 use Rattle.stm_events.specs.SlowDesk.{Since, Waiter, Slow, under, verdict_on, is_stale_since, waking, MayInstall, find_waiter, without_waiter, with_delivery, delivered, woken_more, after_writes, after, Allows, initial_state, state_from, LegalFrom}
 use Rattle.stm_events.specs.States.{HadVerdict, HadVerdicts, IsPossible, PossibleStatesStay}
 use Rattle.stm_events.proofs.Covered.{covered_after}
 use Rattle.stm_events.proofs.Few.{few_after}
+use Rattle.stm_events.proofs.NamedVariables.{named_initial, named_after}
 use Rattle.stm_events.proofs.Fresh.{fresh_after, still_holds}
 use Rattle.stm_events.proofs.Rising.{rising_after, next_after}
 
@@ -51,6 +52,7 @@ had_after s (Submitted t b) c a = had_push t b s.waiters c
 had_after s (Installed t v) c a = had_delivered t s v s.waiters c a
 had_after s (Finished t v n l) c a = had_marks (waking s.rule s.store v) (without_waiter t s.waiters) (had_without t s.waiters c)
 had_after s (Cancelled t) c a = had_without t s.waiters c
+had_after s (DeclaredLate name kind value) c a = c
 
 had_cons : (b : Bool) (w one : Waiter) (o : Option Waiter) → HadVerdict w.block w.since → (o ≡ Some one → HadVerdict one.block one.since) → cond b (Some w) o ≡ Some one → HadVerdict one.block one.since
 had_cons true w one o c more e = let h : w ≡ one = cc in subst (λ (x : Waiter). HadVerdict x.block x.since) h c
@@ -66,13 +68,14 @@ some_verdict (Some v) h = (v, refl)
 
 -- ---- all of it
 pub possible_initial : (rule : StalenessRule) (table : List Declared) → IsPossible (initial_state rule table)
-possible_initial rule table = record { begun = omega arith; rising = tt; few = omega arith; covered = tt; unwoken = tt; evaluated = tt }
+possible_initial rule table = record { begun = omega arith; rising = tt; few = omega arith; named = named_initial table; covered = tt; unwoken = tt; evaluated = tt }
 
 pub possible_after : (s : Slow) (what : What) → IsPossible s → Allows s what → IsPossible (after s what)
 possible_after s what p a = record {
   begun = next_after s what p.begun;
   rising = rising_after s what p.begun p.rising a;
   few = few_after s what a p.few;
+  named = named_after s what p.named;
   covered = covered_after s what p.covered a;
   unwoken = fresh_after s what p.unwoken;
   evaluated = had_after s what p.evaluated a;

@@ -1,23 +1,27 @@
 -- The store stays well typed, and so do the blocks that wait.
 use Rattle.std.proofs.Common.{◌≡◌, ℕ, Bool, true, false, cond, List, [], ◌∷◌, ◌++◌, map, Option, Some, None, refl, sym, subst}
 use Rattle.std.specs.Prelude.{nat_eq, IsSomeAnd}
+use Rattle.stm_terms.specs.declared.kinds.Ty.{Ty}
+use Rattle.stm_terms.specs.declared.values.Value.{Value}
 use Rattle.stm_terms.specs.declared.verdicts.Verdict.{Verdict}
 use Rattle.stm_store.specs.declared.cell.Cell.{Cell}
-use Rattle.stm_store.specs.Cells.{plains, Fits, StoreIsTyped, applied}
+use Rattle.stm_store.specs.Cells.{plains, Covers, Fits, StoreIsTyped, applied}
 use Rattle.stm_store.proofs.ApplyPreservesTyping.{applied_typed, kinds_stay}
 use Rattle.stm_store.proofs.Opening.{plains-opened}
+use Rattle.stm_store.specs.Naming.{named_uses}
 use Rattle.stm_store.specs.Tables.{Declared, opened}
 use Rattle.stm_check.specs.TypedBlock.{Block}
 use Rattle.stm_check.proofs.TypingLaws.{every_verdict_fits}
 use Rattle.stm_check.proofs.Weakening.{verdict_fits}
 use Rattle.stm_events.specs.declared.event.Event.{Event}
 use Rattle.stm_events.specs.declared.event.What.{What}
-use Rattle.stm_events.specs.declared.event.What.TheVariants.{Submitted, Installed, Finished, Cancelled}
+use Rattle.stm_events.specs.declared.event.What.TheVariants.{Submitted, Installed, Finished, Cancelled, Declared as DeclaredLate}
 use Rattle.stm_events.specs.declared.staleness.StalenessRule.{StalenessRule}
-use Rattle.stm_events.specs.SlowDesk.{Since, Waiter, Slow, verdict_on, waking, MayFinish, find_waiter, without_waiter, with_delivery, delivered, woken_more, after_writes, after, Allows, initial_state, state_from, state_by, LegalFrom}
+use Rattle.stm_events.specs.SlowDesk.{Since, Waiter, Slow, declaration, verdict_on, waking, MayFinish, find_waiter, without_waiter, with_delivery, delivered, woken_more, after_writes, after, Allows, initial_state, state_from, state_by, LegalFrom}
 use Rattle.stm_events.specs.Laws.{IsWellTyped, SubmitsWellTyped, SubmittedAreWellTyped, WaitingAreWellTyped, StoresAreTyped, BlocksHaveVerdicts}
 use Rattle.stm_events.specs.States.{AreCovered, AreWellTyped, WasTyped, WereTyped, IsPossible, IsTypedState, TypedStatesStay}
 use Rattle.stm_events.proofs.Covered.{covered_waiter, blocks_are_covered}
+use Rattle.stm_events.proofs.NamedVariables.{declaration_fits}
 use Rattle.stm_events.proofs.Possible.{possible_initial, possible_after}
 
 -- ---- the blocks that wait
@@ -50,6 +54,7 @@ blocks_after s (Submitted t b) c a = typed_push _ s.waiters c a
 blocks_after s (Installed t v) c a = typed_delivered t s.store s.waiters c
 blocks_after s (Finished t v n l) c a = typed_marks (waking s.rule s.store v) (without_waiter t s.waiters) (typed_without t s.waiters c)
 blocks_after s (Cancelled t) c a = typed_without t s.waiters c
+blocks_after s (DeclaredLate name kind value) c a = c
 
 found_cons : (b : Bool) (w one : Waiter) (o : Option Waiter) → IsWellTyped w.block → (o ≡ Some one → IsWellTyped one.block) → cond b (Some w) o ≡ Some one → IsWellTyped one.block
 found_cons true w one o c more e = let h : w ≡ one = cc in subst (λ (x : Waiter). IsWellTyped x.block) h c
@@ -79,11 +84,12 @@ finished_typed s t v n l (Some w) c bs k e m =
     let b = typed_waiter t s.waiters w bs e in
     applied_typed s.store v (verdict_fits (plains s.store) w.block.uses w.block.tree b.0 v k (covered_waiter t s.store s.waiters w c e) b.1 m.verdict_is) k
 
-store_after : (s : Slow) (d : What) → AreCovered s.store s.waiters → AreWellTyped s.waiters → StoreIsTyped (plains s.store) → Allows s d → StoreIsTyped (plains (after s d).store)
-store_after s (Submitted t b) c bs k a = k
-store_after s (Installed t v) c bs k a = k
-store_after s (Finished t v n l) c bs k a = finished_typed s t v n l (find_waiter t s.waiters) c bs k refl a
-store_after s (Cancelled t) c bs k a = k
+store_after : (s : Slow) (d : What) → Covers (plains s.store) (named_uses s.names) → AreCovered s.store s.waiters → AreWellTyped s.waiters → StoreIsTyped (plains s.store) → Allows s d → StoreIsTyped (plains (after s d).store)
+store_after s (Submitted t b) n c bs k a = k
+store_after s (Installed t v) n c bs k a = k
+store_after s (Finished t v f l) n c bs k a = finished_typed s t v f l (find_waiter t s.waiters) c bs k refl a
+store_after s (Cancelled t) n c bs k a = k
+store_after s (DeclaredLate name kind value) n c bs k a = applied_typed s.store (declaration kind value) (declaration_fits s name kind value n a) k
 
 -- ---- the stores of the deliveries
 were_without_cons : (b : Bool) (store : List Cell) (w : Waiter) (ws vs : List Waiter) → WasTyped store w.since → WereTyped store ws → WereTyped store vs → WereTyped store (cond b ws (w ∷ vs))
@@ -115,11 +121,21 @@ were_push : (store : List Cell) (t : ℕ) (block : Block) (ws : List Waiter) →
 were_push store t block [] c = (tt, tt)
 were_push store t block (w ∷ ws) c = (c.0, were_push store t block ws c.1)
 
+-- a variable more
+was_declared : (store : List Cell) (kind : Ty) (value : Value) (o : Option Since) → WasTyped store o → WasTyped (applied store (declaration kind value)) o
+was_declared store kind value None c = tt
+was_declared store kind value (Some s) c = (c.0, λ i k e. kinds_stay store (declaration kind value) i k (c.1 i k e))
+
+were_declared : (store : List Cell) (kind : Ty) (value : Value) (ws : List Waiter) → WereTyped store ws → WereTyped (applied store (declaration kind value)) ws
+were_declared store kind value [] c = tt
+were_declared store kind value (w ∷ ws) c = (was_declared store kind value w.since c.0, were_declared store kind value ws c.1)
+
 were_after : (s : Slow) (d : What) → StoreIsTyped (plains s.store) → WereTyped s.store s.waiters → WereTyped (after s d).store (after s d).waiters
 were_after s (Submitted t b) k c = were_push s.store t b s.waiters c
 were_after s (Installed t v) k c = were_delivered t s.store s.waiters k c
 were_after s (Finished t v n l) k c = were_marks s.rule s.store v (without_waiter t s.waiters) (were_without t s.store s.waiters c)
 were_after s (Cancelled t) k c = were_without t s.store s.waiters c
+were_after s (DeclaredLate name kind value) k c = were_declared s.store kind value s.waiters c
 
 -- ---- states
 pub typed_initial : (rule : StalenessRule) (table : List Declared) → StoreIsTyped (plains (opened table)) → IsTypedState (initial_state rule table)
@@ -127,7 +143,7 @@ typed_initial rule table k = record { store = k; blocks = tt; deliveries = tt }
 
 pub typed_after : (s : Slow) (what : What) → IsPossible s → Allows s what → SubmitsWellTyped what → IsTypedState s → IsTypedState (after s what)
 typed_after s what p a w k = record {
-  store = store_after s what p.covered k.blocks k.store a;
+  store = store_after s what p.named p.covered k.blocks k.store a;
   blocks = blocks_after s what k.blocks w;
   deliveries = were_after s what k.store k.deliveries;
 }

@@ -1,12 +1,13 @@
 -- What a desk answers depends on what can be observed of its state and on nothing else.
 use Rattle.std.specs.Prelude.{◌≡◌, ℕ, Bool, List, length, Option, option_map}
+use Rattle.stm_terms.specs.declared.kinds.Ty.{Ty}
 use Rattle.stm_terms.specs.declared.values.Value.{Value}
 use Rattle.stm_store.specs.declared.cell.Cell.{Cell}
 use Rattle.stm_check.specs.TypedBlock.{Block}
 use Rattle.stm_events.specs.declared.errors.DeliverError.{DeliverError}
 use Rattle.stm_events.specs.BlockStatus.{read_then}
 use Rattle.stm_events.specs.Ready.{next_ready}
-use Rattle.stm_events.specs.Refusals.{submit_refused, cancel_refused, install_first, finish_refused}
+use Rattle.stm_events.specs.Refusals.{submit_refused, late_declare_refused, cancel_refused, install_first, finish_refused}
 use Rattle.stm_events.specs.SlowDesk.{Waiter, Slow, standing, is_current, find_waiter}
 use Rattle.stm_events.specs.SlowDrain.{next_drain, draining, drain_stop}
 use Rattle.stm_events.specs.SlowSettle.{next_what, settling, settle_stop}
@@ -19,6 +20,8 @@ install_answer store full reads w = (w.block, install_first store full w reads)
 -- the refusals of each call, with a history that is full or not, and the answers to each question
 pub record AnswersAlike (s s' : Slow) : Type 0 where
   pub submit : (full : Bool) (block : Block) → submit_refused s full block ≡ submit_refused s' full block
+  pub declare : (full : Bool) (name : List ℕ) (kind : Ty) (value : Value)
+      → late_declare_refused s full name kind value ≡ late_declare_refused s' full name kind value
   pub cancel : (full : Bool) (t : ℕ) → cancel_refused s full t ≡ cancel_refused s' full t
   pub finish : (full : Bool) (t : ℕ) → finish_refused s full t ≡ finish_refused s' full t
   pub deliver : (full : Bool) (t : ℕ) (reads : List (ℕ × Value))

@@ -5,10 +5,10 @@ use Rattle.stm_terms.specs.declared.verdicts.Verdict.{Verdict}
 use Rattle.stm_store.specs.Tables.{Declared, opened}
 use Rattle.stm_events.specs.declared.event.Event.{Event}
 use Rattle.stm_events.specs.declared.event.What.{What}
-use Rattle.stm_events.specs.declared.event.What.TheVariants.{Submitted, Installed, Finished, Cancelled}
+use Rattle.stm_events.specs.declared.event.What.TheVariants.{Submitted, Installed, Finished, Cancelled, Declared as DeclaredLate}
 use Rattle.stm_events.specs.declared.staleness.StalenessRule.{StalenessRule}
 use Rattle.stm_events.specs.declared.staleness.StalenessRule.TheVariants.{Changed}
-use Rattle.stm_events.specs.SlowDesk.{Slow, Waiter, looked_on, verdict_on, waking, intersects, is_new, is_current, find_waiter, after, initial_state, state_by, serial, finished_from, IsLegalBy}
+use Rattle.stm_events.specs.SlowDesk.{Slow, Waiter, looked_on, verdict_on, waking, intersects, is_new, is_current, find_waiter, after, initial_state, state_by, serial, turns_from, IsLegalBy}
 
 -- the event is an accepted delivery to the ticket
 abbrev pub installs_to : ℕ → What → Bool
@@ -16,6 +16,7 @@ installs_to t (Submitted u block) = false
 installs_to t (Installed u v) = nat_eq t u
 installs_to t (Finished u v n stale) = false
 installs_to t (Cancelled u) = false
+installs_to t (DeclaredLate name kind value) = false
 
 -- one of the events is a delivery to the ticket
 abbrev pub is_installed : ℕ → List Event → Bool
@@ -28,6 +29,7 @@ waking_at s (Submitted t block) = []
 waking_at s (Installed t v) = []
 waking_at s (Finished t v n stale) = waking s.rule s.store v
 waking_at s (Cancelled t) = []
+waking_at s (DeclaredLate name kind value) = []
 
 -- the same of these events, which begin on a state
 abbrev pub waking_from : Slow → List Event → List ℕ
@@ -67,11 +69,12 @@ pub data IsKnownBy (rule : StalenessRule) (table : List Declared) (history : Lis
   Evaluated : is_new w ≡ false → (d : LastDelivery history t) → IsMarkedRightlyBy rule table history t w d
       → IsKnownBy rule table history t w
 
--- of every waiting block that, and the store is that of running the finished blocks alone, one after another
+-- of every waiting block that, and the store is that of running the finished blocks alone and making the declared variables, one after
+-- another
 pub record HeadlineHoldsBy (rule : StalenessRule) (table : List Declared) (history : List Event) : Type 0 where
   pub blocks : (t : ℕ) (w : Waiter) → find_waiter t (state_by rule table history).waiters ≡ Some w
       → IsKnownBy rule table history t w
-  pub store : (state_by rule table history).store ≡ serial (opened table) (finished_from (initial_state rule table) history)
+  pub store : (state_by rule table history).store ≡ serial (opened table) (turns_from (initial_state rule table) history)
 
 -- so it is after every legal history, by a rule of what makes blocks stale
 abbrev pub HeadlineBy : StalenessRule → Type 0

@@ -10,9 +10,9 @@ use Rattle.stm_check.specs.TypedBlock.{Block}
 use Rattle.stm_eval.specs.Messages.{Holds}
 use Rattle.stm_events.specs.declared.event.Event.{Event}
 use Rattle.stm_events.specs.declared.event.What.{What}
-use Rattle.stm_events.specs.declared.event.What.TheVariants.{Submitted, Installed, Finished, Cancelled}
+use Rattle.stm_events.specs.declared.event.What.TheVariants.{Submitted, Installed, Finished, Cancelled, Declared as DeclaredLate}
 use Rattle.stm_events.specs.declared.staleness.StalenessRule.{StalenessRule}
-use Rattle.stm_events.specs.SlowDesk.{Since, Waiter, Slow, under, verdict_on, is_stale_since, find_waiter, initial_state, state_by, finished_from, serial, standing, weak_standing, IsLegalBy}
+use Rattle.stm_events.specs.SlowDesk.{Since, Waiter, Slow, under, verdict_on, is_stale_since, find_waiter, initial_state, state_by, turns_from, serial, standing, weak_standing, IsLegalBy}
 
 -- above k, each above the one before it, all below n
 abbrev pub AreRising : ℕ → ℕ → List Waiter → Type 0
@@ -46,11 +46,11 @@ CurrentHolds =
     → is_stale_since w.block s ≡ false
     → Holds w.block.tree (under s.store_then) reads v → Holds w.block.tree (under (state_by rule table history).store) reads v
 
--- the store is that of running the finished blocks alone, one after another
+-- the store is that of running the finished blocks alone and making the declared variables, one after another
 abbrev pub StoreIsSerial : Type 0
 StoreIsSerial =
     (rule : StalenessRule) (table : List Declared) (history : List Event) → IsLegalBy rule table history
-    → (state_by rule table history).store ≡ serial (opened table) (finished_from (initial_state rule table) history)
+    → (state_by rule table history).store ≡ serial (opened table) (turns_from (initial_state rule table) history)
 
 -- how a waiting block stands is said alike with the verdict of its delivery and, for a current block, with that on the present
 -- store
@@ -85,6 +85,7 @@ SubmitsWellTyped (Submitted t block) = IsWellTyped block
 SubmitsWellTyped (Installed t v) = Unit {0}
 SubmitsWellTyped (Finished t v n stale) = Unit {0}
 SubmitsWellTyped (Cancelled t) = Unit {0}
+SubmitsWellTyped (DeclaredLate name kind value) = Unit {0}
 
 -- each block that the events submit is well typed
 abbrev pub SubmittedAreWellTyped : List Event → Type 0

@@ -1,6 +1,7 @@
 -- What a reader has to believe: the slow desk, its settling, its laws, what each call is refused for, and the states that a
 -- history may begin from.
 pub mod Answers
+pub mod Declaring
 pub mod Delivered
 pub mod DrainCounts
 pub mod Headline

@@ -1,6 +1,6 @@
 -- Why each call is refused: the first reason that holds. An out-of-memory error is reported only if none holds.
 -- `full` says that the history has no room for an event.
-use Rattle.std.specs.Prelude.{◌≡◌, ◌≢◌, ℕ, ◌+◌, Bool, false, not, nat_le, if◌then◌else◌, List, [], ◌∷◌, length, Option, Some, None, Result, Ok, Err}
+use Rattle.std.specs.Prelude.{◌≡◌, ◌≢◌, ℕ, ◌+◌, Bool, false, not, nat_le, nat_lt, is_some, if◌then◌else◌, List, [], ◌∷◌, length, Option, Some, None, Result, Ok, Err}
 use Rattle.stm_terms.specs.declared.kinds.Ty.{Ty}
 use Rattle.stm_terms.specs.declared.values.Value.{Value}
 use Rattle.stm_terms.specs.declared.verdicts.Verdict.{Verdict}
@@ -9,6 +9,7 @@ use Rattle.stm_terms.specs.UnlessNoMemory.{RefusedAs}
 use Rattle.stm_terms.specs.Changes.{Variables}
 use Rattle.stm_store.specs.declared.cell.Cell.{Cell}
 use Rattle.stm_store.specs.Cells.{plains, kinds_of, made_by}
+use Rattle.stm_store.specs.Naming.{number_named, may_hold_known}
 use Rattle.stm_store.specs.Tables.{is_type}
 use Rattle.stm_check.specs.TypedBlock.{Block}
 use Rattle.stm_queue.specs.Queue.{Entry, marked}
@@ -19,6 +20,8 @@ use Rattle.stm_events.specs.declared.errors.DeliverError.{DeliverError}
 use Rattle.stm_events.specs.declared.errors.DeliverError.TheVariants as deliver
 use Rattle.stm_events.specs.declared.errors.FinishError.{FinishError}
 use Rattle.stm_events.specs.declared.errors.FinishError.TheVariants as finish
+use Rattle.stm_events.specs.declared.errors.LateDeclareError.{LateDeclareError}
+use Rattle.stm_events.specs.declared.errors.LateDeclareError.TheVariants as declare
 use Rattle.stm_events.specs.declared.errors.CancelError.{CancelError}
 use Rattle.stm_events.specs.declared.errors.CancelError.TheVariants as cancel
 
@@ -46,6 +49,18 @@ cancel_first (Some w) full = if full then Some cancel.HistoryFull else None
 -- why a ticket can't be cancelled, if it can't
 abbrev pub cancel_refused : Slow → Bool → ℕ → Option CancelError
 cancel_refused s full t = cancel_first (find_waiter t s.waiters) full
+
+-- ---- declare
+-- the first that holds: the name is another variable's, the value isn't of the type, the history is full, the store is
+abbrev pub declare_first : Bool → Bool → Bool → Bool → Option LateDeclareError
+declare_first taken holds full room =
+    if taken then Some declare.Twice else if not holds then Some declare.TypeOfValue
+    else if full then Some declare.HistoryFull else if room then None else Some declare.CellsFull
+
+-- why a variable can't be declared, if it can't; the caller knows that the name is one
+abbrev pub late_declare_refused : Slow → Bool → List ℕ → Ty → Value → Option LateDeclareError
+late_declare_refused s full name kind value =
+    declare_first (is_some (number_named name s.names)) (may_hold_known s.names kind value) full (nat_lt (length s.store) max_cells)
 
 -- ---- deliver
 -- the variable is there with this value

@@ -1,20 +1,26 @@
 -- The slow desk: which events it allows, and how each acts. It runs each block from scratch on a plain store, and keeps no
 -- reads, no verdicts and no index. Its rule says which variables of a block that finishes make their readers stale: those
 -- whose values it changed (`Changed`, the present rule), or all that it wrote (`Written`, the rule of earlier histories).
-use Rattle.std.specs.Prelude.{◌≡◌, ℕ, ◌+◌, ◌<◌, ◌≤◌, Bool, true, false, not, ◌&&◌, nat_eq, if◌then◌else◌, List, [], ◌∷◌, ◌++◌, map, filter, length, Option, Some, None, IsSomeAnd}
+use Rattle.std.specs.Prelude.{◌≡◌, ℕ, ◌+◌, ◌<◌, ◌≤◌, Bool, true, false, not, ◌&&◌, nat_eq, if◌then◌else◌, List, [], ◌∷◌, ◌++◌, map, filter, length, Option, Some, None, IsSomeAnd, IsTrue}
 use Rattle.std.specs.List.{list_any}
+use Rattle.stm_terms.specs.declared.kinds.Ty.{Ty}
+use Rattle.stm_terms.specs.declared.values.Ref.TheVariants.{New as NewRef}
+use Rattle.stm_terms.specs.declared.values.Value.{Value}
+use Rattle.stm_terms.specs.declared.values.Value.TheVariants.{Var}
 use Rattle.stm_terms.specs.declared.verdicts.Verdict.{Verdict}
 use Rattle.stm_terms.specs.declared.verdicts.Verdict.TheVariants.{Commits, Throws, Blocks}
 use Rattle.stm_terms.specs.Changes.{Variables, cell_value}
+use Rattle.stm_terms.specs.Names.{is_name_text}
 use Rattle.stm_terms.specs.ReadSet.{looks_of}
 use Rattle.stm_terms.specs.Verdict.{verdict}
 use Rattle.stm_store.specs.declared.cell.Cell.{Cell}
 use Rattle.stm_store.specs.Cells.{most_cells, plains, Covers, applied, changed_by, made_by}
+use Rattle.stm_store.specs.Naming.{Named, number_named, named_in_table, may_hold_known}
 use Rattle.stm_store.specs.Tables.{Declared, opened}
 use Rattle.stm_check.specs.TypedBlock.{Block}
 use Rattle.stm_events.specs.declared.event.Event.{Event}
 use Rattle.stm_events.specs.declared.event.What.{What}
-use Rattle.stm_events.specs.declared.event.What.TheVariants.{Submitted, Installed, Finished, Cancelled}
+use Rattle.stm_events.specs.declared.event.What.TheVariants.{Submitted, Installed, Finished, Cancelled, Declared as DeclaredLate}
 use Rattle.stm_events.specs.declared.staleness.StalenessRule.{StalenessRule}
 use Rattle.stm_events.specs.declared.staleness.StalenessRule.TheVariants.{Written, Changed}
 
@@ -58,11 +64,12 @@ pub record Waiter : Type 0 where
   pub block : Block
   pub since : Option Since
 
--- the slow desk: its rule, which no event changes, its store, the next ticket, and the waiting blocks, the first submitted
--- first
+-- the slow desk: its rule, which no event changes, its store, the names of variables, the next ticket, and the waiting blocks, the
+-- first submitted first
 pub record Slow : Type 0 where
   pub rule : StalenessRule
   pub store : List Cell
+  pub names : List Named
   pub next : ℕ
   pub waiters : List Waiter
 
@@ -144,7 +151,15 @@ max_events = 1048576
 abbrev pub max_clients : ℕ
 max_clients = 128
 
--- how an event acts
+-- the commit of a block that makes one variable and does nothing else, as `newTVar` does
+abbrev pub declaration : Ty → Value → Verdict
+declaration kind value = Commits [] ((kind, value) ∷ []) (Var (NewRef 0))
+
+-- the names with one more, which is that of the next variable of the store
+abbrev pub with_name : Slow → List ℕ → Ty → List Named
+with_name s name kind = s.names ++ record { name = name; number = length s.store; kind = kind } ∷ []
+
+-- how an event acts: a variable that is declared is the next one of the store, and wakes nobody
 abbrev pub after : Slow → What → Slow
 after s (Submitted t block) =
     record s { next = s.next + 1; waiters = s.waiters ++ record { ticket = t; block = block; since = None } ∷ [] }
@@ -152,6 +167,8 @@ after s (Installed t v) = record s { waiters = delivered t s.store s.waiters }
 after s (Finished t v n stale) =
     record s { store = applied s.store v; waiters = map (after_writes (waking s.rule s.store v)) (without_waiter t s.waiters) }
 after s (Cancelled t) = record s { waiters = without_waiter t s.waiters }
+after s (DeclaredLate name kind value) =
+    record s { store = applied s.store (declaration kind value); names = with_name s name kind }
 
 -- a block may be installed: it isn't current, and the verdict is the one that it has on the present store
 pub record MayInstall (s : Slow) (w : Waiter) (v : Verdict) : Type 0 where
@@ -167,12 +184,21 @@ pub record MayFinish (s : Slow) (t : ℕ) (w : Waiter) (v : Verdict) (n : ℕ) (
   pub room : length s.store + length (made_by v) ≤ max_cells
   pub listed : stale ≡ stale_after (waking s.rule s.store v) (without_waiter t s.waiters)
 
+-- a variable may be declared: its name is one of the language, and no other variable's; it has a type of at most 8 `TVar` and a
+-- value of it, so a reference is to a variable that has a name; and the store has room
+pub record MayDeclare (s : Slow) (name : List ℕ) (kind : Ty) (value : Value) : Type 0 where
+  pub name_is : IsTrue (is_name_text name)
+  pub fresh : number_named name s.names ≡ None
+  pub holds : may_hold_known s.names kind value ≡ true
+  pub room : length s.store < max_cells
+
 -- the slow desk allows what happens
 abbrev pub Allows : Slow → What → Type 0
 Allows s (Submitted t block) = (t ≡ s.next) × Covers (plains s.store) block.uses × (length s.waiters < max_waiting)
 Allows s (Installed t v) = IsSomeAnd (find_waiter t s.waiters) (λ w. MayInstall s w v)
 Allows s (Finished t v n stale) = IsSomeAnd (find_waiter t s.waiters) (λ w. MayFinish s t w v n stale)
 Allows s (Cancelled t) = IsSomeAnd (find_waiter t s.waiters) (λ w. Unit {0})
+Allows s (DeclaredLate name kind value) = MayDeclare s name kind value
 
 -- it allows the event, of a client
 pub record AllowsEvent (s : Slow) (e : Event) : Type 0 where
@@ -181,7 +207,8 @@ pub record AllowsEvent (s : Slow) (e : Event) : Type 0 where
 
 -- the declared variables, and nothing waits
 abbrev pub initial_state : StalenessRule → List Declared → Slow
-initial_state rule table = record { rule = rule; store = opened table; next = 1; waiters = [] }
+initial_state rule table =
+    record { rule = rule; store = opened table; names = named_in_table table; next = 1; waiters = [] }
 
 -- the state after these events, which begin on a state
 abbrev pub state_from : Slow → List Event → Slow
@@ -242,24 +269,35 @@ abbrev pub applied_or : List Cell → Option Verdict → List Cell
 applied_or store (Some v) = applied store v
 applied_or store None = store
 
--- the store after each block in turn has run alone and its verdict was applied
-abbrev pub serial : List Cell → List Block → List Cell
+-- what changes the store, in its turn: a block runs and finishes, or a variable is declared
+pub data Turn : Type 0 where
+  Runs : Block → Turn
+  Declares : Ty → Value → Turn
+
+-- the store after a turn: a block's verdict is applied, or the variable is made
+abbrev pub after_turn : List Cell → Turn → List Cell
+after_turn store (Runs b) = applied_or store (verdict_on store b)
+after_turn store (Declares kind value) = applied store (declaration kind value)
+
+-- the store after each of these turns: each block has run alone
+abbrev pub serial : List Cell → List Turn → List Cell
 serial store [] = store
-serial store (b ∷ bs) = serial (applied_or store (verdict_on store b)) bs
+serial store (t ∷ ts) = serial (after_turn store t) ts
 
--- the block of a waiter, if there is one
-abbrev pub blocks_of_waiter : Option Waiter → List Block
-blocks_of_waiter (Some w) = w.block ∷ []
-blocks_of_waiter None = []
+-- the block of a waiter runs, if there is one
+abbrev pub turns_of_waiter : Option Waiter → List Turn
+turns_of_waiter (Some w) = Runs w.block ∷ []
+turns_of_waiter None = []
 
--- the block that finishes by this, if one does
-abbrev pub finishing : Slow → What → List Block
-finishing s (Submitted t block) = []
-finishing s (Installed t v) = []
-finishing s (Finished t v n stale) = blocks_of_waiter (find_waiter t s.waiters)
-finishing s (Cancelled t) = []
+-- the block that finishes by this runs, or the variable is declared, if one is
+abbrev pub turns_by : Slow → What → List Turn
+turns_by s (Submitted t block) = []
+turns_by s (Installed t v) = []
+turns_by s (Finished t v n stale) = turns_of_waiter (find_waiter t s.waiters)
+turns_by s (Cancelled t) = []
+turns_by s (DeclaredLate name kind value) = Declares kind value ∷ []
 
--- the blocks that finish in these events, in order
-abbrev pub finished_from : Slow → List Event → List Block
-finished_from s [] = []
-finished_from s (e ∷ es) = finishing s e.what ++ finished_from (after s e.what) es
+-- the turns of these events, in order: the blocks that finish, and the variables that are declared
+abbrev pub turns_from : Slow → List Event → List Turn
+turns_from s [] = []
+turns_from s (e ∷ es) = turns_by s e.what ++ turns_from (after s e.what) es

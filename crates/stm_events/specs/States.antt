@@ -7,6 +7,7 @@ use Rattle.stm_terms.specs.declared.values.Value.{Value}
 use Rattle.stm_terms.specs.declared.verdicts.Verdict.{Verdict}
 use Rattle.stm_store.specs.declared.cell.Cell.{Cell}
 use Rattle.stm_store.specs.Cells.{plains, kinds_of, Covers, Fits, StoreIsTyped}
+use Rattle.stm_store.specs.Naming.{Named, named_uses}
 use Rattle.stm_store.specs.Tables.{Declared, opened}
 use Rattle.stm_check.specs.TypedBlock.{Block}
 use Rattle.stm_events.specs.declared.event.Event.{Event}
@@ -43,11 +44,12 @@ abbrev pub HadVerdicts : List Waiter → Type 0
 HadVerdicts [] = Unit {0}
 HadVerdicts (w ∷ ws) = HadVerdict w.block w.since × HadVerdicts ws
 
--- events may go on from this state
+-- events may go on from this state; each name is that of a variable that is there, with its type
 pub record IsPossible (s : Slow) : Type 0 where
   pub begun : 0 < s.next
   pub rising : AreRising s.next 0 s.waiters
   pub few : length s.waiters ≤ max_waiting
+  pub named : Covers (plains s.store) (named_uses s.names)
   pub covered : AreCovered s.store s.waiters
   pub unwoken : AreUnwoken s.store s.waiters
   pub evaluated : HadVerdicts s.waiters
@@ -124,13 +126,15 @@ observed_waiter w =
 pub record Observed : Type 0 where
   pub rule : StalenessRule
   pub store : List Cell
+  pub names : List Named
   pub next : ℕ
   pub waiters : List ObservedWaiter
 
 -- of a state: the stores and the woken variables since deliveries can't be observed, but for what they make of verdicts, reads
 -- and marks
 abbrev pub observed : Slow → Observed
-observed s = record { rule = s.rule; store = s.store; next = s.next; waiters = map observed_waiter s.waiters }
+observed s =
+    record { rule = s.rule; store = s.store; names = s.names; next = s.next; waiters = map observed_waiter s.waiters }
 
 -- two states of which the same is observed allow the same, and after it the same is observed
 pub record ObservationsDecide : Type 0 where

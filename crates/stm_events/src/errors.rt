@@ -65,6 +65,22 @@ pub enum CancelError {
     NoMemory,
 }
 
+/// Why a variable isn't declared after the first command.
+#[derive(Clone, Copy, Debug, PartialEq, Eq, Error)]
+pub enum LateDeclareError {
+    #[error("the name is declared already")]
+    Twice,
+    /// The type has more than 8 `TVar`, or the value isn't of it: a reference must be to a variable that has a name.
+    #[error("the value is not of the type")]
+    TypeOfValue,
+    #[error("the history is full")]
+    HistoryFull,
+    #[error("the store is full")]
+    CellsFull,
+    #[error("out of memory")]
+    NoMemory,
+}
+
 impl From<AllocError> for SubmitError {
     ghost use Rattle.std.specs.Prelude.{◌≡◌};
     ghost use Rattle.stm_events.specs.declared.errors.SubmitError.{SubmitError};
@@ -95,5 +111,16 @@ impl From<AllocError> for CancelError {
 
     fn from(_refusal: AllocError) -> CancelError {
         CancelError::NoMemory
+    }
+}
+
+impl From<AllocError> for LateDeclareError {
+    ghost use Rattle.std.specs.Prelude.{◌≡◌};
+    ghost use Rattle.stm_events.specs.declared.errors.LateDeclareError.{LateDeclareError};
+
+    ghost from_gives = { λ _ e. e ≡ LateDeclareError.NoMemory };
+
+    fn from(_refusal: AllocError) -> LateDeclareError {
+        LateDeclareError::NoMemory
     }
 }

@@ -4,6 +4,7 @@
 ghost use Rattle.stm_events.specs.declared.staleness.StalenessRule.{StalenessRule as AnyRule};
 ghost use Rattle.stm_events.specs.Headline.{Headline, HeadlineBy};
 ghost use Rattle.stm_events.specs.HeadlineFrom.{HeadlineFrom};
+ghost use Rattle.stm_events.specs.Declaring.{DeclarationsChangeNothing, NamesStay};
 ghost use Rattle.stm_events.specs.Ready.{ReadyFinishesNext};
 ghost use Rattle.stm_events.specs.Rounds.{SettlingIsRounds};
 ghost use Rattle.stm_events.specs.SlowDrain.{DrainsAsSettling};
@@ -128,4 +129,14 @@ pub fn observed_answer_alike()
 /// The headline over a history that begins from any state that events may go on from.
 pub fn headline_from()
     ensures { HeadlineFrom }
+{}
+
+/// A variable that is declared makes no block stale and changes no verdict.
+pub fn declarations_change_nothing()
+    ensures { DeclarationsChangeNothing }
+{}
+
+/// A name keeps its number, and a text that the check accepts stays the same block, over every event.
+pub fn names_stay()
+    ensures { NamesStay }
 {}

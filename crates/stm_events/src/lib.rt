@@ -13,14 +13,16 @@ pub mod errors;
 pub mod event;
 pub mod laws;
 pub mod same;
+pub mod shared_name;
 pub mod shared_verdict;
 pub mod staleness;
 pub mod status;
 pub mod tickets;
 
 pub use delivery::Delivery;
-pub use errors::{CancelError, DeliverError, FinishError, SubmitError};
+pub use errors::{CancelError, DeliverError, FinishError, LateDeclareError, SubmitError};
 pub use event::{Event, What};
+pub use shared_name::SharedName;
 pub use shared_verdict::SharedVerdict;
 pub use staleness::StalenessRule;
 pub use status::Status;

@@ -67,6 +67,14 @@ fn same_what(one: &What, other: &What) -> bool
                 ticket: other_ticket,
             },
         ) => *ticket == *other_ticket,
+        (
+            What::Declared { name, kind, value },
+            What::Declared {
+                name: other_name,
+                kind: other_kind,
+                value: other_value,
+            },
+        ) => *kind == *other_kind && *value == *other_value && name.same(other_name),
         _ => false,
     }
 }
