@@ -176,13 +176,14 @@ blocks_ready bs ts pending k r ready due = λ t.
     ∙ ap (λ (o : Option Waiting). kept_ends o && not (holds_of is_due_block (find_block t bs))) (sym (kept_found t bs))
     ∙ ap (λ (b : Bool). kept_ends (kept_at t (map entry_of bs)) && not b) (sym (due t ∙ has_found is_due_block t k bs r))
 
-pub stands_at : (c : CheckpointView) (m : Parts) → IsCheckpoint c → m.rule ≡ Changed → m.store ≡ c.store → m.next ≡ c.next → m.entries ≡ map entry_of c.blocks
+pub stands_at : (c : CheckpointView) (m : Parts) → IsCheckpoint c → m.rule ≡ Changed → m.store ≡ c.store → m.names ≡ c.names → m.next ≡ c.next → m.entries ≡ map entry_of c.blocks
     → ((t : ℕ) → has_ticket t m.pending ≡ has_block is_due_block t c.blocks) → ((v t : ℕ) → has_pair m.watch v t ≡ has_block (watches_variable v) t c.blocks) → IsAt m (checkpoint_state c)
-stands_at c m k rule store next entries due watch = record {
+stands_at c m k rule store names next entries due watch = record {
   possible = is_possible c k;
   stands = record {
     rule_is = rule;
     store_is = store;
+    names_are = names;
     next_is = next;
     entries_are = subst (λ (es : List (ℕ × Waiting)). AreDue es (map (waiter_of c.store) c.blocks)) (sym entries) (entries_due c.store c.next 0 c.blocks k.blocks);
     queue = λ t. due t ∙ due_of_blocks c.store c.next t c.blocks k.blocks;

@@ -79,6 +79,7 @@ is_possible c k = record {
   begun = k.begun;
   rising = waiters_rise c.store c.next 0 c.blocks k.blocks;
   few = let l = length-map c.blocks (waiter_of c.store) in let f = k.few in omega arith;
+  named = k.named;
   covered = waiters_covered c.store c.next 0 c.blocks k.blocks;
   unwoken = waiters_unwoken c.store c.next 0 c.blocks k.blocks;
   evaluated = waiters_evaluated c.store c.next 0 c.blocks k.blocks;
@@ -222,6 +223,7 @@ checkpoints_are_unseen s possible typed rule low store =
         begun = possible.begun;
         tickets = low;
         store = store;
+        named = possible.named;
         few = let l = length-map s.waiters block_of_waiter in let f = possible.few in omega arith;
         blocks = blocks;
       },

@@ -5,6 +5,7 @@ use Rattle.std.proofs.lemmas.Bool.Decides.{nat_tests}
 use Rattle.std.proofs.lemmas.List.{map-append}
 use Rattle.stm_store.specs.declared.cell.Cell.{Cell}
 use Rattle.stm_store.specs.Cells.{plains, IsStore}
+use Rattle.stm_store.specs.Naming.{Named}
 use Rattle.stm_check.specs.TypedBlock.{Block}
 use Rattle.stm_queue.specs.Queue.{Entry, has_ticket}
 use Rattle.stm_queue.proofs.Merging.{itself}
@@ -75,20 +76,20 @@ entries_rise n k (e ∷ es) (w ∷ ws) d r = (rw d.0.ticket r.0, rw d.0.ticket (
 pub kept_rise : (m : Parts) (s : Slow) → IsAt m s → EntriesRise 0 m.entries
 kept_rise m s k = entries_rise s.next 0 m.entries s.waiters k.stands.entries_are (rising_at m s k)
 
-taken : (m : Parts) (s : Slow) → IsAt m s → (let c : CheckpointView = record { store = m.store; next = m.next; blocks = map (block_of m.pending) m.entries } in c) ≡ checkpoint_of s
+taken : (m : Parts) (s : Slow) → IsAt m s → (let c : CheckpointView = record { store = m.store; names = m.names; next = m.next; blocks = map (block_of m.pending) m.entries } in c) ≡ checkpoint_of s
 unfolding checkpoint_of
 taken m s k =
     let same = blocks_are m.pending s.next 0 m.entries s.waiters k.stands.entries_are (rising_at m s k) (λ t l. k.stands.queue t) in
-    rw (k.stands.store_is, k.stands.next_is, same) refl
+    rw (k.stands.store_is, k.stands.names_are, k.stands.next_is, same) refl
 
-pub taken_of : (m : Parts) (s : Slow) (store : List Cell) (blocks : List CheckpointBlock) → IsAt m s → store ≡ m.store → blocks ≡ map (block_of m.pending) m.entries
-    → (let c : CheckpointView = record { store = store; next = m.next; blocks = blocks } in c) ≡ checkpoint_of s
-taken_of m s store blocks k e f = rw (e, f) (taken m s k)
+pub taken_of : (m : Parts) (s : Slow) (store : List Cell) (names : List Named) (blocks : List CheckpointBlock) → IsAt m s → store ≡ m.store → names ≡ m.names → blocks ≡ map (block_of m.pending) m.entries
+    → (let c : CheckpointView = record { store = store; names = names; next = m.next; blocks = blocks } in c) ≡ checkpoint_of s
+taken_of m s store names blocks k e n f = rw (e, n, f) (taken m s k)
 
-pub taken_right : (m : Parts) (s : Slow) (store : List Cell) (blocks : List CheckpointBlock) → IsAt m s → IsTypedState s → s.rule ≡ Changed → m.next ≤ max_next → IsStore (plains m.store)
-    → store ≡ m.store → blocks ≡ map (block_of m.pending) m.entries → IsCheckpoint (record { store = store; next = m.next; blocks = blocks })
-taken_right m s store blocks k typed rule low is_store e f =
-    subst IsCheckpoint (sym (taken_of m s store blocks k e f))
+pub taken_right : (m : Parts) (s : Slow) (store : List Cell) (names : List Named) (blocks : List CheckpointBlock) → IsAt m s → IsTypedState s → s.rule ≡ Changed → m.next ≤ max_next → IsStore (plains m.store)
+    → store ≡ m.store → names ≡ m.names → blocks ≡ map (block_of m.pending) m.entries → IsCheckpoint (record { store = store; names = names; next = m.next; blocks = blocks })
+taken_right m s store names blocks k typed rule low is_store e n f =
+    subst IsCheckpoint (sym (taken_of m s store names blocks k e n f))
     (checkpoints_are_unseen s k.possible typed rule (subst (λ (n : ℕ). n ≤ max_next) k.stands.next_is low) (subst (λ (z : List Cell). IsStore (plains z)) k.stands.store_is is_store)).0
 
 -- ---- one after another

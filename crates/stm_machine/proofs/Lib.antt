@@ -12,6 +12,7 @@ pub mod BlocksInTurn
 pub mod Calls
 pub mod CheckpointStates
 pub mod CheckpointTaken
+pub mod Declaring
 pub mod Delivery
 pub mod Finishing
 pub mod Heads

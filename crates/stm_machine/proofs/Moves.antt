@@ -38,6 +38,7 @@ stands_submit s m b r k =
     record {
       rule_is = k.rule_is;
       store_is = k.store_is;
+      names_are = k.names_are;
       next_is = ap (λ n. n + 1) k.next_is;
       entries_are = due_push m.entries s.waiters next b k.entries_are;
       queue = λ u. has_with u (next, false) m.pending ∙ queue_push (nat_eq u next) (has_ticket u m.pending) next b (find_waiter u s.waiters) (k.queue u) ∙ sym (ap due_of (there u));
@@ -55,6 +56,7 @@ stands_install s m watch' t w h k f n holds q =
     record {
       rule_is = k.rule_is;
       store_is = k.store_is;
+      names_are = k.names_are;
       next_is = k.next_is;
       entries_are = due_held t h s.store m.entries s.waiters w k.entries_are f holds;
       queue = λ u. has_without u t m.pending ∙ queue_delivered (nat_eq u t) (has_ticket u m.pending) s.store (find_waiter u s.waiters) (k.queue u) ∙ sym (ap due_of (there u));
@@ -85,6 +87,7 @@ stands_cancel s m watch' t r k q =
     record {
       rule_is = k.rule_is;
       store_is = k.store_is;
+      names_are = k.names_are;
       next_is = k.next_is;
       entries_are = due_lose t m.entries s.waiters k.entries_are;
       queue = λ u. has_without u t m.pending ∙ queue_gone (nat_eq u t) (has_ticket u m.pending) (find_waiter u s.waiters) (k.queue u) ∙ sym (ap due_of (there u));
@@ -116,6 +119,7 @@ stands_finish s m store' watch' t w v n stale r k f c listed store_is q =
     record {
       rule_is = k.rule_is;
       store_is = store_is ∙ ap (λ (x : List Cell). applied x v) k.store_is;
+      names_are = k.names_are;
       next_is = k.next_is;
       entries_are = due_marks W (lose t m.entries) ws (due_lose t m.entries s.waiters k.entries_are);
       queue = λ u.

@@ -70,6 +70,7 @@ may_add c b k p one = record {
   begun = k.begun;
   tickets = k.tickets;
   store = k.store;
+  named = k.named;
   few = let l = length-append c.blocks (b ∷ []) in let f = p.few in omega arith;
   blocks = blocks_push c.store c.next 0 c.blocks b k.blocks p.above p.below one;
 }

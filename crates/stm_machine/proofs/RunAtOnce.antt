@@ -153,6 +153,7 @@ stands_run s m store' watch' v stale at listed store_is q =
     record {
       rule_is = k.rule_is;
       store_is = store_is ∙ ap (λ (x : List Cell). applied x v) k.store_is;
+      names_are = k.names_are;
       next_is = ap (λ n. n + 1) k.next_is;
       entries_are = due_marks W m.entries s.waiters k.entries_are;
       queue = λ u.

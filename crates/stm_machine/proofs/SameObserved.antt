@@ -124,6 +124,7 @@ same_observed_at m s s' k p e =
       stands = record {
         rule_is = k.stands.rule_is ∙ ap (λ o. o.rule) e;
         store_is = k.stands.store_is ∙ ap (λ o. o.store) e;
+        names_are = k.stands.names_are ∙ ap (λ o. o.names) e;
         next_is = k.stands.next_is ∙ ap (λ o. o.next) e;
         entries_are = due_alike m.entries s.waiters s'.waiters waiters k.stands.entries_are;
         queue = λ t. k.stands.queue t ∙ is_due_seen (find_waiter t s.waiters) ∙ ap due_seen (found_alike t s.waiters s'.waiters waiters) ∙ sym (is_due_seen (find_waiter t s'.waiters));

@@ -44,6 +44,7 @@ requeued m s ps same k = record {
   stands = record {
     rule_is = k.stands.rule_is;
     store_is = k.stands.store_is;
+    names_are = k.stands.names_are;
     next_is = k.stands.next_is;
     entries_are = k.stands.entries_are;
     queue = λ u. same u ∙ k.stands.queue u;

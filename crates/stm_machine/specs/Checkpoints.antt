@@ -8,6 +8,7 @@ use Rattle.stm_terms.specs.declared.verdicts.Verdict.TheVariants.{Commits}
 use Rattle.stm_terms.specs.ReadSet.{reads_of}
 use Rattle.stm_store.specs.declared.cell.Cell.{Cell}
 use Rattle.stm_store.specs.Cells.{plains, Covers, Fits, IsStore, applied}
+use Rattle.stm_store.specs.Naming.{Named, named_uses}
 use Rattle.stm_store.specs.Tables.{Declared, opened}
 use Rattle.stm_check.specs.TypedBlock.{Block}
 use Rattle.stm_eval.specs.Messages.{Holds}
@@ -21,9 +22,10 @@ use Rattle.stm_events.specs.States.{IsPossible, IsTypedState, observed}
 use Rattle.stm_machine.specs.declared.checkpoint.CheckpointBlock.{CheckpointBlock}
 use Rattle.stm_waiting.specs.declared.waiting.Held.{Held}
 
--- the store, the next ticket, and the waiting blocks, in ascending order of their tickets
+-- the store, the names of its variables, the next ticket, and the waiting blocks, in ascending order of their tickets
 pub record CheckpointView : Type 0 where
   pub store : List Cell
+  pub names : List Named
   pub next : ℕ
   pub blocks : List CheckpointBlock
 
@@ -60,7 +62,7 @@ waiter_of store b =
 
 -- the state of a checkpoint, by the present rule
 abbrev pub checkpoint_state : CheckpointView → Slow
-checkpoint_state c = record { rule = Changed; store = c.store; next = c.next; waiters = map (waiter_of c.store) c.blocks }
+checkpoint_state c = record { rule = Changed; store = c.store; names = c.names; next = c.next; waiters = map (waiter_of c.store) c.blocks }
 
 -- ---- what makes it one
 -- the last delivery is right: on a store with what the block read it has this verdict and reads just this; what isn't stale is
@@ -94,6 +96,7 @@ pub record IsCheckpoint (c : CheckpointView) : Type 0 where
   pub begun : 0 < c.next
   pub tickets : c.next ≤ max_next
   pub store : IsStore (plains c.store)
+  pub named : Covers (plains c.store) (named_uses c.names)
   pub few : length c.blocks ≤ max_waiting
   pub blocks : AreCheckpointBlocks c.store c.next 0 c.blocks
 
@@ -124,7 +127,7 @@ block_of_waiter w =
 
 -- of a state
 unfoldable pub checkpoint_of : Slow → CheckpointView
-checkpoint_of s = record { store = s.store; next = s.next; blocks = map block_of_waiter s.waiters }
+checkpoint_of s = record { store = s.store; names = s.names; next = s.next; blocks = map block_of_waiter s.waiters }
 
 -- it is a checkpoint, and from its state the same is observed, so that nobody can tell the two apart
 abbrev pub CheckpointsAreUnseen : Type 0

@@ -1,6 +1,7 @@
 -- What a machine holds, and the state of the slow desk that it is at.
 use Rattle.std.specs.Prelude.{◌≡◌, ℕ, Bool, false, ◌<◌, List, None, Some}
 use Rattle.stm_store.specs.declared.cell.Cell.{Cell}
+use Rattle.stm_store.specs.Naming.{Named}
 use Rattle.stm_eval.specs.declared.message.Evaluated.{Evaluated}
 use Rattle.stm_eval.specs.EvaluatedFields.{message_ticket, message_block, message_reads}
 use Rattle.stm_watch.specs.Pairs.{Pairs, has_pair}
@@ -14,10 +15,12 @@ use Rattle.stm_waiting.specs.declared.waiting.Waiting.{Waiting}
 use Rattle.stm_machine.specs.Entries.{AreDue}
 use Rattle.stm_machine.specs.QueueAndIndex.{AreQueued, watches_of}
 
--- the rule, the store, the next ticket, the waiting blocks by their tickets, the tickets that are queued or out, and the index
+-- the rule, the store, the names of variables, the next ticket, the waiting blocks by their tickets, the tickets that are queued or out,
+-- and the index
 pub record Parts : Type 0 where
   pub rule : StalenessRule
   pub store : List Cell
+  pub names : List Named
   pub next : ℕ
   pub entries : List (ℕ × Waiting)
   pub pending : List (ℕ × Bool)
@@ -31,6 +34,7 @@ AreWatched watch ws = (v t : ℕ) → has_pair watch v t ≡ watches_of (find_wa
 pub record Stands (s : Slow) (m : Parts) : Type 0 where
   pub rule_is : m.rule ≡ s.rule
   pub store_is : m.store ≡ s.store
+  pub names_are : m.names ≡ s.names
   pub next_is : m.next ≡ s.next
   pub entries_are : AreDue m.entries s.waiters
   pub queue : AreQueued m.pending s.waiters

@@ -1,7 +1,8 @@
 //! Checkpoints: states that a history may begin from.
 
 ghost use Rattle.std.specs.Prelude.{◌≡◌, ◌≢◌, ℕ, ◌<◌, ◌≤◌, ◌++◌, ◌∷◌, [], false, true, IfOk, OnOk, OnErr, IsErrOf, IsTrue, ◌↔◌};
-ghost use Rattle.stm_store.specs.Cells.{plains, StoreIsTyped};
+ghost use Rattle.stm_store.specs.Cells.{plains, Covers, StoreIsTyped};
+ghost use Rattle.stm_store.specs.Naming.{named_uses};
 ghost use Rattle.stm_events.specs.SlowDesk.{Slow};
 ghost use Rattle.stm_events.specs.States.{IsTypedState};
 ghost use Rattle.stm_events.specs.declared.staleness.StalenessRule.{StalenessRule as AnyRule};
@@ -18,7 +19,7 @@ use std::marker::Model;
 use stm_check::SharedBlock;
 use stm_events::delivery::Delivery;
 use stm_events::staleness::StalenessRule;
-use stm_store::Store;
+use stm_store::{Names, Store};
 use stm_terms::NoMemory;
 use stm_waiting::Waiting;
 use thiserror::Error;
@@ -37,6 +38,7 @@ pub struct CheckpointBlock {
 #[derive(Drop)]
 pub struct Checkpoint {
     pub(crate) store: Store,
+    pub(crate) names: Names,
     pub(crate) next: u32,
     pub(crate) blocks: Vec<CheckpointBlock>,
 }
@@ -50,9 +52,9 @@ impl Model for Checkpoint {
 
     ghost coded = { Prim.hlevel (codes, act_code) };
 
-    ghost view = { λ c. record { store = c.store; next = c.next; blocks = c.blocks.items } };
+    ghost view = { λ c. record { store = c.store; names = c.names; next = c.next; blocks = c.blocks.items } };
 
-    ghost invariant = { λ c. IsCheckpoint (record { store = c.store; next = c.next; blocks = c.blocks.items }) };
+    ghost invariant = { λ c. IsCheckpoint (record { store = c.store; names = c.names; next = c.next; blocks = c.blocks.items }) };
 }
 
 /// Why a state can't be a checkpoint, or a block not be one of a checkpoint's.
@@ -122,15 +124,18 @@ impl Checkpoint {
     /// The greatest next ticket of a checkpoint.
     pub const MAX_NEXT: u32 = 4_293_918_719;
 
-    /// A checkpoint with this store and this next ticket, in which no block waits. The next ticket is 1 to `MAX_NEXT`.
-    pub fn new(alloc: Global, store: Store, next: u32) -> Checkpoint
-        requires { (0 < next) × (next ≤ max_next) }
-        ensures { result ≡ record { store = store; next = next; blocks = [] } }
+    /// A checkpoint with this store, these names of its variables and this next ticket, in which no block waits. The next ticket is 1
+    /// to `MAX_NEXT`.
+    pub fn new(alloc: Global, store: Store, names: Names, next: u32) -> Checkpoint
+        requires tickets { (0 < next) × (next ≤ max_next) }
+        requires named { Covers (plains store) (named_uses names) }
+        ensures { result ≡ record { store = store; names = names; next = next; blocks = [] } }
     {
         // The cells are known to be well typed by this.
         let _cells = store.len();
         Checkpoint {
             store,
+            names,
             next,
             blocks: Vec::new(alloc),
         }
@@ -196,6 +201,13 @@ impl Checkpoint {
         &self.store
     }
 
+    /// The names of variables.
+    pub fn names(&self) -> &Names
+        ensures { result.now ≡ self.now.names }
+    {
+        &self.names
+    }
+
     /// The next ticket.
     pub fn next(&self) -> u32
         ensures next { result ≡ self.now.next }
@@ -229,6 +241,7 @@ impl Machine {
         let _cells = self.store.len();
         Ok(Checkpoint {
             store: self.store.share()?,
+            names: self.names.copy(alloc)?,
             next: self.next,
             blocks: waiting_blocks(alloc, &self.waiting, &self.pending)?,
         })
@@ -245,6 +258,7 @@ impl Machine {
             alloc,
             rule: StalenessRule::Changed,
             store: checkpoint.store.share()?,
+            names: checkpoint.names.copy(alloc)?,
             next: checkpoint.next,
             waiting: entries(alloc, blocks)?,
             pending: due_tickets(alloc, blocks)?,

@@ -7,6 +7,7 @@
 pub mod atomic;
 pub mod cancel;
 pub mod checkpoint;
+pub mod declare;
 pub mod deliver;
 pub mod evaluation;
 pub mod finish;

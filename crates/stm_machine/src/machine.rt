@@ -8,18 +8,19 @@ use std::alloc::Global;
 use std::marker::Model;
 use stm_events::staleness::StalenessRule;
 use stm_queue::Pending;
-use stm_store::{Store, Table};
+use stm_store::{Names, Store, Table};
 use stm_terms::NoMemory;
 use stm_waiting::{TicketSet, WaitingBlocks};
 use stm_watch::Watch;
 
-/// A state of the slow desk: its rule, its store, the next ticket, the waiting blocks with what their last deliveries brought,
-/// the tickets that are queued or out, which tickets watch which variables, and which blocks could finish now. It keeps no
-/// events.
+/// A state of the slow desk: its rule, its store, the names of variables, the next ticket, the waiting blocks with what their last
+/// deliveries brought, the tickets that are queued or out, which tickets watch which variables, and which blocks could finish now. It
+/// keeps no events.
 pub struct Machine {
     pub(crate) alloc: Global,
     pub(crate) rule: StalenessRule,
     pub(crate) store: Store,
+    pub(crate) names: Names,
     pub(crate) next: u32,
     pub(crate) waiting: WaitingBlocks,
     pub(crate) pending: Pending,
@@ -35,6 +36,7 @@ impl Drop for Machine {
             alloc: _,
             rule: _,
             store: _,
+            names: _,
             next: _,
             waiting: _,
             pending: _,
@@ -58,6 +60,7 @@ impl Model for Machine {
     ghost view = { λ m. record {
       rule = m.rule;
       store = m.store;
+      names = m.names;
       next = m.next;
       entries = m.waiting;
       pending = m.pending.entries;
@@ -80,6 +83,7 @@ impl Machine {
             alloc,
             rule,
             store: Store::open(alloc, table)?,
+            names: Names::of_table(alloc, table)?,
             next: 1,
             waiting: WaitingBlocks::empty(alloc),
             pending: Pending::empty(alloc),

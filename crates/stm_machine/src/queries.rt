@@ -15,7 +15,7 @@ ghost use Rattle.stm_machine.specs.JobsHandedOut.{block_at};
 use crate::machine::Machine;
 use stm_check::SharedBlock;
 use stm_events::status::Status;
-use stm_store::Store;
+use stm_store::{Names, Store};
 use stm_terms::values::Value;
 
 impl Machine {
@@ -76,6 +76,13 @@ impl Machine {
         ensures store { (s : Slow) → IsAt self.now s → result.now ≡ s.store }
     {
         &self.store
+    }
+
+    /// The names of variables.
+    pub fn names(&self) -> &Names
+        ensures { (s : Slow) → IsAt self.now s → result.now ≡ s.names }
+    {
+        &self.names
     }
 
     /// How many blocks wait. The other clauses say what holds of every queue.

@@ -19,7 +19,7 @@ pub returns-then-not-covers-clause-refused : goal.returns-then-not-covers-clause
 returns-then-not-covers-clause-refused c = λ e m.
     let i = c.self.inside in
     let b : CheckpointBlock = checkpoint_block c.args.ticket c.args.block c.args.delivery in
-    let v : CheckpointView = record { store = i.store; next = i.next; blocks = i.blocks.items } in
+    let v : CheckpointView = record { store = i.store; names = i.names; next = i.next; blocks = i.blocks.items } in
     let covered : Covers (plains i.store) c.args.block.uses = (is_block v b (subst (λ (x : CheckpointView). MayAdd x b) (sym c.self.view_is) m)).covered in
     let covers = c.covers.ensures.1 (subst (λ (us : List (ℕ × Ty)). Covers (plains i.store) us) (sym (c.uses.ensures ∙ ap (λ (x : Block). x.uses) c.block-2.ensures)) covered) in
     cc (covers, c.if-not-covers.true)
@@ -28,7 +28,7 @@ pub returns-clause-may : goal.returns-clause-may
 returns-clause-may c =
     let i = c.self.inside in
     let b : CheckpointBlock = checkpoint_block c.args.ticket c.args.block c.args.delivery in
-    let v : CheckpointView = record { store = i.store; next = i.next; blocks = i.blocks.items } in
+    let v : CheckpointView = record { store = i.store; names = i.names; next = i.next; blocks = i.blocks.items } in
     let place : HasPlace v c.args.ticket = subst (λ (x : CheckpointView). HasPlace x c.args.ticket) (sym c.self.view_is) (c.has_place.ensures.0 c.if-not-has_place.false) in
     let covered : Covers (plains i.store) c.args.block.uses =
     subst (λ (us : List (ℕ × Ty)). Covers (plains i.store) us) (c.uses.ensures ∙ ap (λ (x : Block). x.uses) c.block-2.ensures) (c.covers.ensures.0 c.if-not-covers.false) in
@@ -41,5 +41,5 @@ pub returns-clause-refused : goal.returns-clause-refused
 returns-clause-refused c = λ e m.
     let i = c.self.inside in
     let b : CheckpointBlock = checkpoint_block c.args.ticket c.args.block c.args.delivery in
-    let v : CheckpointView = record { store = i.store; next = i.next; blocks = i.blocks.items } in
+    let v : CheckpointView = record { store = i.store; names = i.names; next = i.next; blocks = i.blocks.items } in
     c.last_delivery.ensures.refused e (is_block v b (subst (λ (x : CheckpointView). MayAdd x b) (sym c.self.view_is) m)).delivery

@@ -36,8 +36,8 @@ invariant_of-result c =
 pub returns-clause-at : goal.returns-clause-at
 returns-clause-at c =
     let i = c.checkpoint.inside in
-    let m : Parts = record { rule = Changed; store = c.in_ok-share.field-0; next = i.next; entries = c.in_ok-entries.field-0; pending = c.in_ok-due_tickets.field-0.entries; watch = c.in_ok-read_variables.field-0 } in
+    let m : Parts = record { rule = Changed; store = c.in_ok-share.field-0; names = c.in_ok-copy.field-0; next = i.next; entries = c.in_ok-entries.field-0; pending = c.in_ok-due_tickets.field-0.entries; watch = c.in_ok-read_variables.field-0 } in
     subst (λ (v : CheckpointView). IsAt m (checkpoint_state v)) c.checkpoint.view_is
-    (stands_at (record { store = i.store; next = i.next; blocks = i.blocks.items }) m c.checkpoint.invariant refl c.in_ok-share.ensures refl (c.in_ok-entries.ensures ∙ ap (map entry_of) c.as_slice-blocks.ensures.value)
+    (stands_at (record { store = i.store; names = i.names; next = i.next; blocks = i.blocks.items }) m c.checkpoint.invariant refl c.in_ok-share.ensures c.in_ok-copy.ensures refl (c.in_ok-entries.ensures ∙ ap (map entry_of) c.as_slice-blocks.ensures.value)
     (λ t. c.in_ok-due_tickets.ensures.due t ∙ ap (has_block is_due_block t) c.as_slice-blocks.ensures.value)
     (λ v t. c.in_ok-read_variables.ensures v t ∙ ap (has_block (watches_variable v) t) c.as_slice-blocks.ensures.value))

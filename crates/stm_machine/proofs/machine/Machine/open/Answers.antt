@@ -10,6 +10,7 @@ returns-clause-at c = record {
   stands = rw (c.in_ok-open.ensures, c.empty.ensures, c.empty-2.ensures, c.empty-3.ensures) (record {
     rule_is = refl;
     store_is = refl;
+    names_are = c.in_ok-of_table.ensures;
     next_is = refl;
     entries_are = tt;
     queue = λ t. refl;
