@@ -4,6 +4,7 @@ use Rattle.std.specs.Prelude.{nat_eq, is_some, IsSomeAnd}
 use Rattle.std.specs.List.{list_any}
 use Rattle.std.proofs.lemmas.Bool.Decides.{nat_tests}
 use Rattle.std.proofs.lemmas.List.Folds.{list_any-append}
+use Rattle.stm_terms.specs.declared.kinds.Ty.{Ty}
 use Rattle.stm_terms.specs.declared.values.Value.{Value}
 use Rattle.stm_terms.specs.declared.verdicts.Verdict.{Verdict}
 use Rattle.stm_terms.specs.declared.verdicts.Verdict.TheVariants.{Commits, Throws, Blocks}
@@ -19,16 +20,17 @@ use Rattle.stm_eval.specs.Laws.{In}
 use Rattle.stm_eval.proofs.FragmentsAndStores.{looked}
 use Rattle.stm_events.specs.declared.event.Event.{Event}
 use Rattle.stm_events.specs.declared.event.What.{What}
-use Rattle.stm_events.specs.declared.event.What.TheVariants.{Submitted, Installed, Finished, Cancelled}
-use Rattle.stm_events.specs.declared.staleness.StalenessRule.TheVariants.{Changed}
+use Rattle.stm_events.specs.declared.event.What.TheVariants.{Submitted, Installed, Finished, Cancelled, Declared as DeclaredLate}
+use Rattle.stm_events.specs.declared.staleness.StalenessRule.TheVariants.{Written, Changed}
 use Rattle.stm_events.specs.Headline.{is_installed, waking_at, waking_from}
 use Rattle.stm_events.specs.Laws.{SubmittedAreWellTyped}
-use Rattle.stm_events.specs.SlowDesk.{Since, Waiter, Slow, MayFinish, Allows, under, verdict_on, looked_on, intersects, is_stale_since, is_new_since, current_since, find_waiter, after, state_from, LegalFrom}
+use Rattle.stm_events.specs.SlowDesk.{Since, Waiter, Slow, declaration, MayFinish, Allows, under, verdict_on, looked_on, intersects, is_stale_since, is_new_since, current_since, find_waiter, after, state_from, LegalFrom}
 use Rattle.stm_events.specs.States.{HadVerdict, IsPossible, IsTypedState}
 use Rattle.stm_events.proofs.Alike.{meets-append}
 use Rattle.stm_events.proofs.Folds.{after-rule, state-rule}
 use Rattle.stm_events.proofs.Fresh.{still_holds}
 use Rattle.stm_events.proofs.Possible.{possible_after, had_waiter, some_verdict}
+use Rattle.stm_events.proofs.Stores.{value_stays}
 use Rattle.stm_events.proofs.SinceFrom.{IsSinceFrom, IsSinceBefore}
 use Rattle.stm_events.proofs.TypedStores.{typed_after, typed_verdict}
 use Rattle.stm_desk.specs.declared.reason.Change.{Change}
@@ -49,6 +51,7 @@ FitsHere s (Submitted t block) = Unit {0}
 FitsHere s (Installed t v) = Unit {0}
 FitsHere s (Finished t v n stale) = IsFinish s v n
 FitsHere s (Cancelled t) = Unit {0}
+FitsHere s (DeclaredLate name kind value) = Unit {0}
 
 abbrev FitFrom : Slow → List Event → Type 0
 FitFrom s [] = Unit {0}
@@ -66,6 +69,7 @@ fits_here s (Submitted t block) possible typed a = tt
 fits_here s (Installed t v) possible typed a = tt
 fits_here s (Finished t v n l) possible typed a = finish_fits s t v n l (find_waiter t s.waiters) possible typed refl a
 fits_here s (Cancelled t) possible typed a = tt
+fits_here s (DeclaredLate name kind value) possible typed a = tt
 
 fit_from : (s : Slow) (es : List Event) → IsPossible s → IsTypedState s → LegalFrom s es → SubmittedAreWellTyped es → FitFrom s es
 fit_from s [] possible state legal typed = tt
@@ -95,6 +99,7 @@ writable_what s (Submitted t block) f = tt
 writable_what s (Installed t v) f = tt
 writable_what s (Finished t v n l) f = writable_by s v n f
 writable_what s (Cancelled t) f = tt
+writable_what s (DeclaredLate name kind value) f = tt
 
 writable_from : (s : Slow) (es : List Event) → FitFrom s es → EachIsWritable es
 writable_from s [] f = tt
@@ -102,6 +107,11 @@ writable_from s (e ∷ es) f = (writable_what s e.what f.0, writable_from (after
 
 pub each_is_writable : (s : Slow) (history : List Event) → IsTypedHistory s history → EachIsWritable history
 each_is_writable s history k = writable_from s history (fit_all s history k)
+
+-- a declaration leaves what was read
+declared_read : (reads : List (ℕ × Value)) (store : List Cell) (kind : Ty) (value : Value) → AreRead reads (under store) → AreRead reads (under (applied store (declaration kind value)))
+declared_read [] store kind value h = tt
+declared_read (r ∷ rs) store kind value h = (value_stays Written store (declaration kind value) r.0 r.1 refl h.0, declared_read rs store kind value h.1)
 
 -- ---- the changes of an event are told by what it writes
 told_here : (reads : List (ℕ × Value)) (s : Slow) (what : What) → FitsHere s what → AreRead reads (under s.store)
@@ -113,6 +123,8 @@ told_here reads s (Finished t v n l) f h =
     let same : changes_from reads (left_by_verdict (length s.store) v) ≡ changes_from reads (left_by_verdict n v) = ap (λ (m : ℕ). changes_from reads (left_by_verdict m v)) (sym f.first_new) in
     (p.same ∙ same, λ e. p.stay (same ∙ e))
 told_here reads s (Cancelled t) f h = (unchanged reads (under s.store) h, λ e. h)
+told_here reads s (DeclaredLate name kind value) f h =
+    let there = declared_read reads s.store kind value h in (unchanged reads (under (applied s.store (declaration kind value))) there, λ e. there)
 
 cause_same : (t : ℕ) (cs ds : List Change) (f g : Option Cause) → cs ≡ ds → (ds ≡ [] → f ≡ g) → cause_or t cs f ≡ cause_or t ds g
 cause_same t cs [] f g e more = ap (λ (xs : List Change). cause_or t xs f) e ∙ more refl
@@ -139,6 +151,7 @@ not_woken s (Submitted t block) i x r f e g = refl
 not_woken s (Installed t v) i x r f e g = refl
 not_woken s (Finished t v n l) i x r f e g = rw r (unchanged_by (list_any (nat_eq i) (changed_by s.store v)) s.store v i x refl f.fits e g)
 not_woken s (Cancelled t) i x r f e g = refl
+not_woken s (DeclaredLate name kind value) i x r f e g = refl
 
 neither : (a b : Bool) → a ≡ false → b ≡ false → (a || b) ≡ false
 neither a b g h = rw (g, h) refl

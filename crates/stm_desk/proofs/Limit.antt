@@ -7,6 +7,8 @@ use Rattle.stm_store.specs.declared.cell.Cell.{Cell}
 use Rattle.stm_check.specs.TypedBlock.{Block}
 use Rattle.stm_events.specs.declared.errors.SubmitError.{SubmitError}
 use Rattle.stm_events.specs.declared.errors.SubmitError.TheVariants as submit
+use Rattle.stm_events.specs.declared.errors.LateDeclareError.{LateDeclareError}
+use Rattle.stm_events.specs.declared.errors.LateDeclareError.TheVariants as declare
 use Rattle.stm_events.specs.declared.errors.CancelError.{CancelError}
 use Rattle.stm_events.specs.declared.errors.CancelError.TheVariants as cancel
 use Rattle.stm_events.specs.declared.errors.DeliverError.{DeliverError}
@@ -14,9 +16,9 @@ use Rattle.stm_events.specs.declared.errors.DeliverError.TheVariants as deliver
 use Rattle.stm_events.specs.declared.errors.FinishError.{FinishError}
 use Rattle.stm_events.specs.declared.errors.FinishError.TheVariants as finish
 use Rattle.stm_events.specs.SlowDesk.{Waiter, under, is_new, is_current, verdict_on}
-use Rattle.stm_events.specs.Refusals.{submit_first, cancel_first, blocks_there, overflows, finish_first, differing, overtaken_first, DeliveryRefusedAt}
+use Rattle.stm_events.specs.Refusals.{submit_first, declare_first, cancel_first, blocks_there, overflows, finish_first, differing, overtaken_first, DeliveryRefusedAt}
 use Rattle.stm_machine.specs.declared.finish.Plan.{Plan}
-use Rattle.stm_desk.specs.Limit.{limited_submit, limited_cancel, limited_delivery, limited_plan}
+use Rattle.stm_desk.specs.Limit.{limited_submit, limited_declare, limited_cancel, limited_delivery, limited_plan}
 
 -- ---- submit
 foreign_stays : (full : Bool) (i : ℕ) → limited_submit full (Err (submit.Foreign i)) ≡ Err (submit.Foreign i)
@@ -48,6 +50,40 @@ submit_room true (Err (submit.Foreign i)) = tt
 submit_room true (Err submit.WaitingFull) = tt
 submit_room true (Err submit.HistoryFull) = tt
 submit_room true (Err submit.NoMemory) = tt
+
+-- ---- declare
+twice_stays : (full : Bool) → limited_declare full (Err declare.Twice) ≡ Err declare.Twice
+twice_stays true = refl
+twice_stays false = refl
+
+type_stays : (full : Bool) → limited_declare full (Err declare.TypeOfValue) ≡ Err declare.TypeOfValue
+type_stays true = refl
+type_stays false = refl
+
+declare_full : (room : Bool) (r : Result (Unit {0}) LateDeclareError) → RefusedAs declare.NoMemory (if room then None else Some declare.CellsFull) r → limited_declare true r ≡ Err declare.HistoryFull
+declare_full false r h = ap (limited_declare true) h
+declare_full true (Ok x) h = refl
+declare_full true (Err declare.Twice) h = cc
+declare_full true (Err declare.TypeOfValue) h = cc
+declare_full true (Err declare.HistoryFull) h = refl
+declare_full true (Err declare.CellsFull) h = refl
+declare_full true (Err declare.NoMemory) h = refl
+
+pub declare_limited : (taken holds full room : Bool) (r : Result (Unit {0}) LateDeclareError) → RefusedAs declare.NoMemory (declare_first taken holds false room) r → RefusedAs declare.NoMemory (declare_first taken holds full room) (limited_declare full r)
+declare_limited true holds full room r h = ap (limited_declare full) h ∙ twice_stays full
+declare_limited false false full room r h = ap (limited_declare full) h ∙ type_stays full
+declare_limited false true true room r h = declare_full room r h
+declare_limited false true false room r h = h
+
+pub declare_room : (full : Bool) (r : Result (Unit {0}) LateDeclareError) → OnOk (limited_declare full r) (full ≡ false)
+declare_room false (Ok x) = refl
+declare_room false (Err e) = tt
+declare_room true (Ok x) = tt
+declare_room true (Err declare.Twice) = tt
+declare_room true (Err declare.TypeOfValue) = tt
+declare_room true (Err declare.HistoryFull) = tt
+declare_room true (Err declare.CellsFull) = tt
+declare_room true (Err declare.NoMemory) = tt
 
 -- ---- cancel
 ticket_stays : (full : Bool) → limited_cancel full (Err cancel.NoTicket) ≡ Err cancel.NoTicket

@@ -4,7 +4,7 @@ use Rattle.stm_store.specs.Tables.{Declared}
 use Rattle.stm_queue.specs.Queue.{Entry, has_ticket, with_ticket, without_ticket}
 use Rattle.stm_events.specs.declared.event.Event.{Event}
 use Rattle.stm_events.specs.declared.event.What.{What}
-use Rattle.stm_events.specs.declared.event.What.TheVariants.{Submitted, Installed, Finished, Cancelled}
+use Rattle.stm_events.specs.declared.event.What.TheVariants.{Submitted, Installed, Finished, Cancelled, Declared as DeclaredLate}
 use Rattle.stm_events.specs.SlowDesk.{Slow, Waiter, Standing, standing, verdict_on, find_waiter, state_from}
 use Rattle.stm_events.specs.SlowSettle.{settling}
 use Rattle.stm_events.specs.Rounds.{a_round}
@@ -39,6 +39,7 @@ pending_after (Submitted t block) es = with_ticket t es
 pending_after (Installed t v) es = without_ticket t es
 pending_after (Finished t v n stale) es = with_tickets stale es
 pending_after (Cancelled t) es = without_ticket t es
+pending_after (DeclaredLate name kind value) es = es
 
 -- the desk after one event more, of this client
 abbrev pub with_event : DeskView → ℕ → What → DeskView

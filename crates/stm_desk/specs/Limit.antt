@@ -3,6 +3,8 @@
 use Rattle.std.specs.Prelude.{Bool, true, false, Result, Ok, Err}
 use Rattle.stm_events.specs.declared.errors.SubmitError.{SubmitError}
 use Rattle.stm_events.specs.declared.errors.SubmitError.TheVariants as submit
+use Rattle.stm_events.specs.declared.errors.LateDeclareError.{LateDeclareError}
+use Rattle.stm_events.specs.declared.errors.LateDeclareError.TheVariants as declare
 use Rattle.stm_events.specs.declared.errors.CancelError.{CancelError}
 use Rattle.stm_events.specs.declared.errors.CancelError.TheVariants as cancel
 use Rattle.stm_events.specs.declared.errors.DeliverError.{DeliverError}
@@ -18,6 +20,15 @@ limited_submit true (Err (submit.Foreign i)) = Err (submit.Foreign i)
 limited_submit true (Err submit.WaitingFull) = Err submit.WaitingFull
 limited_submit true (Err submit.HistoryFull) = Err submit.HistoryFull
 limited_submit true (Err submit.NoMemory) = Err submit.HistoryFull
+
+abbrev pub limited_declare : Bool → Result (Unit {0}) LateDeclareError → Result (Unit {0}) LateDeclareError
+limited_declare false answer = answer
+limited_declare true (Ok x) = Err declare.HistoryFull
+limited_declare true (Err declare.Twice) = Err declare.Twice
+limited_declare true (Err declare.TypeOfValue) = Err declare.TypeOfValue
+limited_declare true (Err declare.HistoryFull) = Err declare.HistoryFull
+limited_declare true (Err declare.CellsFull) = Err declare.HistoryFull
+limited_declare true (Err declare.NoMemory) = Err declare.HistoryFull
 
 abbrev pub limited_cancel : Bool → Result (Unit {0}) CancelError → Result (Unit {0}) CancelError
 limited_cancel false answer = answer

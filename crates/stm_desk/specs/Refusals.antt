@@ -1,5 +1,7 @@
 -- Why each call on a desk is refused: the first reason that holds. An out-of-memory error is reported only if none holds.
-use Rattle.std.specs.Prelude.{ℕ, Bool, false, if◌then◌else◌, nat_le, length, Option, Some, None, Result}
+use Rattle.std.specs.Prelude.{ℕ, Bool, false, if◌then◌else◌, nat_le, List, length, Option, Some, None, Result}
+use Rattle.stm_terms.specs.declared.kinds.Ty.{Ty}
+use Rattle.stm_terms.specs.declared.values.Value.{Value}
 use Rattle.stm_terms.specs.declared.verdicts.Verdict.{Verdict}
 use Rattle.stm_store.specs.Cells.{plains}
 use Rattle.stm_check.specs.TypedBlock.{Block}
@@ -7,10 +9,11 @@ use Rattle.stm_eval.specs.declared.message.Evaluated.{Evaluated}
 use Rattle.stm_eval.specs.EvaluatedFields.{message_ticket, message_block, message_reads}
 use Rattle.stm_events.specs.declared.errors.SubmitError.{SubmitError}
 use Rattle.stm_events.specs.declared.errors.CancelError.{CancelError}
+use Rattle.stm_events.specs.declared.errors.LateDeclareError.{LateDeclareError}
 use Rattle.stm_events.specs.declared.errors.DeliverError.{DeliverError}
 use Rattle.stm_events.specs.declared.errors.FinishError.{FinishError}
 use Rattle.stm_events.specs.SlowDesk.{Slow, verdict_on, max_waiting}
-use Rattle.stm_events.specs.Refusals.{missing, blocks_there, overflows, submit_refused, cancel_refused, finish_refused, DeliveryRefusedAs, pending_left}
+use Rattle.stm_events.specs.Refusals.{missing, blocks_there, overflows, submit_refused, late_declare_refused, cancel_refused, finish_refused, DeliveryRefusedAs, pending_left}
 use Rattle.stm_desk.specs.declared.errors.AtomicError.{AtomicError}
 use Rattle.stm_desk.specs.declared.errors.AtomicError.TheVariants as atomic
 use Rattle.stm_desk.specs.DeskView.{DeskView, state_of, is_full, lacks_room}
@@ -18,6 +21,10 @@ use Rattle.stm_desk.specs.DeskView.{DeskView, state_of, is_full, lacks_room}
 -- why a block can't be submitted, if it can't
 abbrev pub submit_refusal : DeskView → Block → Option SubmitError
 submit_refusal d block = submit_refused (state_of d) (is_full d) block
+
+-- why a variable can't be declared, if it can't; the caller knows that the name is one
+abbrev pub declare_refusal : DeskView → List ℕ → Ty → Value → Option LateDeclareError
+declare_refusal d name kind value = late_declare_refused (state_of d) (is_full d) name kind value
 
 -- why a ticket can't be cancelled, if it can't
 abbrev pub cancel_refusal : DeskView → ℕ → Option CancelError

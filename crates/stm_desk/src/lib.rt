@@ -12,6 +12,7 @@
 pub mod atomic;
 pub mod cancel;
 pub mod checkpoint;
+pub mod declare;
 pub mod deliver;
 pub mod desk;
 pub mod evaluate;
@@ -35,5 +36,7 @@ pub use finish::Finish;
 pub use reason::{Change, Reason};
 pub use resume::TooManyEvents;
 pub use settle::Settled;
-pub use stm_events::{CancelError, DeliverError, FinishError, Status, SubmitError};
+pub use stm_events::{
+    CancelError, DeliverError, FinishError, LateDeclareError, Status, SubmitError,
+};
 pub use stm_machine::{Checkpoint, CheckpointError};

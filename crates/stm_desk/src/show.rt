@@ -2,7 +2,7 @@
 
 ghost use Rattle.std.specs.Prelude.{◌≡◌, ◌≤◌, nat_lt, true, None, Some, length, option_map, slice_get};
 ghost use Rattle.std.specs.Option.{option_copied};
-ghost use Rattle.stm_events.specs.SlowDesk.{Waiter, is_current, find_waiter, serial, finished_from};
+ghost use Rattle.stm_events.specs.SlowDesk.{Waiter, is_current, find_waiter, serial, turns_from};
 ghost use Rattle.stm_events.specs.States.{IsLegalFrom};
 ghost use Rattle.stm_events.specs.Ready.{next_ready};
 ghost use Rattle.stm_events.specs.SlowSettle.{lowest};
@@ -18,7 +18,7 @@ ghost use Rattle.stm_desk.specs.DeskView.{start_state, state_of, standing_of, De
 use crate::desk::Desk;
 use stm_check::SharedBlock;
 use stm_events::{Event, StalenessRule, Status};
-use stm_store::{Store, Table};
+use stm_store::{Names, Store, Table};
 use stm_terms::values::Value;
 
 impl Desk {
@@ -55,15 +55,22 @@ impl Desk {
         self.machine.queued_at(i)
     }
 
-    /// The present store: that of running the blocks that finished in the history alone, one after another, on the store that it
-    /// begins with.
+    /// The present store: that of running the blocks that finished in the history alone, and of making the variables that were declared
+    /// in it, one after another, on the store that it begins with.
     pub fn store(&self) -> &Store
         ensures store { result.now ≡ (state_of self.now).store }
         ensures serial { result.now
             ≡ serial (start_state self.now).store
-            (finished_from (start_state self.now) self.now.history) }
+            (turns_from (start_state self.now) self.now.history) }
     {
         self.machine.store()
+    }
+
+    /// The names of variables: those that the history begins with, and those of the variables that were declared in it.
+    pub fn names(&self) -> &Names
+        ensures { result.now ≡ (state_of self.now).names }
+    {
+        self.machine.names()
     }
 
     /// The table that the desk was opened on.

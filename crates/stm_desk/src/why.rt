@@ -179,6 +179,7 @@ fn ticket_of(what: &What) -> u32
         What::Installed { ticket, .. } => *ticket,
         What::Finished { ticket, .. } => *ticket,
         What::Cancelled { ticket } => *ticket,
+        What::Declared { .. } => 0,
     }
 }
 
