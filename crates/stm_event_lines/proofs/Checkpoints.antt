@@ -9,7 +9,7 @@ use Rattle.serde_json.specs.Read.{read}
 use Rattle.serde_json.specs.Written.{compact_text, has_float}
 use Rattle.serde_json.proofs.Numbers.{number_of-decimal}
 use Rattle.stm_store.specs.declared.cell.Cell.{Cell}
-use Rattle.stm_store.specs.Tables.{Declared}
+use Rattle.stm_store.specs.Naming.{Named}
 use Rattle.stm_check.specs.TypedBlock.{Block}
 use Rattle.stm_events.specs.Delivered.{Delivered}
 use Rattle.stm_event_lines.specs.declared.checkpoint.CheckpointHeader.{CheckpointHeader}
@@ -87,11 +87,11 @@ name_in_range None h = tt
 cell_in_range : (name : Option (List ℕ)) (c : Cell) → FitsCell name c → IsInRange (cell_data name c)
 cell_in_range name c f = (refl, f.3, (refl, value_in_range c.value f.2, (refl, name_in_range name f.0, (refl, ascii_type c.kind, tt))))
 
-waiting_in_range : (table : List Declared) (ticket : ℕ) (b : Block) (d : Option Delivered) → FitsWaiting table ticket b d → IsInRange (waiting_data ticket b.text d)
-waiting_in_range table ticket b None f = (refl, ascii_block table b.text b f.1, (refl, omega (arith, f.0), tt))
-waiting_in_range table ticket b (Some d) f =
+waiting_in_range : (known : List Named) (ticket : ℕ) (b : Block) (d : Option Delivered) → FitsWaiting known ticket b d → IsInRange (waiting_data ticket b.text d)
+waiting_in_range known ticket b None f = (refl, ascii_block known b.text b f.1, (refl, omega (arith, f.0), tt))
+waiting_in_range known ticket b (Some d) f =
     let given = f.2 in
-    (refl, ascii_block table b.text b f.1, (refl, writes_in_range d.reads given.0, (refl, tt, (refl, omega (arith, f.0), (refl, verdict_in_range d.verdict given.1, tt)))))
+    (refl, ascii_block known b.text b f.1, (refl, writes_in_range d.reads given.0, (refl, tt, (refl, omega (arith, f.0), (refl, verdict_in_range d.verdict given.1, tt)))))
 
 -- ---- their texts
 
@@ -103,8 +103,8 @@ checkpoint_header_reads next vars waiting h i j =
 cell_reads : (name : Option (List ℕ)) (c : Cell) → FitsCell name c → ReadsBack (cell_data name c)
 cell_reads name c f = reads_of (cell_data name c) (cell_round_trips name c f.2 f.3) (cell_in_range name c f)
 
-waiting_reads : (table : List Declared) (ticket : ℕ) (b : Block) (d : Option Delivered) → FitsWaiting table ticket b d → ReadsBack (waiting_data ticket b.text d)
-waiting_reads table ticket b d f = reads_of (waiting_data ticket b.text d) (waiting_round_trips ticket b.text d f.0 f.2) (waiting_in_range table ticket b d f)
+waiting_reads : (known : List Named) (ticket : ℕ) (b : Block) (d : Option Delivered) → FitsWaiting known ticket b d → ReadsBack (waiting_data ticket b.text d)
+waiting_reads known ticket b d f = reads_of (waiting_data ticket b.text d) (waiting_round_trips ticket b.text d f.0 f.2) (waiting_in_range known ticket b d f)
 
 -- ---- their fields
 
@@ -115,9 +115,9 @@ cell_back : (name : Option (List ℕ)) (c : Cell) → FitsCell name c → cell_o
 cell_back (Some name) c f = rw (value_back c.value f.2, type_back c.kind f.1)
 cell_back None c f = rw (value_back c.value f.2, type_back c.kind f.1)
 
-waiting_back : (table : List Declared) (ticket : ℕ) (b : Block) (d : Option Delivered) → FitsWaiting table ticket b d → waiting_of table (waiting_data ticket b.text d) ≡ Some (record { ticket = ticket; block = b; delivery = d })
-waiting_back table ticket b None f = rw (in_32 ticket f.0, f.1)
-waiting_back table ticket b (Some d) f =
+waiting_back : (known : List Named) (ticket : ℕ) (b : Block) (d : Option Delivered) → FitsWaiting known ticket b d → waiting_of known (waiting_data ticket b.text d) ≡ Some (record { ticket = ticket; block = b; delivery = d })
+waiting_back known ticket b None f = rw (in_32 ticket f.0, f.1)
+waiting_back known ticket b (Some d) f =
     let given = f.2 in rw (in_32 ticket f.0, f.1, verdict_back d.verdict given.1, all_back write_of write_data d.reads (writes_back d.reads given.0))
 
 -- ---- what a line is that was read
@@ -141,11 +141,11 @@ pub cell_is : (line : List ℕ) (name : Option (List ℕ)) (c : Cell) (g : Data)
 unfolding cell_line
 cell_is line name c g f l some = let same : g ≡ cell_data name c = same_data line (cell_data name c) g (cell_reads name c f) l some in rw same (cell_back name c f)
 
-pub waiting_is : (table : List Declared) (line : List ℕ) (ticket : ℕ) (b : Block) (d : Option Delivered) (g : Data) → FitsWaiting table ticket b d → waiting_line ticket b.text d ≡ line → read line ≡ Some g
-    → waiting_of table g ≡ Some (record { ticket = ticket; block = b; delivery = d })
+pub waiting_is : (known : List Named) (line : List ℕ) (ticket : ℕ) (b : Block) (d : Option Delivered) (g : Data) → FitsWaiting known ticket b d → waiting_line ticket b.text d ≡ line → read line ≡ Some g
+    → waiting_of known g ≡ Some (record { ticket = ticket; block = b; delivery = d })
 unfolding waiting_line
-waiting_is table line ticket b d g f l some =
-    let same : g ≡ waiting_data ticket b.text d = same_data line (waiting_data ticket b.text d) g (waiting_reads table ticket b d f) l some in rw same (waiting_back table ticket b d f)
+waiting_is known line ticket b d g f l some =
+    let same : g ≡ waiting_data ticket b.text d = same_data line (waiting_data ticket b.text d) g (waiting_reads known ticket b d f) l some in rw same (waiting_back known ticket b d f)
 
 pub checkpoint_header_unread : (line : List ℕ) (next vars waiting : ℕ) → Is32Bit next → Is32Bit vars → Is32Bit waiting → checkpoint_header_line next vars waiting ≡ line → (IsUtf8 line → read line ≡ None) → ⊥
 unfolding checkpoint_header_line
@@ -155,16 +155,16 @@ pub cell_unread : (line : List ℕ) (name : Option (List ℕ)) (c : Cell) → Fi
 unfolding cell_line
 cell_unread line name c f l none = unread line (cell_data name c) (cell_reads name c f) l none
 
-pub waiting_unread : (table : List Declared) (line : List ℕ) (ticket : ℕ) (b : Block) (d : Option Delivered) → FitsWaiting table ticket b d → waiting_line ticket b.text d ≡ line → (IsUtf8 line → read line ≡ None) → ⊥
+pub waiting_unread : (known : List Named) (line : List ℕ) (ticket : ℕ) (b : Block) (d : Option Delivered) → FitsWaiting known ticket b d → waiting_line ticket b.text d ≡ line → (IsUtf8 line → read line ≡ None) → ⊥
 unfolding waiting_line
-waiting_unread table line ticket b d f l none = unread line (waiting_data ticket b.text d) (waiting_reads table ticket b d f) l none
+waiting_unread known line ticket b d f l none = unread line (waiting_data ticket b.text d) (waiting_reads known ticket b d f) l none
 
 -- ---- a block that was read
 
 -- it is what its text checks to
-pub own_block : (table : List Declared) (o : Option (List ℕ)) (b : Block) → option_and_then (block_of_text table) o ≡ Some b → checked_block table b.text ≡ Ok b
-own_block table (Some text) b e = own_text table text b e
-own_block table None b e = absurd cc
+pub own_block : (known : List Named) (o : Option (List ℕ)) (b : Block) → option_and_then (block_of_text known) o ≡ Some b → checked_block known b.text ≡ Ok b
+own_block known (Some text) b e = own_text known text b e
+own_block known None b e = absurd cc
 
 -- ---- laws
 
@@ -176,9 +176,9 @@ pub cell_one_line : (name : Option (List ℕ)) (c : Cell) → FitsCell name c �
 unfolding cell_line
 cell_one_line name c f = (cell_reads name c f).one_line
 
-pub waiting_one_line : (table : List Declared) (ticket : ℕ) (b : Block) (d : Option Delivered) → FitsWaiting table ticket b d → IsOneLine (waiting_line ticket b.text d)
+pub waiting_one_line : (known : List Named) (ticket : ℕ) (b : Block) (d : Option Delivered) → FitsWaiting known ticket b d → IsOneLine (waiting_line ticket b.text d)
 unfolding waiting_line
-waiting_one_line table ticket b d f = (waiting_reads table ticket b d f).one_line
+waiting_one_line known ticket b d f = (waiting_reads known ticket b d f).one_line
 
 pub checkpoint_header_brace : (next vars waiting : ℕ) → BeginsWithBrace (checkpoint_header_line next vars waiting)
 unfolding checkpoint_header_line
@@ -223,19 +223,19 @@ cell_same name name' c c' f f' l =
     let same : (name, c) ≡ (name', c') = one_cell _ _ _ b a in
     (ap (λ (x : Option (List ℕ) × Cell). x.0) same, ap (λ (x : Option (List ℕ) × Cell). x.1) same)
 
--- and different waiting blocks over one table
+-- and different waiting blocks over the same names
 one_waiting : (o : Option WaitingBlock) (g h : WaitingBlock) → o ≡ Some g → o ≡ Some h → g ≡ h
 one_waiting o g h a b = cc
 
-pub waiting_same : (table : List Declared) (ticket ticket' : ℕ) (b b' : Block) (d d' : Option Delivered) → FitsWaiting table ticket b d → FitsWaiting table ticket' b' d' → waiting_line ticket b.text d ≡ waiting_line ticket' b'.text d'
+pub waiting_same : (known : List Named) (ticket ticket' : ℕ) (b b' : Block) (d d' : Option Delivered) → FitsWaiting known ticket b d → FitsWaiting known ticket' b' d' → waiting_line ticket b.text d ≡ waiting_line ticket' b'.text d'
     → (ticket ≡ ticket') × (b ≡ b') × (d ≡ d')
 unfolding waiting_line
-waiting_same table ticket ticket' b b' d d' f f' l =
+waiting_same known ticket ticket' b b' d d' f f' l =
     let g = waiting_data ticket' b'.text d' in
     let w : WaitingBlock = record { ticket = ticket; block = b; delivery = d } in
     let w' : WaitingBlock = record { ticket = ticket'; block = b'; delivery = d' } in
-    let a : waiting_of table g ≡ Some w' = waiting_back table ticket' b' d' f' in
-    let e : waiting_of table g ≡ Some w = waiting_is table (waiting_line ticket' b'.text d') ticket b d g f l (waiting_reads table ticket' b' d' f').back in
+    let a : waiting_of known g ≡ Some w' = waiting_back known ticket' b' d' f' in
+    let e : waiting_of known g ≡ Some w = waiting_is known (waiting_line ticket' b'.text d') ticket b d g f l (waiting_reads known ticket' b' d' f').back in
     let same : w ≡ w' = one_waiting _ w w' e a in
     (ap (λ (x : WaitingBlock). x.ticket) same, ap (λ (x : WaitingBlock). x.block) same, ap (λ (x : WaitingBlock). x.delivery) same)
 

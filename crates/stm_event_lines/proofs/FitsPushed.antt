@@ -1,12 +1,12 @@
 -- One item more of what fits, and events of what fits.
 use Rattle.std.proofs.Common.{◌≡◌, ℕ, ◌<◌, ◌≤◌, List, [], ◌∷◌, ◌++◌, sym, subst, Option, Some, None, IfSome, Result, Ok, Err, IfOk}
-use Rattle.stm_store.specs.Tables.{Declared}
+use Rattle.stm_store.specs.Naming.{Named}
 use Rattle.stm_events.specs.declared.event.Event.{Event}
 use Rattle.stm_events.specs.declared.event.What.{What}
 use Rattle.stm_events.specs.SlowDesk.{max_clients}
 use Rattle.stm_terms.specs.declared.kinds.Ty.{Ty}
 use Rattle.stm_terms.specs.declared.values.Value.{Value}
-use Rattle.stm_event_lines.specs.Fits.{Is32Bit, FitsValue, FitWrites, FitNews, FitNumbers, FitsTable, WhatFitsTable}
+use Rattle.stm_event_lines.specs.Fits.{Is32Bit, FitsValue, FitWrites, FitNews, FitNumbers, FitsNames, WhatFitsNames}
 
 pub fit_numbers_push : (ns : List ℕ) (n : ℕ) → FitNumbers ns → Is32Bit n → FitNumbers (ns ++ n ∷ [])
 fit_numbers_push [] n h k = (k, tt)
@@ -21,17 +21,17 @@ fit_news_push [] n h k = (k.0, k.1, tt)
 fit_news_push (m ∷ ns) n h k = (h.0, h.1, fit_news_push ns n h.2 k)
 
 -- an event of a client that there may be, of what fits
-pub fits_by : (o : Option Event) (table : List Declared) (what : What) → IfSome o (λ e. (e.client < max_clients) × (e.what ≡ what)) → WhatFitsTable table what → IfSome o (λ e. FitsTable table e)
-fits_by None table what h f = tt
-fits_by (Some e) table what h f = (h.0, subst (λ (w : What). WhatFitsTable table w) (sym h.1) f)
+pub fits_by : (o : Option Event) (known : List Named) (what : What) → IfSome o (λ e. (e.client < max_clients) × (e.what ≡ what)) → WhatFitsNames known what → IfSome o (λ e. FitsNames known e)
+fits_by None known what h f = tt
+fits_by (Some e) known what h f = (h.0, subst (λ (w : What). WhatFitsNames known w) (sym h.1) f)
 
--- so too of what fits each table
-pub fits_each : (o : Option Event) (what : What) → IfSome o (λ e. (e.client < max_clients) × (e.what ≡ what)) → ((t : List Declared) → WhatFitsTable t what) → IfSome o (λ e. (t : List Declared) → FitsTable t e)
+-- so too of what fits all names
+pub fits_each : (o : Option Event) (what : What) → IfSome o (λ e. (e.client < max_clients) × (e.what ≡ what)) → ((t : List Named) → WhatFitsNames t what) → IfSome o (λ e. (t : List Named) → FitsNames t e)
 fits_each None what h f = tt
-fits_each (Some e) what h f = λ t. (h.0, subst (λ (w : What). WhatFitsTable t w) (sym h.1) (f t))
+fits_each (Some e) what h f = λ t. (h.0, subst (λ (w : What). WhatFitsNames t w) (sym h.1) (f t))
 
--- so of one of the tables
-pub fits_at : {E : Type 0} (r : Result (Option Event) E) (table : List Declared) → IfOk r (λ o. IfSome o (λ e. (t : List Declared) → FitsTable t e)) → IfOk r (λ o. IfSome o (λ e. FitsTable table e))
-fits_at (Ok None) table h = tt
-fits_at (Ok (Some e)) table h = h table
-fits_at (Err x) table h = tt
+-- so of some of the names
+pub fits_at : {E : Type 0} (r : Result (Option Event) E) (known : List Named) → IfOk r (λ o. IfSome o (λ e. (t : List Named) → FitsNames t e)) → IfOk r (λ o. IfSome o (λ e. FitsNames known e))
+fits_at (Ok None) known h = tt
+fits_at (Ok (Some e)) known h = h known
+fits_at (Err x) known h = tt

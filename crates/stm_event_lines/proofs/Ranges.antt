@@ -27,16 +27,17 @@ use Rattle.stm_parse.specs.Descent.{block_reader}
 use Rattle.stm_parse.specs.Tokenizer.{tokens_of}
 use Rattle.stm_parse.proofs.TokenizedIsAscii.{cut_ascii}
 use Rattle.stm_store.specs.Tables.{Declared}
+use Rattle.stm_store.specs.Naming.{Named}
 use Rattle.stm_check.specs.TypedBlock.{Block}
 use Rattle.stm_events.specs.declared.event.What.{What}
-use Rattle.stm_events.specs.declared.event.What.TheVariants.{Submitted, Installed, Finished, Cancelled}
+use Rattle.stm_events.specs.declared.event.What.TheVariants.{Submitted, Installed, Finished, Cancelled, Declared as DeclaredLate}
 use Rattle.stm_terms.specs.Ast.{Act}
 use Rattle.stm_terms.specs.Typing.{ActionType}
 use Rattle.stm_check.specs.CheckFunction.{checked}
 use Rattle.stm_check.specs.declared.fault.TypeFault.{TypeFault}
 use Rattle.stm_event_lines.specs.WholeBlocks.{BlockFault, checked_block, block_if_parsed, block_if_typed}
 use Rattle.stm_event_lines.specs.Fields.{unless_faulty, block_of_text}
-use Rattle.stm_event_lines.specs.Fits.{WhatFitsTable, FitsValue, FitsInt, FitsVerdict, FitWrites, FitNews, FitNumbers, FitsVariable}
+use Rattle.stm_event_lines.specs.Fits.{WhatFitsNames, FitsValue, FitsInt, FitsVerdict, FitWrites, FitNews, FitNumbers, FitsVariable}
 use Rattle.stm_event_lines.specs.Lines.{number_data, value_data, write_data, new_data, verdict_data, what_data, variable_data}
 use Rattle.stm_event_lines.proofs.OneLines.{IsInRange, ItemsInRange, is_ascii_text}
 
@@ -107,13 +108,13 @@ parsed_ascii : (text : List ℕ) (t : raw.RawAct) → parsed_block text ≡ Ok t
 unfolding parsed_block answered
 parsed_ascii text t e = short_ascii (nat_lt most_bytes (length text)) text _ t e
 
-known_ascii : (table : List Declared) (text : List ℕ) (r : Result raw.RawAct ParseFault) (b : Block) → parsed_block text ≡ r → block_if_parsed table text r ≡ Ok b → IsAscii text
-known_ascii table text (Ok t) b e f = parsed_ascii text t e
-known_ascii table text (Err x) b e f = absurd cc
+known_ascii : (known : List Named) (text : List ℕ) (r : Result raw.RawAct ParseFault) (b : Block) → parsed_block text ≡ r → block_if_parsed known text r ≡ Ok b → IsAscii text
+known_ascii known text (Ok t) b e f = parsed_ascii text t e
+known_ascii known text (Err x) b e f = absurd cc
 
-pub ascii_block : (table : List Declared) (text : List ℕ) (b : Block) → checked_block table text ≡ Ok b → is_ascii_text text ≡ true
+pub ascii_block : (known : List Named) (text : List ℕ) (b : Block) → checked_block known text ≡ Ok b → is_ascii_text text ≡ true
 unfolding checked_block
-ascii_block table text b e = ascii_tested text (known_ascii table text (parsed_block text) b refl e)
+ascii_block known text b e = ascii_tested text (known_ascii known text (parsed_block text) b refl e)
 
 -- ---- lines
 
@@ -146,35 +147,37 @@ verdict_in_range (Throws (Thrown z)) h = (refl, int_in_range z h, tt)
 verdict_in_range (Throws Overflow) h = (refl, refl, tt)
 verdict_in_range Blocks h = refl
 
-pub what_in_range : (table : List Declared) (client : ℕ) (d : What) → client < 128 → WhatFitsTable table d → IsInRange (what_data client d)
-what_in_range table client (Submitted ticket b) k h = (refl, ascii_block table b.text b h.1, (refl, omega arith, (refl, refl, (refl, omega (arith, h.0), tt))))
-what_in_range table client (Installed ticket v) k h = (refl, omega arith, (refl, refl, (refl, omega (arith, h.0), (refl, verdict_in_range v h.1, tt))))
-what_in_range table client (Finished ticket v n stale) k h =
+pub what_in_range : (known : List Named) (client : ℕ) (d : What) → client < 128 → WhatFitsNames known d → IsInRange (what_data client d)
+what_in_range known client (Submitted ticket b) k h = (refl, ascii_block known b.text b h.1, (refl, omega arith, (refl, refl, (refl, omega (arith, h.0), tt))))
+what_in_range known client (Installed ticket v) k h = (refl, omega arith, (refl, refl, (refl, omega (arith, h.0), (refl, verdict_in_range v h.1, tt))))
+what_in_range known client (Finished ticket v n stale) k h =
     (refl, omega arith, (refl, refl, (refl, omega (arith, h.2), (refl, numbers_in_range stale h.3, (refl, omega (arith, h.0), (refl, verdict_in_range v h.1, tt))))))
-what_in_range table client (Cancelled ticket) k h = (refl, omega arith, (refl, refl, (refl, omega (arith, h), tt)))
+what_in_range known client (Cancelled ticket) k h = (refl, omega arith, (refl, refl, (refl, omega (arith, h), tt)))
+what_in_range known client (DeclaredLate name kind value) k h =
+    (refl, omega arith, (refl, refl, (refl, value_in_range value h.2, (refl, ascii_name name h.0, (refl, ascii_type kind, tt)))))
 
 pub variable_in_range : (d : Declared) → FitsVariable d → IsInRange (variable_data d)
 variable_in_range d f = (refl, value_in_range d.value f.2, (refl, ascii_name d.name f.0, (refl, ascii_type d.kind, tt)))
 
 -- ---- a block has the text that it was made of
 
-checked_text : (table : List Declared) (text : List ℕ) (r : Result (Act × ActionType) TypeFault) (b : Block) → block_if_typed table text r ≡ Ok b → b.text ≡ text
-checked_text table text (Ok c) b e = cc
-checked_text table text (Err x) b e = absurd cc
+checked_text : (known : List Named) (text : List ℕ) (r : Result (Act × ActionType) TypeFault) (b : Block) → block_if_typed known text r ≡ Ok b → b.text ≡ text
+checked_text known text (Ok c) b e = cc
+checked_text known text (Err x) b e = absurd cc
 
-parsed_text : (table : List Declared) (text : List ℕ) (r : Result raw.RawAct ParseFault) (b : Block) → block_if_parsed table text r ≡ Ok b → b.text ≡ text
-parsed_text table text (Ok t) b e = checked_text table text (checked table text [] t) b e
-parsed_text table text (Err x) b e = absurd cc
+parsed_text : (known : List Named) (text : List ℕ) (r : Result raw.RawAct ParseFault) (b : Block) → block_if_parsed known text r ≡ Ok b → b.text ≡ text
+parsed_text known text (Ok t) b e = checked_text known text (checked known text [] t) b e
+parsed_text known text (Err x) b e = absurd cc
 
-text_of : (table : List Declared) (text : List ℕ) (b : Block) → checked_block table text ≡ Ok b → b.text ≡ text
+text_of : (known : List Named) (text : List ℕ) (b : Block) → checked_block known text ≡ Ok b → b.text ≡ text
 unfolding checked_block
-text_of table text b e = parsed_text table text (parsed_block text) b e
+text_of known text b e = parsed_text known text (parsed_block text) b e
 
 not_faulty : (r : Result Block BlockFault) (b : Block) → unless_faulty r ≡ Some b → r ≡ Ok b
 not_faulty (Ok c) b e = cc
 not_faulty (Err x) b e = absurd cc
 
-pub own_text : (table : List Declared) (text : List ℕ) (b : Block) → block_of_text table text ≡ Some b → checked_block table b.text ≡ Ok b
-own_text table text b e =
-    let f : checked_block table text ≡ Ok b = not_faulty (checked_block table text) b e in
-    subst (λ (t : List ℕ). checked_block table t ≡ Ok b) (sym (text_of table text b f)) f
+pub own_text : (known : List Named) (text : List ℕ) (b : Block) → block_of_text known text ≡ Some b → checked_block known b.text ≡ Ok b
+own_text known text b e =
+    let f : checked_block known text ≡ Ok b = not_faulty (checked_block known text) b e in
+    subst (λ (t : List ℕ). checked_block known t ≡ Ok b) (sym (text_of known text b f)) f

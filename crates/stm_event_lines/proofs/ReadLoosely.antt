@@ -5,7 +5,7 @@ use Rattle.std.specs.Str.{IsUtf8}
 use Rattle.serde_json.specs.Data.{Data}
 use Rattle.serde_json.specs.Read.{read}
 use Rattle.stm_store.specs.declared.cell.Cell.{Cell}
-use Rattle.stm_store.specs.Tables.{Declared}
+use Rattle.stm_store.specs.Naming.{Named}
 use Rattle.stm_check.specs.TypedBlock.{Block}
 use Rattle.stm_events.specs.Delivered.{Delivered}
 use Rattle.stm_events.specs.declared.event.Event.{Event}
@@ -14,18 +14,18 @@ use Rattle.stm_event_lines.specs.declared.checkpoint.WaitingBlock.{WaitingBlock}
 use Rattle.stm_event_lines.specs.CheckpointFields.{cell_of, cell_parts, waiting_of}
 use Rattle.stm_event_lines.specs.CheckpointLines.{cell_line, waiting_line, FitsCell, FitsWaiting}
 use Rattle.stm_event_lines.specs.Fields.{event_of}
-use Rattle.stm_event_lines.specs.Fits.{FitsTable}
+use Rattle.stm_event_lines.specs.Fits.{FitsNames}
 use Rattle.stm_event_lines.specs.Lines.{event_line}
 use Rattle.stm_event_lines.proofs.Checkpoints.{cell_is, waiting_is}
 use Rattle.stm_event_lines.proofs.ReadsBack.{event_is, event_unread}
 
-pub loose_same : {E : Type 0} (r : Result (Option Event) E) (table : List Declared) (line : List ℕ) (json : Data) → read line ≡ Some json → IfOk r (λ o. o ≡ event_of table json)
-    → IfOk r (λ o. (d : Event) → FitsTable table d → event_line d ≡ line → o ≡ Some d)
-loose_same (Ok o) table line json ok h = λ d f l. h ∙ event_is table line d json f l ok
-loose_same (Err e) table line json ok h = tt
+pub loose_same : {E : Type 0} (r : Result (Option Event) E) (known : List Named) (line : List ℕ) (json : Data) → read line ≡ Some json → IfOk r (λ o. o ≡ event_of known json)
+    → IfOk r (λ o. (d : Event) → FitsNames known d → event_line d ≡ line → o ≡ Some d)
+loose_same (Ok o) known line json ok h = λ d f l. h ∙ event_is known line d json f l ok
+loose_same (Err e) known line json ok h = tt
 
-pub loose_none : (table : List Declared) (line : List ℕ) (d : Event) (o : Option Event) → (IsUtf8 line → read line ≡ None) → FitsTable table d → event_line d ≡ line → o ≡ Some d
-loose_none table line d o bad f l = absurd (event_unread table line d f l bad)
+pub loose_none : (known : List Named) (line : List ℕ) (d : Event) (o : Option Event) → (IsUtf8 line → read line ≡ None) → FitsNames known d → event_line d ≡ line → o ≡ Some d
+loose_none known line d o bad f l = absurd (event_unread known line d f l bad)
 
 pub loose_cell_same : {E : Type 0} (r : Result (Option NamedCell) E) (line : List ℕ) (json : Data) → read line ≡ Some json
     → IfOk r (λ o. (name : Option (List ℕ)) (c : Cell) → FitsCell name c → cell_of json ≡ Some (name, c) → option_map cell_parts o ≡ Some (name, c))
@@ -33,7 +33,7 @@ pub loose_cell_same : {E : Type 0} (r : Result (Option NamedCell) E) (line : Lis
 loose_cell_same (Ok o) line json ok h = λ name c f l. h name c f (cell_is line name c json f l ok)
 loose_cell_same (Err e) line json ok h = tt
 
-pub loose_waiting_same : {E : Type 0} (r : Result (Option WaitingBlock) E) (table : List Declared) (line : List ℕ) (json : Data) → read line ≡ Some json → IfOk r (λ o. o ≡ waiting_of table json)
-    → IfOk r (λ o. (ticket : ℕ) (b : Block) (d : Option Delivered) → FitsWaiting table ticket b d → waiting_line ticket b.text d ≡ line → o ≡ Some (record { ticket = ticket; block = b; delivery = d }))
-loose_waiting_same (Ok o) table line json ok h = λ ticket b d f l. h ∙ waiting_is table line ticket b d json f l ok
-loose_waiting_same (Err e) table line json ok h = tt
+pub loose_waiting_same : {E : Type 0} (r : Result (Option WaitingBlock) E) (known : List Named) (line : List ℕ) (json : Data) → read line ≡ Some json → IfOk r (λ o. o ≡ waiting_of known json)
+    → IfOk r (λ o. (ticket : ℕ) (b : Block) (d : Option Delivered) → FitsWaiting known ticket b d → waiting_line ticket b.text d ≡ line → o ≡ Some (record { ticket = ticket; block = b; delivery = d }))
+loose_waiting_same (Ok o) known line json ok h = λ ticket b d f l. h ∙ waiting_is known line ticket b d json f l ok
+loose_waiting_same (Err e) known line json ok h = tt

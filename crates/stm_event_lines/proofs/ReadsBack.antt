@@ -1,5 +1,5 @@
 -- The text of a line reads as its value, and the value as what it was written for.
-use Rattle.std.proofs.Common.{◌≡◌, ℕ, ◌≤◌, ◌<◌, ◌^◌, List, [], ◌∷◌, Option, Some, None, Err, refl, sym, ap, ◌∙◌, arith, append-nil, subst, pos, negsuc}
+use Rattle.std.proofs.Common.{◌≡◌, ℕ, ◌≤◌, ◌<◌, ◌^◌, List, [], ◌∷◌, Option, Some, None, Err, true, refl, sym, ap, ◌∙◌, arith, append-nil, subst, pos, negsuc}
 use Rattle.std.specs.Prelude.{option_and_then, IsErrOf}
 use Rattle.std.specs.Str.{IsUtf8}
 use Rattle.std.proofs.lemmas.Str.{IsUtf8-from_ascii}
@@ -22,16 +22,18 @@ use Rattle.stm_terms.specs.declared.values.Fault.TheVariants.{Thrown, Overflow}
 use Rattle.stm_terms.specs.declared.verdicts.Verdict.{Verdict}
 use Rattle.stm_terms.specs.declared.verdicts.Verdict.TheVariants.{Commits, Throws, Blocks}
 use Rattle.stm_store.specs.Tables.{Declared}
+use Rattle.stm_store.specs.Naming.{Named}
 use Rattle.stm_events.specs.declared.event.Event.{Event}
 use Rattle.stm_events.specs.declared.event.What.{What}
-use Rattle.stm_events.specs.declared.event.What.TheVariants.{Submitted, Installed, Finished, Cancelled}
+use Rattle.stm_events.specs.declared.event.What.TheVariants.{Submitted, Installed, Finished, Cancelled, Declared as DeclaredLate}
 use Rattle.stm_event_lines.specs.declared.read.Header.{Header}
-use Rattle.stm_event_lines.specs.Fits.{FitsTable, WhatFitsTable, FitsValue, FitsVerdict, FitWrites, FitNews, FitNumbers, FitsVariable, Is32Bit, IsOneLine}
+use Rattle.stm_event_lines.specs.Fits.{FitsNames, WhatFitsNames, FitsValue, FitsVerdict, FitWrites, FitNews, FitNumbers, FitsVariable, Is32Bit, IsOneLine}
 use Rattle.stm_event_lines.specs.Lines.{IsFormat, number_data, value_data, write_data, new_data, verdict_data, what_data, event_data, header_data, variable_data, event_line, header_line, variable_line}
 use Rattle.stm_event_lines.specs.Fields.{in_32_bits, u32_of, value_of, write_of, new_of, verdict_of, event_of, header_of, declared_from_json}
 use Rattle.stm_event_lines.proofs.RoundTrips.{RoundTrips, what_round_trips, header_round_trips, variable_round_trips, AllBack, all_back}
 use Rattle.stm_event_lines.proofs.OneLines.{IsInRange, one_line, is_ascii}
 use Rattle.stm_event_lines.proofs.Ranges.{what_in_range, variable_in_range}
+use Rattle.stm_terms.specs.Names.{is_name_text}
 use Rattle.stm_event_lines.proofs.Types.{type_back}
 
 -- what reading makes of the tokens' value
@@ -56,8 +58,8 @@ reads_of d g s = let l = one_line d s in record {
   utf8 = IsUtf8-from_ascii (compact_text d) (is_ascii (compact_text d) l);
 }
 
-pub event_reads : (table : List Declared) (e : Event) → FitsTable table e → ReadsBack (event_data e)
-event_reads table e f = reads_of (event_data e) (what_round_trips table e.client e.what f.0 f.1) (what_in_range table e.client e.what f.0 f.1)
+pub event_reads : (known : List Named) (e : Event) → FitsNames known e → ReadsBack (event_data e)
+event_reads known e f = reads_of (event_data e) (what_round_trips known e.client e.what f.0 f.1) (what_in_range known e.client e.what f.0 f.1)
 
 -- a format that is read fits the program's type
 format_fits : (format : ℕ) → IsFormat format → Is32Bit format
@@ -103,15 +105,18 @@ verdict_back (Throws (Thrown (negsuc n))) h = refl
 verdict_back (Throws Overflow) h = refl
 verdict_back Blocks h = refl
 
-what_back : (table : List Declared) (client : ℕ) (d : What) → client < 128 → WhatFitsTable table d → event_of table (what_data client d) ≡ Some (record { client = client; what = d })
-what_back table client (Submitted ticket b) k h = rw (in_32 client (omega arith), lt-ltb client 128 k, in_32 ticket h.0, h.1)
-what_back table client (Installed ticket v) k h = rw (in_32 client (omega arith), lt-ltb client 128 k, in_32 ticket h.0, verdict_back v h.1)
-what_back table client (Finished ticket v n stale) k h =
+what_back : (known : List Named) (client : ℕ) (d : What) → client < 128 → WhatFitsNames known d → event_of known (what_data client d) ≡ Some (record { client = client; what = d })
+what_back known client (Submitted ticket b) k h = rw (in_32 client (omega arith), lt-ltb client 128 k, in_32 ticket h.0, h.1)
+what_back known client (Installed ticket v) k h = rw (in_32 client (omega arith), lt-ltb client 128 k, in_32 ticket h.0, verdict_back v h.1)
+what_back known client (Finished ticket v n stale) k h =
     rw (in_32 client (omega arith), lt-ltb client 128 k, in_32 ticket h.0, verdict_back v h.1, in_32 n h.2, all_back u32_of number_data stale (numbers_back stale h.3))
-what_back table client (Cancelled ticket) k h = rw (in_32 client (omega arith), lt-ltb client 128 k, in_32 ticket h)
+what_back known client (Cancelled ticket) k h = rw (in_32 client (omega arith), lt-ltb client 128 k, in_32 ticket h)
+what_back known client (DeclaredLate name kind value) k h =
+    let named : is_name_text name ≡ true = h.0 in
+    rw (in_32 client (omega arith), lt-ltb client 128 k, type_back kind h.1, value_back value h.2, named)
 
-event_back : (table : List Declared) (e : Event) → FitsTable table e → event_of table (event_data e) ≡ Some e
-event_back table e f = what_back table e.client e.what f.0 f.1
+event_back : (known : List Named) (e : Event) → FitsNames known e → event_of known (event_data e) ≡ Some e
+event_back known e f = what_back known e.client e.what f.0 f.1
 
 header_back : (format n : ℕ) → IsFormat format → Is32Bit n → header_of (header_data format n) ≡ Some (record { format = format; vars = n })
 header_back format n k h = let f : Is32Bit format = format_fits format k in rw (in_32 format f, in_32 n h)
@@ -139,9 +144,9 @@ unread line d r e none =
 pub same_data : (line : List ℕ) (d g : Data) → ReadsBack d → compact_text d ≡ line → read line ≡ Some g → g ≡ d
 same_data line d g r e some = let k : read line ≡ Some d = subst (λ (t : List ℕ). read t ≡ Some d) e r.back in cc
 
-pub event_is : (table : List Declared) (line : List ℕ) (e : Event) (g : Data) → FitsTable table e → event_line e ≡ line → read line ≡ Some g → event_of table g ≡ Some e
+pub event_is : (known : List Named) (line : List ℕ) (e : Event) (g : Data) → FitsNames known e → event_line e ≡ line → read line ≡ Some g → event_of known g ≡ Some e
 unfolding event_line
-event_is table line e g f l some = let same : g ≡ event_data e = same_data line (event_data e) g (event_reads table e f) l some in rw same (event_back table e f)
+event_is known line e g f l some = let same : g ≡ event_data e = same_data line (event_data e) g (event_reads known e f) l some in rw same (event_back known e f)
 
 pub header_is : (line : List ℕ) (format n : ℕ) (g : Data) → IsFormat format → Is32Bit n → header_line format n ≡ line → read line ≡ Some g → header_of g ≡ Some (record { format = format; vars = n })
 unfolding header_line
@@ -151,9 +156,9 @@ pub variable_is : (line : List ℕ) (d : Declared) (g : Data) → FitsVariable d
 unfolding variable_line
 variable_is line d g f l some = let same : g ≡ variable_data d = same_data line (variable_data d) g (variable_reads d f) l some in rw same (variable_back d f)
 
-pub event_unread : (table : List Declared) (line : List ℕ) (e : Event) → FitsTable table e → event_line e ≡ line → (IsUtf8 line → read line ≡ None) → ⊥
+pub event_unread : (known : List Named) (line : List ℕ) (e : Event) → FitsNames known e → event_line e ≡ line → (IsUtf8 line → read line ≡ None) → ⊥
 unfolding event_line
-event_unread table line e f l none = unread line (event_data e) (event_reads table e f) l none
+event_unread known line e f l none = unread line (event_data e) (event_reads known e f) l none
 
 pub header_unread : (line : List ℕ) (format n : ℕ) → IsFormat format → Is32Bit n → header_line format n ≡ line → (IsUtf8 line → read line ≡ None) → ⊥
 unfolding header_line
@@ -165,9 +170,9 @@ variable_unread line d f l none = unread line (variable_data d) (variable_reads 
 
 -- ---- laws
 
-pub event_one_line : (table : List Declared) (e : Event) → FitsTable table e → IsOneLine (event_line e)
+pub event_one_line : (known : List Named) (e : Event) → FitsNames known e → IsOneLine (event_line e)
 unfolding event_line
-event_one_line table e f = (event_reads table e f).one_line
+event_one_line known e f = (event_reads known e f).one_line
 
 pub header_one_line : (format n : ℕ) → IsFormat format → Is32Bit n → IsOneLine (header_line format n)
 unfolding header_line
@@ -178,11 +183,11 @@ unfolding variable_line
 variable_one_line d f = (variable_reads d f).one_line
 
 -- different events have different lines; so do headers and variables
-pub event_same : (table : List Declared) (d e : Event) → FitsTable table d → FitsTable table e → event_line d ≡ event_line e → d ≡ e
+pub event_same : (known : List Named) (d e : Event) → FitsNames known d → FitsNames known e → event_line d ≡ event_line e → d ≡ e
 unfolding event_line
-event_same table d e f g l =
-    let a : event_of table (event_data e) ≡ Some e = event_back table e g in
-    let b : event_of table (event_data e) ≡ Some d = event_is table (event_line e) d (event_data e) f l (event_reads table e g).back in
+event_same known d e f g l =
+    let a : event_of known (event_data e) ≡ Some e = event_back known e g in
+    let b : event_of known (event_data e) ≡ Some d = event_is known (event_line e) d (event_data e) f l (event_reads known e g).back in
     cc
 
 one_header : (o : Option Header) (g h : Header) → o ≡ Some g → o ≡ Some h → g ≡ h

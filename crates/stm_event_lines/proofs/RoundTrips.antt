@@ -17,9 +17,10 @@ use Rattle.stm_terms.specs.declared.verdicts.Verdict.{Verdict}
 use Rattle.stm_terms.specs.declared.verdicts.Verdict.TheVariants.{Commits, Throws, Blocks}
 use Rattle.stm_terms.specs.Texts.{type_text}
 use Rattle.stm_store.specs.Tables.{Declared}
+use Rattle.stm_store.specs.Naming.{Named}
 use Rattle.stm_events.specs.declared.event.What.{What}
-use Rattle.stm_events.specs.declared.event.What.TheVariants.{Submitted, Installed, Finished, Cancelled}
-use Rattle.stm_event_lines.specs.Fits.{FitsValue, FitsInt, FitsVerdict, FitWrites, FitNews, FitNumbers, WhatFitsTable, Is32Bit}
+use Rattle.stm_events.specs.declared.event.What.TheVariants.{Submitted, Installed, Finished, Cancelled, Declared as DeclaredLate}
+use Rattle.stm_event_lines.specs.Fits.{FitsValue, FitsInt, FitsVerdict, FitWrites, FitNews, FitNumbers, WhatFitsNames, Is32Bit}
 use Rattle.stm_event_lines.specs.Lines.{number_data, value_data, write_data, new_data, verdict_data, what_data, header_data, variable_data}
 use Rattle.stm_event_lines.specs.Fields.{all_of}
 
@@ -96,20 +97,23 @@ verdict_round_trips Blocks h = string_round_trips 5 _
 
 -- ---- lines
 
-pub what_round_trips : (table : List Declared) (client : ℕ) (d : What) → client < 128 → WhatFitsTable table d → RoundTrips 6 (what_data client d)
-what_round_trips table client (Submitted ticket b) k h =
+pub what_round_trips : (known : List Named) (client : ℕ) (d : What) → client < 128 → WhatFitsNames known d → RoundTrips 6 (what_data client d)
+what_round_trips known client (Submitted ticket b) k h =
     let c = number_round_trips 0 client (omega arith) in let t = number_round_trips 0 ticket h.0 in
     record { numbers = (tt, (c.numbers, (tt, (t.numbers, tt)))); back = rw (c.back, t.back); shallow = omega arith; exact = refl }
-what_round_trips table client (Installed ticket v) k h =
+what_round_trips known client (Installed ticket v) k h =
     let c = number_round_trips 0 client (omega arith) in let t = number_round_trips 0 ticket h.0 in let o = verdict_round_trips v h.1 in
     record { numbers = (c.numbers, (tt, (t.numbers, (o.numbers, tt)))); back = rw (c.back, t.back, o.back); shallow = omega (arith, o.shallow); exact = rw o.exact }
-what_round_trips table client (Finished ticket v n stale) k h =
+what_round_trips known client (Finished ticket v n stale) k h =
     let c = number_round_trips 0 client (omega arith) in let t = number_round_trips 0 ticket h.0 in let o = verdict_round_trips v h.1 in
     let f = number_round_trips 0 n h.2 in let s = array_round_trips 0 _ (numbers_round_trips stale h.3) in
     record { numbers = (c.numbers, (tt, (f.numbers, (s.numbers, (t.numbers, (o.numbers, tt)))))); back = rw (c.back, f.back, s.back, t.back, o.back); shallow = omega (arith, o.shallow, s.shallow); exact = rw (s.exact, o.exact) }
-what_round_trips table client (Cancelled ticket) k h =
+what_round_trips known client (Cancelled ticket) k h =
     let c = number_round_trips 0 client (omega arith) in let t = number_round_trips 0 ticket h in
     record { numbers = (c.numbers, (tt, (t.numbers, tt))); back = rw (c.back, t.back); shallow = omega arith; exact = refl }
+what_round_trips known client (DeclaredLate name kind value) k h =
+    let c = number_round_trips 0 client (omega arith) in let v = value_round_trips value h.2 in
+    record { numbers = (c.numbers, (tt, (v.numbers, (tt, (tt, tt))))); back = rw (c.back, v.back); shallow = omega (arith, v.shallow); exact = rw v.exact }
 
 pub header_round_trips : (format n : ℕ) → Is32Bit format → Is32Bit n → RoundTrips 6 (header_data format n)
 header_round_trips format n k h =

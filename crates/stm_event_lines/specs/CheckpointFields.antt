@@ -6,7 +6,7 @@ use Rattle.serde_json.specs.Find.{get, as_null, as_bool, as_str, as_number, as_u
 use Rattle.stm_terms.specs.declared.values.Value.{Value}
 use Rattle.stm_terms.specs.declared.verdicts.Verdict.{Verdict}
 use Rattle.stm_store.specs.declared.cell.Cell.{Cell}
-use Rattle.stm_store.specs.Tables.{Declared}
+use Rattle.stm_store.specs.Naming.{Named}
 use Rattle.stm_events.specs.Delivered.{Delivered}
 use Rattle.stm_event_lines.specs.declared.checkpoint.CheckpointHeader.{CheckpointHeader}
 use Rattle.stm_event_lines.specs.declared.checkpoint.NamedCell.{NamedCell}
@@ -70,10 +70,10 @@ abbrev pub delivery_of : Data → Option (Option Delivered)
 delivery_of d =
     if is_some (get (codes "verdict") d) then option_map Some (option_and_then (delivery_in d) (verdict_field d)) else Some None
 
--- a waiting block over a table
-abbrev pub waiting_of : List Declared → Data → Option WaitingBlock
-waiting_of table d =
+-- a waiting block over these names
+abbrev pub waiting_of : List Named → Data → Option WaitingBlock
+waiting_of known d =
     option_and_then (λ ticket. option_and_then (λ block.
     option_map (λ delivery. record { ticket = ticket; block = block; delivery = delivery }) (delivery_of d))
-    (option_and_then (block_of_text table) (text_field (codes "block") d)))
+    (option_and_then (block_of_text known) (text_field (codes "block") d)))
     (number_field (codes "ticket") d)

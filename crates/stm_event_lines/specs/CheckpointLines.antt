@@ -8,7 +8,7 @@ use Rattle.stm_terms.specs.Limits.{most_refs}
 use Rattle.stm_terms.specs.Texts.{type_text}
 use Rattle.stm_terms.specs.Names.{is_name_text}
 use Rattle.stm_store.specs.declared.cell.Cell.{Cell}
-use Rattle.stm_store.specs.Tables.{Declared}
+use Rattle.stm_store.specs.Naming.{Named}
 use Rattle.stm_check.specs.TypedBlock.{Block}
 use Rattle.stm_events.specs.Delivered.{Delivered}
 use Rattle.stm_event_lines.specs.Fits.{Is32Bit, FitsValue, FitsVerdict, FitWrites}
@@ -77,7 +77,7 @@ abbrev pub FitsDelivery : Option Delivered → Type 0
 FitsDelivery None = ⊤
 FitsDelivery (Some d) = FitWrites d.reads × FitsVerdict d.verdict
 
--- the waiting block can stand in a line over the table: its numbers are in range, and it is what its text checks to
-abbrev pub FitsWaiting : List Declared → ℕ → Block → Option Delivered → Type 0
-FitsWaiting table ticket block delivery =
-    Is32Bit ticket × (checked_block table block.text ≡ Ok block) × FitsDelivery delivery
+-- the waiting block can stand in a line over the names: its numbers are in range, and it is what its text checks to
+abbrev pub FitsWaiting : List Named → ℕ → Block → Option Delivered → Type 0
+FitsWaiting known ticket block delivery =
+    Is32Bit ticket × (checked_block known block.text ≡ Ok block) × FitsDelivery delivery

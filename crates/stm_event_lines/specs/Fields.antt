@@ -13,10 +13,12 @@ use Rattle.stm_terms.specs.declared.values.Fault.TheVariants.{Thrown, Overflow}
 use Rattle.stm_terms.specs.declared.verdicts.Verdict.{Verdict}
 use Rattle.stm_terms.specs.declared.verdicts.Verdict.TheVariants.{Commits, Throws, Blocks}
 use Rattle.stm_parse.specs.TypeFunction.{parsed_type}
+use Rattle.stm_terms.specs.Names.{is_name_text}
 use Rattle.stm_store.specs.Tables.{Declared}
+use Rattle.stm_store.specs.Naming.{Named}
 use Rattle.stm_events.specs.declared.event.Event.{Event}
 use Rattle.stm_events.specs.declared.event.What.{What}
-use Rattle.stm_events.specs.declared.event.What.TheVariants.{Submitted, Installed, Finished, Cancelled}
+use Rattle.stm_events.specs.declared.event.What.TheVariants.{Submitted, Installed, Finished, Cancelled, Declared as DeclaredLate}
 use Rattle.stm_event_lines.specs.declared.read.Header.{Header}
 use Rattle.stm_events.specs.SlowDesk.{max_clients}
 use Rattle.stm_check.specs.TypedBlock.{Block}
@@ -108,13 +110,13 @@ abbrev pub unless_faulty : Result Block BlockFault → Option Block
 unless_faulty (Ok b) = Some b
 unless_faulty (Err e) = None
 
--- the block that a text is over a table; none if it has a fault
-abbrev pub block_of_text : List Declared → List ℕ → Option Block
-block_of_text table text = unless_faulty (checked_block table text)
+-- the block that a text is over these names; none if it has a fault
+abbrev pub block_of_text : List Named → List ℕ → Option Block
+block_of_text known text = unless_faulty (checked_block known text)
 
 -- the submission of the block of this text
-abbrev pub submitted_of : List Declared → Data → ℕ → Option What
-submitted_of table d ticket = option_map (Submitted ticket) (option_and_then (block_of_text table) (text_field (codes "block") d))
+abbrev pub submitted_of : List Named → Data → ℕ → Option What
+submitted_of known d ticket = option_map (Submitted ticket) (option_and_then (block_of_text known) (text_field (codes "block") d))
 
 -- the installation of a verdict
 abbrev pub installed_of : Data → ℕ → Option What
@@ -128,10 +130,26 @@ finished_of d ticket =
     (number_field (codes "first_new") d))
     (verdict_field d)
 
+-- a variable: its name, its type and its first value
+abbrev pub declared_from_json : Data → Option Declared
+declared_from_json d =
+    option_and_then (λ name. option_and_then (λ kind.
+    option_map (λ v. record { name = name; kind = kind; value = v }) (option_and_then value_of (get (codes "init") d)))
+    (option_and_then type_in (text_field (codes "type") d)))
+    (text_field (codes "name") d)
+
+-- the late declaration of a variable, if its name is one
+abbrev pub if_named : Declared → Option What
+if_named d = if is_name_text d.name then Some (DeclaredLate d.name d.kind d.value) else None
+
+-- a late declaration
+abbrev pub declared_of : Data → Option What
+declared_of d = option_and_then if_named (declared_from_json d)
+
 -- what happened to a ticket, by the word for it
-abbrev pub what_of : List Declared → Data → List ℕ → ℕ → Option What
-what_of table d kind ticket =
-    if bytes_eq kind (codes "submitted") then submitted_of table d ticket
+abbrev pub what_of : List Named → Data → List ℕ → ℕ → Option What
+what_of known d kind ticket =
+    if bytes_eq kind (codes "submitted") then submitted_of known d ticket
     else if bytes_eq kind (codes "installed") then installed_of d ticket
     else if bytes_eq kind (codes "finished") then finished_of d ticket
     else if bytes_eq kind (codes "cancelled") then Some (Cancelled ticket)
@@ -141,12 +159,16 @@ what_of table d kind ticket =
 abbrev pub client_field : Data → Option ℕ
 client_field d = option_and_then (λ n. if nat_lt n max_clients then Some n else None) (number_field (codes "client") d)
 
--- an event of a history over this table
-abbrev pub event_of : List Declared → Data → Option Event
-event_of table d =
-    option_and_then (λ kind. option_and_then (λ client. option_and_then (λ ticket.
-    option_map (λ w. record { client = client; what = w }) (what_of table d kind ticket))
-    (number_field (codes "ticket") d))
+-- what happened, by the word for it: a declaration has no ticket
+abbrev pub what_in : List Named → Data → List ℕ → Option What
+what_in known d kind =
+    if bytes_eq kind (codes "declared") then declared_of d else option_and_then (what_of known d kind) (number_field (codes "ticket") d)
+
+-- an event of a history over these names
+abbrev pub event_of : List Named → Data → Option Event
+event_of known d =
+    option_and_then (λ kind. option_and_then (λ client.
+    option_map (λ w. record { client = client; what = w }) (what_in known d kind))
     (client_field d))
     (text_field (codes "event") d)
 
@@ -155,11 +177,3 @@ abbrev pub header_of : Data → Option Header
 header_of d =
     option_and_then (λ format. option_map (λ n. record { format = format; vars = n }) (number_field (codes "vars") d))
     (number_field (codes "format") d)
-
--- a variable: its name, its type and its first value
-abbrev pub declared_from_json : Data → Option Declared
-declared_from_json d =
-    option_and_then (λ name. option_and_then (λ kind.
-    option_map (λ v. record { name = name; kind = kind; value = v }) (option_and_then value_of (get (codes "init") d)))
-    (option_and_then type_in (text_field (codes "type") d)))
-    (text_field (codes "name") d)

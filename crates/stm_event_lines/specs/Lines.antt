@@ -15,7 +15,7 @@ use Rattle.stm_terms.specs.Texts.{type_text}
 use Rattle.stm_store.specs.Tables.{Declared}
 use Rattle.stm_events.specs.declared.event.Event.{Event}
 use Rattle.stm_events.specs.declared.event.What.{What}
-use Rattle.stm_events.specs.declared.event.What.TheVariants.{Submitted, Installed, Finished, Cancelled}
+use Rattle.stm_events.specs.declared.event.What.TheVariants.{Submitted, Installed, Finished, Cancelled, Declared as DeclaredLate}
 use Rattle.stm_events.specs.declared.staleness.StalenessRule.{StalenessRule}
 use Rattle.stm_events.specs.declared.staleness.StalenessRule.TheVariants.{Written, Changed}
 
@@ -85,6 +85,12 @@ what_data client (Cancelled ticket) =
     object (member (codes "client") (number_data client)
     (member (codes "event") (string (codes "cancelled"))
     (member (codes "ticket") (number_data ticket) no_members)))
+what_data client (DeclaredLate name kind value) =
+    object (member (codes "client") (number_data client)
+    (member (codes "event") (string (codes "declared"))
+    (member (codes "init") (value_data value)
+    (member (codes "name") (string name)
+    (member (codes "type") (string (type_text kind)) no_members)))))
 
 -- the same of a whole event
 abbrev pub event_data : Event → Data

@@ -30,7 +30,7 @@ use std::alloc::Global;
 use stm_check::SharedBlock;
 use stm_events::delivery::Delivery;
 use stm_events::shared_verdict::SharedVerdict;
-use stm_store::{Cell, Table};
+use stm_store::{Cell, Names};
 use stm_terms::values::Value;
 use stm_terms::verdicts::Verdict;
 use stm_terms::{NoMemory, is_name};
@@ -435,12 +435,12 @@ fn delivery_of(alloc: Global, json: &Json) -> Result<Option<Option<Delivery>>, N
     }
 }
 
-fn block_at(alloc: Global, table: &Table, json: &Json) -> Result<Option<SharedBlock>, NoMemory>
-    ensures { IfOk result (λ o. o ≡ option_and_then (block_of_text table.now)
+fn block_at(alloc: Global, known: &Names, json: &Json) -> Result<Option<SharedBlock>, NoMemory>
+    ensures { IfOk result (λ o. o ≡ option_and_then (block_of_text known.now)
         (text_field (codes "block") (view json.now))) }
 {
     match text_at(json, "block") {
-        Some(text) => block_of(alloc, table, text),
+        Some(text) => block_of(alloc, known, text),
         None => Ok(None),
     }
 }
@@ -448,17 +448,17 @@ fn block_at(alloc: Global, table: &Table, json: &Json) -> Result<Option<SharedBl
 /// The waiting block that the value represents, if it does.
 pub(crate) fn waiting_of(
     alloc: Global,
-    table: &Table,
+    known: &Names,
     json: &Json,
 ) -> Result<Option<WaitingBlock>, NoMemory>
-    ensures value { IfOk result (λ o. o ≡ waiting_meant table.now (view json.now)) }
+    ensures value { IfOk result (λ o. o ≡ waiting_meant known.now (view json.now)) }
     ensures fits { IfOk result (λ o. IfSome o (λ w.
-        FitsWaiting table.now w.ticket w.block w.delivery)) }
+        FitsWaiting known.now w.ticket w.block w.delivery)) }
 {
     let Some(ticket) = number_at(json, "ticket") else {
         return Ok(None);
     };
-    let Some(block) = block_at(alloc, table, json)? else {
+    let Some(block) = block_at(alloc, known, json)? else {
         return Ok(None);
     };
     match delivery_of(alloc, json)? {
@@ -493,18 +493,18 @@ pub fn waiting_text(alloc: Global, waiting: &WaitingBlock) -> Result<String, NoM
 /// The waiting block that the value represents, if the line is that block's.
 fn waiting_in(
     alloc: Global,
-    table: &Table,
+    known: &Names,
     json: &Json,
     line: &[u8],
 ) -> Result<WaitingBlock, LineError>
     ensures ok { IfOk result (λ w. waiting_line w.ticket w.block.text w.delivery ≡ line.now) }
-    ensures fits { IfOk result (λ w. FitsWaiting table.now w.ticket w.block w.delivery) }
+    ensures fits { IfOk result (λ w. FitsWaiting known.now w.ticket w.block w.delivery) }
     ensures bad { IsErrOf result LineError.Bad → (ticket : ℕ) (block : Block) (d : Option Delivered)
-        → waiting_meant table.now (view json.now)
+        → waiting_meant known.now (view json.now)
         ≡ Some (record { ticket = ticket; block = block; delivery = d })
         → waiting_line ticket block.text d ≢ line.now }
 {
-    let Some(waiting) = waiting_of(alloc, table, json)? else {
+    let Some(waiting) = waiting_of(alloc, known, json)? else {
         return Err(LineError::Bad);
     };
     let again = waiting_text(alloc, &waiting)?;
@@ -515,15 +515,15 @@ fn waiting_in(
     }
 }
 
-/// Reads the line of a waiting block, exactly where it is one whose text is a block over the table.
-pub fn read_waiting(alloc: Global, table: &Table, line: &[u8]) -> Result<WaitingBlock, LineError>
+/// Reads the line of a waiting block, exactly where it is one whose text is a block over the names.
+pub fn read_waiting(alloc: Global, known: &Names, line: &[u8]) -> Result<WaitingBlock, LineError>
     ensures ok { IfOk result (λ w. waiting_line w.ticket w.block.text w.delivery ≡ line.now) }
-    ensures fits { IfOk result (λ w. FitsWaiting table.now w.ticket w.block w.delivery) }
+    ensures fits { IfOk result (λ w. FitsWaiting known.now w.ticket w.block w.delivery) }
     ensures bad { IsErrOf result LineError.Bad → (ticket : ℕ) (block : Block) (d : Option Delivered)
-        → FitsWaiting table.now ticket block d → waiting_line ticket block.text d ≢ line.now }
+        → FitsWaiting known.now ticket block d → waiting_line ticket block.text d ≢ line.now }
 {
     match json_of(alloc, line) {
-        Ok(json) => waiting_in(alloc, table, &json, line),
+        Ok(json) => waiting_in(alloc, known, &json, line),
         Err(e) => Err(e),
     }
 }

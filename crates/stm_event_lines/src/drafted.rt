@@ -1,9 +1,9 @@
 //! Events read by their drafts: an event whose text is the line is the line's.
 
 ghost use Rattle.std.specs.Prelude.{◌≡◌, ◌<◌, List, IfOk, IfSome};
-ghost use Rattle.stm_store.specs.Tables.{Declared};
+ghost use Rattle.stm_store.specs.Naming.{Named};
 ghost use Rattle.stm_event_lines.specs.Fields.{block_of_text};
-ghost use Rattle.stm_event_lines.specs.Fits.{FitsTable, FitsVerdict, FitsValue, FitWrites, FitNumbers, Is32Bit};
+ghost use Rattle.stm_event_lines.specs.Fits.{FitsNames, FitsVerdict, FitsValue, FitWrites, FitNumbers, Is32Bit};
 ghost use Rattle.stm_event_lines.specs.Lines.{event_line};
 ghost use Rattle.stm_events.specs.SlowDesk.{max_clients};
 
@@ -16,23 +16,23 @@ use stm_events::event::{Event, What};
 use stm_events::shared_verdict::SharedVerdict;
 use stm_events::tickets::Tickets;
 use stm_parse::{ParseFault, parse_block};
-use stm_store::Table;
+use stm_store::Names;
 use stm_terms::NoMemory;
 use stm_terms::lists::{News, Writes};
 use stm_terms::values::Value;
 use stm_terms::verdicts::Verdict;
 
-/// The block that a text is, by the table; none where it has a fault.
+/// The block that a text is over the names; none if it has a fault.
 #[tactic(auto, unfolding(crate::specs::WholeBlocks::checked_block))]
-pub fn block_of(alloc: Global, table: &Table, text: &str) -> Result<Option<SharedBlock>, NoMemory>
-    ensures { IfOk result (λ o. o ≡ block_of_text table.now text.now) }
+pub fn block_of(alloc: Global, known: &Names, text: &str) -> Result<Option<SharedBlock>, NoMemory>
+    ensures { IfOk result (λ o. o ≡ block_of_text known.now text.now) }
 {
     let raw = match parse_block(alloc, text) {
         Ok(raw) => raw,
         Err(ParseFault::NoMemory) => return Err(NoMemory),
         Err(_) => return Ok(None),
     };
-    match check(alloc, table, raw) {
+    match check(alloc, known, raw) {
         Ok(block) => Ok(Some(SharedBlock::new(alloc, block)?)),
         Err(TypeFault::NoMemory) => Err(NoMemory),
         Err(_) => Ok(None),
@@ -108,14 +108,14 @@ fn event_by(client: u32, what: What) -> Option<Event>
 
 fn submitted(
     alloc: Global,
-    table: &Table,
+    known: &Names,
     client: u32,
     ticket: u32,
     text: &str,
 ) -> Result<Option<Event>, NoMemory>
-    ensures { IfOk result (λ o. IfSome o (λ e. FitsTable table.now e)) }
+    ensures { IfOk result (λ o. IfSome o (λ e. FitsNames known.now e)) }
 {
-    match block_of(alloc, table, text)? {
+    match block_of(alloc, known, text)? {
         Some(block) => Ok(event_by(client, What::Submitted { ticket, block })),
         None => Ok(None),
     }
@@ -127,7 +127,7 @@ fn installed(
     ticket: u32,
     draft: DraftVerdict,
 ) -> Result<Option<Event>, NoMemory>
-    ensures { IfOk result (λ o. IfSome o (λ e. (t : List Declared) → FitsTable t e)) }
+    ensures { IfOk result (λ o. IfSome o (λ e. (t : List Named) → FitsNames t e)) }
 {
     let verdict = verdict_of(alloc, draft)?;
     Ok(event_by(client, What::Installed { ticket, verdict }))
@@ -142,7 +142,7 @@ fn finished(
     stale: Tickets,
 ) -> Result<Option<Event>, NoMemory>
     requires { FitNumbers stale }
-    ensures { IfOk result (λ o. IfSome o (λ e. (t : List Declared) → FitsTable t e)) }
+    ensures { IfOk result (λ o. IfSome o (λ e. (t : List Named) → FitsNames t e)) }
 {
     let verdict = verdict_of(alloc, draft)?;
     let what = What::Finished {
@@ -162,15 +162,15 @@ fn tickets_of(alloc: Global, numbers: Vec<u32>) -> Result<Tickets, NoMemory>
 }
 
 /// The event that a draft is of, if there may be one.
-fn event_of(alloc: Global, table: &Table, draft: Draft<'_>) -> Result<Option<Event>, NoMemory>
-    ensures { IfOk result (λ o. IfSome o (λ e. FitsTable table.now e)) }
+fn event_of(alloc: Global, known: &Names, draft: Draft<'_>) -> Result<Option<Event>, NoMemory>
+    ensures { IfOk result (λ o. IfSome o (λ e. FitsNames known.now e)) }
 {
     match draft {
         Draft::Submitted {
             block,
             client,
             ticket,
-        } => submitted(alloc, table, client, ticket, block),
+        } => submitted(alloc, known, client, ticket, block),
         Draft::Installed {
             client,
             ticket,
@@ -190,14 +190,14 @@ fn event_of(alloc: Global, table: &Table, draft: Draft<'_>) -> Result<Option<Eve
 }
 
 /// The event of which the line is the text, if a draft of it can be read. None says nothing of the line.
-pub fn drafted_event(alloc: Global, table: &Table, line: &[u8]) -> Result<Option<Event>, NoMemory>
+pub fn drafted_event(alloc: Global, known: &Names, line: &[u8]) -> Result<Option<Event>, NoMemory>
     ensures line { IfOk result (λ o. IfSome o (λ e. event_line e ≡ line.now)) }
-    ensures fits { IfOk result (λ o. IfSome o (λ e. FitsTable table.now e)) }
+    ensures fits { IfOk result (λ o. IfSome o (λ e. FitsNames known.now e)) }
 {
     let Ok(draft) = from_slice::<Draft>(alloc, line) else {
         return Ok(None);
     };
-    let Some(event) = event_of(alloc, table, draft)? else {
+    let Some(event) = event_of(alloc, known, draft)? else {
         return Ok(None);
     };
     let again = event_text(alloc, &event)?;

@@ -23,6 +23,9 @@ pub fn is_format(format: u32) -> bool
 /// The first format whose histories go by what blocks changed.
 const FIRST_BY_CHANGES: u32 = 3;
 
+/// The format of histories in which a variable is declared late.
+const FIRST_WITH_LATE_NAMES: u32 = 5;
+
 /// The rule by which the blocks of a history become stale.
 pub fn staleness_rule(format: u32) -> StalenessRule
     ensures { result ≡ rule_of format }
@@ -45,5 +48,6 @@ pub fn fits_format(format: u32, event: &Event) -> bool
         What::Installed { .. } => true,
         What::Finished { .. } => true,
         What::Cancelled { .. } => true,
+        What::Declared { .. } => format == FIRST_WITH_LATE_NAMES,
     }
 }

@@ -6,11 +6,10 @@ ghost use Rattle.stm_check.specs.TypedBlock.{Block};
 ghost use Rattle.stm_events.specs.declared.event.Event.{Event as AnyEvent};
 ghost use Rattle.stm_events.specs.Delivered.{Delivered};
 ghost use Rattle.stm_store.specs.declared.cell.Cell.{Cell as AnyCell};
-ghost use Rattle.stm_store.specs.Tables.{Declared};
 ghost use Rattle.stm_terms.specs.Limits.{most_refs};
 ghost use Rattle.stm_event_lines.specs.CheckpointFields.{cell_of as cell_meant, cell_parts, checkpoint_header_in};
 ghost use Rattle.stm_event_lines.specs.CheckpointLines.{checkpoint_header_line, cell_line, waiting_line, FitsCell, FitsWaiting};
-ghost use Rattle.stm_event_lines.specs.Fits.{Is32Bit, FitsTable, FitsValue, FitsVariable};
+ghost use Rattle.stm_event_lines.specs.Fits.{Is32Bit, FitsNames, FitsValue, FitsVariable};
 ghost use Rattle.stm_event_lines.specs.Lines.{IsFormat, event_line};
 ghost use Rattle.stm_event_lines.specs.Variables.{declared};
 
@@ -25,17 +24,17 @@ use crate::variable::Variable;
 use serde_json::Value as Json;
 use std::alloc::Global;
 use stm_events::event::Event;
-use stm_store::Table;
+use stm_store::Names;
 use stm_terms::{NoMemory, is_name};
 
 /// The event that a line can be read as.
-pub fn loose_event(alloc: Global, table: &Table, line: &[u8]) -> Result<Option<Event>, NoMemory>
-    ensures fits { IfOk result (λ o. IfSome o (λ e. FitsTable table.now e)) }
-    ensures same { IfOk result (λ o. (d : AnyEvent) → FitsTable table.now d
+pub fn loose_event(alloc: Global, known: &Names, line: &[u8]) -> Result<Option<Event>, NoMemory>
+    ensures fits { IfOk result (λ o. IfSome o (λ e. FitsNames known.now e)) }
+    ensures same { IfOk result (λ o. (d : AnyEvent) → FitsNames known.now d
         → event_line d ≡ line.now → o ≡ Some d) }
 {
     match json_of(alloc, line) {
-        Ok(json) => event_of(alloc, table, &json),
+        Ok(json) => event_of(alloc, known, &json),
         Err(LineError::Bad) => Ok(None),
         Err(LineError::NoMemory) => Err(NoMemory),
     }
@@ -172,20 +171,20 @@ pub fn loose_cell(alloc: Global, line: &[u8]) -> Result<Option<NamedCell>, NoMem
     }
 }
 
-/// The waiting block over the table that a line can be read as.
+/// The waiting block over the names that a line can be read as.
 pub fn loose_waiting(
     alloc: Global,
-    table: &Table,
+    known: &Names,
     line: &[u8],
 ) -> Result<Option<WaitingBlock>, NoMemory>
     ensures fits { IfOk result (λ o. IfSome o (λ w.
-        FitsWaiting table.now w.ticket w.block w.delivery)) }
+        FitsWaiting known.now w.ticket w.block w.delivery)) }
     ensures same { IfOk result (λ o. (ticket : ℕ) (block : Block) (d : Option Delivered)
-        → FitsWaiting table.now ticket block d → waiting_line ticket block.text d ≡ line.now
+        → FitsWaiting known.now ticket block d → waiting_line ticket block.text d ≡ line.now
         → o ≡ Some (record { ticket = ticket; block = block; delivery = d })) }
 {
     match json_of(alloc, line) {
-        Ok(json) => waiting_of(alloc, table, &json),
+        Ok(json) => waiting_of(alloc, known, &json),
         Err(LineError::Bad) => Ok(None),
         Err(LineError::NoMemory) => Err(NoMemory),
     }

@@ -5,11 +5,12 @@ ghost use Rattle.serde_json.specs.Read.{read as read_text};
 ghost use Rattle.serde_json.specs.View.{view};
 ghost use Rattle.stm_events.specs.declared.event.Event.{Event as AnyEvent};
 ghost use Rattle.stm_store.specs.Tables.{Declared};
+ghost use Rattle.stm_store.specs.Naming.{Named};
 ghost use Rattle.stm_event_lines.specs.Fields.{block_of_text};
-ghost use Rattle.stm_event_lines.specs.Fields.{event_of as event_meant, header_of as header_meant, what_of as what_meant, client_field, submitted_of, installed_of, finished_of, number_field, declared_from_json as variable_meant, type_in as type_meant, text_field};
+ghost use Rattle.stm_event_lines.specs.Fields.{event_of as event_meant, header_of as header_meant, what_of as what_meant, what_in as what_in_meant, if_named as if_named_meant, declared_of, client_field, submitted_of, installed_of, finished_of, number_field, declared_from_json as variable_meant, type_in as type_meant, text_field};
 ghost use Rattle.stm_terms.specs.Limits.{most_refs};
 ghost use Rattle.stm_events.specs.SlowDesk.{max_clients};
-ghost use Rattle.stm_event_lines.specs.Fits.{Is32Bit, FitsTable, WhatFitsTable, FitsValue, FitsVariable};
+ghost use Rattle.stm_event_lines.specs.Fits.{Is32Bit, FitsNames, WhatFitsNames, FitsValue, FitsVariable};
 ghost use Rattle.stm_event_lines.specs.Lines.{IsFormat, event_line, header_line, variable_line};
 ghost use Rattle.stm_event_lines.specs.Variables.{declared};
 
@@ -23,9 +24,10 @@ use crate::write::{event_text, header_text, variable_text};
 use serde_json::Value as Json;
 use std::alloc::Global;
 use stm_events::event::{Event, What};
+use stm_events::shared_name::SharedName;
 use stm_events::shared_verdict::SharedVerdict;
 use stm_events::tickets::Tickets;
-use stm_store::Table;
+use stm_store::Names;
 use stm_terms::kinds::Ty;
 use stm_terms::{NoMemory, is_name};
 
@@ -73,17 +75,17 @@ fn client_at(json: &Json) -> Option<u32>
 
 fn submitted(
     alloc: Global,
-    table: &Table,
+    known: &Names,
     json: &Json,
     ticket: u32,
 ) -> Result<Option<What>, NoMemory>
-    ensures value { IfOk result (λ o. o ≡ submitted_of table.now (view json.now) ticket) }
-    ensures fits { IfOk result (λ o. IfSome o (λ w. WhatFitsTable table.now w)) }
+    ensures value { IfOk result (λ o. o ≡ submitted_of known.now (view json.now) ticket) }
+    ensures fits { IfOk result (λ o. IfSome o (λ w. WhatFitsNames known.now w)) }
 {
     let Some(text) = text_at(json, "block") else {
         return Ok(None);
     };
-    match block_of(alloc, table, text)? {
+    match block_of(alloc, known, text)? {
         Some(block) => Ok(Some(What::Submitted { ticket, block })),
         None => Ok(None),
     }
@@ -91,7 +93,7 @@ fn submitted(
 
 fn installed(alloc: Global, json: &Json, ticket: u32) -> Result<Option<What>, NoMemory>
     ensures value { IfOk result (λ o. o ≡ installed_of (view json.now) ticket) }
-    ensures fits { IfOk result (λ o. IfSome o (λ w. (t : List Declared) → WhatFitsTable t w)) }
+    ensures fits { IfOk result (λ o. IfSome o (λ w. (t : List Named) → WhatFitsNames t w)) }
 {
     match verdict_at(alloc, json, "verdict")? {
         Some(verdict) => Ok(Some(What::Installed {
@@ -104,7 +106,7 @@ fn installed(alloc: Global, json: &Json, ticket: u32) -> Result<Option<What>, No
 
 fn finished(alloc: Global, json: &Json, ticket: u32) -> Result<Option<What>, NoMemory>
     ensures value { IfOk result (λ o. o ≡ finished_of (view json.now) ticket) }
-    ensures fits { IfOk result (λ o. IfSome o (λ w. (t : List Declared) → WhatFitsTable t w)) }
+    ensures fits { IfOk result (λ o. IfSome o (λ w. (t : List Named) → WhatFitsNames t w)) }
 {
     let Some(verdict) = verdict_at(alloc, json, "verdict")? else {
         return Ok(None);
@@ -125,16 +127,16 @@ fn finished(alloc: Global, json: &Json, ticket: u32) -> Result<Option<What>, NoM
 
 fn what_of(
     alloc: Global,
-    table: &Table,
+    known: &Names,
     json: &Json,
     kind: &str,
     ticket: u32,
 ) -> Result<Option<What>, NoMemory>
-    ensures value { IfOk result (λ o. o ≡ what_meant table.now (view json.now) kind.now ticket) }
-    ensures fits { IfOk result (λ o. IfSome o (λ w. WhatFitsTable table.now w)) }
+    ensures value { IfOk result (λ o. o ≡ what_meant known.now (view json.now) kind.now ticket) }
+    ensures fits { IfOk result (λ o. IfSome o (λ w. WhatFitsNames known.now w)) }
 {
     if kind == "submitted" {
-        submitted(alloc, table, json, ticket)
+        submitted(alloc, known, json, ticket)
     } else if kind == "installed" {
         installed(alloc, json, ticket)
     } else if kind == "finished" {
@@ -146,10 +148,51 @@ fn what_of(
     }
 }
 
+/// The late declaration of a variable, if its name is one.
+fn if_named(alloc: Global, variable: Variable) -> Result<Option<What>, NoMemory>
+    requires { (variable.kind.refs ≤ most_refs) × FitsValue variable.value }
+    ensures value { IfOk result (λ o. o ≡ if_named_meant (declared variable)) }
+    ensures fits { IfOk result (λ o. IfSome o (λ w. (t : List Named) → WhatFitsNames t w)) }
+{
+    if is_name(&variable.name) {
+        Ok(Some(What::Declared {
+            name: SharedName::new(alloc, variable.name)?,
+            kind: variable.kind,
+            value: variable.value,
+        }))
+    } else {
+        Ok(None)
+    }
+}
+
+fn declaration(alloc: Global, json: &Json) -> Result<Option<What>, NoMemory>
+    ensures value { IfOk result (λ o. o ≡ declared_of (view json.now)) }
+    ensures fits { IfOk result (λ o. IfSome o (λ w. (t : List Named) → WhatFitsNames t w)) }
+{
+    match variable_of(alloc, json)? {
+        Some(variable) => if_named(alloc, variable),
+        None => Ok(None),
+    }
+}
+
+/// What happened: a declaration has no ticket.
+fn what_in(alloc: Global, known: &Names, json: &Json, kind: &str) -> Result<Option<What>, NoMemory>
+    ensures value { IfOk result (λ o. o ≡ what_in_meant known.now (view json.now) kind.now) }
+    ensures fits { IfOk result (λ o. IfSome o (λ w. WhatFitsNames known.now w)) }
+{
+    if kind == "declared" {
+        return declaration(alloc, json);
+    }
+    let Some(ticket) = number_at(json, "ticket") else {
+        return Ok(None);
+    };
+    what_of(alloc, known, json, kind, ticket)
+}
+
 /// The event that the value represents, if it does.
-pub fn event_of(alloc: Global, table: &Table, json: &Json) -> Result<Option<Event>, NoMemory>
-    ensures value { IfOk result (λ o. o ≡ event_meant table.now (view json.now)) }
-    ensures fits { IfOk result (λ o. IfSome o (λ e. FitsTable table.now e)) }
+pub fn event_of(alloc: Global, known: &Names, json: &Json) -> Result<Option<Event>, NoMemory>
+    ensures value { IfOk result (λ o. o ≡ event_meant known.now (view json.now)) }
+    ensures fits { IfOk result (λ o. IfSome o (λ e. FitsNames known.now e)) }
 {
     let Some(kind) = text_at(json, "event") else {
         return Ok(None);
@@ -157,23 +200,20 @@ pub fn event_of(alloc: Global, table: &Table, json: &Json) -> Result<Option<Even
     let Some(client) = client_at(json) else {
         return Ok(None);
     };
-    let Some(ticket) = number_at(json, "ticket") else {
-        return Ok(None);
-    };
-    match what_of(alloc, table, json, kind, ticket)? {
+    match what_in(alloc, known, json, kind)? {
         Some(what) => Ok(Some(Event { client, what })),
         None => Ok(None),
     }
 }
 
 /// The event that the value represents, if the line is that event's.
-fn event_in(alloc: Global, table: &Table, json: &Json, line: &[u8]) -> Result<Event, LineError>
+fn event_in(alloc: Global, known: &Names, json: &Json, line: &[u8]) -> Result<Event, LineError>
     ensures ok { IfOk result (λ e. event_line e ≡ line.now) }
-    ensures fits { IfOk result (λ e. FitsTable table.now e) }
+    ensures fits { IfOk result (λ e. FitsNames known.now e) }
     ensures bad { IsErrOf result LineError.Bad → (e : AnyEvent)
-        → event_meant table.now (view json.now) ≡ Some e → event_line e ≢ line.now }
+        → event_meant known.now (view json.now) ≡ Some e → event_line e ≢ line.now }
 {
-    let Some(event) = event_of(alloc, table, json)? else {
+    let Some(event) = event_of(alloc, known, json)? else {
         return Err(LineError::Bad);
     };
     let again = event_text(alloc, &event)?;
@@ -185,28 +225,28 @@ fn event_in(alloc: Global, table: &Table, json: &Json, line: &[u8]) -> Result<Ev
 }
 
 /// Reads a line as `read_event` does, by its JSON value.
-fn read_by_value(alloc: Global, table: &Table, line: &[u8]) -> Result<Event, LineError>
+fn read_by_value(alloc: Global, known: &Names, line: &[u8]) -> Result<Event, LineError>
     ensures ok { IfOk result (λ e. event_line e ≡ line.now) }
-    ensures fits { IfOk result (λ e. FitsTable table.now e) }
-    ensures bad { IsErrOf result LineError.Bad → (e : AnyEvent) → FitsTable table.now e
+    ensures fits { IfOk result (λ e. FitsNames known.now e) }
+    ensures bad { IsErrOf result LineError.Bad → (e : AnyEvent) → FitsNames known.now e
         → event_line e ≢ line.now }
 {
     match json_of(alloc, line) {
-        Ok(json) => event_in(alloc, table, &json, line),
+        Ok(json) => event_in(alloc, known, &json, line),
         Err(e) => Err(e),
     }
 }
 
-/// Reads a line, exactly where it is the text of an event that fits the table.
-pub fn read_event(alloc: Global, table: &Table, line: &[u8]) -> Result<Event, LineError>
+/// Reads a line, exactly where it is the text of an event that fits the names.
+pub fn read_event(alloc: Global, known: &Names, line: &[u8]) -> Result<Event, LineError>
     ensures ok { IfOk result (λ e. event_line e ≡ line.now) }
-    ensures fits { IfOk result (λ e. FitsTable table.now e) }
-    ensures bad { IsErrOf result LineError.Bad → (e : AnyEvent) → FitsTable table.now e
+    ensures fits { IfOk result (λ e. FitsNames known.now e) }
+    ensures bad { IsErrOf result LineError.Bad → (e : AnyEvent) → FitsNames known.now e
         → event_line e ≢ line.now }
 {
-    match drafted_event(alloc, table, line)? {
+    match drafted_event(alloc, known, line)? {
         Some(event) => Ok(event),
-        None => read_by_value(alloc, table, line),
+        None => read_by_value(alloc, known, line),
     }
 }
 

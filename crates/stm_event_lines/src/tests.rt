@@ -9,7 +9,7 @@ use crate::read::LineError;
 use std::alloc::Global;
 use std::test::Fail;
 use stm_events::shared_verdict::SharedVerdict;
-use stm_store::{Cell, Table};
+use stm_store::{Cell, Names, Table};
 use stm_terms::is_name;
 use stm_terms::kinds::{Base, Ty};
 use stm_terms::lists::{News, Writes};
@@ -124,17 +124,17 @@ fn is_cell(alloc: Global, line: &str) -> Result<bool, LineError> {
     }
 }
 
-/// Whether the line is read as a waiting block over the table.
-fn is_waiting(alloc: Global, table: &Table, line: &str) -> Result<bool, LineError> {
-    match read_waiting(alloc, table, line.as_bytes()) {
+/// Whether the line is read as a waiting block over the names.
+fn is_waiting(alloc: Global, known: &Names, line: &str) -> Result<bool, LineError> {
+    match read_waiting(alloc, known, line.as_bytes()) {
         Ok(_waiting) => Ok(true),
         Err(LineError::Bad) => Ok(false),
         Err(LineError::NoMemory) => Err(LineError::NoMemory),
     }
 }
 
-/// A table of one variable `x`.
-fn one_variable(alloc: Global) -> Result<Table, Fail> {
+/// The names of a table of one variable `x`.
+fn one_variable(alloc: Global) -> Result<Names, Fail> {
     let mut table = Table::empty(alloc);
     let int = Ty {
         base: Base::Int,
@@ -143,19 +143,19 @@ fn one_variable(alloc: Global) -> Result<Table, Fail> {
     if is_name("x") {
         table.declare("x", int, Value::Int(0))?;
     }
-    Ok(table)
+    Ok(Names::of_table(alloc, &table)?)
 }
 
 #[test]
 fn own_lines_are_read(rt: HostRuntime) -> Result<(), Fail> {
     let alloc = rt.alloc();
-    let table = one_variable(alloc)?;
+    let known = one_variable(alloc)?;
     assert!(rt; is_header(alloc, HEADER)?);
     for line in [DECLARED, MADE] {
         assert!(rt; is_cell(alloc, line)?, "{line}");
     }
     for line in [NEW, COMMITS, THROWS, OVERFLOWS, BLOCKS] {
-        assert!(rt; is_waiting(alloc, &table, line)?, "{line}");
+        assert!(rt; is_waiting(alloc, &known, line)?, "{line}");
     }
     Ok(())
 }
@@ -184,7 +184,7 @@ const NO_CELLS: [&str; 8] = [
 ];
 
 /// No waiting blocks: another order, a blank, a leading zero, a read of three items, no verdict beside reads, a fault in the block,
-/// a variable that isn't in the table, a second verdict, a truth value that is a number.
+/// a variable that isn't among the names, a second verdict, a truth value that is a number.
 const NO_WAITING: [&str; 9] = [
     "{\"ticket\":7,\"block\":\"readTVar x\"}",
     "{\"block\":\"readTVar x\",\"ticket\": 7}",
@@ -200,7 +200,7 @@ const NO_WAITING: [&str; 9] = [
 #[test]
 fn other_lines_are_refused(rt: HostRuntime) -> Result<(), Fail> {
     let alloc = rt.alloc();
-    let table = one_variable(alloc)?;
+    let known = one_variable(alloc)?;
     for line in NO_HEADERS {
         assert!(rt; !is_header(alloc, line)?, "{line}");
     }
@@ -208,7 +208,7 @@ fn other_lines_are_refused(rt: HostRuntime) -> Result<(), Fail> {
         assert!(rt; !is_cell(alloc, line)?, "{line}");
     }
     for line in NO_WAITING {
-        assert!(rt; !is_waiting(alloc, &table, line)?, "{line}");
+        assert!(rt; !is_waiting(alloc, &known, line)?, "{line}");
     }
     Ok(())
 }

@@ -1,15 +1,18 @@
 //! The text of a line.
 
 ghost use Rattle.std.specs.Prelude.{◌≡◌, string_bytes, IfOk, OnOk, map, codes};
-ghost use Rattle.serde_json.specs.Data.{array};
+ghost use Rattle.serde_json.specs.Data.{array, string};
 ghost use Rattle.serde_json.specs.Events.{SendsValue};
 ghost use Rattle.serde_json.specs.View.{view, items_of};
-ghost use Rattle.stm_events.specs.declared.event.What.TheVariants.{Submitted, Installed, Finished, Cancelled};
-ghost use Rattle.stm_event_lines.specs.Lines.{what_data, event_data, event_line, header_data, header_line, variable_data, variable_line, verdict_data, number_data};
+ghost use Rattle.stm_events.specs.declared.event.What.TheVariants.{Submitted, Installed, Finished, Cancelled, Declared as DeclaredLate};
+ghost use Rattle.stm_event_lines.specs.Lines.{what_data, event_data, event_line, header_data, header_line, variable_data, variable_line, verdict_data, value_data, number_data};
+ghost use Rattle.stm_terms.specs.Texts.{type_text as text_of_type};
 ghost use Rattle.stm_event_lines.specs.Sending.{SendsMember};
 
 use crate::build::{type_text, value_json};
-use crate::send::{send_number_at, send_numbers, send_text_at, send_verdict};
+use crate::send::{
+    send_number_at, send_numbers, send_text_at, send_type, send_value, send_verdict,
+};
 use serde::{Described, Serialize, Serializer};
 use serde_json::{Value as Json, json, to_string};
 use std::alloc::Global;
@@ -112,6 +115,42 @@ fn send_cancelled<S: Serializer>(client: u32, ticket: u32, out: &mut S) -> Resul
     out.end_map()
 }
 
+fn send_init_at<S: Serializer>(value: Value, out: &mut S) -> Result<(), S::Error>
+    ensures { OnOk result (SendsMember (codes "init") (value_data value)
+        (S.written out.old) (S.written out.new)) }
+{
+    out.key("init")?;
+    send_value(value, out)
+}
+
+fn send_type_at<S: Serializer>(alloc: Global, kind: Ty, out: &mut S) -> Result<(), S::Error>
+    ensures { OnOk result (SendsMember (codes "type") (string (text_of_type kind))
+        (S.written out.old) (S.written out.new)) }
+{
+    out.key("type")?;
+    send_type(alloc, kind, out)
+}
+
+fn send_declared<S: Serializer>(
+    alloc: Global,
+    client: u32,
+    name: &str,
+    kind: Ty,
+    value: Value,
+    out: &mut S,
+) -> Result<(), S::Error>
+    ensures { OnOk result (SendsValue (what_data client (DeclaredLate name.now kind value))
+        (S.written out.old) (S.written out.new)) }
+{
+    out.begin_map(Some(5))?;
+    send_number_at("client", client, out)?;
+    send_text_at("event", "declared", out)?;
+    send_init_at(value, out)?;
+    send_text_at("name", name, out)?;
+    send_type_at(alloc, kind, out)?;
+    out.end_map()
+}
+
 fn send_event<S: Serializer>(alloc: Global, event: &Event, out: &mut S) -> Result<(), S::Error>
     ensures { OnOk result (SendsValue (event_data event.now)
         (S.written out.old) (S.written out.new)) }
@@ -136,6 +175,9 @@ fn send_event<S: Serializer>(alloc: Global, event: &Event, out: &mut S) -> Resul
             out,
         ),
         What::Cancelled { ticket } => send_cancelled(event.client, *ticket, out),
+        What::Declared { name, kind, value } => {
+            send_declared(alloc, event.client, name.as_str(), *kind, *value, out)
+        }
     }
 }
 

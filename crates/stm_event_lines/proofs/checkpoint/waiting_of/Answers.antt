@@ -10,5 +10,5 @@ use Rattle.stm_event_lines.proofs.checkpoint.waiting_of.Goals as goal
 pub returns-in-Some-3-clause-fits : goal.returns-in-Some-3-clause-fits
 returns-in-Some-3-clause-fits c =
     let text = text_field (codes "block") (view c.args.json.now) in
-    let e : option_and_then (block_of_text c.args.table.now) text ≡ Some c.in-Some-2.block = sym c.in_ok-block.ensures ∙ c.in-Some-2.is in
-    (c.in-Some.ensures.fits, own_block c.args.table.now text c.in-Some-2.block e, subst (λ (o : Option (Option Delivered)). IfSome o (λ d. FitsDelivery d)) c.in-Some-3.is c.in_ok-delivery.ensures.fits)
+    let e : option_and_then (block_of_text c.args.known.now) text ≡ Some c.in-Some-2.block = sym c.in_ok-block.ensures ∙ c.in-Some-2.is in
+    (c.in-Some.ensures.fits, own_block c.args.known.now text c.in-Some-2.block e, subst (λ (o : Option (Option Delivered)). IfSome o (λ d. FitsDelivery d)) c.in-Some-3.is c.in_ok-delivery.ensures.fits)

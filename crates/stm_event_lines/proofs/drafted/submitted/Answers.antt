@@ -6,5 +6,5 @@ use Rattle.stm_event_lines.proofs.drafted.submitted.Goals as goal
 
 pub returns-in-Some : goal.returns-in-Some
 returns-in-Some c =
-    fits_by c.event_by.result c.args.table.now (Submitted c.args.ticket c.in-Some.block) c.event_by.ensures
-    (c.ranges.ticket.fits, own_text c.args.table.now c.args.text.now c.in-Some.block (sym c.in_ok-block.ensures ∙ c.in-Some.is))
+    fits_by c.event_by.result c.args.known.now (Submitted c.args.ticket c.in-Some.block) c.event_by.ensures
+    (c.ranges.ticket.fits, own_text c.args.known.now c.args.text.now c.in-Some.block (sym c.in_ok-block.ensures ∙ c.in-Some.is))

@@ -5,5 +5,5 @@ use Rattle.stm_event_lines.proofs.read.submitted.Goals as goal
 
 pub returns-in-Some-2-clause-fits : goal.returns-in-Some-2-clause-fits
 returns-in-Some-2-clause-fits c =
-    let e : block_of_text c.args.table.now c.in-Some.text.now ≡ Some c.in-Some-2.block = sym c.in_ok-block.ensures ∙ c.in-Some-2.is in
-    (c.ranges.ticket.fits, own_text c.args.table.now c.in-Some.text.now c.in-Some-2.block e)
+    let e : block_of_text c.args.known.now c.in-Some.text.now ≡ Some c.in-Some-2.block = sym c.in_ok-block.ensures ∙ c.in-Some-2.is in
+    (c.ranges.ticket.fits, own_text c.args.known.now c.in-Some.text.now c.in-Some-2.block e)
