@@ -1,7 +1,7 @@
 -- The block of a text, or why it is refused.
 use Rattle.std.specs.Prelude.{ℕ, List, Result, Ok, Err}
 use Rattle.stm_check.specs.TypedBlock.{Block}
-use Rattle.stm_store.specs.Tables.{Declared}
+use Rattle.stm_store.specs.Naming.{Named}
 use Rattle.stm_event_lines.specs.WholeBlocks.{BlockFault, NotParsed, NotTyped, checked_block}
 use Rattle.stm_blocks.specs.declared.refusal.Refusal.{Refusal}
 use Rattle.stm_blocks.specs.declared.refusal.Refusal.TheVariants.{Parsing, Typing}
@@ -12,6 +12,6 @@ block_or_refusal (Ok b) = Ok b
 block_or_refusal (Err (NotParsed e)) = Err (Parsing e)
 block_or_refusal (Err (NotTyped e)) = Err (Typing e)
 
--- the block of a text over these variables; a fault of the grammar comes before a fault of types
-unfoldable pub compiled_block : List Declared → List ℕ → Result Block Refusal
-compiled_block table text = block_or_refusal (checked_block table text)
+-- the block of a text over these names; a fault of the grammar comes before a fault of types
+unfoldable pub compiled_block : List Named → List ℕ → Result Block Refusal
+compiled_block known text = block_or_refusal (checked_block known text)

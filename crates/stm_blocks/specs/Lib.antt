@@ -5,3 +5,4 @@ pub mod NameText
 pub mod OutOfMemory
 -- The words inside, for what a declaration does to the table.
 pub mod Declares
+pub mod LateVariables

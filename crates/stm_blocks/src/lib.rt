@@ -1,6 +1,6 @@
 //! Blocks and variables from their texts, as the commands of a run and the lines of scripts take them.
 //!
-//! `block` compiles the text of a block over a table, `declaring` declares the variable of a text, and `refusal` says why either
+//! `block` compiles the text of a block over names, `declaring` declares the variable of a text, and `refusal` says why either
 //! is refused. `naming` prints the name of a variable.
 //!
 //! What a reader has to believe is in these modules of specs/: `CompiledBlock` has the block of a text, `DeclaredVariable` the
