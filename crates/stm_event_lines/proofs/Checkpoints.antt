@@ -1,5 +1,5 @@
 -- The lines of a checkpoint: each is one line, begins with a brace, reads back, and is of one content only.
-use Rattle.std.proofs.Common.{◌≡◌, ◌≢◌, ℕ, ◌<◌, ◌^◌, List, false, Option, Some, None, Ok, refl, sym, ap, arith, codes}
+use Rattle.std.proofs.Common.{◌≡◌, ◌≢◌, inl, inr, ℕ, ◌<◌, ◌^◌, List, true, false, Option, Some, None, Ok, refl, sym, ap, arith, codes}
 use Rattle.std.specs.Prelude.{option_and_then}
 use Rattle.std.specs.Str.{IsUtf8}
 use Rattle.json.proofs.Printed.Decimals.{IsNumber-decimal}
@@ -14,8 +14,8 @@ use Rattle.stm_check.specs.TypedBlock.{Block}
 use Rattle.stm_events.specs.Delivered.{Delivered}
 use Rattle.stm_event_lines.specs.declared.checkpoint.CheckpointHeader.{CheckpointHeader}
 use Rattle.stm_event_lines.specs.declared.checkpoint.WaitingBlock.{WaitingBlock}
-use Rattle.stm_event_lines.specs.CheckpointFields.{checkpoint_header_of, checkpoint_header_in, cell_of, waiting_of}
-use Rattle.stm_event_lines.specs.CheckpointLines.{checkpoint_format, checkpoint_header_data, checkpoint_header_line, name_data, cell_data, cell_line, waiting_data, waiting_line, FitsName, FitsCell, FitsDelivery, FitsWaiting}
+use Rattle.stm_event_lines.specs.CheckpointFields.{is_checkpoint_format, checkpoint_header_of, checkpoint_header_in, cell_of, waiting_of}
+use Rattle.stm_event_lines.specs.CheckpointLines.{IsCheckpointFormat, checkpoint_header_data, checkpoint_header_line, name_data, cell_data, cell_line, waiting_data, waiting_line, FitsName, FitsCell, FitsDelivery, FitsWaiting}
 use Rattle.stm_event_lines.specs.Fields.{write_of, block_of_text}
 use Rattle.stm_event_lines.specs.Fits.{Is32Bit, FitsValue, IsOneLine, BeginsWithBrace}
 use Rattle.stm_event_lines.specs.Lines.{IsFormat, number_data, write_data, header_data, header_line}
@@ -29,8 +29,8 @@ use Rattle.stm_event_lines.proofs.Types.{type_back}
 
 -- ---- no float
 
-pub checkpoint_header_exact : (next vars waiting : ℕ) → has_float (checkpoint_header_data next vars waiting) ≡ false
-checkpoint_header_exact next vars waiting = refl
+pub checkpoint_header_exact : (format next vars waiting : ℕ) → has_float (checkpoint_header_data format next vars waiting) ≡ false
+checkpoint_header_exact format next vars waiting = refl
 
 name_exact : (name : Option (List ℕ)) → has_float (name_data name) ≡ false
 name_exact (Some name) = refl
@@ -47,16 +47,12 @@ delivered_exact ticket text d = rw (writes_exact d.reads, verdict_exact d.verdic
 count_round_trips : (k n : ℕ) → n < 2 ^ 64 → RoundTrips k (number_data n)
 count_round_trips k n h = record { numbers = IsNumber-decimal n h; back = rw (number_of-decimal n h); shallow = omega arith; exact = refl }
 
--- a first line of any format
-abbrev headed : ℕ → ℕ → ℕ → ℕ → Data
-headed format next vars waiting =
-    object (member (codes "format") (number_data format)
-    (member (codes "next") (number_data next)
-    (member (codes "vars") (number_data vars)
-    (member (codes "waiting") (number_data waiting) no_members))))
+format_fits : (format : ℕ) → IsCheckpointFormat format → Is32Bit format
+format_fits format (inl e) = omega (arith, e)
+format_fits format (inr e) = omega (arith, e)
 
-headed_round_trips : (format next vars waiting : ℕ) → Is32Bit format → Is32Bit next → Is32Bit vars → Is32Bit waiting → RoundTrips 6 (headed format next vars waiting)
-headed_round_trips format next vars waiting g h i j =
+header_round_trips : (format next vars waiting : ℕ) → Is32Bit format → Is32Bit next → Is32Bit vars → Is32Bit waiting → RoundTrips 6 (checkpoint_header_data format next vars waiting)
+header_round_trips format next vars waiting g h i j =
     let f = number_round_trips 0 format g in let n = number_round_trips 0 next h in
     let v = number_round_trips 0 vars i in let w = number_round_trips 0 waiting j in
     record { numbers = (f.numbers, (n.numbers, (v.numbers, (w.numbers, tt)))); back = rw (f.back, n.back, v.back, w.back); shallow = omega arith; exact = refl }
@@ -95,10 +91,11 @@ waiting_in_range known ticket b (Some d) f =
 
 -- ---- their texts
 
-checkpoint_header_reads : (next vars waiting : ℕ) → Is32Bit next → Is32Bit vars → Is32Bit waiting → ReadsBack (checkpoint_header_data next vars waiting)
-checkpoint_header_reads next vars waiting h i j =
-    reads_of (checkpoint_header_data next vars waiting) (headed_round_trips checkpoint_format next vars waiting (omega arith) h i j)
-    (refl, omega arith, (refl, omega (arith, h), (refl, omega (arith, i), (refl, omega (arith, j), tt))))
+checkpoint_header_reads : (format next vars waiting : ℕ) → IsCheckpointFormat format → Is32Bit next → Is32Bit vars → Is32Bit waiting → ReadsBack (checkpoint_header_data format next vars waiting)
+checkpoint_header_reads format next vars waiting k h i j =
+    let f = format_fits format k in
+    reads_of (checkpoint_header_data format next vars waiting) (header_round_trips format next vars waiting f h i j)
+    (refl, omega (arith, f), (refl, omega (arith, h), (refl, omega (arith, i), (refl, omega (arith, j), tt))))
 
 cell_reads : (name : Option (List ℕ)) (c : Cell) → FitsCell name c → ReadsBack (cell_data name c)
 cell_reads name c f = reads_of (cell_data name c) (cell_round_trips name c f.2 f.3) (cell_in_range name c f)
@@ -108,8 +105,8 @@ waiting_reads known ticket b d f = reads_of (waiting_data ticket b.text d) (wait
 
 -- ---- their fields
 
-checkpoint_header_back : (next vars waiting : ℕ) → Is32Bit next → Is32Bit vars → Is32Bit waiting → checkpoint_header_of (checkpoint_header_data next vars waiting) ≡ Some (record { next = next; vars = vars; waiting = waiting })
-checkpoint_header_back next vars waiting h i j = rw (in_32 next h, in_32 vars i, in_32 waiting j)
+checkpoint_header_back : (format next vars waiting : ℕ) → IsCheckpointFormat format → Is32Bit next → Is32Bit vars → Is32Bit waiting → checkpoint_header_of (checkpoint_header_data format next vars waiting) ≡ Some (record { format = format; next = next; vars = vars; waiting = waiting })
+checkpoint_header_back format next vars waiting k h i j = let f = format_fits format k in rw (in_32 format f, in_32 next h, in_32 vars i, in_32 waiting j)
 
 cell_back : (name : Option (List ℕ)) (c : Cell) → FitsCell name c → cell_of (cell_data name c) ≡ Some (name, c)
 cell_back (Some name) c f = rw (value_back c.value f.2, type_back c.kind f.1)
@@ -122,20 +119,24 @@ waiting_back known ticket b (Some d) f =
 
 -- ---- what a line is that was read
 
-pub checkpoint_header_is : (line : List ℕ) (next vars waiting : ℕ) (g : Data) → Is32Bit next → Is32Bit vars → Is32Bit waiting → checkpoint_header_line next vars waiting ≡ line → read line ≡ Some g
-    → checkpoint_header_of g ≡ Some (record { next = next; vars = vars; waiting = waiting })
+pub checkpoint_header_is : (line : List ℕ) (format next vars waiting : ℕ) (g : Data) → IsCheckpointFormat format → Is32Bit next → Is32Bit vars → Is32Bit waiting → checkpoint_header_line format next vars waiting ≡ line → read line ≡ Some g
+    → checkpoint_header_of g ≡ Some (record { format = format; next = next; vars = vars; waiting = waiting })
 unfolding checkpoint_header_line
-checkpoint_header_is line next vars waiting g h i j l some =
-    let same : g ≡ checkpoint_header_data next vars waiting = same_data line (checkpoint_header_data next vars waiting) g (checkpoint_header_reads next vars waiting h i j) l some in
-    rw same (checkpoint_header_back next vars waiting h i j)
+checkpoint_header_is line format next vars waiting g k h i j l some =
+    let same : g ≡ checkpoint_header_data format next vars waiting = same_data line (checkpoint_header_data format next vars waiting) g (checkpoint_header_reads format next vars waiting k h i j) l some in
+    rw same (checkpoint_header_back format next vars waiting k h i j)
+
+format_holds : (format : ℕ) → IsCheckpointFormat format → is_checkpoint_format format ≡ true
+format_holds format (inl e) = rw e refl
+format_holds format (inr e) = rw e refl
 
 -- also where its format is looked at
-pub checkpoint_header_in_is : (line : List ℕ) (next vars waiting : ℕ) (g : Data) → Is32Bit next → Is32Bit vars → Is32Bit waiting → checkpoint_header_line next vars waiting ≡ line → read line ≡ Some g
-    → checkpoint_header_in g ≡ Some (record { next = next; vars = vars; waiting = waiting })
+pub checkpoint_header_in_is : (line : List ℕ) (format next vars waiting : ℕ) (g : Data) → IsCheckpointFormat format → Is32Bit next → Is32Bit vars → Is32Bit waiting → checkpoint_header_line format next vars waiting ≡ line → read line ≡ Some g
+    → checkpoint_header_in g ≡ Some (record { format = format; next = next; vars = vars; waiting = waiting })
 unfolding checkpoint_header_line
-checkpoint_header_in_is line next vars waiting g h i j l some =
-    let same : g ≡ checkpoint_header_data next vars waiting = same_data line (checkpoint_header_data next vars waiting) g (checkpoint_header_reads next vars waiting h i j) l some in
-    rw same (checkpoint_header_back next vars waiting h i j)
+checkpoint_header_in_is line format next vars waiting g k h i j l some =
+    let same : g ≡ checkpoint_header_data format next vars waiting = same_data line (checkpoint_header_data format next vars waiting) g (checkpoint_header_reads format next vars waiting k h i j) l some in
+    rw (same, checkpoint_header_back format next vars waiting k h i j, format_holds format k)
 
 pub cell_is : (line : List ℕ) (name : Option (List ℕ)) (c : Cell) (g : Data) → FitsCell name c → cell_line name c ≡ line → read line ≡ Some g → cell_of g ≡ Some (name, c)
 unfolding cell_line
@@ -147,9 +148,9 @@ unfolding waiting_line
 waiting_is known line ticket b d g f l some =
     let same : g ≡ waiting_data ticket b.text d = same_data line (waiting_data ticket b.text d) g (waiting_reads known ticket b d f) l some in rw same (waiting_back known ticket b d f)
 
-pub checkpoint_header_unread : (line : List ℕ) (next vars waiting : ℕ) → Is32Bit next → Is32Bit vars → Is32Bit waiting → checkpoint_header_line next vars waiting ≡ line → (IsUtf8 line → read line ≡ None) → ⊥
+pub checkpoint_header_unread : (line : List ℕ) (format next vars waiting : ℕ) → IsCheckpointFormat format → Is32Bit next → Is32Bit vars → Is32Bit waiting → checkpoint_header_line format next vars waiting ≡ line → (IsUtf8 line → read line ≡ None) → ⊥
 unfolding checkpoint_header_line
-checkpoint_header_unread line next vars waiting h i j l none = unread line (checkpoint_header_data next vars waiting) (checkpoint_header_reads next vars waiting h i j) l none
+checkpoint_header_unread line format next vars waiting k h i j l none = unread line (checkpoint_header_data format next vars waiting) (checkpoint_header_reads format next vars waiting k h i j) l none
 
 pub cell_unread : (line : List ℕ) (name : Option (List ℕ)) (c : Cell) → FitsCell name c → cell_line name c ≡ line → (IsUtf8 line → read line ≡ None) → ⊥
 unfolding cell_line
@@ -168,9 +169,9 @@ own_block known None b e = absurd cc
 
 -- ---- laws
 
-pub checkpoint_header_one_line : (next vars waiting : ℕ) → Is32Bit next → Is32Bit vars → Is32Bit waiting → IsOneLine (checkpoint_header_line next vars waiting)
+pub checkpoint_header_one_line : (format next vars waiting : ℕ) → IsCheckpointFormat format → Is32Bit next → Is32Bit vars → Is32Bit waiting → IsOneLine (checkpoint_header_line format next vars waiting)
 unfolding checkpoint_header_line
-checkpoint_header_one_line next vars waiting h i j = (checkpoint_header_reads next vars waiting h i j).one_line
+checkpoint_header_one_line format next vars waiting k h i j = (checkpoint_header_reads format next vars waiting k h i j).one_line
 
 pub cell_one_line : (name : Option (List ℕ)) (c : Cell) → FitsCell name c → IsOneLine (cell_line name c)
 unfolding cell_line
@@ -180,9 +181,9 @@ pub waiting_one_line : (known : List Named) (ticket : ℕ) (b : Block) (d : Opti
 unfolding waiting_line
 waiting_one_line known ticket b d f = (waiting_reads known ticket b d f).one_line
 
-pub checkpoint_header_brace : (next vars waiting : ℕ) → BeginsWithBrace (checkpoint_header_line next vars waiting)
+pub checkpoint_header_brace : (format next vars waiting : ℕ) → BeginsWithBrace (checkpoint_header_line format next vars waiting)
 unfolding checkpoint_header_line
-checkpoint_header_brace next vars waiting = (_, refl)
+checkpoint_header_brace format next vars waiting = (_, refl)
 
 pub cell_brace : (name : Option (List ℕ)) (c : Cell) → BeginsWithBrace (cell_line name c)
 unfolding cell_line
@@ -200,16 +201,16 @@ waiting_brace ticket text d = waiting_data_brace ticket text d
 one_header : (o : Option CheckpointHeader) (g h : CheckpointHeader) → o ≡ Some g → o ≡ Some h → g ≡ h
 one_header o g h a b = cc
 
-pub checkpoint_header_same : (next next' vars vars' waiting waiting' : ℕ) → Is32Bit next → Is32Bit vars → Is32Bit waiting → Is32Bit next' → Is32Bit vars' → Is32Bit waiting'
-    → checkpoint_header_line next vars waiting ≡ checkpoint_header_line next' vars' waiting' → (next ≡ next') × (vars ≡ vars') × (waiting ≡ waiting')
+pub checkpoint_header_same : (format format' next next' vars vars' waiting waiting' : ℕ) → IsCheckpointFormat format → IsCheckpointFormat format' → Is32Bit next → Is32Bit vars → Is32Bit waiting → Is32Bit next' → Is32Bit vars' → Is32Bit waiting'
+    → checkpoint_header_line format next vars waiting ≡ checkpoint_header_line format' next' vars' waiting' → (format ≡ format') × (next ≡ next') × (vars ≡ vars') × (waiting ≡ waiting')
 unfolding checkpoint_header_line
-checkpoint_header_same next next' vars vars' waiting waiting' h i j h' i' j' l =
-    let g = checkpoint_header_data next' vars' waiting' in
-    let a : checkpoint_header_of g ≡ Some (record { next = next'; vars = vars'; waiting = waiting' }) = checkpoint_header_back next' vars' waiting' h' i' j' in
-    let b : checkpoint_header_of g ≡ Some (record { next = next; vars = vars; waiting = waiting }) =
-    checkpoint_header_is (checkpoint_header_line next' vars' waiting') next vars waiting g h i j l (checkpoint_header_reads next' vars' waiting' h' i' j').back in
-    let same : record { next = next; vars = vars; waiting = waiting } ≡ record { next = next'; vars = vars'; waiting = waiting' } = one_header _ _ _ b a in
-    (ap (λ (x : CheckpointHeader). x.next) same, ap (λ (x : CheckpointHeader). x.vars) same, ap (λ (x : CheckpointHeader). x.waiting) same)
+checkpoint_header_same format format' next next' vars vars' waiting waiting' k k' h i j h' i' j' l =
+    let g = checkpoint_header_data format' next' vars' waiting' in
+    let a : checkpoint_header_of g ≡ Some (record { format = format'; next = next'; vars = vars'; waiting = waiting' }) = checkpoint_header_back format' next' vars' waiting' k' h' i' j' in
+    let b : checkpoint_header_of g ≡ Some (record { format = format; next = next; vars = vars; waiting = waiting }) =
+    checkpoint_header_is (checkpoint_header_line format' next' vars' waiting') format next vars waiting g k h i j l (checkpoint_header_reads format' next' vars' waiting' k' h' i' j').back in
+    let same : record { format = format; next = next; vars = vars; waiting = waiting } ≡ record { format = format'; next = next'; vars = vars'; waiting = waiting' } = one_header _ _ _ b a in
+    (ap (λ (x : CheckpointHeader). x.format) same, ap (λ (x : CheckpointHeader). x.next) same, ap (λ (x : CheckpointHeader). x.vars) same, ap (λ (x : CheckpointHeader). x.waiting) same)
 
 -- so different variables have different lines
 one_cell : (o : Option (Option (List ℕ) × Cell)) (g h : Option (List ℕ) × Cell) → o ≡ Some g → o ≡ Some h → g ≡ h
@@ -240,10 +241,10 @@ waiting_same known ticket ticket' b b' d d' f f' l =
     (ap (λ (x : WaitingBlock). x.ticket) same, ap (λ (x : WaitingBlock). x.block) same, ap (λ (x : WaitingBlock). x.delivery) same)
 
 -- a first line of a checkpoint is none of the formats that begin from a table
-pub checkpoint_header_new : (next vars waiting format n : ℕ) → Is32Bit next → Is32Bit vars → Is32Bit waiting → IsFormat format → Is32Bit n → checkpoint_header_line next vars waiting ≢ header_line format n
+pub checkpoint_header_new : (format' next vars waiting format n : ℕ) → IsCheckpointFormat format' → Is32Bit next → Is32Bit vars → Is32Bit waiting → IsFormat format → Is32Bit n → checkpoint_header_line format' next vars waiting ≢ header_line format n
 unfolding checkpoint_header_line header_line
-checkpoint_header_new next vars waiting format n h i j k m = λ l.
-    let same : checkpoint_header_data next vars waiting ≡ header_data format n =
-    sym (same_data (header_line format n) (checkpoint_header_data next vars waiting) (header_data format n) (checkpoint_header_reads next vars waiting h i j) l (header_reads format n k m).back) in
+checkpoint_header_new format' next vars waiting format n k' h i j k m = λ l.
+    let same : checkpoint_header_data format' next vars waiting ≡ header_data format n =
+    sym (same_data (header_line format n) (checkpoint_header_data format' next vars waiting) (header_data format n) (checkpoint_header_reads format' next vars waiting k' h i j) l (header_reads format n k m).back) in
     let there : Some (number_data next) ≡ None = ap (get (codes "next")) same in
     absurd cc

@@ -1,5 +1,5 @@
 -- The text of a line reads as its value, and the value as what it was written for.
-use Rattle.std.proofs.Common.{◌≡◌, ℕ, ◌≤◌, ◌<◌, ◌^◌, List, [], ◌∷◌, Option, Some, None, Err, true, refl, sym, ap, ◌∙◌, arith, append-nil, subst, pos, negsuc}
+use Rattle.std.proofs.Common.{◌≡◌, inl, inr, ℕ, ◌≤◌, ◌<◌, ◌^◌, List, [], ◌∷◌, Option, Some, None, Err, true, refl, sym, ap, ◌∙◌, arith, append-nil, subst, pos, negsuc}
 use Rattle.std.specs.Prelude.{option_and_then, IsErrOf}
 use Rattle.std.specs.Str.{IsUtf8}
 use Rattle.std.proofs.lemmas.Str.{IsUtf8-from_ascii}
@@ -63,7 +63,8 @@ event_reads known e f = reads_of (event_data e) (what_round_trips known e.client
 
 -- a format that is read fits the program's type
 format_fits : (format : ℕ) → IsFormat format → Is32Bit format
-format_fits format k = omega (arith, k.1)
+format_fits format (inl k) = omega (arith, k.1)
+format_fits format (inr e) = omega (arith, e)
 
 pub header_reads : (format n : ℕ) → IsFormat format → Is32Bit n → ReadsBack (header_data format n)
 header_reads format n k h =

@@ -1,6 +1,6 @@
 -- What a JSON value stands for among the lines of a checkpoint, as the reader finds it. A line is accepted where what was found has
 -- this very line again.
-use Rattle.std.specs.Prelude.{ℕ, nat_eq, List, codes, Bool, if◌then◌else◌, Option, Some, None, option_map, option_and_then, is_some, string_bytes}
+use Rattle.std.specs.Prelude.{ℕ, nat_eq, ◌||◌, List, codes, Bool, if◌then◌else◌, Option, Some, None, option_map, option_and_then, is_some, string_bytes}
 use Rattle.serde_json.specs.Data.{Data}
 use Rattle.serde_json.specs.Find.{get, as_null, as_bool, as_str, as_number, as_u64}
 use Rattle.stm_terms.specs.declared.values.Value.{Value}
@@ -12,21 +12,26 @@ use Rattle.stm_event_lines.specs.declared.checkpoint.CheckpointHeader.{Checkpoin
 use Rattle.stm_event_lines.specs.declared.checkpoint.NamedCell.{NamedCell}
 use Rattle.stm_event_lines.specs.declared.checkpoint.WaitingBlock.{WaitingBlock}
 use Rattle.stm_event_lines.specs.CheckpointLines.{checkpoint_format}
+use Rattle.stm_event_lines.specs.Lines.{declaring_format}
 use Rattle.stm_event_lines.specs.Fields.{value_of, write_of, type_in, verdict_field, text_field, number_field, list_field, block_of_text}
 
 -- ---- the first line
--- a first line, whether or not its format is that of checkpoints
+-- a first line, whether or not its format is one of checkpoints
 abbrev pub checkpoint_header_of : Data → Option CheckpointHeader
 checkpoint_header_of d =
-    option_and_then (λ next. option_and_then (λ vars.
-    option_map (λ waiting. record { next = next; vars = vars; waiting = waiting }) (number_field (codes "waiting") d))
+    option_and_then (λ format. option_and_then (λ next. option_and_then (λ vars.
+    option_map (λ waiting. record { format = format; next = next; vars = vars; waiting = waiting }) (number_field (codes "waiting") d))
     (number_field (codes "vars") d))
-    (number_field (codes "next") d)
+    (number_field (codes "next") d))
+    (number_field (codes "format") d)
 
--- a first line, if its format is that of checkpoints
+-- whether the format is one of checkpoints
+abbrev pub is_checkpoint_format : ℕ → Bool
+is_checkpoint_format format = nat_eq format checkpoint_format || nat_eq format declaring_format
+
+-- a first line, if its format is one of checkpoints
 abbrev pub checkpoint_header_in : Data → Option CheckpointHeader
-checkpoint_header_in d =
-    option_and_then (λ format. if nat_eq format checkpoint_format then checkpoint_header_of d else None) (number_field (codes "format") d)
+checkpoint_header_in d = option_and_then (λ h. if is_checkpoint_format h.format then Some h else None) (checkpoint_header_of d)
 
 -- ---- a variable
 -- a natural number under a key

@@ -1,6 +1,6 @@
 -- The lines of a history that begins from a checkpoint, before its events, without their line feeds: the first line, a line for
 -- each variable of the store, and one for each waiting block.
-use Rattle.std.specs.Prelude.{⊤, ◌≡◌, ℕ, ◌^◌, ◌<◌, ◌≤◌, List, map, Option, Some, None, Ok, IsTrue, codes}
+use Rattle.std.specs.Prelude.{⊤, ◌≡◌, ◌⊎◌, ℕ, ◌^◌, ◌<◌, ◌≤◌, List, map, Option, Some, None, Ok, IsTrue, codes}
 use Rattle.serde_json.specs.Data.{Data, null, boolean, string, array, object, member, no_members}
 use Rattle.serde_json.specs.View.{items_of}
 use Rattle.serde_json.specs.Written.{compact_text}
@@ -12,24 +12,28 @@ use Rattle.stm_store.specs.Naming.{Named}
 use Rattle.stm_check.specs.TypedBlock.{Block}
 use Rattle.stm_events.specs.Delivered.{Delivered}
 use Rattle.stm_event_lines.specs.Fits.{Is32Bit, FitsValue, FitsVerdict, FitWrites}
-use Rattle.stm_event_lines.specs.Lines.{number_data, value_data, write_data, verdict_data}
+use Rattle.stm_event_lines.specs.Lines.{declaring_format, number_data, value_data, write_data, verdict_data}
 use Rattle.stm_event_lines.specs.WholeBlocks.{checked_block}
 
--- the format of histories that begin from a checkpoint
+-- the format of histories that begin from a checkpoint, if no variable is declared late, and none was before the checkpoint
 abbrev pub checkpoint_format : ℕ
 checkpoint_format = 4
 
+-- the formats of histories that begin from a checkpoint
+abbrev pub IsCheckpointFormat : ℕ → Type 0
+IsCheckpointFormat format = (format ≡ checkpoint_format) ⊎ (format ≡ declaring_format)
+
 -- ---- the first line
 -- in JSON: the format, the next ticket, and how many lines of variables and of waiting blocks follow
-abbrev pub checkpoint_header_data : ℕ → ℕ → ℕ → Data
-checkpoint_header_data next vars waiting =
-    object (member (codes "format") (number_data checkpoint_format)
+abbrev pub checkpoint_header_data : ℕ → ℕ → ℕ → ℕ → Data
+checkpoint_header_data format next vars waiting =
+    object (member (codes "format") (number_data format)
     (member (codes "next") (number_data next)
     (member (codes "vars") (number_data vars)
     (member (codes "waiting") (number_data waiting) no_members))))
 
-unfoldable pub checkpoint_header_line : ℕ → ℕ → ℕ → List ℕ
-checkpoint_header_line next vars waiting = compact_text (checkpoint_header_data next vars waiting)
+unfoldable pub checkpoint_header_line : ℕ → ℕ → ℕ → ℕ → List ℕ
+checkpoint_header_line format next vars waiting = compact_text (checkpoint_header_data format next vars waiting)
 
 -- ---- a variable
 -- a declared variable has a name, and one that a block made has none

@@ -17,6 +17,7 @@ use Rattle.stm_events.specs.declared.event.Event.{Event}
 use Rattle.stm_events.specs.declared.event.What.{What}
 use Rattle.stm_events.specs.declared.event.What.TheVariants.{Submitted, Installed, Finished, Cancelled, Declared as DeclaredLate}
 use Rattle.stm_events.specs.SlowDesk.{max_clients}
+use Rattle.stm_event_lines.specs.Lines.{declaring_format}
 use Rattle.stm_event_lines.specs.WholeBlocks.{checked_block}
 
 -- the number has at most 32 bits
@@ -76,7 +77,7 @@ WhatFitsFormat format (Submitted ticket block) = format ≡ 1 → has_catch bloc
 WhatFitsFormat format (Installed ticket v) = ⊤
 WhatFitsFormat format (Finished ticket v first_new stale) = ⊤
 WhatFitsFormat format (Cancelled ticket) = ⊤
-WhatFitsFormat format (DeclaredLate name kind value) = format ≡ 5
+WhatFitsFormat format (DeclaredLate name kind value) = format ≡ declaring_format
 
 -- the event may stand in a history of the format
 abbrev pub FitsFormat : ℕ → Event → Type 0

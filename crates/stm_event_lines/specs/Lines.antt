@@ -1,5 +1,5 @@
 -- The lines of a history, without their line feeds: each is the compact text of a JSON value.
-use Rattle.std.specs.Prelude.{ℕ, ◌≤◌, nat_le, if◌then◌else◌, List, map, codes}
+use Rattle.std.specs.Prelude.{◌≡◌, ◌⊎◌, ℕ, ◌≤◌, nat_le, if◌then◌else◌, List, map, codes}
 use Rattle.serde_json.specs.Data.{Data, null, boolean, number, unsigned, string, array, object, item, no_items, member, no_members}
 use Rattle.serde_json.specs.Find.{of_integer}
 use Rattle.serde_json.specs.View.{items_of}
@@ -19,13 +19,18 @@ use Rattle.stm_events.specs.declared.event.What.TheVariants.{Submitted, Installe
 use Rattle.stm_events.specs.declared.staleness.StalenessRule.{StalenessRule}
 use Rattle.stm_events.specs.declared.staleness.StalenessRule.TheVariants.{Written, Changed}
 
--- the format of histories that is written, the latest of those that are read
+-- formats 1 to 3 are those of histories that begin with the first values of their variables and declare no variable late; the latest is
+-- written
 abbrev pub latest_format : ℕ
 latest_format = 3
 
--- the formats that are read
+-- the format of histories in which a variable is declared late, or was before their checkpoint
+abbrev pub declaring_format : ℕ
+declaring_format = 5
+
+-- the formats of histories that begin with the first values of their variables
 abbrev pub IsFormat : ℕ → Type 0
-IsFormat format = (1 ≤ format) × (format ≤ latest_format)
+IsFormat format = ((1 ≤ format) × (format ≤ latest_format)) ⊎ (format ≡ declaring_format)
 
 -- the rule by which the blocks of a history become stale: in formats 1 and 2 a block wakes the readers of all that it wrote
 abbrev pub rule_of : ℕ → StalenessRule

@@ -10,7 +10,7 @@ ghost use Rattle.stm_store.specs.declared.cell.Cell.{Cell as AnyCell};
 ghost use Rattle.stm_check.specs.TypedBlock.{Block};
 ghost use Rattle.stm_events.specs.Delivered.{Delivered};
 ghost use Rattle.stm_event_lines.specs.CheckpointFields.{checkpoint_header_of as header_meant, count_field, name_of, counted_cell_of, cell_of as cell_meant, cell_parts, bool_field, delivery_in, delivery_of as delivery_meant, waiting_of as waiting_meant};
-ghost use Rattle.stm_event_lines.specs.CheckpointLines.{checkpoint_header_data, checkpoint_header_line, name_data, cell_data, cell_line, waiting_data, waiting_line, FitsName, FitsCell, FitsDelivery, FitsWaiting};
+ghost use Rattle.stm_event_lines.specs.CheckpointLines.{IsCheckpointFormat, checkpoint_header_data, checkpoint_header_line, name_data, cell_data, cell_line, waiting_data, waiting_line, FitsName, FitsCell, FitsDelivery, FitsWaiting};
 ghost use Rattle.stm_event_lines.specs.Fields.{block_of_text, text_field, verdict_field};
 ghost use Rattle.stm_event_lines.specs.Fits.{Is32Bit, FitsValue, FitsVerdict};
 ghost use Rattle.stm_event_lines.specs.Lines.{write_data};
@@ -19,6 +19,7 @@ ghost use Rattle.stm_event_lines.specs.Sending.{SendsMember};
 use crate::build::{type_text, value_json};
 use crate::drafted::block_of;
 use crate::fields::{number_at, text_at, value_at};
+use crate::formats::is_checkpoint_format;
 use crate::parts::writes_at;
 use crate::read::{LineError, json_of, kind_at};
 use crate::send::{send_number_at, send_text_at, send_writes};
@@ -35,9 +36,10 @@ use stm_terms::values::Value;
 use stm_terms::verdicts::Verdict;
 use stm_terms::{NoMemory, is_name};
 
-/// What the first line says: the next ticket, and how many lines of variables and of waiting blocks follow.
+/// What the first line says: the format, the next ticket, and how many lines of variables and of waiting blocks follow.
 #[derive(Clone, Copy)]
 pub struct CheckpointHeader {
+    pub format: u32,
     pub next: u32,
     pub vars: u32,
     pub waiting: u32,
@@ -58,26 +60,30 @@ pub struct WaitingBlock {
     pub delivery: Option<Delivery>,
 }
 
-/// The format of histories that begin from a checkpoint.
-pub const CHECKPOINT_FORMAT: u32 = 4;
-
-fn header_json(alloc: Global, next: u32, vars: u32, waiting: u32) -> Result<Json, NoMemory>
-    ensures { IfOk result (λ v. view v ≡ checkpoint_header_data next vars waiting) }
+fn header_json(
+    alloc: Global,
+    format: u32,
+    next: u32,
+    vars: u32,
+    waiting: u32,
+) -> Result<Json, NoMemory>
+    ensures { IfOk result (λ v. view v ≡ checkpoint_header_data format next vars waiting) }
 {
-    json!(in alloc; {"format": CHECKPOINT_FORMAT, "next": next, "vars": vars, "waiting": waiting})
+    json!(in alloc; {"format": format, "next": next, "vars": vars, "waiting": waiting})
 }
 
 /// The first line.
 #[tactic(auto, unfolding(crate::specs::CheckpointLines::checkpoint_header_line))]
 pub fn checkpoint_header_text(
     alloc: Global,
+    format: u32,
     next: u32,
     vars: u32,
     waiting: u32,
 ) -> Result<String, NoMemory>
-    ensures { IfOk result (λ s. string_bytes s ≡ checkpoint_header_line next vars waiting) }
+    ensures { IfOk result (λ s. string_bytes s ≡ checkpoint_header_line format next vars waiting) }
 {
-    let header = header_json(alloc, next, vars, waiting)?;
+    let header = header_json(alloc, format, next, vars, waiting)?;
     header.to_string(alloc)
 }
 
@@ -218,28 +224,40 @@ pub(crate) fn header_of(json: &Json) -> Option<CheckpointHeader>
     ensures value { result ≡ header_meant (view json.now) }
     ensures fits { IfSome result (λ h. Is32Bit h.next × Is32Bit h.vars × Is32Bit h.waiting) }
 {
+    let format = number_at(json, "format")?;
     let next = number_at(json, "next")?;
     let vars = number_at(json, "vars")?;
     let waiting = number_at(json, "waiting")?;
     Some(CheckpointHeader {
+        format,
         next,
         vars,
         waiting,
     })
 }
 
-/// What the value says as a first line, if the line is that first line.
+/// What the value says as a first line, if its format is one of checkpoints and the line is that first line.
 fn header_in(alloc: Global, json: &Json, line: &[u8]) -> Result<CheckpointHeader, LineError>
-    ensures ok { IfOk result (λ h. checkpoint_header_line h.next h.vars h.waiting ≡ line.now) }
+    ensures ok { IfOk result (λ h. checkpoint_header_line h.format h.next h.vars h.waiting ≡ line.now) }
+    ensures format { IfOk result (λ h. IsCheckpointFormat h.format) }
     ensures small { IfOk result (λ h. Is32Bit h.next × Is32Bit h.vars × Is32Bit h.waiting) }
-    ensures bad { IsErrOf result LineError.Bad → (next vars waiting : ℕ)
-        → header_meant (view json.now) ≡ Some (record { next = next; vars = vars; waiting = waiting })
-        → checkpoint_header_line next vars waiting ≢ line.now }
+    ensures bad { IsErrOf result LineError.Bad → (format next vars waiting : ℕ) → IsCheckpointFormat format
+        → header_meant (view json.now) ≡ Some (record { format = format; next = next; vars = vars; waiting = waiting })
+        → checkpoint_header_line format next vars waiting ≢ line.now }
 {
     let Some(header) = header_of(json) else {
         return Err(LineError::Bad);
     };
-    let again = checkpoint_header_text(alloc, header.next, header.vars, header.waiting)?;
+    if !is_checkpoint_format(header.format) {
+        return Err(LineError::Bad);
+    }
+    let again = checkpoint_header_text(
+        alloc,
+        header.format,
+        header.next,
+        header.vars,
+        header.waiting,
+    )?;
     if again.as_bytes() == line {
         Ok(header)
     } else {
@@ -247,12 +265,13 @@ fn header_in(alloc: Global, json: &Json, line: &[u8]) -> Result<CheckpointHeader
     }
 }
 
-/// Reads the first line, exactly where it is one.
+/// Reads the first line, exactly where it is one of a format of checkpoints.
 pub fn read_checkpoint_header(alloc: Global, line: &[u8]) -> Result<CheckpointHeader, LineError>
-    ensures ok { IfOk result (λ h. checkpoint_header_line h.next h.vars h.waiting ≡ line.now) }
+    ensures ok { IfOk result (λ h. checkpoint_header_line h.format h.next h.vars h.waiting ≡ line.now) }
+    ensures format { IfOk result (λ h. IsCheckpointFormat h.format) }
     ensures small { IfOk result (λ h. Is32Bit h.next × Is32Bit h.vars × Is32Bit h.waiting) }
-    ensures bad { IsErrOf result LineError.Bad → (next vars waiting : ℕ) → Is32Bit next → Is32Bit vars → Is32Bit waiting
-        → checkpoint_header_line next vars waiting ≢ line.now }
+    ensures bad { IsErrOf result LineError.Bad → (format next vars waiting : ℕ) → IsCheckpointFormat format
+        → Is32Bit next → Is32Bit vars → Is32Bit waiting → checkpoint_header_line format next vars waiting ≢ line.now }
 {
     match json_of(alloc, line) {
         Ok(json) => header_in(alloc, &json, line),

@@ -1,6 +1,8 @@
 //! The formats of histories: which are read, which is written, and what may be in each.
 
 ghost use Rattle.std.specs.Prelude.{◌≡◌, ◌↔◌, IsTrue};
+ghost use Rattle.stm_event_lines.specs.CheckpointFields.{is_checkpoint_format};
+ghost use Rattle.stm_event_lines.specs.CheckpointLines.{IsCheckpointFormat};
 ghost use Rattle.stm_event_lines.specs.Fits.{FitsFormat};
 ghost use Rattle.stm_event_lines.specs.Lines.{IsFormat, rule_of};
 
@@ -10,21 +12,32 @@ use stm_events::staleness::StalenessRule;
 /// The first format, in which no block has a `catch`.
 pub const FIRST_FORMAT: u32 = 1;
 
-/// The format that is written, the latest of those that are read.
+/// The format that is written of histories that begin with the first values of their variables and declare no variable late.
 pub const LATEST_FORMAT: u32 = 3;
 
-/// Whether histories of the format are read.
+/// The format of histories that begin from a checkpoint, if no variable is declared late, and none was before the checkpoint.
+pub const CHECKPOINT_FORMAT: u32 = 4;
+
+/// The format of histories in which a variable is declared late, or was before their checkpoint.
+pub const DECLARING_FORMAT: u32 = 5;
+
+/// Whether histories of the format that begin with the first values of their variables are read.
 pub fn is_format(format: u32) -> bool
     ensures { IsTrue result ↔ IsFormat format }
 {
-    FIRST_FORMAT <= format && format <= LATEST_FORMAT
+    FIRST_FORMAT <= format && format <= LATEST_FORMAT || format == DECLARING_FORMAT
+}
+
+/// Whether histories of the format that begin from a checkpoint are read.
+pub fn is_checkpoint_format(format: u32) -> bool
+    ensures test { result ≡ is_checkpoint_format format }
+    ensures says { IsTrue result ↔ IsCheckpointFormat format }
+{
+    format == CHECKPOINT_FORMAT || format == DECLARING_FORMAT
 }
 
 /// The first format whose histories go by what blocks changed.
 const FIRST_BY_CHANGES: u32 = 3;
-
-/// The format of histories in which a variable is declared late.
-const FIRST_WITH_LATE_NAMES: u32 = 5;
 
 /// The rule by which the blocks of a history become stale.
 pub fn staleness_rule(format: u32) -> StalenessRule
@@ -48,6 +61,6 @@ pub fn fits_format(format: u32, event: &Event) -> bool
         What::Installed { .. } => true,
         What::Finished { .. } => true,
         What::Cancelled { .. } => true,
-        What::Declared { .. } => format == FIRST_WITH_LATE_NAMES,
+        What::Declared { .. } => format == DECLARING_FORMAT,
     }
 }

@@ -1,6 +1,7 @@
 //! Lines read whether or not their JSON is written as it has to be: with blanks, and with keys in another order.
 
-ghost use Rattle.std.specs.Prelude.{◌≡◌, ◌≤◌, ◌<◌, ◌^◌, ℕ, List, Option, Some, IfOk, IfSome, option_map, string_bytes};
+ghost use Rattle.std.specs.Prelude.{◌≡◌, ◌≤◌, ◌<◌, ◌^◌, ℕ, ◌&&◌, nat_eq, is_some, List, Option, Some, IfOk, IfSome, option_map, string_bytes, codes};
+ghost use Rattle.serde_json.specs.Find.{get};
 ghost use Rattle.serde_json.specs.View.{view};
 ghost use Rattle.stm_check.specs.TypedBlock.{Block};
 ghost use Rattle.stm_events.specs.declared.event.Event.{Event as AnyEvent};
@@ -8,17 +9,16 @@ ghost use Rattle.stm_events.specs.Delivered.{Delivered};
 ghost use Rattle.stm_store.specs.declared.cell.Cell.{Cell as AnyCell};
 ghost use Rattle.stm_terms.specs.Limits.{most_refs};
 ghost use Rattle.stm_event_lines.specs.CheckpointFields.{cell_of as cell_meant, cell_parts, checkpoint_header_in};
-ghost use Rattle.stm_event_lines.specs.CheckpointLines.{checkpoint_header_line, cell_line, waiting_line, FitsCell, FitsWaiting};
+ghost use Rattle.stm_event_lines.specs.CheckpointLines.{IsCheckpointFormat, checkpoint_header_line, cell_line, waiting_line, FitsCell, FitsWaiting};
 ghost use Rattle.stm_event_lines.specs.Fits.{Is32Bit, FitsNames, FitsValue, FitsVariable};
-ghost use Rattle.stm_event_lines.specs.Lines.{IsFormat, event_line};
+ghost use Rattle.stm_event_lines.specs.Lines.{IsFormat, declaring_format, event_line};
 ghost use Rattle.stm_event_lines.specs.Variables.{declared};
 
 use crate::checkpoint::{
-    CHECKPOINT_FORMAT, CheckpointHeader, NamedCell, WaitingBlock, cell_of,
-    header_of as checkpoint_header_of, is_fit_name, name_of_cell, waiting_of,
+    CheckpointHeader, NamedCell, WaitingBlock, cell_of, header_of as checkpoint_header_of,
+    is_fit_name, name_of_cell, waiting_of,
 };
-use crate::fields::number_at;
-use crate::formats::is_format;
+use crate::formats::{DECLARING_FORMAT, is_checkpoint_format, is_format};
 use crate::read::{Header, LineError, event_of, header_of, json_of, variable_of};
 use crate::variable::Variable;
 use serde_json::Value as Json;
@@ -40,13 +40,20 @@ pub fn loose_event(alloc: Global, known: &Names, line: &[u8]) -> Result<Option<E
     }
 }
 
+/// Whether a first line of the format is a checkpoint's: in format 5 it is if it has a next ticket.
+fn is_of_checkpoint(json: &Json, format: u32) -> bool
+    ensures { result ≡ (nat_eq format declaring_format && is_some (get (codes "next") (view json.now))) }
+{
+    format == DECLARING_FORMAT && json.get("next").is_some()
+}
+
 /// The first line that a value represents, if it is one of a format that is read.
 fn header_read(json: &Json) -> Option<Header>
     ensures { IfSome result (λ h. IsFormat h.format) }
 {
     match header_of(json) {
         Some(header) => {
-            if is_format(header.format) {
+            if is_format(header.format) && !is_of_checkpoint(json, header.format) {
                 Some(header)
             } else {
                 None
@@ -100,14 +107,15 @@ pub fn loose_variable(alloc: Global, line: &[u8]) -> Result<Option<Variable>, No
     }
 }
 
-/// The first line of a checkpoint that a value represents, if its format is that of checkpoints.
+/// The first line of a checkpoint that a value represents, if its format is one of checkpoints.
 fn checkpoint_header_read(json: &Json) -> Option<CheckpointHeader>
     ensures value { result ≡ checkpoint_header_in (view json.now) }
+    ensures format { IfSome result (λ h. IsCheckpointFormat h.format) }
     ensures fits { IfSome result (λ h. Is32Bit h.next × Is32Bit h.vars × Is32Bit h.waiting) }
 {
-    let format = number_at(json, "format")?;
-    if format == CHECKPOINT_FORMAT {
-        checkpoint_header_of(json)
+    let header = checkpoint_header_of(json)?;
+    if is_checkpoint_format(header.format) {
+        Some(header)
     } else {
         None
     }
@@ -120,9 +128,10 @@ pub fn loose_checkpoint_header(
 ) -> Result<Option<CheckpointHeader>, NoMemory>
     ensures fits { IfOk result (λ o.
         IfSome o (λ h. Is32Bit h.next × Is32Bit h.vars × Is32Bit h.waiting)) }
-    ensures same { IfOk result (λ o. (next vars waiting : ℕ) → Is32Bit next → Is32Bit vars → Is32Bit waiting
-        → checkpoint_header_line next vars waiting ≡ line.now
-        → o ≡ Some (record { next = next; vars = vars; waiting = waiting })) }
+    ensures format { IfOk result (λ o. IfSome o (λ h. IsCheckpointFormat h.format)) }
+    ensures same { IfOk result (λ o. (format next vars waiting : ℕ) → IsCheckpointFormat format
+        → Is32Bit next → Is32Bit vars → Is32Bit waiting → checkpoint_header_line format next vars waiting ≡ line.now
+        → o ≡ Some (record { format = format; next = next; vars = vars; waiting = waiting })) }
 {
     match json_of(alloc, line) {
         Ok(json) => Ok(checkpoint_header_read(&json)),

@@ -18,6 +18,8 @@ use stm_terms::verdicts::Verdict;
 
 const HEADER: &str = "{\"format\":4,\"next\":9,\"vars\":2,\"waiting\":0}";
 
+const DECLARING_HEADER: &str = "{\"format\":5,\"next\":9,\"vars\":2,\"waiting\":0}";
+
 const DECLARED: &str =
     "{\"count\":18446744073709551615,\"init\":-5,\"name\":\"x\",\"type\":\"Int\"}";
 
@@ -57,8 +59,12 @@ fn headers_and_variables_are_written(rt: HostRuntime) -> Result<(), Fail> {
         count: 0,
     };
     assert_eq!(rt;
-        checkpoint_header_text(rt.alloc(), 9, 2, 0)?.as_str(),
+        checkpoint_header_text(rt.alloc(), 4, 9, 2, 0)?.as_str(),
         HEADER
+    );
+    assert_eq!(rt;
+        checkpoint_header_text(rt.alloc(), 5, 9, 2, 0)?.as_str(),
+        DECLARING_HEADER
     );
     assert_eq!(rt;
         cell_text(rt.alloc(), Some("x"), declared)?.as_str(),
@@ -150,7 +156,9 @@ fn one_variable(alloc: Global) -> Result<Names, Fail> {
 fn own_lines_are_read(rt: HostRuntime) -> Result<(), Fail> {
     let alloc = rt.alloc();
     let known = one_variable(alloc)?;
-    assert!(rt; is_header(alloc, HEADER)?);
+    for line in [HEADER, DECLARING_HEADER] {
+        assert!(rt; is_header(alloc, line)?, "{line}");
+    }
     for line in [DECLARED, MADE] {
         assert!(rt; is_cell(alloc, line)?, "{line}");
     }
@@ -161,8 +169,10 @@ fn own_lines_are_read(rt: HostRuntime) -> Result<(), Fail> {
 }
 
 /// No first lines: another format, an old one, another order, a blank, a leading zero, a number of 33 bits.
-const NO_HEADERS: [&str; 7] = [
+const NO_HEADERS: [&str; 9] = [
     "",
+    "{\"format\":6,\"next\":9,\"vars\":2,\"waiting\":0}",
+    "{\"format\":5,\"vars\":2}",
     "{\"format\":3,\"next\":9,\"vars\":2,\"waiting\":0}",
     "{\"format\":3,\"vars\":2}",
     "{\"next\":9,\"format\":4,\"vars\":2,\"waiting\":0}",
