@@ -1,10 +1,10 @@
 -- What the check finds if more names are known.
 use Rattle.std.proofs.Common.{◌≡◌, ℕ, Bool, true, false, List, [], ◌∷◌, ◌++◌, ◌⊎◌, inl, inr, Option, Some, None, Result, Ok, Err, refl, ap, sym, subst, ◌∙◌}
-use Rattle.std.specs.Prelude.{option_map, nat_le, if◌then◌else◌, ⊤}
+use Rattle.std.specs.Prelude.{option_map}
 use Rattle.stm_terms.specs.declared.kinds.Ty.{Ty}
 use Rattle.stm_terms.specs.Ast.{Term, lit, local, global, bin, Act, return, read, write, make, retry, throw, if_else, or_else, bind, let_in, seq, catch}
 use Rattle.stm_terms.specs.ParsedAst as raw
-use Rattle.stm_terms.specs.Typing.{TypeEnv, int_ty, bool_ty, var_ty, deref_ty, same_ty, with_type, expr_type, ActionType, Gives, Any, join_types, with_result, with_bound, action_type, named_in, named, record_use_as, record_use, record_uses, uses_of, kinds_in}
+use Rattle.stm_terms.specs.Typing.{TypeEnv, int_ty, bool_ty, var_ty, deref_ty, same_ty, expr_type, ActionType, Gives, Any, action_type, named_in, named, record_use_as, record_use, record_uses, kinds_in}
 use Rattle.stm_store.specs.Naming.{Named, known_kinds, number_named}
 use Rattle.stm_store.proofs.Naming.{number_stays, known_stay}
 use Rattle.stm_check.specs.Scopes.{Locals, innermost, types_of}

@@ -67,7 +67,7 @@ pub(crate) fn check_raw(
 /// The block of a parsed text, well typed, or the first fault from left to right.
 ///
 /// Names are resolved: a local has its number, counted from 0 and from the outermost, and a declared variable its number
-/// in the table. Where locals have one name, the innermost is meant; a local hides a declared variable (docs/LANGUAGE.md,
+/// among the names. Where locals have one name, the innermost is meant; a local hides a declared variable (docs/LANGUAGE.md,
 /// "Types"). The fault is the one of docs/LANGUAGE.md, "Type errors", or `NoMemory` if memory ran out before it was found.
 pub fn check(alloc: Global, known: &Names, raw: Raw) -> Result<Typed, TypeFault>
     ensures says { AnswersUnless TypeFault.NoMemory (λ t. (t.tree, result_type t.result_type)) result

@@ -1,17 +1,17 @@
 -- Each name is that of a variable that is there, with its type.
-use Rattle.std.proofs.Common.{◌≡◌, ℕ, zero, suc, ◌+◌, ◌≤◌, Bool, true, List, [], ◌∷◌, ◌++◌, map, length, Option, Some, None, refl, sym, ap, subst, ◌∙◌, arith, append_assoc, length-append, add-one}
-use Rattle.std.specs.Prelude.{slice_get, option_map}
+use Rattle.std.proofs.Common.{◌≡◌, ℕ, zero, suc, ◌+◌, ◌≤◌, List, [], ◌∷◌, ◌++◌, length, Some, refl, sym, subst, append_assoc, length-append}
+use Rattle.std.specs.Prelude.{slice_get}
 use Rattle.std.proofs.lemmas.List.{map-append}
 use Rattle.stm_terms.specs.declared.kinds.Ty.{Ty}
 use Rattle.stm_terms.specs.declared.values.Ref.TheVariants.{Old, New}
 use Rattle.stm_terms.specs.declared.values.Value.{Value}
 use Rattle.stm_terms.specs.declared.values.Value.TheVariants.{Int, Bool as Truth, Unit as Nil, Var}
 use Rattle.stm_terms.specs.Changes.{no_changes}
-use Rattle.stm_terms.specs.Typing.{TypeEnv, var_ty, type_of, kinds_in}
+use Rattle.stm_terms.specs.Typing.{TypeEnv, var_ty, type_of}
 use Rattle.stm_store.specs.declared.cell.Cell.{Cell}
-use Rattle.stm_store.specs.Cells.{plain, plains, kinds_of, Covers, CommitFits, Fits, applied}
+use Rattle.stm_store.specs.Cells.{plains, kinds_of, Covers, Fits, applied}
 use Rattle.stm_store.specs.Naming.{Named, named_use, named_uses, known_kinds, named_from, named_in_table}
-use Rattle.stm_store.specs.Tables.{Declared, declared_cell, declared_cells, opened}
+use Rattle.stm_store.specs.Tables.{Declared, declared_cells, opened}
 use Rattle.stm_store.proofs.ApplyPreservesTyping.{covered_stay}
 use Rattle.stm_store.proofs.Opening.{plains-opened}
 use Rattle.stm_store.proofs.TypeTestsDecide.{and_left, and_right, le_true, kind_from}
@@ -19,8 +19,7 @@ use Rattle.stm_store.proofs.Typed.{mapped}
 use Rattle.stm_check.proofs.Weakening.{covered}
 use Rattle.stm_events.specs.declared.event.What.{What}
 use Rattle.stm_events.specs.declared.event.What.TheVariants.{Submitted, Installed, Finished, Cancelled, Declared as DeclaredLate}
-use Rattle.stm_events.specs.declared.staleness.StalenessRule.{StalenessRule}
-use Rattle.stm_events.specs.SlowDesk.{Slow, MayDeclare, declaration, after, initial_state}
+use Rattle.stm_events.specs.SlowDesk.{Slow, MayDeclare, declaration, after}
 
 -- ---- one more
 pub covers-append : (cells : List (Ty × Value)) (us vs : List (ℕ × Ty)) → Covers cells us → Covers cells vs → Covers cells (us ++ vs)
