@@ -4,6 +4,7 @@ pub mod Declaring
 pub mod FirstPage
 pub mod FitsDecided
 pub mod FreshNumbersInRange
+pub mod HeldTypes
 pub mod KnownNumbers
 pub mod Lookups
 pub mod Naming

@@ -1,17 +1,20 @@
 -- Names with one more.
-use Rattle.std.proofs.Common.{◌≡◌, inl, inr, ℕ, zero, suc, ◌<◌, ◌≤◌, Bool, true, false, List, [], ◌∷◌, ◌++◌, Option, Some, None, String, cond, map, string_bytes, refl, ap, subst, arith}
+use Rattle.std.proofs.Common.{◌≡◌, inl, inr, ℕ, zero, suc, ◌<◌, ◌≤◌, Bool, true, false, List, [], ◌∷◌, ◌++◌, Option, Some, None, String, cond, map, take, string_bytes, refl, sym, ap, subst, ◌∙◌, arith}
 use Rattle.std.specs.Prelude.{slice_get, option_map, nat_eq, IsTrue, if◌then◌else◌}
 use Rattle.std.specs.Global.{Global}
 use Rattle.std.specs.Str.{bytes_eq}
 use Rattle.std.specs.Map.{lookup}
 use Rattle.std.proofs.lemmas.Bool.Decides.{nat_tests}
+use Rattle.std.proofs.lemmas.List.{take-append-le}
 use Rattle.std.proofs.lemmas.Option.{slice_get_within}
 use Rattle.std.proofs.lemmas.Slice.Eq.{bytes_eq-Decides}
+use Rattle.std.proofs.Math.Seq.{take-append_seam}
 use Rattle.indexmap.specs.IndexMap.{insert_entry}
 use Rattle.stm_terms.specs.declared.kinds.Ty.{Ty}
 use Rattle.stm_terms.specs.Names.{is_name_text}
 use Rattle.stm_store.specs.NameEntries.{named_of}
-use Rattle.stm_store.specs.Naming.{Named, known_kinds, number_named, NumbersAreBelow, AreKnown}
+use Rattle.stm_store.specs.Naming.{Named, known_kinds, number_named, MayHaveType, NumbersAreBelow, AreKnown}
+use Rattle.stm_store.proofs.HeldTypes.{low_of_held}
 use Rattle.stm_store.proofs.Naming.{number_stays, known_stay}
 use Rattle.stm_store.proofs.Places.{same_bytes}
 use Rattle.stm_store.proofs.Typed.{added_cases}
@@ -48,7 +51,7 @@ pub kind_looked : (test : String Global → Bool) (es : List Entry) (v : ℕ × 
 kind_looked test es v k h = let p = placed test es v h in k.typed p.place (named_of (p.key, v)) p.there
 
 pub low_looked : (test : String Global → Bool) (es : List Entry) (v : ℕ × Ty) → AreKnown (map named_of es) → lookup test es ≡ Some v → v.1.refs ≤ 8
-low_looked test es v k h = let p = placed test es v h in k.low p.place (named_of (p.key, v)) p.there
+low_looked test es v k h = let p = placed test es v h in low_of_held (take p.place (map named_of es)) v.1 (k.held p.place (named_of (p.key, v)) p.there)
 
 -- ---- adding one
 last_number : (ns : List Named) (d : Named) → number_named d.name ns ≡ None → number_named d.name (ns ++ d ∷ []) ≡ Some d.number
@@ -87,8 +90,18 @@ ascending_added ns d k above i j x y f g l =
           ]
     ]
 
-pub known-added : (ns : List Named) (d : Named) → AreKnown ns → IsTrue (is_name_text d.name) → number_named d.name ns ≡ None → NumbersAreBelow d.number ns → d.kind.refs ≤ 8 → AreKnown (ns ++ d ∷ [])
-known-added ns d k name fresh above low = record {
+-- the names before a place stay
+held_added : (ns : List Named) (d : Named) → AreKnown ns → MayHaveType ns d.kind → (i : ℕ) (x : Named) → slice_get (ns ++ d ∷ []) i ≡ Some x → MayHaveType (take i (ns ++ d ∷ [])) x.kind
+held_added ns d k h i x f =
+    elim (added_cases ns d i x f) [
+      | inl p ↦ let l = slice_get_within ns i x p in subst (λ (few : List Named). MayHaveType few x.kind) (sym (take-append-le i ns (d ∷ []) (omega (arith, l)))) (k.held i x p)
+      | inr p ↦
+          let few : take i (ns ++ d ∷ []) ≡ ns = ap (λ (n : ℕ). take n (ns ++ d ∷ [])) p.0 ∙ take-append_seam ns (d ∷ []) in
+          subst (λ (few : List Named). MayHaveType few x.kind) (sym few) (subst (λ (y : Named). MayHaveType ns y.kind) p.1 h)
+    ]
+
+pub known-added : (ns : List Named) (d : Named) → AreKnown ns → IsTrue (is_name_text d.name) → number_named d.name ns ≡ None → NumbersAreBelow d.number ns → MayHaveType ns d.kind → AreKnown (ns ++ d ∷ [])
+known-added ns d k name fresh above held = record {
   named = λ i x f. elim (added_cases ns d i x f) [ inl p ↦ k.named i x p | inr p ↦ subst (λ (y : Named). IsTrue (is_name_text y.name)) p.1 name ];
   ascending = ascending_added ns d k above;
   distinct = λ i x f.
@@ -101,7 +114,7 @@ known-added ns d k name fresh above low = record {
         | inl p ↦ known_stay ns (d ∷ []) x.number x.kind (k.typed i x p)
         | inr p ↦ subst (λ (y : Named). known_kinds (ns ++ d ∷ []) y.number ≡ Some y.kind) p.1 (last_kind ns d above)
       ];
-  low = λ i x f. elim (added_cases ns d i x f) [ inl p ↦ k.low i x p | inr p ↦ subst (λ (y : Named). y.kind.refs ≤ 8) p.1 low ];
+  held = held_added ns d k held;
 }
 
 -- a key that the map lacks goes last

@@ -9,11 +9,11 @@ use Rattle.std.proofs.lemmas.List.{length-take-le}
 use Rattle.stm_terms.specs.declared.kinds.Ty.{Ty}
 use Rattle.stm_terms.specs.declared.values.Value.{Value}
 use Rattle.stm_terms.specs.Names.{is_name_text}
-use Rattle.stm_store.specs.Cells.{StoreHasAtMost8Refs}
-use Rattle.stm_store.specs.Naming.{Named, named_from, named_in_table, number_named, NumbersAreBelow}
+use Rattle.stm_store.specs.Naming.{Named, named_from, named_in_table, number_named, MayHaveType, NumbersAreBelow}
 use Rattle.stm_store.specs.NameEntries.{named_of}
-use Rattle.stm_store.specs.Tables.{Declared, declared_cell, declared_cells, number_from, number_of, declare_refusal, AreDeclared}
+use Rattle.stm_store.specs.Tables.{Declared, number_from, number_of, declare_refusal, AreDeclared}
 use Rattle.std.specs.Prelude.{string_bytes}
+use Rattle.stm_store.proofs.HeldTypes.{held_in_table}
 
 -- an entry, by its parts
 pub record IsEntry (table : List Declared) (i : ℕ) (name : List ℕ) (kind : Ty) : Type 0 where
@@ -52,13 +52,10 @@ fresh_name table i name kind declared e =
 pub is_name : (table : List Declared) (i : ℕ) (name : List ℕ) (kind : Ty) → AreDeclared table → IsEntry table i name kind → IsTrue (is_name_text name)
 is_name table i name kind declared e = subst (λ (n : List ℕ). IsTrue (is_name_text n)) e.name_is (declared i e.entry e.there).0
 
-cell_there : (table : List Declared) (i : ℕ) (d : Declared) → slice_get table i ≡ Some d → slice_get (declared_cells table) i ≡ Some (declared_cell d)
-cell_there [] i d e = absurd (cc)
-cell_there (x ∷ table) zero d e = let p : x ≡ d = cc in ap (λ (y : Declared). Some (declared_cell y)) p
-cell_there (x ∷ table) (suc i) d e = cell_there table i d e
-
-pub low_kind : (table : List Declared) (i : ℕ) (name : List ℕ) (kind : Ty) → StoreHasAtMost8Refs (declared_cells table) → IsEntry table i name kind → kind.refs ≤ 8
-low_kind table i name kind low e = subst (λ (k : Ty). k.refs ≤ 8) e.kind_is (low i (declared_cell e.entry) (cell_there table i e.entry e.there))
+pub held_kind : (table : List Declared) (i : ℕ) (name : List ℕ) (kind : Ty) → AreDeclared table → IsEntry table i name kind → MayHaveType (named_in_table (take i table)) kind
+held_kind table i name kind declared e =
+    let free = (declared i e.entry e.there).1 in
+    subst (λ (k : Ty). MayHaveType (named_in_table (take i table)) k) e.kind_is (held_in_table (take i table) e.entry.name e.entry.kind e.entry.value free)
 
 below_from : (n : ℕ) (xs : List Declared) (i : ℕ) (e : Named) → slice_get (named_from n xs) i ≡ Some e → e.number < n + length xs
 below_from n [] i e h = absurd (cc)

@@ -1,9 +1,9 @@
 //! The names that blocks may use.
 
-ghost use Rattle.std.specs.Prelude.{◌≡◌, ◌<◌, ◌≤◌, ◌++◌, ◌∷◌, [], length, IsTrue, IfOk, IfSome, OnOk, OnErr, option_map, slice_get, Some, None};
+ghost use Rattle.std.specs.Prelude.{◌≡◌, ◌≢◌, ◌↔◌, ℕ, ◌<◌, ◌≤◌, ◌++◌, ◌∷◌, [], length, IsTrue, IfOk, IfSome, OnOk, OnErr, option_map, slice_get, Some, None};
 ghost use Rattle.stm_terms.specs.Limits.{most_refs};
 ghost use Rattle.stm_terms.specs.Names.{is_name_text};
-ghost use Rattle.stm_store.specs.Naming.{named_in_table, known_kinds, number_named, is_of_known, may_hold_known, NumbersAreBelow, AreKnown};
+ghost use Rattle.stm_store.specs.Naming.{Named, named_in_table, known_kinds, number_named, name_numbered, is_gapless, is_of_known, may_hold_known, MayHaveType, NumbersAreBelow, AreKnown};
 
 use crate::seed::Seed;
 use crate::table::Table;
@@ -107,9 +107,23 @@ impl Names {
         }
     }
 
-    /// The type of the variable of a number, if it has a name. It is found by halves, since the numbers ascend.
-    fn kind_of(&self, number: u32) -> Option<Ty>
-        ensures { result ≡ known_kinds self.now number }
+    /// The name at a place.
+    fn name_at(&self, place: usize) -> &str
+        requires { place < length self.now }
+        ensures { option_map (λ d. d.name) (slice_get self.now place) ≡ Some result.now }
+    {
+        match self.entries.get_index(place) {
+            Some((name, _)) => name.as_str(),
+            None => unreachable!(),
+        }
+    }
+
+    /// The place of the variable of a number, if it has a name. It is found by halves, since the numbers ascend.
+    fn place_of(&self, number: u32) -> Option<usize>
+        ensures within { IfSome result (λ p. p < length self.now) }
+        ensures there { IfSome result (λ p. option_map (λ d. d.number) (slice_get self.now p) ≡ Some number) }
+        ensures known { AreKnown self.now }
+        ensures nowhere { result ≡ None → (i : ℕ) (d : Named) → slice_get self.now i ≡ Some d → d.number ≢ number }
     {
         let mut low = 0;
         let mut high = self.len();
@@ -117,7 +131,7 @@ impl Names {
             let middle = low + (high - low) / 2;
             let there = self.number_at(middle);
             if there == number {
-                return Some(self.kind_at(middle));
+                return Some(middle);
             }
             if there < number {
                 low = middle + 1;
@@ -126,6 +140,56 @@ impl Names {
             }
         }
         None
+    }
+
+    /// The type of the variable of a number, if it has a name.
+    fn kind_of(&self, number: u32) -> Option<Ty>
+        ensures { result ≡ known_kinds self.now number }
+    {
+        match self.place_of(number) {
+            Some(place) => Some(self.kind_at(place)),
+            None => None,
+        }
+    }
+
+    /// The name of the variable of a number.
+    pub fn name_of(&self, number: u32) -> Option<&str>
+        ensures { option_map (λ n. n.now) result ≡ name_numbered number self.now }
+    {
+        match self.place_of(number) {
+            Some(place) => Some(self.name_at(place)),
+            None => None,
+        }
+    }
+
+    /// Whether the variables with names are the first ones: none without a name comes before one with a name.
+    pub fn is_gapless(&self) -> bool
+        ensures { result ≡ is_gapless self.now }
+    {
+        for place in 0..self.len() {
+            if self.number_at(place) as usize != place {
+                return false;
+            }
+        }
+        true
+    }
+
+    /// Whether a variable of the type may be declared with some value.
+    pub fn may_have_type(&self, kind: Ty) -> bool
+        ensures { IsTrue result ↔ MayHaveType self.now kind }
+    {
+        if kind.refs == 0 {
+            return true;
+        }
+        if kind.refs > Ty::MOST_REFS {
+            return false;
+        }
+        for place in 0..self.len() {
+            if refers_to(self.kind_at(place), kind) {
+                return true;
+            }
+        }
+        false
     }
 
     /// Whether a variable of the type may be declared with the value.
@@ -156,7 +220,7 @@ impl Names {
         requires name { IsTrue (is_name_text name.now) }
         requires fresh { number_named name.now self.now ≡ None }
         requires above { NumbersAreBelow number self.now }
-        requires low { kind.refs ≤ most_refs }
+        requires held { MayHaveType self.now kind }
         ensures ok { OnOk result (self.new ≡ self.old
             ++ record { name = name.now; number = number; kind = kind } ∷ []) }
         ensures err { OnErr result (self.new ≡ self.old) }

@@ -1,6 +1,6 @@
 use Rattle.std.proofs.Common.{◌≤◌, ◌++◌, ◌∷◌, [], List, length, ap, ◌∙◌, arith}
 use Rattle.stm_store.specs.Naming.{Named}
-use Rattle.stm_store.proofs.TableNames.{entry_at, fresh_name, low_kind, numbers_below, names_next}
+use Rattle.stm_store.proofs.TableNames.{entry_at, fresh_name, held_kind, numbers_below, names_next}
 use Rattle.stm_store.proofs.names.Names.of_table.Goals as goal
 
 pub add-requires-clause-fresh : goal.add-requires-clause-fresh
@@ -13,9 +13,10 @@ add-requires-clause-above c =
     let l : c.loop-id.id ≤ length c.args.table.now = omega arith in
     rw c.loop-id.invariant (numbers_below c.args.table.now c.loop-id.id l)
 
-pub add-requires-clause-low : goal.add-requires-clause-low
-add-requires-clause-low c =
-    low_kind c.args.table.now c.loop-id.id c.name.result.now c.kind.result c.len-id-end.ensures.low (entry_at c.args.table.now c.loop-id.id c.name.result.now c.kind.result c.name.ensures c.kind.ensures)
+pub add-requires-clause-held : goal.add-requires-clause-held
+add-requires-clause-held c =
+    let e = entry_at c.args.table.now c.loop-id.id c.name.result.now c.kind.result c.name.ensures c.kind.ensures in
+    rw c.loop-id.invariant (held_kind c.args.table.now c.loop-id.id c.name.result.now c.kind.result c.len-id-end.ensures.declared e)
 
 pub loop-id-preserved : goal.loop-id-preserved
 loop-id-preserved c =

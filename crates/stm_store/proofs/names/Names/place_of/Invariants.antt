@@ -1,7 +1,7 @@
 use Rattle.std.proofs.Common.{◌≡◌, ℕ, ◌<◌, ◌≤◌, ◌-◌, Some, length}
 use Rattle.std.specs.Prelude.{slice_get}
 use Rattle.stm_store.specs.Naming.{Named}
-use Rattle.stm_store.proofs.names.Names.kind_of.Given as goal
+use Rattle.stm_store.proofs.names.Names.place_of.Given as goal
 
 -- the number is among what is left, if anywhere
 abbrev pub invariant-loop-low : goal.invariant-loop-low
