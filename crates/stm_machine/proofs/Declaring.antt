@@ -7,8 +7,7 @@ use Rattle.stm_terms.specs.declared.values.Value.{Value}
 use Rattle.stm_terms.specs.Names.{is_name_text}
 use Rattle.stm_store.specs.declared.cell.Cell.{Cell}
 use Rattle.stm_store.specs.Cells.{plains, kinds_of, Covers, Fits, applied}
-use Rattle.stm_store.specs.Naming.{Named, named_uses, number_named, may_hold_known, NumbersAreBelow}
-use Rattle.stm_store.proofs.TypeTestsDecide.{and_left, le_true}
+use Rattle.stm_store.specs.Naming.{Named, named_uses, number_named, may_hold_known, MayHaveType, NumbersAreBelow}
 use Rattle.stm_events.specs.declared.event.What.TheVariants.{Declared as DeclaredLate}
 use Rattle.stm_events.specs.Refusals.{declare_first, late_declare_refused}
 use Rattle.stm_events.specs.SlowDesk.{Slow, MayDeclare, declaration, max_cells, after, Allows}
@@ -64,8 +63,8 @@ module _ (m : Parts) (s : Slow) (k : IsAt m s) (name : List ℕ) (kind : Ty) (va
       subst (λ (ns : List Named). NumbersAreBelow (length m.store) ns) (sym k.stands.names_are)
       (subst (λ (n : ℕ). NumbersAreBelow n s.names) (length-plains s.store ∙ ap length (sym k.stands.store_is)) (covers_below (plains s.store) s.names k.possible.named))
 
-  pub low_at : kind.refs ≤ 8
-  low_at = le_true _ _ (and_left _ _ (free_by _ _ _ e).of_type)
+  pub held_at : MayHaveType m.names kind
+  held_at = (value, subst (λ (ns : List Named). may_hold_known ns kind value ≡ true) (sym k.stands.names_are) (free_by _ _ _ e).of_type)
 
   pub fits_at : IsTrue (is_name_text name) → Fits (plains m.store) (declaration kind value)
   fits_at n = subst (λ (z : List Cell). Fits (plains z) (declaration kind value)) (sym k.stands.store_is) (declaration_fits s name kind value k.possible.named (may_declare s name kind value n e))

@@ -1,6 +1,6 @@
 use Rattle.std.proofs.Common.{sym, subst}
 use Rattle.stm_machine.specs.Machine.{Parts, IsAt}
-use Rattle.stm_machine.proofs.Declaring.{fits_at, below_at, moves_declare}
+use Rattle.stm_machine.proofs.Declaring.{fits_at, below_at, held_at, moves_declare}
 use Rattle.stm_machine.proofs.machine.Machine.declare.Goals as goal
 
 pub with_variable-requires : goal.with_variable-requires
@@ -14,6 +14,12 @@ add-requires-clause-above c =
     let s = c.requires.may.0 in
     let k = subst (λ (m : Parts). IsAt m s) (sym c.self.view_is) c.requires.may.1 in
     rw c.len-number.ensures.len (below_at _ s k c.args.name.now c.args.kind c.args.value c.requires.may.2)
+
+pub add-requires-clause-held : goal.add-requires-clause-held
+add-requires-clause-held c =
+    let s = c.requires.may.0 in
+    let k = subst (λ (m : Parts). IsAt m s) (sym c.self.view_is) c.requires.may.1 in
+    held_at _ s k c.args.name.now c.args.kind c.args.value c.requires.may.2
 
 pub returns-clause-moved : goal.returns-clause-moved
 returns-clause-moved c = λ z h.
