@@ -1,24 +1,23 @@
 -- How a checker goes on, line after line.
-use Rattle.std.specs.Prelude.{◌≡◌, ◌≢◌, ℕ, ◌+◌, ◌≤◌, ◌<◌, nat_lt, if◌then◌else◌, List, [], ◌∷◌, ◌++◌, length, take, drop, Option, Some, None, ◌⊎◌}
+use Rattle.std.specs.Prelude.{◌≡◌, ◌≢◌, true, ℕ, ◌+◌, ◌≤◌, ◌<◌, nat_lt, if◌then◌else◌, List, [], ◌∷◌, ◌++◌, length, take, drop, Option, Some, None, ◌⊎◌}
 use Rattle.stm_terms.specs.declared.kinds.Ty.{Ty}
-use Rattle.stm_terms.specs.declared.values.Value.{Value}
 use Rattle.stm_store.specs.declared.cell.Cell.{Cell}
-use Rattle.stm_store.specs.Cells.{IsStore, plains}
+use Rattle.stm_store.specs.Cells.{Covers, IsStore, plains}
+use Rattle.stm_store.specs.Naming.{AreKnown, MayHaveType, Named, is_gapless, named_uses, number_named}
 use Rattle.stm_store.specs.Tables.{Declared}
 use Rattle.stm_events.specs.declared.event.Event.{Event}
 use Rattle.stm_events.specs.SlowDesk.{max_cells, max_waiting}
 use Rattle.stm_events.specs.States.{IsLegalFrom}
 use Rattle.stm_machine.specs.declared.checkpoint.CheckpointBlock.{CheckpointBlock}
 use Rattle.stm_machine.specs.Checkpoints.{CheckpointView, MayAdd, max_next}
-use Rattle.stm_event_lines.specs.CheckpointLines.{FitsCell, FitsWaiting, cell_line, checkpoint_format, checkpoint_header_line}
-use Rattle.stm_event_lines.specs.Fits.{FitsTable, FitsFormat}
+use Rattle.stm_event_lines.specs.CheckpointLines.{FitsCell, FitsWaiting, IsCheckpointFormat, cell_line, checkpoint_format, checkpoint_header_line}
+use Rattle.stm_event_lines.specs.Fits.{FitsNames, FitsFormat}
 use Rattle.stm_event_lines.specs.Lines.{IsFormat, event_line, header_line, variable_line}
 use Rattle.stm_history.specs.declared.files.fault.HistoryFault.{HistoryFault}
 use Rattle.stm_history.specs.declared.files.fault.HistoryFault.TheVariants.{ReadFault, BadHeader, BadLine, NotLegal, NoMemory}
-use Rattle.stm_history.specs.Defaults.{HaveDefaults, default_value}
 use Rattle.stm_history.specs.HistoryText.{block_line, cells_text, checkpoint_text, head_text, history_text}
 use Rattle.stm_history.specs.Judgement.{IsShort, MayDeclare, AreVariables, AreEvents, FitCells, IsReadable, IsStart, NoEventNext, IsIllegalFrom, next_line}
-use Rattle.stm_history.specs.Starts.{Start, delivery_of_block, first_state}
+use Rattle.stm_history.specs.Starts.{Start, delivery_of_block, first_state, names_after}
 
 -- no byte is a line feed
 abbrev pub NoFeed : List ℕ → Type 0
@@ -26,13 +25,14 @@ NoFeed [] = Unit {0}
 NoFeed (x ∷ xs) = (x ≢ 10) × NoFeed xs
 
 -- How far the lines have come: before the first; in a format, among those of the variables, of which this many were announced;
--- among those of a checkpoint's variables, with the next ticket and with how many variables and waiting blocks were announced;
--- among those of its waiting blocks, of which this many were announced; among those of the events.
+-- in a format, among those of a checkpoint's variables, with the next ticket, with how many variables and waiting blocks were
+-- announced, and with the names so far; in a format, among those of its waiting blocks, of which this many were announced; among
+-- those of the events.
 pub data CheckerState : Type 0 where
   at_header : CheckerState
   at_variables : ℕ → ℕ → List Declared → CheckerState
-  at_cells : ℕ → ℕ → ℕ → List Declared → List Cell → CheckerState
-  at_blocks : ℕ → List Declared → CheckpointView → CheckerState
+  at_cells : ℕ → ℕ → ℕ → ℕ → List Named → List Cell → CheckerState
+  at_blocks : ℕ → ℕ → CheckpointView → CheckerState
   at_events : Start → List Event → CheckerState
 
 -- ---- the progress with what was read
@@ -44,18 +44,18 @@ with_table format n table =
     else at_events (record { format = format; table = table; checkpoint = None }) []
 
 -- with this checkpoint: more lines of its waiting blocks are to come, or else the lines of the events
-abbrev pub with_blocks : ℕ → List Declared → CheckpointView → CheckerState
-with_blocks waiting table c =
+abbrev pub with_blocks : ℕ → ℕ → CheckpointView → CheckerState
+with_blocks format waiting c =
     if nat_lt (length c.blocks) waiting
-    then at_blocks waiting table c
-    else at_events (record { format = checkpoint_format; table = table; checkpoint = Some c }) []
+    then at_blocks format waiting c
+    else at_events (record { format = format; table = []; checkpoint = Some c }) []
 
 -- with these variables of a checkpoint: more of their lines are to come, or else those of the waiting blocks
-abbrev pub with_cells : ℕ → ℕ → ℕ → List Declared → List Cell → CheckerState
-with_cells next vars waiting table cells =
+abbrev pub with_cells : ℕ → ℕ → ℕ → ℕ → List Named → List Cell → CheckerState
+with_cells format next vars waiting names cells =
     if nat_lt (length cells) vars
-    then at_cells next vars waiting table cells
-    else with_blocks waiting table (record { store = cells; next = next; blocks = [] })
+    then at_cells format next vars waiting names cells
+    else with_blocks format waiting (record { store = cells; names = names; next = next; blocks = [] })
 
 -- ---- what may come next
 -- a checkpoint may have this next ticket and as many variables and waiting blocks
@@ -65,49 +65,52 @@ pub record IsCheckpointHead (next m n : ℕ) : Type 0 where
   pub vars : m ≤ max_cells
   pub waiting : n ≤ max_waiting
 
--- A variable of this type, after these of a checkpoint, makes the one table the other: without a name the same one; with a name
--- each variable before has one, and it may be declared with the default of its type.
-abbrev pub NamesCell : List Declared → List Cell → Option (List ℕ) → Ty → List Declared → Type 0
-NamesCell table cells None kind named = named ≡ table
-NamesCell table cells (Some name) kind named =
-    (length table ≡ length cells) × (v : Value) × (default_value table kind ≡ Some v)
-    × MayDeclare table (record { name = name; kind = kind; value = v })
-    × (named ≡ table ++ record { name = name; kind = kind; value = v } ∷ [])
+-- The variable of this number, of this type, may have the name, if it has one, after variables of a checkpoint with these names: in
+-- format 4 each variable before it has a name; no other variable has this one; and a variable of the type may be declared.
+abbrev pub MayBeNamed : ℕ → List Named → ℕ → Option (List ℕ) → Ty → Type 0
+MayBeNamed format names n None kind = Unit {0}
+MayBeNamed format names n (Some name) kind =
+    (format ≡ checkpoint_format → length names ≡ n) × (number_named name names ≡ None) × MayHaveType names kind
 
--- the variable may come next, and makes the one table the other; with the last one, which has this number, they are a store
-pub record MayTakeCell (vars : ℕ) (table : List Declared) (cells : List Cell) (name : Option (List ℕ)) (c : Cell) (named : List Declared) : Type 0 where
+-- the names with that of the variable of this number, if it has one
+abbrev pub with_name_of : List Named → ℕ → Option (List ℕ) → Ty → List Named
+with_name_of names n None kind = names
+with_name_of names n (Some name) kind = names ++ record { name = name; number = n; kind = kind } ∷ []
+
+-- the variable may come next, in the format; with the last one, which has this number, they are a store
+pub record MayTakeCell (format vars : ℕ) (names : List Named) (cells : List Cell) (name : Option (List ℕ)) (c : Cell) : Type 0 where
   pub fits : FitsCell name c
-  pub names : NamesCell table cells name c.kind named
+  pub named : MayBeNamed format names (length cells) name c.kind
   pub store : length cells + 1 ≡ vars → IsStore (plains (cells ++ c ∷ []))
 
 -- the waiting block may come next
-abbrev pub MayTakeBlock : List Declared → CheckpointView → CheckpointBlock → Type 0
-MayTakeBlock table c b = FitsWaiting table b.ticket b.waiting.block (delivery_of_block b) × MayAdd c b
+abbrev pub MayTakeBlock : CheckpointView → CheckpointBlock → Type 0
+MayTakeBlock c b = FitsWaiting c.names b.ticket b.waiting.block (delivery_of_block b) × MayAdd c b
 
 -- the first line is that of a table in a format
 abbrev pub LeadsToVariables : List ℕ → CheckerState → Type 0
 LeadsToVariables line q =
     (format : ℕ) × (n : ℕ) × IsFormat format × (header_line format n ≡ line) × (n ≤ max_cells) × (q ≡ with_table format n [])
 
--- the first line is that of a checkpoint
+-- the first line is that of a checkpoint in a format
 abbrev pub LeadsToCells : List ℕ → CheckerState → Type 0
 LeadsToCells line q =
-    (next : ℕ) × (vars : ℕ) × (waiting : ℕ) × IsCheckpointHead next vars waiting
-    × (checkpoint_header_line next vars waiting ≡ line) × (q ≡ with_cells next vars waiting [] [])
+    (format : ℕ) × (next : ℕ) × (vars : ℕ) × (waiting : ℕ) × IsCheckpointFormat format × IsCheckpointHead next vars waiting
+    × (checkpoint_header_line format next vars waiting ≡ line) × (q ≡ with_cells format next vars waiting [] [])
 
 -- the line leads on to this progress
 abbrev pub LeadsTo : CheckerState → List ℕ → CheckerState → Type 0
 LeadsTo at_header line q = LeadsToVariables line q ⊎ LeadsToCells line q
 LeadsTo (at_variables format n table) line q =
     (d : Declared) × (variable_line d ≡ line) × MayDeclare table d × (q ≡ with_table format n (table ++ d ∷ []))
-LeadsTo (at_cells next vars waiting table cells) line q =
-    (name : Option (List ℕ)) × (c : Cell) × (named : List Declared) × (cell_line name c ≡ line)
-    × MayTakeCell vars table cells name c named × (q ≡ with_cells next vars waiting named (cells ++ c ∷ []))
-LeadsTo (at_blocks waiting table c) line q =
-    (b : CheckpointBlock) × (block_line b ≡ line) × MayTakeBlock table c b
-    × (q ≡ with_blocks waiting table (record c { blocks = c.blocks ++ b ∷ [] }))
+LeadsTo (at_cells format next vars waiting names cells) line q =
+    (name : Option (List ℕ)) × (c : Cell) × (cell_line name c ≡ line) × MayTakeCell format vars names cells name c
+    × (q ≡ with_cells format next vars waiting (with_name_of names (length cells) name c.kind) (cells ++ c ∷ []))
+LeadsTo (at_blocks format waiting c) line q =
+    (b : CheckpointBlock) × (block_line b ≡ line) × MayTakeBlock c b
+    × (q ≡ with_blocks format waiting (record c { blocks = c.blocks ++ b ∷ [] }))
 LeadsTo (at_events start history) line q =
-    (e : Event) × (event_line e ≡ line) × FitsTable start.table e × FitsFormat start.format e
+    (e : Event) × (event_line e ≡ line) × FitsNames (names_after start history) e × FitsFormat start.format e
     × IsLegalFrom (first_state start) (history ++ e ∷ []) × (q ≡ at_events start (history ++ e ∷ []))
 
 -- the line leads on to no progress
@@ -118,44 +121,38 @@ LeadsNowhere p line = (q : CheckerState) → LeadsTo p line q → ⊥
 abbrev pub IsStrange : CheckerState → List ℕ → Type 0
 IsStrange at_header line = LeadsNowhere at_header line
 IsStrange (at_variables format n table) line = LeadsNowhere (at_variables format n table) line
-IsStrange (at_cells next vars waiting table cells) line = LeadsNowhere (at_cells next vars waiting table cells) line
-IsStrange (at_blocks waiting table c) line = LeadsNowhere (at_blocks waiting table c) line
-IsStrange (at_events start history) line = (e : Event) → FitsTable start.table e → FitsFormat start.format e → event_line e ≢ line
+IsStrange (at_cells format next vars waiting names cells) line = LeadsNowhere (at_cells format next vars waiting names cells) line
+IsStrange (at_blocks format waiting c) line = LeadsNowhere (at_blocks format waiting c) line
+IsStrange (at_events start history) line = (e : Event) → FitsNames (names_after start history) e → FitsFormat start.format e → event_line e ≢ line
 
 -- the fault of a strange line
 abbrev pub strange : CheckerState → HistoryFault
 strange at_header = BadHeader
 strange (at_variables format n table) = BadHeader
-strange (at_cells next vars waiting table cells) = BadHeader
-strange (at_blocks waiting table c) = BadHeader
+strange (at_cells format next vars waiting names cells) = BadHeader
+strange (at_blocks format waiting c) = BadHeader
 strange (at_events start history) = BadLine (next_line start history)
 
 -- the line is that of an event which can't follow
 abbrev pub Forbids : CheckerState → List ℕ → HistoryFault → Type 0
 Forbids at_header line f = ⊥
 Forbids (at_variables format n table) line f = ⊥
-Forbids (at_cells next vars waiting table cells) line f = ⊥
-Forbids (at_blocks waiting table c) line f = ⊥
+Forbids (at_cells format next vars waiting names cells) line f = ⊥
+Forbids (at_blocks format waiting c) line f = ⊥
 Forbids (at_events start history) line f =
-    (e : Event) × (event_line e ≡ line) × FitsTable start.table e × FitsFormat start.format e × IsIllegalFrom start history e
-    × (f ≡ NotLegal (next_line start history))
+    (e : Event) × (event_line e ≡ line) × FitsNames (names_after start history) e × FitsFormat start.format e
+    × IsIllegalFrom start history e × (f ≡ NotLegal (next_line start history))
 
 -- why a line may be refused
 abbrev pub MayRefuse : CheckerState → List ℕ → HistoryFault → Type 0
 MayRefuse p line f = (f ≡ NoMemory) ⊎ (((f ≡ strange p) × IsStrange p line) ⊎ Forbids p line f)
 
 -- ---- what was read
--- the declared variables are the first ones, with their types
-abbrev pub AreFirstCells : List Declared → List Cell → Type 0
-AreFirstCells [] cells = Unit {0}
-AreFirstCells (d ∷ ds) [] = ⊥
-AreFirstCells (d ∷ ds) (c ∷ cells) = (c.kind ≡ d.kind) × AreFirstCells ds cells
-
--- the first variables of a checkpoint, of which these are declared
-pub record AreCells (table : List Declared) (cells : List Cell) : Type 0 where
-  pub variables : AreVariables table
-  pub defaults : HaveDefaults table
-  pub types : AreFirstCells table cells
+-- the first variables of a checkpoint in the format, of which some have these names
+pub record AreCells (format : ℕ) (names : List Named) (cells : List Cell) : Type 0 where
+  pub known : AreKnown names
+  pub named : Covers (plains cells) (named_uses names)
+  pub gapless : format ≡ checkpoint_format → is_gapless names ≡ true
   pub fit : FitCells cells
 
 -- the text is whole lines that led to this progress
@@ -163,13 +160,13 @@ abbrev pub LinesUpTo : CheckerState → List ℕ → Type 0
 LinesUpTo at_header text = text ≡ []
 LinesUpTo (at_variables format n table) text =
     IsFormat format × (text ≡ head_text format n table) × AreVariables table × (length table < n) × (n ≤ max_cells)
-LinesUpTo (at_cells next vars waiting table cells) text =
-    IsCheckpointHead next vars waiting × (text ≡ cells_text next vars waiting table cells) × AreCells table cells
-    × (length cells < vars)
-LinesUpTo (at_blocks waiting table c) text =
-    (text ≡ checkpoint_text waiting table c) × IsReadable table c × (length c.blocks < waiting) × (waiting ≤ max_waiting)
+LinesUpTo (at_cells format next vars waiting names cells) text =
+    IsCheckpointHead next vars waiting × (text ≡ cells_text format next vars waiting names cells) × AreCells format names cells
+    × (length cells < vars) × IsCheckpointFormat format
+LinesUpTo (at_blocks format waiting c) text =
+    (text ≡ checkpoint_text format waiting c) × IsReadable format c × (length c.blocks < waiting) × (waiting ≤ max_waiting)
 LinesUpTo (at_events start history) text =
-    (text ≡ history_text start history) × IsStart start × AreEvents start.format start.table history
+    (text ≡ history_text start history) × IsStart start × AreEvents start.format (first_state start) history
     × IsLegalFrom (first_state start) history
 
 -- no short line that leads on comes next
@@ -180,9 +177,9 @@ NoLineNext p rest = (line : List ℕ) (q : CheckerState) → LeadsTo p line q �
 abbrev pub NoNext : CheckerState → List ℕ → Type 0
 NoNext at_header rest = NoLineNext at_header rest
 NoNext (at_variables format n table) rest = NoLineNext (at_variables format n table) rest
-NoNext (at_cells next vars waiting table cells) rest = NoLineNext (at_cells next vars waiting table cells) rest
-NoNext (at_blocks waiting table c) rest = NoLineNext (at_blocks waiting table c) rest
-NoNext (at_events start history) rest = NoEventNext start.format start.table rest
+NoNext (at_cells format next vars waiting names cells) rest = NoLineNext (at_cells format next vars waiting names cells) rest
+NoNext (at_blocks format waiting c) rest = NoLineNext (at_blocks format waiting c) rest
+NoNext (at_events start history) rest = NoEventNext start.format (names_after start history) rest
 
 -- what was taken is whole lines up to this progress, and then a line that has begun
 pub record HasTaken (p : CheckerState) (line taken : List ℕ) : Type 0 where
@@ -196,11 +193,11 @@ pub record HasTaken (p : CheckerState) (line taken : List ℕ) : Type 0 where
 abbrev pub ForbidsNext : CheckerState → List ℕ → HistoryFault → Type 0
 ForbidsNext at_header rest f = ⊥
 ForbidsNext (at_variables format n table) rest f = ⊥
-ForbidsNext (at_cells next vars waiting table cells) rest f = ⊥
-ForbidsNext (at_blocks waiting table c) rest f = ⊥
+ForbidsNext (at_cells format next vars waiting names cells) rest f = ⊥
+ForbidsNext (at_blocks format waiting c) rest f = ⊥
 ForbidsNext (at_events start history) rest f =
     (e : Event) × (more : List ℕ) × (rest ≡ event_line e ++ 10 ∷ more)
-    × FitsTable start.table e × FitsFormat start.format e × IsShort (event_line e)
+    × FitsNames (names_after start history) e × FitsFormat start.format e × IsShort (event_line e)
     × IsIllegalFrom start history e × (f ≡ NotLegal (next_line start history))
 
 -- why no line is taken of what comes next: the reader failed, memory ran out, no line comes next that may stand here, or it is

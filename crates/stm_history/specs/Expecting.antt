@@ -1,9 +1,10 @@
 -- What a machine expects in place of an event.
-use Rattle.std.specs.Prelude.{◌≡◌, ℕ, Bool, false, List, ◌∷◌, [], ◌++◌, Option, Some, Ok, string_bytes}
-use Rattle.stm_store.specs.Tables.{Declared}
+use Rattle.std.specs.Prelude.{◌≡◌, ℕ, Bool, false, List, ◌∷◌, [], ◌++◌, Option, Some, Ok, IsTrue, string_bytes}
+use Rattle.stm_terms.specs.Names.{is_name_text}
+use Rattle.stm_store.specs.Naming.{Named}
 use Rattle.stm_events.specs.declared.event.Event.{Event}
 use Rattle.stm_events.specs.declared.event.What.{What}
-use Rattle.stm_events.specs.declared.event.What.TheVariants.{Submitted, Installed, Finished, Cancelled}
+use Rattle.stm_events.specs.declared.event.What.TheVariants.{Submitted, Installed, Finished, Cancelled, Declared as DeclaredLate}
 use Rattle.stm_events.specs.SlowDesk.{Slow, Allows}
 use Rattle.stm_history.specs.declared.files.expecting.Expectation.{Expectation}
 use Rattle.stm_history.specs.declared.files.expecting.Expectation.TheVariants.{Due, Refuses}
@@ -25,12 +26,21 @@ abbrev pub IsDueAfter : Start → List Event → Event → Expectation → Type 
 IsDueAfter start history e (Due what) = IsCallDue start history e what
 IsDueAfter start history e (Refuses r) = call_refusal (state_after_start start history) (is_history_full history) e.what ≡ Some r
 
--- a block that is submitted is what its text checks to over the table
-abbrev pub HasCheckedBlock : List Declared → What → Type 0
-HasCheckedBlock table (Submitted t b) = checked_block table b.text ≡ Ok b
-HasCheckedBlock table (Installed t v) = Unit {0}
-HasCheckedBlock table (Finished t v n stale) = Unit {0}
-HasCheckedBlock table (Cancelled t) = Unit {0}
+-- a block that is submitted is what its text checks to over the names
+abbrev pub HasCheckedBlock : List Named → What → Type 0
+HasCheckedBlock names (Submitted t b) = checked_block names b.text ≡ Ok b
+HasCheckedBlock names (Installed t v) = Unit {0}
+HasCheckedBlock names (Finished t v n stale) = Unit {0}
+HasCheckedBlock names (Cancelled t) = Unit {0}
+HasCheckedBlock names (DeclaredLate name kind value) = Unit {0}
+
+-- a variable that is declared late has a name of the language
+abbrev pub HasName : What → Type 0
+HasName (Submitted t b) = Unit {0}
+HasName (Installed t v) = Unit {0}
+HasName (Finished t v n stale) = Unit {0}
+HasName (Cancelled t) = Unit {0}
+HasName (DeclaredLate name kind value) = IsTrue (is_name_text name)
 
 -- a line of these bytes is reported, or nothing if it is too long
 abbrev pub IsShortOr : List ℕ → Explanation → Type 0
@@ -39,7 +49,7 @@ IsShortOr bytes (Refused r) = ⊥
 IsShortOr bytes Unreadable = IsShort bytes → ⊥
 
 -- the line of the event is reported, or nothing if it can't stand in the format
-abbrev pub IsLineOf : ℕ → List Declared → Event → Explanation → Type 0
-IsLineOf format table e (Expected text) = CanStand format table e × (string_bytes text ≡ event_line e)
-IsLineOf format table e (Refused r) = ⊥
-IsLineOf format table e Unreadable = CanStand format table e → ⊥
+abbrev pub IsLineOf : ℕ → List Named → Event → Explanation → Type 0
+IsLineOf format names e (Expected text) = CanStand format names e × (string_bytes text ≡ event_line e)
+IsLineOf format names e (Refused r) = ⊥
+IsLineOf format names e Unreadable = CanStand format names e → ⊥

@@ -2,46 +2,56 @@
 -- refuses the call.
 use Rattle.std.specs.Prelude.{◌≡◌, ◌⊎◌, ℕ, ◌+◌, ◌<◌, Bool, nat_le, if◌then◌else◌, List, [], ◌∷◌, ◌++◌, length, Option, Some, None, option_map, option_and_then, string_bytes}
 use Rattle.stm_terms.specs.declared.verdicts.Verdict.{Verdict}
-use Rattle.stm_store.specs.Tables.{Declared}
+use Rattle.stm_store.specs.Naming.{Named}
 use Rattle.stm_events.specs.declared.errors.DeliverError.{DeliverError}
 use Rattle.stm_events.specs.declared.errors.DeliverError.TheVariants.{Gone, Already, HistoryFull}
 use Rattle.stm_events.specs.declared.event.Event.{Event}
 use Rattle.stm_events.specs.declared.event.What.{What}
-use Rattle.stm_events.specs.declared.event.What.TheVariants.{Submitted, Installed, Finished, Cancelled}
-use Rattle.stm_events.specs.Refusals.{submit_refused, cancel_refused, finish_refused}
+use Rattle.stm_events.specs.declared.event.What.TheVariants.{Submitted, Installed, Finished, Cancelled, Declared as DeclaredLate}
+use Rattle.stm_events.specs.Refusals.{submit_refused, cancel_refused, finish_refused, late_declare_refused}
 use Rattle.stm_events.specs.SlowDesk.{Waiter, Slow, Allows, find_waiter, is_current, max_clients, max_events, stale_after, verdict_on, waking, without_waiter}
 use Rattle.stm_events.specs.States.{IsLegalFrom}
 use Rattle.stm_machine.specs.Machine.{event}
 use Rattle.stm_history.specs.declared.files.explanation.CallRefusal.{CallRefusal}
-use Rattle.stm_history.specs.declared.files.explanation.CallRefusal.TheVariants.{Submission, Delivery, Finish, Cancellation}
+use Rattle.stm_history.specs.declared.files.explanation.CallRefusal.TheVariants.{Submission, Delivery, Finish, Cancellation, Declaration}
 use Rattle.stm_history.specs.declared.files.explanation.Explanation.{Explanation}
 use Rattle.stm_history.specs.declared.files.explanation.Explanation.TheVariants.{Expected, Refused, Unreadable}
 use Rattle.stm_history.specs.declared.files.fault.HistoryFault.{HistoryFault}
 use Rattle.stm_history.specs.Checking.{CheckerState, at_header, at_variables, at_cells, at_blocks, at_events, Forbids, LeadsTo, LinesUpTo, NoFeed, strange}
-use Rattle.stm_event_lines.specs.Fits.{FitsTable, FitsFormat}
+use Rattle.stm_event_lines.specs.Fits.{FitsNames, FitsFormat}
 use Rattle.stm_history.specs.Judgement.{IsIllegalFrom, IsShort, next_line}
-use Rattle.stm_history.specs.Starts.{Start, first_state, state_after_start}
+use Rattle.stm_history.specs.Starts.{Start, first_state, names_after, state_after_start}
 use Rattle.stm_event_lines.specs.Lines.{event_line}
 
 -- ---- calls
--- the two are one call: a submission of one block, or a delivery, a finish or a cancellation under one ticket
+-- the two are one call: a submission of one block, a delivery, a finish or a cancellation under one ticket, or a declaration of one
+-- variable
 abbrev pub IsSameCall : What → What → Type 0
 IsSameCall (Submitted t b) (Submitted u c) = b ≡ c
 IsSameCall (Submitted t b) (Installed u w) = ⊥
 IsSameCall (Submitted t b) (Finished u w m k) = ⊥
 IsSameCall (Submitted t b) (Cancelled u) = ⊥
+IsSameCall (Submitted t b) (DeclaredLate other type init) = ⊥
 IsSameCall (Installed t v) (Submitted u c) = ⊥
 IsSameCall (Installed t v) (Installed u w) = t ≡ u
 IsSameCall (Installed t v) (Finished u w m k) = ⊥
 IsSameCall (Installed t v) (Cancelled u) = ⊥
+IsSameCall (Installed t v) (DeclaredLate other type init) = ⊥
 IsSameCall (Finished t v n stale) (Submitted u c) = ⊥
 IsSameCall (Finished t v n stale) (Installed u w) = ⊥
 IsSameCall (Finished t v n stale) (Finished u w m k) = t ≡ u
 IsSameCall (Finished t v n stale) (Cancelled u) = ⊥
+IsSameCall (Finished t v n stale) (DeclaredLate other type init) = ⊥
 IsSameCall (Cancelled t) (Submitted u c) = ⊥
 IsSameCall (Cancelled t) (Installed u w) = ⊥
 IsSameCall (Cancelled t) (Finished u w m k) = ⊥
 IsSameCall (Cancelled t) (Cancelled u) = t ≡ u
+IsSameCall (Cancelled t) (DeclaredLate other type init) = ⊥
+IsSameCall (DeclaredLate name kind value) (Submitted u c) = ⊥
+IsSameCall (DeclaredLate name kind value) (Installed u w) = ⊥
+IsSameCall (DeclaredLate name kind value) (Finished u w m k) = ⊥
+IsSameCall (DeclaredLate name kind value) (Cancelled u) = ⊥
+IsSameCall (DeclaredLate name kind value) (DeclaredLate other type init) = (name ≡ other) × (kind ≡ type) × (value ≡ init)
 
 -- the verdict on the present store of the block that waits under a ticket
 abbrev pub present_verdict : Slow → Option Waiter → Option Verdict
@@ -57,6 +67,7 @@ expected_what s (Submitted t b) = Some (Submitted s.next b)
 expected_what s (Installed t v) = option_map (Installed t) (present_verdict s (find_waiter t s.waiters))
 expected_what s (Finished t v n stale) = option_map (finish_with s t) (present_verdict s (find_waiter t s.waiters))
 expected_what s (Cancelled t) = Some (Cancelled t)
+expected_what s (DeclaredLate name kind value) = Some (DeclaredLate name kind value)
 
 -- the first that holds: no block waits under the ticket, it is current, the history is full. A delivery of what a block does on
 -- the present store is never overtaken.
@@ -74,6 +85,7 @@ call_refusal s full (Submitted t b) = option_map Submission (submit_refused s fu
 call_refusal s full (Installed t v) = option_map Delivery (deliver_refused s full t)
 call_refusal s full (Finished t v n stale) = option_map Finish (finish_refused s full t)
 call_refusal s full (Cancelled t) = option_map Cancellation (cancel_refused s full t)
+call_refusal s full (DeclaredLate name kind value) = option_map Declaration (late_declare_refused s full name kind value)
 
 -- the history has no room for an event
 abbrev pub is_history_full : List Event → Bool
@@ -81,8 +93,8 @@ is_history_full history = nat_le max_events (length history)
 
 -- ---- explanations
 -- the event can stand in a line of a history in the format
-abbrev pub CanStand : ℕ → List Declared → Event → Type 0
-CanStand format table e = FitsTable table e × FitsFormat format e × IsShort (event_line e)
+abbrev pub CanStand : ℕ → List Named → Event → Type 0
+CanStand format names e = FitsNames names e × FitsFormat format e × IsShort (event_line e)
 
 -- this is what the call of the event has to be after the history, and then it is legal
 pub record IsCallDue (start : Start) (history : List Event) (e : Event) (what : What) : Type 0 where
@@ -94,25 +106,25 @@ pub record IsCallDue (start : Start) (history : List Event) (e : Event) (what : 
 -- is due has no line in the format
 abbrev pub ExplainsEvent : Start → List Event → Event → Explanation → Type 0
 ExplainsEvent start history e (Expected text) =
-    (what : What) × IsCallDue start history e what × CanStand start.format start.table (event e.client what)
+    (what : What) × IsCallDue start history e what × CanStand start.format (names_after start history) (event e.client what)
     × (string_bytes text ≡ event_line (event e.client what))
 ExplainsEvent start history e (Refused r) = call_refusal (state_after_start start history) (is_history_full history) e.what ≡ Some r
 ExplainsEvent start history e Unreadable =
-    (what : What) × IsCallDue start history e what × (CanStand start.format start.table (event e.client what) → ⊥)
+    (what : What) × IsCallDue start history e what × (CanStand start.format (names_after start history) (event e.client what) → ⊥)
 
 -- the line was read as this event, though its JSON may be written in another way; the line of an event is read as that event
-abbrev pub IsReadAs : List Declared → List ℕ → Event → Type 0
-IsReadAs table line e = FitsTable table e × ((d : Event) → FitsTable table d → event_line d ≡ line → d ≡ e)
+abbrev pub IsReadAs : List Named → List ℕ → Event → Type 0
+IsReadAs names line e = FitsNames names e × ((d : Event) → FitsNames names d → event_line d ≡ line → d ≡ e)
 
 -- the line is of no event
-abbrev pub IsOfNoEvent : List Declared → List ℕ → Type 0
-IsOfNoEvent table line = (d : Event) → FitsTable table d → event_line d ≡ line → ⊥
+abbrev pub IsOfNoEvent : List Named → List ℕ → Type 0
+IsOfNoEvent names line = (d : Event) → FitsNames names d → event_line d ≡ line → ⊥
 
 -- what is reported of a line at which it was not read as an event
-abbrev pub IsUnread : List Declared → List ℕ → Explanation → Type 0
-IsUnread table line (Expected text) = ⊥
-IsUnread table line (Refused r) = ⊥
-IsUnread table line Unreadable = IsOfNoEvent table line
+abbrev pub IsUnread : List Named → List ℕ → Explanation → Type 0
+IsUnread names line (Expected text) = ⊥
+IsUnread names line (Refused r) = ⊥
+IsUnread names line Unreadable = IsOfNoEvent names line
 
 -- what is reported of a line before the events: a line that leads on from here; no desk refuses one
 abbrev pub ExplainsHead : CheckerState → Explanation → Type 0
@@ -124,17 +136,18 @@ ExplainsHead p Unreadable = Unit {0}
 abbrev pub Explains : CheckerState → List ℕ → Explanation → Type 0
 Explains at_header line x = ExplainsHead at_header x
 Explains (at_variables format n table) line x = ExplainsHead (at_variables format n table) x
-Explains (at_cells next vars waiting table cells) line x = ExplainsHead (at_cells next vars waiting table cells) x
-Explains (at_blocks waiting table c) line x = ExplainsHead (at_blocks waiting table c) x
+Explains (at_cells format next vars waiting names cells) line x = ExplainsHead (at_cells format next vars waiting names cells) x
+Explains (at_blocks format waiting c) line x = ExplainsHead (at_blocks format waiting c) x
 Explains (at_events start history) line x =
-    ((e : Event) × IsReadAs start.table line e × ExplainsEvent start history e x) ⊎ IsUnread start.table line x
+    ((e : Event) × IsReadAs (names_after start history) line e × ExplainsEvent start history e x)
+    ⊎ IsUnread (names_after start history) line x
 
 -- the number of the line that comes next, the first line being number 1
 abbrev pub line_after : CheckerState → ℕ
 line_after at_header = 1
 line_after (at_variables format n table) = length table + 2
-line_after (at_cells next vars waiting table cells) = length cells + 2
-line_after (at_blocks waiting table c) = length c.store + length c.blocks + 2
+line_after (at_cells format next vars waiting names cells) = length cells + 2
+line_after (at_blocks format waiting c) = length c.store + length c.blocks + 2
 line_after (at_events start history) = next_line start history
 
 -- the rest is empty, or begins with a line feed

@@ -2,14 +2,15 @@
 -- fault can be reported of them; otherwise they have one first fault. What is written is taken.
 use Rattle.std.specs.Prelude.{◌≡◌, ℕ, List, Option, None, ⊤}
 use Rattle.stm_store.specs.declared.cell.Cell.{Cell}
+use Rattle.stm_store.specs.Naming.{Named}
 use Rattle.stm_store.specs.Tables.{Declared, AreDeclared}
 use Rattle.stm_check.specs.TypedBlock.{Block}
 use Rattle.stm_events.specs.Delivered.{Delivered}
 use Rattle.stm_events.specs.declared.event.Event.{Event}
-use Rattle.stm_events.specs.SlowDesk.{IsLegalBy}
+use Rattle.stm_events.specs.SlowDesk.{IsLegalBy, initial_state}
 use Rattle.stm_events.specs.States.{IsLegalFrom}
-use Rattle.stm_event_lines.specs.CheckpointLines.{FitsCell, FitsWaiting, cell_line, checkpoint_header_line, waiting_line}
-use Rattle.stm_event_lines.specs.Fits.{FitsTable, AreInRange, Is32Bit, IsOneLine, BeginsWithBrace}
+use Rattle.stm_event_lines.specs.CheckpointLines.{FitsCell, FitsWaiting, IsCheckpointFormat, cell_line, checkpoint_header_line, waiting_line}
+use Rattle.stm_event_lines.specs.Fits.{FitsNames, AreInRange, Is32Bit, IsOneLine, BeginsWithBrace}
 use Rattle.stm_event_lines.specs.Lines.{IsFormat, rule_of, event_line, header_line, variable_line}
 use Rattle.stm_history.specs.declared.files.fault.HistoryFault.{HistoryFault}
 use Rattle.stm_history.specs.declared.files.fault.HistoryFault.TheVariants.{ReadFault, BadHeader, BadLine, NotLegal, NoMemory}
@@ -22,17 +23,18 @@ use Rattle.stm_history.specs.Starts.{Start, first_state, read_back, written_star
 -- different events have different lines, without a line feed
 abbrev pub EachLineIsOneEvent : Type 0
 EachLineIsOneEvent =
-    (table : List Declared) (d e : Event) → FitsTable table d → FitsTable table e → event_line d ≡ event_line e → d ≡ e
+    (names : List Named) (d e : Event) → FitsNames names d → FitsNames names e → event_line d ≡ event_line e → d ≡ e
 
 -- the line of an event is ASCII, without a line feed and without a 0
 abbrev pub EventsAreLines : Type 0
-EventsAreLines = (table : List Declared) (e : Event) → FitsTable table e → IsOneLine (event_line e)
+EventsAreLines = (names : List Named) (e : Event) → FitsNames names e → IsOneLine (event_line e)
 
 -- the same of the lines of a checkpoint
 pub record CheckpointsAreLines : Type 0 where
-  pub headers : (next vars waiting : ℕ) → Is32Bit next → Is32Bit vars → Is32Bit waiting → IsOneLine (checkpoint_header_line next vars waiting)
+  pub headers : (format next vars waiting : ℕ) → IsCheckpointFormat format → Is32Bit next → Is32Bit vars → Is32Bit waiting
+      → IsOneLine (checkpoint_header_line format next vars waiting)
   pub cells : (name : Option (List ℕ)) (c : Cell) → FitsCell name c → IsOneLine (cell_line name c)
-  pub blocks : (table : List Declared) (ticket : ℕ) (block : Block) (d : Option Delivered) → FitsWaiting table ticket block d
+  pub blocks : (names : List Named) (ticket : ℕ) (block : Block) (d : Option Delivered) → FitsWaiting names ticket block d
       → IsOneLine (waiting_line ticket block.text d)
 
 -- each line of a history begins with `{`
@@ -44,7 +46,7 @@ LinesBeginWithBraces =
 -- and so does each line of a checkpoint
 abbrev pub CheckpointsBeginWithBraces : Type 0
 CheckpointsBeginWithBraces =
-    ((next vars waiting : ℕ) → BeginsWithBrace (checkpoint_header_line next vars waiting))
+    ((format next vars waiting : ℕ) → BeginsWithBrace (checkpoint_header_line format next vars waiting))
     × ((name : Option (List ℕ)) (c : Cell) → BeginsWithBrace (cell_line name c))
     × ((ticket : ℕ) (text : List ℕ) (d : Option Delivered) → BeginsWithBrace (waiting_line ticket text d))
 
@@ -53,11 +55,12 @@ abbrev pub NumbersAreFixed : Type 0
 NumbersAreFixed = (bytes : List ℕ) (m n : Legal) → IsHistory bytes m → IsHistory bytes n → m ≡ n
 
 -- No two histories have one text, be they legal or not: neither two over tables, nor two from checkpoints, nor one of each; and no
--- history has one text in two formats. Each start can be read, and each event fits its table and its format and has a short line.
+-- history has one text in two formats. Each start can be read, and each event fits the names so far and its format and has a short line.
 abbrev pub TextsAreOfOneHistory : Type 0
 TextsAreOfOneHistory =
     (s s' : Start) (history history' : List Event) → IsStart s → IsStart s'
-    → AreEvents s.format s.table history → AreEvents s'.format s'.table history' → history_text s history ≡ history_text s' history'
+    → AreEvents s.format (first_state s) history → AreEvents s'.format (first_state s') history'
+    → history_text s history ≡ history_text s' history'
     → (s ≡ s') × (history ≡ history')
 
 -- no fault can be reported of the text of a legal history
@@ -80,20 +83,20 @@ FaultsAreFixed =
     (bytes : List ℕ) (f g : HistoryFault) → IsOfBytes f → IsOfBytes g → ReportsFault f bytes → ReportsFault g bytes → f ≡ g
 
 -- The text of a history over a table in a format that is read, legal by the rule of the format, is one of its numbers. The table
--- is one that declarations make, and its values are in the range of the program's types; each event fits the table and the format,
+-- is one that declarations make, and its values are in the range of the program's types; each event fits the names so far and the format,
 -- and its line is short.
 abbrev pub WhatIsWrittenIsTaken : Type 0
 WhatIsWrittenIsTaken =
     (format : ℕ) (table : List Declared) (history : List Event) → IsFormat format → AreDeclared table → AreInRange table
-    → AreEvents format table history
+    → AreEvents format (initial_state (rule_of format) table) history
     → IsLegalBy (rule_of format) table history
     → IsHistory (history_text (record { format = format; table = table; checkpoint = None }) history)
     (numbers_from (record { format = format; table = table; checkpoint = None }) history)
 
--- The text of a legal history, as it is written, is read as that history. Of a checkpoint's table the first values aren't written,
--- and are read as the defaults of their types; the history is the same one, and from the same state.
+-- The text of a legal history, as it is written, is read as that history. With a checkpoint the table isn't written, since the names
+-- are the checkpoint's, and an empty one is read; the history is the same one, and from the same state.
 abbrev pub WhatIsKeptIsTaken : Type 0
 WhatIsKeptIsTaken =
-    (s : Start) (history : List Event) → s ≡ written_start s.table s.checkpoint → StartFits s → AreShortLines (start_text s)
-    → AreEvents s.format s.table history → IsLegalFrom (first_state s) history
+    (s : Start) (history : List Event) → s ≡ written_start s.table s.checkpoint history → StartFits s → AreShortLines (start_text s)
+    → AreEvents s.format (first_state s) history → IsLegalFrom (first_state s) history
     → IsWholeHistory (read_back s) (history_text s history) history

@@ -1,10 +1,11 @@
 -- The text of a whole history: the first line, a line for each variable, one for each waiting block of a checkpoint, and one for
 -- each event.
-use Rattle.std.specs.Prelude.{ℕ, List, [], ◌∷◌, ◌++◌, length, MatchResult, Option, Some, None}
+use Rattle.std.specs.Prelude.{ℕ, ◌+◌, List, [], ◌∷◌, ◌++◌, length, MatchResult, Option, Some, None}
 use Rattle.std.specs.Io.KnownBytes.{Appends}
 use Rattle.std.specs.declared.result.Result.{Result}
 use Rattle.stm_terms.specs.Texts.{IsPrefixOf}
 use Rattle.stm_store.specs.declared.cell.Cell.{Cell}
+use Rattle.stm_store.specs.Naming.{Named, name_numbered}
 use Rattle.stm_store.specs.Tables.{Declared}
 use Rattle.stm_events.specs.declared.event.Event.{Event}
 use Rattle.stm_machine.specs.declared.checkpoint.CheckpointBlock.{CheckpointBlock}
@@ -28,11 +29,14 @@ abbrev pub head_text : ℕ → ℕ → List Declared → List ℕ
 head_text format n table = header_line format n ++ 10 ∷ variable_lines table
 
 -- ---- a checkpoint
--- the lines of the variables of a store, with their line feeds: the first are the declared ones, and have names
-abbrev pub cell_lines : List Declared → List Cell → List ℕ
-cell_lines table [] = []
-cell_lines [] (c ∷ cs) = cell_line None c ++ 10 ∷ cell_lines [] cs
-cell_lines (d ∷ ds) (c ∷ cs) = cell_line (Some d.name) c ++ 10 ∷ cell_lines ds cs
+-- the lines of variables of a store, whose numbers are counted from i, with their line feeds: each has its name, if it has one
+abbrev pub cell_lines_from : ℕ → List Named → List Cell → List ℕ
+cell_lines_from i names [] = []
+cell_lines_from i names (c ∷ cs) = cell_line (name_numbered i names) c ++ 10 ∷ cell_lines_from (i + 1) names cs
+
+-- the lines of all variables of a store
+abbrev pub cell_lines : List Named → List Cell → List ℕ
+cell_lines names cells = cell_lines_from 0 names cells
 
 -- the line of a waiting block
 abbrev pub block_line : CheckpointBlock → List ℕ
@@ -44,18 +48,18 @@ block_lines [] = []
 block_lines (b ∷ bs) = block_line b ++ 10 ∷ block_lines bs
 
 -- the first line, which announces this many variables and waiting blocks, and the lines of the variables that were read
-abbrev pub cells_text : ℕ → ℕ → ℕ → List Declared → List Cell → List ℕ
-cells_text next vars waiting table cells = checkpoint_header_line next vars waiting ++ 10 ∷ cell_lines table cells
+abbrev pub cells_text : ℕ → ℕ → ℕ → ℕ → List Named → List Cell → List ℕ
+cells_text format next vars waiting names cells = checkpoint_header_line format next vars waiting ++ 10 ∷ cell_lines names cells
 
 -- the same of a checkpoint, and the lines of its waiting blocks
-abbrev pub checkpoint_text : ℕ → List Declared → CheckpointView → List ℕ
-checkpoint_text waiting table c = cells_text c.next (length c.store) waiting table c.store ++ block_lines c.blocks
+abbrev pub checkpoint_text : ℕ → ℕ → CheckpointView → List ℕ
+checkpoint_text format waiting c = cells_text format c.next (length c.store) waiting c.names c.store ++ block_lines c.blocks
 
 -- ---- whole histories
 -- the lines before the events, in a format
 abbrev pub text_before : ℕ → List Declared → Option CheckpointView → List ℕ
 text_before format table None = head_text format (length table) table
-text_before format table (Some c) = checkpoint_text (length c.blocks) table c
+text_before format table (Some c) = checkpoint_text format (length c.blocks) c
 
 -- the lines of a start
 abbrev pub start_text : Start → List ℕ

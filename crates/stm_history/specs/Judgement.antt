@@ -1,21 +1,21 @@
 -- What a checker of any bytes, or of a list of events, has to report.
 use Rattle.std.specs.Prelude.{◌≡◌, ◌≢◌, ℕ, ◌+◌, ◌≤◌, ◌<◌, Bool, true, ◌&&◌, nat_eq, nat_le, if◌then◌else◌, List, [], ◌∷◌, ◌++◌, length, Option, Some, None, ⊤}
 use Rattle.stm_store.specs.declared.cell.Cell.{Cell}
+use Rattle.stm_store.specs.Naming.{AreKnown, Named, is_gapless}
 use Rattle.stm_store.specs.Tables.{Declared, declare_refusal}
 use Rattle.stm_events.specs.declared.event.Event.{Event}
-use Rattle.stm_events.specs.SlowDesk.{Slow, state, IsLegal, max_cells}
+use Rattle.stm_events.specs.SlowDesk.{Slow, after, state, IsLegal, max_cells}
 use Rattle.stm_events.specs.States.{IsLegalFrom}
 use Rattle.stm_machine.specs.declared.checkpoint.CheckpointBlock.{CheckpointBlock}
-use Rattle.stm_machine.specs.Checkpoints.{CheckpointView, MayStart}
-use Rattle.stm_event_lines.specs.CheckpointLines.{FitsCell, FitsWaiting, checkpoint_format}
-use Rattle.stm_event_lines.specs.Fits.{FitsTable, FitsFormat, FitsVariable}
+use Rattle.stm_machine.specs.Checkpoints.{CheckpointView, IsCheckpoint}
+use Rattle.stm_event_lines.specs.CheckpointLines.{FitsCell, FitsWaiting, IsCheckpointFormat, checkpoint_format}
+use Rattle.stm_event_lines.specs.Fits.{FitsNames, FitsFormat, FitsVariable}
 use Rattle.stm_event_lines.specs.Lines.{IsFormat, event_line}
 use Rattle.stm_history.specs.declared.files.fault.HistoryFault.{HistoryFault}
 use Rattle.stm_history.specs.declared.files.fault.HistoryFault.TheVariants.{ReadFault, BadHeader, BadLine, NotLegal, NoMemory}
 use Rattle.stm_history.specs.declared.files.fault.Legal.{Legal}
-use Rattle.stm_history.specs.Defaults.{HaveDefaults}
 use Rattle.stm_history.specs.HistoryText.{block_line, history_text, start_text}
-use Rattle.stm_history.specs.Starts.{Start, delivery_of_block, first_state, state_after_start}
+use Rattle.stm_history.specs.Starts.{Start, delivery_of_block, first_state, names_after, state_after_start}
 
 -- the most bytes of a line, its line feed not counted
 abbrev pub max_line : ℕ
@@ -39,10 +39,11 @@ AreVariablesFrom before (d ∷ ds) = MayDeclare before d × AreVariablesFrom (be
 abbrev pub AreVariables : List Declared → Type 0
 AreVariables table = AreVariablesFrom [] table
 
--- each event can stand in a line over the table and in a history of the format, and its line is short
-abbrev pub AreEvents : ℕ → List Declared → List Event → Type 0
-AreEvents format table [] = ⊤
-AreEvents format table (e ∷ es) = FitsTable table e × FitsFormat format e × IsShort (event_line e) × AreEvents format table es
+-- each event, from a state on, can stand in a line over the names of the state before it and in a history of the format, and its line
+-- is short
+abbrev pub AreEvents : ℕ → Slow → List Event → Type 0
+AreEvents format s [] = ⊤
+AreEvents format s (e ∷ es) = FitsNames s.names e × FitsFormat format e × IsShort (event_line e) × AreEvents format (after s e.what) es
 
 -- ---- starts
 -- each variable of a store can be in a line
@@ -50,22 +51,22 @@ abbrev pub FitCells : List Cell → Type 0
 FitCells [] = ⊤
 FitCells (c ∷ cs) = FitsCell None c × FitCells cs
 
--- each waiting block can be in a line over the table
-abbrev pub FitBlocks : List Declared → List CheckpointBlock → Type 0
-FitBlocks table [] = ⊤
-FitBlocks table (b ∷ bs) = FitsWaiting table b.ticket b.waiting.block (delivery_of_block b) × FitBlocks table bs
+-- each waiting block can be in a line over the names
+abbrev pub FitBlocks : List Named → List CheckpointBlock → Type 0
+FitBlocks names [] = ⊤
+FitBlocks names (b ∷ bs) = FitsWaiting names b.ticket b.waiting.block (delivery_of_block b) × FitBlocks names bs
 
--- the checkpoint, whose first variables are those of the table, can be written
-pub record CheckpointFits (table : List Declared) (c : CheckpointView) : Type 0 where
-  pub variables : AreVariables table
-  pub may : MayStart table (Some c)
+-- the checkpoint can be written
+pub record CheckpointFits (c : CheckpointView) : Type 0 where
+  pub checkpoint : IsCheckpoint c
+  pub known : AreKnown c.names
   pub cells : FitCells c.store
-  pub blocks : FitBlocks table c.blocks
+  pub blocks : FitBlocks c.names c.blocks
 
--- the table can be written, and the checkpoint, if there is one
+-- the table can be written, or the checkpoint, if there is one
 abbrev pub FitsBefore : List Declared → Option CheckpointView → Type 0
 FitsBefore table None = AreVariables table
-FitsBefore table (Some c) = CheckpointFits table c
+FitsBefore table (Some c) = CheckpointFits c
 
 -- the start can be written, if its lines aren't too long
 abbrev pub StartFits : Start → Type 0
@@ -76,16 +77,17 @@ abbrev pub HaveShortLines : List CheckpointBlock → Type 0
 HaveShortLines [] = ⊤
 HaveShortLines (b ∷ bs) = IsShort (block_line b) × HaveShortLines bs
 
--- the checkpoint can be read, and its text has all that it and the table have: each first value is the default of its type
-pub record IsReadable (table : List Declared) (c : CheckpointView) : Type 0 where
-  pub fits : CheckpointFits table c
-  pub defaults : HaveDefaults table
+-- the checkpoint can be read in the format, which is one of checkpoints: in format 4 no name comes after a variable without one
+pub record IsReadable (format : ℕ) (c : CheckpointView) : Type 0 where
+  pub is_format : IsCheckpointFormat format
+  pub gapless : format ≡ checkpoint_format → is_gapless c.names ≡ true
+  pub fits : CheckpointFits c
   pub short : HaveShortLines c.blocks
 
--- the table can be read in the format, or the checkpoint, if there is one
+-- the table can be read in the format, or the checkpoint, if there is one: then the table is empty
 abbrev pub IsBefore : ℕ → List Declared → Option CheckpointView → Type 0
 IsBefore format table None = IsFormat format × (length table ≤ max_cells) × AreVariables table
-IsBefore format table (Some c) = (format ≡ checkpoint_format) × IsReadable table c
+IsBefore format table (Some c) = (table ≡ []) × IsReadable format c
 
 -- the start is one that can be read
 abbrev pub IsStart : Start → Type 0
@@ -105,7 +107,7 @@ AreShortLines text = are_short_after 0 text ≡ true
 pub record BeginsWithHistory (s : Start) (bytes : List ℕ) (history : List Event) (rest : List ℕ) : Type 0 where
   pub text : bytes ≡ history_text s history ++ rest
   pub start : IsStart s
-  pub events : AreEvents s.format s.table history
+  pub events : AreEvents s.format (first_state s) history
   pub legal : IsLegalFrom (first_state s) history
 
 -- how many lines come before the events
@@ -135,9 +137,9 @@ IsHistory bytes n =
     (start : Start) × (history : List Event) × BeginsWithHistory start bytes history [] × (n ≡ numbers_from start history)
 
 -- no line of an event comes next: a line of no event that the format has, a line too long, or the end in mid-line
-abbrev pub NoEventNext : ℕ → List Declared → List ℕ → Type 0
-NoEventNext format table rest =
-    (e : Event) → FitsTable table e → FitsFormat format e → IsShort (event_line e) → (more : List ℕ)
+abbrev pub NoEventNext : ℕ → List Named → List ℕ → Type 0
+NoEventNext format names rest =
+    (e : Event) → FitsNames names e → FitsFormat format e → IsShort (event_line e) → (more : List ℕ)
     → rest ≢ event_line e ++ 10 ∷ more
 
 -- the event can't follow
@@ -159,11 +161,11 @@ ReportsFault BadHeader bytes = (start : Start) → IsStart start → (more : Lis
 ReportsFault (BadLine n) bytes =
     (start : Start) × (history : List Event) × (rest : List ℕ)
     × BeginsWithHistory start bytes history rest × (n ≡ next_line start history)
-    × (0 < length rest) × NoEventNext start.format start.table rest
+    × (0 < length rest) × NoEventNext start.format (names_after start history) rest
 ReportsFault (NotLegal n) bytes =
     (start : Start) × (history : List Event) × (e : Event) × (more : List ℕ)
     × BeginsWithHistory start bytes history (event_line e ++ 10 ∷ more) × (n ≡ next_line start history)
-    × FitsTable start.table e × FitsFormat start.format e × IsShort (event_line e) × IsIllegalFrom start history e
+    × FitsNames (names_after start history) e × FitsFormat start.format e × IsShort (event_line e) × IsIllegalFrom start history e
 
 -- what replaying reports of a list that isn't legal: the first event, counted from 1, that can't follow those before it
 abbrev pub Refuses : HistoryFault → List Declared → List Event → Type 0

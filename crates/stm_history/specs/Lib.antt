@@ -1,5 +1,4 @@
 -- What a reader has to believe.
-pub mod Defaults
 pub mod Explanation
 pub mod FileLaws
 pub mod HistoryText

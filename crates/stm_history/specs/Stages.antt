@@ -1,58 +1,60 @@
 -- The progress of each stage of the checker.
-use Rattle.std.specs.Prelude.{◌≡◌, ℕ, ◌<◌, ◌≤◌, Bool, true, List, length, Option, Some, None, is_some}
+use Rattle.std.specs.Prelude.{◌≡◌, ℕ, ◌<◌, ◌≤◌, Bool, true, List, length, Option, Some, None, is_some, ◌⊎◌}
 use Rattle.stm_store.specs.declared.table.DeclareError.{DeclareError}
 use Rattle.stm_store.specs.declared.table.DeclareError.TheVariants as declare
+use Rattle.stm_store.specs.Cells.{Covers, plains}
+use Rattle.stm_store.specs.Naming.{named_uses}
 use Rattle.stm_store.specs.Tables.{Declared}
 use Rattle.stm_events.specs.declared.event.Event.{Event}
 use Rattle.stm_events.specs.SlowDesk.{max_cells, max_waiting}
 use Rattle.stm_machine.specs.Checkpoints.{CheckpointView}
-use Rattle.stm_event_lines.specs.Lines.{latest_format}
+use Rattle.stm_event_lines.specs.Lines.{declaring_format, latest_format}
 use Rattle.stm_history.specs.declared.files.check.Stage.{Stage}
 use Rattle.stm_history.specs.declared.files.check.Stage.TheVariants.{Before, Declaring, AtCells, AtBlocks, Running}
 use Rattle.stm_history.specs.declared.files.fault.HistoryFault.{HistoryFault}
 use Rattle.stm_history.specs.declared.files.fault.HistoryFault.TheVariants.{BadHeader, NoMemory}
 use Rattle.stm_history.specs.Checking.{CheckerState, at_header, at_variables, at_cells, at_blocks, at_events, HasTaken, IsCheckpointHead, LeadsTo}
 use Rattle.stm_history.specs.Following.{Follows}
-use Rattle.stm_history.specs.Starts.{Start, written_start}
+use Rattle.stm_history.specs.Starts.{Start}
 
 -- the progress is that of the stage
 abbrev pub IsStage : Stage → CheckerState → Type 0
 IsStage (Before keep) p = p ≡ at_header
-IsStage (Declaring keep format vars names) p = p ≡ at_variables format vars names
-IsStage (AtCells keep h names cells) p = p ≡ at_cells h.next h.vars h.waiting names cells.items
-IsStage (AtBlocks keep waiting names c) p = p ≡ at_blocks waiting names c
-IsStage (Running format names c r) p =
-    (history : List Event) × (p ≡ at_events (record { format = format; table = names; checkpoint = c }) history)
-    × Follows (record { format = format; table = names; checkpoint = c }) history r
+IsStage (Declaring keep format vars table) p = p ≡ at_variables format vars table
+IsStage (AtCells keep h names cells) p = p ≡ at_cells h.format h.next h.vars h.waiting names cells.items
+IsStage (AtBlocks keep format waiting c) p = p ≡ at_blocks format waiting c
+IsStage (Running format table c r) p =
+    (history : List Event) × (p ≡ at_events (record { format = format; table = table; checkpoint = c }) history)
+    × Follows (record { format = format; table = table; checkpoint = c }) history r
 
 -- whether the events of the stage are kept
 abbrev pub keeps : Stage → Bool
 keeps (Before keep) = keep
-keeps (Declaring keep format vars names) = keep
+keeps (Declaring keep format vars table) = keep
 keeps (AtCells keep h names cells) = keep
-keeps (AtBlocks keep waiting names c) = keep
-keeps (Running format names c r) = is_some r.kept
+keeps (AtBlocks keep format waiting c) = keep
+keeps (Running format table c r) = is_some r.kept
 
 -- the lines are those of events
 abbrev pub IsRunning : Stage → Type 0
 IsRunning (Before keep) = ⊥
-IsRunning (Declaring keep format vars names) = ⊥
+IsRunning (Declaring keep format vars table) = ⊥
 IsRunning (AtCells keep h names cells) = ⊥
-IsRunning (AtBlocks keep waiting names c) = ⊥
-IsRunning (Running format names c r) = Unit {0}
+IsRunning (AtBlocks keep format waiting c) = ⊥
+IsRunning (Running format table c r) = Unit {0}
 
--- the events of the stage are in the latest format, or begin from a checkpoint
+-- the events of the stage go by the present rule: they are in a format that is written, or begin from a checkpoint
 abbrev pub IsLatest : ℕ → Option CheckpointView → Type 0
-IsLatest format None = format ≡ latest_format
+IsLatest format None = (format ≡ latest_format) ⊎ (format ≡ declaring_format)
 IsLatest format (Some c) = Unit {0}
 
 -- the same, and they are kept
 abbrev pub IsLoaded : Stage → Type 0
 IsLoaded (Before keep) = ⊥
-IsLoaded (Declaring keep format vars names) = ⊥
+IsLoaded (Declaring keep format vars table) = ⊥
 IsLoaded (AtCells keep h names cells) = ⊥
-IsLoaded (AtBlocks keep waiting names c) = ⊥
-IsLoaded (Running format names c r) = IsLatest format c × (is_some r.kept ≡ true)
+IsLoaded (AtBlocks keep format waiting c) = ⊥
+IsLoaded (Running format table c r) = IsLatest format c × (is_some r.kept ≡ true)
 
 -- the line leads from this progress on to that of the stage
 abbrev pub LeadsToStage : CheckerState → List ℕ → Stage → Type 0
@@ -63,12 +65,13 @@ abbrev pub IsSmallStart : List Declared → Option CheckpointView → Type 0
 IsSmallStart table None = length table ≤ max_cells
 IsSmallStart table (Some c) = (length c.store ≤ max_cells) × (length c.blocks ≤ max_waiting)
 
--- the numbers of a progress are as small as those of a history
+-- the numbers of a progress are as small as those of a history, and names are those of variables that were read
 abbrev pub CountsWithinLimits : CheckerState → Type 0
 CountsWithinLimits at_header = Unit {0}
 CountsWithinLimits (at_variables format n table) = (length table < n) × (n ≤ max_cells)
-CountsWithinLimits (at_cells next vars waiting table cells) = IsCheckpointHead next vars waiting × (length cells < vars)
-CountsWithinLimits (at_blocks waiting table c) = (length c.store ≤ max_cells) × (length c.blocks < waiting) × (waiting ≤ max_waiting)
+CountsWithinLimits (at_cells format next vars waiting names cells) =
+    IsCheckpointHead next vars waiting × (length cells < vars) × Covers (plains cells) (named_uses names)
+CountsWithinLimits (at_blocks format waiting c) = (length c.store ≤ max_cells) × (length c.blocks < waiting) × (waiting ≤ max_waiting)
 CountsWithinLimits (at_events start history) = IsSmallStart start.table start.checkpoint
 
 -- what was taken led to this stage: this many bytes of whole lines, and then this line that has begun

@@ -1,17 +1,20 @@
 -- Where a history begins: with the first values of a table's variables, or from a checkpoint.
-use Rattle.std.specs.Prelude.{◌≡◌, ℕ, ⊤, List, [], ◌∷◌, Option, Some, None, Ok, option_map}
+use Rattle.std.specs.Prelude.{◌≡◌, ℕ, ⊤, Bool, true, false, if◌then◌else◌, List, [], ◌∷◌, Option, Some, None, Ok, option_map}
+use Rattle.std.specs.List.{list_any}
+use Rattle.stm_store.specs.Naming.{Named, is_gapless}
 use Rattle.stm_store.specs.Tables.{Declared}
 use Rattle.stm_events.specs.Delivered.{Delivered}
 use Rattle.stm_events.specs.declared.event.Event.{Event}
+use Rattle.stm_events.specs.declared.event.What.{What}
+use Rattle.stm_events.specs.declared.event.What.TheVariants.{Submitted, Installed, Finished, Cancelled, Declared as DeclaredLate}
 use Rattle.stm_events.specs.SlowDesk.{Slow, state_from}
 use Rattle.stm_machine.specs.declared.checkpoint.CheckpointBlock.{CheckpointBlock}
 use Rattle.stm_machine.specs.Checkpoints.{CheckpointView, started_by}
 use Rattle.stm_event_lines.specs.CheckpointLines.{checkpoint_format}
-use Rattle.stm_event_lines.specs.Lines.{latest_format, rule_of}
+use Rattle.stm_event_lines.specs.Lines.{declaring_format, latest_format, rule_of}
 use Rattle.stm_event_lines.specs.WholeBlocks.{checked_block}
-use Rattle.stm_history.specs.Defaults.{defaulted}
 
--- the format of the text, the declared variables, and the checkpoint that the history begins from, if it does
+-- the format of the text, the table of the variables that are declared first, and the checkpoint that the history begins from, if it does
 pub record Start : Type 0 where
   pub format : ℕ
   pub table : List Declared
@@ -25,28 +28,54 @@ first_state s = started_by (rule_of s.format) s.table s.checkpoint
 abbrev pub state_after_start : Start → List Event → Slow
 state_after_start s history = state_from (first_state s) history
 
--- the start as it is written: in the latest format of those that begin with a table, or in that of checkpoints
-abbrev pub written_start : List Declared → Option CheckpointView → Start
-written_start table None = record { format = latest_format; table = table; checkpoint = None }
-written_start table (Some c) = record { format = checkpoint_format; table = table; checkpoint = Some c }
+-- the names of variables after these events
+abbrev pub names_after : Start → List Event → List Named
+names_after s history = (state_after_start s history).names
+
+-- a variable is declared late
+abbrev pub is_declaration : What → Bool
+is_declaration (Submitted t block) = false
+is_declaration (Installed t v) = false
+is_declaration (Finished t v n stale) = false
+is_declaration (Cancelled t) = false
+is_declaration (DeclaredLate name kind value) = true
+
+-- some event declares a variable
+abbrev pub declares : List Event → Bool
+declares history = list_any (λ e. is_declaration e.what) history
+
+-- the format of a start whose history declares no variable: a checkpoint has its own one, or that of late declarations if a name
+-- comes after a variable without one
+abbrev pub format_of_start : Option CheckpointView → ℕ
+format_of_start None = latest_format
+format_of_start (Some c) = if is_gapless c.names then checkpoint_format else declaring_format
+
+-- the format in which a history is written
+abbrev pub format_for : Option CheckpointView → List Event → ℕ
+format_for checkpoint history = if declares history then declaring_format else format_of_start checkpoint
+
+-- the start of a history as it is written
+abbrev pub written_start : List Declared → Option CheckpointView → List Event → Start
+written_start table checkpoint history =
+    record { format = format_for checkpoint history; table = table; checkpoint = checkpoint }
 
 -- what the last delivery to a waiting block brought, if there was one
 abbrev pub delivery_of_block : CheckpointBlock → Option Delivered
 delivery_of_block b = option_map (λ h. record { reads = h.reads; verdict = h.verdict; stale = b.stale }) b.waiting.held
 
--- each of these waiting blocks is what its text checks to over the table
-abbrev pub AreOfText : List Declared → List CheckpointBlock → Type 0
-AreOfText table [] = ⊤
-AreOfText table (b ∷ bs) = (checked_block table b.waiting.block.text ≡ Ok b.waiting.block) × AreOfText table bs
+-- each of these waiting blocks is what its text checks to over the names
+abbrev pub AreOfText : List Named → List CheckpointBlock → Type 0
+AreOfText names [] = ⊤
+AreOfText names (b ∷ bs) = (checked_block names b.waiting.block.text ≡ Ok b.waiting.block) × AreOfText names bs
 
--- the same of those of a checkpoint
-abbrev pub BlocksAreOfText : List Declared → CheckpointView → Type 0
-BlocksAreOfText table c = AreOfText table c.blocks
+-- the same of those of a checkpoint, over its names
+abbrev pub BlocksAreOfText : CheckpointView → Type 0
+BlocksAreOfText c = AreOfText c.names c.blocks
 
--- the table that reading the text gives: a checkpoint's text has no first values
+-- the table that reading the text gives: a checkpoint's text has the names of variables and no first values, so its table is empty
 abbrev pub table_back : List Declared → Option CheckpointView → List Declared
 table_back table None = table
-table_back table (Some c) = defaulted table
+table_back table (Some c) = []
 
 -- the start that reading its text gives
 abbrev pub read_back : Start → Start
