@@ -1,6 +1,6 @@
 -- What the slow desk allows, no call refuses.
-use Rattle.std.proofs.Common.{◌≡◌, ℕ, ◌+◌, ◌≤◌, true, false, not, List, [], ◌∷◌, length, Option, Some, None, refl, ap, sym, ◌∙◌, arith, subst}
-use Rattle.std.specs.Prelude.{nat_eq, nat_le, IsSomeAnd}
+use Rattle.std.proofs.Common.{◌≡◌, ℕ, ◌+◌, ◌≤◌, Bool, true, false, not, List, [], ◌∷◌, length, Option, Some, None, refl, ap, ◌∙◌, arith}
+use Rattle.std.specs.Prelude.{nat_eq, nat_le, nat_lt, is_some, IsSomeAnd}
 use Rattle.std.proofs.lemmas.Bool.Decides.{nat_tests}
 use Rattle.stm_terms.specs.declared.kinds.Ty.{Ty}
 use Rattle.stm_terms.specs.declared.kinds.Base.{Base}
@@ -10,11 +10,12 @@ use Rattle.stm_terms.specs.declared.verdicts.Verdict.{Verdict}
 use Rattle.stm_terms.specs.Typing.{same_base, same_ty}
 use Rattle.stm_store.specs.declared.cell.Cell.{Cell}
 use Rattle.stm_store.specs.Cells.{plains, Covers, kinds_of, made_by}
+use Rattle.stm_store.specs.Naming.{may_hold_known, number_named}
 use Rattle.stm_store.specs.Tables.{is_type}
 use Rattle.stm_check.specs.TypedBlock.{Block}
-use Rattle.stm_events.specs.declared.event.What.TheVariants.{Submitted, Finished, Cancelled}
+use Rattle.stm_events.specs.declared.event.What.TheVariants.{Submitted, Finished, Cancelled, Declared as DeclaredLate}
 use Rattle.stm_events.specs.SlowDesk.{Since, Waiter, Slow, is_new_since, current_since, MayFinish, find_waiter, Allows, max_waiting, max_cells}
-use Rattle.stm_events.specs.Refusals.{missing, submit_refused, cancel_first, cancel_refused, overflows, finish_first, finish_refused}
+use Rattle.stm_events.specs.Refusals.{declare_first, late_declare_refused, missing, submit_refused, cancel_first, cancel_refused, overflows, finish_first, finish_refused}
 
 -- ---- a block that is submitted
 same_base_itself : (b : Base) → same_base b b ≡ true
@@ -47,6 +48,18 @@ cancel_by (Some w) a = refl
 
 pub cancel_not_refused : (s : Slow) (t : ℕ) → Allows s (Cancelled t) → cancel_refused s false t ≡ None
 cancel_not_refused s t a = cancel_by (find_waiter t s.waiters) a
+
+-- ---- a variable that is declared
+declare_by : (taken holds room : Bool) → taken ≡ false → holds ≡ true → room ≡ true → declare_first taken holds false room ≡ None
+declare_by true holds room e f g = cc
+declare_by false false room e f g = cc
+declare_by false true false e f g = cc
+declare_by false true true e f g = refl
+
+pub declare_not_refused : (s : Slow) (name : List ℕ) (kind : Ty) (value : Value) → Allows s (DeclaredLate name kind value) → late_declare_refused s false name kind value ≡ None
+declare_not_refused s name kind value a =
+    let room : nat_lt (length s.store) max_cells ≡ true = (let h = a.room in grind (arith, nat_tests)) in
+    declare_by (is_some (number_named name s.names)) (may_hold_known s.names kind value) (nat_lt (length s.store) max_cells) (ap (λ (o : Option ℕ). is_some o) a.fresh) a.holds room
 
 -- ---- a block that finishes
 current_old : (b : Block) (o : Option Since) → current_since b o ≡ true → is_new_since o ≡ false

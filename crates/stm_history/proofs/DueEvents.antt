@@ -1,11 +1,14 @@
 -- What is due on a state is what is due after the history that leads to it; and what the calls say is what is due.
 use Rattle.std.proofs.Common.{◌≡◌, ◌≢◌, ℕ, ◌<◌, Bool, true, false, not, cond, List, Option, Some, None, refl, sym, ap, subst, ◌∙◌, arith, length}
-use Rattle.std.specs.Prelude.{IfOk, IsSomeAnd, if◌then◌else◌, nat_le, option_map, Result, Ok, Err}
+use Rattle.std.specs.Prelude.{IfOk, IsSomeAnd, if◌then◌else◌, is_some, nat_le, nat_lt, option_map, IsTrue, Result, Ok, Err}
 use Rattle.std.proofs.lemmas.Bool.Decides.{nat_tests}
+use Rattle.stm_terms.specs.declared.kinds.Ty.{Ty}
 use Rattle.stm_terms.specs.declared.values.Value.{Value}
 use Rattle.stm_terms.specs.declared.verdicts.Verdict.{Verdict}
+use Rattle.stm_terms.specs.Names.{is_name_text}
 use Rattle.stm_terms.specs.UnlessNoMemory.{RefusedAs}
 use Rattle.stm_store.specs.declared.cell.Cell.{Cell}
+use Rattle.stm_store.specs.Naming.{may_hold_known, number_named}
 use Rattle.stm_check.specs.TypedBlock.{Block}
 use Rattle.stm_eval.specs.declared.message.Evaluated.{Evaluated}
 use Rattle.stm_eval.specs.EvaluatedFields.{message_ticket, message_block, message_reads}
@@ -15,18 +18,19 @@ use Rattle.stm_events.specs.declared.errors.DeliverError.{DeliverError}
 use Rattle.stm_events.specs.declared.errors.DeliverError.TheVariants as deliver
 use Rattle.stm_events.specs.declared.errors.FinishError.{FinishError}
 use Rattle.stm_events.specs.declared.errors.FinishError.TheVariants as finish
+use Rattle.stm_events.specs.declared.errors.LateDeclareError.{LateDeclareError}
+use Rattle.stm_events.specs.declared.errors.LateDeclareError.TheVariants as declare
 use Rattle.stm_events.specs.declared.errors.SubmitError.{SubmitError}
 use Rattle.stm_events.specs.declared.errors.SubmitError.TheVariants as submit
 use Rattle.stm_events.specs.declared.event.Event.{Event}
-use Rattle.stm_events.specs.declared.event.What.{What}
-use Rattle.stm_events.specs.declared.event.What.TheVariants.{Submitted, Installed, Finished, Cancelled}
-use Rattle.stm_events.specs.Refusals.{missing, submit_first, submit_refused, cancel_first, cancel_refused, finish_first, finish_refused, differing, overtaken_first, install_first, DeliveryRefusedAt, DeliveryRefusedAs, blocks_there, overflows}
-use Rattle.stm_events.specs.SlowDesk.{Waiter, Slow, Allows, under, verdict_on, is_new, is_current, find_waiter, max_clients, max_events, max_waiting}
+use Rattle.stm_events.specs.declared.event.What.TheVariants.{Submitted, Installed, Cancelled, Declared as DeclaredLate}
+use Rattle.stm_events.specs.Refusals.{declare_first, late_declare_refused, missing, submit_first, submit_refused, cancel_first, cancel_refused, finish_first, finish_refused, differing, overtaken_first, install_first, DeliveryRefusedAt, DeliveryRefusedAs, blocks_there, overflows}
+use Rattle.stm_events.specs.SlowDesk.{Waiter, Slow, Allows, under, verdict_on, is_new, is_current, find_waiter, max_cells, max_clients, max_events, max_waiting}
 use Rattle.stm_events.specs.States.{IsLegalFrom}
 use Rattle.stm_machine.specs.JobsHandedOut.{IsPresent, block_at}
 use Rattle.stm_machine.specs.Machine.{IsAt, MayDeliver}
+use Rattle.stm_machine.proofs.Declaring.{may_declare}
 use Rattle.stm_history.specs.declared.files.explanation.CallRefusal.{CallRefusal}
-use Rattle.stm_history.specs.declared.files.explanation.CallRefusal.TheVariants.{Submission, Delivery, Finish, Cancellation}
 use Rattle.stm_history.specs.declared.files.expecting.Expectation.{Expectation}
 use Rattle.stm_history.specs.declared.files.expecting.Expectation.TheVariants.{Due, Refuses}
 use Rattle.stm_history.specs.declared.files.replayer.Replayer.{Replayer}
@@ -35,7 +39,7 @@ use Rattle.stm_history.specs.Explanation.{deliver_first, deliver_refused, is_his
 use Rattle.stm_history.specs.Following.{Follows}
 use Rattle.stm_history.specs.Starts.{Start, first_state, state_after_start}
 use Rattle.stm_history.proofs.ExpectedEvents.{due_by}
-use Rattle.stm_history.proofs.AllowedEvents.{legal_next, refused_for}
+use Rattle.stm_history.proofs.AllowedEvents.{legal_next}
 
 -- ---- after a history
 pub has_room : (history : List Event) → is_history_full history ≡ false → length history < max_events
@@ -92,6 +96,37 @@ cancel_always s full t e h = cancel_some (find_waiter t s.waiters) full e h
 
 pub cancel_allowed : (s : Slow) (t : ℕ) → cancel_refused s false t ≡ None → Allows s (Cancelled t)
 cancel_allowed s t h = waits_by (find_waiter t s.waiters) h
+
+-- a declaration
+declare_full_by : (taken holds room : Bool) → declare_first taken holds false room ≡ None → declare_first taken holds true room ≡ Some declare.HistoryFull
+declare_full_by true holds room h = cc
+declare_full_by false false room h = cc
+declare_full_by false true false h = cc
+declare_full_by false true true h = refl
+
+declare_cells_by : (full taken holds room : Bool) → declare_first taken holds false room ≡ Some declare.CellsFull → declare_first taken holds full room ≡ Some (cond full declare.HistoryFull declare.CellsFull)
+declare_cells_by full true holds room h = cc
+declare_cells_by full false false room h = cc
+declare_cells_by true false true false h = refl
+declare_cells_by false false true false h = refl
+declare_cells_by full false true true h = cc
+
+declare_some_by : (full taken holds room : Bool) (e : LateDeclareError) → declare_first taken holds false room ≡ Some e → e ≢ declare.CellsFull → declare_first taken holds full room ≡ Some e
+declare_some_by full true holds room e h n = h
+declare_some_by full false false room e h n = h
+declare_some_by full false true false e h n = let q : e ≡ declare.CellsFull = cc in absurd (n q)
+declare_some_by full false true true e h n = cc
+
+pub declare_when_full : (s : Slow) (name : List ℕ) (kind : Ty) (value : Value) → late_declare_refused s false name kind value ≡ None → late_declare_refused s true name kind value ≡ Some declare.HistoryFull
+declare_when_full s name kind value h = declare_full_by (is_some (number_named name s.names)) (may_hold_known s.names kind value) (nat_lt (length s.store) max_cells) h
+
+-- a full history comes before a full store
+pub declare_cells_when_full : (s : Slow) (full : Bool) (name : List ℕ) (kind : Ty) (value : Value) → late_declare_refused s false name kind value ≡ Some declare.CellsFull
+    → late_declare_refused s full name kind value ≡ Some (cond full declare.HistoryFull declare.CellsFull)
+declare_cells_when_full s full name kind value h = declare_cells_by full (is_some (number_named name s.names)) (may_hold_known s.names kind value) (nat_lt (length s.store) max_cells) h
+
+pub declare_always : (s : Slow) (full : Bool) (name : List ℕ) (kind : Ty) (value : Value) (e : LateDeclareError) → late_declare_refused s false name kind value ≡ Some e → e ≢ declare.CellsFull → late_declare_refused s full name kind value ≡ Some e
+declare_always s full name kind value e h n = declare_some_by full (is_some (number_named name s.names)) (may_hold_known s.names kind value) (nat_lt (length s.store) max_cells) e h n
 
 -- the reasons of a finish of a block that waits, each with what it rests on
 abbrev finish_at : (full new stale blocks over : Bool) → Option FinishError
@@ -195,3 +230,9 @@ submit_due s t u asked held given h g a = (refl, sym g, subst (λ (b : Block). A
 -- the delivery of a verdict under the ticket that it is for
 pub deliver_due : (s : Slow) (t u : ℕ) (asked brought given : Verdict) → u ≡ t → given ≡ brought → Allows s (Installed t brought) → IsDueOn s false (Installed t asked) (Due (Installed u given))
 deliver_due s t u asked brought given same g a = (refl, sym same, subst (λ (v : Verdict). Allows s (Installed u v)) (sym g) (subst (λ (n : ℕ). Allows s (Installed n brought)) (sym same) a))
+
+-- the declaration that was asked for
+pub declare_due : (s : Slow) (full : Bool) (name given : List ℕ) (kind : Ty) (value : Value) → full ≡ false → given ≡ name → IsTrue (is_name_text name) → late_declare_refused s false name kind value ≡ None
+    → IsDueOn s full (DeclaredLate name kind value) (Due (DeclaredLate given kind value))
+declare_due s full name given kind value f g n e =
+    (f, (sym g, refl, refl), subst (λ (x : List ℕ). Allows s (DeclaredLate x kind value)) (sym g) (may_declare s name kind value n e))

@@ -2,7 +2,7 @@
 use Rattle.std.proofs.Common.{◌≡◌, ℕ, List, [], ◌∷◌, ◌++◌, refl, sym, ◌∙◌, subst, inl, inr}
 use Rattle.stm_events.specs.declared.event.Event.{Event}
 use Rattle.stm_machine.specs.Machine.{event}
-use Rattle.stm_history.specs.Starts.{Start}
+use Rattle.stm_history.specs.Starts.{Start, names_after}
 use Rattle.stm_history.specs.declared.files.explanation.Explanation.{Explanation}
 use Rattle.stm_history.specs.declared.files.explanation.Explanation.TheVariants.{Expected, Refused, Unreadable}
 use Rattle.stm_history.specs.Checking.{CheckerState, at_header, at_variables, at_cells, at_blocks, at_events, LeadsTo}
@@ -24,7 +24,7 @@ leads_head p text Unreadable h e = absurd e
 leads_event : (start : Start) (history : List Event) (e : Event) (text : List ℕ) (x : Explanation) → ExplainsEvent start history e x → IsExpectedText x text → LeadsOn (at_events start history) text
 leads_event start history e text (Expected s) h i =
     let d : Event = event e.client h.0 in
-    let stand : CanStand start.format start.table d = h.2 in
+    let stand : CanStand start.format (names_after start history) d = h.2 in
     let line : event_line d ≡ text = sym h.3 ∙ i in
     record {
       next = at_events start (history ++ d ∷ []);
@@ -43,8 +43,8 @@ leads_unread start history line text Unreadable h e = absurd e
 leads_on : (p : CheckerState) (line text : List ℕ) (x : Explanation) → Explains p line x → IsExpectedText x text → LeadsOn p text
 leads_on at_header line text x h e = leads_head at_header text x h e
 leads_on (at_variables format n table) line text x h e = leads_head (at_variables format n table) text x h e
-leads_on (at_cells next vars waiting table cells) line text x h e = leads_head (at_cells next vars waiting table cells) text x h e
-leads_on (at_blocks waiting table c) line text x h e = leads_head (at_blocks waiting table c) text x h e
+leads_on (at_cells format next vars waiting names cells) line text x h e = leads_head (at_cells format next vars waiting names cells) text x h e
+leads_on (at_blocks format waiting c) line text x h e = leads_head (at_blocks format waiting c) text x h e
 leads_on (at_events start history) line text x h e = leads_unread start history line text x h e
 
 pub expected_leads_on : ExpectedLeadsOn

@@ -1,12 +1,13 @@
 -- What is reported of a line that is not accepted.
-use Rattle.std.proofs.Common.{◌≡◌, ℕ, ◌<◌, List, [], ◌∷◌, ◌++◌, Option, Some, None, refl, sym, ap, ◌∙◌, subst}
+use Rattle.std.proofs.Common.{◌≡◌, ℕ, ◌<◌, List, [], ◌∷◌, ◌++◌, length, Option, Some, None, refl, sym, ap, ◌∙◌, subst}
 use Rattle.std.specs.Prelude.{IfOk, Result, Ok, Err}
 use Rattle.stm_store.specs.declared.cell.Cell.{Cell}
+use Rattle.stm_store.specs.Naming.{Named}
 use Rattle.stm_store.specs.Tables.{Declared, declare_refusal}
 use Rattle.stm_check.specs.TypedBlock.{Block}
 use Rattle.stm_events.specs.declared.event.Event.{Event}
 use Rattle.stm_events.specs.declared.event.What.{What}
-use Rattle.stm_events.specs.declared.event.What.TheVariants.{Submitted, Installed, Finished, Cancelled}
+use Rattle.stm_events.specs.declared.event.What.TheVariants.{Submitted, Installed, Finished, Cancelled, Declared as DeclaredLate}
 use Rattle.stm_events.specs.Delivered.{Delivered}
 use Rattle.stm_events.specs.SlowDesk.{max_clients}
 use Rattle.stm_machine.specs.Checkpoints.{CheckpointView, MayAdd, checkpoint_block}
@@ -15,15 +16,15 @@ use Rattle.stm_history.specs.declared.files.check.Stage.TheVariants.{Running}
 use Rattle.stm_history.specs.declared.files.replayer.Replayer.{Replayer}
 use Rattle.stm_history.specs.Following.{Follows}
 use Rattle.stm_history.specs.Stages.{IsStage}
-use Rattle.stm_history.specs.Starts.{Start, delivery_of_block}
+use Rattle.stm_history.specs.Starts.{Start, delivery_of_block, names_after}
 use Rattle.stm_history.specs.declared.files.expecting.Expectation.{Expectation}
 use Rattle.stm_history.specs.declared.files.expecting.Expectation.TheVariants.{Due}
 use Rattle.stm_history.specs.declared.files.explanation.Explanation.{Explanation}
 use Rattle.stm_history.specs.declared.files.explanation.Explanation.TheVariants.{Expected, Refused, Unreadable}
-use Rattle.stm_history.specs.Checking.{CheckerState, at_variables, at_cells, at_blocks, at_events, with_table, with_cells, with_blocks, LeadsTo, MayTakeCell}
+use Rattle.stm_history.specs.Checking.{CheckerState, at_variables, at_cells, at_blocks, at_events, with_table, with_cells, with_blocks, with_name_of, LeadsTo, MayTakeCell}
 use Rattle.stm_history.specs.Expecting.{HasCheckedBlock, IsDueAfter, IsLineOf, IsShortOr}
 use Rattle.stm_history.specs.Explanation.{Explains, ExplainsEvent, ExplainsHead, IsCallDue, IsReadAs, IsSameCall}
-use Rattle.stm_event_lines.specs.Fits.{FitsTable, FitsFormat, FitsVariable, WhatFitsTable}
+use Rattle.stm_event_lines.specs.Fits.{FitsNames, FitsFormat, FitsVariable, WhatFitsNames}
 use Rattle.stm_history.specs.Judgement.{IsShort}
 use Rattle.stm_event_lines.specs.CheckpointLines.{FitsWaiting, cell_line, waiting_line}
 use Rattle.stm_event_lines.specs.Lines.{event_line, variable_line}
@@ -35,10 +36,10 @@ head_line p bytes (Expected text) l h = (subst (λ (b : List ℕ). (q : CheckerS
 head_line p bytes (Refused r) l h = absurd h
 head_line p bytes Unreadable l h = tt
 
-pub line_of : (format : ℕ) (table : List Declared) (e : Event) (bytes : List ℕ) (x : Explanation) → FitsTable table e → FitsFormat format e → bytes ≡ event_line e → IsShortOr bytes x → IsLineOf format table e x
-line_of format table e bytes (Expected text) f g s h = ((f, g, subst IsShort s h.1), h.0 ∙ s)
-line_of format table e bytes (Refused r) f g s h = absurd h
-line_of format table e bytes Unreadable f g s h = λ c. h (subst IsShort (sym s) c.2)
+pub line_of : (format : ℕ) (names : List Named) (e : Event) (bytes : List ℕ) (x : Explanation) → FitsNames names e → FitsFormat format e → bytes ≡ event_line e → IsShortOr bytes x → IsLineOf format names e x
+line_of format names e bytes (Expected text) f g s h = ((f, g, subst IsShort s h.1), h.0 ∙ s)
+line_of format names e bytes (Refused r) f g s h = absurd h
+line_of format names e bytes Unreadable f g s h = λ c. h (subst IsShort (sym s) c.2)
 
 -- the line of a variable that may be declared
 pub declared_head : {E : Type 0} (r : Result Explanation E) (table : List Declared) (d : Declared) → FitsVariable d → declare_refusal table d.name d.kind d.value ≡ None → IfOk r (λ x. IsShortOr (variable_line d) x)
@@ -47,11 +48,12 @@ declared_head (Ok x) table d fits may h = λ format n. head_line (at_variables f
 declared_head (Err e) table d fits may h = tt
 
 -- the line of a checkpoint's variable that may come next
-pub cell_head : {E : Type 0} (r : Result Explanation E) (vars : ℕ) (table named : List Declared) (cells : List Cell) (name : Option (List ℕ)) (c : Cell) → MayTakeCell vars table cells name c named → IfOk r (λ x. IsShortOr (cell_line name c) x)
-    → IfOk r (λ x. (next waiting : ℕ) → ExplainsHead (at_cells next vars waiting table cells) x)
-cell_head (Ok x) vars table named cells name c may h = λ next waiting.
-    head_line (at_cells next vars waiting table cells) (cell_line name c) x (with_cells next vars waiting named (cells ++ c ∷ []), (name, c, named, refl, may, refl)) h
-cell_head (Err e) vars table named cells name c may h = tt
+pub cell_head : {E : Type 0} (r : Result Explanation E) (format vars : ℕ) (names : List Named) (cells : List Cell) (name : Option (List ℕ)) (c : Cell) → MayTakeCell format vars names cells name c → IfOk r (λ x. IsShortOr (cell_line name c) x)
+    → IfOk r (λ x. (next waiting : ℕ) → ExplainsHead (at_cells format next vars waiting names cells) x)
+cell_head (Ok x) format vars names cells name c may h = λ next waiting.
+    head_line (at_cells format next vars waiting names cells) (cell_line name c) x
+    (with_cells format next vars waiting (with_name_of names (length cells) name c.kind) (cells ++ c ∷ []), (name, c, refl, may, refl)) h
+cell_head (Err e) format vars names cells name c may h = tt
 
 -- what was delivered to a block is what its checkpoint has
 delivery_kept : (t : ℕ) (b : Block) (d : Option Delivered) → delivery_of_block (checkpoint_block t b d) ≡ d
@@ -59,13 +61,13 @@ delivery_kept t b None = refl
 delivery_kept t b (Some d) = refl
 
 -- the line of a waiting block that may be added
-pub block_head : (waiting : ℕ) (table : List Declared) (c : CheckpointView) (t : ℕ) (b : Block) (d : Option Delivered) (x : Explanation) → FitsWaiting table t b d → MayAdd c (checkpoint_block t b d) → IsShortOr (waiting_line t b.text d) x
-    → ExplainsHead (at_blocks waiting table c) x
-block_head waiting table c t b d x fits may h =
+pub block_head : (format waiting : ℕ) (c : CheckpointView) (t : ℕ) (b : Block) (d : Option Delivered) (x : Explanation) → FitsWaiting c.names t b d → MayAdd c (checkpoint_block t b d) → IsShortOr (waiting_line t b.text d) x
+    → ExplainsHead (at_blocks format waiting c) x
+block_head format waiting c t b d x fits may h =
     let block = checkpoint_block t b d in
     let same = delivery_kept t b d in
-    head_line (at_blocks waiting table c) (waiting_line t b.text d) x
-    (with_blocks waiting table (record c { blocks = c.blocks ++ block ∷ [] }), (block, ap (waiting_line t b.text) same, (subst (FitsWaiting table t b) (sym same) fits, may), refl)) h
+    head_line (at_blocks format waiting c) (waiting_line t b.text d) x
+    (with_blocks format waiting (record c { blocks = c.blocks ++ block ∷ [] }), (block, ap (waiting_line t b.text) same, (subst (FitsWaiting c.names t b) (sym same) fits, may), refl)) h
 
 -- what is reported at a progress, whatever it is called
 pub explained_at : {E : Type 0} (o : Result Explanation E) (P : Explanation → Type 0) (q : CheckerState) (line : List ℕ) → IfOk o P → ((x : Explanation) → P x → Explains q line x) → IfOk o (λ x. (p : CheckerState) → p ≡ q → Explains p line x)
@@ -73,45 +75,55 @@ explained_at (Ok x) P q line h f = λ p i. subst (λ (y : CheckerState). Explain
 explained_at (Err e) P q line h f = tt
 
 -- ---- an event
-pub checked_same : (table : List Declared) (a b : What) → WhatFitsTable table a → IsSameCall a b → HasCheckedBlock table b
-checked_same table (Submitted t b) (Submitted u c) f e = subst (λ (x : Block). checked_block table x.text ≡ Ok x) e f.1
-checked_same table (Submitted t b) (Installed u w) f e = tt
-checked_same table (Submitted t b) (Finished u w m k) f e = tt
-checked_same table (Submitted t b) (Cancelled u) f e = tt
-checked_same table (Installed t v) (Submitted u c) f e = absurd e
-checked_same table (Installed t v) (Installed u w) f e = tt
-checked_same table (Installed t v) (Finished u w m k) f e = tt
-checked_same table (Installed t v) (Cancelled u) f e = tt
-checked_same table (Finished t v n stale) (Submitted u c) f e = absurd e
-checked_same table (Finished t v n stale) (Installed u w) f e = tt
-checked_same table (Finished t v n stale) (Finished u w m k) f e = tt
-checked_same table (Finished t v n stale) (Cancelled u) f e = tt
-checked_same table (Cancelled t) (Submitted u c) f e = absurd e
-checked_same table (Cancelled t) (Installed u w) f e = tt
-checked_same table (Cancelled t) (Finished u w m k) f e = tt
-checked_same table (Cancelled t) (Cancelled u) f e = tt
+pub checked_same : (names : List Named) (a b : What) → WhatFitsNames names a → IsSameCall a b → HasCheckedBlock names b
+checked_same names (Submitted t b) (Submitted u c) f e = subst (λ (x : Block). checked_block names x.text ≡ Ok x) e f.1
+checked_same names (Submitted t b) (Installed u w) f e = tt
+checked_same names (Submitted t b) (Finished u w m k) f e = tt
+checked_same names (Submitted t b) (Cancelled u) f e = tt
+checked_same names (Submitted t b) (DeclaredLate other type first) f e = tt
+checked_same names (Installed t v) (Submitted u c) f e = absurd e
+checked_same names (Installed t v) (Installed u w) f e = tt
+checked_same names (Installed t v) (Finished u w m k) f e = tt
+checked_same names (Installed t v) (Cancelled u) f e = tt
+checked_same names (Installed t v) (DeclaredLate other type first) f e = tt
+checked_same names (Finished t v n stale) (Submitted u c) f e = absurd e
+checked_same names (Finished t v n stale) (Installed u w) f e = tt
+checked_same names (Finished t v n stale) (Finished u w m k) f e = tt
+checked_same names (Finished t v n stale) (Cancelled u) f e = tt
+checked_same names (Finished t v n stale) (DeclaredLate other type first) f e = tt
+checked_same names (Cancelled t) (Submitted u c) f e = absurd e
+checked_same names (Cancelled t) (Installed u w) f e = tt
+checked_same names (Cancelled t) (Finished u w m k) f e = tt
+checked_same names (Cancelled t) (Cancelled u) f e = tt
+checked_same names (Cancelled t) (DeclaredLate other type first) f e = tt
+checked_same names (DeclaredLate name kind value) (Submitted u c) f e = absurd e
+checked_same names (DeclaredLate name kind value) (Installed u w) f e = tt
+checked_same names (DeclaredLate name kind value) (Finished u w m k) f e = tt
+checked_same names (DeclaredLate name kind value) (Cancelled u) f e = tt
+checked_same names (DeclaredLate name kind value) (DeclaredLate other type first) f e = tt
 
-pub explains_due : (start : Start) (history : List Event) (e : Event) (what : What) (x : Explanation) → IsCallDue start history e what → IsLineOf start.format start.table (event e.client what) x → ExplainsEvent start history e x
+pub explains_due : (start : Start) (history : List Event) (e : Event) (what : What) (x : Explanation) → IsCallDue start history e what → IsLineOf start.format (names_after start history) (event e.client what) x → ExplainsEvent start history e x
 explains_due start history e what (Expected text) d l = (what, d, l.0, l.1)
 explains_due start history e what (Refused r) d l = absurd l
 explains_due start history e what Unreadable d l = (what, d, l)
 
-pub read_as : (table : List Declared) (line : List ℕ) (e : Event) → FitsTable table e → ((d : Event) → FitsTable table d → event_line d ≡ line → Some e ≡ Some d) → IsReadAs table line e
-read_as table line e f h = (f, λ d g l. let s = h d g l in cc)
+pub read_as : (names : List Named) (line : List ℕ) (e : Event) → FitsNames names e → ((d : Event) → FitsNames names d → event_line d ≡ line → Some e ≡ Some d) → IsReadAs names line e
+read_as names line e f h = (f, λ d g l. let s = h d g l in cc)
 
 pub due_explained : {E : Type 0} (r : Result Explanation E) (format : ℕ) (s : Replayer) (e : Event) (what : What) (y : Expectation) → y ≡ Due what → ((S : Start) (H : List Event) → Follows S H s → IsDueAfter S H e y)
-    → IfOk r (λ x. (T : List Declared) → e.client < max_clients → HasCheckedBlock T what → IsLineOf format T (event e.client what) x)
-    → IfOk r (λ x. (S : Start) (H : List Event) → S.format ≡ format → Follows S H s → FitsTable S.table e → ExplainsEvent S H e x)
+    → IfOk r (λ x. (T : List Named) → e.client < max_clients → HasCheckedBlock T what → IsLineOf format T (event e.client what) x)
+    → IfOk r (λ x. (S : Start) (H : List Event) → S.format ≡ format → Follows S H s → FitsNames (names_after S H) e → ExplainsEvent S H e x)
 due_explained (Ok x) format s e what y is due h = λ S H n f g.
     let d : IsCallDue S H e what = subst (λ (z : Expectation). IsDueAfter S H e z) is (due S H f) in
-    let line : IsLineOf format S.table (event e.client what) x = h S.table g.0 (checked_same S.table e.what what g.1 d.same) in
-    explains_due S H e what x d (subst (λ (k : ℕ). IsLineOf k S.table (event e.client what) x) (sym n) line)
+    let names = names_after S H in
+    let line : IsLineOf format names (event e.client what) x = h names g.0 (checked_same names e.what what g.1 d.same) in
+    explains_due S H e what x d (subst (λ (k : ℕ). IsLineOf k names (event e.client what) x) (sym n) line)
 due_explained (Err x) format s e what y is due h = tt
 
 -- a line among the events, whatever the progress is called
-pub running_explained : {E : Type 0} (o : Result Explanation E) (format : ℕ) (names : List Declared) (c : Option CheckpointView) (r : Replayer) (line : List ℕ)
-    → IfOk o (λ x. (S : Start) (H : List Event) → S.format ≡ format → S.table ≡ names → Follows S H r → Explains (at_events S H) line x) → IfOk o (λ x. (p : CheckerState) → IsStage (Running format names c r) p → Explains p line x)
-running_explained (Ok x) format names c r line f = λ p i.
-    let start : Start = record { format = format; table = names; checkpoint = c } in
-    subst (λ (y : CheckerState). Explains y line x) (sym i.1) (f start i.0 refl refl i.2)
-running_explained (Err e) format names c r line f = tt
+pub running_explained : {E : Type 0} (o : Result Explanation E) (format : ℕ) (table : List Declared) (c : Option CheckpointView) (r : Replayer) (line : List ℕ)
+    → IfOk o (λ x. (S : Start) (H : List Event) → S.format ≡ format → Follows S H r → Explains (at_events S H) line x) → IfOk o (λ x. (p : CheckerState) → IsStage (Running format table c r) p → Explains p line x)
+running_explained (Ok x) format table c r line f = λ p i.
+    let start : Start = record { format = format; table = table; checkpoint = c } in
+    subst (λ (y : CheckerState). Explains y line x) (sym i.1) (f start i.0 refl i.2)
+running_explained (Err e) format table c r line f = tt

@@ -4,18 +4,18 @@ use Rattle.stm_events.specs.declared.event.Event.{Event}
 use Rattle.stm_history.specs.declared.files.fault.HistoryFault.{HistoryFault}
 use Rattle.stm_history.specs.declared.files.fault.HistoryFault.TheVariants.{ReadFault, BadHeader, BadLine, NotLegal, NoMemory}
 use Rattle.stm_events.specs.States.{IsLegalFrom}
-use Rattle.stm_event_lines.specs.Fits.{FitsTable, FitsFormat}
+use Rattle.stm_event_lines.specs.Fits.{FitsNames, FitsFormat}
 use Rattle.stm_event_lines.specs.Lines.{event_line}
 use Rattle.stm_history.specs.Judgement.{IsShort, BeginsWithHistory, NoEventNext, IsIllegalFrom, ReportsFault, next_line}
 use Rattle.stm_history.specs.FileLaws.{HistoriesAreTaken, FaultsAreFixed}
-use Rattle.stm_history.specs.Starts.{Start, first_state}
+use Rattle.stm_history.specs.Starts.{Start, first_state, names_after}
 use Rattle.stm_history.proofs.OneReading.{IsNext, Compared, same, more, fewer, both, nothing_next, never_next, legal_next, header_by}
 
 -- the line after these events is bad: something is left, and no line of an event
 pub record IsBadNext (s : Start) (H : List Event) (a : List ℕ) (n : ℕ) : Type 0 where
   pub number : n ≡ next_line s H
   pub some : 0 < length a
-  pub never : NoEventNext s.format s.table a
+  pub never : NoEventNext s.format (names_after s H) a
 
 -- the line after these events is that of an event that cannot follow
 pub record IsIllegalNext (s : Start) (H : List Event) (a : List ℕ) (n : ℕ) : Type 0 where
@@ -23,7 +23,7 @@ pub record IsIllegalNext (s : Start) (H : List Event) (a : List ℕ) (n : ℕ) :
   pub event : Event
   pub text : List ℕ
   pub here : a ≡ event_line event ++ 10 ∷ text
-  pub fits : FitsTable s.table event
+  pub fits : FitsNames (names_after s H) event
   pub may : FitsFormat s.format event
   pub short : IsShort (event_line event)
   pub illegal : IsIllegalFrom s H event
@@ -67,11 +67,11 @@ one_fault s H a f g (not_legal m d h) (not_legal n e k) = d ∙ ap NotLegal (h.n
 
 -- ---- two lines
 -- no legal history goes on at a fault
-stops : (s : Start) (H K : List Event) (a b : List ℕ) (f : HistoryFault) → IsNextFault s K b f → IsLegalFrom (first_state s) H → IsNext s.format s.table H K a b → ⊥
-stops s H K a b f (bad_line n e k) legal next = never_next s.format s.table H K a b k.never next
+stops : (s : Start) (H K : List Event) (a b : List ℕ) (f : HistoryFault) → IsNextFault s K b f → IsLegalFrom (first_state s) H → IsNext s.format (first_state s) H K a b → ⊥
+stops s H K a b f (bad_line n e k) legal next = never_next s.format (first_state s) H K a b k.never next
 stops s H K a b f (not_legal n e k) legal next = legal_next s H K a b k.text k.event k.here k.fits legal k.illegal next
 
-fixed_by : (s : Start) (H K : List Event) (a b : List ℕ) (f g : HistoryFault) → Compared s.format s.table H K a b → IsLegalFrom (first_state s) H → IsLegalFrom (first_state s) K → IsNextFault s H a f
+fixed_by : (s : Start) (H K : List Event) (a b : List ℕ) (f g : HistoryFault) → Compared s.format (first_state s) H K a b → IsLegalFrom (first_state s) H → IsLegalFrom (first_state s) K → IsNextFault s H a f
     → IsNextFault s K b g → f ≡ g
 fixed_by s H K a b f g (same e d) legal_H legal_K h k =
     one_fault s K b f g (subst (λ (z : List ℕ). IsNextFault s K z f) d (subst (λ (z : List Event). IsNextFault s z a f) e h)) k
@@ -113,14 +113,14 @@ faults_are_fixed bytes (NotLegal m) (NotLegal n) h k t u = later_fixed bytes (No
 
 -- ---- legal histories
 -- no fault is at a line of a legal history
-taken_by : (s : Start) (H K : List Event) (b : List ℕ) (f : HistoryFault) → Compared s.format s.table H K [] b → IsLegalFrom (first_state s) H → IsNextFault s K b f → ⊥
+taken_by : (s : Start) (H K : List Event) (b : List ℕ) (f : HistoryFault) → Compared s.format (first_state s) H K [] b → IsLegalFrom (first_state s) H → IsNextFault s K b f → ⊥
 taken_by s H K b f (more n) legal k = stops s H K [] b f k legal n
 taken_by s H K b f (same e d) legal (bad_line n j k) = let l : 0 ≡ length b = ap length d in let s = k.some in omega (arith, l, s)
 taken_by s H K b f (same e d) legal (not_legal n j k) =
     let l : 0 ≡ length (event_line k.event ++ 10 ∷ k.text) = ap length (d ∙ k.here) in
     let m = length-append (event_line k.event) (10 ∷ k.text) in
     omega (arith, l, m)
-taken_by s H K b f (fewer n) legal k = nothing_next s.format s.table K H b n
+taken_by s H K b f (fewer n) legal k = nothing_next s.format (first_state s) K H b n
 
 later_taken : (bytes : List ℕ) (s : Start) (H : List Event) (f : HistoryFault) → BeginsWithHistory s bytes H [] → IsLaterFault bytes f → ⊥
 later_taken bytes s H f a k =

@@ -1,17 +1,15 @@
-pub mod AlikeTables
 pub mod AllowedEvents
 pub mod AllowedIsNotRefused
 pub mod Braces
+pub mod CellNames
 pub mod CommonLines
 pub mod CutsAtLineFeeds
-pub mod DefaultedTables
 pub mod DueEvents
 pub mod ExpectedEvents
 pub mod ExpectedLines
 pub mod Explanations
 pub mod FirstFault
 pub mod FirstLines
-pub mod FirstReferred
 pub mod KeptIsTaken
 pub mod LineByLine
 pub mod OneLineMore
@@ -24,7 +22,6 @@ pub mod RefusedVariables
 pub mod ReplayFaults
 pub mod Shortness
 pub mod StartOfACheck
-pub mod StartTypes
 pub mod TextInParts
 pub mod WhereLinesStop
 pub mod WrittenIsTaken

@@ -1,24 +1,23 @@
 -- The whole lines of a text lead to one progress.
-use Rattle.std.proofs.Common.{◌≡◌, ◌≢◌, ℕ, ◌≤◌, ◌<◌, List, [], ◌∷◌, ◌++◌, length, Some, None, refl, sym, ap, ◌∙◌, subst, arith, append_assoc, append-nil, length-append, ◌⊎◌, inl, inr}
+use Rattle.std.proofs.Common.{◌≡◌, ℕ, ◌+◌, ◌≤◌, ◌<◌, List, [], ◌∷◌, ◌++◌, length, refl, sym, ap, ◌∙◌, subst, arith, append_assoc, append-nil, length-append, ◌⊎◌, inl, inr}
 use Rattle.stm_store.specs.declared.cell.Cell.{Cell}
+use Rattle.stm_store.specs.Naming.{Named, name_numbered}
 use Rattle.stm_store.specs.Tables.{Declared}
 use Rattle.stm_events.specs.declared.event.Event.{Event}
 use Rattle.stm_events.specs.SlowDesk.{max_cells}
-use Rattle.stm_machine.specs.declared.checkpoint.CheckpointBlock.{CheckpointBlock}
 use Rattle.stm_machine.specs.Checkpoints.{CheckpointView}
 use Rattle.stm_event_lines.specs.CheckpointLines.{cell_line, checkpoint_header_line}
 use Rattle.stm_event_lines.specs.Lines.{IsFormat, header_line, variable_line}
 use Rattle.stm_event_lines.proofs.ReadsBack.{header_same}
-use Rattle.stm_history.specs.HistoryText.{block_line, block_lines, cell_lines, cells_text, checkpoint_text, event_lines, head_text, history_text, start_text, variable_lines}
-use Rattle.stm_history.specs.Judgement.{AreVariables, IsReadable, IsStart}
-use Rattle.stm_history.specs.Checking.{CheckerState, at_header, at_variables, at_cells, at_blocks, at_events, AreCells, IsCheckpointHead, LinesUpTo}
-use Rattle.stm_history.specs.Defaults.{HaveDefaults}
+use Rattle.stm_history.specs.HistoryText.{block_line, block_lines, cell_lines, cell_lines_from, checkpoint_text, event_lines, variable_lines}
+use Rattle.stm_history.specs.Judgement.{AreVariables, FitBlocks, IsReadable}
+use Rattle.stm_history.specs.Checking.{CheckerState, at_header, at_variables, at_cells, at_blocks, at_events, AreCells, LinesUpTo}
 use Rattle.stm_history.specs.Starts.{Start}
-use Rattle.stm_history.proofs.CommonLines.{NextCell, common_cells, next_block, next_cell}
+use Rattle.stm_history.proofs.CellNames.{cells as one_cells, common_cells}
+use Rattle.stm_history.proofs.CommonLines.{next_block, next_cell}
 use Rattle.stm_history.proofs.CutsAtLineFeeds.{IsCut, cut_unique}
-use Rattle.stm_history.proofs.DefaultedTables.{same_defaults}
-use Rattle.stm_history.proofs.OneReading.{blocks as one_blocks, cells as one_cells, marked_from, names_from, tables, texts_are_of_one_history}
-use Rattle.stm_history.proofs.RefusedLines.{GoesOn, IsHead, IsSameHead, flat_checkpoint, following, goes_on, head_of, header_no_feed, other_head, same_checkpoint_head, same_store}
+use Rattle.stm_history.proofs.OneReading.{blocks as one_blocks, marked_from, tables, texts_are_of_one_history}
+use Rattle.stm_history.proofs.RefusedLines.{IsHead, following, goes_on, head_of, header_no_feed, other_head, same_checkpoint_head, same_store}
 
 -- no text is empty that has a line
 pub line_there : (line rest : List ℕ) → line ++ 10 ∷ rest ≡ [] → ⊥
@@ -71,124 +70,127 @@ early p start history text h l k =
     line_there g.line g.more (sym g.text)
 
 -- ---- a table and a checkpoint
-variables_or_cells : (format n next vars waiting : ℕ) (T U : List Declared) (cs : List Cell) (text : List ℕ) → LinesUpTo (at_variables format n T) text → LinesUpTo (at_cells next vars waiting U cs) text → ⊥
-variables_or_cells format n next vars waiting T U cs text h k = other_head format n next vars waiting (variable_lines T) (cell_lines U cs) h.0 h.4 k.0 (sym h.1 ∙ k.1)
+variables_or_cells : (format n other next vars waiting : ℕ) (T : List Declared) (U : List Named) (cs : List Cell) (text : List ℕ) → LinesUpTo (at_variables format n T) text → LinesUpTo (at_cells other next vars waiting U cs) text → ⊥
+variables_or_cells format n other next vars waiting T U cs text h k = other_head format n other next vars waiting (variable_lines T) (cell_lines U cs) h.0 h.4 k.4 k.0 (sym h.1 ∙ k.1)
 
 -- the lines of a checkpoint so far
-blocks_flat : (w : ℕ) (T : List Declared) (c : CheckpointView) → checkpoint_text w T c ≡ checkpoint_header_line c.next (length c.store) w ++ 10 ∷ (cell_lines T c.store ++ block_lines c.blocks)
-blocks_flat w T c = append_assoc (checkpoint_header_line c.next (length c.store) w) (10 ∷ cell_lines T c.store) (block_lines c.blocks)
+blocks_flat : (format w : ℕ) (c : CheckpointView) → checkpoint_text format w c ≡ checkpoint_header_line format c.next (length c.store) w ++ 10 ∷ (cell_lines c.names c.store ++ block_lines c.blocks)
+blocks_flat format w c = append_assoc (checkpoint_header_line format c.next (length c.store) w) (10 ∷ cell_lines c.names c.store) (block_lines c.blocks)
 
-variables_or_blocks : (format n waiting : ℕ) (T U : List Declared) (c : CheckpointView) (text : List ℕ) → LinesUpTo (at_variables format n T) text → LinesUpTo (at_blocks waiting U c) text → ⊥
-variables_or_blocks format n waiting T U c text h k =
-    other_head format n c.next (length c.store) waiting (variable_lines T) (cell_lines U c.store ++ block_lines c.blocks) h.0 h.4 (head_of U c waiting k.1 k.3) (sym h.1 ∙ k.0 ∙ blocks_flat waiting U c)
+variables_or_blocks : (format n other waiting : ℕ) (T : List Declared) (c : CheckpointView) (text : List ℕ) → LinesUpTo (at_variables format n T) text → LinesUpTo (at_blocks other waiting c) text → ⊥
+variables_or_blocks format n other waiting T c text h k =
+    other_head format n other c.next (length c.store) waiting (variable_lines T) (cell_lines c.names c.store ++ block_lines c.blocks) h.0 h.4 (k.1).is_format (head_of other c waiting k.1 k.3) (sym h.1 ∙ k.0 ∙ blocks_flat other waiting c)
 
 -- ---- two checkpoints
 -- fewer variables have fewer lines
-no_fewer_cells : (T U : List Declared) (cs ds : List Cell) (b : List ℕ) → AreCells T cs → AreCells U ds → length cs < length ds → cell_lines T cs ≡ cell_lines U ds ++ b → ⊥
-no_fewer_cells T U cs ds b s r l e =
-    let g = common_cells [] T U cs ds [] b (names_from [] T s.variables) (names_from [] U r.variables) s.defaults r.defaults s.types r.types s.fit r.fit (omega (arith, l)) (append-nil (cell_lines T cs) ∙ e) in
+no_fewer_cells : (p q : ℕ) (T U : List Named) (cs ds : List Cell) → AreCells p T cs → AreCells q U ds → length cs < length ds → cell_lines T cs ≡ cell_lines U ds → ⊥
+no_fewer_cells p q T U cs ds s r l e =
+    let g = common_cells p q T U cs ds [] [] s r (omega (arith, l)) (ap (λ (x : List ℕ). x ++ []) e) in
     let long = ap (λ (z : List Cell). length z) g.stores ∙ length-append cs g.cells in
-    some_lines g.names g.cells b (omega (arith, l, long)) (sym g.rest)
+    some_lines (length cs) U g.cells (omega (arith, l, long)) (sym (g.rest ∙ append-nil (cell_lines_from (length cs) U g.cells)))
   where
-    some_lines : (names : List Declared) (cells : List Cell) (b : List ℕ) → 0 < length cells → cell_lines names cells ++ b ≡ [] → ⊥
-    some_lines names [] b l e = omega (arith, l)
-    some_lines [] (c ∷ cells) b l e = line_there (cell_line None c) (cell_lines [] cells ++ b) (sym (append_assoc (cell_line None c) (10 ∷ cell_lines [] cells) b) ∙ e)
-    some_lines (d ∷ names) (c ∷ cells) b l e = line_there (cell_line (Some d.name) c) (cell_lines names cells ++ b) (sym (append_assoc (cell_line (Some d.name) c) (10 ∷ cell_lines names cells) b) ∙ e)
+    some_lines : (i : ℕ) (names : List Named) (cells : List Cell) → 0 < length cells → cell_lines_from i names cells ≡ [] → ⊥
+    some_lines i names [] l e = omega (arith, l)
+    some_lines i names (c ∷ cells) l e = line_there (cell_line (name_numbered i names) c) (cell_lines_from (i + 1) names cells) e
 
 -- the same variables of a checkpoint
-record AreSameCells (T U : List Declared) (cs ds : List Cell) : Type 0 where
-  pub tables : T ≡ U
+record AreSameCells (T U : List Named) (cs ds : List Cell) : Type 0 where
+  pub names : T ≡ U
   pub cells : cs ≡ ds
 
-even_cells : (T U : List Declared) (cs ds : List Cell) → AreCells T cs → AreCells U ds → length cs ≡ length ds → cell_lines T cs ≡ cell_lines U ds → AreSameCells T U cs ds
-even_cells T U cs ds s r l e =
-    let k = one_cells T U cs ds [] [] (names_from [] T s.variables) (names_from [] U r.variables) s.types r.types s.fit r.fit l (ap (λ (x : List ℕ). x ++ []) e) in
-    record { tables = same_defaults [] T U s.defaults r.defaults k.tables; cells = k.cells }
+even_cells : (p q : ℕ) (T U : List Named) (cs ds : List Cell) → AreCells p T cs → AreCells q U ds → length cs ≡ length ds → cell_lines T cs ≡ cell_lines U ds → AreSameCells T U cs ds
+even_cells p q T U cs ds s r l e =
+    let k = one_cells p q T U cs ds [] [] s r l (ap (λ (x : List ℕ). x ++ []) e) in
+    record { names = k.names; cells = k.cells }
 
-same_cells : (T U : List Declared) (cs ds : List Cell) → AreCells T cs → AreCells U ds → cell_lines T cs ≡ cell_lines U ds → (length cs < length ds) ⊎ ((length ds < length cs) ⊎ (length cs ≡ length ds)) → AreSameCells T U cs ds
-same_cells T U cs ds s r e (inl l) = absurd (no_fewer_cells T U cs ds [] s r l (e ∙ sym (append-nil (cell_lines U ds))))
-same_cells T U cs ds s r e (inr (inl l)) = absurd (no_fewer_cells U T ds cs [] r s l (sym e ∙ sym (append-nil (cell_lines T cs))))
-same_cells T U cs ds s r e (inr (inr l)) = even_cells T U cs ds s r l e
+same_cells : (p q : ℕ) (T U : List Named) (cs ds : List Cell) → AreCells p T cs → AreCells q U ds → cell_lines T cs ≡ cell_lines U ds → (length cs < length ds) ⊎ ((length ds < length cs) ⊎ (length cs ≡ length ds)) → AreSameCells T U cs ds
+same_cells p q T U cs ds s r e (inl l) = absurd (no_fewer_cells p q T U cs ds s r l e)
+same_cells p q T U cs ds s r e (inr (inl l)) = absurd (no_fewer_cells q p U T ds cs r s l (sym e))
+same_cells p q T U cs ds s r e (inr (inr l)) = even_cells p q T U cs ds s r l e
 
-same_at_cells : (next next' vars vars' waiting waiting' : ℕ) (T U : List Declared) (cs ds : List Cell) (text : List ℕ) → LinesUpTo (at_cells next vars waiting T cs) text → LinesUpTo (at_cells next' vars' waiting' U ds) text
-    → at_cells next vars waiting T cs ≡ at_cells next' vars' waiting' U ds
-same_at_cells next next' vars vars' waiting waiting' T U cs ds text h k =
-    let c = same_checkpoint_head next next' vars vars' waiting waiting' (cell_lines T cs) (cell_lines U ds) h.0 k.0 (sym h.1 ∙ k.1) in
-    let s = same_cells T U cs ds h.2 k.2 c.rest (by_length (length cs) (length ds)) in
+same_at_cells : (p q next next' vars vars' waiting waiting' : ℕ) (T U : List Named) (cs ds : List Cell) (text : List ℕ) → LinesUpTo (at_cells p next vars waiting T cs) text → LinesUpTo (at_cells q next' vars' waiting' U ds) text
+    → at_cells p next vars waiting T cs ≡ at_cells q next' vars' waiting' U ds
+same_at_cells p q next next' vars vars' waiting waiting' T U cs ds text h k =
+    let c = same_checkpoint_head p q next next' vars vars' waiting waiting' (cell_lines T cs) (cell_lines U ds) h.4 k.4 h.0 k.0 (sym h.1 ∙ k.1) in
+    let s = same_cells p q T U cs ds h.2 k.2 c.rest (by_length (length cs) (length ds)) in
+    let formats : p ≡ q = c.formats in
     let nexts : next ≡ next' = c.next in
     let vars_are : vars ≡ vars' = c.vars in
     let waiting_is : waiting ≡ waiting' = c.waiting in
-    let tables : T ≡ U = s.tables in
+    let names : T ≡ U = s.names in
     let cells : cs ≡ ds = s.cells in
-    λ i. at_cells (nexts i) (vars_are i) (waiting_is i) (tables i) (cells i)
+    λ i. at_cells (formats i) (nexts i) (vars_are i) (waiting_is i) (names i) (cells i)
 
-cells_or_blocks : (next vars waiting waiting' : ℕ) (T U : List Declared) (cs : List Cell) (c : CheckpointView) (text : List ℕ) → LinesUpTo (at_cells next vars waiting T cs) text → LinesUpTo (at_blocks waiting' U c) text → ⊥
-cells_or_blocks next vars waiting waiting' T U cs c text h k =
-    let s = same_checkpoint_head next c.next vars (length c.store) waiting waiting' (cell_lines T cs) (cell_lines U c.store ++ block_lines c.blocks) h.0 (head_of U c waiting' k.1 k.3) (sym h.1 ∙ k.0 ∙ blocks_flat waiting' U c) in
+cells_or_blocks : (p q next vars waiting waiting' : ℕ) (T : List Named) (cs : List Cell) (c : CheckpointView) (text : List ℕ) → LinesUpTo (at_cells p next vars waiting T cs) text → LinesUpTo (at_blocks q waiting' c) text → ⊥
+cells_or_blocks p q next vars waiting waiting' T cs c text h k =
+    let s = same_checkpoint_head p q next c.next vars (length c.store) waiting waiting' (cell_lines T cs) (cell_lines c.names c.store ++ block_lines c.blocks) h.4 (k.1).is_format h.0 (head_of q c waiting' k.1 k.3) (sym h.1 ∙ k.0 ∙ blocks_flat q waiting' c) in
     let same : vars ≡ length c.store = s.vars in
-    let g = next_cell T U cs c [] (block_lines c.blocks) h.2 k.1 (omega (arith, same, h.3)) (append-nil (cell_lines T cs) ∙ s.rest) in
+    let g = next_cell p T cs c [] (block_lines c.blocks) h.2 (subst (λ (f : ℕ). IsReadable f c) (sym s.formats) k.1) (omega (arith, same, h.3)) (append-nil (cell_lines T cs) ∙ s.rest) in
     line_there (cell_line g.name g.cell) g.more (sym g.rest)
 
 -- the same waiting blocks
-even_blocks : (T : List Declared) (c d : CheckpointView) → IsReadable T c → IsReadable T d → length c.blocks ≡ length d.blocks → block_lines c.blocks ≡ block_lines d.blocks → c.blocks ≡ d.blocks
-even_blocks T c d r s l e =
-    let h = ((r.fits).may).0 in
-    let k = ((s.fits).may).0 in
-    (one_blocks T c.blocks d.blocks [] [] (r.fits).blocks (s.fits).blocks (marked_from c.store c.next 0 c.blocks h.blocks) (marked_from d.store d.next 0 d.blocks k.blocks) l (ap (λ (x : List ℕ). x ++ []) e)).blocks
+even_blocks : (format : ℕ) (c d : CheckpointView) → IsReadable format c → IsReadable format d → c.names ≡ d.names → length c.blocks ≡ length d.blocks → block_lines c.blocks ≡ block_lines d.blocks → c.blocks ≡ d.blocks
+even_blocks format c d r s names l e =
+    let h = (r.fits).checkpoint in
+    let k = (s.fits).checkpoint in
+    let fits : FitBlocks c.names d.blocks = subst (λ (z : List Named). FitBlocks z d.blocks) (sym names) (s.fits).blocks in
+    (one_blocks c.names c.blocks d.blocks [] [] (r.fits).blocks fits (marked_from c.store c.next 0 c.blocks h.blocks) (marked_from d.store d.next 0 d.blocks k.blocks) l (ap (λ (x : List ℕ). x ++ []) e)).blocks
 
-no_fewer_blocks : (T : List Declared) (c d : CheckpointView) → IsReadable T c → IsReadable T d → c.store ≡ d.store → c.next ≡ d.next → length c.blocks < length d.blocks → block_lines c.blocks ≡ block_lines d.blocks → ⊥
-no_fewer_blocks T c d r s stores nexts l e =
-    let g = next_block T c d [] [] r s stores nexts l (ap (λ (x : List ℕ). x ++ []) e) in
+no_fewer_blocks : (format : ℕ) (c d : CheckpointView) → IsReadable format c → IsReadable format d → c.store ≡ d.store → c.names ≡ d.names → c.next ≡ d.next → length c.blocks < length d.blocks → block_lines c.blocks ≡ block_lines d.blocks → ⊥
+no_fewer_blocks format c d r s stores names nexts l e =
+    let g = next_block format c d [] [] r s stores names nexts l (ap (λ (x : List ℕ). x ++ []) e) in
     line_there (block_line g.block) g.more (sym g.rest)
 
-same_blocks : (T : List Declared) (c d : CheckpointView) → IsReadable T c → IsReadable T d → c.store ≡ d.store → c.next ≡ d.next → block_lines c.blocks ≡ block_lines d.blocks
+same_blocks : (format : ℕ) (c d : CheckpointView) → IsReadable format c → IsReadable format d → c.store ≡ d.store → c.names ≡ d.names → c.next ≡ d.next → block_lines c.blocks ≡ block_lines d.blocks
     → (length c.blocks < length d.blocks) ⊎ ((length d.blocks < length c.blocks) ⊎ (length c.blocks ≡ length d.blocks)) → c.blocks ≡ d.blocks
-same_blocks T c d r s stores nexts e (inl l) = absurd (no_fewer_blocks T c d r s stores nexts l e)
-same_blocks T c d r s stores nexts e (inr (inl l)) = absurd (no_fewer_blocks T d c s r (sym stores) (sym nexts) l (sym e))
-same_blocks T c d r s stores nexts e (inr (inr l)) = even_blocks T c d r s l e
+same_blocks format c d r s stores names nexts e (inl l) = absurd (no_fewer_blocks format c d r s stores names nexts l e)
+same_blocks format c d r s stores names nexts e (inr (inl l)) = absurd (no_fewer_blocks format d c s r (sym stores) (sym names) (sym nexts) l (sym e))
+same_blocks format c d r s stores names nexts e (inr (inr l)) = even_blocks format c d r s names l e
 
-same_at_blocks : (waiting waiting' : ℕ) (T U : List Declared) (c d : CheckpointView) (text : List ℕ) → LinesUpTo (at_blocks waiting T c) text → LinesUpTo (at_blocks waiting' U d) text → at_blocks waiting T c ≡ at_blocks waiting' U d
-same_at_blocks waiting waiting' T U c d text h k =
-    let s = same_checkpoint_head c.next d.next (length c.store) (length d.store) waiting waiting' (cell_lines T c.store ++ block_lines c.blocks) (cell_lines U d.store ++ block_lines d.blocks)
-    (head_of T c waiting h.1 h.3) (head_of U d waiting' k.1 k.3) (sym (blocks_flat waiting T c) ∙ sym h.0 ∙ k.0 ∙ blocks_flat waiting' U d) in
-    let r = same_store T U c d (block_lines c.blocks) (block_lines d.blocks) h.1 k.1 s.vars s.rest in
+same_at_blocks : (p q waiting waiting' : ℕ) (c d : CheckpointView) (text : List ℕ) → LinesUpTo (at_blocks p waiting c) text → LinesUpTo (at_blocks q waiting' d) text → at_blocks p waiting c ≡ at_blocks q waiting' d
+same_at_blocks p q waiting waiting' c d text h k =
+    let s = same_checkpoint_head p q c.next d.next (length c.store) (length d.store) waiting waiting' (cell_lines c.names c.store ++ block_lines c.blocks) (cell_lines d.names d.store ++ block_lines d.blocks)
+    (h.1).is_format (k.1).is_format (head_of p c waiting h.1 h.3) (head_of q d waiting' k.1 k.3) (sym (blocks_flat p waiting c) ∙ sym h.0 ∙ k.0 ∙ blocks_flat q waiting' d) in
+    let r = same_store p q c d (block_lines c.blocks) (block_lines d.blocks) h.1 k.1 s.vars s.rest in
+    let formats : p ≡ q = s.formats in
     let nexts : c.next ≡ d.next = s.next in
     let stores : c.store ≡ d.store = r.stores in
-    let tables : T ≡ U = r.tables in
+    let names : c.names ≡ d.names = r.names in
     let waiting_is : waiting ≡ waiting' = s.waiting in
-    let all : c.blocks ≡ d.blocks = same_blocks T c d h.1 (subst (λ (z : List Declared). IsReadable z d) (sym tables) k.1) stores nexts r.rest (by_length (length c.blocks) (length d.blocks)) in
-    λ i. at_blocks (waiting_is i) (tables i) (record { store = stores i; next = nexts i; blocks = all i })
+    let all : c.blocks ≡ d.blocks = same_blocks p c d h.1 (subst (λ (f : ℕ). IsReadable f d) (sym formats) k.1) stores names nexts r.rest (by_length (length c.blocks) (length d.blocks)) in
+    λ i. at_blocks (formats i) (waiting_is i) (record { store = stores i; names = names i; next = nexts i; blocks = all i })
 
 -- ---- any two
 -- after a line the text isn't empty
 some_text : (p : CheckerState) (text : List ℕ) → LinesUpTo p text → text ≡ [] → p ≡ at_header
 some_text at_header text h e = refl
 some_text (at_variables format n T) text h e = absurd (line_there (header_line format n) (variable_lines T) (sym h.1 ∙ e))
-some_text (at_cells next vars waiting T cs) text h e = absurd (line_there (checkpoint_header_line next vars waiting) (cell_lines T cs) (sym h.1 ∙ e))
-some_text (at_blocks waiting T c) text h e = absurd (line_there (checkpoint_header_line c.next (length c.store) waiting) (cell_lines T c.store ++ block_lines c.blocks) (sym (blocks_flat waiting T c) ∙ sym h.0 ∙ e))
+some_text (at_cells format next vars waiting T cs) text h e = absurd (line_there (checkpoint_header_line format next vars waiting) (cell_lines T cs) (sym h.1 ∙ e))
+some_text (at_blocks format waiting c) text h e =
+    absurd (line_there (checkpoint_header_line format c.next (length c.store) waiting) (cell_lines c.names c.store ++ block_lines c.blocks) (sym (blocks_flat format waiting c) ∙ sym h.0 ∙ e))
 some_text (at_events start history) text h e = absurd (early at_header start history text tt e h)
 
 pub one_progress : (p q : CheckerState) (text : List ℕ) → LinesUpTo p text → LinesUpTo q text → p ≡ q
 one_progress at_header q text h k = sym (some_text q text k h)
 one_progress (at_variables format n T) at_header text h k = some_text (at_variables format n T) text h k
-one_progress (at_cells next vars waiting T cs) at_header text h k = some_text (at_cells next vars waiting T cs) text h k
-one_progress (at_blocks waiting T c) at_header text h k = some_text (at_blocks waiting T c) text h k
+one_progress (at_cells format next vars waiting T cs) at_header text h k = some_text (at_cells format next vars waiting T cs) text h k
+one_progress (at_blocks format waiting c) at_header text h k = some_text (at_blocks format waiting c) text h k
 one_progress (at_events start history) at_header text h k = some_text (at_events start history) text h k
 one_progress (at_variables p m T) (at_variables q n U) text h k = same_variables p q m n T U text h k
-one_progress (at_variables p m T) (at_cells next vars waiting U ds) text h k = absurd (variables_or_cells p m next vars waiting T U ds text h k)
-one_progress (at_variables p m T) (at_blocks waiting U d) text h k = absurd (variables_or_blocks p m waiting T U d text h k)
+one_progress (at_variables p m T) (at_cells q next vars waiting U ds) text h k = absurd (variables_or_cells p m q next vars waiting T U ds text h k)
+one_progress (at_variables p m T) (at_blocks q waiting d) text h k = absurd (variables_or_blocks p m q waiting T d text h k)
 one_progress (at_variables p m T) (at_events start history) text h k = absurd (early (at_variables p m T) start history text tt h k)
-one_progress (at_cells next vars waiting T cs) (at_variables q n U) text h k = absurd (variables_or_cells q n next vars waiting U T cs text k h)
-one_progress (at_cells next vars waiting T cs) (at_cells next' vars' waiting' U ds) text h k = same_at_cells next next' vars vars' waiting waiting' T U cs ds text h k
-one_progress (at_cells next vars waiting T cs) (at_blocks waiting' U d) text h k = absurd (cells_or_blocks next vars waiting waiting' T U cs d text h k)
-one_progress (at_cells next vars waiting T cs) (at_events start history) text h k = absurd (early (at_cells next vars waiting T cs) start history text tt h k)
-one_progress (at_blocks waiting T c) (at_variables q n U) text h k = absurd (variables_or_blocks q n waiting U T c text k h)
-one_progress (at_blocks waiting T c) (at_cells next' vars' waiting' U ds) text h k = absurd (cells_or_blocks next' vars' waiting' waiting U T ds c text k h)
-one_progress (at_blocks waiting T c) (at_blocks waiting' U d) text h k = same_at_blocks waiting waiting' T U c d text h k
-one_progress (at_blocks waiting T c) (at_events start history) text h k = absurd (early (at_blocks waiting T c) start history text tt h k)
+one_progress (at_cells p next vars waiting T cs) (at_variables q n U) text h k = absurd (variables_or_cells q n p next vars waiting U T cs text k h)
+one_progress (at_cells p next vars waiting T cs) (at_cells q next' vars' waiting' U ds) text h k = same_at_cells p q next next' vars vars' waiting waiting' T U cs ds text h k
+one_progress (at_cells p next vars waiting T cs) (at_blocks q waiting' d) text h k = absurd (cells_or_blocks p q next vars waiting waiting' T cs d text h k)
+one_progress (at_cells p next vars waiting T cs) (at_events start history) text h k = absurd (early (at_cells p next vars waiting T cs) start history text tt h k)
+one_progress (at_blocks p waiting c) (at_variables q n U) text h k = absurd (variables_or_blocks q n p waiting U c text k h)
+one_progress (at_blocks p waiting c) (at_cells q next' vars' waiting' U ds) text h k = absurd (cells_or_blocks q p next' vars' waiting' waiting U ds c text k h)
+one_progress (at_blocks p waiting c) (at_blocks q waiting' d) text h k = same_at_blocks p q waiting waiting' c d text h k
+one_progress (at_blocks p waiting c) (at_events start history) text h k = absurd (early (at_blocks p waiting c) start history text tt h k)
 one_progress (at_events start history) (at_variables q n U) text h k = absurd (early (at_variables q n U) start history text tt k h)
-one_progress (at_events start history) (at_cells next' vars' waiting' U ds) text h k = absurd (early (at_cells next' vars' waiting' U ds) start history text tt k h)
-one_progress (at_events start history) (at_blocks waiting' U d) text h k = absurd (early (at_blocks waiting' U d) start history text tt k h)
+one_progress (at_events start history) (at_cells q next' vars' waiting' U ds) text h k = absurd (early (at_cells q next' vars' waiting' U ds) start history text tt k h)
+one_progress (at_events start history) (at_blocks q waiting' d) text h k = absurd (early (at_blocks q waiting' d) start history text tt k h)
 one_progress (at_events s H) (at_events t K) text h k =
     let r = texts_are_of_one_history s t H K h.1 k.1 h.2 k.2 (sym h.0 ∙ k.0) in
     ap (λ (x : Start). at_events x H) r.0 ∙ ap (at_events t) r.1

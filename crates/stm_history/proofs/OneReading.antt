@@ -1,34 +1,32 @@
 -- Two readings of the same bytes are one.
-use Rattle.std.proofs.Common.{◌≡◌, ℕ, ◌≤◌, List, [], ◌∷◌, ◌++◌, length, Option, Some, None, refl, sym, ap, ◌∙◌, subst, arith, append_assoc, length-append, IsTrue, Bool, false}
+use Rattle.std.proofs.Common.{◌≡◌, ℕ, ◌≤◌, List, [], ◌∷◌, ◌++◌, length, Option, Some, None, refl, sym, ap, ◌∙◌, subst, arith, append_assoc, length-append, Bool, false}
 use Rattle.std.proofs.lemmas.List.{length-map}
 use Rattle.std.specs.Prelude.{option_map}
-use Rattle.stm_terms.specs.Names.{is_name_text}
 use Rattle.stm_store.specs.declared.cell.Cell.{Cell}
 use Rattle.stm_store.specs.Cells.{plain}
+use Rattle.stm_store.specs.Naming.{Named}
 use Rattle.stm_store.specs.Tables.{Declared}
 use Rattle.stm_check.specs.TypedBlock.{Block}
 use Rattle.stm_events.specs.Delivered.{Delivered}
 use Rattle.stm_events.specs.declared.event.Event.{Event}
-use Rattle.stm_events.specs.SlowDesk.{LegalFrom, Slow, max_cells, max_events, after}
+use Rattle.stm_events.specs.SlowDesk.{LegalFrom, Slow, max_cells, max_events, after, state_from}
 use Rattle.stm_events.specs.States.{IsLegalFrom}
 use Rattle.stm_waiting.specs.declared.waiting.Held.{Held}
 use Rattle.stm_machine.specs.declared.checkpoint.CheckpointBlock.{CheckpointBlock}
 use Rattle.stm_machine.specs.Checkpoints.{CheckpointView, AreCheckpointBlocks, IsCheckpoint, IsRightDelivery}
-use Rattle.stm_event_lines.specs.CheckpointLines.{FitsCell, FitsWaiting, cell_line, checkpoint_header_line}
-use Rattle.stm_event_lines.specs.Fits.{FitsTable, FitsFormat, Is32Bit}
+use Rattle.stm_event_lines.specs.CheckpointLines.{FitsWaiting, checkpoint_header_line}
+use Rattle.stm_event_lines.specs.Fits.{FitsNames, FitsFormat, Is32Bit}
 use Rattle.stm_event_lines.specs.Lines.{IsFormat, event_line, header_line, variable_line}
-use Rattle.stm_event_lines.proofs.Checkpoints.{cell_one_line, cell_same, checkpoint_header_new, checkpoint_header_one_line, checkpoint_header_same, waiting_one_line, waiting_same}
+use Rattle.stm_event_lines.proofs.Checkpoints.{checkpoint_header_new, checkpoint_header_one_line, checkpoint_header_same, waiting_one_line, waiting_same}
 use Rattle.stm_event_lines.proofs.ReadsBack.{event_one_line, header_one_line, variable_one_line, header_same, variable_same, event_same}
 use Rattle.stm_history.specs.declared.files.fault.HistoryFault.TheVariants.{BadHeader}
-use Rattle.stm_history.specs.Checking.{AreFirstCells}
+use Rattle.stm_history.specs.Checking.{AreCells}
 use Rattle.stm_history.specs.HistoryText.{block_line, block_lines, cell_lines, cells_text, checkpoint_text, event_lines, head_text, history_text, start_text, text_before, variable_lines}
-use Rattle.stm_history.specs.Judgement.{IsShort, AreVariables, AreVariablesFrom, AreEvents, BeginsWithHistory, FitBlocks, FitCells, IsBefore, IsReadable, IsStart, NoEventNext, IsIllegalFrom, ReportsFault, numbers_from}
+use Rattle.stm_history.specs.Judgement.{IsShort, AreVariables, AreVariablesFrom, AreEvents, BeginsWithHistory, FitBlocks, IsBefore, IsReadable, IsStart, NoEventNext, IsIllegalFrom, ReportsFault, numbers_from}
 use Rattle.stm_history.specs.FileLaws.{NumbersAreFixed, TextsAreOfOneHistory}
-use Rattle.stm_history.specs.Starts.{Start, delivery_of_block, first_state}
-use Rattle.stm_history.proofs.AlikeTables.{AreAlike}
+use Rattle.stm_history.specs.Starts.{Start, delivery_of_block, first_state, names_after}
+use Rattle.stm_history.proofs.CellNames.{cells}
 use Rattle.stm_history.proofs.CutsAtLineFeeds.{IsCut, cut_unique, no_feed}
-use Rattle.stm_history.proofs.DefaultedTables.{same_defaults}
-use Rattle.stm_history.proofs.StartTypes.{types_of_start}
 use Rattle.stm_history.proofs.WrittenIsTaken.{few_variables}
 
 -- ---- the formats and the tables
@@ -63,67 +61,6 @@ one_head p q T U a b i j f g e =
     let same : (p ≡ q) × (length T ≡ length U) = header_same p q (length T) (length U) i j (omega (arith, few)) (omega (arith, many)) c.line in
     record { formats = same.0; variables = tables [] T U a b f g same.1 c.rest }
 
--- ---- the variables of a checkpoint
--- each name is one
-abbrev pub AreNames : List Declared → Type 0
-AreNames [] = Unit {0}
-AreNames (d ∷ ds) = IsTrue (is_name_text d.name) × AreNames ds
-
-pub names_from : (prior ds : List Declared) → AreVariablesFrom prior ds → AreNames ds
-names_from prior [] a = tt
-names_from prior (d ∷ ds) a = let fits = (a.0).fits in (fits.0, names_from (prior ++ d ∷ []) ds a.1)
-
-pub named_fits : (d : Declared) (c : Cell) → IsTrue (is_name_text d.name) → FitsCell None c → FitsCell (Some d.name) c
-named_fits d c n f = (n, f.1, f.2, f.3)
-
-pub record AreOneCells (T U : List Declared) (cs ds : List Cell) (a b : List ℕ) : Type 0 where
-  pub cells : cs ≡ ds
-  pub tables : AreAlike T U
-  pub rest : a ≡ b
-
-pub cells : (T U : List Declared) (cs ds : List Cell) (a b : List ℕ) → AreNames T → AreNames U → AreFirstCells T cs → AreFirstCells U ds → FitCells cs → FitCells ds → length cs ≡ length ds
-    → cell_lines T cs ++ a ≡ cell_lines U ds ++ b → AreOneCells T U cs ds a b
-cells [] [] [] [] a b m n h k f g l e = record { cells = refl; tables = tt; rest = e }
-cells (x ∷ T) U [] [] a b m n h k f g l e = absurd h
-cells [] (y ∷ U) [] [] a b m n h k f g l e = absurd k
-cells T U [] (d ∷ ds) a b m n h k f g l e = absurd (omega (arith, l))
-cells T U (c ∷ cs) [] a b m n h k f g l e = absurd (omega (arith, l))
-cells [] [] (c ∷ cs) (d ∷ ds) a b m n h k f g l e =
-    let cut = cut_unique (cell_line None c) (cell_lines [] cs ++ a) (cell_line None d) (cell_lines [] ds ++ b) (no_feed _ (cell_one_line None c f.0)) (no_feed _ (cell_one_line None d g.0))
-    (sym (append_assoc (cell_line None c) (10 ∷ cell_lines [] cs) a) ∙ e ∙ append_assoc (cell_line None d) (10 ∷ cell_lines [] ds) b) in
-    let same = cell_same None None c d f.0 g.0 cut.line in
-    let first : c ≡ d = same.1 in
-    let r = cells [] [] cs ds a b tt tt tt tt f.1 g.1 (omega (arith, l)) cut.rest in
-    let later : cs ≡ ds = r.cells in
-    record { cells = λ i. first i ∷ later i; tables = tt; rest = r.rest }
-cells (x ∷ T) [] (c ∷ cs) (d ∷ ds) a b m n h k f g l e =
-    let named = named_fits x c m.0 f.0 in
-    let cut = cut_unique (cell_line (Some x.name) c) (cell_lines T cs ++ a) (cell_line None d) (cell_lines [] ds ++ b) (no_feed _ (cell_one_line (Some x.name) c named)) (no_feed _ (cell_one_line None d g.0))
-    (sym (append_assoc (cell_line (Some x.name) c) (10 ∷ cell_lines T cs) a) ∙ e ∙ append_assoc (cell_line None d) (10 ∷ cell_lines [] ds) b) in
-    let same = cell_same (Some x.name) None c d named g.0 cut.line in
-    let names : Some x.name ≡ None = same.0 in
-    absurd cc
-cells [] (y ∷ U) (c ∷ cs) (d ∷ ds) a b m n h k f g l e =
-    let named = named_fits y d n.0 g.0 in
-    let cut = cut_unique (cell_line None c) (cell_lines [] cs ++ a) (cell_line (Some y.name) d) (cell_lines U ds ++ b) (no_feed _ (cell_one_line None c f.0)) (no_feed _ (cell_one_line (Some y.name) d named))
-    (sym (append_assoc (cell_line None c) (10 ∷ cell_lines [] cs) a) ∙ e ∙ append_assoc (cell_line (Some y.name) d) (10 ∷ cell_lines U ds) b) in
-    let same = cell_same None (Some y.name) c d f.0 named cut.line in
-    let names : None ≡ Some y.name = same.0 in
-    absurd cc
-cells (x ∷ T) (y ∷ U) (c ∷ cs) (d ∷ ds) a b m n h k f g l e =
-    let fits = named_fits x c m.0 f.0 in
-    let fits' = named_fits y d n.0 g.0 in
-    let cut = cut_unique (cell_line (Some x.name) c) (cell_lines T cs ++ a) (cell_line (Some y.name) d) (cell_lines U ds ++ b) (no_feed _ (cell_one_line (Some x.name) c fits)) (no_feed _ (cell_one_line (Some y.name) d fits'))
-    (sym (append_assoc (cell_line (Some x.name) c) (10 ∷ cell_lines T cs) a) ∙ e ∙ append_assoc (cell_line (Some y.name) d) (10 ∷ cell_lines U ds) b) in
-    let same = cell_same (Some x.name) (Some y.name) c d fits fits' cut.line in
-    let some : Some x.name ≡ Some y.name = same.0 in
-    let names : x.name ≡ y.name = cc in
-    let first : c ≡ d = same.1 in
-    let kinds : x.kind ≡ y.kind = sym h.0 ∙ ap (λ (z : Cell). z.kind) first ∙ k.0 in
-    let r = cells T U cs ds a b m.1 n.1 h.1 k.1 f.1 g.1 (omega (arith, l)) cut.rest in
-    let later : cs ≡ ds = r.cells in
-    record { cells = λ i. first i ∷ later i; tables = (names, kinds, r.tables); rest = r.rest }
-
 -- ---- the waiting blocks of a checkpoint
 -- new blocks are not stale
 abbrev pub AreMarked : List CheckpointBlock → Type 0
@@ -156,7 +93,7 @@ same_parts t t' block block' (Some h) (Some k) stale stale' p q e m n =
     let z = ap (λ (x : Delivered). x.stale) d in
     λ i. record { ticket = p i; waiting = record { block = q i; held = Some (record { reads = r i; verdict = v i }) }; stale = z i }
 
-pub same_block : (T : List Declared) (b c : CheckpointBlock) → FitsWaiting T b.ticket b.waiting.block (delivery_of_block b) → FitsWaiting T c.ticket c.waiting.block (delivery_of_block c)
+pub same_block : (T : List Named) (b c : CheckpointBlock) → FitsWaiting T b.ticket b.waiting.block (delivery_of_block b) → FitsWaiting T c.ticket c.waiting.block (delivery_of_block c)
     → (b.waiting.held ≡ None → b.stale ≡ false) → (c.waiting.held ≡ None → c.stale ≡ false) → block_line b ≡ block_line c → b ≡ c
 same_block T b c f g m n l =
     let s = waiting_same T b.ticket c.ticket b.waiting.block c.waiting.block (delivery_of_block b) (delivery_of_block c) f g l in
@@ -166,7 +103,7 @@ pub record AreOneBlocks (bs cs : List CheckpointBlock) (a b : List ℕ) : Type 0
   pub blocks : bs ≡ cs
   pub rest : a ≡ b
 
-pub blocks : (T : List Declared) (bs cs : List CheckpointBlock) (a b : List ℕ) → FitBlocks T bs → FitBlocks T cs → AreMarked bs → AreMarked cs → length bs ≡ length cs
+pub blocks : (T : List Named) (bs cs : List CheckpointBlock) (a b : List ℕ) → FitBlocks T bs → FitBlocks T cs → AreMarked bs → AreMarked cs → length bs ≡ length cs
     → block_lines bs ++ a ≡ block_lines cs ++ b → AreOneBlocks bs cs a b
 blocks T [] [] a b f g m n l e = record { blocks = refl; rest = e }
 blocks T [] (y ∷ cs) a b f g m n l e = absurd (omega (arith, l))
@@ -193,38 +130,43 @@ head_fits c k =
     let l = length-map c.store plain in
     record { next = omega (arith, k.tickets); vars = omega (arith, small, l); waiting = omega (arith, k.few) }
 
-flat : (w : ℕ) (T : List Declared) (c : CheckpointView) (a : List ℕ) → checkpoint_text w T c ++ a ≡ checkpoint_header_line c.next (length c.store) w ++ 10 ∷ (cell_lines T c.store ++ (block_lines c.blocks ++ a))
-flat w T c a =
-    append_assoc (cells_text c.next (length c.store) w T c.store) (block_lines c.blocks) a
-    ∙ append_assoc (checkpoint_header_line c.next (length c.store) w) (10 ∷ cell_lines T c.store) (block_lines c.blocks ++ a)
+flat : (format w : ℕ) (c : CheckpointView) (a : List ℕ)
+    → checkpoint_text format w c ++ a ≡ checkpoint_header_line format c.next (length c.store) w ++ 10 ∷ (cell_lines c.names c.store ++ (block_lines c.blocks ++ a))
+flat format w c a =
+    append_assoc (cells_text format c.next (length c.store) w c.names c.store) (block_lines c.blocks) a
+    ∙ append_assoc (checkpoint_header_line format c.next (length c.store) w) (10 ∷ cell_lines c.names c.store) (block_lines c.blocks ++ a)
 
-pub record IsOneCheckpoint (T U : List Declared) (c d : CheckpointView) (a b : List ℕ) : Type 0 where
-  pub tables : T ≡ U
+-- its variables are those that its lines may have
+pub cells_of : (format : ℕ) (c : CheckpointView) → IsReadable format c → AreCells format c.names c.store
+cells_of format c r = record { known = (r.fits).known; named = ((r.fits).checkpoint).named; gapless = r.gapless; fit = (r.fits).cells }
+
+pub record IsOneCheckpoint (p q : ℕ) (c d : CheckpointView) (a b : List ℕ) : Type 0 where
+  pub formats : p ≡ q
   pub checkpoints : c ≡ d
   pub rest : a ≡ b
 
-pub one_checkpoint : (T U : List Declared) (c d : CheckpointView) (a b : List ℕ) → IsReadable T c → IsReadable U d
-    → checkpoint_text (length c.blocks) T c ++ a ≡ checkpoint_text (length d.blocks) U d ++ b → IsOneCheckpoint T U c d a b
-one_checkpoint T U c d a b f g e =
-    let m = ((f.fits).may).0 in
-    let n = ((g.fits).may).0 in
+pub one_checkpoint : (p q : ℕ) (c d : CheckpointView) (a b : List ℕ) → IsReadable p c → IsReadable q d
+    → checkpoint_text p (length c.blocks) c ++ a ≡ checkpoint_text q (length d.blocks) d ++ b → IsOneCheckpoint p q c d a b
+one_checkpoint p q c d a b f g e =
+    let m = (f.fits).checkpoint in
+    let n = (g.fits).checkpoint in
     let h = head_fits c m in
     let k = head_fits d n in
-    let cut = cut_unique (checkpoint_header_line c.next (length c.store) (length c.blocks)) (cell_lines T c.store ++ (block_lines c.blocks ++ a))
-    (checkpoint_header_line d.next (length d.store) (length d.blocks)) (cell_lines U d.store ++ (block_lines d.blocks ++ b))
-    (no_feed _ (checkpoint_header_one_line c.next (length c.store) (length c.blocks) h.next h.vars h.waiting))
-    (no_feed _ (checkpoint_header_one_line d.next (length d.store) (length d.blocks) k.next k.vars k.waiting))
-    (sym (flat (length c.blocks) T c a) ∙ e ∙ flat (length d.blocks) U d b) in
-    let same = checkpoint_header_same c.next d.next (length c.store) (length d.store) (length c.blocks) (length d.blocks) h.next h.vars h.waiting k.next k.vars k.waiting cut.line in
-    let first = cells T U c.store d.store (block_lines c.blocks ++ a) (block_lines d.blocks ++ b) (names_from [] T (f.fits).variables) (names_from [] U (g.fits).variables)
-    (types_of_start T c (f.fits).may) (types_of_start U d (g.fits).may) (f.fits).cells (g.fits).cells same.1 cut.rest in
-    let table : T ≡ U = same_defaults [] T U f.defaults g.defaults first.tables in
-    let then = blocks U c.blocks d.blocks a b (subst (λ (V : List Declared). FitBlocks V c.blocks) table (f.fits).blocks) (g.fits).blocks
-    (marked_from c.store c.next 0 c.blocks m.blocks) (marked_from d.store d.next 0 d.blocks n.blocks) same.2 first.rest in
-    let nexts = same.0 in
+    let cut = cut_unique (checkpoint_header_line p c.next (length c.store) (length c.blocks)) (cell_lines c.names c.store ++ (block_lines c.blocks ++ a))
+    (checkpoint_header_line q d.next (length d.store) (length d.blocks)) (cell_lines d.names d.store ++ (block_lines d.blocks ++ b))
+    (no_feed _ (checkpoint_header_one_line p c.next (length c.store) (length c.blocks) f.is_format h.next h.vars h.waiting))
+    (no_feed _ (checkpoint_header_one_line q d.next (length d.store) (length d.blocks) g.is_format k.next k.vars k.waiting))
+    (sym (flat p (length c.blocks) c a) ∙ e ∙ flat q (length d.blocks) d b) in
+    let same = checkpoint_header_same p q c.next d.next (length c.store) (length d.store) (length c.blocks) (length d.blocks) f.is_format g.is_format h.next h.vars h.waiting k.next k.vars k.waiting cut.line in
+    let first = cells p q c.names d.names c.store d.store (block_lines c.blocks ++ a) (block_lines d.blocks ++ b) (cells_of p c f) (cells_of q d g) same.2 cut.rest in
+    let names : c.names ≡ d.names = first.names in
+    let then = blocks d.names c.blocks d.blocks a b (subst (λ (V : List Named). FitBlocks V c.blocks) names (f.fits).blocks) (g.fits).blocks
+    (marked_from c.store c.next 0 c.blocks m.blocks) (marked_from d.store d.next 0 d.blocks n.blocks) same.3 first.rest in
+    let formats = same.0 in
+    let nexts = same.1 in
     let stores = first.cells in
     let waiting = then.blocks in
-    record { tables = table; checkpoints = λ i. record { store = stores i; next = nexts i; blocks = waiting i }; rest = then.rest }
+    record { formats = formats; checkpoints = λ i. record { store = stores i; names = names i; next = nexts i; blocks = waiting i }; rest = then.rest }
 
 -- ---- starts
 pub record IsOneStart (s t : Start) (a b : List ℕ) : Type 0 where
@@ -232,16 +174,16 @@ pub record IsOneStart (s t : Start) (a b : List ℕ) : Type 0 where
   pub rest : a ≡ b
 
 -- a checkpoint's first line is none of a table
-no_checkpoint : (p : ℕ) (T U : List Declared) (d : CheckpointView) (a b : List ℕ) → IsFormat p → AreVariables T → IsReadable U d
-    → head_text p (length T) T ++ a ≡ checkpoint_text (length d.blocks) U d ++ b → ⊥
-no_checkpoint p T U d a b i f g e =
+no_checkpoint : (p q : ℕ) (T : List Declared) (d : CheckpointView) (a b : List ℕ) → IsFormat p → AreVariables T → IsReadable q d
+    → head_text p (length T) T ++ a ≡ checkpoint_text q (length d.blocks) d ++ b → ⊥
+no_checkpoint p q T d a b i f g e =
     let few : length T ≤ max_cells = few_variables T f in
     let n : Is32Bit (length T) = omega (arith, few) in
-    let k = head_fits d ((g.fits).may).0 in
-    let cut = cut_unique (header_line p (length T)) (variable_lines T ++ a) (checkpoint_header_line d.next (length d.store) (length d.blocks)) (cell_lines U d.store ++ (block_lines d.blocks ++ b))
-    (no_feed _ (header_one_line p (length T) i n)) (no_feed _ (checkpoint_header_one_line d.next (length d.store) (length d.blocks) k.next k.vars k.waiting))
-    (sym (append_assoc (header_line p (length T)) (10 ∷ variable_lines T) a) ∙ e ∙ flat (length d.blocks) U d b) in
-    checkpoint_header_new d.next (length d.store) (length d.blocks) p (length T) k.next k.vars k.waiting i n (sym cut.line)
+    let k = head_fits d (g.fits).checkpoint in
+    let cut = cut_unique (header_line p (length T)) (variable_lines T ++ a) (checkpoint_header_line q d.next (length d.store) (length d.blocks)) (cell_lines d.names d.store ++ (block_lines d.blocks ++ b))
+    (no_feed _ (header_one_line p (length T) i n)) (no_feed _ (checkpoint_header_one_line q d.next (length d.store) (length d.blocks) g.is_format k.next k.vars k.waiting))
+    (sym (append_assoc (header_line p (length T)) (10 ∷ variable_lines T) a) ∙ e ∙ flat q (length d.blocks) d b) in
+    checkpoint_header_new q d.next (length d.store) (length d.blocks) p (length T) g.is_format k.next k.vars k.waiting i n (sym cut.line)
 
 start_by : (p q : ℕ) (T U : List Declared) (o r : Option CheckpointView) (a b : List ℕ) → IsBefore p T o → IsBefore q U r → text_before p T o ++ a ≡ text_before q U r ++ b
     → IsOneStart (record { format = p; table = T; checkpoint = o }) (record { format = q; table = U; checkpoint = r }) a b
@@ -250,12 +192,12 @@ start_by p q T U None None a b f g e =
     let formats = h.formats in
     let table = (h.variables).tables in
     record { starts = λ i. record { format = formats i; table = table i; checkpoint = None }; rest = (h.variables).rest }
-start_by p q T U None (Some d) a b f g e = absurd (no_checkpoint p T U d a b f.0 f.2 g.1 e)
-start_by p q T U (Some c) None a b f g e = absurd (no_checkpoint q U T c b a g.0 g.2 f.1 (sym e))
+start_by p q T U None (Some d) a b f g e = absurd (no_checkpoint p q T d a b f.0 f.2 g.1 e)
+start_by p q T U (Some c) None a b f g e = absurd (no_checkpoint q p U c b a g.0 g.2 f.1 (sym e))
 start_by p q T U (Some c) (Some d) a b f g e =
-    let h = one_checkpoint T U c d a b f.1 g.1 e in
-    let formats = f.0 ∙ sym g.0 in
-    let table = h.tables in
+    let h = one_checkpoint p q c d a b f.1 g.1 e in
+    let formats = h.formats in
+    let table : T ≡ U = f.0 ∙ sym g.0 in
     let checkpoint = h.checkpoints in
     record { starts = λ i. record { format = formats i; table = table i; checkpoint = Some (checkpoint i) }; rest = h.rest }
 
@@ -267,80 +209,81 @@ one_history s t H K a b f g e =
     one_start s t (event_lines H ++ a) (event_lines K ++ b) f g (sym (append_assoc (start_text s) (event_lines H) a) ∙ e ∙ append_assoc (start_text t) (event_lines K) b)
 
 -- ---- the events
--- where one reading of the bytes ends, an event of the other comes next
-pub record IsNext (p : ℕ) (T : List Declared) (H K : List Event) (a b : List ℕ) : Type 0 where
+-- from a state on: where one reading of the bytes ends, an event of the other comes next
+pub record IsNext (p : ℕ) (s : Slow) (H K : List Event) (a b : List ℕ) : Type 0 where
   pub event : Event
   pub later : List Event
   pub whole : H ≡ K ++ event ∷ later
-  pub fits : FitsTable T event
+  pub fits : FitsNames (state_from s K).names event
   pub may : FitsFormat p event
   pub short : IsShort (event_line event)
   pub text : b ≡ event_line event ++ 10 ∷ (event_lines later ++ a)
 
 -- two readings have the same events and the same rest, or one of them has an event next where the other ends
-pub data Compared (p : ℕ) (T : List Declared) (H K : List Event) (a b : List ℕ) : Type 0 where
-  same : H ≡ K → a ≡ b → Compared p T H K a b
-  more : IsNext p T H K a b → Compared p T H K a b
-  fewer : IsNext p T K H b a → Compared p T H K a b
+pub data Compared (p : ℕ) (s : Slow) (H K : List Event) (a b : List ℕ) : Type 0 where
+  same : H ≡ K → a ≡ b → Compared p s H K a b
+  more : IsNext p s H K a b → Compared p s H K a b
+  fewer : IsNext p s K H b a → Compared p s H K a b
 
-cons_next : (p : ℕ) (T : List Declared) (x : Event) (H K : List Event) (a b : List ℕ) → IsNext p T H K a b → IsNext p T (x ∷ H) (x ∷ K) a b
-cons_next p T x H K a b n =
+cons_next : (p : ℕ) (s : Slow) (x : Event) (H K : List Event) (a b : List ℕ) → IsNext p (after s x.what) H K a b → IsNext p s (x ∷ H) (x ∷ K) a b
+cons_next p s x H K a b n =
     record { event = n.event; later = n.later; whole = ap (λ (z : List Event). x ∷ z) n.whole; fits = n.fits; may = n.may; short = n.short; text = n.text }
 
-cons_compared : (p : ℕ) (T : List Declared) (x : Event) (H K : List Event) (a b : List ℕ) → Compared p T H K a b → Compared p T (x ∷ H) (x ∷ K) a b
-cons_compared p T x H K a b (same e f) = same (ap (λ (z : List Event). x ∷ z) e) f
-cons_compared p T x H K a b (more n) = more (cons_next p T x H K a b n)
-cons_compared p T x H K a b (fewer n) = fewer (cons_next p T x K H b a n)
+cons_compared : (p : ℕ) (s : Slow) (x : Event) (H K : List Event) (a b : List ℕ) → Compared p (after s x.what) H K a b → Compared p s (x ∷ H) (x ∷ K) a b
+cons_compared p s x H K a b (same e f) = same (ap (λ (z : List Event). x ∷ z) e) f
+cons_compared p s x H K a b (more n) = more (cons_next p s x H K a b n)
+cons_compared p s x H K a b (fewer n) = fewer (cons_next p s x K H b a n)
 
-first_next : (p : ℕ) (T : List Declared) (x : Event) (H : List Event) (a b : List ℕ) → AreEvents p T (x ∷ H) → event_lines (x ∷ H) ++ a ≡ b → IsNext p T (x ∷ H) [] a b
-first_next p T x H a b h e =
+first_next : (p : ℕ) (s : Slow) (x : Event) (H : List Event) (a b : List ℕ) → AreEvents p s (x ∷ H) → event_lines (x ∷ H) ++ a ≡ b → IsNext p s (x ∷ H) [] a b
+first_next p s x H a b h e =
     record { event = x; later = H; whole = refl; fits = h.0; may = h.1; short = h.2; text = sym e ∙ append_assoc (event_line x) (10 ∷ event_lines H) a }
 
-compared : (p : ℕ) (T : List Declared) (H K : List Event) (a b : List ℕ) → AreEvents p T H → AreEvents p T K → event_lines H ++ a ≡ event_lines K ++ b → Compared p T H K a b
-compared p T [] [] a b h k e = same refl e
-compared p T (x ∷ H) [] a b h k e = more (first_next p T x H a b h e)
-compared p T [] (y ∷ K) a b h k e = fewer (first_next p T y K b a k (sym e))
-compared p T (x ∷ H) (y ∷ K) a b h k e =
+compared : (p : ℕ) (s : Slow) (H K : List Event) (a b : List ℕ) → AreEvents p s H → AreEvents p s K → event_lines H ++ a ≡ event_lines K ++ b → Compared p s H K a b
+compared p s [] [] a b h k e = same refl e
+compared p s (x ∷ H) [] a b h k e = more (first_next p s x H a b h e)
+compared p s [] (y ∷ K) a b h k e = fewer (first_next p s y K b a k (sym e))
+compared p s (x ∷ H) (y ∷ K) a b h k e =
     let c : IsCut (event_line x) (event_lines H ++ a) (event_line y) (event_lines K ++ b) =
-    cut_unique (event_line x) _ (event_line y) _ (no_feed _ (event_one_line T x h.0)) (no_feed _ (event_one_line T y k.0))
+    cut_unique (event_line x) _ (event_line y) _ (no_feed _ (event_one_line s.names x h.0)) (no_feed _ (event_one_line s.names y k.0))
     (sym (append_assoc (event_line x) (10 ∷ event_lines H) a) ∙ e ∙ append_assoc (event_line y) (10 ∷ event_lines K) b) in
-    let one : x ≡ y = event_same T x y h.0 k.0 c.line in
-    subst (λ (z : Event). Compared p T (x ∷ H) (z ∷ K) a b) one (cons_compared p T x H K a b (compared p T H K a b h.3 k.3 c.rest))
+    let one : x ≡ y = event_same s.names x y h.0 k.0 c.line in
+    let later : AreEvents p (after s x.what) K = subst (λ (z : Event). AreEvents p (after s z.what) K) (sym one) k.3 in
+    subst (λ (z : Event). Compared p s (x ∷ H) (z ∷ K) a b) one (cons_compared p s x H K a b (compared p (after s x.what) H K a b h.3 later c.rest))
 
 -- two readings of the same bytes
 pub record AreCompared (s t : Start) (H K : List Event) (a b : List ℕ) : Type 0 where
   pub starts : s ≡ t
-  pub events : Compared t.format t.table H K a b
+  pub events : Compared t.format (first_state t) H K a b
 
 pub both : (bytes : List ℕ) (s t : Start) (H K : List Event) (a b : List ℕ) → BeginsWithHistory s bytes H a → BeginsWithHistory t bytes K b → AreCompared s t H K a b
 both bytes s t H K a b f g =
     let r = one_history s t H K a b f.start g.start (sym f.text ∙ g.text) in
     let starts : s ≡ t = r.starts in
-    record { starts = starts; events = compared t.format t.table H K a b (subst (λ (z : Start). AreEvents z.format z.table H) starts f.events) g.events r.rest }
+    record { starts = starts; events = compared t.format (first_state t) H K a b (subst (λ (z : Start). AreEvents z.format (first_state z) H) starts f.events) g.events r.rest }
 
 -- ---- whole texts
 -- no event comes next where nothing is left
-pub nothing_next : (q : ℕ) (U : List Declared) (H K : List Event) (a : List ℕ) → IsNext q U H K a [] → ⊥
-nothing_next q U H K a n =
+pub nothing_next : (q : ℕ) (s : Slow) (H K : List Event) (a : List ℕ) → IsNext q s H K a [] → ⊥
+nothing_next q s H K a n =
     let l : 0 ≡ length (event_line n.event ++ 10 ∷ (event_lines n.later ++ a)) = ap length n.text in
     let m = length-append (event_line n.event) (10 ∷ (event_lines n.later ++ a)) in
     omega (arith, l, m)
 
-same_events : (q : ℕ) (U : List Declared) (H K : List Event) → Compared q U H K [] [] → H ≡ K
-same_events q U H K (same e f) = e
-same_events q U H K (more n) = absurd (nothing_next q U H K [] n)
-same_events q U H K (fewer n) = absurd (nothing_next q U K H [] n)
+same_events : (q : ℕ) (s : Slow) (H K : List Event) → Compared q s H K [] [] → H ≡ K
+same_events q s H K (same e f) = e
+same_events q s H K (more n) = absurd (nothing_next q s H K [] n)
+same_events q s H K (fewer n) = absurd (nothing_next q s K H [] n)
 
 pub texts_are_of_one_history : TextsAreOfOneHistory
 texts_are_of_one_history s t H K f g h k e =
     let r = one_history s t H K [] [] f g (ap (λ (x : List ℕ). x ++ []) e) in
     let starts : s ≡ t = r.starts in
-    (starts, same_events t.format t.table H K (compared t.format t.table H K [] [] (subst (λ (z : Start). AreEvents z.format z.table H) starts h) k r.rest))
+    (starts, same_events t.format (first_state t) H K (compared t.format (first_state t) H K [] [] (subst (λ (z : Start). AreEvents z.format (first_state z) H) starts h) k r.rest))
 
 pub numbers_are_fixed : NumbersAreFixed
 numbers_are_fixed bytes m n a c =
     let b = both bytes a.0 c.0 a.1 c.1 [] [] a.2 c.2 in
-    a.3 ∙ ap (λ (z : Start). numbers_from z a.1) b.starts ∙ ap (numbers_from c.0) (same_events (c.0).format (c.0).table a.1 c.1 b.events) ∙ sym c.3
+    a.3 ∙ ap (λ (z : Start). numbers_from z a.1) b.starts ∙ ap (numbers_from c.0) (same_events (c.0).format (first_state c.0) a.1 c.1 b.events) ∙ sym c.3
 
 -- ---- faults
 -- a legal history goes on legally: each front of it is legal
@@ -349,15 +292,16 @@ front_legal s [] later e l = (l.0, tt)
 front_legal s (x ∷ K) later e l = (l.0, front_legal (after s x.what) K later e l.1)
 
 -- where no line of an event comes next, no other reading has an event next
-pub never_next : (q : ℕ) (U : List Declared) (H K : List Event) (a b : List ℕ) → NoEventNext q U b → IsNext q U H K a b → ⊥
-never_next q U H K a b never n = never n.event n.fits n.may n.short (event_lines n.later ++ a) n.text
+pub never_next : (q : ℕ) (s : Slow) (H K : List Event) (a b : List ℕ) → NoEventNext q (state_from s K).names b → IsNext q s H K a b → ⊥
+never_next q s H K a b never n = never n.event n.fits n.may n.short (event_lines n.later ++ a) n.text
 
 -- an event that comes next in a legal history can follow
-pub legal_next : (s : Start) (H K : List Event) (a b text : List ℕ) (e : Event) → b ≡ event_line e ++ 10 ∷ text → FitsTable s.table e → IsLegalFrom (first_state s) H
-    → IsIllegalFrom s K e → IsNext s.format s.table H K a b → ⊥
+pub legal_next : (s : Start) (H K : List Event) (a b text : List ℕ) (e : Event) → b ≡ event_line e ++ 10 ∷ text → FitsNames (names_after s K) e → IsLegalFrom (first_state s) H
+    → IsIllegalFrom s K e → IsNext s.format (first_state s) H K a b → ⊥
 legal_next s H K a b text e here fits legal illegal n =
-    let c = cut_unique (event_line e) text (event_line n.event) (event_lines n.later ++ a) (no_feed _ (event_one_line s.table e fits)) (no_feed _ (event_one_line s.table n.event n.fits)) (sym here ∙ n.text) in
-    let one : e ≡ n.event = event_same s.table e n.event fits n.fits c.line in
+    let names = names_after s K in
+    let c = cut_unique (event_line e) text (event_line n.event) (event_lines n.later ++ a) (no_feed _ (event_one_line names e fits)) (no_feed _ (event_one_line names n.event n.fits)) (sym here ∙ n.text) in
+    let one : e ≡ n.event = event_same names e n.event fits n.fits c.line in
     let whole : H ≡ K ++ e ∷ n.later = n.whole ∙ ap (λ (z : Event). K ++ z ∷ n.later) (sym one) in
     let h : LegalFrom (first_state s) (K ++ e ∷ n.later) = subst (λ (z : List Event). LegalFrom (first_state s) z) whole legal.each in
     let few : length (K ++ e ∷ n.later) ≤ max_events = subst (λ (z : List Event). length z ≤ max_events) whole legal.few in

@@ -1,18 +1,18 @@
 -- The progress of each stage, and what is reported of it.
-use Rattle.std.proofs.Common.{◌≡◌, ℕ, ◌+◌, ◌≤◌, ◌<◌, Bool, true, false, cond, List, [], ◌∷◌, ◌++◌, length, Option, Some, None, refl, sym, ap, ◌∙◌, subst, arith, length-append, ◌⊎◌, inl, inr, Result, Ok, Err, IfOk, IfErr}
+use Rattle.std.proofs.Common.{◌≡◌, ℕ, ◌≤◌, ◌<◌, Bool, true, false, List, [], ◌∷◌, ◌++◌, length, Option, Some, None, refl, sym, ap, ◌∙◌, subst, arith, length-append, ◌⊎◌, inl, inr, Result, Ok, Err, IfOk, IfErr, OnOk}
 use Rattle.std.specs.Prelude.{◌≢◌, nat_lt, option_map}
 use Rattle.std.proofs.lemmas.Bool.Decides.{nat_tests}
 use Rattle.std.proofs.lemmas.List.{length-map}
-use Rattle.stm_terms.specs.declared.kinds.Ty.{Ty}
 use Rattle.stm_store.specs.declared.cell.Cell.{Cell}
 use Rattle.stm_store.specs.Cells.{IsStore, plain, plains}
+use Rattle.stm_store.specs.Naming.{Named}
 use Rattle.stm_store.specs.Tables.{Declared}
 use Rattle.stm_events.specs.declared.event.Event.{Event}
 use Rattle.stm_machine.specs.Checkpoints.{CheckpointView, MayAdd, checkpoint_block}
 use Rattle.stm_machine.specs.declared.checkpoint.CheckpointBlock.{CheckpointBlock}
 use Rattle.stm_check.specs.TypedBlock.{Block}
 use Rattle.stm_events.specs.Delivered.{Delivered}
-use Rattle.stm_event_lines.specs.CheckpointLines.{FitsCell, FitsWaiting, cell_line, checkpoint_header_line, waiting_line}
+use Rattle.stm_event_lines.specs.CheckpointLines.{FitsCell, FitsWaiting, IsCheckpointFormat, cell_line, checkpoint_header_line, waiting_line}
 use Rattle.stm_event_lines.specs.Fits.{Is32Bit}
 use Rattle.stm_event_lines.specs.Lines.{IsFormat, header_line}
 use Rattle.stm_event_lines.proofs.Checkpoints.{cell_same, checkpoint_header_same, waiting_same}
@@ -21,7 +21,7 @@ use Rattle.stm_history.specs.declared.files.check.Stage.TheVariants.{Running}
 use Rattle.stm_history.specs.declared.files.fault.HistoryFault.{HistoryFault}
 use Rattle.stm_history.specs.declared.files.fault.HistoryFault.TheVariants.{BadHeader, BadLine, NoMemory}
 use Rattle.stm_history.specs.declared.files.replayer.Replayer.{Replayer}
-use Rattle.stm_history.specs.Checking.{CheckerState, at_header, at_variables, at_cells, at_blocks, at_events, with_table, with_blocks, with_cells, IsCheckpointHead, LeadsTo, LeadsToCells, LinesUpTo, MayRefuse, MayTakeCell, NamesCell, strange}
+use Rattle.stm_history.specs.Checking.{CheckerState, at_header, at_variables, at_cells, at_blocks, at_events, with_table, with_blocks, with_cells, IsCheckpointHead, LeadsTo, LeadsToCells, LinesUpTo, MayBeNamed, MayRefuse, strange, with_name_of}
 use Rattle.stm_history.specs.Following.{Follows}
 use Rattle.stm_history.specs.HistoryText.{block_line}
 use Rattle.stm_history.specs.Judgement.{IsBefore, next_line}
@@ -37,17 +37,24 @@ more_variables format n table l = let e : nat_lt (length table) n ≡ true = gri
 pub all_variables : (format n : ℕ) (table : List Declared) → n ≤ length table → with_table format n table ≡ at_events (record { format = format; table = table; checkpoint = None }) []
 all_variables format n table l = let e : nat_lt (length table) n ≡ false = grind (arith, nat_tests) in rw e refl
 
-pub more_blocks : (waiting : ℕ) (table : List Declared) (c : CheckpointView) → length c.blocks < waiting → with_blocks waiting table c ≡ at_blocks waiting table c
-more_blocks waiting table c l = let e : nat_lt (length c.blocks) waiting ≡ true = grind (arith, nat_tests) in rw e refl
+pub more_blocks : (format waiting : ℕ) (c : CheckpointView) → length c.blocks < waiting → with_blocks format waiting c ≡ at_blocks format waiting c
+more_blocks format waiting c l = let e : nat_lt (length c.blocks) waiting ≡ true = grind (arith, nat_tests) in rw e refl
 
-pub all_blocks : (waiting : ℕ) (table : List Declared) (c : CheckpointView) → waiting ≤ length c.blocks → with_blocks waiting table c ≡ at_events (record { format = 4; table = table; checkpoint = Some c }) []
-all_blocks waiting table c l = let e : nat_lt (length c.blocks) waiting ≡ false = grind (arith, nat_tests) in rw e refl
+pub all_blocks : (format waiting : ℕ) (c : CheckpointView) → waiting ≤ length c.blocks → with_blocks format waiting c ≡ at_events (record { format = format; table = []; checkpoint = Some c }) []
+all_blocks format waiting c l = let e : nat_lt (length c.blocks) waiting ≡ false = grind (arith, nat_tests) in rw e refl
 
-pub more_cells : (next vars waiting : ℕ) (table : List Declared) (cells : List Cell) → length cells < vars → with_cells next vars waiting table cells ≡ at_cells next vars waiting table cells
-more_cells next vars waiting table cells l = let e : nat_lt (length cells) vars ≡ true = grind (arith, nat_tests) in rw e refl
+pub more_cells : (format next vars waiting : ℕ) (names : List Named) (cells : List Cell) → length cells < vars → with_cells format next vars waiting names cells ≡ at_cells format next vars waiting names cells
+more_cells format next vars waiting names cells l = let e : nat_lt (length cells) vars ≡ true = grind (arith, nat_tests) in rw e refl
 
-pub all_cells : (next vars waiting : ℕ) (table : List Declared) (cells : List Cell) → vars ≤ length cells → with_cells next vars waiting table cells ≡ with_blocks waiting table (record { store = cells; next = next; blocks = [] })
-all_cells next vars waiting table cells l = let e : nat_lt (length cells) vars ≡ false = grind (arith, nat_tests) in rw e refl
+pub all_cells : (format next vars waiting : ℕ) (names : List Named) (cells : List Cell) → vars ≤ length cells
+    → with_cells format next vars waiting names cells ≡ with_blocks format waiting (record { store = cells; names = names; next = next; blocks = [] })
+all_cells format next vars waiting names cells l = let e : nat_lt (length cells) vars ≡ false = grind (arith, nat_tests) in rw e refl
+
+-- the stage after the last waiting block
+pub running_stage : (format waiting : ℕ) (c : CheckpointView) (table : List Declared) (r : Replayer) → table ≡ [] → waiting ≤ length c.blocks
+    → ((F : ℕ) (T : List Declared) → Follows (record { format = F; table = T; checkpoint = Some c }) [] r) → IsStage (Running format table (Some c) r) (with_blocks format waiting c)
+running_stage format waiting c table r none l f =
+    ([], all_blocks format waiting c l ∙ ap (λ (t : List Declared). at_events (record { format = format; table = t; checkpoint = Some c }) []) (sym none), f format table)
 
 -- ---- a stage with one progress
 pub leads_at : (o : Result Stage HistoryFault) (stage : Stage) (q : CheckerState) (line : List ℕ) → ((p : CheckerState) → IsStage stage p → p ≡ q) → IfOk o (λ s. LeadsToStage q line s)
@@ -79,67 +86,75 @@ pub header_fault : (o : Result Stage HistoryFault) (line : List ℕ) → ((forma
 header_fault (Ok s) line never h = tt
 header_fault (Err e) line never h = header_refused line e never h
 
-pub header_leads : (o : Result Stage HistoryFault) (next vars waiting : ℕ) (table : List Declared) (cells : List Cell) (line : List ℕ) → IsCheckpointHead next vars waiting → checkpoint_header_line next vars waiting ≡ line
-    → table ≡ [] → cells ≡ [] → IfOk o (λ s. IsStage s (with_cells next vars waiting table cells)) → IfOk o (λ s. LeadsToStage at_header line s)
-header_leads (Ok s) next vars waiting table cells line h e none nothing stage =
-    (with_cells next vars waiting [] [], inr (next, vars, waiting, h, e, refl), subst (λ (cs : List Cell). IsStage s (with_cells next vars waiting [] cs)) nothing (subst (λ (t : List Declared). IsStage s (with_cells next vars waiting t cells)) none stage))
-header_leads (Err f) next vars waiting table cells line h e none nothing stage = tt
+pub header_leads : (o : Result Stage HistoryFault) (format next vars waiting : ℕ) (names : List Named) (cells : List Cell) (line : List ℕ) → IsCheckpointFormat format → IsCheckpointHead next vars waiting
+    → checkpoint_header_line format next vars waiting ≡ line → names ≡ [] → cells ≡ [] → IfOk o (λ s. IsStage s (with_cells format next vars waiting names cells)) → IfOk o (λ s. LeadsToStage at_header line s)
+header_leads (Ok s) format next vars waiting names cells line i h e none nothing stage = (
+  with_cells format next vars waiting [] [],
+  inr (format, next, vars, waiting, i, h, e, refl),
+  subst (λ (cs : List Cell). IsStage s (with_cells format next vars waiting [] cs)) nothing (subst (λ (t : List Named). IsStage s (with_cells format next vars waiting t cells)) none stage),
+)
+header_leads (Err f) format next vars waiting names cells line i h e none nothing stage = tt
 
 -- a first line of a checkpoint that there can't be
-pub head_refused : (line : List ℕ) (next vars waiting : ℕ) → checkpoint_header_line next vars waiting ≡ line → Is32Bit next → Is32Bit vars → Is32Bit waiting → (IsCheckpointHead next vars waiting → ⊥)
-    → (q : CheckerState) → LeadsToCells line q → ⊥
-head_refused line next vars waiting e i j k never q h =
-    let head = h.3 in
-    let same = checkpoint_header_same next h.0 vars h.1 waiting h.2 i j k (omega (arith, head.tickets)) (omega (arith, head.vars)) (omega (arith, head.waiting)) (e ∙ sym h.4) in
-    never (subst (λ (x : ℕ). IsCheckpointHead x vars waiting) (sym same.0) (subst (λ (x : ℕ). IsCheckpointHead h.0 x waiting) (sym same.1) (subst (λ (x : ℕ). IsCheckpointHead h.0 h.1 x) (sym same.2) head)))
+pub head_refused : (line : List ℕ) (format next vars waiting : ℕ) → IsCheckpointFormat format → checkpoint_header_line format next vars waiting ≡ line → Is32Bit next → Is32Bit vars → Is32Bit waiting
+    → (IsCheckpointHead next vars waiting → ⊥) → (q : CheckerState) → LeadsToCells line q → ⊥
+head_refused line format next vars waiting f e i j k never q h =
+    let head = h.5 in
+    let same = checkpoint_header_same format h.0 next h.1 vars h.2 waiting h.3 f h.4 i j k (omega (arith, head.tickets)) (omega (arith, head.vars)) (omega (arith, head.waiting)) (e ∙ sym h.6) in
+    never (subst (λ (x : ℕ). IsCheckpointHead x vars waiting) (sym same.1) (subst (λ (x : ℕ). IsCheckpointHead h.1 x waiting) (sym same.2) (subst (λ (x : ℕ). IsCheckpointHead h.1 h.2 x) (sym same.3) head)))
 
-pub head_unread : (line : List ℕ) → ((next vars waiting : ℕ) → Is32Bit next → Is32Bit vars → Is32Bit waiting → checkpoint_header_line next vars waiting ≢ line) → (q : CheckerState) → LeadsToCells line q → ⊥
-head_unread line never q h = let head = h.3 in never h.0 h.1 h.2 (omega (arith, head.tickets)) (omega (arith, head.vars)) (omega (arith, head.waiting)) h.4
+pub head_unread : (line : List ℕ) → ((format next vars waiting : ℕ) → IsCheckpointFormat format → Is32Bit next → Is32Bit vars → Is32Bit waiting → checkpoint_header_line format next vars waiting ≢ line) → (q : CheckerState) → LeadsToCells line q → ⊥
+head_unread line never q h = let head = h.5 in never h.0 h.1 h.2 h.3 h.4 (omega (arith, head.tickets)) (omega (arith, head.vars)) (omega (arith, head.waiting)) h.6
 
 -- ---- a variable of a checkpoint
-pub cell_refused : (next vars waiting : ℕ) (table : List Declared) (cells : List Cell) (name : Option (List ℕ)) (c : Cell) → FitsCell name c → ((named : List Declared) → NamesCell table cells name c.kind named → ⊥)
-    → (q : CheckerState) → LeadsTo (at_cells next vars waiting table cells) (cell_line name c) q → ⊥
-cell_refused next vars waiting table cells name c f never q k =
-    let same = cell_same k.0 name k.1 c (k.4).fits f k.3 in
-    let names : k.0 ≡ name = same.0 in
+-- its name is refused
+pub cell_refused : (format next vars waiting : ℕ) (names : List Named) (cells : List Cell) (name : Option (List ℕ)) (c : Cell) → FitsCell name c → (MayBeNamed format names (length cells) name c.kind → ⊥)
+    → (q : CheckerState) → LeadsTo (at_cells format next vars waiting names cells) (cell_line name c) q → ⊥
+cell_refused format next vars waiting names cells name c f never q k =
+    let same = cell_same k.0 name k.1 c (k.3).fits f k.2 in
+    let names_are : k.0 ≡ name = same.0 in
     let one : k.1 ≡ c = same.1 in
-    never k.2 (subst (λ (x : Option (List ℕ)). NamesCell table cells x c.kind k.2) names (subst (λ (x : Cell). NamesCell table cells k.0 x.kind k.2) one (k.4).names))
+    never (subst (λ (x : Option (List ℕ)). MayBeNamed format names (length cells) x c.kind) names_are (subst (λ (x : Cell). MayBeNamed format names (length cells) k.0 x.kind) one (k.3).named))
 
--- the name is refused, or there is no memory
-pub name_refused : (next vars waiting before : ℕ) (table : List Declared) (cells : List Cell) (name : Option (List ℕ)) (c : Cell) (f : HistoryFault) → before ≡ length cells → FitsCell name c
-    → (f ≡ NoMemory) ⊎ ((f ≡ BadHeader) × ((cells : List Cell) (named : List Declared) → before ≡ length cells → NamesCell table cells name c.kind named → ⊥))
-    → MayRefuse (at_cells next vars waiting table cells) (cell_line name c) f
-name_refused next vars waiting before table cells name c f l fits (inl k) = inl k
-name_refused next vars waiting before table cells name c f l fits (inr k) = inr (inl (k.0, cell_refused next vars waiting table cells name c fits (λ named n. k.1 cells named l n)))
+pub name_refused : (format next vars waiting : ℕ) (names : List Named) (cells : List Cell) (name : Option (List ℕ)) (c : Cell) → FitsCell name c → (MayBeNamed format names (length cells) name c.kind → ⊥)
+    → MayRefuse (at_cells format next vars waiting names cells) (cell_line name c) BadHeader
+name_refused format next vars waiting names cells name c f never = inr (inl (refl, cell_refused format next vars waiting names cells name c f never))
 
-pub same_name_refused : (o : Result Unit HistoryFault) (before : ℕ) (table : List Declared) (kind : Ty) (m n : Option (List ℕ)) → m ≡ n
-    → IfErr o (λ e. (e ≡ NoMemory) ⊎ ((e ≡ BadHeader) × ((cells : List Cell) (named : List Declared) → before ≡ length cells → NamesCell table cells m kind named → ⊥)))
-    → IfErr o (λ e. (e ≡ NoMemory) ⊎ ((e ≡ BadHeader) × ((cells : List Cell) (named : List Declared) → before ≡ length cells → NamesCell table cells n kind named → ⊥)))
-same_name_refused o before table kind m n same h =
-    subst (λ (x : Option (List ℕ)). IfErr o (λ e. (e ≡ NoMemory) ⊎ ((e ≡ BadHeader) × ((cells : List Cell) (named : List Declared) → before ≡ length cells → NamesCell table cells x kind named → ⊥)))) same h
+-- it leads on, with the others
+pub cell_leads : (o : Result Stage HistoryFault) (format next vars waiting : ℕ) (names named : List Named) (cells more : List Cell) (name : Option (List ℕ)) (c : Cell) → FitsCell name c → MayBeNamed format names (length cells) name c.kind
+    → named ≡ with_name_of names (length cells) name c.kind → more ≡ cells ++ c ∷ [] → IfOk o (λ s. IsStage s (with_cells format next vars waiting named more)) → OnOk o (length more ≡ vars → IsStore (plains more))
+    → IfOk o (λ s. LeadsToStage (at_cells format next vars waiting names cells) (cell_line name c) s)
+cell_leads (Ok s) format next vars waiting names named cells more name c f m e l stage store =
+    let long = length-append cells (c ∷ []) in
+    let size = ap (λ (x : List Cell). length x) l in (
+      with_cells format next vars waiting (with_name_of names (length cells) name c.kind) (cells ++ c ∷ []),
+      (name, c, refl, record { fits = f; named = m; store = λ h. subst (λ (x : List Cell). IsStore (plains x)) l (store (omega (arith, long, size, h))) }, refl),
+      subst (λ (x : List Cell). IsStage s (with_cells format next vars waiting (with_name_of names (length cells) name c.kind) x)) l (subst (λ (x : List Named). IsStage s (with_cells format next vars waiting x more)) e stage),
+    )
+cell_leads (Err f) format next vars waiting names named cells more name c fits m e l stage store = tt
 
-no_store : (next vars waiting : ℕ) (table : List Declared) (cells more : List Cell) (name : Option (List ℕ)) (c : Cell) → FitsCell name c → more ≡ cells ++ c ∷ [] → length more ≡ vars
-    → (IsStore (plains more) → ⊥) → (q : CheckerState) → LeadsTo (at_cells next vars waiting table cells) (cell_line name c) q → ⊥
-no_store next vars waiting table cells more name c f e l never q k =
-    let one : k.1 ≡ c = (cell_same k.0 name k.1 c (k.4).fits f k.3).1 in
+no_store : (format next vars waiting : ℕ) (names : List Named) (cells more : List Cell) (name : Option (List ℕ)) (c : Cell) → FitsCell name c → more ≡ cells ++ c ∷ [] → length more ≡ vars
+    → (IsStore (plains more) → ⊥) → (q : CheckerState) → LeadsTo (at_cells format next vars waiting names cells) (cell_line name c) q → ⊥
+no_store format next vars waiting names cells more name c f e l never q k =
+    let one : k.1 ≡ c = (cell_same k.0 name k.1 c (k.3).fits f k.2).1 in
     let long = length-append cells (c ∷ []) in
     let same = ap (λ (x : List Cell). length x) e in
-    never (subst (λ (x : List Cell). IsStore (plains x)) (sym e) (subst (λ (x : Cell). IsStore (plains (cells ++ x ∷ []))) one ((k.4).store (omega (arith, long, same, l)))))
+    never (subst (λ (x : List Cell). IsStore (plains x)) (sym e) (subst (λ (x : Cell). IsStore (plains (cells ++ x ∷ []))) one ((k.3).store (omega (arith, long, same, l)))))
 
-store_fault : (next vars waiting : ℕ) (table : List Declared) (cells more : List Cell) (name : Option (List ℕ)) (c : Cell) (f : HistoryFault) → FitsCell name c → more ≡ cells ++ c ∷ []
-    → (f ≡ NoMemory) ⊎ ((f ≡ BadHeader) × (length more ≡ vars) × (IsStore (plains more) → ⊥)) → MayRefuse (at_cells next vars waiting table cells) (cell_line name c) f
-store_fault next vars waiting table cells more name c f fits e (inl k) = inl k
-store_fault next vars waiting table cells more name c f fits e (inr k) = inr (inl (k.0, no_store next vars waiting table cells more name c fits e k.1 k.2))
+store_fault : (format next vars waiting : ℕ) (names : List Named) (cells more : List Cell) (name : Option (List ℕ)) (c : Cell) (f : HistoryFault) → FitsCell name c → more ≡ cells ++ c ∷ []
+    → (f ≡ NoMemory) ⊎ ((f ≡ BadHeader) × (length more ≡ vars) × (IsStore (plains more) → ⊥)) → MayRefuse (at_cells format next vars waiting names cells) (cell_line name c) f
+store_fault format next vars waiting names cells more name c f fits e (inl k) = inl k
+store_fault format next vars waiting names cells more name c f fits e (inr k) = inr (inl (k.0, no_store format next vars waiting names cells more name c fits e k.1 k.2))
 
 -- or all of them are no store
-pub store_refused : (o : Result Stage HistoryFault) (next vars waiting : ℕ) (table : List Declared) (cells more : List Cell) (name : Option (List ℕ)) (c : Cell) → FitsCell name c → more ≡ cells ++ c ∷ []
-    → IfErr o (λ e. (e ≡ NoMemory) ⊎ ((e ≡ BadHeader) × (length more ≡ vars) × (IsStore (plains more) → ⊥))) → IfErr o (λ e. MayRefuse (at_cells next vars waiting table cells) (cell_line name c) e)
-store_refused (Ok s) next vars waiting table cells more name c fits e h = tt
-store_refused (Err f) next vars waiting table cells more name c fits e h = store_fault next vars waiting table cells more name c f fits e h
+pub store_refused : (o : Result Stage HistoryFault) (format next vars waiting : ℕ) (names : List Named) (cells more : List Cell) (name : Option (List ℕ)) (c : Cell) → FitsCell name c → more ≡ cells ++ c ∷ []
+    → IfErr o (λ e. (e ≡ NoMemory) ⊎ ((e ≡ BadHeader) × (length more ≡ vars) × (IsStore (plains more) → ⊥))) → IfErr o (λ e. MayRefuse (at_cells format next vars waiting names cells) (cell_line name c) e)
+store_refused (Ok s) format next vars waiting names cells more name c fits e h = tt
+store_refused (Err f) format next vars waiting names cells more name c fits e h = store_fault format next vars waiting names cells more name c f fits e h
 
-pub cell_unread : (next vars waiting : ℕ) (table : List Declared) (cells : List Cell) (line : List ℕ) → ((name : Option (List ℕ)) (c : Cell) → FitsCell name c → cell_line name c ≢ line)
-    → (q : CheckerState) → LeadsTo (at_cells next vars waiting table cells) line q → ⊥
-cell_unread next vars waiting table cells line never q k = never k.0 k.1 (k.4).fits k.3
+pub cell_unread : (format next vars waiting : ℕ) (names : List Named) (cells : List Cell) (line : List ℕ) → ((name : Option (List ℕ)) (c : Cell) → FitsCell name c → cell_line name c ≢ line)
+    → (q : CheckerState) → LeadsTo (at_cells format next vars waiting names cells) line q → ⊥
+cell_unread format next vars waiting names cells line never q k = never k.0 k.1 (k.3).fits k.2
 
 -- ---- a waiting block
 -- what it brought is what was read
@@ -150,13 +165,13 @@ delivery_same ticket block (Some d) = refl
 pub block_line_same : (ticket : ℕ) (block : Block) (d : Option Delivered) → block_line (checkpoint_block ticket block d) ≡ waiting_line ticket block.text d
 block_line_same ticket block d = ap (waiting_line ticket block.text) (delivery_same ticket block d)
 
-pub block_fits : (table : List Declared) (ticket : ℕ) (block : Block) (d : Option Delivered) → FitsWaiting table ticket block d → FitsWaiting table ticket block (delivery_of_block (checkpoint_block ticket block d))
-block_fits table ticket block d f = subst (λ (x : Option Delivered). FitsWaiting table ticket block x) (sym (delivery_same ticket block d)) f
+pub block_fits : (names : List Named) (ticket : ℕ) (block : Block) (d : Option Delivered) → FitsWaiting names ticket block d → FitsWaiting names ticket block (delivery_of_block (checkpoint_block ticket block d))
+block_fits names ticket block d f = subst (λ (x : Option Delivered). FitsWaiting names ticket block x) (sym (delivery_same ticket block d)) f
 
 -- a new block that may be added isn't stale
-pub block_unread : (waiting : ℕ) (table : List Declared) (c : CheckpointView) (line : List ℕ) → ((ticket : ℕ) (block : Block) (d : Option Delivered) → FitsWaiting table ticket block d → waiting_line ticket block.text d ≢ line)
-    → (q : CheckerState) → LeadsTo (at_blocks waiting table c) line q → ⊥
-block_unread waiting table c line never q k =
+pub block_unread : (format waiting : ℕ) (c : CheckpointView) (line : List ℕ) → ((ticket : ℕ) (block : Block) (d : Option Delivered) → FitsWaiting c.names ticket block d → waiting_line ticket block.text d ≢ line)
+    → (q : CheckerState) → LeadsTo (at_blocks format waiting c) line q → ⊥
+block_unread format waiting c line never q k =
     let b = k.0 in
     never b.ticket b.waiting.block (delivery_of_block b) (k.2).0 k.1
 
@@ -172,12 +187,12 @@ back_by ticket block (Some h) stale m = refl
 block_back : (b : CheckpointBlock) → (b.waiting.held ≡ None → b.stale ≡ false) → checkpoint_block b.ticket b.waiting.block (delivery_of_block b) ≡ b
 block_back b m = back_by b.ticket b.waiting.block b.waiting.held b.stale m
 
-pub block_refused : (waiting : ℕ) (table : List Declared) (c : CheckpointView) (ticket : ℕ) (block : Block) (d : Option Delivered) → FitsWaiting table ticket block d → (MayAdd c (checkpoint_block ticket block d) → ⊥)
-    → (q : CheckerState) → LeadsTo (at_blocks waiting table c) (waiting_line ticket block.text d) q → ⊥
-block_refused waiting table c ticket block d f never q k =
+pub block_refused : (format waiting : ℕ) (c : CheckpointView) (ticket : ℕ) (block : Block) (d : Option Delivered) → FitsWaiting c.names ticket block d → (MayAdd c (checkpoint_block ticket block d) → ⊥)
+    → (q : CheckerState) → LeadsTo (at_blocks format waiting c) (waiting_line ticket block.text d) q → ⊥
+block_refused format waiting c ticket block d f never q k =
     let b = k.0 in
     let may : MayAdd c b = (k.2).1 in
-    let same = waiting_same table b.ticket ticket b.waiting.block block (delivery_of_block b) d (k.2).0 f k.1 in
+    let same = waiting_same c.names b.ticket ticket b.waiting.block block (delivery_of_block b) d (k.2).0 f k.1 in
     let tickets : b.ticket ≡ ticket = same.0 in
     let blocks : b.waiting.block ≡ block = same.1 in
     let brought : delivery_of_block b ≡ d = same.2 in
@@ -185,10 +200,10 @@ block_refused waiting table c ticket block d f never q k =
     let parts : checkpoint_block b.ticket b.waiting.block (delivery_of_block b) ≡ checkpoint_block ticket block d = λ i. checkpoint_block (tickets i) (blocks i) (brought i) in
     never (subst (MayAdd c) (sym (block_back b marked) ∙ parts) may)
 
-pub add_refused : (waiting : ℕ) (table : List Declared) (c : CheckpointView) (ticket : ℕ) (block : Block) (d : Option Delivered) (f : HistoryFault) → FitsWaiting table ticket block d
-    → (f ≡ NoMemory) ⊎ ((f ≡ BadHeader) × (MayAdd c (checkpoint_block ticket block d) → ⊥)) → MayRefuse (at_blocks waiting table c) (waiting_line ticket block.text d) f
-add_refused waiting table c ticket block d f fits (inl k) = inl k
-add_refused waiting table c ticket block d f fits (inr k) = inr (inl (k.0, block_refused waiting table c ticket block d fits k.1))
+pub add_refused : (format waiting : ℕ) (c : CheckpointView) (ticket : ℕ) (block : Block) (d : Option Delivered) (f : HistoryFault) → FitsWaiting c.names ticket block d
+    → (f ≡ NoMemory) ⊎ ((f ≡ BadHeader) × (MayAdd c (checkpoint_block ticket block d) → ⊥)) → MayRefuse (at_blocks format waiting c) (waiting_line ticket block.text d) f
+add_refused format waiting c ticket block d f fits (inl k) = inl k
+add_refused format waiting c ticket block d f fits (inr k) = inr (inl (k.0, block_refused format waiting c ticket block d fits k.1))
 
 -- ---- the stage among the events
 pub run_leads : (format : ℕ) (table : List Declared) (c : Option CheckpointView) (r r' : Replayer) (line : List ℕ)
@@ -214,7 +229,7 @@ run_line format table c r n number p i = ap BadLine (number (record { format = f
 small_start : (format : ℕ) (table : List Declared) (c : Option CheckpointView) → IsBefore format table c → IsSmallStart table c
 small_start format table None b = b.1
 small_start format table (Some c) b =
-    let k = (((b.1).fits).may).0 in
+    let k = ((b.1).fits).checkpoint in
     let small = (k.store).small in
     let l = length-map c.store plain in
     (omega (arith, small, l), k.few)
@@ -222,6 +237,6 @@ small_start format table (Some c) b =
 pub counts_of_lines : (p : CheckerState) (text : List ℕ) → LinesUpTo p text → CountsWithinLimits p
 counts_of_lines at_header text l = tt
 counts_of_lines (at_variables format n table) text l = (l.3, l.4)
-counts_of_lines (at_cells next vars waiting table cells) text l = (l.0, l.3)
-counts_of_lines (at_blocks waiting table c) text l = ((small_start 4 table (Some c) (refl, l.1)).0, l.2, l.3)
+counts_of_lines (at_cells format next vars waiting names cells) text l = (l.0, l.3, (l.2).named)
+counts_of_lines (at_blocks format waiting c) text l = ((small_start format [] (Some c) (refl, l.1)).0, l.2, l.3)
 counts_of_lines (at_events start history) text l = small_start start.format start.table start.checkpoint l.1

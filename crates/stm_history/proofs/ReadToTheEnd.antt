@@ -1,25 +1,29 @@
 -- What was read to the end.
-use Rattle.std.proofs.Common.{◌≡◌, ◌≢◌, ℕ, List, [], ◌∷◌, ◌++◌, Option, Some, None, IfSome, arith, length, refl, sym, ap, subst, ◌∙◌}
-use Rattle.stm_store.specs.Tables.{Declared}
+use Rattle.std.proofs.Common.{◌≡◌, ◌≢◌, ℕ, List, [], ◌∷◌, ◌++◌, Option, Some, None, IfSome, arith, length, refl, sym, ap, subst, ◌∙◌, inl, inr}
+use Rattle.stm_terms.specs.declared.kinds.Ty.{Ty}
+use Rattle.stm_terms.specs.declared.values.Value.{Value}
+use Rattle.stm_store.specs.Cells.{Covers, plains}
+use Rattle.stm_store.specs.Naming.{Named}
+use Rattle.stm_store.specs.Tables.{Declared, opened}
 use Rattle.stm_events.specs.declared.event.Event.{Event}
 use Rattle.stm_events.specs.declared.event.What.{What}
-use Rattle.stm_events.specs.declared.event.What.TheVariants.{Submitted, Installed, Finished, Cancelled}
+use Rattle.stm_events.specs.declared.event.What.TheVariants.{Submitted, Installed, Finished, Cancelled, Declared as DeclaredLate}
 use Rattle.stm_events.specs.Laws.{SubmitsWellTyped, SubmittedAreWellTyped}
-use Rattle.stm_event_lines.specs.Fits.{WhatFitsTable}
-use Rattle.stm_events.specs.SlowDesk.{Slow, state_from}
+use Rattle.stm_event_lines.specs.Fits.{WhatFitsNames}
+use Rattle.stm_events.specs.SlowDesk.{Slow, after, state_from}
 use Rattle.stm_machine.specs.declared.checkpoint.CheckpointBlock.{CheckpointBlock}
 use Rattle.stm_machine.specs.Checkpoints.{CheckpointView, MayStart, start_of, started_by}
 use Rattle.stm_machine.specs.Machine.{Parts, IsAt}
-use Rattle.stm_event_lines.specs.Lines.{latest_format, rule_of}
+use Rattle.stm_event_lines.specs.Lines.{declaring_format, latest_format, rule_of}
 use Rattle.stm_history.specs.declared.files.check.Stage.TheVariants.{Running}
 use Rattle.stm_history.specs.declared.files.replayer.Replayer.{Replayer}
 use Rattle.stm_history.specs.declared.files.loading.LoadFault.TheVariants.{OldFormat}
 use Rattle.stm_history.specs.Checking.{CheckerState, at_events, LinesUpTo}
 use Rattle.stm_history.specs.Following.{Follows}
-use Rattle.stm_history.specs.Judgement.{AreEvents, FitBlocks, IsBefore, IsStart}
+use Rattle.stm_history.specs.Judgement.{AreEvents, FitBlocks, IsStart}
 use Rattle.stm_history.specs.Loading.{IsWholeHistory, ReportsLoadFault}
-use Rattle.stm_history.specs.Stages.{IsLatest, Reached}
-use Rattle.stm_history.specs.Starts.{AreOfText, BlocksAreOfText, Start, first_state, written_start}
+use Rattle.stm_history.specs.Stages.{Reached}
+use Rattle.stm_history.specs.Starts.{AreOfText, BlocksAreOfText, IsLatest, Start, first_state}
 use Rattle.stm_event_lines.proofs.CheckedBlocks.{checked_are_well_typed}
 
 -- what holds of the bytes that were taken holds of the reader's, if those are known
@@ -27,30 +31,24 @@ pub at_taken : (known : Option (List ℕ)) (taken : List ℕ) (P : List ℕ → 
 at_taken None taken P is holds = tt
 at_taken (Some bytes) taken P is holds = subst P (sym is) holds
 
-what_typed : (table : List Declared) (what : What) → WhatFitsTable table what → SubmitsWellTyped what
-what_typed table (Submitted ticket block) f = checked_are_well_typed table block.text block f.1
-what_typed table (Installed ticket v) f = tt
-what_typed table (Finished ticket v first_new stale) f = tt
-what_typed table (Cancelled ticket) f = tt
+what_typed : (names : List Named) (what : What) → WhatFitsNames names what → SubmitsWellTyped what
+what_typed names (Submitted ticket block) f = checked_are_well_typed names block.text block f.1
+what_typed names (Installed ticket v) f = tt
+what_typed names (Finished ticket v first_new stale) f = tt
+what_typed names (Cancelled ticket) f = tt
+what_typed names (DeclaredLate name kind value) f = tt
 
 -- blocks that are what their texts check to are well typed
-pub events_typed : (format : ℕ) (table : List Declared) (events : List Event) → AreEvents format table events → SubmittedAreWellTyped events
-events_typed format table [] f = tt
-events_typed format table (e ∷ es) f = (what_typed table e.what (f.0).1, events_typed format table es f.3)
+pub events_typed : (format : ℕ) (s : Slow) (events : List Event) → AreEvents format s events → SubmittedAreWellTyped events
+events_typed format s [] f = tt
+events_typed format s (e ∷ es) f = (what_typed s.names e.what (f.0).1, events_typed format (after s e.what) es f.3)
 
 -- ---- the start of what was read
--- the present rule is that of the latest format, and of checkpoints
+-- the present rule is that of the formats that are written, and of checkpoints
 pub first_is : (format : ℕ) (table : List Declared) (c : Option CheckpointView) → IsLatest format c → first_state (record { format = format; table = table; checkpoint = c }) ≡ start_of table c
-first_is format table None l = ap (λ (f : ℕ). started_by (rule_of f) table None) l
+first_is format table None (inl l) = ap (λ (f : ℕ). started_by (rule_of f) table None) l
+first_is format table None (inr l) = ap (λ (f : ℕ). started_by (rule_of f) table None) l
 first_is format table (Some c) l = refl
-
-pub start_is : (format : ℕ) (table : List Declared) (c : Option CheckpointView) → IsBefore format table c → IsLatest format c → record { format = format; table = table; checkpoint = c } ≡ written_start table c
-start_is format table None b l = ap (λ (f : ℕ). record { format = f; table = table; checkpoint = None }) l
-start_is format table (Some c) b l = ap (λ (f : ℕ). record { format = f; table = table; checkpoint = Some c }) b.0
-
-pub written_is : (table : List Declared) (c : Option CheckpointView) → first_state (written_start table c) ≡ start_of table c
-written_is table None = refl
-written_is table (Some c) = refl
 
 pub no_bytes : (line : List ℕ) → length line ≡ 0 → line ≡ []
 no_bytes [] e = refl
@@ -77,15 +75,15 @@ read_history format table c r whole line taken h none =
     }
 
 -- and the same as it is loaded
-pub loaded_history : (format : ℕ) (table : List Declared) (c : Option CheckpointView) (r : Replayer) (whole : ℕ) (line taken : List ℕ) (table' : List Declared) (c' : Option CheckpointView) (events : List Event)
-    → Reached (Running format table c r) whole line taken → line ≡ [] → IsLatest format c → table' ≡ table → c' ≡ c
-    → ((history : List Event) → IfSome r.kept (λ kept. kept.items ≡ history) → events ≡ history) → IsWholeHistory (written_start table' c') taken events
-loaded_history format table c r whole line taken table' c' events h none latest tables checkpoints kept =
+pub loaded_history : (format : ℕ) (table : List Declared) (c : Option CheckpointView) (r : Replayer) (whole : ℕ) (line taken : List ℕ) (format' : ℕ) (table' : List Declared) (c' : Option CheckpointView) (events : List Event)
+    → Reached (Running format table c r) whole line taken → line ≡ [] → format' ≡ format → table' ≡ table → c' ≡ c
+    → ((history : List Event) → IfSome r.kept (λ kept. kept.items ≡ history) → events ≡ history) → IsWholeHistory (record { format = format'; table = table'; checkpoint = c' }) taken events
+loaded_history format table c r whole line taken format' table' c' events h none formats tables checkpoints kept =
     let k = read_history format table c r whole line taken h none in
     let follows = k.follows in
     let same : events ≡ k.history = kept k.history follows.kept in
-    let start : record { format = format; table = table; checkpoint = c } ≡ written_start table' c' =
-    start_is format table c (k.whole).start latest ∙ (λ i. written_start ((sym tables) i) ((sym checkpoints) i)) in
+    let start : record { format = format; table = table; checkpoint = c } ≡ record { format = format'; table = table'; checkpoint = c' } =
+    λ i. record { format = (sym formats) i; table = (sym tables) i; checkpoint = (sym checkpoints) i } in
     subst (λ (s : Start). IsWholeHistory s taken events) start (subst (IsWholeHistory (record { format = format; table = table; checkpoint = c }) taken) (sym same) k.whole)
 
 -- the machine is at the state of the history
@@ -102,22 +100,33 @@ loaded_at format table c r whole line taken m table' c' events h none latest mac
     (subst (λ (x : List Event). IsAt r.machine (state_from (first_state (record { format = format; table = table; checkpoint = c })) x)) (sym same) follows.at))
 
 -- what holds of a loaded history's start
-pub may_start : (table : List Declared) (c : Option CheckpointView) → IsStart (written_start table c) → MayStart table c
-may_start table None s = tt
-may_start table (Some c) s = ((s.1).fits).may
+covers_none : (cells : List (Ty × Value)) (uses : List (ℕ × Ty)) → Covers [] uses → Covers cells uses
+covers_none cells [] c = tt
+covers_none cells (u ∷ us) c = let some = c.0 in absurd (cc)
 
-of_text : (table : List Declared) (bs : List CheckpointBlock) → FitBlocks table bs → AreOfText table bs
-of_text table [] f = tt
-of_text table (b ∷ bs) f = ((f.0).1, of_text table bs f.1)
+start_by : (format : ℕ) (table : List Declared) (c : Option CheckpointView) → IsStart (record { format = format; table = table; checkpoint = c }) → MayStart table c
+start_by format table None s = tt
+start_by format table (Some c) s =
+    (((s.1).fits).checkpoint, λ uses covered. covers_none (plains c.store) uses (subst (λ (t : List Declared). Covers (plains (opened t)) uses) s.0 covered))
 
-pub blocks_of_text : (table : List Declared) (c : Option CheckpointView) → IsStart (written_start table c) → IfSome c (BlocksAreOfText table)
-blocks_of_text table None s = tt
-blocks_of_text table (Some c) s = of_text table c.blocks ((s.1).fits).blocks
+pub may_start : (start : Start) → IsStart start → MayStart start.table start.checkpoint
+may_start start s = start_by start.format start.table start.checkpoint s
+
+of_text : (names : List Named) (bs : List CheckpointBlock) → FitBlocks names bs → AreOfText names bs
+of_text names [] f = tt
+of_text names (b ∷ bs) f = ((f.0).1, of_text names bs f.1)
+
+text_by : (format : ℕ) (table : List Declared) (c : Option CheckpointView) → IsStart (record { format = format; table = table; checkpoint = c }) → IfSome c BlocksAreOfText
+text_by format table None s = tt
+text_by format table (Some c) s = of_text c.names c.blocks ((s.1).fits).blocks
+
+pub blocks_of_text : (start : Start) → IsStart start → IfSome start.checkpoint BlocksAreOfText
+blocks_of_text start s = text_by start.format start.table start.checkpoint s
 
 -- an earlier format is that of a table
-pub old_history : (format : ℕ) (table : List Declared) (c : Option CheckpointView) (r : Replayer) (whole : ℕ) (line taken : List ℕ) → Reached (Running format table c r) whole line taken → line ≡ [] → format ≢ latest_format → c ≡ None
+pub old_history : (format : ℕ) (table : List Declared) (c : Option CheckpointView) (r : Replayer) (whole : ℕ) (line taken : List ℕ) → Reached (Running format table c r) whole line taken → line ≡ [] → format ≢ latest_format → format ≢ declaring_format → c ≡ None
     → ReportsLoadFault (OldFormat format) taken
-old_history format table c r whole line taken h none other without =
+old_history format table c r whole line taken h none other later without =
     let k = read_history format table c r whole line taken h none in
     let is : IsWholeHistory (record { format = format; table = table; checkpoint = None }) taken k.history = subst (λ (o : Option CheckpointView). IsWholeHistory (record { format = format; table = table; checkpoint = o }) taken k.history) without k.whole in
-    ((is.start).0, other, table, k.history, is)
+    ((is.start).0, other, later, table, k.history, is)

@@ -1,38 +1,37 @@
 -- What is reported of the bytes where a line is refused.
-use Rattle.std.proofs.Common.{Bool, ◌≡◌, ◌≢◌, ℕ, ◌+◌, ◌≤◌, ◌<◌, ◌^◌, List, [], ◌∷◌, ◌++◌, length, Option, Some, None, refl, sym, ap, ◌∙◌, subst, arith, append_assoc, append-nil, length-append, take, drop, ◌⊎◌, inl, inr, Result, Ok, Err, IfOk}
+use Rattle.std.proofs.Common.{Bool, ◌≡◌, ℕ, ◌+◌, ◌≤◌, ◌<◌, ◌^◌, List, [], ◌∷◌, ◌++◌, length, Option, Some, None, refl, sym, ap, ◌∙◌, subst, arith, append_assoc, append-nil, length-append, take, drop, ◌⊎◌, inl, inr}
 use Rattle.std.specs.Global.{Vec}
 use Rattle.std.proofs.lemmas.List.{take_at, drop_at, length-map}
 use Rattle.stm_store.specs.declared.cell.Cell.{Cell}
 use Rattle.stm_store.specs.Cells.{plain}
+use Rattle.stm_store.specs.Naming.{Named}
 use Rattle.stm_store.specs.Tables.{Declared}
 use Rattle.stm_events.specs.declared.event.Event.{Event}
 use Rattle.stm_events.specs.SlowDesk.{max_cells, max_waiting}
 use Rattle.stm_machine.specs.declared.checkpoint.CheckpointBlock.{CheckpointBlock}
 use Rattle.stm_machine.specs.Checkpoints.{CheckpointView}
 use Rattle.stm_event_lines.specs.declared.checkpoint.CheckpointHeader.{CheckpointHeader}
-use Rattle.stm_event_lines.specs.CheckpointLines.{FitsCell, FitsWaiting, cell_line, checkpoint_header_line}
-use Rattle.stm_event_lines.specs.Fits.{FitsTable, FitsFormat, FitsVariable, Is32Bit}
+use Rattle.stm_event_lines.specs.CheckpointLines.{FitsCell, FitsWaiting, IsCheckpointFormat, cell_line, checkpoint_header_line}
+use Rattle.stm_event_lines.specs.Fits.{FitsNames, FitsFormat, FitsVariable}
 use Rattle.stm_event_lines.specs.Lines.{IsFormat, event_line, header_line, variable_line}
 use Rattle.stm_event_lines.proofs.Checkpoints.{cell_one_line, checkpoint_header_new, checkpoint_header_one_line, checkpoint_header_same, waiting_one_line}
 use Rattle.stm_event_lines.proofs.ReadsBack.{event_one_line, header_one_line, variable_one_line, event_same, header_same, variable_same}
-use Rattle.stm_history.specs.HistoryText.{block_line, block_lines, cell_lines, cells_text, checkpoint_text, head_text, history_text, start_text, text_before, variable_lines}
-use Rattle.stm_history.specs.Judgement.{IsShort, max_line, MayDeclare, AreVariables, AreVariablesFrom, FitBlocks, IsBefore, IsReadable, IsStart, ReportsFault, IsHistory, numbers_from}
+use Rattle.stm_history.specs.HistoryText.{block_line, block_lines, cell_lines, cells_text, checkpoint_text, history_text, start_text, text_before, variable_lines}
+use Rattle.stm_history.specs.Judgement.{IsShort, max_line, MayDeclare, AreVariablesFrom, IsBefore, IsReadable, IsStart, ReportsFault, IsHistory, numbers_from}
 use Rattle.stm_history.specs.declared.files.fault.HistoryFault.{HistoryFault}
 use Rattle.stm_history.specs.declared.files.fault.HistoryFault.TheVariants.{ReadFault, BadHeader, NoMemory}
 use Rattle.stm_history.specs.declared.files.fault.Legal.{Legal}
 use Rattle.stm_history.specs.declared.files.check.Stage.{Stage}
 use Rattle.stm_history.specs.declared.files.check.Stage.TheVariants.{Before, Declaring, AtCells, AtBlocks}
-use Rattle.stm_history.specs.Checking.{CheckerState, at_header, at_variables, at_cells, at_blocks, at_events, with_table, with_cells, with_blocks, AreCells, IsCheckpointHead, LeadsTo, LeadsNowhere, LinesUpTo, MayTakeCell, NoLineNext, NoNext, NoFeed, IsStrange, strange, MayRefuse, HasTaken, IsFaultAt, StopsAt}
+use Rattle.stm_history.specs.Checking.{CheckerState, at_header, at_variables, at_cells, at_blocks, at_events, with_table, with_cells, with_blocks, with_name_of, IsCheckpointHead, LeadsTo, LeadsNowhere, LinesUpTo, MayTakeCell, NoLineNext, NoNext, NoFeed, IsStrange, strange, MayRefuse, HasTaken, IsFaultAt, StopsAt}
 use Rattle.stm_history.specs.Stages.{IsStage, Reached, LeadsToStage}
-use Rattle.stm_history.specs.Starts.{Start, delivery_of_block}
+use Rattle.stm_history.specs.Starts.{Start, delivery_of_block, names_after}
 use Rattle.stm_history.proofs.CommonLines.{next_block, next_cell}
 use Rattle.stm_history.proofs.CutsAtLineFeeds.{IsCut, cut_unique, no_cut, no_feed_at_end, nofeed-append, no_feed}
 use Rattle.stm_history.proofs.OneLineMore.{LinesUpTo-line}
-use Rattle.stm_history.proofs.DefaultedTables.{same_defaults}
-use Rattle.stm_history.proofs.OneReading.{cells as one_cells, names_from}
+use Rattle.stm_history.proofs.CellNames.{cells as one_cells}
+use Rattle.stm_history.proofs.OneReading.{cells_of}
 use Rattle.stm_history.proofs.Shortness.{cell_short, checkpoint_header_short, header_short, variable_short}
-use Rattle.stm_history.proofs.StartTypes.{types_of_start}
-use Rattle.stm_history.proofs.WrittenIsTaken.{few_variables}
 
 -- ---- no line has a line feed
 pub header_no_feed : (format n : ℕ) → IsFormat format → n ≤ max_cells → NoFeed (header_line format n)
@@ -41,29 +40,29 @@ header_no_feed format n k h = no_feed (header_line format n) (header_one_line fo
 variable_no_feed : (d : Declared) → FitsVariable d → NoFeed (variable_line d)
 variable_no_feed d f = no_feed (variable_line d) (variable_one_line d f)
 
-pub event_no_feed : (table : List Declared) (e : Event) → FitsTable table e → NoFeed (event_line e)
-event_no_feed table e f = no_feed (event_line e) (event_one_line table e f)
+pub event_no_feed : (names : List Named) (e : Event) → FitsNames names e → NoFeed (event_line e)
+event_no_feed names e f = no_feed (event_line e) (event_one_line names e f)
 
-pub checkpoint_header_no_feed : (next vars waiting : ℕ) → IsCheckpointHead next vars waiting → NoFeed (checkpoint_header_line next vars waiting)
-checkpoint_header_no_feed next vars waiting h =
-    no_feed (checkpoint_header_line next vars waiting) (checkpoint_header_one_line next vars waiting (omega (arith, h.tickets)) (omega (arith, h.vars)) (omega (arith, h.waiting)))
+pub checkpoint_header_no_feed : (format next vars waiting : ℕ) → IsCheckpointFormat format → IsCheckpointHead next vars waiting → NoFeed (checkpoint_header_line format next vars waiting)
+checkpoint_header_no_feed format next vars waiting i h =
+    no_feed (checkpoint_header_line format next vars waiting) (checkpoint_header_one_line format next vars waiting i (omega (arith, h.tickets)) (omega (arith, h.vars)) (omega (arith, h.waiting)))
 
 cell_no_feed : (name : Option (List ℕ)) (c : Cell) → FitsCell name c → NoFeed (cell_line name c)
 cell_no_feed name c f = no_feed (cell_line name c) (cell_one_line name c f)
 
-block_no_feed : (table : List Declared) (b : CheckpointBlock) → FitsWaiting table b.ticket b.waiting.block (delivery_of_block b) → NoFeed (block_line b)
-block_no_feed table b f = no_feed (block_line b) (waiting_one_line table b.ticket b.waiting.block (delivery_of_block b) f)
+block_no_feed : (names : List Named) (b : CheckpointBlock) → FitsWaiting names b.ticket b.waiting.block (delivery_of_block b) → NoFeed (block_line b)
+block_no_feed names b f = no_feed (block_line b) (waiting_one_line names b.ticket b.waiting.block (delivery_of_block b) f)
 
 header_leads_no_feed : (line : List ℕ) (q : CheckerState) → LeadsTo at_header line q → NoFeed line
 header_leads_no_feed line q (inl k) = subst NoFeed k.3 (header_no_feed k.0 k.1 k.2 k.4)
-header_leads_no_feed line q (inr k) = subst NoFeed k.4 (checkpoint_header_no_feed k.0 k.1 k.2 k.3)
+header_leads_no_feed line q (inr k) = subst NoFeed k.6 (checkpoint_header_no_feed k.0 k.1 k.2 k.3 k.4 k.5)
 
 pub leads_no_feed : (p : CheckerState) (line : List ℕ) (q : CheckerState) → LeadsTo p line q → NoFeed line
 leads_no_feed at_header line q k = header_leads_no_feed line q k
 leads_no_feed (at_variables format n table) line q k = subst NoFeed k.1 (variable_no_feed k.0 (k.2).fits)
-leads_no_feed (at_cells next vars waiting table cells) line q k = subst NoFeed k.3 (cell_no_feed k.0 k.1 (k.4).fits)
-leads_no_feed (at_blocks waiting table c) line q k = subst NoFeed k.1 (block_no_feed table k.0 (k.2).0)
-leads_no_feed (at_events start history) line q k = subst NoFeed k.1 (event_no_feed start.table k.0 k.2)
+leads_no_feed (at_cells format next vars waiting names cells) line q k = subst NoFeed k.2 (cell_no_feed k.0 k.1 (k.3).fits)
+leads_no_feed (at_blocks format waiting c) line q k = subst NoFeed k.1 (block_no_feed c.names k.0 (k.2).0)
+leads_no_feed (at_events start history) line q k = subst NoFeed k.1 (event_no_feed (names_after start history) k.0 k.2)
 
 -- where some variables' lines are the beginning of more, a variable's line comes next
 pub record Following (prior : List Declared) (a : List ℕ) : Type 0 where
@@ -102,40 +101,43 @@ pub record GoesOn (p : CheckerState) (rest : List ℕ) : Type 0 where
   pub text : rest ≡ line ++ 10 ∷ more
 
 -- a checkpoint is as its first line may say
-pub head_of : (table : List Declared) (c : CheckpointView) (waiting : ℕ) → IsReadable table c → waiting ≤ max_waiting → IsCheckpointHead c.next (length c.store) waiting
-head_of table c waiting r w =
-    let k = ((r.fits).may).0 in
+pub head_of : (format : ℕ) (c : CheckpointView) (waiting : ℕ) → IsReadable format c → waiting ≤ max_waiting → IsCheckpointHead c.next (length c.store) waiting
+head_of format c waiting r w =
+    let k = (r.fits).checkpoint in
     let l = length-map c.store plain in
     let small = (k.store).small in
     record { begun = k.begun; tickets = k.tickets; vars = omega (arith, small, l); waiting = w }
 
-head_short : (next vars waiting : ℕ) → IsCheckpointHead next vars waiting → IsShort (checkpoint_header_line next vars waiting)
-head_short next vars waiting h = checkpoint_header_short next vars waiting (omega (arith, h.tickets)) (omega (arith, h.vars)) (omega (arith, h.waiting))
+head_short : (format next vars waiting : ℕ) → IsCheckpointFormat format → IsCheckpointHead next vars waiting → IsShort (checkpoint_header_line format next vars waiting)
+head_short format next vars waiting i h = checkpoint_header_short format next vars waiting i (omega (arith, h.tickets)) (omega (arith, h.vars)) (omega (arith, h.waiting))
 
-pub flat_checkpoint : (w : ℕ) (T : List Declared) (c : CheckpointView) (a : List ℕ) → checkpoint_text w T c ++ a ≡ checkpoint_header_line c.next (length c.store) w ++ 10 ∷ (cell_lines T c.store ++ (block_lines c.blocks ++ a))
-flat_checkpoint w T c a =
-    append_assoc (cells_text c.next (length c.store) w T c.store) (block_lines c.blocks) a
-    ∙ append_assoc (checkpoint_header_line c.next (length c.store) w) (10 ∷ cell_lines T c.store) (block_lines c.blocks ++ a)
+pub flat_checkpoint : (format w : ℕ) (c : CheckpointView) (a : List ℕ)
+    → checkpoint_text format w c ++ a ≡ checkpoint_header_line format c.next (length c.store) w ++ 10 ∷ (cell_lines c.names c.store ++ (block_lines c.blocks ++ a))
+flat_checkpoint format w c a =
+    append_assoc (cells_text format c.next (length c.store) w c.names c.store) (block_lines c.blocks) a
+    ∙ append_assoc (checkpoint_header_line format c.next (length c.store) w) (10 ∷ cell_lines c.names c.store) (block_lines c.blocks ++ a)
 
 -- the first lines of two checkpoints
-pub record IsSameHead (k k' m m' n n' : ℕ) (a b : List ℕ) : Type 0 where
+pub record IsSameHead (p q k k' m m' n n' : ℕ) (a b : List ℕ) : Type 0 where
+  pub formats : p ≡ q
   pub next : k ≡ k'
   pub vars : m ≡ m'
   pub waiting : n ≡ n'
   pub rest : a ≡ b
 
-pub same_checkpoint_head : (next next' vars vars' waiting waiting' : ℕ) (a b : List ℕ) → IsCheckpointHead next vars waiting → IsCheckpointHead next' vars' waiting'
-    → checkpoint_header_line next vars waiting ++ 10 ∷ a ≡ checkpoint_header_line next' vars' waiting' ++ 10 ∷ b → IsSameHead next next' vars vars' waiting waiting' a b
-same_checkpoint_head next next' vars vars' waiting waiting' a b h k e =
-    let cut = cut_unique (checkpoint_header_line next vars waiting) a (checkpoint_header_line next' vars' waiting') b (checkpoint_header_no_feed next vars waiting h) (checkpoint_header_no_feed next' vars' waiting' k) e in
-    let s = checkpoint_header_same next next' vars vars' waiting waiting' (omega (arith, h.tickets)) (omega (arith, h.vars)) (omega (arith, h.waiting)) (omega (arith, k.tickets)) (omega (arith, k.vars)) (omega (arith, k.waiting)) cut.line in
-    record { next = s.0; vars = s.1; waiting = s.2; rest = cut.rest }
+pub same_checkpoint_head : (p q next next' vars vars' waiting waiting' : ℕ) (a b : List ℕ) → IsCheckpointFormat p → IsCheckpointFormat q → IsCheckpointHead next vars waiting → IsCheckpointHead next' vars' waiting'
+    → checkpoint_header_line p next vars waiting ++ 10 ∷ a ≡ checkpoint_header_line q next' vars' waiting' ++ 10 ∷ b → IsSameHead p q next next' vars vars' waiting waiting' a b
+same_checkpoint_head p q next next' vars vars' waiting waiting' a b i j h k e =
+    let cut = cut_unique (checkpoint_header_line p next vars waiting) a (checkpoint_header_line q next' vars' waiting') b (checkpoint_header_no_feed p next vars waiting i h) (checkpoint_header_no_feed q next' vars' waiting' j k) e in
+    let s = checkpoint_header_same p q next next' vars vars' waiting waiting' i j (omega (arith, h.tickets)) (omega (arith, h.vars)) (omega (arith, h.waiting)) (omega (arith, k.tickets)) (omega (arith, k.vars)) (omega (arith, k.waiting)) cut.line in
+    record { formats = s.0; next = s.1; vars = s.2; waiting = s.3; rest = cut.rest }
 
 -- the first line of a checkpoint is none of a table
-pub other_head : (format n next vars waiting : ℕ) (a b : List ℕ) → IsFormat format → n ≤ max_cells → IsCheckpointHead next vars waiting → header_line format n ++ 10 ∷ a ≡ checkpoint_header_line next vars waiting ++ 10 ∷ b → ⊥
-other_head format n next vars waiting a b f small h e =
-    let cut = cut_unique (header_line format n) a (checkpoint_header_line next vars waiting) b (header_no_feed format n f small) (checkpoint_header_no_feed next vars waiting h) e in
-    checkpoint_header_new next vars waiting format n (omega (arith, h.tickets)) (omega (arith, h.vars)) (omega (arith, h.waiting)) f (omega (arith, small)) (sym cut.line)
+pub other_head : (format n other next vars waiting : ℕ) (a b : List ℕ) → IsFormat format → n ≤ max_cells → IsCheckpointFormat other → IsCheckpointHead next vars waiting
+    → header_line format n ++ 10 ∷ a ≡ checkpoint_header_line other next vars waiting ++ 10 ∷ b → ⊥
+other_head format n other next vars waiting a b f small i h e =
+    let cut = cut_unique (header_line format n) a (checkpoint_header_line other next vars waiting) b (header_no_feed format n f small) (checkpoint_header_no_feed other next vars waiting i h) e in
+    checkpoint_header_new other next vars waiting format n i (omega (arith, h.tickets)) (omega (arith, h.vars)) (omega (arith, h.waiting)) f (omega (arith, small)) (sym cut.line)
 
 -- before the first line
 header_on : (format : ℕ) (table : List Declared) (o : Option CheckpointView) (rest more : List ℕ) → IsBefore format table o → rest ≡ text_before format table o ++ more → GoesOn at_header rest
@@ -148,15 +150,16 @@ header_on format table None rest more b e = record {
   text = e ∙ append_assoc (header_line format (length table)) (10 ∷ variable_lines table) more;
 }
 header_on format table (Some c) rest more b e =
-    let few = (((b.1).fits).may).0 in
-    let h = head_of table c (length c.blocks) b.1 few.few in
+    let few = ((b.1).fits).checkpoint in
+    let i = (b.1).is_format in
+    let h = head_of format c (length c.blocks) b.1 few.few in
     record {
-      line = checkpoint_header_line c.next (length c.store) (length c.blocks);
-      next = with_cells c.next (length c.store) (length c.blocks) [] [];
-      leads = inr (c.next, length c.store, length c.blocks, h, refl, refl);
-      short = head_short c.next (length c.store) (length c.blocks) h;
-      more = cell_lines table c.store ++ (block_lines c.blocks ++ more);
-      text = e ∙ flat_checkpoint (length c.blocks) table c more;
+      line = checkpoint_header_line format c.next (length c.store) (length c.blocks);
+      next = with_cells format c.next (length c.store) (length c.blocks) [] [];
+      leads = inr (format, c.next, length c.store, length c.blocks, i, h, refl, refl);
+      short = head_short format c.next (length c.store) (length c.blocks) i h;
+      more = cell_lines c.names c.store ++ (block_lines c.blocks ++ more);
+      text = e ∙ flat_checkpoint format (length c.blocks) c more;
     }
 
 -- among the variables
@@ -177,62 +180,60 @@ variables_on format n table other names None whole rest more s b e =
       text = f.rest;
     }
 variables_on format n table other names (Some c) whole rest more s b e =
-    let few = (((b.1).fits).may).0 in
-    absurd (other_head format n c.next (length c.store) (length c.blocks) (variable_lines table ++ rest) (cell_lines names c.store ++ (block_lines c.blocks ++ more)) s.0 s.4 (head_of names c (length c.blocks) b.1 few.few)
-    (sym (append_assoc (header_line format n) (10 ∷ variable_lines table) rest) ∙ ap (λ w. w ++ rest) (sym s.1) ∙ e ∙ flat_checkpoint (length c.blocks) names c more))
+    let few = ((b.1).fits).checkpoint in
+    absurd (other_head format n other c.next (length c.store) (length c.blocks) (variable_lines table ++ rest) (cell_lines c.names c.store ++ (block_lines c.blocks ++ more)) s.0 s.4 (b.1).is_format (head_of other c (length c.blocks) b.1 few.few)
+    (sym (append_assoc (header_line format n) (10 ∷ variable_lines table) rest) ∙ ap (λ w. w ++ rest) (sym s.1) ∙ e ∙ flat_checkpoint other (length c.blocks) c more))
 
 -- among the variables of a checkpoint
-cells_on : (next vars waiting : ℕ) (table : List Declared) (cells : List Cell) (other : ℕ) (names : List Declared) (o : Option CheckpointView) (whole rest more : List ℕ) → LinesUpTo (at_cells next vars waiting table cells) whole → IsBefore other names o
-    → whole ++ rest ≡ text_before other names o ++ more → GoesOn (at_cells next vars waiting table cells) rest
-cells_on next vars waiting table cells other names None whole rest more s b e =
-    absurd (other_head other (length names) next vars waiting (variable_lines names ++ more) (cell_lines table cells ++ rest) b.0 b.1 s.0
-    (sym (append_assoc (header_line other (length names)) (10 ∷ variable_lines names) more) ∙ sym e ∙ ap (λ w. w ++ rest) s.1 ∙ append_assoc (checkpoint_header_line next vars waiting) (10 ∷ cell_lines table cells) rest))
-cells_on next vars waiting table cells other names (Some c) whole rest more s b e =
-    let few = (((b.1).fits).may).0 in
-    let h = same_checkpoint_head next c.next vars (length c.store) waiting (length c.blocks) (cell_lines table cells ++ rest) (cell_lines names c.store ++ (block_lines c.blocks ++ more)) s.0 (head_of names c (length c.blocks) b.1 few.few)
-    (sym (append_assoc (checkpoint_header_line next vars waiting) (10 ∷ cell_lines table cells) rest) ∙ ap (λ w. w ++ rest) (sym s.1) ∙ e ∙ flat_checkpoint (length c.blocks) names c more) in
+cells_on : (format next vars waiting : ℕ) (names : List Named) (cells : List Cell) (other : ℕ) (table : List Declared) (o : Option CheckpointView) (whole rest more : List ℕ) → LinesUpTo (at_cells format next vars waiting names cells) whole
+    → IsBefore other table o → whole ++ rest ≡ text_before other table o ++ more → GoesOn (at_cells format next vars waiting names cells) rest
+cells_on format next vars waiting names cells other table None whole rest more s b e =
+    absurd (other_head other (length table) format next vars waiting (variable_lines table ++ more) (cell_lines names cells ++ rest) b.0 b.1 s.4 s.0
+    (sym (append_assoc (header_line other (length table)) (10 ∷ variable_lines table) more) ∙ sym e ∙ ap (λ w. w ++ rest) s.1 ∙ append_assoc (checkpoint_header_line format next vars waiting) (10 ∷ cell_lines names cells) rest))
+cells_on format next vars waiting names cells other table (Some c) whole rest more s b e =
+    let few = ((b.1).fits).checkpoint in
+    let h = same_checkpoint_head format other next c.next vars (length c.store) waiting (length c.blocks) (cell_lines names cells ++ rest) (cell_lines c.names c.store ++ (block_lines c.blocks ++ more)) s.4 (b.1).is_format s.0
+    (head_of other c (length c.blocks) b.1 few.few)
+    (sym (append_assoc (checkpoint_header_line format next vars waiting) (10 ∷ cell_lines names cells) rest) ∙ ap (λ w. w ++ rest) (sym s.1) ∙ e ∙ flat_checkpoint other (length c.blocks) c more) in
     let same : vars ≡ length c.store = h.vars in
-    let f = next_cell table names cells c rest (block_lines c.blocks ++ more) s.2 b.1 (omega (arith, same, s.3)) h.rest in
+    let f = next_cell format names cells c rest (block_lines c.blocks ++ more) s.2 (subst (λ (k : ℕ). IsReadable k c) (sym h.formats) b.1) (omega (arith, same, s.3)) h.rest in
     record {
       line = cell_line f.name f.cell;
-      next = with_cells next vars waiting f.named (cells ++ f.cell ∷ []);
-      leads = (f.name, f.cell, f.named, refl, subst (λ (v : ℕ). MayTakeCell v table cells f.name f.cell f.named) (sym same) f.may, refl);
+      next = with_cells format next vars waiting (with_name_of names (length cells) f.name (f.cell).kind) (cells ++ f.cell ∷ []);
+      leads = (f.name, f.cell, refl, subst (λ (v : ℕ). MayTakeCell format v names cells f.name f.cell) (sym same) f.may, refl);
       short = cell_short f.name f.cell (f.may).fits;
       more = f.more;
       text = f.rest;
     }
 
--- the tables and the stores of two checkpoints with lines that begin alike
-pub record IsSameStore (T U : List Declared) (c d : CheckpointView) (a b : List ℕ) : Type 0 where
-  pub tables : T ≡ U
+-- the names and the stores of two checkpoints with lines that begin alike
+pub record IsSameStore (c d : CheckpointView) (a b : List ℕ) : Type 0 where
+  pub names : c.names ≡ d.names
   pub stores : c.store ≡ d.store
   pub rest : a ≡ b
 
-pub same_store : (T U : List Declared) (c d : CheckpointView) (a b : List ℕ) → IsReadable T c → IsReadable U d → length c.store ≡ length d.store → cell_lines T c.store ++ a ≡ cell_lines U d.store ++ b → IsSameStore T U c d a b
-same_store T U c d a b r s l e =
-    let f = r.fits in
-    let g = s.fits in
-    let k = one_cells T U c.store d.store a b (names_from [] T f.variables) (names_from [] U g.variables) (types_of_start T c f.may) (types_of_start U d g.may) f.cells g.cells l e in
-    record { tables = same_defaults [] T U r.defaults s.defaults k.tables; stores = k.cells; rest = k.rest }
+pub same_store : (p q : ℕ) (c d : CheckpointView) (a b : List ℕ) → IsReadable p c → IsReadable q d → length c.store ≡ length d.store → cell_lines c.names c.store ++ a ≡ cell_lines d.names d.store ++ b → IsSameStore c d a b
+same_store p q c d a b r s l e =
+    let k = one_cells p q c.names d.names c.store d.store a b (cells_of p c r) (cells_of q d s) l e in
+    record { names = k.names; stores = k.cells; rest = k.rest }
 
 -- among the waiting blocks
-blocks_on : (waiting : ℕ) (table : List Declared) (c : CheckpointView) (other : ℕ) (names : List Declared) (o : Option CheckpointView) (whole rest more : List ℕ) → LinesUpTo (at_blocks waiting table c) whole → IsBefore other names o
-    → whole ++ rest ≡ text_before other names o ++ more → GoesOn (at_blocks waiting table c) rest
-blocks_on waiting table c other names None whole rest more s b e =
-    absurd (other_head other (length names) c.next (length c.store) waiting (variable_lines names ++ more) (cell_lines table c.store ++ (block_lines c.blocks ++ rest)) b.0 b.1 (head_of table c waiting s.1 s.3)
-    (sym (append_assoc (header_line other (length names)) (10 ∷ variable_lines names) more) ∙ sym e ∙ ap (λ w. w ++ rest) s.0 ∙ flat_checkpoint waiting table c rest))
-blocks_on waiting table c other names (Some d) whole rest more s b e =
-    let few = (((b.1).fits).may).0 in
-    let h = same_checkpoint_head c.next d.next (length c.store) (length d.store) waiting (length d.blocks) (cell_lines table c.store ++ (block_lines c.blocks ++ rest)) (cell_lines names d.store ++ (block_lines d.blocks ++ more))
-    (head_of table c waiting s.1 s.3) (head_of names d (length d.blocks) b.1 few.few)
-    (sym (flat_checkpoint waiting table c rest) ∙ ap (λ w. w ++ rest) (sym s.0) ∙ e ∙ flat_checkpoint (length d.blocks) names d more) in
-    let k = same_store table names c d (block_lines c.blocks ++ rest) (block_lines d.blocks ++ more) s.1 b.1 h.vars h.rest in
-    let tables : table ≡ names = k.tables in
+blocks_on : (format waiting : ℕ) (c : CheckpointView) (other : ℕ) (table : List Declared) (o : Option CheckpointView) (whole rest more : List ℕ) → LinesUpTo (at_blocks format waiting c) whole → IsBefore other table o
+    → whole ++ rest ≡ text_before other table o ++ more → GoesOn (at_blocks format waiting c) rest
+blocks_on format waiting c other table None whole rest more s b e =
+    absurd (other_head other (length table) format c.next (length c.store) waiting (variable_lines table ++ more) (cell_lines c.names c.store ++ (block_lines c.blocks ++ rest)) b.0 b.1 (s.1).is_format (head_of format c waiting s.1 s.3)
+    (sym (append_assoc (header_line other (length table)) (10 ∷ variable_lines table) more) ∙ sym e ∙ ap (λ w. w ++ rest) s.0 ∙ flat_checkpoint format waiting c rest))
+blocks_on format waiting c other table (Some d) whole rest more s b e =
+    let few = ((b.1).fits).checkpoint in
+    let h = same_checkpoint_head format other c.next d.next (length c.store) (length d.store) waiting (length d.blocks) (cell_lines c.names c.store ++ (block_lines c.blocks ++ rest)) (cell_lines d.names d.store ++ (block_lines d.blocks ++ more))
+    (s.1).is_format (b.1).is_format (head_of format c waiting s.1 s.3) (head_of other d (length d.blocks) b.1 few.few)
+    (sym (flat_checkpoint format waiting c rest) ∙ ap (λ w. w ++ rest) (sym s.0) ∙ e ∙ flat_checkpoint other (length d.blocks) d more) in
+    let k = same_store format other c d (block_lines c.blocks ++ rest) (block_lines d.blocks ++ more) s.1 b.1 h.vars h.rest in
     let same : waiting ≡ length d.blocks = h.waiting in
-    let f = next_block table c d rest more s.1 (subst (λ (z : List Declared). IsReadable z d) (sym tables) b.1) k.stores h.next (omega (arith, same, s.2)) k.rest in
+    let f = next_block format c d rest more s.1 (subst (λ (p : ℕ). IsReadable p d) (sym h.formats) b.1) k.stores k.names h.next (omega (arith, same, s.2)) k.rest in
     record {
       line = block_line f.block;
-      next = with_blocks waiting table (record c { blocks = c.blocks ++ f.block ∷ [] });
+      next = with_blocks format waiting (record c { blocks = c.blocks ++ f.block ∷ [] });
       leads = (f.block, refl, f.may, refl);
       short = f.short;
       more = f.more;
@@ -243,15 +244,15 @@ blocks_on waiting table c other names (Some d) whole rest more s b e =
 abbrev pub IsHead : CheckerState → Type 0
 IsHead at_header = Unit {0}
 IsHead (at_variables format n table) = Unit {0}
-IsHead (at_cells next vars waiting table cells) = Unit {0}
-IsHead (at_blocks waiting table c) = Unit {0}
+IsHead (at_cells format next vars waiting names cells) = Unit {0}
+IsHead (at_blocks format waiting c) = Unit {0}
 IsHead (at_events start history) = ⊥
 
 pub goes_on : (p : CheckerState) (s : Start) (whole rest more : List ℕ) → IsHead p → LinesUpTo p whole → IsStart s → whole ++ rest ≡ start_text s ++ more → GoesOn p rest
 goes_on at_header s whole rest more h l b e = header_on s.format s.table s.checkpoint rest more b (ap (λ w. w ++ rest) (sym l) ∙ e)
 goes_on (at_variables format n table) s whole rest more h l b e = variables_on format n table s.format s.table s.checkpoint whole rest more l b e
-goes_on (at_cells next vars waiting table cells) s whole rest more h l b e = cells_on next vars waiting table cells s.format s.table s.checkpoint whole rest more l b e
-goes_on (at_blocks waiting table c) s whole rest more h l b e = blocks_on waiting table c s.format s.table s.checkpoint whole rest more l b e
+goes_on (at_cells format next vars waiting names cells) s whole rest more h l b e = cells_on format next vars waiting names cells s.format s.table s.checkpoint whole rest more l b e
+goes_on (at_blocks format waiting c) s whole rest more h l b e = blocks_on format waiting c s.format s.table s.checkpoint whole rest more l b e
 goes_on (at_events start history) s whole rest more h l b e = absurd h
 
 -- ---- a refusal by what comes next
@@ -263,8 +264,8 @@ head_never p whole rest h l never = λ s b more e.
 pub ReportsFault-strange : (r : CheckerState) (whole rest : List ℕ) → LinesUpTo r whole → NoNext r rest → (0 < length rest ⊎ (strange r ≡ BadHeader)) → ReportsFault (strange r) (whole ++ rest)
 ReportsFault-strange at_header whole rest s never some = head_never at_header whole rest tt s never
 ReportsFault-strange (at_variables format n table) whole rest s never some = head_never (at_variables format n table) whole rest tt s never
-ReportsFault-strange (at_cells next vars waiting table cells) whole rest s never some = head_never (at_cells next vars waiting table cells) whole rest tt s never
-ReportsFault-strange (at_blocks waiting table c) whole rest s never some = head_never (at_blocks waiting table c) whole rest tt s never
+ReportsFault-strange (at_cells format next vars waiting names cells) whole rest s never some = head_never (at_cells format next vars waiting names cells) whole rest tt s never
+ReportsFault-strange (at_blocks format waiting c) whole rest s never some = head_never (at_blocks format waiting c) whole rest tt s never
 ReportsFault-strange (at_events start history) whole rest s never (inl some) =
     (start, history, rest, record { text = ap (λ w. w ++ rest) s.0; start = s.1; events = s.2; legal = s.3 }, refl, some, never)
 ReportsFault-strange (at_events start history) whole rest s never (inr e) = absurd (cc)
@@ -284,22 +285,22 @@ no_line_end p line h = λ other q k short after e. no_feed_at_end line other aft
 pub NoNext-line : (r : CheckerState) (line more : List ℕ) → NoFeed line → IsStrange r line → NoNext r (line ++ 10 ∷ more)
 NoNext-line at_header line more h never = no_line_line at_header line more h never
 NoNext-line (at_variables format m table) line more h never = no_line_line (at_variables format m table) line more h never
-NoNext-line (at_cells next vars waiting table cells) line more h never = no_line_line (at_cells next vars waiting table cells) line more h never
-NoNext-line (at_blocks waiting table c) line more h never = no_line_line (at_blocks waiting table c) line more h never
-NoNext-line (at_events start history) line more h never = λ g fits may short after e. never g fits may (sym (cut_unique line more (event_line g) after h (event_no_feed start.table g fits) e).line)
+NoNext-line (at_cells format next vars waiting names cells) line more h never = no_line_line (at_cells format next vars waiting names cells) line more h never
+NoNext-line (at_blocks format waiting c) line more h never = no_line_line (at_blocks format waiting c) line more h never
+NoNext-line (at_events start history) line more h never = λ g fits may short after e. never g fits may (sym (cut_unique line more (event_line g) after h (event_no_feed (names_after start history) g fits) e).line)
 
 pub NoNext-long : (r : CheckerState) (line more : List ℕ) → NoFeed line → max_line < length line → NoNext r (line ++ more)
 NoNext-long at_header line more h long = no_line_long at_header line more h long
 NoNext-long (at_variables format m table) line more h long = no_line_long (at_variables format m table) line more h long
-NoNext-long (at_cells next vars waiting table cells) line more h long = no_line_long (at_cells next vars waiting table cells) line more h long
-NoNext-long (at_blocks waiting table c) line more h long = no_line_long (at_blocks waiting table c) line more h long
+NoNext-long (at_cells format next vars waiting names cells) line more h long = no_line_long (at_cells format next vars waiting names cells) line more h long
+NoNext-long (at_blocks format waiting c) line more h long = no_line_long (at_blocks format waiting c) line more h long
 NoNext-long (at_events start history) line more h long = λ g fits may short after e. no_cut line more (event_line g) after h (omega arith) e
 
 pub NoNext-end : (r : CheckerState) (line : List ℕ) → NoFeed line → NoNext r line
 NoNext-end at_header line h = no_line_end at_header line h
 NoNext-end (at_variables format m table) line h = no_line_end (at_variables format m table) line h
-NoNext-end (at_cells next vars waiting table cells) line h = no_line_end (at_cells next vars waiting table cells) line h
-NoNext-end (at_blocks waiting table c) line h = no_line_end (at_blocks waiting table c) line h
+NoNext-end (at_cells format next vars waiting names cells) line h = no_line_end (at_cells format next vars waiting names cells) line h
+NoNext-end (at_blocks format waiting c) line h = no_line_end (at_blocks format waiting c) line h
 NoNext-end (at_events start history) line h = λ g fits may short after e. no_feed_at_end line (event_line g) after h e
 
 -- ---- a byte more
@@ -340,8 +341,8 @@ ReportsFault-refused r line taken more e h (inr (inl k)) =
     tells_at e r line taken (10 ∷ more) h k.0 (ReportsFault-strange r h.whole (line ++ 10 ∷ more) h.lines (NoNext-line r line more h.one_line k.1) (inl (some_more line more 10)))
 ReportsFault-refused at_header line taken more e h (inr (inr k)) = absurd k
 ReportsFault-refused (at_variables format n table) line taken more e h (inr (inr k)) = absurd k
-ReportsFault-refused (at_cells next vars waiting table cells) line taken more e h (inr (inr k)) = absurd k
-ReportsFault-refused (at_blocks waiting table c) line taken more e h (inr (inr k)) = absurd k
+ReportsFault-refused (at_cells format next vars waiting names cells) line taken more e h (inr (inr k)) = absurd k
+ReportsFault-refused (at_blocks format waiting c) line taken more e h (inr (inr k)) = absurd k
 ReportsFault-refused (at_events start history) line taken more e h (inr (inr k)) =
     let s = h.lines in
     subst (λ (x : HistoryFault). ReportsFault x (taken ++ 10 ∷ more)) (sym k.5) (
@@ -394,8 +395,8 @@ refused_at r line more e plain short (inl none) = inr (inl none)
 refused_at r line more e plain short (inr (inl k)) = inr (inr (inl (k.0, NoNext-line r line more plain k.1)))
 refused_at at_header line more e plain short (inr (inr k)) = absurd k
 refused_at (at_variables format n table) line more e plain short (inr (inr k)) = absurd k
-refused_at (at_cells next vars waiting table cells) line more e plain short (inr (inr k)) = absurd k
-refused_at (at_blocks waiting table c) line more e plain short (inr (inr k)) = absurd k
+refused_at (at_cells format next vars waiting names cells) line more e plain short (inr (inr k)) = absurd k
+refused_at (at_blocks format waiting c) line more e plain short (inr (inr k)) = absurd k
 refused_at (at_events start history) line more e plain short (inr (inr k)) =
     inr (inr (inr (k.0, more, ap (λ x. x ++ 10 ∷ more) (sym k.1), k.2, k.3, subst IsShort (sym k.1) short, k.4, k.5)))
 
@@ -404,15 +405,15 @@ header_strange : (format m : ℕ) (line : List ℕ) (q : CheckerState) → IsFor
 header_strange format m line q read e small many (inl k) =
     let same : m ≡ k.1 = (header_same format k.0 m k.1 read k.2 small (omega (arith, k.4)) (e ∙ sym k.3)).1 in omega (arith, same, k.4)
 header_strange format m line q read e small many (inr k) =
-    let h = k.3 in
-    checkpoint_header_new k.0 k.1 k.2 format m (omega (arith, h.tickets)) (omega (arith, h.vars)) (omega (arith, h.waiting)) read small (k.4 ∙ sym e)
+    let h = k.5 in
+    checkpoint_header_new k.0 k.1 k.2 k.3 format m k.4 (omega (arith, h.tickets)) (omega (arith, h.vars)) (omega (arith, h.waiting)) read small (k.6 ∙ sym e)
 
 pub too_many : (format m : ℕ) (line : List ℕ) → IsFormat format → header_line format m ≡ line → m < 2 ^ 32 → max_cells < m → IsStrange at_header line
 too_many format m line read e small many = λ q k. header_strange format m line q read e small many k
 
 -- a line of an event that the format lacks
-pub unfit : (start : Start) (history : List Event) (e : Event) → FitsTable start.table e → (FitsFormat start.format e → ⊥) → IsStrange (at_events start history) (event_line e)
-unfit start history e f none = λ d fits may k. none (subst (FitsFormat start.format) (event_same start.table d e fits f k) may)
+pub unfit : (start : Start) (history : List Event) (e : Event) → FitsNames (names_after start history) e → (FitsFormat start.format e → ⊥) → IsStrange (at_events start history) (event_line e)
+unfit start history e f none = λ d fits may k. none (subst (FitsFormat start.format) (event_same (names_after start history) d e fits f k) may)
 
 -- ---- the same, as the code has it
 
@@ -490,19 +491,19 @@ before_strange s keep p e i =
     ap strange (sym at)
 
 -- among the variables too
-pub declaring_strange : (s : Stage) (keep : Bool) (format vars : ℕ) (names : List Declared) (p : CheckerState) → s ≡ Declaring keep format vars names → IsStage s p → BadHeader ≡ strange p
-declaring_strange s keep format vars names p e i =
-    let at : p ≡ at_variables format vars names = subst (λ (x : Stage). IsStage x p) e i in
+pub declaring_strange : (s : Stage) (keep : Bool) (format vars : ℕ) (table : List Declared) (p : CheckerState) → s ≡ Declaring keep format vars table → IsStage s p → BadHeader ≡ strange p
+declaring_strange s keep format vars table p e i =
+    let at : p ≡ at_variables format vars table = subst (λ (x : Stage). IsStage x p) e i in
     ap strange (sym at)
 
 -- among the variables of a checkpoint
-pub cells_strange : (s : Stage) (keep : Bool) (h : CheckpointHeader) (names : List Declared) (cells : Vec Cell) (p : CheckerState) → s ≡ AtCells keep h names cells → IsStage s p → BadHeader ≡ strange p
+pub cells_strange : (s : Stage) (keep : Bool) (h : CheckpointHeader) (names : List Named) (cells : Vec Cell) (p : CheckerState) → s ≡ AtCells keep h names cells → IsStage s p → BadHeader ≡ strange p
 cells_strange s keep h names cells p e i =
-    let at : p ≡ at_cells h.next h.vars h.waiting names cells.items = subst (λ (x : Stage). IsStage x p) e i in
+    let at : p ≡ at_cells h.format h.next h.vars h.waiting names cells.items = subst (λ (x : Stage). IsStage x p) e i in
     ap strange (sym at)
 
 -- and among its waiting blocks
-pub blocks_strange : (s : Stage) (keep : Bool) (waiting : ℕ) (names : List Declared) (c : CheckpointView) (p : CheckerState) → s ≡ AtBlocks keep waiting names c → IsStage s p → BadHeader ≡ strange p
-blocks_strange s keep waiting names c p e i =
-    let at : p ≡ at_blocks waiting names c = subst (λ (x : Stage). IsStage x p) e i in
+pub blocks_strange : (s : Stage) (keep : Bool) (format waiting : ℕ) (c : CheckpointView) (p : CheckerState) → s ≡ AtBlocks keep format waiting c → IsStage s p → BadHeader ≡ strange p
+blocks_strange s keep format waiting c p e i =
+    let at : p ≡ at_blocks format waiting c = subst (λ (x : Stage). IsStage x p) e i in
     ap strange (sym at)

@@ -1,5 +1,5 @@
 -- The lines of headers and of variables are short, those of checkpoints too.
-use Rattle.std.proofs.Common.{◌≡◌, ℕ, zero, suc, ◌+◌, ◌*◌, ◌/◌, ◌%◌, ◌≤◌, Bool, true, false, cond, List, [], ◌∷◌, ◌++◌, length, Option, Some, None, refl, arith, length-append, codes, pos, negsuc, IsTrue}
+use Rattle.std.proofs.Common.{◌≡◌, ℕ, zero, suc, ◌+◌, ◌*◌, ◌/◌, ◌%◌, ◌≤◌, Bool, true, false, cond, List, [], ◌∷◌, ◌++◌, length, Option, Some, None, refl, arith, length-append, codes, pos, negsuc, IsTrue, inl, inr}
 use Rattle.std.specs.Prelude.{◌&&◌, nat_lt, nat_le, not}
 use Rattle.std.specs.Char.{digit_char}
 use Rattle.std.specs.List.{list_all}
@@ -16,17 +16,22 @@ use Rattle.stm_terms.specs.Names.{is_name_text, starts_lower, is_word_byte, is_r
 use Rattle.stm_terms.specs.Texts.{refs_text, type_text}
 use Rattle.stm_store.specs.declared.cell.Cell.{Cell}
 use Rattle.stm_store.specs.Tables.{Declared}
-use Rattle.stm_event_lines.specs.CheckpointLines.{FitsCell, cell_line, checkpoint_format, checkpoint_header_line}
+use Rattle.stm_event_lines.specs.CheckpointLines.{FitsCell, IsCheckpointFormat, cell_line, checkpoint_header_line}
 use Rattle.stm_event_lines.specs.Fits.{FitsValue, FitsVariable, Is32Bit}
 use Rattle.stm_history.specs.Judgement.{IsShort}
 use Rattle.stm_event_lines.specs.Lines.{IsFormat, header_line, variable_line, value_data}
 use Rattle.stm_events.specs.SlowDesk.{max_cells}
 
+format_low : (format : ℕ) → IsFormat format → format ≤ 5
+format_low format (inl k) = omega (arith, k.1)
+format_low format (inr e) = omega (arith, e)
+
 pub header_short : (format n : ℕ) → IsFormat format → n ≤ max_cells → IsShort (header_line format n)
 unfolding header_line escape_byte
 header_short format n k h =
+    let low = format_low format k in
     let d = length-decimal-le 7 n (omega arith) (omega arith) (omega arith) in
-    let f = length-decimal-le 10 format (omega arith) (omega arith) (omega (arith, k.1)) in
+    let f = length-decimal-le 10 format (omega arith) (omega arith) (omega (arith, low)) in
     simp length-append (omega (arith, d, f))
 
 -- ---- a string in quotes is at most six times as long
@@ -94,13 +99,18 @@ variable_short d f =
 
 -- ---- checkpoints
 
-pub checkpoint_header_short : (next vars waiting : ℕ) → Is32Bit next → Is32Bit vars → Is32Bit waiting → IsShort (checkpoint_header_line next vars waiting)
+checkpoint_format_low : (format : ℕ) → IsCheckpointFormat format → format ≤ 5
+checkpoint_format_low format (inl e) = omega (arith, e)
+checkpoint_format_low format (inr e) = omega (arith, e)
+
+pub checkpoint_header_short : (format next vars waiting : ℕ) → IsCheckpointFormat format → Is32Bit next → Is32Bit vars → Is32Bit waiting → IsShort (checkpoint_header_line format next vars waiting)
 unfolding checkpoint_header_line escape_byte
-checkpoint_header_short next vars waiting h k l =
+checkpoint_header_short format next vars waiting i h k l =
+    let low = checkpoint_format_low format i in
     let d = length-decimal-le 20 next (omega arith) (omega arith) (omega arith) in
     let e = length-decimal-le 20 vars (omega arith) (omega arith) (omega arith) in
     let f = length-decimal-le 20 waiting (omega arith) (omega arith) (omega arith) in
-    let g = length-decimal-le 10 checkpoint_format (omega arith) (omega arith) (omega arith) in
+    let g = length-decimal-le 10 format (omega arith) (omega arith) (omega (arith, low)) in
     simp length-append (omega (arith, d, e, f, g))
 
 pub cell_short : (name : Option (List ℕ)) (c : Cell) → FitsCell name c → IsShort (cell_line name c)

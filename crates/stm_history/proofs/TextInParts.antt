@@ -1,18 +1,20 @@
 -- A text written part by part.
-use Rattle.std.proofs.Common.{ℕ, zero, suc, IfSome, None, ◌+◌, ◌-◌, List, length, arith, ap, ◌∙◌, ◌++◌, take, drop, Option, Some, sym, subst, append_assoc, [], ◌∷◌, ◌≡◌, ◌<◌, get_or, refl, add-one}
-use Rattle.std.specs.Prelude.{option_map, slice_get}
-use Rattle.std.proofs.Math.Seq.{take-length, take-suc, drop-cons, drop-nil}
+use Rattle.std.proofs.Common.{ℕ, zero, suc, IfSome, ◌+◌, ◌-◌, List, length, arith, ap, ◌∙◌, ◌++◌, take, drop, Option, Some, sym, subst, append_assoc, [], ◌∷◌, ◌≡◌, ◌<◌, get_or, refl, add-one}
+use Rattle.std.specs.Prelude.{slice_get}
+use Rattle.std.proofs.Math.Seq.{take-length, take-suc, drop-cons}
 use Rattle.std.proofs.lemmas.List.{length-drop, length-take, take-append-drop}
 use Rattle.std.proofs.KnownBytes.{Appends-trans}
 use Rattle.std.specs.Io.KnownBytes.{Appends}
 use Rattle.stm_store.specs.declared.cell.Cell.{Cell}
+use Rattle.stm_store.specs.Naming.{Named, name_numbered}
 use Rattle.stm_store.specs.Tables.{Declared}
 use Rattle.stm_events.specs.declared.event.Event.{Event}
 use Rattle.stm_machine.specs.declared.checkpoint.CheckpointBlock.{CheckpointBlock}
 use Rattle.stm_machine.specs.Checkpoints.{CheckpointView}
 use Rattle.stm_event_lines.specs.CheckpointLines.{cell_line, checkpoint_header_line}
-use Rattle.stm_event_lines.specs.Lines.{latest_format, event_line, header_line, variable_line}
-use Rattle.stm_history.specs.HistoryText.{block_line, block_lines, cell_lines, checkpoint_text, event_lines, head_text, variable_lines, WritesFront}
+use Rattle.stm_event_lines.specs.Lines.{event_line, header_line, variable_line}
+use Rattle.stm_history.proofs.CellNames.{lines-append}
+use Rattle.stm_history.specs.HistoryText.{block_line, block_lines, cell_lines, cell_lines_from, checkpoint_text, history_text, event_lines, head_text, variable_lines, WritesFront}
 
 -- the rest of a slice
 pub drop-all : (at : ℕ) (text : List ℕ) → take (length text - at) (drop at text) ≡ drop at text
@@ -71,50 +73,49 @@ line_whole : (line more : List ℕ) (a b c : Option (List ℕ)) → Appends a b 
 line_whole line more a b c p q = subst (Appends a c) (append_assoc line (10 ∷ []) more) (Appends-trans a b c _ _ p q)
 
 -- ---- the lines of a table
-head_is : (table : List Declared) (n : ℕ) → n ≡ length table → header_line latest_format n ++ 10 ∷ variable_lines table ≡ head_text latest_format (length table) table
-head_is table n e = ap (λ (m : ℕ). header_line latest_format m ++ 10 ∷ variable_lines table) e
+head_is : (format : ℕ) (table : List Declared) (n : ℕ) → n ≡ length table → header_line format n ++ 10 ∷ variable_lines table ≡ head_text format (length table) table
+head_is format table n e = ap (λ (m : ℕ). header_line format m ++ 10 ∷ variable_lines table) e
 
-pub table_1 : (table : List Declared) (n : ℕ) (a b : Option (List ℕ)) → n ≡ length table → WritesFront a b (header_line latest_format n ++ 10 ∷ []) → WritesFront a b (head_text latest_format (length table) table)
-table_1 table n a b e p = subst (WritesFront a b) (head_is table n e) (line_part _ _ a b p)
+pub table_1 : (format : ℕ) (table : List Declared) (n : ℕ) (a b : Option (List ℕ)) → n ≡ length table → WritesFront a b (header_line format n ++ 10 ∷ []) → WritesFront a b (head_text format (length table) table)
+table_1 format table n a b e p = subst (WritesFront a b) (head_is format table n e) (line_part _ _ a b p)
 
-pub table_2 : (table : List Declared) (n : ℕ) (a b c : Option (List ℕ)) → n ≡ length table → Appends a b (header_line latest_format n ++ 10 ∷ []) → WritesFront b c (variable_lines table)
-    → WritesFront a c (head_text latest_format (length table) table)
-table_2 table n a b c e p q = subst (WritesFront a c) (head_is table n e) (more_part _ _ a b c p q)
+pub table_2 : (format : ℕ) (table : List Declared) (n : ℕ) (a b c : Option (List ℕ)) → n ≡ length table → Appends a b (header_line format n ++ 10 ∷ []) → WritesFront b c (variable_lines table)
+    → WritesFront a c (head_text format (length table) table)
+table_2 format table n a b c e p q = subst (WritesFront a c) (head_is format table n e) (more_part _ _ a b c p q)
 
-pub table_whole : (table : List Declared) (n : ℕ) (a b c : Option (List ℕ)) → n ≡ length table → Appends a b (header_line latest_format n ++ 10 ∷ []) → Appends b c (variable_lines table)
-    → Appends a c (head_text latest_format (length table) table)
-table_whole table n a b c e p q = subst (Appends a c) (head_is table n e) (line_whole _ _ a b c p q)
+pub table_whole : (format : ℕ) (table : List Declared) (n : ℕ) (a b c : Option (List ℕ)) → n ≡ length table → Appends a b (header_line format n ++ 10 ∷ []) → Appends b c (variable_lines table)
+    → Appends a c (head_text format (length table) table)
+table_whole format table n a b c e p q = subst (Appends a c) (head_is format table n e) (line_whole _ _ a b c p q)
 
 -- ---- the lines of a checkpoint
 -- what its first line, its store and its waiting blocks were written from
-pub record IsWrittenFrom (c : CheckpointView) (k m n : ℕ) (cells : List Cell) (blocks : List CheckpointBlock) : Type 0 where
+pub record IsWrittenFrom (c : CheckpointView) (k m n : ℕ) (names : List Named) (cells : List Cell) (blocks : List CheckpointBlock) : Type 0 where
   pub next : k ≡ c.next
   pub vars : m ≡ length c.store
   pub waiting : n ≡ length c.blocks
+  pub names_are : names ≡ c.names
   pub cells_are : cells ≡ c.store
   pub blocks_are : blocks ≡ c.blocks
 
-checkpoint_is : (table : List Declared) (c : CheckpointView) (k m n : ℕ) (cells : List Cell) (blocks : List CheckpointBlock) → IsWrittenFrom c k m n cells blocks
-    → (checkpoint_header_line k m n ++ 10 ∷ cell_lines table cells) ++ block_lines blocks ≡ checkpoint_text (length c.blocks) table c
-checkpoint_is table c k m n cells blocks w =
-    let p = w.next in let q = w.vars in let r = w.waiting in let s = w.cells_are in let t = w.blocks_are in
-    λ i. (checkpoint_header_line (p i) (q i) (r i) ++ 10 ∷ cell_lines table (s i)) ++ block_lines (t i)
+module _ (format : ℕ) (v : CheckpointView) (k m n : ℕ) (names : List Named) (cells : List Cell) (blocks : List CheckpointBlock) (w : IsWrittenFrom v k m n names cells blocks) where
+  checkpoint_is : (checkpoint_header_line format k m n ++ 10 ∷ cell_lines names cells) ++ block_lines blocks ≡ checkpoint_text format (length v.blocks) v
+  checkpoint_is =
+      let p = w.next in let q = w.vars in let r = w.waiting in let u = w.names_are in let s = w.cells_are in let t = w.blocks_are in
+      λ i. (checkpoint_header_line format (p i) (q i) (r i) ++ 10 ∷ cell_lines (u i) (s i)) ++ block_lines (t i)
 
-pub checkpoint_1 : (table : List Declared) (v : CheckpointView) (k m n : ℕ) (cells : List Cell) (blocks : List CheckpointBlock) (a b : Option (List ℕ)) → IsWrittenFrom v k m n cells blocks
-    → WritesFront a b (checkpoint_header_line k m n ++ 10 ∷ []) → WritesFront a b (checkpoint_text (length v.blocks) table v)
-checkpoint_1 table v k m n cells blocks a b w p = subst (WritesFront a b) (checkpoint_is table v k m n cells blocks w) (part_within a b _ _ (line_part _ _ a b p))
+  pub checkpoint_1 : (a b : Option (List ℕ)) → WritesFront a b (checkpoint_header_line format k m n ++ 10 ∷ []) → WritesFront a b (checkpoint_text format (length v.blocks) v)
+  checkpoint_1 a b p = subst (WritesFront a b) checkpoint_is (part_within a b _ _ (line_part _ _ a b p))
 
-pub checkpoint_2 : (table : List Declared) (v : CheckpointView) (k m n : ℕ) (cells : List Cell) (blocks : List CheckpointBlock) (a b c : Option (List ℕ)) → IsWrittenFrom v k m n cells blocks
-    → Appends a b (checkpoint_header_line k m n ++ 10 ∷ []) → WritesFront b c (cell_lines table cells) → WritesFront a c (checkpoint_text (length v.blocks) table v)
-checkpoint_2 table v k m n cells blocks a b c w p q = subst (WritesFront a c) (checkpoint_is table v k m n cells blocks w) (part_within a c _ _ (more_part _ _ a b c p q))
+  pub checkpoint_2 : (a b c : Option (List ℕ)) → Appends a b (checkpoint_header_line format k m n ++ 10 ∷ []) → WritesFront b c (cell_lines names cells) → WritesFront a c (checkpoint_text format (length v.blocks) v)
+  checkpoint_2 a b c p q = subst (WritesFront a c) checkpoint_is (part_within a c _ _ (more_part _ _ a b c p q))
 
-pub checkpoint_3 : (table : List Declared) (v : CheckpointView) (k m n : ℕ) (cells : List Cell) (blocks : List CheckpointBlock) (a b c d : Option (List ℕ)) → IsWrittenFrom v k m n cells blocks
-    → Appends a b (checkpoint_header_line k m n ++ 10 ∷ []) → Appends b c (cell_lines table cells) → WritesFront c d (block_lines blocks) → WritesFront a d (checkpoint_text (length v.blocks) table v)
-checkpoint_3 table v k m n cells blocks a b c d w p q r = subst (WritesFront a d) (checkpoint_is table v k m n cells blocks w) (part_after a c d _ _ (line_whole _ _ a b c p q) r)
+  pub checkpoint_3 : (a b c d : Option (List ℕ)) → Appends a b (checkpoint_header_line format k m n ++ 10 ∷ []) → Appends b c (cell_lines names cells) → WritesFront c d (block_lines blocks)
+      → WritesFront a d (checkpoint_text format (length v.blocks) v)
+  checkpoint_3 a b c d p q r = subst (WritesFront a d) checkpoint_is (part_after a c d _ _ (line_whole _ _ a b c p q) r)
 
-pub checkpoint_whole : (table : List Declared) (v : CheckpointView) (k m n : ℕ) (cells : List Cell) (blocks : List CheckpointBlock) (a b c d : Option (List ℕ)) → IsWrittenFrom v k m n cells blocks
-    → Appends a b (checkpoint_header_line k m n ++ 10 ∷ []) → Appends b c (cell_lines table cells) → Appends c d (block_lines blocks) → Appends a d (checkpoint_text (length v.blocks) table v)
-checkpoint_whole table v k m n cells blocks a b c d w p q r = subst (Appends a d) (checkpoint_is table v k m n cells blocks w) (Appends-trans a c d _ _ (line_whole _ _ a b c p q) r)
+  pub checkpoint_whole : (a b c d : Option (List ℕ)) → Appends a b (checkpoint_header_line format k m n ++ 10 ∷ []) → Appends b c (cell_lines names cells) → Appends c d (block_lines blocks)
+      → Appends a d (checkpoint_text format (length v.blocks) v)
+  checkpoint_whole a b c d p q r = subst (Appends a d) checkpoint_is (Appends-trans a c d _ _ (line_whole _ _ a b c p q) r)
 
 -- ---- the variables of a table
 
@@ -141,43 +142,37 @@ whole_at table i a b c h p q =
     whole_of variable_lines variable_lines-append table i d.one h d.same a b c p (subst (λ (o : Option Declared). IfSome o (λ d. Appends b c (variable_lines (d ∷ [])))) d.there q)
 
 -- ---- the variables of a store
-cell_lines-append : (table : List Declared) (xs ys : List Cell) → cell_lines table (xs ++ ys) ≡ cell_lines table xs ++ cell_lines (drop (length xs) table) ys
-cell_lines-append table [] ys = refl
-cell_lines-append [] (c ∷ xs) ys =
-    ap (λ l. cell_line None c ++ 10 ∷ l) (cell_lines-append [] xs ys ∙ ap (λ (t : List Declared). cell_lines [] xs ++ cell_lines t ys) (drop-nil (length xs)))
-    ∙ sym (append_assoc (cell_line None c) (10 ∷ cell_lines [] xs) (cell_lines [] ys))
-cell_lines-append (d ∷ ds) (c ∷ xs) ys =
-    ap (λ l. cell_line (Some d.name) c ++ 10 ∷ l) (cell_lines-append ds xs ys) ∙ sym (append_assoc (cell_line (Some d.name) c) (10 ∷ cell_lines ds xs) (cell_lines (drop (length xs) ds) ys))
+cells_next : (names : List Named) (cells : List Cell) (i : ℕ) (c : Cell) → i < length cells → c ≡ get_or cells i c
+    → cell_lines names (take (i + 1) cells) ≡ cell_lines names (take i cells) ++ (cell_line (name_numbered i names) c ++ 10 ∷ [])
+cells_next names cells i c h e =
+    let size : 0 + length (take i cells) ≡ i = omega (arith, length-take i cells) in
+    ap (cell_lines names) (next_at cells i c h e) ∙ lines-append 0 names (take i cells) (c ∷ [])
+    ∙ ap (λ (n : ℕ). cell_lines names (take i cells) ++ cell_lines_from n names (c ∷ [])) size
 
-abbrev pub name_at : List Declared → ℕ → Option (List ℕ)
-name_at table i = option_map (λ (d : Declared). d.name) (slice_get table i)
+cells_cut : (names : List Named) (cells : List Cell) (i : ℕ) → cell_lines names cells ≡ cell_lines names (take i cells) ++ cell_lines_from (0 + length (take i cells)) names (drop i cells)
+cells_cut names cells i = ap (cell_lines names) (sym (take-append-drop i cells)) ∙ lines-append 0 names (take i cells) (drop i cells)
 
-one_cell : (table : List Declared) (i : ℕ) (c : Cell) → cell_lines (drop i table) (c ∷ []) ≡ cell_line (name_at table i) c ++ 10 ∷ []
-one_cell [] i c = ap (λ (t : List Declared). cell_lines t (c ∷ [])) (drop-nil i)
-one_cell (d ∷ ds) zero c = refl
-one_cell (d ∷ ds) (suc i) c = one_cell ds i c
-
-cells_next : (table : List Declared) (cells : List Cell) (i : ℕ) (c : Cell) → i < length cells → c ≡ get_or cells i c
-    → cell_lines table (take (i + 1) cells) ≡ cell_lines table (take i cells) ++ (cell_line (name_at table i) c ++ 10 ∷ [])
-cells_next table cells i c h e =
-    let size : length (take i cells) ≡ i = omega (arith, length-take i cells) in
-    ap (cell_lines table) (next_at cells i c h e) ∙ cell_lines-append table (take i cells) (c ∷ [])
-    ∙ ap (λ (n : ℕ). cell_lines table (take i cells) ++ cell_lines (drop n table) (c ∷ [])) size ∙ ap (λ (l : List ℕ). cell_lines table (take i cells) ++ l) (one_cell table i c)
-
-cells_cut : (table : List Declared) (cells : List Cell) (i : ℕ) → cell_lines table cells ≡ cell_lines table (take i cells) ++ cell_lines (drop (length (take i cells)) table) (drop i cells)
-cells_cut table cells i = ap (cell_lines table) (sym (take-append-drop i cells)) ∙ cell_lines-append table (take i cells) (drop i cells)
-
-pub cells_whole_at : (table : List Declared) (cells : List Cell) (i : ℕ) (a b c : Option (List ℕ)) → i < length cells → Appends a b (cell_lines table (take i cells))
-    → IfSome (slice_get cells i) (λ x. Appends b c (cell_line (name_at table i) x ++ 10 ∷ [])) → Appends a c (cell_lines table (take (i + 1) cells))
-cells_whole_at table cells i a b c h p q =
+pub cells_whole_at : (names : List Named) (cells : List Cell) (i : ℕ) (a b c : Option (List ℕ)) → i < length cells → Appends a b (cell_lines names (take i cells))
+    → IfSome (slice_get cells i) (λ x. Appends b c (cell_line (name_numbered i names) x ++ 10 ∷ [])) → Appends a c (cell_lines names (take (i + 1) cells))
+cells_whole_at names cells i a b c h p q =
     let d = item_at cells i h in
-    let more : Appends b c (cell_line (name_at table i) d.one ++ 10 ∷ []) = subst (λ (o : Option Cell). IfSome o (λ x. Appends b c (cell_line (name_at table i) x ++ 10 ∷ []))) d.there q in
-    subst (Appends a c) (sym (cells_next table cells i d.one h d.same)) (Appends-trans a b c _ _ p more)
+    let more : Appends b c (cell_line (name_numbered i names) d.one ++ 10 ∷ []) = subst (λ (o : Option Cell). IfSome o (λ x. Appends b c (cell_line (name_numbered i names) x ++ 10 ∷ []))) d.there q in
+    subst (Appends a c) (sym (cells_next names cells i d.one h d.same)) (Appends-trans a b c _ _ p more)
 
-pub cells_part_at : (table : List Declared) (cells : List Cell) (i : ℕ) (a b c : Option (List ℕ)) → i < length cells → Appends a b (cell_lines table (take i cells))
-    → IfSome (slice_get cells i) (λ x. WritesFront b c (cell_line (name_at table i) x ++ 10 ∷ [])) → WritesFront a c (cell_lines table cells)
-cells_part_at table cells i a b c h p q =
+pub cells_part_at : (names : List Named) (cells : List Cell) (i : ℕ) (a b c : Option (List ℕ)) → i < length cells → Appends a b (cell_lines names (take i cells))
+    → IfSome (slice_get cells i) (λ x. WritesFront b c (cell_line (name_numbered i names) x ++ 10 ∷ [])) → WritesFront a c (cell_lines names cells)
+cells_part_at names cells i a b c h p q =
     let d = item_at cells i h in
-    let more : WritesFront b c (cell_line (name_at table i) d.one ++ 10 ∷ []) = subst (λ (o : Option Cell). IfSome o (λ x. WritesFront b c (cell_line (name_at table i) x ++ 10 ∷ []))) d.there q in
-    subst (WritesFront a c) (sym (cells_cut table cells (i + 1)))
-    (part_within a c _ _ (subst (WritesFront a c) (sym (cells_next table cells i d.one h d.same)) (part_after a b c _ _ p more)))
+    let more : WritesFront b c (cell_line (name_numbered i names) d.one ++ 10 ∷ []) = subst (λ (o : Option Cell). IfSome o (λ x. WritesFront b c (cell_line (name_numbered i names) x ++ 10 ∷ []))) d.there q in
+    subst (WritesFront a c) (sym (cells_cut names cells (i + 1)))
+    (part_within a c _ _ (subst (WritesFront a c) (sym (cells_next names cells i d.one h d.same)) (part_after a b c _ _ p more)))
+
+-- ---- whole histories
+-- the text in the format that is the other
+pub front_in : (format other : ℕ) (table : List Declared) (o : Option CheckpointView) (history : List Event) (a b : Option (List ℕ)) → format ≡ other
+    → WritesFront a b (history_text (record { format = format; table = table; checkpoint = o }) history) → WritesFront a b (history_text (record { format = other; table = table; checkpoint = o }) history)
+front_in format other table o history a b e p = subst (λ (k : ℕ). WritesFront a b (history_text (record { format = k; table = table; checkpoint = o }) history)) e p
+
+pub whole_in : (format other : ℕ) (table : List Declared) (o : Option CheckpointView) (history : List Event) (a b : Option (List ℕ)) → format ≡ other
+    → Appends a b (history_text (record { format = format; table = table; checkpoint = o }) history) → Appends a b (history_text (record { format = other; table = table; checkpoint = o }) history)
+whole_in format other table o history a b e p = subst (λ (k : ℕ). Appends a b (history_text (record { format = k; table = table; checkpoint = o }) history)) e p

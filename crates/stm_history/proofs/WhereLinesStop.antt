@@ -1,5 +1,5 @@
 -- What is reported where lines stop being accepted.
-use Rattle.std.proofs.Common.{◌≡◌, ◌≢◌, ℕ, ◌++◌, ◌∷◌, List, [], take, drop, refl, sym, ap, ◌∙◌, subst, append-nil, ◌⊎◌, inl, inr, Result, Ok, Err, IfErr}
+use Rattle.std.proofs.Common.{◌≡◌, ◌≢◌, ℕ, ◌++◌, ◌∷◌, List, [], take, drop, refl, sym, ap, ◌∙◌, subst, append-nil, ◌⊎◌, inl, inr}
 use Rattle.std.proofs.lemmas.List.{take-append-drop}
 use Rattle.stm_history.specs.declared.files.check.Stage.{Stage}
 use Rattle.stm_history.specs.declared.files.explanation.Explanation.{Explanation}
@@ -7,9 +7,9 @@ use Rattle.stm_history.specs.declared.files.fault.HistoryFault.{HistoryFault}
 use Rattle.stm_history.specs.declared.files.fault.HistoryFault.TheVariants.{NoMemory, ReadFault}
 use Rattle.stm_history.specs.Checking.{CheckerState, at_header, at_variables, at_cells, at_blocks, at_events, Forbids, ForbidsNext, IsFaultAt, LinesUpTo, NoFeed, StopsAt, strange}
 use Rattle.stm_history.specs.Explanation.{Explains, IsAfterLine, ReportsWhy, line_after}
-use Rattle.stm_history.specs.Judgement.{ReportsFault}
 use Rattle.stm_event_lines.specs.Lines.{event_line}
 use Rattle.stm_history.specs.Stages.{IsStage, Reached}
+use Rattle.stm_history.specs.Starts.{names_after}
 use Rattle.stm_history.specs.Stopping.{IsAfter, IsReportedAfter}
 use Rattle.stm_history.proofs.CutsAtLineFeeds.{cut_unique, no_feed_at_end}
 use Rattle.stm_history.proofs.OneProgress.{one_progress}
@@ -36,10 +36,10 @@ same_line xs a ys b h k (inr e) (inr f) s = (cut_unique xs e.0 ys f.0 h k (ap (�
 forbids_line : (p : CheckerState) (line after : List ℕ) (f : HistoryFault) → NoFeed line → IsAfterLine after → ForbidsNext p (line ++ after) f → Forbids p line f
 forbids_line at_header line after f n a h = absurd h
 forbids_line (at_variables format m table) line after f n a h = absurd h
-forbids_line (at_cells next vars waiting table cells) line after f n a h = absurd h
-forbids_line (at_blocks waiting table c) line after f n a h = absurd h
+forbids_line (at_cells format next vars waiting names cells) line after f n a h = absurd h
+forbids_line (at_blocks format waiting c) line after f n a h = absurd h
 forbids_line (at_events start history) line after f n a h =
-    let feed = event_no_feed start.table h.0 h.3 in
+    let feed = event_no_feed (names_after start history) h.0 h.3 in
     let same : line ≡ event_line h.0 = same_line line after (event_line h.0) (10 ∷ h.1) n feed a (inr (h.1, refl)) h.2 in
     (h.0, sym same, h.3, h.4, h.6, h.7)
 

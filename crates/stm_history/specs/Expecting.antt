@@ -1,5 +1,5 @@
 -- What a machine expects in place of an event.
-use Rattle.std.specs.Prelude.{◌≡◌, ℕ, Bool, false, List, ◌∷◌, [], ◌++◌, Option, Some, Ok, IsTrue, string_bytes}
+use Rattle.std.specs.Prelude.{◌≡◌, ℕ, Bool, false, List, Some, Ok, IsTrue, string_bytes}
 use Rattle.stm_terms.specs.Names.{is_name_text}
 use Rattle.stm_store.specs.Naming.{Named}
 use Rattle.stm_events.specs.declared.event.Event.{Event}

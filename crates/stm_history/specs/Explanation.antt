@@ -1,6 +1,6 @@
 -- What is reported of the line at which a checker stopped: the line that would be accepted there for the same call, or why a desk
 -- refuses the call.
-use Rattle.std.specs.Prelude.{◌≡◌, ◌⊎◌, ℕ, ◌+◌, ◌<◌, Bool, nat_le, if◌then◌else◌, List, [], ◌∷◌, ◌++◌, length, Option, Some, None, option_map, option_and_then, string_bytes}
+use Rattle.std.specs.Prelude.{◌≡◌, ◌⊎◌, ℕ, ◌+◌, Bool, nat_le, if◌then◌else◌, List, [], ◌∷◌, ◌++◌, length, Option, Some, None, option_map, option_and_then, string_bytes}
 use Rattle.stm_terms.specs.declared.verdicts.Verdict.{Verdict}
 use Rattle.stm_store.specs.Naming.{Named}
 use Rattle.stm_events.specs.declared.errors.DeliverError.{DeliverError}
@@ -9,7 +9,7 @@ use Rattle.stm_events.specs.declared.event.Event.{Event}
 use Rattle.stm_events.specs.declared.event.What.{What}
 use Rattle.stm_events.specs.declared.event.What.TheVariants.{Submitted, Installed, Finished, Cancelled, Declared as DeclaredLate}
 use Rattle.stm_events.specs.Refusals.{submit_refused, cancel_refused, finish_refused, late_declare_refused}
-use Rattle.stm_events.specs.SlowDesk.{Waiter, Slow, Allows, find_waiter, is_current, max_clients, max_events, stale_after, verdict_on, waking, without_waiter}
+use Rattle.stm_events.specs.SlowDesk.{Waiter, Slow, Allows, find_waiter, is_current, max_events, stale_after, verdict_on, waking, without_waiter}
 use Rattle.stm_events.specs.States.{IsLegalFrom}
 use Rattle.stm_machine.specs.Machine.{event}
 use Rattle.stm_history.specs.declared.files.explanation.CallRefusal.{CallRefusal}
@@ -31,27 +31,27 @@ IsSameCall (Submitted t b) (Submitted u c) = b ≡ c
 IsSameCall (Submitted t b) (Installed u w) = ⊥
 IsSameCall (Submitted t b) (Finished u w m k) = ⊥
 IsSameCall (Submitted t b) (Cancelled u) = ⊥
-IsSameCall (Submitted t b) (DeclaredLate other type init) = ⊥
+IsSameCall (Submitted t b) (DeclaredLate other type first) = ⊥
 IsSameCall (Installed t v) (Submitted u c) = ⊥
 IsSameCall (Installed t v) (Installed u w) = t ≡ u
 IsSameCall (Installed t v) (Finished u w m k) = ⊥
 IsSameCall (Installed t v) (Cancelled u) = ⊥
-IsSameCall (Installed t v) (DeclaredLate other type init) = ⊥
+IsSameCall (Installed t v) (DeclaredLate other type first) = ⊥
 IsSameCall (Finished t v n stale) (Submitted u c) = ⊥
 IsSameCall (Finished t v n stale) (Installed u w) = ⊥
 IsSameCall (Finished t v n stale) (Finished u w m k) = t ≡ u
 IsSameCall (Finished t v n stale) (Cancelled u) = ⊥
-IsSameCall (Finished t v n stale) (DeclaredLate other type init) = ⊥
+IsSameCall (Finished t v n stale) (DeclaredLate other type first) = ⊥
 IsSameCall (Cancelled t) (Submitted u c) = ⊥
 IsSameCall (Cancelled t) (Installed u w) = ⊥
 IsSameCall (Cancelled t) (Finished u w m k) = ⊥
 IsSameCall (Cancelled t) (Cancelled u) = t ≡ u
-IsSameCall (Cancelled t) (DeclaredLate other type init) = ⊥
+IsSameCall (Cancelled t) (DeclaredLate other type first) = ⊥
 IsSameCall (DeclaredLate name kind value) (Submitted u c) = ⊥
 IsSameCall (DeclaredLate name kind value) (Installed u w) = ⊥
 IsSameCall (DeclaredLate name kind value) (Finished u w m k) = ⊥
 IsSameCall (DeclaredLate name kind value) (Cancelled u) = ⊥
-IsSameCall (DeclaredLate name kind value) (DeclaredLate other type init) = (name ≡ other) × (kind ≡ type) × (value ≡ init)
+IsSameCall (DeclaredLate name kind value) (DeclaredLate other type first) = (name ≡ other) × (kind ≡ type) × (value ≡ first)
 
 -- the verdict on the present store of the block that waits under a ticket
 abbrev pub present_verdict : Slow → Option Waiter → Option Verdict

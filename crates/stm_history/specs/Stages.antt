@@ -1,5 +1,5 @@
 -- The progress of each stage of the checker.
-use Rattle.std.specs.Prelude.{◌≡◌, ℕ, ◌<◌, ◌≤◌, Bool, true, List, length, Option, Some, None, is_some, ◌⊎◌}
+use Rattle.std.specs.Prelude.{◌≡◌, ℕ, ◌<◌, ◌≤◌, Bool, true, List, length, Option, Some, None, is_some}
 use Rattle.stm_store.specs.declared.table.DeclareError.{DeclareError}
 use Rattle.stm_store.specs.declared.table.DeclareError.TheVariants as declare
 use Rattle.stm_store.specs.Cells.{Covers, plains}
@@ -8,14 +8,13 @@ use Rattle.stm_store.specs.Tables.{Declared}
 use Rattle.stm_events.specs.declared.event.Event.{Event}
 use Rattle.stm_events.specs.SlowDesk.{max_cells, max_waiting}
 use Rattle.stm_machine.specs.Checkpoints.{CheckpointView}
-use Rattle.stm_event_lines.specs.Lines.{declaring_format, latest_format}
 use Rattle.stm_history.specs.declared.files.check.Stage.{Stage}
 use Rattle.stm_history.specs.declared.files.check.Stage.TheVariants.{Before, Declaring, AtCells, AtBlocks, Running}
 use Rattle.stm_history.specs.declared.files.fault.HistoryFault.{HistoryFault}
 use Rattle.stm_history.specs.declared.files.fault.HistoryFault.TheVariants.{BadHeader, NoMemory}
 use Rattle.stm_history.specs.Checking.{CheckerState, at_header, at_variables, at_cells, at_blocks, at_events, HasTaken, IsCheckpointHead, LeadsTo}
 use Rattle.stm_history.specs.Following.{Follows}
-use Rattle.stm_history.specs.Starts.{Start}
+use Rattle.stm_history.specs.Starts.{IsLatest}
 
 -- the progress is that of the stage
 abbrev pub IsStage : Stage → CheckerState → Type 0
@@ -43,12 +42,7 @@ IsRunning (AtCells keep h names cells) = ⊥
 IsRunning (AtBlocks keep format waiting c) = ⊥
 IsRunning (Running format table c r) = Unit {0}
 
--- the events of the stage go by the present rule: they are in a format that is written, or begin from a checkpoint
-abbrev pub IsLatest : ℕ → Option CheckpointView → Type 0
-IsLatest format None = (format ≡ latest_format) ⊎ (format ≡ declaring_format)
-IsLatest format (Some c) = Unit {0}
-
--- the same, and they are kept
+-- the lines are those of events, which go by the present rule, and they are kept
 abbrev pub IsLoaded : Stage → Type 0
 IsLoaded (Before keep) = ⊥
 IsLoaded (Declaring keep format vars table) = ⊥

@@ -1,5 +1,5 @@
 -- Where a history begins: with the first values of a table's variables, or from a checkpoint.
-use Rattle.std.specs.Prelude.{◌≡◌, ℕ, ⊤, Bool, true, false, if◌then◌else◌, List, [], ◌∷◌, Option, Some, None, Ok, option_map}
+use Rattle.std.specs.Prelude.{◌≡◌, ◌⊎◌, ℕ, ⊤, Bool, true, false, if◌then◌else◌, List, [], ◌∷◌, Option, Some, None, Ok, option_map}
 use Rattle.std.specs.List.{list_any}
 use Rattle.stm_store.specs.Naming.{Named, is_gapless}
 use Rattle.stm_store.specs.Tables.{Declared}
@@ -23,6 +23,11 @@ pub record Start : Type 0 where
 -- the state in which the history begins, by the rule of its format
 abbrev pub first_state : Start → Slow
 first_state s = started_by (rule_of s.format) s.table s.checkpoint
+
+-- a history goes by the present rule: it is in a format that is written, or begins from a checkpoint
+abbrev pub IsLatest : ℕ → Option CheckpointView → Type 0
+IsLatest format None = (format ≡ latest_format) ⊎ (format ≡ declaring_format)
+IsLatest format (Some c) = Unit {0}
 
 -- the state after these events
 abbrev pub state_after_start : Start → List Event → Slow
@@ -53,6 +58,10 @@ format_of_start (Some c) = if is_gapless c.names then checkpoint_format else dec
 -- the format in which a history is written
 abbrev pub format_for : Option CheckpointView → List Event → ℕ
 format_for checkpoint history = if declares history then declaring_format else format_of_start checkpoint
+
+-- the start of a history over a table, in the latest format
+abbrev pub table_start : List Declared → Start
+table_start table = record { format = latest_format; table = table; checkpoint = None }
 
 -- the start of a history as it is written
 abbrev pub written_start : List Declared → Option CheckpointView → List Event → Start

@@ -1,30 +1,28 @@
 //! The lines of a history that begins from a checkpoint, before its events.
 
 ghost use Rattle.std.specs.Prelude.{◌≡◌, ◌⊎◌, ◌↔◌, ◌≤◌, ◌<◌, ◌++◌, ◌∷◌, [], ℕ, List, IfOk, IfErr, OnOk, IsTrue, Some, length, option_map, string_bytes};
-ghost use Rattle.stm_store.specs.Cells.{plains, IsStore};
-ghost use Rattle.stm_store.specs.declared.cell.Cell.{Cell as AnyCell};
-ghost use Rattle.stm_terms.specs.Limits.{most_refs};
+ghost use Rattle.stm_store.specs.Cells.{plains, Covers, IsStore};
+ghost use Rattle.stm_store.specs.Naming.{named_uses, NumbersAreBelow};
 ghost use Rattle.stm_terms.specs.Names.{is_name_text};
-ghost use Rattle.stm_store.specs.Tables.{Declared};
 ghost use Rattle.stm_machine.specs.Checkpoints.{MayAdd, checkpoint_block};
-ghost use Rattle.stm_event_lines.specs.CheckpointLines.{FitsCell, FitsWaiting, cell_line, waiting_line};
-ghost use Rattle.stm_history.specs.Checking.{CheckerState, at_header, at_cells, at_blocks, IsCheckpointHead, LeadsToCells, MayRefuse, NamesCell};
+ghost use Rattle.stm_event_lines.specs.CheckpointLines.{FitsCell, FitsWaiting, IsCheckpointFormat, cell_line, waiting_line};
+ghost use Rattle.stm_history.specs.Checking.{CheckerState, at_header, at_cells, at_blocks, IsCheckpointHead, LeadsToCells, MayBeNamed, MayRefuse, with_name_of};
 ghost use Rattle.stm_history.specs.Checking.{with_blocks as progress_with_blocks, with_cells as progress_with_cells};
 ghost use Rattle.stm_history.specs.Stages.{keeps, IsStage, LeadsToStage};
 
-use crate::files::check::{MAX_CELLS, Stage, declare_refused};
-use crate::files::defaults::default_value;
+use crate::files::check::{MAX_CELLS, Stage};
 use crate::files::fault::HistoryFault;
 use crate::files::replayer::Replayer;
 use std::alloc::Global;
 use stm_event_lines::checkpoint::{
-    CHECKPOINT_FORMAT, CheckpointHeader, NamedCell, WaitingBlock, read_cell,
-    read_checkpoint_header, read_waiting,
+    CheckpointHeader, NamedCell, WaitingBlock, read_cell, read_checkpoint_header, read_waiting,
 };
+use stm_event_lines::formats::CHECKPOINT_FORMAT;
 use stm_event_lines::read::LineError;
 use stm_machine::checkpoint::{AddError, Checkpoint};
 use stm_machine::machine::Machine;
-use stm_store::{Cell, Seed, Store, StoreError, Table};
+use stm_store::{Cell, Names, Seed, Store, StoreError, Table};
+use stm_terms::NoMemory;
 use stm_terms::kinds::Ty;
 
 /// The most waiting blocks of a checkpoint.
@@ -41,30 +39,31 @@ pub(crate) fn head_refused(error: LineError) -> HistoryFault
     }
 }
 
-/// The stage if this many waiting blocks were announced and the checkpoint has those that were read.
+/// The stage in a format if this many waiting blocks were announced and the checkpoint has those that were read.
 fn with_blocks(
     alloc: Global,
+    seed: Seed,
     keep: bool,
+    format: u32,
     waiting: u32,
-    table: Table,
     checkpoint: Checkpoint,
 ) -> Result<Stage, HistoryFault>
-    ensures stage { IfOk result (λ s. IsStage s (progress_with_blocks waiting table checkpoint)) }
+    ensures stage { IfOk result (λ s. IsStage s (progress_with_blocks format waiting checkpoint)) }
     ensures err { IfErr result (λ e. e ≡ HistoryFault.NoMemory) }
     ensures keeps { IfOk result (λ s. keeps s ≡ keep) }
 {
     if checkpoint.blocks().len() < waiting as usize {
         return Ok(Stage::AtBlocks {
             keep,
+            format,
             waiting,
-            table,
             checkpoint,
         });
     }
     match Replayer::open_from(alloc, &checkpoint, keep) {
         Ok(replayer) => Ok(Stage::Running {
-            format: CHECKPOINT_FORMAT,
-            table,
+            format,
+            table: Table::with_seed(alloc, seed),
             checkpoint: Some(checkpoint),
             replayer,
         }),
@@ -72,19 +71,21 @@ fn with_blocks(
     }
 }
 
-/// The stage if this was announced and these variables were read, of which the table has those with a name. `BadHeader` if they
-/// are all that were announced, but no store.
+/// The stage if this was announced and these variables were read, of which some have these names. `BadHeader` if they are all that
+/// were announced, but no store.
 fn with_cells(
     alloc: Global,
+    seed: Seed,
     keep: bool,
     header: CheckpointHeader,
-    table: Table,
+    names: Names,
     cells: Vec<Cell>,
 ) -> Result<Stage, HistoryFault>
     requires head { IsCheckpointHead header.next header.vars header.waiting }
     requires few { length cells.items ≤ header.vars }
+    requires named { Covers (plains cells.items) (named_uses names) }
     ensures stage { IfOk result (λ s. IsStage s
-        (progress_with_cells header.next header.vars header.waiting table cells.items)) }
+        (progress_with_cells header.format header.next header.vars header.waiting names cells.items)) }
     ensures store { OnOk result (length cells.items ≡ header.vars → IsStore (plains cells.items)) }
     ensures err { IfErr result (λ e. (e ≡ HistoryFault.NoMemory) ⊎ ((e ≡ HistoryFault.BadHeader)
         × (length cells.items ≡ header.vars) × (IsStore (plains cells.items) → ⊥))) }
@@ -94,14 +95,14 @@ fn with_cells(
         return Ok(Stage::AtCells {
             keep,
             header,
-            table,
+            names,
             cells,
         });
     }
     match Store::of_cells(alloc, cells) {
         Ok(store) => {
-            let checkpoint = Checkpoint::new(alloc, store, header.next);
-            with_blocks(alloc, keep, header.waiting, table, checkpoint)
+            let checkpoint = Checkpoint::new(alloc, store, names, header.next);
+            with_blocks(alloc, seed, keep, header.format, header.waiting, checkpoint)
         }
         Err(StoreError::NotStore) => Err(HistoryFault::BadHeader),
         Err(StoreError::NoMemory) => Err(HistoryFault::NoMemory),
@@ -133,8 +134,8 @@ pub(crate) fn take_checkpoint_header(
     match read_checkpoint_header(alloc, line) {
         Ok(header) => {
             if is_head(&header) {
-                let table = Table::with_seed(alloc, seed);
-                with_cells(alloc, keep, header, table, Vec::new(alloc))
+                let names = Names::with_seed(alloc, seed);
+                with_cells(alloc, seed, keep, header, names, Vec::new(alloc))
             } else {
                 Err(HistoryFault::BadHeader)
             }
@@ -143,44 +144,37 @@ pub(crate) fn take_checkpoint_header(
     }
 }
 
-/// Declares a variable of a checkpoint, after this number of variables. Each of those has to be declared; the first value is the
-/// default of its type.
-fn declare_cell(table: &mut Table, before: usize, name: &str, kind: Ty) -> Result<(), HistoryFault>
-    requires name { IsTrue (is_name_text name.now) }
-    requires refs { kind.refs ≤ most_refs }
-    ensures done { OnOk result ((cells : List AnyCell) → before ≡ length cells
-        → NamesCell table.old cells (Some name.now) kind table.new) }
-    ensures refused { IfErr result (λ e. (e ≡ HistoryFault.NoMemory) ⊎ ((e ≡ HistoryFault.BadHeader)
-        × ((cells : List AnyCell) (named : List Declared) → before ≡ length cells
-        → NamesCell table.old cells (Some name.now) kind named → ⊥))) }
+/// Whether the variable of this number may have the name.
+fn may_have_name(format: u32, names: &Names, number: u32, name: &str, kind: Ty) -> bool
+    ensures { IsTrue result ↔ MayBeNamed format names.now number (Some name.now) kind }
 {
-    if table.len() != before {
-        return Err(HistoryFault::BadHeader);
-    }
-    let Some(value) = default_value(table, kind) else {
-        return Err(HistoryFault::BadHeader);
-    };
-    match table.declare(name, kind, value) {
-        Ok(_) => Ok(()),
-        Err(error) => Err(declare_refused(error)),
+    (format != CHECKPOINT_FORMAT || names.len() == number as usize)
+        && names.find(name).is_none()
+        && names.may_have_type(kind)
+}
+
+/// Whether the variable of this number may have its name, if it has one.
+pub(crate) fn may_be_named(format: u32, names: &Names, number: u32, cell: &NamedCell) -> bool
+    ensures { IsTrue result ↔ MayBeNamed format names.now number
+        (option_map string_bytes cell.now.name) cell.now.cell.kind }
+{
+    match &cell.name {
+        Some(name) => may_have_name(format, names, number, name.as_str(), cell.cell.kind),
+        None => true,
     }
 }
 
-/// Declares the variable, if it has a name.
-pub(crate) fn name_cell(
-    table: &mut Table,
-    before: usize,
-    cell: &NamedCell,
-) -> Result<(), HistoryFault>
-    requires { FitsCell (option_map string_bytes cell.now.name) cell.now.cell }
-    ensures done { OnOk result ((cells : List AnyCell) → before ≡ length cells
-        → NamesCell table.old cells (option_map string_bytes cell.now.name) cell.now.cell.kind table.new) }
-    ensures refused { IfErr result (λ e. (e ≡ HistoryFault.NoMemory) ⊎ ((e ≡ HistoryFault.BadHeader)
-        × ((cells : List AnyCell) (named : List Declared) → before ≡ length cells
-        → NamesCell table.old cells (option_map string_bytes cell.now.name) cell.now.cell.kind named → ⊥))) }
+/// Adds the name of the variable of this number, if it has one.
+fn name_cell(names: &mut Names, number: u32, cell: &NamedCell) -> Result<(), NoMemory>
+    requires fits { FitsCell (option_map string_bytes cell.now.name) cell.now.cell }
+    requires named { (format : ℕ) × MayBeNamed format names.old number
+        (option_map string_bytes cell.now.name) cell.now.cell.kind }
+    requires above { NumbersAreBelow number names.old }
+    ensures { OnOk result (names.new ≡ with_name_of names.old number
+        (option_map string_bytes cell.now.name) cell.now.cell.kind) }
 {
     match &cell.name {
-        Some(name) => declare_cell(table, before, name.as_str(), cell.cell.kind),
+        Some(name) => names.add(name.as_str(), number, cell.cell.kind),
         None => Ok(()),
     }
 }
@@ -188,29 +182,35 @@ pub(crate) fn name_cell(
 /// Takes a variable that was read from its line.
 fn take_named(
     alloc: Global,
+    seed: Seed,
     keep: bool,
     header: CheckpointHeader,
-    mut table: Table,
+    mut names: Names,
     mut cells: Vec<Cell>,
     cell: NamedCell,
 ) -> Result<Stage, HistoryFault>
     requires fits { FitsCell (option_map string_bytes cell.name) cell.cell }
     requires head { IsCheckpointHead header.next header.vars header.waiting }
     requires few { length cells.items < header.vars }
+    requires named { Covers (plains cells.items) (named_uses names) }
     ensures leads { IfOk result (λ s. LeadsToStage
-        (at_cells header.next header.vars header.waiting table cells.items)
+        (at_cells header.format header.next header.vars header.waiting names cells.items)
         (cell_line (option_map string_bytes cell.name) cell.cell) s) }
     ensures refused { IfErr result (λ e. MayRefuse
-        (at_cells header.next header.vars header.waiting table cells.items)
+        (at_cells header.format header.next header.vars header.waiting names cells.items)
         (cell_line (option_map string_bytes cell.name) cell.cell) e) }
     ensures keeps { IfOk result (λ s. keeps s ≡ keep) }
 {
-    match name_cell(&mut table, cells.len(), &cell) {
+    let number = cells.len() as u32;
+    if !may_be_named(header.format, &names, number, &cell) {
+        return Err(HistoryFault::BadHeader);
+    }
+    match name_cell(&mut names, number, &cell) {
         Ok(()) => {}
-        Err(fault) => return Err(fault),
+        Err(_) => return Err(HistoryFault::NoMemory),
     }
     match cells.push(cell.cell) {
-        Ok(()) => with_cells(alloc, keep, header, table, cells),
+        Ok(()) => with_cells(alloc, seed, keep, header, names, cells),
         Err(_) => Err(HistoryFault::NoMemory),
     }
 }
@@ -218,22 +218,24 @@ fn take_named(
 /// Takes the line of a checkpoint's variable.
 pub(crate) fn take_cell(
     alloc: Global,
+    seed: Seed,
     keep: bool,
     header: CheckpointHeader,
-    table: Table,
+    names: Names,
     cells: Vec<Cell>,
     line: &[u8],
 ) -> Result<Stage, HistoryFault>
     requires head { IsCheckpointHead header.next header.vars header.waiting }
     requires few { length cells.items < header.vars }
+    requires named { Covers (plains cells.items) (named_uses names) }
     ensures leads { IfOk result (λ s. LeadsToStage
-        (at_cells header.next header.vars header.waiting table cells.items) line.now s) }
+        (at_cells header.format header.next header.vars header.waiting names cells.items) line.now s) }
     ensures refused { IfErr result (λ e. MayRefuse
-        (at_cells header.next header.vars header.waiting table cells.items) line.now e) }
+        (at_cells header.format header.next header.vars header.waiting names cells.items) line.now e) }
     ensures keeps { IfOk result (λ s. keeps s ≡ keep) }
 {
     match read_cell(alloc, line) {
-        Ok(cell) => take_named(alloc, keep, header, table, cells, cell),
+        Ok(cell) => take_named(alloc, seed, keep, header, names, cells, cell),
         Err(error) => Err(head_refused(error)),
     }
 }
@@ -267,21 +269,22 @@ pub(crate) fn add_block(
 /// Takes a waiting block that was read from its line.
 fn take_added(
     alloc: Global,
+    seed: Seed,
     keep: bool,
+    format: u32,
     waiting: u32,
-    table: Table,
     mut checkpoint: Checkpoint,
     block: WaitingBlock,
 ) -> Result<Stage, HistoryFault>
-    requires { FitsWaiting table block.ticket block.block block.delivery }
-    ensures leads { IfOk result (λ s. LeadsToStage (at_blocks waiting table checkpoint)
+    requires { FitsWaiting checkpoint.names block.ticket block.block block.delivery }
+    ensures leads { IfOk result (λ s. LeadsToStage (at_blocks format waiting checkpoint)
         (waiting_line block.ticket block.block.text block.delivery) s) }
-    ensures refused { IfErr result (λ e. MayRefuse (at_blocks waiting table checkpoint)
+    ensures refused { IfErr result (λ e. MayRefuse (at_blocks format waiting checkpoint)
         (waiting_line block.ticket block.block.text block.delivery) e) }
     ensures keeps { IfOk result (λ s. keeps s ≡ keep) }
 {
     match add_block(alloc, &mut checkpoint, block) {
-        Ok(()) => with_blocks(alloc, keep, waiting, table, checkpoint),
+        Ok(()) => with_blocks(alloc, seed, keep, format, waiting, checkpoint),
         Err(fault) => Err(fault),
     }
 }
@@ -289,18 +292,19 @@ fn take_added(
 /// Takes the line of a checkpoint's waiting block.
 pub(crate) fn take_block(
     alloc: Global,
+    seed: Seed,
     keep: bool,
+    format: u32,
     waiting: u32,
-    table: Table,
     checkpoint: Checkpoint,
     line: &[u8],
 ) -> Result<Stage, HistoryFault>
-    ensures leads { IfOk result (λ s. LeadsToStage (at_blocks waiting table checkpoint) line.now s) }
-    ensures refused { IfErr result (λ e. MayRefuse (at_blocks waiting table checkpoint) line.now e) }
+    ensures leads { IfOk result (λ s. LeadsToStage (at_blocks format waiting checkpoint) line.now s) }
+    ensures refused { IfErr result (λ e. MayRefuse (at_blocks format waiting checkpoint) line.now e) }
     ensures keeps { IfOk result (λ s. keeps s ≡ keep) }
 {
-    match read_waiting(alloc, &table, line) {
-        Ok(block) => take_added(alloc, keep, waiting, table, checkpoint, block),
+    match read_waiting(alloc, checkpoint.names(), line) {
+        Ok(block) => take_added(alloc, seed, keep, format, waiting, checkpoint, block),
         Err(error) => Err(head_refused(error)),
     }
 }

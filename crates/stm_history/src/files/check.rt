@@ -7,10 +7,10 @@ ghost use Rattle.stm_lines.specs.Lines.{NoLineFeed};
 ghost use Rattle.stm_lines.specs.TakenLines.{bytes_to_come};
 ghost use Rattle.stm_history.specs.Checking.{CheckerState, at_header, at_variables, at_events, LeadsTo, MayRefuse, StopsAt, strange};
 ghost use Rattle.stm_history.specs.Reading.{FailsIn, IsReadingFault, TakesLine, TakesRest};
-ghost use Rattle.stm_event_lines.specs.Fits.{FitsTable, FitsFormat};
+ghost use Rattle.stm_event_lines.specs.Fits.{FitsNames, FitsFormat};
 ghost use Rattle.stm_history.specs.Following.{Follows};
 ghost use Rattle.stm_history.specs.Judgement.{IsHistory, IsShort, ReportsFault, lines_before, next_line};
-ghost use Rattle.stm_history.specs.Starts.{Start};
+ghost use Rattle.stm_history.specs.Starts.{Start, names_after};
 ghost use Rattle.stm_event_lines.specs.Lines.{event_line};
 ghost use Rattle.stm_history.specs.declared.files.check.Stage.TheVariants.{Running};
 ghost use Rattle.stm_history.specs.Stages.{keeps, IsRunning, IsStage, CountsWithinLimits, LeadsToStage, Reached, refused_by};
@@ -34,7 +34,7 @@ use stm_lines::calls::Calls;
 use stm_lines::line_reader::Line;
 use stm_lines::{LineReader, RunFault, Steps};
 use stm_machine::checkpoint::Checkpoint;
-use stm_store::{Cell, DeclareError, Seed, Table};
+use stm_store::{Cell, DeclareError, Names, Seed, Table};
 
 /// The most bytes of a line.
 pub(crate) const MAX_LINE: usize = 1_048_576;
@@ -43,8 +43,8 @@ pub(crate) const MAX_LINE: usize = 1_048_576;
 pub(crate) const MAX_CELLS: u32 = Table::LIMIT as u32;
 
 /// How far the lines have come: before the first; in a format, among the variables, of which this many were announced; among the
-/// variables of a checkpoint, of which the table has those with a name; among its waiting blocks, of which this many were announced;
-/// in a format, among the events. Each stage has whether the events are kept.
+/// variables of a checkpoint, of which some have these names; in a format, among its waiting blocks, of which this many were
+/// announced; in a format, among the events. Each stage has whether the events are kept.
 #[derive(Drop)]
 pub(crate) enum Stage {
     Before {
@@ -59,13 +59,13 @@ pub(crate) enum Stage {
     AtCells {
         keep: bool,
         header: CheckpointHeader,
-        table: Table,
+        names: Names,
         cells: Vec<Cell>,
     },
     AtBlocks {
         keep: bool,
+        format: u32,
         waiting: u32,
-        table: Table,
         checkpoint: Checkpoint,
     },
     Running {
@@ -128,7 +128,7 @@ fn take_header(alloc: Global, seed: Seed, keep: bool, line: &[u8]) -> Result<Sta
     }
 }
 
-pub(crate) fn declare_refused(error: DeclareError) -> HistoryFault
+fn declare_refused(error: DeclareError) -> HistoryFault
     ensures { result ≡ refused_by error }
 {
     match error {
@@ -205,7 +205,7 @@ fn take_event(
         → Follows S H replayer.old → Follows S (H ++ event.now ∷ []) replayer.new) }
     ensures fits { OnOk result (FitsFormat format event.now) }
     ensures refused { IfErr result (λ e. (S : Start) (H : List AnyEvent) → S.format ≡ format
-        → Follows S H replayer.old → FitsTable S.table event.now → number ≡ next_line S H
+        → Follows S H replayer.old → FitsNames (names_after S H) event.now → number ≡ next_line S H
         → MayRefuse (at_events S H) (event_line event.now) e) }
     ensures keeps { OnOk result (is_some replayer.new.kept ≡ is_some replayer.old.kept) }
 {
@@ -240,7 +240,7 @@ fn take_event_line(
     ensures keeps { OnOk result (is_some replayer.new.kept ≡ is_some replayer.old.kept) }
 {
     let number = line_number(table, checkpoint, replayer);
-    match read_event(alloc, table, line) {
+    match read_event(alloc, replayer.names(), line) {
         Ok(event) => take_event(format, replayer, &event, number),
         Err(LineError::Bad) => Err(HistoryFault::BadLine(number)),
         Err(LineError::NoMemory) => Err(HistoryFault::NoMemory),
@@ -294,15 +294,15 @@ fn take_line(alloc: Global, seed: Seed, stage: Stage, line: &[u8]) -> Result<Sta
         Stage::AtCells {
             keep,
             header,
-            table,
+            names,
             cells,
-        } => take_cell(alloc, keep, header, table, cells, line),
+        } => take_cell(alloc, seed, keep, header, names, cells, line),
         Stage::AtBlocks {
             keep,
+            format,
             waiting,
-            table,
             checkpoint,
-        } => take_block(alloc, keep, waiting, table, checkpoint, line),
+        } => take_block(alloc, seed, keep, format, waiting, checkpoint, line),
         Stage::Running {
             format,
             table,
@@ -564,7 +564,7 @@ fn check_rest<R: Read>(checker: &mut Checker, reader: &mut R) -> Result<Legal, H
     }
 }
 
-/// Judges the bytes of a reader as a history of format 1, 2, 3 or 4, line by line; docs/HISTORY.md has the formats. Of a line no more
+/// Judges the bytes of a reader as a history of format 1, 2, 3, 4 or 5, line by line; docs/HISTORY.md has the formats. Of a line no more
 /// than 1,048,577 bytes are kept, and the reader is called 4,294,967,295 times at most. `ReadFault` if the reader fails.
 pub fn check_history<R: Read>(alloc: Global, reader: &mut R) -> Result<Legal, HistoryFault>
     // The bytes are the text of a legal history, and the numbers are its own.

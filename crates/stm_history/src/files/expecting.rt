@@ -1,18 +1,21 @@
 //! What is due in place of an event: the machine is asked whether it refuses the call, and then for the fields that the call has
 //! to have.
 
-ghost use Rattle.std.specs.Prelude.{◌≡◌, ◌≢◌, ◌<◌, false, true, ℕ, List, IfOk, None, Some, if◌then◌else◌};
+ghost use Rattle.std.specs.Prelude.{◌≡◌, ◌≢◌, ◌<◌, false, true, ℕ, List, IfOk, IsTrue, None, Some, if◌then◌else◌};
 ghost use Rattle.stm_eval.specs.EvaluatedFields.{message_ticket};
 ghost use Rattle.stm_events.specs.declared.event.Event.{Event as AnyEvent};
-ghost use Rattle.stm_events.specs.declared.event.What.TheVariants.{Submitted, Installed, Finished, Cancelled};
-ghost use Rattle.stm_events.specs.Refusals.{submit_refused, finish_refused};
+ghost use Rattle.stm_events.specs.declared.event.What.TheVariants.{Submitted, Installed, Finished, Cancelled, Declared as DeclaredLate};
+ghost use Rattle.stm_events.specs.Refusals.{submit_refused, finish_refused, late_declare_refused};
 ghost use Rattle.stm_events.specs.SlowDesk.{Slow, max_clients};
+ghost use Rattle.stm_terms.specs.Names.{is_name_text};
+ghost use Rattle.stm_terms.specs.declared.kinds.Ty.{Ty as AnyTy};
+ghost use Rattle.stm_terms.specs.declared.values.Value.{Value as OneValue};
 ghost use Rattle.stm_terms.specs.declared.verdicts.Verdict.{Verdict};
 ghost use Rattle.stm_machine.specs.JobsHandedOut.{IsPresent};
 ghost use Rattle.stm_machine.specs.Machine.{IsAt, HasTicketLeft, MayDeliver};
-ghost use Rattle.stm_history.specs.declared.files.explanation.CallRefusal.TheVariants.{Submission, Delivery, Finish, Cancellation};
+ghost use Rattle.stm_history.specs.declared.files.explanation.CallRefusal.TheVariants.{Submission, Delivery, Finish, Cancellation, Declaration};
 ghost use Rattle.stm_history.specs.declared.files.expecting.Expectation.TheVariants.{Refuses};
-ghost use Rattle.stm_history.specs.Expecting.{IsDueOn, IsDueAfter};
+ghost use Rattle.stm_history.specs.Expecting.{HasName, IsDueOn, IsDueAfter};
 ghost use Rattle.stm_history.specs.Following.{Follows};
 ghost use Rattle.stm_history.specs.Starts.{Start};
 
@@ -20,11 +23,14 @@ use crate::files::explanation::CallRefusal;
 use crate::files::replayer::{MAX_EVENTS, Replayer};
 use stm_check::SharedBlock;
 use stm_eval::Evaluated;
-use stm_events::errors::{CancelError, DeliverError, FinishError, SubmitError};
+use stm_events::errors::{CancelError, DeliverError, FinishError, LateDeclareError, SubmitError};
 use stm_events::event::{Event, What};
+use stm_events::shared_name::SharedName;
 use stm_machine::finish::Plan;
 use stm_machine::machine::Machine;
 use stm_terms::NoMemory;
+use stm_terms::kinds::Ty;
+use stm_terms::values::Value;
 
 /// What is due in place of an event.
 #[derive(Drop)]
@@ -68,6 +74,18 @@ fn refused_finish(error: FinishError) -> Result<Expectation, NoMemory>
         FinishError::Blocks => Ok(Expectation::Refuses(CallRefusal::Finish(error))),
         FinishError::HistoryFull => Ok(Expectation::Refuses(CallRefusal::Finish(error))),
         FinishError::CellsFull => Ok(Expectation::Refuses(CallRefusal::Finish(error))),
+    }
+}
+
+fn refused_declaration(error: LateDeclareError) -> Result<Expectation, NoMemory>
+    ensures { IfOk result (λ x. (error ≢ LateDeclareError.NoMemory) × (x ≡ Refuses (Declaration error))) }
+{
+    match error {
+        LateDeclareError::NoMemory => Err(NoMemory),
+        LateDeclareError::Twice => Ok(Expectation::Refuses(CallRefusal::Declaration(error))),
+        LateDeclareError::TypeOfValue => Ok(Expectation::Refuses(CallRefusal::Declaration(error))),
+        LateDeclareError::HistoryFull => Ok(Expectation::Refuses(CallRefusal::Declaration(error))),
+        LateDeclareError::CellsFull => Ok(Expectation::Refuses(CallRefusal::Declaration(error))),
     }
 }
 
@@ -188,6 +206,50 @@ fn finish(machine: &Machine, full: bool, ticket: u32) -> Result<Expectation, NoM
     }
 }
 
+/// The error of a declaration if the history may be full: a desk reports a full history before a full store.
+fn declare_error(full: bool, error: LateDeclareError) -> LateDeclareError
+    ensures refused { (s : Slow) (name : List ℕ) (kind : AnyTy) (value : OneValue)
+        → late_declare_refused s false name kind value ≡ Some error
+        → late_declare_refused s full name kind value ≡ Some result }
+    ensures memory { error ≡ LateDeclareError.NoMemory → result ≡ error }
+{
+    match error {
+        LateDeclareError::CellsFull => {
+            if full {
+                LateDeclareError::HistoryFull
+            } else {
+                error
+            }
+        }
+        _ => error,
+    }
+}
+
+/// What is due in place of a declaration of the variable.
+fn declaration(
+    machine: &Machine,
+    full: bool,
+    name: &SharedName,
+    kind: Ty,
+    value: Value,
+) -> Result<Expectation, NoMemory>
+    requires { IsTrue (is_name_text name.now) }
+    ensures { IfOk result (λ x. (s : Slow) → IsAt machine.now s
+        → IsDueOn s full (DeclaredLate name.now kind value) x) }
+{
+    match machine.may_declare(name.as_str(), kind, value) {
+        Ok(()) => {
+            if full {
+                refused_declaration(LateDeclareError::HistoryFull)
+            } else {
+                let name = name.share()?;
+                Ok(Expectation::Due(What::Declared { name, kind, value }))
+            }
+        }
+        Err(error) => refused_declaration(declare_error(full, error)),
+    }
+}
+
 /// The message is delivered, which is of the present store.
 fn deliver(machine: &mut Machine, message: Evaluated) -> Result<Expectation, NoMemory>
     requires { (s : Slow) × IsAt machine.old s × MayDeliver s message }
@@ -243,7 +305,8 @@ fn delivery(machine: &mut Machine, full: bool, ticket: u32) -> Result<Expectatio
 
 /// What is due in place of what happens.
 fn due(machine: &mut Machine, full: bool, what: &What) -> Result<Expectation, NoMemory>
-    requires { (s : Slow) × IsAt machine.old s × (full ≡ false → HasTicketLeft s) }
+    requires at { (s : Slow) × IsAt machine.old s × (full ≡ false → HasTicketLeft s) }
+    requires name { HasName what.now }
     ensures { IfOk result (λ x. (s : Slow) → IsAt machine.old s → IsDueOn s full what.now x) }
 {
     match what {
@@ -251,6 +314,7 @@ fn due(machine: &mut Machine, full: bool, what: &What) -> Result<Expectation, No
         What::Installed { ticket, .. } => delivery(machine, full, *ticket),
         What::Finished { ticket, .. } => finish(machine, full, *ticket),
         What::Cancelled { ticket } => cancellation(machine, full, *ticket),
+        What::Declared { name, kind, value } => declaration(machine, full, name, *kind, *value),
     }
 }
 
@@ -259,6 +323,7 @@ impl Replayer {
     pub(crate) fn expect(&mut self, event: &Event) -> Result<Expectation, NoMemory>
         requires follows { (S : Start) × (H : List AnyEvent) × Follows S H self.old }
         requires client { event.now.client < max_clients }
+        requires name { HasName event.now.what }
         ensures { IfOk result (λ x. (S : Start) (H : List AnyEvent)
             → Follows S H self.old → IsDueAfter S H event.now x) }
     {

@@ -2,7 +2,7 @@
 
 ghost use Rattle.std.specs.Prelude.{◌≡◌, ◌↔◌, ◌+◌, ◌++◌, ◌∷◌, [], ◌<◌, ℕ, List, IfOk, IsTrue, length, option_map, string_bytes};
 ghost use Rattle.stm_store.specs.Cells.{plains, IsStore};
-ghost use Rattle.stm_store.specs.Tables.{Declared};
+ghost use Rattle.stm_store.specs.Naming.{Named};
 ghost use Rattle.stm_events.specs.declared.event.Event.{Event as AnyEvent};
 ghost use Rattle.stm_events.specs.SlowDesk.{max_clients};
 ghost use Rattle.stm_terms.specs.declared.verdicts.Verdict.TheVariants.{Throws};
@@ -10,15 +10,15 @@ ghost use Rattle.stm_machine.specs.Machine.{event};
 ghost use Rattle.stm_history.specs.Checking.{CheckerState, at_header, at_variables, at_cells, at_blocks, at_events};
 ghost use Rattle.stm_history.specs.Expecting.{HasCheckedBlock, IsLineOf, IsShortOr};
 ghost use Rattle.stm_history.specs.Explanation.{Explains, ExplainsEvent, ExplainsHead};
-ghost use Rattle.stm_event_lines.specs.CheckpointLines.{FitsCell, FitsWaiting, cell_line};
-ghost use Rattle.stm_event_lines.specs.Fits.{FitsTable, FitsVerdict, FitNews, FitsVariable, WhatFitsTable};
+ghost use Rattle.stm_event_lines.specs.CheckpointLines.{FitsCell, FitsWaiting, IsCheckpointFormat, cell_line};
+ghost use Rattle.stm_event_lines.specs.Fits.{FitsNames, FitsVerdict, FitNews, FitsVariable, WhatFitsNames};
 ghost use Rattle.stm_history.specs.Following.{Follows};
-ghost use Rattle.stm_history.specs.Starts.{Start};
+ghost use Rattle.stm_history.specs.Starts.{Start, names_after};
 ghost use Rattle.stm_event_lines.specs.Lines.{IsFormat, variable_line};
-ghost use Rattle.stm_history.specs.Stages.{IsStage};
+ghost use Rattle.stm_history.specs.Stages.{CountsWithinLimits, IsStage};
 ghost use Rattle.stm_event_lines.specs.Variables.{declared};
 
-use crate::files::beginning::{add_block, is_head, name_cell};
+use crate::files::beginning::{add_block, is_head, may_be_named};
 use crate::files::check::{MAX_CELLS, MAX_LINE, Stage};
 use crate::files::expecting::Expectation;
 use crate::files::explanation::Explanation;
@@ -27,7 +27,8 @@ use crate::files::replayer::Replayer;
 use std::alloc::Global;
 use std::mem;
 use stm_event_lines::checkpoint::{
-    NamedCell, WaitingBlock, cell_text, checkpoint_header_text, name_of_cell, waiting_text,
+    CheckpointHeader, NamedCell, WaitingBlock, cell_text, checkpoint_header_text, name_of_cell,
+    waiting_text,
 };
 use stm_event_lines::drafted::{
     number_in_range, numbers_in_range, value_in_range, writes_in_range,
@@ -42,11 +43,11 @@ use stm_event_lines::write::{event_text, header_text, variable_text};
 use stm_events::event::{Event, What};
 use stm_events::shared_verdict::SharedVerdict;
 use stm_machine::checkpoint::Checkpoint;
-use stm_store::{Cell, DeclareError, Store, StoreError, Table};
-use stm_terms::NoMemory;
+use stm_store::{Cell, DeclareError, Names, Store, StoreError, Table};
 use stm_terms::kinds::Ty;
 use stm_terms::values::{Fault, Value};
 use stm_terms::verdicts::Verdict;
+use stm_terms::{NoMemory, is_name};
 
 /// The most `TVar` of a type in a line.
 const MOST_REFS: u8 = 8;
@@ -103,10 +104,10 @@ fn fits_shared(verdict: &SharedVerdict) -> bool
     fits_verdict(verdict.get(&blocks))
 }
 
-/// Whether what happens can be in a line over a table to which its block was checked.
+/// Whether what happens can be in a line over names to which its block was checked.
 fn fits_line(what: &What) -> bool
-    ensures { (T : List Declared) → HasCheckedBlock T what.now
-        → (IsTrue result ↔ WhatFitsTable T what.now) }
+    ensures { (names : List Named) → HasCheckedBlock names what.now
+        → (IsTrue result ↔ WhatFitsNames names what.now) }
 {
     match what {
         What::Submitted { ticket, .. } => {
@@ -132,6 +133,10 @@ fn fits_line(what: &What) -> bool
             number_in_range(*ticket);
             true
         }
+        What::Declared { name, kind, value } => {
+            value_in_range(*value);
+            is_name(name.as_str()) && kind.refs <= MOST_REFS
+        }
     }
 }
 
@@ -148,8 +153,8 @@ fn short_line(text: String) -> Explanation
 
 /// The line of what is due, if it can be in the format.
 fn due_line(alloc: Global, format: u32, event: &Event) -> Result<Explanation, NoMemory>
-    ensures { IfOk result (λ x. (T : List Declared) → event.now.client < max_clients
-        → HasCheckedBlock T event.now.what → IsLineOf format T event.now x) }
+    ensures { IfOk result (λ x. (names : List Named) → event.now.client < max_clients
+        → HasCheckedBlock names event.now.what → IsLineOf format names event.now x) }
 {
     if !fits_format(format, event) {
         return Ok(Explanation::Unreadable);
@@ -163,8 +168,8 @@ fn due_line(alloc: Global, format: u32, event: &Event) -> Result<Explanation, No
 
 /// The line of what is due from a client, if it can be in the format.
 fn line_due(alloc: Global, format: u32, client: u32, what: What) -> Result<Explanation, NoMemory>
-    ensures { IfOk result (λ x. (T : List Declared) → client < max_clients
-        → HasCheckedBlock T what → IsLineOf format T (event client what) x) }
+    ensures { IfOk result (λ x. (names : List Named) → client < max_clients
+        → HasCheckedBlock names what → IsLineOf format names (event client what) x) }
 {
     let event = Event { client, what };
     due_line(alloc, format, &event)
@@ -177,9 +182,9 @@ fn explain_event(
     replayer: &mut Replayer,
     event: &Event,
 ) -> Result<Explanation, NoMemory>
-    requires { (S : Start) × (H : List AnyEvent) × Follows S H replayer.old × FitsTable S.table event.now }
+    requires { (S : Start) × (H : List AnyEvent) × Follows S H replayer.old × FitsNames (names_after S H) event.now }
     ensures { IfOk result (λ x. (S : Start) (H : List AnyEvent) → S.format ≡ format
-        → Follows S H replayer.old → FitsTable S.table event.now
+        → Follows S H replayer.old → FitsNames (names_after S H) event.now
         → ExplainsEvent S H event.now x) }
 {
     match replayer.expect(event) {
@@ -193,15 +198,14 @@ fn explain_event(
 fn explain_event_line(
     alloc: Global,
     format: u32,
-    table: &Table,
     replayer: &mut Replayer,
     line: &[u8],
 ) -> Result<Explanation, NoMemory>
-    requires { (S : Start) × (H : List AnyEvent) × (S.table ≡ table.now) × Follows S H replayer.old }
-    ensures { IfOk result (λ x. (S : Start) (H : List AnyEvent) → S.format ≡ format → S.table ≡ table.now
+    requires { (S : Start) × (H : List AnyEvent) × Follows S H replayer.old }
+    ensures { IfOk result (λ x. (S : Start) (H : List AnyEvent) → S.format ≡ format
         → Follows S H replayer.old → Explains (at_events S H) line.now x) }
 {
-    match loose_event(alloc, table, line)? {
+    match loose_event(alloc, replayer.names(), line)? {
         Some(event) => explain_event(alloc, format, replayer, &event),
         None => Ok(Explanation::Unreadable),
     }
@@ -219,18 +223,32 @@ fn header_due(alloc: Global, header: Header) -> Result<Explanation, NoMemory>
     Ok(short_line(text))
 }
 
+/// The first line of a checkpoint's history, if it may say so.
+fn checkpoint_header_due(alloc: Global, header: CheckpointHeader) -> Result<Explanation, NoMemory>
+    requires { IsCheckpointFormat header.format }
+    ensures { IfOk result (λ x. ExplainsHead at_header x) }
+{
+    if !is_head(&header) {
+        return Ok(Explanation::Unreadable);
+    }
+    let text = checkpoint_header_text(
+        alloc,
+        header.format,
+        header.next,
+        header.vars,
+        header.waiting,
+    )?;
+    Ok(short_line(text))
+}
+
 /// What is reported of a line before the first, if it is no first line of a table's history.
 fn explain_checkpoint_header(alloc: Global, line: &[u8]) -> Result<Explanation, NoMemory>
     ensures { IfOk result (λ x. ExplainsHead at_header x) }
 {
-    let Some(header) = loose_checkpoint_header(alloc, line)? else {
-        return Ok(Explanation::Unreadable);
-    };
-    if !is_head(&header) {
-        return Ok(Explanation::Unreadable);
+    match loose_checkpoint_header(alloc, line)? {
+        Some(header) => checkpoint_header_due(alloc, header),
+        None => Ok(Explanation::Unreadable),
     }
-    let text = checkpoint_header_text(alloc, header.next, header.vars, header.waiting)?;
-    Ok(short_line(text))
 }
 
 /// What is reported of a line before the first.
@@ -320,19 +338,19 @@ fn may_follow(alloc: Global, vars: u32, cells: &mut Vec<Cell>, cell: Cell) -> Re
 /// The line of a checkpoint's variable that may come next, of as many as were announced.
 fn cell_due(
     alloc: Global,
-    vars: u32,
-    table: &mut Table,
+    header: &CheckpointHeader,
+    names: &Names,
     cells: &mut Vec<Cell>,
     cell: &NamedCell,
 ) -> Result<Explanation, NoMemory>
-    requires { FitsCell (option_map string_bytes cell.now.name) cell.now.cell }
+    requires fits { FitsCell (option_map string_bytes cell.now.name) cell.now.cell }
+    requires few { length cells.old.items < header.now.vars }
     ensures { IfOk result (λ x. (next waiting : ℕ)
-        → ExplainsHead (at_cells next vars waiting table.old cells.old.items) x) }
+        → ExplainsHead (at_cells header.now.format next header.now.vars waiting names.now cells.old.items) x) }
 {
-    match name_cell(table, cells.len(), cell) {
-        Ok(()) => {}
-        Err(HistoryFault::NoMemory) => return Err(NoMemory),
-        Err(_) => return Ok(Explanation::Unreadable),
+    let vars = header.vars;
+    if !may_be_named(header.format, names, cells.len() as u32, cell) {
+        return Ok(Explanation::Unreadable);
     }
     let follows = may_follow(alloc, vars, cells, cell.cell)?;
     if follows {
@@ -342,19 +360,20 @@ fn cell_due(
     }
 }
 
-/// What is reported of a line among the variables of a checkpoint, of which this many were announced.
+/// What is reported of a line among the variables of a checkpoint.
 fn explain_cell(
     alloc: Global,
-    vars: u32,
-    table: &mut Table,
+    header: &CheckpointHeader,
+    names: &Names,
     cells: &mut Vec<Cell>,
     line: &[u8],
 ) -> Result<Explanation, NoMemory>
+    requires { length cells.old.items < header.now.vars }
     ensures { IfOk result (λ x. (next waiting : ℕ)
-        → ExplainsHead (at_cells next vars waiting table.old cells.old.items) x) }
+        → ExplainsHead (at_cells header.now.format next header.now.vars waiting names.now cells.old.items) x) }
 {
     match loose_cell(alloc, line)? {
-        Some(cell) => cell_due(alloc, vars, table, cells, &cell),
+        Some(cell) => cell_due(alloc, header, names, cells, &cell),
         None => Ok(Explanation::Unreadable),
     }
 }
@@ -365,9 +384,8 @@ fn block_due(
     checkpoint: &mut Checkpoint,
     block: WaitingBlock,
 ) -> Result<Explanation, NoMemory>
-    ensures { IfOk result (λ x. (waiting : ℕ) (T : List Declared)
-        → FitsWaiting T block.ticket block.block block.delivery
-        → ExplainsHead (at_blocks waiting T checkpoint.old) x) }
+    requires { FitsWaiting checkpoint.old.names block.ticket block.block block.delivery }
+    ensures { IfOk result (λ x. (format waiting : ℕ) → ExplainsHead (at_blocks format waiting checkpoint.old) x) }
 {
     let text = waiting_text(alloc, &block)?;
     match add_block(alloc, checkpoint, block) {
@@ -380,14 +398,12 @@ fn block_due(
 /// What is reported of a line among the waiting blocks of a checkpoint.
 fn explain_block(
     alloc: Global,
-    table: &Table,
     checkpoint: &mut Checkpoint,
     line: &[u8],
 ) -> Result<Explanation, NoMemory>
-    ensures { IfOk result (λ x. (waiting : ℕ)
-        → ExplainsHead (at_blocks waiting table.now checkpoint.old) x) }
+    ensures { IfOk result (λ x. (format waiting : ℕ) → ExplainsHead (at_blocks format waiting checkpoint.old) x) }
 {
-    match loose_waiting(alloc, table, line)? {
+    match loose_waiting(alloc, checkpoint.names(), line)? {
         Some(block) => block_due(alloc, checkpoint, block),
         None => Ok(Explanation::Unreadable),
     }
@@ -399,7 +415,7 @@ pub(crate) fn explain(
     stage: &mut Stage,
     line: &[u8],
 ) -> Result<Explanation, NoMemory>
-    requires { (p : CheckerState) × IsStage stage.old p }
+    requires { (p : CheckerState) × IsStage stage.old p × CountsWithinLimits p }
     ensures { IfOk result (λ x. (p : CheckerState) → IsStage stage.old p
         → Explains p line.now x) }
 {
@@ -408,20 +424,15 @@ pub(crate) fn explain(
         Stage::Declaring { table, .. } => explain_variable(alloc, table, line),
         Stage::AtCells {
             header,
-            table,
+            names,
             cells,
             ..
-        } => explain_cell(alloc, header.vars, table, cells, line),
-        Stage::AtBlocks {
-            table,
-            checkpoint,
-            ..
-        } => explain_block(alloc, table, checkpoint, line),
+        } => explain_cell(alloc, header, names, cells, line),
+        Stage::AtBlocks { checkpoint, .. } => explain_block(alloc, checkpoint, line),
         Stage::Running {
             format,
-            table,
             replayer,
             ..
-        } => explain_event_line(alloc, *format, table, replayer, line),
+        } => explain_event_line(alloc, *format, replayer, line),
     }
 }

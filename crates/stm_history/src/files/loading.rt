@@ -4,11 +4,11 @@ ghost use Rattle.std.specs.Prelude.{◌≡◌, ◌≢◌, [], true, ℕ, List, N
 ghost use Rattle.stm_events.specs.Laws.{SubmittedAreWellTyped};
 ghost use Rattle.stm_events.specs.declared.event.Event.{Event as AnyEvent};
 ghost use Rattle.stm_events.specs.States.{IsLegalFrom};
-ghost use Rattle.stm_event_lines.specs.Lines.{latest_format};
+ghost use Rattle.stm_event_lines.specs.Lines.{declaring_format, latest_format};
 ghost use Rattle.stm_machine.specs.Checkpoints.{MayStart, start_of};
 ghost use Rattle.stm_history.specs.Loading.{HasText, IsWholeHistory, ReportsLoadFault, loaded_start};
-ghost use Rattle.stm_history.specs.Starts.{BlocksAreOfText};
-ghost use Rattle.stm_history.specs.Stages.{keeps, Reached, IsLatest, IsLoaded};
+ghost use Rattle.stm_history.specs.Starts.{BlocksAreOfText, IsLatest};
+ghost use Rattle.stm_history.specs.Stages.{keeps, Reached, IsLoaded};
 ghost use Rattle.stm_events.specs.SlowDesk.{state_from};
 ghost use Rattle.stm_machine.specs.Machine.{IsAt};
 
@@ -17,7 +17,7 @@ use crate::files::fault::HistoryFault;
 use crate::files::replayer::Replayer;
 use std::alloc::Global;
 use std::io::Read;
-use stm_event_lines::formats::LATEST_FORMAT;
+use stm_event_lines::formats::{DECLARING_FORMAT, LATEST_FORMAT};
 use stm_events::event::Event;
 use stm_machine::checkpoint::Checkpoint;
 use stm_machine::machine::Machine;
@@ -32,8 +32,10 @@ pub enum LoadFault {
     OldFormat(u32),
 }
 
-/// A legal history: its table, the checkpoint that it begins from if it does, its events, and the machine that they lead to.
+/// A legal history: its format, which is 3, 4 or 5, its table, the checkpoint that it begins from if it does, its events, and the
+/// machine that they lead to. With a checkpoint the table is empty: the names are the checkpoint's.
 pub struct Loaded {
+    pub format: u32,
     pub table: Table,
     pub checkpoint: Option<Checkpoint>,
     pub events: Vec<Event>,
@@ -44,6 +46,7 @@ pub struct Loaded {
 impl Drop for Loaded {
     fn drop(self) {
         let Loaded {
+            format: _,
             table: _,
             checkpoint: _,
             events: _,
@@ -61,6 +64,7 @@ impl Loaded {
         ensures machine { result.3 ≡ self.machine }
     {
         let Loaded {
+            format: _,
             table,
             checkpoint,
             events,
@@ -71,8 +75,14 @@ impl Loaded {
 }
 
 /// What a replayer that keeps the events has come to.
-fn loaded_of(table: Table, checkpoint: Option<Checkpoint>, replayer: Replayer) -> Loaded
+fn loaded_of(
+    format: u32,
+    table: Table,
+    checkpoint: Option<Checkpoint>,
+    replayer: Replayer,
+) -> Loaded
     requires { is_some replayer.kept ≡ true }
+    ensures format { result.format ≡ format }
     ensures table { result.table ≡ table }
     ensures checkpoint { result.checkpoint ≡ checkpoint }
     ensures machine { result.machine ≡ replayer.machine }
@@ -87,6 +97,7 @@ fn loaded_of(table: Table, checkpoint: Option<Checkpoint>, replayer: Replayer) -
     } = replayer;
     match kept {
         Some(events) => Loaded {
+            format,
             table,
             checkpoint,
             events,
@@ -100,12 +111,12 @@ fn loaded_of(table: Table, checkpoint: Option<Checkpoint>, replayer: Replayer) -
 fn is_latest(format: u32, checkpoint: &Option<Checkpoint>) -> Result<(), LoadFault>
     ensures ok { OnOk result (IsLatest format checkpoint.now) }
     ensures fault { IfErr result (λ e. (e ≡ LoadFault.OldFormat format) × (format ≢ latest_format)
-        × (checkpoint.now ≡ None)) }
+        × (format ≢ declaring_format) × (checkpoint.now ≡ None)) }
 {
     match checkpoint {
         Some(_) => Ok(()),
         None => {
-            if format == LATEST_FORMAT {
+            if format == LATEST_FORMAT || format == DECLARING_FORMAT {
                 Ok(())
             } else {
                 Err(LoadFault::OldFormat(format))
@@ -148,6 +159,7 @@ impl Checker {
         requires line { self.line.items ≡ [] }
         ensures history { (taken : List ℕ) → Reached self.stage self.whole self.line.items taken
             → IsWholeHistory (loaded_start result) taken result.events.items }
+        ensures latest { IsLatest result.format result.checkpoint }
         ensures at { IsAt result.machine (state_from (start_of result.table result.checkpoint) result.events.items) }
     {
         let Checker {
@@ -163,11 +175,11 @@ impl Checker {
             Stage::AtCells { .. } => unreachable!(),
             Stage::AtBlocks { .. } => unreachable!(),
             Stage::Running {
-                format: _,
+                format,
                 table,
                 checkpoint,
                 replayer,
-            } => loaded_of(table, checkpoint, replayer),
+            } => loaded_of(format, table, checkpoint, replayer),
         }
     }
 }
@@ -190,7 +202,7 @@ fn load_rest<R: Read>(checker: &mut Checker, reader: &mut R) -> Result<(), LoadF
     }
 }
 
-/// Reads the text of a legal history of format 3 or 4 to its end, line by line, and keeps what it read. It judges as
+/// Reads the text of a legal history of format 3, 4 or 5 to its end, line by line, and keeps what it read. It judges as
 /// `check_history_with` does, and evaluates each installed verdict once. The names of variables are looked up under the seed.
 pub fn load_history<R: Read>(alloc: Global, seed: Seed, reader: &mut R) -> Result<Loaded, LoadFault>
     // The bytes are the text of the history.
@@ -202,9 +214,11 @@ pub fn load_history<R: Read>(alloc: Global, seed: Seed, reader: &mut R) -> Resul
     ensures at { IfOk result (λ h. IsAt h.machine
         (state_from (start_of h.table h.checkpoint) h.events.items)) }
     ensures text { IfOk result (λ h. HasText (loaded_start h) h.events.items) }
+    // Its format goes by the present rule: it is 3 or 5 without a checkpoint.
+    ensures latest { IfOk result (λ h. IsLatest h.format h.checkpoint) }
     // Each block that is submitted in it is well typed, and each waiting block of the checkpoint is that of its text.
     ensures typed { IfOk result (λ h. SubmittedAreWellTyped h.events.items) }
-    ensures blocks { IfOk result (λ h. IfSome h.checkpoint (BlocksAreOfText h.table)) }
+    ensures blocks { IfOk result (λ h. IfSome h.checkpoint BlocksAreOfText) }
     // Otherwise the first error of the bytes is reported, or their format.
     ensures fault { IfErr result (λ e.
         IfSome (R.remaining reader.old) (λ bytes. ReportsLoadFault e bytes)) }

@@ -2,7 +2,6 @@
 
 pub mod beginning;
 pub mod check;
-pub mod defaults;
 pub mod expecting;
 pub mod explaining;
 pub mod explanation;

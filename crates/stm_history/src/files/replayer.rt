@@ -1,6 +1,6 @@
 //! What goes through a history: the machine that the events so far lead to, and a list of them if it is to keep one.
 
-ghost use Rattle.std.specs.Prelude.{◌≡◌, List, [], None, Some, IfOk, IfSome, is_some};
+ghost use Rattle.std.specs.Prelude.{◌≡◌, ℕ, List, [], None, Some, IfOk, IfSome, is_some};
 
 use crate::files::fault::Legal;
 use std::alloc::Global;
@@ -8,7 +8,7 @@ use stm_event_lines::formats::staleness_rule;
 use stm_events::event::Event as OneEvent;
 use stm_machine::checkpoint::Checkpoint;
 use stm_machine::machine::Machine;
-use stm_store::{Frozen, Table};
+use stm_store::{Frozen, Names, Table};
 use stm_terms::NoMemory;
 
 /// The most events of a history.
@@ -36,9 +36,8 @@ impl Replayer {
     ghost use Rattle.stm_store.specs.Tables.{Declared};
     ghost use Rattle.stm_events.specs.declared.event.Event.{Event};
     ghost use Rattle.stm_history.specs.Following.{Follows};
-    ghost use Rattle.stm_event_lines.specs.CheckpointLines.{checkpoint_format};
     ghost use Rattle.stm_history.specs.Judgement.{numbers_from};
-    ghost use Rattle.stm_history.specs.Starts.{Start};
+    ghost use Rattle.stm_history.specs.Starts.{Start, names_after};
 
     /// The variables of a table, in a format, and no event. The caller says whether events are to be kept.
     pub(crate) fn open(
@@ -59,14 +58,14 @@ impl Replayer {
         })
     }
 
-    /// A checkpoint, and no event. The caller says whether events are to be kept.
+    /// A checkpoint, and no event, in any format of checkpoints. The caller says whether events are to be kept.
     pub(crate) fn open_from(
         alloc: Global,
         checkpoint: &Checkpoint,
         keep: bool,
     ) -> Result<Replayer, NoMemory>
-        ensures follows { IfOk result (λ r. (T : List Declared)
-            → Follows (record { format = checkpoint_format; table = T; checkpoint = Some checkpoint.now }) [] r) }
+        ensures follows { IfOk result (λ r. (F : ℕ) (T : List Declared)
+            → Follows (record { format = F; table = T; checkpoint = Some checkpoint.now }) [] r) }
         ensures keeps { IfOk result (λ r. is_some r.kept ≡ keep) }
     {
         // The next ticket is known to be low by this.
@@ -77,6 +76,13 @@ impl Replayer {
             copy: None,
             kept: none_kept(alloc, keep),
         })
+    }
+
+    /// The names of variables after the history so far.
+    pub(crate) fn names(&self) -> &Names
+        ensures { (S : Start) (H : List Event) → Follows S H self.now → result.now ≡ names_after S H }
+    {
+        self.machine.names()
     }
 
     /// The numbers of the history so far.

@@ -1,10 +1,10 @@
 //! Lists of events, judged.
 
-ghost use Rattle.std.specs.Prelude.{◌≡◌, [], List, None, IfOk, IfErr, OnOk};
+ghost use Rattle.std.specs.Prelude.{◌≡◌, [], List, IfOk, IfErr, OnOk};
 ghost use Rattle.stm_store.specs.Tables.{Declared};
 ghost use Rattle.stm_history.specs.Following.{Follows};
 ghost use Rattle.stm_history.specs.Judgement.{numbers, Refuses};
-ghost use Rattle.stm_history.specs.Starts.{written_start};
+ghost use Rattle.stm_history.specs.Starts.{table_start};
 ghost use Rattle.stm_events.specs.SlowDesk.{IsLegal};
 
 use crate::files::fault::{HistoryFault, Legal};
@@ -17,12 +17,12 @@ use stm_store::Table;
 
 /// Takes the events of a list, one after another, before any of which was taken. `NotLegal` counts them from 1.
 fn step_all(replayer: &mut Replayer, history: &[Event]) -> Result<(), HistoryFault>
-    requires { (T : List Declared) × Follows (written_start T None) [] replayer.old }
+    requires { (T : List Declared) × Follows (table_start T) [] replayer.old }
     ensures done { OnOk result ((T : List Declared)
-        → Follows (written_start T None) [] replayer.old
-        → Follows (written_start T None) history.now replayer.new) }
+        → Follows (table_start T) [] replayer.old
+        → Follows (table_start T) history.now replayer.new) }
     ensures fault { IfErr result (λ e. (T : List Declared)
-        → Follows (written_start T None) [] replayer.old → Refuses e T history.now) }
+        → Follows (table_start T) [] replayer.old → Refuses e T history.now) }
 {
     for event in history {
         let number = replayer.events + 1;

@@ -4,7 +4,7 @@ ghost use Rattle.std.specs.Prelude.{◌≡◌, ◌↔◌, ◌++◌, ◌∷◌, [
 ghost use Rattle.stm_store.specs.Cells.{plains};
 ghost use Rattle.stm_eval.specs.EvaluatedFields.{message_ticket, message_verdict};
 ghost use Rattle.stm_events.specs.declared.event.Event.{Event as AnyEvent};
-ghost use Rattle.stm_events.specs.declared.event.What.TheVariants.{Submitted, Installed, Finished, Cancelled};
+ghost use Rattle.stm_events.specs.declared.event.What.TheVariants.{Submitted, Installed, Finished, Cancelled, Declared as DeclaredLate};
 ghost use Rattle.stm_events.specs.SlowDesk.{Slow};
 ghost use Rattle.stm_machine.specs.JobsHandedOut.{IsPresent};
 ghost use Rattle.stm_machine.specs.Machine.{IsAt, HasTicketLeft, MayDeliver, MovesBy};
@@ -16,15 +16,17 @@ ghost use Rattle.stm_history.specs.Starts.{Start};
 use crate::files::replayer::{MAX_EVENTS, Replayer};
 use stm_check::SharedBlock;
 use stm_eval::Evaluated;
-use stm_events::errors::{CancelError, DeliverError, FinishError, SubmitError};
+use stm_events::errors::{CancelError, DeliverError, FinishError, LateDeclareError, SubmitError};
 use stm_events::event::{Event, What};
 use stm_events::same::same_numbers;
 use stm_events::shared_verdict::SharedVerdict;
 use stm_machine::finish::Plan;
 use stm_machine::machine::Machine;
 use stm_store::Frozen;
-use stm_terms::NoMemory;
+use stm_terms::kinds::Ty;
+use stm_terms::values::Value;
 use stm_terms::verdicts::Verdict;
+use stm_terms::{NoMemory, is_name};
 
 /// Why an event doesn't follow.
 #[derive(Clone, Copy, Debug, PartialEq, Eq, Drop)]
@@ -92,6 +94,18 @@ fn deliver_refused(error: DeliverError) -> StepError
     }
 }
 
+fn declare_refused(error: LateDeclareError) -> StepError
+    ensures { error ≡ LateDeclareError.NoMemory → result ≡ StepError.NoMemory }
+{
+    match error {
+        LateDeclareError::NoMemory => StepError::NoMemory,
+        LateDeclareError::Twice => StepError::NotAllowed,
+        LateDeclareError::TypeOfValue => StepError::NotAllowed,
+        LateDeclareError::HistoryFull => StepError::NotAllowed,
+        LateDeclareError::CellsFull => StepError::NotAllowed,
+    }
+}
+
 /// The block is submitted, under the next ticket.
 fn submitted(machine: &mut Machine, ticket: u32, block: &SharedBlock) -> Result<(), StepError>
     requires { (s : Slow) × IsAt machine.old s × HasTicketLeft s }
@@ -126,6 +140,24 @@ fn cancelled(machine: &mut Machine, ticket: u32) -> Result<(), StepError>
         }
         Err(error) => Err(cancel_refused(error)),
     }
+}
+
+/// The variable is declared.
+fn declared(machine: &mut Machine, name: &str, kind: Ty, value: Value) -> Result<(), StepError>
+    requires { (s : Slow) × IsAt machine.old s }
+    ensures done { OnOk result (MovesBy (DeclaredLate name.now kind value) machine.old machine.new) }
+    ensures not_allowed { IsErrOf result StepError.NotAllowed
+        → IsForbidden (DeclaredLate name.now kind value) machine.old }
+{
+    if !is_name(name) {
+        return Err(StepError::NotAllowed);
+    }
+    match machine.may_declare(name, kind, value) {
+        Ok(()) => {}
+        Err(error) => return Err(declare_refused(error)),
+    }
+    machine.declare(name, kind, value)?;
+    Ok(())
 }
 
 /// Whether the fields of a finish are those of the plan.
@@ -308,7 +340,7 @@ impl Replayer {
         }
     }
 
-    /// What happens next. A finish lets go of the copy first, so that the store changes in place.
+    /// What happens next. A finish and a declaration let go of the copy first, so that the store changes in place.
     fn act(&mut self, what: &What) -> Result<(), StepError>
         requires at { (s : Slow) × IsAt self.old.machine s × HasTicketLeft s }
         requires copied { IfSome self.old.copy (λ cells. cells ≡ plains self.old.machine.store) }
@@ -339,6 +371,10 @@ impl Replayer {
                 )
             }
             What::Cancelled { ticket } => cancelled(&mut self.machine, *ticket),
+            What::Declared { name, kind, value } => {
+                self.copy = None;
+                declared(&mut self.machine, name.as_str(), *kind, *value)
+            }
         }
     }
 

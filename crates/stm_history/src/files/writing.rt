@@ -1,22 +1,23 @@
 //! Histories, written.
 
 ghost use Rattle.std.specs.Prelude.{◌≡◌, ◌<◌, ◌++◌, ◌∷◌, [], IfOk, IfSome, Some, option_map, slice_get, length, string_bytes};
+ghost use Rattle.stm_store.specs.Naming.{name_numbered};
 ghost use Rattle.stm_event_lines.specs.CheckpointLines.{cell_line, checkpoint_header_line};
-ghost use Rattle.stm_event_lines.specs.Lines.{latest_format, header_line};
+ghost use Rattle.stm_event_lines.specs.Lines.{header_line};
 ghost use Rattle.stm_history.specs.HistoryText.{block_line, block_lines, cell_lines, checkpoint_text, event_lines, head_text, history_text, start_text, variable_lines, WritesText};
-ghost use Rattle.stm_history.specs.Starts.{written_start};
+ghost use Rattle.stm_history.specs.Starts.{declares, format_for, format_of_start, is_declaration, written_start};
 
 use std::alloc::Global;
 use std::io::Write;
 use stm_event_lines::checkpoint::{
     cell_text, checkpoint_header_text, delivered_block_text, new_block_text,
 };
-use stm_event_lines::formats::LATEST_FORMAT;
+use stm_event_lines::formats::{CHECKPOINT_FORMAT, DECLARING_FORMAT, LATEST_FORMAT};
 use stm_event_lines::write::{event_text, header_text, variable_text};
-use stm_events::event::Event;
+use stm_events::event::{Event, What};
 use stm_lines::output;
 use stm_machine::checkpoint::{Checkpoint, CheckpointBlock};
-use stm_store::{Cell, Store, Table};
+use stm_store::{Cell, Names, Store, Table};
 use stm_terms::NoMemory;
 
 /// Why a history wasn't written whole. What was written is a part of it from its front.
@@ -26,6 +27,54 @@ pub enum WriteFault {
     Write,
     /// Memory ran out.
     NoMemory,
+}
+
+/// Whether what happens is that a variable is declared.
+fn is_declaration(what: &What) -> bool
+    ensures { result ≡ is_declaration what.now }
+{
+    match what {
+        What::Submitted { .. } => false,
+        What::Installed { .. } => false,
+        What::Finished { .. } => false,
+        What::Cancelled { .. } => false,
+        What::Declared { .. } => true,
+    }
+}
+
+/// Whether some event declares a variable.
+fn declares(history: &[Event]) -> bool
+    ensures { result ≡ declares history.now }
+{
+    history.iter().any(|event| is_declaration(&event.what))
+}
+
+/// The format of a start whose history declares no variable.
+fn format_of_start(checkpoint: Option<&Checkpoint>) -> u32
+    ensures { result ≡ format_of_start (option_map (λ c. c.now) checkpoint.entry) }
+{
+    match checkpoint {
+        None => LATEST_FORMAT,
+        Some(checkpoint) => {
+            if checkpoint.names().is_gapless() {
+                CHECKPOINT_FORMAT
+            } else {
+                DECLARING_FORMAT
+            }
+        }
+    }
+}
+
+/// The format in which a history is written: 5 if an event declares a variable, or if the checkpoint has a name after a variable
+/// without one; otherwise 4 with a checkpoint and 3 without.
+pub fn format_for(checkpoint: Option<&Checkpoint>, history: &[Event]) -> u32
+    ensures { result ≡ format_for (option_map (λ c. c.now) checkpoint.entry) history.now }
+{
+    if declares(history) {
+        DECLARING_FORMAT
+    } else {
+        format_of_start(checkpoint)
+    }
 }
 
 /// Writes all of a text, or a part from its front.
@@ -76,11 +125,16 @@ fn write_event<W: Write>(alloc: Global, writer: &mut W, event: &Event) -> Result
     }
 }
 
-fn write_header<W: Write>(alloc: Global, writer: &mut W, vars: u32) -> Result<(), WriteFault>
+fn write_header<W: Write>(
+    alloc: Global,
+    writer: &mut W,
+    format: u32,
+    vars: u32,
+) -> Result<(), WriteFault>
     ensures { WritesText result (W.contents writer.old) (W.contents writer.new)
-        (header_line latest_format vars ++ 10 ∷ []) }
+        (header_line format vars ++ 10 ∷ []) }
 {
-    match header_text(alloc, LATEST_FORMAT, vars) {
+    match header_text(alloc, format, vars) {
         Ok(line) => write_line(writer, line),
         Err(_) => Err(WriteFault::NoMemory),
     }
@@ -117,29 +171,23 @@ pub fn write_events<W: Write>(
     Ok(())
 }
 
-/// Writes the lines of a table.
-fn write_table<W: Write>(alloc: Global, writer: &mut W, table: &Table) -> Result<(), WriteFault>
+/// Writes the lines of a table, in a format.
+fn write_table<W: Write>(
+    alloc: Global,
+    writer: &mut W,
+    format: u32,
+    table: &Table,
+) -> Result<(), WriteFault>
     ensures { WritesText result (W.contents writer.old) (W.contents writer.new)
-        (head_text latest_format (length table.now) table.now) }
+        (head_text format (length table.now) table.now) }
 {
-    match write_header(alloc, writer, table.len() as u32) {
+    match write_header(alloc, writer, format, table.len() as u32) {
         Ok(()) => {}
         Err(fault) => return Err(fault),
     }
     match write_variables(alloc, writer, table) {
         Ok(()) => Ok(()),
         Err(fault) => Err(fault),
-    }
-}
-
-/// The name of a variable, if it is a declared one.
-fn declared_name<'a>(table: &'a Table, id: u32) -> Option<&'a str>
-    ensures { option_map (λ n. n.now) result ≡ option_map (λ d. d.name) (slice_get table.now id) }
-{
-    if (id as usize) < table.len() {
-        Some(table.name(id))
-    } else {
-        None
     }
 }
 
@@ -157,33 +205,33 @@ fn cell_at(store: &Store, id: u32) -> Cell
 fn write_cell<W: Write>(
     alloc: Global,
     writer: &mut W,
-    table: &Table,
+    names: &Names,
     store: &Store,
     id: u32,
 ) -> Result<(), WriteFault>
     requires { id < length store.now }
     ensures { IfSome (slice_get store.now id) (λ c.
         WritesText result (W.contents writer.old) (W.contents writer.new)
-        (cell_line (option_map (λ d. d.name) (slice_get table.now id)) c ++ 10 ∷ [])) }
+        (cell_line (name_numbered id names.now) c ++ 10 ∷ [])) }
 {
-    match cell_text(alloc, declared_name(table, id), cell_at(store, id)) {
+    match cell_text(alloc, names.name_of(id), cell_at(store, id)) {
         Ok(line) => write_line(writer, line),
         Err(_) => Err(WriteFault::NoMemory),
     }
 }
 
-/// Writes the lines of a store's variables, with the names of the declared ones.
+/// Writes the lines of a store's variables, with these names.
 fn write_cells<W: Write>(
     alloc: Global,
     writer: &mut W,
-    table: &Table,
+    names: &Names,
     store: &Store,
 ) -> Result<(), WriteFault>
     ensures { WritesText result (W.contents writer.old) (W.contents writer.new)
-        (cell_lines table.now store.now) }
+        (cell_lines names.now store.now) }
 {
     for id in 0..store.len() {
-        match write_cell(alloc, writer, table, store, id as u32) {
+        match write_cell(alloc, writer, names, store, id as u32) {
             Ok(()) => {}
             Err(fault) => return Err(fault),
         }
@@ -243,40 +291,42 @@ fn write_blocks<W: Write>(
 fn write_checkpoint_header<W: Write>(
     alloc: Global,
     writer: &mut W,
+    format: u32,
     next: u32,
     vars: u32,
     waiting: u32,
 ) -> Result<(), WriteFault>
     ensures { WritesText result (W.contents writer.old) (W.contents writer.new)
-        (checkpoint_header_line next vars waiting ++ 10 ∷ []) }
+        (checkpoint_header_line format next vars waiting ++ 10 ∷ []) }
 {
-    match checkpoint_header_text(alloc, next, vars, waiting) {
+    match checkpoint_header_text(alloc, format, next, vars, waiting) {
         Ok(line) => write_line(writer, line),
         Err(_) => Err(WriteFault::NoMemory),
     }
 }
 
-/// Writes the lines of a checkpoint.
+/// Writes the lines of a checkpoint, in a format.
 fn write_checkpoint<W: Write>(
     alloc: Global,
     writer: &mut W,
-    table: &Table,
+    format: u32,
     checkpoint: &Checkpoint,
 ) -> Result<(), WriteFault>
     ensures { WritesText result (W.contents writer.old) (W.contents writer.new)
-        (checkpoint_text (length checkpoint.now.blocks) table.now checkpoint.now) }
+        (checkpoint_text format (length checkpoint.now.blocks) checkpoint.now) }
 {
     // The waiting blocks are known to be few by this.
     let next = checkpoint.next();
+    let names = checkpoint.names();
     let store = checkpoint.store();
     let blocks = checkpoint.blocks();
     let vars = store.len() as u32;
     let waiting = blocks.len() as u32;
-    match write_checkpoint_header(alloc, writer, next, vars, waiting) {
+    match write_checkpoint_header(alloc, writer, format, next, vars, waiting) {
         Ok(()) => {}
         Err(fault) => return Err(fault),
     }
-    match write_cells(alloc, writer, table, store) {
+    match write_cells(alloc, writer, names, store) {
         Ok(()) => {}
         Err(fault) => return Err(fault),
     }
@@ -286,24 +336,26 @@ fn write_checkpoint<W: Write>(
     }
 }
 
-/// Writes the lines before the events: those of a table in the latest format, or those of a checkpoint.
+/// Writes the lines before the events, in a format: those of a table, or those of a checkpoint. The format has to be one in which the
+/// text is read: 1, 2, 3 or 5 without a checkpoint, and 5 or that of `format_for` with one.
 pub fn write_start<W: Write>(
     alloc: Global,
     writer: &mut W,
+    format: u32,
     table: &Table,
     checkpoint: Option<&Checkpoint>,
 ) -> Result<(), WriteFault>
     // The whole text was written, or after a fault a part from its front.
     ensures { WritesText result (W.contents writer.old) (W.contents writer.new)
-        (start_text (written_start table.now (option_map (λ c. c.now) checkpoint.entry))) }
+        (start_text (record { format = format; table = table.now; checkpoint = option_map (λ c. c.now) checkpoint.entry })) }
 {
     match checkpoint {
-        None => write_table(alloc, writer, table),
-        Some(checkpoint) => write_checkpoint(alloc, writer, table, checkpoint),
+        None => write_table(alloc, writer, format, table),
+        Some(checkpoint) => write_checkpoint(alloc, writer, format, checkpoint),
     }
 }
 
-/// Writes a whole history: in the latest format, or from a checkpoint.
+/// Writes a whole history, in the format of `format_for`: the lines of a table or of a checkpoint, and those of the events.
 pub fn write_history<W: Write>(
     alloc: Global,
     writer: &mut W,
@@ -313,9 +365,10 @@ pub fn write_history<W: Write>(
 ) -> Result<(), WriteFault>
     // The whole text was written, or after a fault a part from its front.
     ensures { WritesText result (W.contents writer.old) (W.contents writer.new)
-        (history_text (written_start table.now (option_map (λ c. c.now) checkpoint.entry)) history.now) }
+        (history_text (written_start table.now (option_map (λ c. c.now) checkpoint.entry) history.now) history.now) }
 {
-    match write_start(alloc, writer, table, checkpoint) {
+    let format = format_for(checkpoint, history);
+    match write_start(alloc, writer, format, table, checkpoint) {
         Ok(()) => {}
         Err(fault) => return Err(fault),
     }

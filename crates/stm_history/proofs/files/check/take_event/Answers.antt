@@ -1,6 +1,6 @@
-use Rattle.std.proofs.Common.{refl, sym, subst, inl, inr, ap}
+use Rattle.std.proofs.Common.{subst, inl, inr, ap}
 use Rattle.stm_event_lines.specs.Fits.{FitsFormat}
-use Rattle.stm_history.specs.declared.files.fault.HistoryFault.TheVariants.{BadLine, NotLegal}
+use Rattle.stm_history.specs.declared.files.fault.HistoryFault.TheVariants.{BadLine}
 use Rattle.stm_history.proofs.RefusedLines.{unfit}
 use Rattle.stm_history.proofs.files.check.take_event.Goals as goal
 

@@ -1,7 +1,7 @@
 use Rattle.std.proofs.Common.{◌≡◌, Bool, true, Some, sym, ap, subst, ◌∙◌}
 use Rattle.stm_events.specs.declared.errors.FinishError.TheVariants.{HistoryFull}
 use Rattle.stm_events.specs.Refusals.{finish_refused}
-use Rattle.stm_history.proofs.DueEvents.{cells_when_full, finish_always}
+use Rattle.stm_history.proofs.DueEvents.{cells_when_full}
 use Rattle.stm_history.proofs.files.expecting.finish_error.Goals as goal
 
 pub returns-then-full-clause-refused : goal.returns-then-full-clause-refused

@@ -4,6 +4,6 @@ use Rattle.stm_history.proofs.Explanations.{block_head}
 use Rattle.stm_history.proofs.files.explaining.block_due.Goals as goal
 
 pub returns-in-Ok : goal.returns-in-Ok
-returns-in-Ok c = λ waiting T fits.
+returns-in-Ok c = λ format waiting.
     let b = c.args.block in
-    block_head waiting T c.args.checkpoint.now b.ticket b.block b.delivery c.short_line.result fits c.in-Ok.ensures.done.0 (subst (λ (y : List ℕ). IsShortOr y c.short_line.result) c.in_ok-text.ensures c.short_line.ensures)
+    block_head format waiting c.args.checkpoint.now b.ticket b.block b.delivery c.short_line.result c.requires c.in-Ok.ensures.done.0 (subst (λ (y : List ℕ). IsShortOr y c.short_line.result) c.in_ok-text.ensures c.short_line.ensures)

@@ -1,5 +1,4 @@
-use Rattle.std.proofs.Common.{None}
-use Rattle.stm_history.specs.Starts.{written_start}
+use Rattle.stm_history.specs.Starts.{table_start}
 use Rattle.stm_history.proofs.ReplayFaults.{legal_over}
 use Rattle.stm_history.proofs.files.replaying.replay.Goals as goal
 
@@ -8,4 +7,4 @@ returns-in-Ok-step_all-clause-ok c =
     let table = c.args.table.now in
     let history = c.args.history.now in
     let f = c.in-Ok-step_all.ensures.done table c.in-Ok.ensures.follows in
-    (legal_over table history f.legal, c.numbers.ensures (written_start table None) history f)
+    (legal_over table history f.legal, c.numbers.ensures (table_start table) history f)

@@ -1,4 +1,3 @@
-use Rattle.std.proofs.Common.{sym}
 use Rattle.stm_events.specs.declared.errors.CancelError.TheVariants.{NoMemory}
 use Rattle.stm_history.proofs.AllowedIsNotRefused.{cancel_not_refused}
 use Rattle.stm_history.proofs.AllowedEvents.{only_memory, not_refused}

@@ -1,4 +1,4 @@
-use Rattle.std.proofs.Common.{◌≡◌, None, false, ap, sym, ◌∙◌}
+use Rattle.std.proofs.Common.{false, ap, sym, ◌∙◌}
 use Rattle.stm_events.specs.declared.errors.SubmitError.TheVariants.{NoMemory}
 use Rattle.stm_events.specs.Refusals.{submit_refused}
 use Rattle.stm_history.proofs.AllowedIsNotRefused.{submit_not_refused}

@@ -3,7 +3,7 @@ use Rattle.stm_history.proofs.TextInParts.{cells_part_at, cells_whole_at}
 use Rattle.stm_history.proofs.files.writing.write_cells.Goals as goal
 
 pub returns-in-Err : goal.returns-in-Err
-returns-in-Err g c = cells_part_at c.args.table.now c.args.store.now c.loop-id.id _ _ _ (search rules) c.loop-id.invariant c.in-Err.ensures
+returns-in-Err g c = cells_part_at c.args.names.now c.args.store.now c.loop-id.id _ _ _ (search rules) c.loop-id.invariant c.in-Err.ensures
 
 pub loop-id-preserved : goal.loop-id-preserved
-loop-id-preserved g c = cells_whole_at c.args.table.now c.args.store.now c.loop-id.id _ _ _ (search rules) c.loop-id.invariant c.in-Ok.ensures
+loop-id-preserved g c = cells_whole_at c.args.names.now c.args.store.now c.loop-id.id _ _ _ (search rules) c.loop-id.invariant c.in-Ok.ensures

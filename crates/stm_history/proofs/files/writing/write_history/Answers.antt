@@ -1,12 +1,13 @@
+use Rattle.std.specs.Prelude.{option_map}
 use Rattle.std.proofs.KnownBytes.{Appends-trans}
-use Rattle.stm_history.proofs.TextInParts.{part_after, part_within}
+use Rattle.stm_history.proofs.TextInParts.{front_in, part_after, part_within, whole_in}
 use Rattle.stm_history.proofs.files.writing.write_history.Goals as goal
 
 pub returns-in-Err : goal.returns-in-Err
-returns-in-Err g c = part_within _ _ _ _ c.in-Err.ensures
+returns-in-Err g c = front_in _ _ c.args.table.now (option_map (λ x. x.now) c.args.checkpoint) c.args.history.now _ _ c.format_for-format.ensures (part_within _ _ _ _ c.in-Err.ensures)
 
 pub returns-in-Err-write_events : goal.returns-in-Err-write_events
-returns-in-Err-write_events g c = part_after _ _ _ _ _ c.in-Ok.ensures c.in-Err-write_events.ensures
+returns-in-Err-write_events g c = front_in _ _ c.args.table.now (option_map (λ x. x.now) c.args.checkpoint) c.args.history.now _ _ c.format_for-format.ensures (part_after _ _ _ _ _ c.in-Ok.ensures c.in-Err-write_events.ensures)
 
 pub returns-in-Ok-write_events : goal.returns-in-Ok-write_events
-returns-in-Ok-write_events g c = Appends-trans _ _ _ _ _ c.in-Ok.ensures c.in-Ok-write_events.ensures
+returns-in-Ok-write_events g c = whole_in _ _ c.args.table.now (option_map (λ x. x.now) c.args.checkpoint) c.args.history.now _ _ c.format_for-format.ensures (Appends-trans _ _ _ _ _ c.in-Ok.ensures c.in-Ok-write_events.ensures)

@@ -6,8 +6,8 @@ use Rattle.stm_history.proofs.AllowedEvents.{ticket_left}
 use Rattle.stm_history.specs.Starts.{state_after_start}
 use Rattle.stm_history.proofs.files.replayer.Replayer.expect.Goals as goal
 
-pub due-requires : goal.due-requires
-due-requires c =
+pub due-requires-clause-at : goal.due-requires-clause-at
+due-requires-clause-at c =
     let f = c.requires.follows in
     let g = f.2 in
     (state_after_start f.0 f.1, g.at, λ e. ticket_left f.0 f.1 g.tickets (has_room f.1 (sym (ap (nat_le max_events) g.counted) ∙ e)))

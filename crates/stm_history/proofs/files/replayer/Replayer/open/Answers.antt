@@ -1,4 +1,4 @@
-use Rattle.std.proofs.Common.{◌≡◌, refl, sym, subst, arith}
+use Rattle.std.proofs.Common.{refl, subst, arith}
 use Rattle.stm_events.specs.SlowDesk.{initial_state}
 use Rattle.stm_events.specs.declared.staleness.StalenessRule.{StalenessRule}
 use Rattle.stm_machine.specs.Machine.{IsAt}

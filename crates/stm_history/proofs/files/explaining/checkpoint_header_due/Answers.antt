@@ -3,11 +3,11 @@ use Rattle.std.specs.Prelude.{string_bytes}
 use Rattle.std.proofs.lemmas.Grind.{common_steps}
 use Rattle.stm_history.specs.Checking.{at_header, with_cells}
 use Rattle.stm_history.proofs.Explanations.{head_line}
-use Rattle.stm_history.proofs.files.explaining.explain_checkpoint_header.Goals as goal
+use Rattle.stm_history.proofs.files.explaining.checkpoint_header_due.Goals as goal
 
 pub returns : goal.returns
 returns c =
-    let h = c.in-Some.header in
+    let h = c.args.header in
     let head : c.is_head.result ≡ true = let no = c.if-not-is_head.false in grind (arith, common_steps) in
     head_line at_header (string_bytes c.in_ok-text.text) c.short_line.result
-    (with_cells h.next h.vars h.waiting [] [], inr (h.next, h.vars, h.waiting, c.is_head.ensures.0 head, sym c.in_ok-text.ensures, refl)) c.short_line.ensures
+    (with_cells h.format h.next h.vars h.waiting [] [], inr (h.format, h.next, h.vars, h.waiting, c.requires, c.is_head.ensures.0 head, sym c.in_ok-text.ensures, refl)) c.short_line.ensures
