@@ -5,20 +5,18 @@ use Rattle.std.proofs.lemmas.Bool.Decides.{nat_tests}
 use Rattle.stm_store.specs.declared.cell.Cell.{Cell}
 use Rattle.stm_store.specs.Naming.{Named, is_gapless, name_numbered}
 use Rattle.stm_store.specs.Tables.{Declared}
-use Rattle.stm_events.specs.declared.event.Event.{Event}
 use Rattle.stm_events.specs.SlowDesk.{Slow}
 use Rattle.stm_events.specs.States.{IsLegalFrom}
 use Rattle.stm_machine.specs.declared.checkpoint.CheckpointBlock.{CheckpointBlock}
 use Rattle.stm_machine.specs.Checkpoints.{CheckpointView, started_by}
 use Rattle.stm_event_lines.specs.CheckpointLines.{FitsName, IsCheckpointFormat, cell_line, checkpoint_format, checkpoint_header_line}
-use Rattle.stm_event_lines.specs.Lines.{IsFormat, declaring_format, rule_of}
+use Rattle.stm_event_lines.specs.Lines.{declaring_format, rule_of}
 use Rattle.stm_event_lines.proofs.Checkpoints.{cell_one_line, checkpoint_header_one_line, waiting_one_line}
 use Rattle.stm_history.specs.Checking.{NoFeed}
-use Rattle.stm_history.specs.FileLaws.{WhatIsKeptIsTaken}
-use Rattle.stm_history.specs.HistoryText.{block_line, block_lines, cell_lines, cell_lines_from, checkpoint_text, event_lines, history_text, start_text, text_before}
-use Rattle.stm_history.specs.Judgement.{AreEvents, AreShortLines, CheckpointFits, FitBlocks, FitCells, FitsBefore, HaveShortLines, IsBefore, StartFits, are_short_after, max_line}
-use Rattle.stm_history.specs.Loading.{IsWholeHistory}
-use Rattle.stm_history.specs.Starts.{Start, declares, delivery_of_block, first_state, format_for, format_of_start, read_back, table_back}
+use Rattle.stm_history.specs.FileLaws.{WhatIsKeptIsTaken, WrittenFormatsFit}
+use Rattle.stm_history.specs.HistoryText.{block_line, block_lines, cell_lines, cell_lines_from, checkpoint_text, event_lines, text_before}
+use Rattle.stm_history.specs.Judgement.{AreEvents, AreShortLines, CheckpointFits, FitBlocks, FitCells, FitsBefore, FormatFits, HaveShortLines, IsBefore, are_short_after, max_line}
+use Rattle.stm_history.specs.Starts.{Start, declares, delivery_of_block, first_state, format_of_start, read_back, table_back}
 use Rattle.stm_history.proofs.CellNames.{fits_name, named_fits}
 use Rattle.stm_history.proofs.CutsAtLineFeeds.{no_feed}
 use Rattle.stm_history.proofs.OneReading.{head_fits}
@@ -80,40 +78,33 @@ short_checkpoint format c i f e =
     short_blocks c.names c.blocks f.blocks (after_cells 0 c.names c.store (block_lines c.blocks) (λ j. fits_name j c.names known.named) f.cells s.after)
 
 -- ---- the format
--- histories that begin so may be in this format
-abbrev pub IsFormatOf : ℕ → Option CheckpointView → Type 0
-IsFormatOf format None = IsFormat format
-IsFormatOf format (Some c) = IsCheckpointFormat format × (format ≡ checkpoint_format → is_gapless c.names ≡ true)
-
-declaring_of : (o : Option CheckpointView) → IsFormatOf declaring_format o
+declaring_of : (o : Option CheckpointView) → FormatFits declaring_format o
 declaring_of None = inr refl
 declaring_of (Some c) = (inr refl, λ e. absurd (omega (arith, e)))
 
-checkpoint_of : (c : CheckpointView) (b : Bool) → is_gapless c.names ≡ b → IsFormatOf (cond b checkpoint_format declaring_format) (Some c)
+checkpoint_of : (c : CheckpointView) (b : Bool) → is_gapless c.names ≡ b → FormatFits (cond b checkpoint_format declaring_format) (Some c)
 checkpoint_of c true e = (inl refl, λ f. e)
 checkpoint_of c false e = declaring_of (Some c)
 
-start_of : (o : Option CheckpointView) → IsFormatOf (format_of_start o) o
+start_of : (o : Option CheckpointView) → FormatFits (format_of_start o) o
 start_of None = inl (omega arith, omega arith)
 start_of (Some c) = checkpoint_of c (is_gapless c.names) refl
 
-format_by : (o : Option CheckpointView) (b : Bool) → IsFormatOf (cond b declaring_format (format_of_start o)) o
+format_by : (o : Option CheckpointView) (b : Bool) → FormatFits (cond b declaring_format (format_of_start o)) o
 format_by o true = declaring_of o
 format_by o false = start_of o
 
 -- a history may be in the format in which it is written
-pub format_is : (o : Option CheckpointView) (history : List Event) → IsFormatOf (format_for o history) o
-format_is o history = format_by o (declares history)
+pub written_fits : WrittenFormatsFit
+written_fits table o history = format_by o (declares history)
 
 -- ---- the history that is read
-before_back : (format : ℕ) (table : List Declared) (o : Option CheckpointView) → IsFormatOf format o → FitsBefore table o → AreShortLines (text_before format table o) → IsBefore format (table_back table o) o
+before_back : (format : ℕ) (table : List Declared) (o : Option CheckpointView) → FormatFits format o → FitsBefore table o → AreShortLines (text_before format table o) → IsBefore format (table_back table o) o
 before_back format table None k f e = (k, few_variables table f, f)
 before_back format table (Some c) k f e = (refl, record { is_format = k.0; gapless = k.1; fits = f; short = short_checkpoint format c k.0 f e })
 
--- what is written in any format in which it may be is taken
-pub kept_in_format : (s : Start) (history : List Event) → IsFormatOf s.format s.checkpoint → StartFits s → AreShortLines (start_text s) → AreEvents s.format (first_state s) history → IsLegalFrom (first_state s) history
-    → IsWholeHistory (read_back s) (history_text s history) history
-kept_in_format s history format fits short events legal =
+pub what_is_kept_is_taken : WhatIsKeptIsTaken
+what_is_kept_is_taken s history format fits short events legal =
     let same : text_before s.format (table_back s.table s.checkpoint) s.checkpoint ≡ text_before s.format s.table s.checkpoint = text_back s.format s.table s.checkpoint in
     let state : first_state s ≡ first_state (read_back s) = first_back s in
     record {
@@ -122,7 +113,3 @@ kept_in_format s history format fits short events legal =
       events = subst (λ (z : Slow). AreEvents s.format z history) state events;
       legal = subst (λ (z : Slow). IsLegalFrom z history) state legal;
     }
-
-pub what_is_kept_is_taken : WhatIsKeptIsTaken
-what_is_kept_is_taken s history written fits short events legal =
-    kept_in_format s history (subst (λ (k : ℕ). IsFormatOf k s.checkpoint) (sym (ap (λ (z : Start). z.format) written)) (format_is s.checkpoint history)) fits short events legal

@@ -9,6 +9,7 @@ use Rattle.stm_events.specs.Delivered.{Delivered}
 use Rattle.stm_events.specs.declared.event.Event.{Event}
 use Rattle.stm_events.specs.SlowDesk.{IsLegalBy, initial_state}
 use Rattle.stm_events.specs.States.{IsLegalFrom}
+use Rattle.stm_machine.specs.Checkpoints.{CheckpointView}
 use Rattle.stm_event_lines.specs.CheckpointLines.{FitsCell, FitsWaiting, IsCheckpointFormat, cell_line, checkpoint_header_line, waiting_line}
 use Rattle.stm_event_lines.specs.Fits.{FitsNames, AreInRange, Is32Bit, IsOneLine, BeginsWithBrace}
 use Rattle.stm_event_lines.specs.Lines.{IsFormat, rule_of, event_line, header_line, variable_line}
@@ -16,7 +17,7 @@ use Rattle.stm_history.specs.declared.files.fault.HistoryFault.{HistoryFault}
 use Rattle.stm_history.specs.declared.files.fault.HistoryFault.TheVariants.{ReadFault, BadHeader, BadLine, NotLegal, NoMemory}
 use Rattle.stm_history.specs.declared.files.fault.Legal.{Legal}
 use Rattle.stm_history.specs.HistoryText.{history_text, start_text}
-use Rattle.stm_history.specs.Judgement.{IsHistory, IsStart, StartFits, ReportsFault, AreEvents, AreShortLines, numbers_from}
+use Rattle.stm_history.specs.Judgement.{FormatFits, IsHistory, IsStart, StartFits, ReportsFault, AreEvents, AreShortLines, numbers_from}
 use Rattle.stm_history.specs.Loading.{IsWholeHistory}
 use Rattle.stm_history.specs.Starts.{Start, first_state, read_back, written_start}
 
@@ -93,10 +94,16 @@ WhatIsWrittenIsTaken =
     → IsHistory (history_text (record { format = format; table = table; checkpoint = None }) history)
     (numbers_from (record { format = format; table = table; checkpoint = None }) history)
 
--- The text of a legal history, as it is written, is read as that history. With a checkpoint the table isn't written, since the names
--- are the checkpoint's, and an empty one is read; the history is the same one, and from the same state.
+-- The text of a legal history, in a format in which it may be written, is read as that history. With a checkpoint the table isn't
+-- written, since the names are the checkpoint's, and an empty one is read; the history is the same one, and from the same state.
 abbrev pub WhatIsKeptIsTaken : Type 0
 WhatIsKeptIsTaken =
-    (s : Start) (history : List Event) → s ≡ written_start s.table s.checkpoint history → StartFits s → AreShortLines (start_text s)
+    (s : Start) (history : List Event) → FormatFits s.format s.checkpoint → StartFits s → AreShortLines (start_text s)
     → AreEvents s.format (first_state s) history → IsLegalFrom (first_state s) history
     → IsWholeHistory (read_back s) (history_text s history) history
+
+-- the format in which a history is written is one in which it may be
+abbrev pub WrittenFormatsFit : Type 0
+WrittenFormatsFit =
+    (table : List Declared) (checkpoint : Option CheckpointView) (history : List Event)
+    → FormatFits (written_start table checkpoint history).format checkpoint

@@ -77,6 +77,11 @@ abbrev pub HaveShortLines : List CheckpointBlock → Type 0
 HaveShortLines [] = ⊤
 HaveShortLines (b ∷ bs) = IsShort (block_line b) × HaveShortLines bs
 
+-- a history that begins so may be written in the format
+abbrev pub FormatFits : ℕ → Option CheckpointView → Type 0
+FormatFits format None = IsFormat format
+FormatFits format (Some c) = IsCheckpointFormat format × (format ≡ checkpoint_format → is_gapless c.names ≡ true)
+
 -- the checkpoint can be read in the format, which is one of checkpoints: in format 4 no name comes after a variable without one
 pub record IsReadable (format : ℕ) (c : CheckpointView) : Type 0 where
   pub is_format : IsCheckpointFormat format

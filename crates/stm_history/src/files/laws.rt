@@ -2,7 +2,7 @@
 
 ghost use Rattle.stm_history.specs.Explanation.{ExpectedLeadsOn, OneEventOfACall, RefusedAreIllegal};
 ghost use Rattle.stm_event_lines.specs.WholeBlocks.{CheckedAreWellTyped};
-ghost use Rattle.stm_history.specs.FileLaws.{EachLineIsOneEvent, EventsAreLines, CheckpointsAreLines, LinesBeginWithBraces, CheckpointsBeginWithBraces, NumbersAreFixed, TextsAreOfOneHistory, HistoriesAreTaken, FaultsAreFixed, WhatIsWrittenIsTaken, WhatIsKeptIsTaken};
+ghost use Rattle.stm_history.specs.FileLaws.{EachLineIsOneEvent, EventsAreLines, CheckpointsAreLines, LinesBeginWithBraces, CheckpointsBeginWithBraces, NumbersAreFixed, TextsAreOfOneHistory, HistoriesAreTaken, FaultsAreFixed, WhatIsWrittenIsTaken, WhatIsKeptIsTaken, WrittenFormatsFit};
 
 /// Different events have different lines, and none has a line feed or a 0. Each line of a history begins with `{`.
 pub fn each_line_is_one_event()
@@ -39,10 +39,15 @@ pub fn what_is_written_is_taken()
     ensures { WhatIsWrittenIsTaken }
 {}
 
-/// What `write_history` writes of a legal history, from a checkpoint or not, `load_history` loads as that history if no line is too
-/// long.
+/// What is written of a legal history, from a checkpoint or not, in a format in which it may be, `load_history` loads as that history
+/// if no line is too long.
 pub fn what_is_kept_is_taken()
     ensures { WhatIsKeptIsTaken }
+{}
+
+/// The format of `format_for`, in which `write_history` writes, is one in which the history may be.
+pub fn written_formats_fit()
+    ensures { WrittenFormatsFit }
 {}
 
 /// A block that a text parses and checks to is well typed.
