@@ -16,6 +16,7 @@ use Rattle.stm_eval.specs.contracts.job.Job as job
 use Rattle.stm_eval.specs.contracts.message.Evaluated as message
 use Rattle.stm_pool.specs.contracts.slot.Slot as slot
 use Rattle.stm_terms.specs.contracts.verdicts.Verdict as verdict
+use Rattle.stm_events.specs.contracts.shared_name.SharedName as shared_name
 use Rattle.stm_events.specs.contracts.shared_verdict.SharedVerdict as shared_verdict
 use Rattle.stm_events.specs.contracts.tickets.Tickets as tickets
 use Rattle.stm_events.specs.contracts.event.Event as event
@@ -68,8 +69,11 @@ shared_verdict_send = search (sendable, crosses, verdict_send, verdict_sync) dep
 pub tickets_send : IsSend tickets.the_row
 tickets_send = search (sendable, crosses) depth 40 fits 100000
 
+pub shared_name_send : IsSend shared_name.the_row
+shared_name_send = search (sendable, crosses) depth 40 fits 100000
+
 pub event_send : IsSend event.the_row
-event_send = search (sendable, block_send, shared_verdict_send, tickets_send) depth 40 fits 100000
+event_send = search (sendable, block_send, shared_name_send, shared_verdict_send, tickets_send) depth 40 fits 100000
 
 pub held_send : IsSend held.the_row
 held_send = search (sendable, crosses, shared_verdict_send) depth 40 fits 100000

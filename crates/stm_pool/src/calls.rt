@@ -2,11 +2,12 @@
 //! is given back wakes those for whom something changed: who waits for events after an accepted
 //! call, and who waits for a queued ticket when there may be one more.
 
-ghost use Rattle.std.specs.Prelude.{◌≡◌, ◌<◌, List, IfOk, OnOk, IfErr, OnErr, IfSome};
+ghost use Rattle.std.specs.Prelude.{◌≡◌, ◌<◌, List, IsTrue, IfOk, OnOk, IfErr, OnErr, IfSome};
+ghost use Rattle.stm_terms.specs.Names.{is_name_text};
 ghost use Rattle.stm_store.specs.Tables.{Declared};
 ghost use Rattle.stm_machine.specs.Machine.{event};
 ghost use Rattle.stm_events.specs.declared.event.Event.{Event as AnyEvent};
-ghost use Rattle.stm_events.specs.declared.event.What.TheVariants.{Submitted, Cancelled};
+ghost use Rattle.stm_events.specs.declared.event.What.TheVariants.{Submitted, Cancelled, Declared as DeclaredLate};
 ghost use Rattle.stm_desk.specs.Events.{installation_of, finish_of};
 ghost use Rattle.stm_pool.specs.Own.{with_own};
 ghost use Rattle.stm_pool.specs.Found.{IsFound};
@@ -21,8 +22,11 @@ use std::sync::ledger::Ledger;
 use stm_check::SharedBlock;
 use stm_desk::{CancelError, DeliverError, Finish, FinishError, SubmitError};
 use stm_eval::{Evaluated, Job};
+use stm_events::LateDeclareError;
 use stm_store::Frozen;
 use stm_terms::NoMemory;
+use stm_terms::kinds::Ty;
+use stm_terms::values::Value;
 
 /// What a worker finds to do.
 #[derive(Drop)]
@@ -48,6 +52,27 @@ impl<L: Ledger> SharedDesk<L> {
         if answer.is_ok() {
             self.grown.notify_all();
             self.queued.notify_all();
+        }
+        answer
+    }
+
+    /// `Guarded::declare`, under the lock.
+    pub fn declare<R: Wait>(
+        &self,
+        rt: &R,
+        pass: &mut Pass<L>,
+        name: &str,
+        kind: Ty,
+        value: Value,
+    ) -> Result<u32, LateDeclareError>
+        requires name { IsTrue (is_name_text name.now) }
+        ensures ok { OnOk result (pass.new
+            ≡ with_own pass.old (event pass.old.client (DeclaredLate name.now kind value))) }
+        ensures err { OnErr result (pass.new ≡ pass.old) }
+    {
+        let answer = self.lock.lock(rt).declare(pass, name, kind, value);
+        if answer.is_ok() {
+            self.grown.notify_all();
         }
         answer
     }

@@ -30,6 +30,7 @@ fn counts_from(own: &[Event], extra: Extra) -> Counts
             What::Installed { .. } => {}
             What::Finished { .. } => counts.finished += 1,
             What::Cancelled { .. } => counts.cancelled += 1,
+            What::Declared { .. } => {}
         }
     }
     counts

@@ -1,17 +1,18 @@
 //! The desk under its lock: what each call does that is lent the desk and a pass.
 
-ghost use Rattle.std.specs.Prelude.{◌≡◌, ◌≢◌, ◌<◌, ◌⊎◌, false, Some, length, option_map, is_some, IfOk, OnOk, IfErr, OnErr, IfSome};
+ghost use Rattle.std.specs.Prelude.{◌≡◌, ◌≢◌, ◌<◌, ◌⊎◌, false, Some, length, option_map, is_some, IsTrue, IfOk, OnOk, IfErr, OnErr, IfSome};
+ghost use Rattle.stm_terms.specs.Names.{is_name_text};
 ghost use Rattle.stm_terms.specs.UnlessNoMemory.{RefusedAs};
 ghost use Rattle.stm_store.specs.Cells.{plains, Covers, applied_answer as told_of};
 ghost use Rattle.stm_eval.specs.EvaluatedFields.{message_ticket};
-ghost use Rattle.stm_events.specs.declared.event.What.TheVariants.{Submitted, Cancelled};
+ghost use Rattle.stm_events.specs.declared.event.What.TheVariants.{Submitted, Cancelled, Declared as DeclaredLate};
 ghost use Rattle.stm_machine.specs.JobsHandedOut.{block_at};
 ghost use Rattle.stm_machine.specs.Machine.{event};
 ghost use Rattle.stm_events.specs.Refusals.{without_message};
 ghost use Rattle.stm_queue.specs.Queue.{is_out, marked, first_queued, sent_out};
 ghost use Rattle.stm_desk.specs.DeskView.{state_of, with_event};
 ghost use Rattle.stm_desk.specs.Events.{installation_of, finish_of};
-ghost use Rattle.stm_desk.specs.Refusals.{submit_refusal, cancel_refusal, finish_refusal, RefusesDelivery, requeued_if_overtaken};
+ghost use Rattle.stm_desk.specs.Refusals.{submit_refusal, declare_refusal, cancel_refusal, finish_refusal, RefusesDelivery, requeued_if_overtaken};
 ghost use Rattle.stm_pool.specs.Own.{own_of, with_own, events_in_passes};
 ghost use Rattle.stm_pool.specs.Shown.{IsShown, IsPresentView};
 ghost use Rattle.stm_pool.specs.Closing.{close_told, TellsClose, MayClose, ClosingTells};
@@ -22,9 +23,11 @@ use std::sync::ledger::{Book, Ledger, Share};
 use stm_check::SharedBlock;
 use stm_desk::{CancelError, DeliverError, Desk, Finish, FinishError, SubmitError};
 use stm_eval::{Evaluated, Job};
-use stm_events::{Event, SharedVerdict, What};
+use stm_events::{Event, LateDeclareError, SharedName, SharedVerdict, What};
 use stm_store::Frozen;
 use stm_terms::NoMemory;
+use stm_terms::kinds::Ty;
+use stm_terms::values::Value;
 
 /// The desk, whether it was stopped, and the book of all passes' shares.
 ///
@@ -78,6 +81,45 @@ impl<L: Ledger> Guarded<L> {
             },
         });
         Ok(ticket)
+    }
+
+    /// `Desk::declare`; the event joins the pass's list too, and `NoMemory` can stand before the
+    /// desk's own refusals.
+    pub fn declare(
+        &mut self,
+        pass: &mut Pass<L>,
+        name: &str,
+        kind: Ty,
+        value: Value,
+    ) -> Result<u32, LateDeclareError>
+        requires name { IsTrue (is_name_text name.now) }
+        ensures desk { OnOk result (self.new.desk
+            ≡ with_event self.old.desk pass.old.client (DeclaredLate name.now kind value)) }
+        ensures pass { OnOk result (pass.new
+            ≡ with_own pass.old (event pass.old.client (DeclaredLate name.now kind value))) }
+        ensures number { IfOk result (λ i. i ≡ length (state_of self.old.desk).store) }
+        // Unless memory runs out first, it is refused as the desk's own call is.
+        ensures refused { result ≢ Err LateDeclareError.NoMemory
+            → RefusedAs LateDeclareError.NoMemory (declare_refusal self.old.desk name.now kind value) result }
+        ensures err { OnErr result ((self.new.desk ≡ self.old.desk) × (pass.new ≡ pass.old)) }
+        ensures stopped { self.new.stopped ≡ self.old.stopped }
+    {
+        let Guarded { desk, book, .. } = self;
+        let alloc = *pass.own.allocator();
+        pass.own.reserve(1)?;
+        let told = SharedName::new(alloc, String::from_str(alloc, name)?)?;
+        let client = pass.client;
+        let number = desk.declare(client, name, kind, value)?;
+        book.add(&mut pass.share, 1);
+        pass.own.push_reserved(Event {
+            client,
+            what: What::Declared {
+                name: told,
+                kind,
+                value,
+            },
+        });
+        Ok(number)
     }
 
     /// `Desk::cancel`; the event joins the pass's list too, and `NoMemory` can stand before the
