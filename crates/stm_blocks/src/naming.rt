@@ -1,18 +1,17 @@
 //! The names of variables.
 
-ghost use Rattle.std.specs.Prelude.{◌≡◌, ◌++◌, slice_get, string_bytes, OnOk};
+ghost use Rattle.std.specs.Prelude.{◌≡◌, ◌++◌, option_map, string_bytes, OnOk};
 ghost use Rattle.stm_blocks.specs.NameText.{name_text};
 
-use stm_store::Table;
 use stm_terms::NoMemory;
 
-/// Appends the name of a variable, if it was declared.
-pub fn write_name(table: &Table, number: u32, out: &mut String) -> Result<(), NoMemory>
+/// Appends the name of a variable and a space, if it has a name.
+pub fn write_name(name: Option<&str>, out: &mut String) -> Result<(), NoMemory>
     ensures { OnOk result
-        (string_bytes out.new ≡ string_bytes out.old ++ name_text (slice_get table.now number)) }
+        (string_bytes out.new ≡ string_bytes out.old ++ name_text (option_map (λ n. n.now) name.entry)) }
 {
-    if (number as usize) < table.len() {
-        out.push_str(table.name(number))?;
+    if let Some(name) = name {
+        out.push_str(name)?;
         out.push_str(" ")?;
     }
     Ok(())
