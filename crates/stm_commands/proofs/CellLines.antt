@@ -6,7 +6,7 @@ use Rattle.stm_terms.specs.declared.values.Value.{Value}
 use Rattle.stm_terms.specs.Changes.{cell_value}
 use Rattle.stm_store.specs.declared.cell.Cell.{Cell}
 use Rattle.stm_store.specs.Cells.{plains, kinds_of}
-use Rattle.stm_store.specs.Tables.{Declared}
+use Rattle.stm_store.specs.Naming.{Named, name_numbered}
 use Rattle.stm_commands.specs.Contents.{stored_line, stored_lines}
 
 -- a cell is its type, its value and its count
@@ -24,7 +24,7 @@ drop-next (x ∷ cells) zero c e = let m : x ≡ c = cc in ap (λ y. y ∷ cells
 drop-next (x ∷ cells) (suc i) c e = drop-next cells i c e
 
 -- the text so far and the lines from the next variable on
-pub one_more : (text line all : List ℕ) (table : List Declared) (cells : List Cell) (i : ℕ) (c : Cell) → slice_get cells i ≡ Some c → line ≡ text ++ stored_line i (slice_get table i) c
-    → text ++ stored_lines table i (drop i cells) ≡ all → line ++ stored_lines table (i + 1) (drop (i + 1) cells) ≡ all
-one_more text line all table cells i c e l h =
-    rw (add-one, l) (append_assoc text (stored_line i (slice_get table i) c) _ ∙ sym (ap (λ r. text ++ r) (rw add-one at (ap (stored_lines table i) (drop-next cells i c e)))) ∙ h)
+pub one_more : (text line all : List ℕ) (names : List Named) (cells : List Cell) (i : ℕ) (c : Cell) → slice_get cells i ≡ Some c → line ≡ text ++ stored_line i (name_numbered i names) c
+    → text ++ stored_lines names i (drop i cells) ≡ all → line ++ stored_lines names (i + 1) (drop (i + 1) cells) ≡ all
+one_more text line all names cells i c e l h =
+    rw (add-one, l) (append_assoc text (stored_line i (name_numbered i names) c) _ ∙ sym (ap (λ r. text ++ r) (rw add-one at (ap (stored_lines names i) (drop-next cells i c e)))) ∙ h)

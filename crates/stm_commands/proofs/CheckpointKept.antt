@@ -4,7 +4,7 @@ use Rattle.std.specs.Prelude.{nat_eq, option_map}
 use Rattle.stm_terms.specs.declared.kinds.Ty.{Ty}
 use Rattle.stm_terms.specs.declared.values.Value.{Value}
 use Rattle.stm_store.specs.declared.cell.Cell.{Cell}
-use Rattle.stm_store.specs.Tables.{Declared}
+use Rattle.stm_store.specs.Naming.{Named}
 use Rattle.stm_check.specs.TypedBlock.{Block}
 use Rattle.stm_events.specs.SlowDesk.{Slow, Waiter, find_waiter}
 use Rattle.stm_events.specs.States.{IsTicketOf, IsLegalFrom}
@@ -12,7 +12,7 @@ use Rattle.stm_machine.specs.Checkpoints.{waiter_of, checkpoint_state, checkpoin
 use Rattle.stm_desk.specs.DeskView.{DeskView, start_state, state_of, checkpointed}
 use Rattle.stm_commands.specs.declared.jobs.KeptJob.{KeptJob}
 use Rattle.stm_commands.specs.OpenDesk.{HandedOut}
-use Rattle.stm_commands.specs.OpenInvariant.{job_kept, HaveStores, JobsStand, IsPresentCopy, OpenInvariant}
+use Rattle.stm_commands.specs.OpenInvariant.{job_kept, HaveStores, JobsStand, IsPresentCopy, NamesFollow, OpenInvariant}
 
 -- a waiting block as the state of a checkpoint has it
 abbrev seen_again : List Cell → Waiter → Waiter
@@ -75,13 +75,17 @@ unfolding checkpoint_of
 copied_again d None c = tt
 copied_again d (Some cells) c = c
 
-pub kept_again : {table : List Declared} → (d e : DeskView) (copy : Option (List (Ty × Value))) (ks : List KeptJob) → e ≡ checkpointed d → MayStart e.table e.checkpoint → IsLegalFrom (start_state e) e.history → OpenInvariant d copy ks table
-    → OpenInvariant e copy ks table
-kept_again {table = table} d e copy ks q start legal k = record {
+named_again : (d : DeskView) (known : List Named) → NamesFollow known (state_of d).names → NamesFollow known (state_of (checkpointed d)).names
+unfolding checkpoint_of
+named_again d known k = k
+
+pub kept_again : {known : List Named} → (d e : DeskView) (copy : Option (List (Ty × Value))) (ks : List KeptJob) → e ≡ checkpointed d → MayStart e.table e.checkpoint → IsLegalFrom (start_state e) e.history → OpenInvariant d copy ks known
+    → OpenInvariant e copy ks known
+kept_again {known = known} d e copy ks q start legal k = record {
   start = start;
   legal = legal;
   copied = subst (λ (f : DeskView). IsPresentCopy f copy) (sym q) (copied_again d copy k.copied);
   jobs_stand = subst (λ (f : DeskView). JobsStand f (map job_kept ks)) (sym q) (stand_again d (map job_kept ks) k.jobs_stand);
   have_stores = subst (λ (f : DeskView). HaveStores (state_of f).waiters ks) (sym q) (stored_again d ks k.have_stores);
-  same_table = k.same_table ∙ sym (ap (λ (f : DeskView). f.table) q);
+  kept_names = subst (λ (f : DeskView). NamesFollow known (state_of f).names) (sym q) (named_again d known k.kept_names);
 }

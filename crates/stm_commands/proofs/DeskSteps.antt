@@ -4,16 +4,19 @@ use Rattle.std.specs.Prelude.{codes, nat_lt}
 use Rattle.stm_check.specs.TypedBlock.{Block}
 use Rattle.stm_terms.specs.UnlessNoMemory.{RefusedAs}
 use Rattle.stm_store.specs.Cells.{changed_by}
+use Rattle.stm_store.specs.Tables.{Declared}
 use Rattle.stm_queue.specs.Queue.{Entry, is_out}
 use Rattle.stm_machine.specs.JobsHandedOut.{sent}
 use Rattle.stm_events.specs.declared.errors.DeliverError.{DeliverError}
 use Rattle.stm_events.specs.declared.errors.SubmitError.{SubmitError}
 use Rattle.stm_events.specs.declared.errors.SubmitError.TheVariants as submit
+use Rattle.stm_events.specs.declared.errors.LateDeclareError.{LateDeclareError}
+use Rattle.stm_events.specs.declared.errors.LateDeclareError.TheVariants as late
 use Rattle.stm_events.specs.declared.errors.CancelError.{CancelError}
 use Rattle.stm_events.specs.declared.errors.CancelError.TheVariants as cancel
 use Rattle.stm_events.specs.declared.errors.FinishError.{FinishError}
 use Rattle.stm_events.specs.declared.errors.FinishError.TheVariants as finish
-use Rattle.stm_events.specs.declared.event.What.TheVariants.{Submitted, Finished, Cancelled}
+use Rattle.stm_events.specs.declared.event.What.TheVariants.{Submitted, Finished, Cancelled, Declared as DeclaredLate}
 use Rattle.stm_events.specs.declared.staleness.StalenessRule.{StalenessRule}
 use Rattle.stm_events.specs.SlowDesk.{find_waiter, without_waiter, stale_after, waking}
 use Rattle.stm_events.specs.SlowSettle.{Order, finishes}
@@ -25,7 +28,7 @@ use Rattle.stm_events.specs.SlowAtomically.{atomically}
 use Rattle.stm_desk.specs.declared.atomic.Ran.{Ran}
 use Rattle.stm_desk.specs.declared.errors.AtomicError.{AtomicError}
 use Rattle.stm_desk.specs.declared.errors.AtomicError.TheVariants as atomic
-use Rattle.stm_desk.specs.Refusals.{submit_refusal, atomic_refusal, cancel_refusal, finish_refusal}
+use Rattle.stm_desk.specs.Refusals.{submit_refusal, declare_refusal, atomic_refusal, cancel_refusal, finish_refusal}
 use Rattle.stm_desk.proofs.Calls.{accepted}
 use Rattle.stm_desk.proofs.Starts.{start_rule}
 use Rattle.stm_desk.specs.declared.finish.Finish.{Finish}
@@ -34,15 +37,17 @@ use Rattle.stm_desk.specs.DeskView.{DeskView, start_state, state_of, with_event}
 use Rattle.stm_desk.specs.Settling.{with_whats, requeued_all, slow_run, slow_run_stop, HasRun, HasHalted}
 use Rattle.stm_commands.specs.Atomically.{ran_text, atomically_block_step, atomically_text_step, atomically_step}
 use Rattle.stm_commands.specs.Blocks.{ticket_line, submit_block_step}
+use Rattle.stm_commands.specs.Declaring.{declared_line, declare_variable_step, declare_text_step, declare_step}
 use Rattle.stm_commands.specs.Endings.{finished_line, finish_verdict_step, finish_waiter_step, finish_ticket_step, cancelled_line, cancel_ticket_step, why_text, run_text, run_desk_step}
 use Rattle.stm_blocks.specs.declared.refusal.Refusal.{Refusal}
 use Rattle.stm_blocks.specs.CompiledBlock.{compiled_block}
+use Rattle.stm_blocks.specs.DeclaredVariable.{late_variable_of}
 use Rattle.stm_commands.specs.declared.evaluation.Progress.{Progress}
 use Rattle.stm_commands.specs.Evaluation.{DeliveredSoFar, evaluated, evaluation_text, eval_desk_step}
 use Rattle.stm_commands.specs.Jobs.{max_jobs, jobs_of, taken, jobs_line, with_jobs, take_jobs_step, delivery_refusal, delivery_step, deliver_job_step, queued_line, handed_back, handback_ticket_step}
-use Rattle.stm_commands.specs.OpenDesk.{HandedOut, OpenDesk, on_desk, Steps}
+use Rattle.stm_commands.specs.OpenDesk.{HandedOut, OpenDesk, on_desk, known, Steps}
 use Rattle.stm_commands.specs.OpenInvariant.{delivered_so_far}
-use Rattle.stm_commands.specs.Refusals.{refused, submit_error_text, atomic_error_text, finish_error_text, cancel_error_text}
+use Rattle.stm_commands.specs.Refusals.{refused, late_declare_error_text, submit_error_text, atomic_error_text, finish_error_text, cancel_error_text}
 use Rattle.stm_commands.proofs.EvaluatedHere.{marked_queued}
 
 abbrev opened_as : List HandedOut → DeskView → OpenDesk
@@ -66,6 +71,28 @@ pub submit_err : {A E : Type 0} → (d e : DeskView) (js : List HandedOut) (b : 
 submit_err d e js b x old new (Ok y) p n t h =
     subst (λ (o : Option SubmitError). Steps (opened_as js e) old new (on_desk (opened_as js d) (submit_block_step d b o))) (sym (refusal_is ℕ submit.NoMemory (submit_refusal d b) x n t)) (ap (opened_as js) p, h)
 submit_err d e js b x old new (Err y) p n t h = tt
+
+-- ---- declare
+pub declare_ok : {A E : Type 0} → (d e : DeskView) (js : List HandedOut) (v : Declared) (i : ℕ) (old new : List ℕ) (r : Result A E) → e ≡ with_event d 0 (DeclaredLate v.name v.kind v.value) → i ≡ length (state_of d).store
+    → RefusedAs late.NoMemory (declare_refusal d v.name v.kind v.value) (Ok i) → OnOk r (new ≡ old ++ declared_line i v.name)
+    → OnOk r (Steps (opened_as js e) old new (on_desk (opened_as js d) (declare_variable_step d v (declare_refusal d v.name v.kind v.value))))
+declare_ok d e js v i old new (Ok x) p q n h =
+    subst (λ (o : Option LateDeclareError). Steps (opened_as js e) old new (on_desk (opened_as js d) (declare_variable_step d v o))) (sym (accepted late.NoMemory (declare_refusal d v.name v.kind v.value) i n))
+    (ap (opened_as js) p, h ∙ ap (λ (k : ℕ). old ++ declared_line k v.name) q)
+declare_ok d e js v i old new (Err x) p q n h = tt
+
+pub declare_err : {A E : Type 0} → (d e : DeskView) (js : List HandedOut) (v : Declared) (x : LateDeclareError) (old new : List ℕ) (r : Result A E) → e ≡ d → RefusedAs {A = ℕ} late.NoMemory (declare_refusal d v.name v.kind v.value) (Err x)
+    → OnOk r (x ≢ late.NoMemory) → OnOk r (new ≡ old ++ late_declare_error_text x)
+    → OnOk r (Steps (opened_as js e) old new (on_desk (opened_as js d) (declare_variable_step d v (declare_refusal d v.name v.kind v.value))))
+declare_err d e js v x old new (Ok y) p n t h =
+    subst (λ (o : Option LateDeclareError). Steps (opened_as js e) old new (on_desk (opened_as js d) (declare_variable_step d v o))) (sym (refusal_is ℕ late.NoMemory (declare_refusal d v.name v.kind v.value) x n t)) (ap (opened_as js) p, h)
+declare_err d e js v x old new (Err y) p n t h = tt
+
+-- of a text that declares this variable
+pub text_declared : {A E : Type 0} → (d after : OpenDesk) (text : List ℕ) (v : Declared) (old new : List ℕ) (r : Result A E) → late_variable_of (known d) text ≡ Ok v
+    → OnOk r (Steps after old new (on_desk d (declare_variable_step d.desk v (declare_refusal d.desk v.name v.kind v.value)))) → OnOk r (Steps after old new (declare_step d text))
+unfolding declare_step
+text_declared d after text v old new r is h = subst (λ (x : Result Declared Refusal). OnOk r (Steps after old new (on_desk d (declare_text_step d.desk x)))) (sym is) h
 
 -- ---- take
 pub take_made : {A E : Type 0} → (d e : DeskView) (js made more : List HandedOut) (n first : ℕ) (old new : List ℕ) (r : Result A E) → nat_lt max_jobs (n + length js) ≡ false → first ≡ length js + 1 → new ≡ old ++ jobs_line first (taken d n)
@@ -166,7 +193,7 @@ ran_err d e js b x old new (Ok y) p n t h =
 ran_err d e js b x old new (Err y) p n t h = tt
 
 -- of a text that was compiled to this block
-pub text_ran : {A E : Type 0} → (d e after : OpenDesk) (text : List ℕ) (b : Block) (old new : List ℕ) (r : Result A E) → e ≡ d → compiled_block d.desk.table text ≡ Ok b
+pub text_ran : {A E : Type 0} → (d e after : OpenDesk) (text : List ℕ) (b : Block) (old new : List ℕ) (r : Result A E) → e ≡ d → compiled_block (known d) text ≡ Ok b
     → OnOk r (Steps after old new (on_desk e (atomically_block_step e.desk b (atomic_refusal e.desk b)))) → OnOk r (Steps after old new (atomically_step d text))
 unfolding atomically_step
 text_ran d e after text b old new r same is h =

@@ -4,15 +4,16 @@ use Rattle.std.specs.Prelude.{map, option_map}
 use Rattle.stm_terms.specs.declared.kinds.Ty.{Ty}
 use Rattle.stm_terms.specs.declared.values.Value.{Value}
 use Rattle.stm_store.specs.Cells.{plains}
-use Rattle.stm_store.specs.Tables.{Declared}
+use Rattle.stm_store.specs.Naming.{Named}
 use Rattle.stm_check.specs.TypedBlock.{Block}
 use Rattle.stm_eval.specs.declared.job.Job.{Job}
 use Rattle.stm_events.specs.declared.errors.CancelError.{CancelError}
 use Rattle.stm_events.specs.declared.errors.FinishError.{FinishError}
+use Rattle.stm_events.specs.declared.errors.LateDeclareError.{LateDeclareError}
 use Rattle.stm_events.specs.declared.errors.SubmitError.{SubmitError}
 use Rattle.stm_events.specs.declared.event.Event.{Event}
 use Rattle.stm_events.specs.declared.event.What.{What}
-use Rattle.stm_events.specs.declared.event.What.TheVariants.{Submitted, Cancelled}
+use Rattle.stm_events.specs.declared.event.What.TheVariants.{Submitted, Cancelled, Declared as DeclaredLate}
 use Rattle.stm_machine.specs.JobsHandedOut.{block_at, AreJobs, AreJobsCovered}
 use Rattle.stm_machine.specs.Machine.{event}
 use Rattle.stm_machine.specs.Checkpoints.{MayStart}
@@ -35,9 +36,9 @@ use Rattle.stm_events.specs.SlowSettle.{Order}
 use Rattle.stm_commands.specs.declared.jobs.KeptJob.{KeptJob}
 use Rattle.stm_commands.specs.Jobs.{job_of, jobs_of}
 use Rattle.stm_commands.specs.OpenDesk.{HandedOut}
-use Rattle.stm_commands.specs.OpenInvariant.{handed_out, job_kept, HaveStores, JobStands, JobsStand, IsPresentCopy, OpenInvariant, HasGrown}
+use Rattle.stm_commands.specs.OpenInvariant.{handed_out, job_kept, HaveStores, JobStands, JobsStand, IsPresentCopy, NamesFollow, OpenInvariant, HasGrown}
 use Rattle.stm_commands.proofs.KeptStores.{stores_grown}
-use Rattle.stm_commands.proofs.LegalDesks.{grown_state, grown_legal, grown_possible}
+use Rattle.stm_commands.proofs.LegalDesks.{grown_state, grown_legal, grown_possible, same_names, names_grown}
 
 -- the desk after one event more
 pub now_next : (d : DeskView) (client : ℕ) (w : What) → state_of (with_event d client w) ≡ after (state_of d) w
@@ -87,29 +88,48 @@ copied_same d e None p c = tt
 copied_same d e (Some cells) p c = c ∙ ap plains (sym p)
 
 -- and so does what an open desk keeps
-pub kept_grown : {table : List Declared} → (d e : DeskView) (copy : Option (List (Ty × Value))) (ks : List KeptJob) → HasGrown d e → (state_of e).store ≡ (state_of d).store → OpenInvariant d copy ks table → OpenInvariant e copy ks table
-kept_grown d e copy ks g p k = record {
+pub kept_grown : {known : List Named} → (d e : DeskView) (copy : Option (List (Ty × Value))) (ks : List KeptJob) → HasGrown d e → (state_of e).store ≡ (state_of d).store → OpenInvariant d copy ks known → OpenInvariant e copy ks known
+kept_grown {known = known} d e copy ks g p k = record {
   start = g.start;
   legal = g.legal;
   copied = copied_same d e copy p k.copied;
   jobs_stand = stand_grown d e (map job_kept ks) g k.jobs_stand;
   have_stores = stores_grown d e ks g k.jobs_stand k.have_stores;
-  same_table = k.same_table ∙ sym g.table;
+  kept_names = names_grown d e known g k.kept_names;
 }
 
--- with other blocks by their texts
-pub kept_prepared : (d : DeskView) (copy : Option (List (Ty × Value))) (ks : List KeptJob) (table others : List Declared) → others ≡ table → OpenInvariant d copy ks table → OpenInvariant d copy ks others
-kept_prepared d copy ks table others same k = subst (OpenInvariant d copy ks) (sym same) k
+-- what an open desk without jobs keeps
+pub kept_resumed : (d : DeskView) (ks : List KeptJob) (known : List Named) → ks ≡ [] → known ≡ (state_of d).names → MayStart d.table d.checkpoint → IsLegalFrom (start_state d) d.history → OpenInvariant d None ks known
+kept_resumed d ks known e same start legal =
+    subst (λ (js : List KeptJob). OpenInvariant d None js known) (sym e) (record {
+      start = start;
+      legal = legal;
+      copied = tt;
+      jobs_stand = tt;
+      have_stores = tt;
+      kept_names = subst (λ (ns : List Named). NamesFollow ns (state_of d).names) (sym same) (same_names (state_of d).names);
+    })
+
+-- with blocks that were checked over the present names
+pub kept_prepared : {known : List Named} → (d : DeskView) (copy : Option (List (Ty × Value))) (ks : List KeptJob) (others : List Named) → others ≡ (state_of d).names → OpenInvariant d copy ks known → OpenInvariant d copy ks others
+kept_prepared d copy ks others same k = record {
+  start = k.start;
+  legal = k.legal;
+  copied = k.copied;
+  jobs_stand = k.jobs_stand;
+  have_stores = k.have_stores;
+  kept_names = subst (λ (ns : List Named). NamesFollow ns (state_of d).names) (sym same) (same_names (state_of d).names);
+}
 
 -- without a copy the store may be another one
-pub kept_without : {table : List Declared} → (d e : DeskView) (copy : Option (List (Ty × Value))) (ks : List KeptJob) → HasGrown d e → OpenInvariant d copy ks table → OpenInvariant e None ks table
-kept_without d e copy ks g k = record {
+pub kept_without : {known : List Named} → (d e : DeskView) (copy : Option (List (Ty × Value))) (ks : List KeptJob) → HasGrown d e → OpenInvariant d copy ks known → OpenInvariant e None ks known
+kept_without {known = known} d e copy ks g k = record {
   start = g.start;
   legal = g.legal;
   copied = tt;
   jobs_stand = stand_grown d e (map job_kept ks) g k.jobs_stand;
   have_stores = stores_grown d e ks g k.jobs_stand k.have_stores;
-  same_table = k.same_table ∙ sym g.table;
+  kept_names = names_grown d e known g k.kept_names;
 }
 
 -- jobs that a desk gives out stand
@@ -150,27 +170,27 @@ queued_copied : (d : DeskView) (p : List (ℕ × Bool)) (copy : Option (List (Ty
 queued_copied d p None c = tt
 queued_copied d p (Some cells) c = c
 
-pub kept_queued : {table : List Declared} → (d e : DeskView) (copy : Option (List (Ty × Value))) (ks : List KeptJob) → e ≡ record d { pending = e.pending } → OpenInvariant d copy ks table → OpenInvariant e copy ks table
-kept_queued {table = table} d e copy ks q k =
-    subst (λ (f : DeskView). OpenInvariant f copy ks table) (sym q)
-    (record { start = k.start; legal = k.legal; copied = queued_copied d e.pending copy k.copied; jobs_stand = queued_stand d e.pending (map job_kept ks) k.jobs_stand; have_stores = k.have_stores; same_table = k.same_table })
+pub kept_queued : {known : List Named} → (d e : DeskView) (copy : Option (List (Ty × Value))) (ks : List KeptJob) → e ≡ record d { pending = e.pending } → OpenInvariant d copy ks known → OpenInvariant e copy ks known
+kept_queued {known = known} d e copy ks q k =
+    subst (λ (f : DeskView). OpenInvariant f copy ks known) (sym q)
+    (record { start = k.start; legal = k.legal; copied = queued_copied d e.pending copy k.copied; jobs_stand = queued_stand d e.pending (map job_kept ks) k.jobs_stand; have_stores = k.have_stores; kept_names = k.kept_names })
 
-pub kept_pending : {table : List Declared} → (d e : DeskView) (p : List (ℕ × Bool)) (copy : Option (List (Ty × Value))) (ks : List KeptJob) → e ≡ record d { pending = p } → OpenInvariant d copy ks table → OpenInvariant e copy ks table
-kept_pending {table = table} d e p copy ks q k =
-    subst (λ (f : DeskView). OpenInvariant f copy ks table) (sym q)
-    (record { start = k.start; legal = k.legal; copied = queued_copied d p copy k.copied; jobs_stand = queued_stand d p (map job_kept ks) k.jobs_stand; have_stores = k.have_stores; same_table = k.same_table })
+pub kept_pending : {known : List Named} → (d e : DeskView) (p : List (ℕ × Bool)) (copy : Option (List (Ty × Value))) (ks : List KeptJob) → e ≡ record d { pending = p } → OpenInvariant d copy ks known → OpenInvariant e copy ks known
+kept_pending {known = known} d e p copy ks q k =
+    subst (λ (f : DeskView). OpenInvariant f copy ks known) (sym q)
+    (record { start = k.start; legal = k.legal; copied = queued_copied d p copy k.copied; jobs_stand = queued_stand d p (map job_kept ks) k.jobs_stand; have_stores = k.have_stores; kept_names = k.kept_names })
 
 -- with more jobs that stand, where each that needs its store has it
-pub kept_more : {A E : Type 0} {table : List Declared} → (d e : DeskView) (copy : Option (List (Ty × Value))) (ks ls ms : List KeptJob) (r : Result A E) → e ≡ record d { pending = e.pending } → JobsStand d (map job_kept ls)
-    → OnOk r (map job_kept ms ≡ map job_kept ks ++ map job_kept ls) → OnErr r (map job_kept ms ≡ map job_kept ks) → HaveStores (state_of e).waiters ms → OpenInvariant d copy ks table → OpenInvariant e copy ms table
-kept_more {A = A} {E = E} {table = table} d e copy ks ls ms r q s ok err h k = by r ok err (kept_queued d e copy ks q k)
+pub kept_more : {A E : Type 0} {known : List Named} → (d e : DeskView) (copy : Option (List (Ty × Value))) (ks ls ms : List KeptJob) (r : Result A E) → e ≡ record d { pending = e.pending } → JobsStand d (map job_kept ls)
+    → OnOk r (map job_kept ms ≡ map job_kept ks ++ map job_kept ls) → OnErr r (map job_kept ms ≡ map job_kept ks) → HaveStores (state_of e).waiters ms → OpenInvariant d copy ks known → OpenInvariant e copy ms known
+kept_more {A = A} {E = E} {known = known} d e copy ks ls ms r q s ok err h k = by r ok err (kept_queued d e copy ks q k)
   where
     stand : JobsStand e (map job_kept ls)
     stand = subst (λ (f : DeskView). JobsStand f (map job_kept ls)) (sym q) (queued_stand d e.pending (map job_kept ls) s)
 
-    by : (r : Result A E) → OnOk r (map job_kept ms ≡ map job_kept ks ++ map job_kept ls) → OnErr r (map job_kept ms ≡ map job_kept ks) → OpenInvariant e copy ks table → OpenInvariant e copy ms table
-    by (Ok x) p n i = record { start = i.start; legal = i.legal; copied = i.copied; jobs_stand = subst (JobsStand e) (sym p) (stand_append e (map job_kept ks) (map job_kept ls) i.jobs_stand stand); have_stores = h; same_table = i.same_table }
-    by (Err x) p n i = record { start = i.start; legal = i.legal; copied = i.copied; jobs_stand = subst (JobsStand e) (sym n) i.jobs_stand; have_stores = h; same_table = i.same_table }
+    by : (r : Result A E) → OnOk r (map job_kept ms ≡ map job_kept ks ++ map job_kept ls) → OnErr r (map job_kept ms ≡ map job_kept ks) → OpenInvariant e copy ks known → OpenInvariant e copy ms known
+    by (Ok x) p n i = record { start = i.start; legal = i.legal; copied = i.copied; jobs_stand = subst (JobsStand e) (sym p) (stand_append e (map job_kept ks) (map job_kept ls) i.jobs_stand stand); have_stores = h; kept_names = i.kept_names }
+    by (Err x) p n i = record { start = i.start; legal = i.legal; copied = i.copied; jobs_stand = subst (JobsStand e) (sym n) i.jobs_stand; have_stores = h; kept_names = i.kept_names }
 
 -- settling
 whats_table : (d : DeskView) (client : ℕ) (ws : List What) → (with_whats d client ws).table ≡ d.table
@@ -218,8 +238,8 @@ submitted_grown : (d e : DeskView) (b : Block) (r : Result ℕ SubmitError) → 
 submitted_grown d e b (Ok t) p q start legal = (grown_next d e 0 (Submitted t b) p start legal, ap (λ s. (state_of s).store) p ∙ submitted_store d 0 t b)
 submitted_grown d e b (Err x) p q start legal = (grown_same d e q start legal, ap (λ s. (state_of s).store) q)
 
-pub kept_submitted : {table : List Declared} → (d e : DeskView) (copy : Option (List (Ty × Value))) (ks : List KeptJob) (b : Block) (r : Result ℕ SubmitError) → IfOk r (λ t. e ≡ with_event d 0 (Submitted t b)) → OnErr r (e ≡ d)
-    → MayStart e.table e.checkpoint → IsLegalFrom (start_state e) e.history → OpenInvariant d copy ks table → OpenInvariant e copy ks table
+pub kept_submitted : {known : List Named} → (d e : DeskView) (copy : Option (List (Ty × Value))) (ks : List KeptJob) (b : Block) (r : Result ℕ SubmitError) → IfOk r (λ t. e ≡ with_event d 0 (Submitted t b)) → OnErr r (e ≡ d)
+    → MayStart e.table e.checkpoint → IsLegalFrom (start_state e) e.history → OpenInvariant d copy ks known → OpenInvariant e copy ks known
 kept_submitted d e copy ks b r p q start legal k = let g = submitted_grown d e b r p q start legal in kept_grown d e copy ks g.0 g.1 k
 
 cancelled_grown : (d e : DeskView) (t : ℕ) (r : Result (Unit {0}) CancelError) → OnOk r (e ≡ with_event d 0 (Cancelled t)) → OnErr r (e ≡ d) → MayStart e.table e.checkpoint → IsLegalFrom (start_state e) e.history
@@ -227,17 +247,25 @@ cancelled_grown : (d e : DeskView) (t : ℕ) (r : Result (Unit {0}) CancelError)
 cancelled_grown d e t (Ok x) p q start legal = (grown_next d e 0 (Cancelled t) p start legal, ap (λ s. (state_of s).store) p ∙ cancelled_store d 0 t)
 cancelled_grown d e t (Err x) p q start legal = (grown_same d e q start legal, ap (λ s. (state_of s).store) q)
 
-pub kept_cancelled : {table : List Declared} → (d e : DeskView) (copy : Option (List (Ty × Value))) (ks : List KeptJob) (t : ℕ) (r : Result (Unit {0}) CancelError) → OnOk r (e ≡ with_event d 0 (Cancelled t)) → OnErr r (e ≡ d)
-    → MayStart e.table e.checkpoint → IsLegalFrom (start_state e) e.history → OpenInvariant d copy ks table → OpenInvariant e copy ks table
+pub kept_cancelled : {known : List Named} → (d e : DeskView) (copy : Option (List (Ty × Value))) (ks : List KeptJob) (t : ℕ) (r : Result (Unit {0}) CancelError) → OnOk r (e ≡ with_event d 0 (Cancelled t)) → OnErr r (e ≡ d)
+    → MayStart e.table e.checkpoint → IsLegalFrom (start_state e) e.history → OpenInvariant d copy ks known → OpenInvariant e copy ks known
 kept_cancelled d e copy ks t r p q start legal k = let g = cancelled_grown d e t r p q start legal in kept_grown d e copy ks g.0 g.1 k
 
 finished_grown : (d e : DeskView) (t : ℕ) (r : Result Finish FinishError) → IfOk r (λ f. e ≡ with_event d 0 (finish_of t f)) → OnErr r (e ≡ d) → MayStart e.table e.checkpoint → IsLegalFrom (start_state e) e.history → HasGrown d e
 finished_grown d e t (Ok f) p q start legal = grown_next d e 0 (finish_of t f) p start legal
 finished_grown d e t (Err x) p q start legal = grown_same d e q start legal
 
-pub kept_finished : {table : List Declared} → (d e : DeskView) (copy : Option (List (Ty × Value))) (ks : List KeptJob) (t : ℕ) (r : Result Finish FinishError)
-    → IfOk r (λ f. e ≡ with_event d 0 (finish_of t f)) → OnErr r (e ≡ d) → MayStart e.table e.checkpoint → IsLegalFrom (start_state e) e.history → OpenInvariant d copy ks table → OpenInvariant e None ks table
+pub kept_finished : {known : List Named} → (d e : DeskView) (copy : Option (List (Ty × Value))) (ks : List KeptJob) (t : ℕ) (r : Result Finish FinishError)
+    → IfOk r (λ f. e ≡ with_event d 0 (finish_of t f)) → OnErr r (e ≡ d) → MayStart e.table e.checkpoint → IsLegalFrom (start_state e) e.history → OpenInvariant d copy ks known → OpenInvariant e None ks known
 kept_finished d e copy ks t r p q start legal k = kept_without d e copy ks (finished_grown d e t r p q start legal) k
+
+declared_grown : (d e : DeskView) (w : What) (r : Result ℕ LateDeclareError) → OnOk r (e ≡ with_event d 0 w) → OnErr r (e ≡ d) → MayStart e.table e.checkpoint → IsLegalFrom (start_state e) e.history → HasGrown d e
+declared_grown d e w (Ok i) p q start legal = grown_next d e 0 w p start legal
+declared_grown d e w (Err x) p q start legal = grown_same d e q start legal
+
+pub kept_declared : {known : List Named} → (d e : DeskView) (copy : Option (List (Ty × Value))) (ks : List KeptJob) (name : List ℕ) (kind : Ty) (value : Value) (r : Result ℕ LateDeclareError)
+    → OnOk r (e ≡ with_event d 0 (DeclaredLate name kind value)) → OnErr r (e ≡ d) → MayStart e.table e.checkpoint → IsLegalFrom (start_state e) e.history → OpenInvariant d copy ks known → OpenInvariant e None ks known
+kept_declared d e copy ks name kind value r p q start legal k = kept_without d e copy ks (declared_grown d e (DeclaredLate name kind value) r p q start legal) k
 
 halted_grown : (next : Order) (d e : DeskView) (w : SettleWhy) (f n : ℕ) → HasHalted next w 0 (requeued_all d) e f n → MayStart e.table e.checkpoint → IsLegalFrom (start_state e) e.history → HasGrown d e
 halted_grown next d e HistoryFull f n s start legal = grown_whats d e 0 (slow_run next (requeued_all d)) s.0.grown start legal
@@ -248,13 +276,13 @@ run_grown : (next : Order) (d e : DeskView) (r : Result Settled SettleStop) → 
 run_grown next d e (Ok s) p start legal = grown_whats d e 0 (slow_run next (requeued_all d)) p.grown start legal
 run_grown next d e (Err s) p start legal = halted_grown next d e s.why s.finished s.evaluations p start legal
 
-pub kept_run : {table : List Declared} → (next : Order) (d e : DeskView) (copy : Option (List (Ty × Value))) (ks : List KeptJob) (r : Result Settled SettleStop) → RunsAs next 0 (requeued_all d) e r → MayStart e.table e.checkpoint → IsLegalFrom (start_state e) e.history → OpenInvariant d copy ks table → OpenInvariant e None ks table
+pub kept_run : {known : List Named} → (next : Order) (d e : DeskView) (copy : Option (List (Ty × Value))) (ks : List KeptJob) (r : Result Settled SettleStop) → RunsAs next 0 (requeued_all d) e r → MayStart e.table e.checkpoint → IsLegalFrom (start_state e) e.history → OpenInvariant d copy ks known → OpenInvariant e None ks known
 kept_run next d e copy ks r p start legal k = kept_without d e copy ks (run_grown next d e r p start legal) k
 
 ran_grown : (d e : DeskView) (b : Block) (r : Result Ran AtomicError) → OnOk r (e ≡ with_whats d 0 (atomically (state_of d) b)) → OnErr r (e ≡ d) → MayStart e.table e.checkpoint → IsLegalFrom (start_state e) e.history → HasGrown d e
 ran_grown d e b (Ok x) p q start legal = grown_by d e 0 (atomically (state_of d) b) p start legal
 ran_grown d e b (Err x) p q start legal = grown_same d e q start legal
 
-pub kept_ran : {table : List Declared} → (d e : DeskView) (copy : Option (List (Ty × Value))) (ks : List KeptJob) (b : Block) (r : Result Ran AtomicError)
-    → OnOk r (e ≡ with_whats d 0 (atomically (state_of d) b)) → OnErr r (e ≡ d) → MayStart e.table e.checkpoint → IsLegalFrom (start_state e) e.history → OpenInvariant d copy ks table → OpenInvariant e None ks table
+pub kept_ran : {known : List Named} → (d e : DeskView) (copy : Option (List (Ty × Value))) (ks : List KeptJob) (b : Block) (r : Result Ran AtomicError)
+    → OnOk r (e ≡ with_whats d 0 (atomically (state_of d) b)) → OnErr r (e ≡ d) → MayStart e.table e.checkpoint → IsLegalFrom (start_state e) e.history → OpenInvariant d copy ks known → OpenInvariant e None ks known
 kept_ran d e copy ks b r p q start legal k = kept_without d e copy ks (ran_grown d e b r p q start legal) k

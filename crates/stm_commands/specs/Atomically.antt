@@ -2,7 +2,7 @@
 use Rattle.std.specs.Prelude.{ℕ, List, [], ◌∷◌, ◌++◌, Option, Some, None, Result, Ok, Err, codes, decimal}
 use Rattle.stm_check.specs.TypedBlock.{Block}
 use Rattle.stm_events.specs.declared.event.What.{What}
-use Rattle.stm_events.specs.declared.event.What.TheVariants.{Submitted, Installed, Finished, Cancelled}
+use Rattle.stm_events.specs.declared.event.What.TheVariants.{Submitted, Installed, Finished, Cancelled, Declared as DeclaredLate}
 use Rattle.stm_events.specs.SlowAtomically.{atomically}
 use Rattle.stm_desk.specs.declared.errors.AtomicError.{AtomicError}
 use Rattle.stm_desk.specs.DeskView.{DeskView, state_of}
@@ -11,7 +11,7 @@ use Rattle.stm_desk.specs.Settling.{with_whats}
 use Rattle.stm_blocks.specs.declared.refusal.Refusal.{Refusal}
 use Rattle.stm_blocks.specs.CompiledBlock.{compiled_block}
 use Rattle.stm_commands.specs.Endings.{finished_line}
-use Rattle.stm_commands.specs.OpenDesk.{OpenDesk, on_desk}
+use Rattle.stm_commands.specs.OpenDesk.{OpenDesk, on_desk, known}
 use Rattle.stm_commands.specs.Refusals.{refusal_text, atomic_error_text}
 
 -- the line that tells under which ticket a block waits
@@ -24,6 +24,7 @@ last_line (Submitted t block) = []
 last_line (Installed t v) = waits_line t
 last_line (Finished t v first_new stale) = finished_line t first_new v stale
 last_line (Cancelled t) = []
+last_line (DeclaredLate name kind value) = []
 
 -- the same if these came after it
 abbrev pub line_of_last : What → List What → List ℕ
@@ -47,4 +48,4 @@ atomically_text_step d (Err e) = (d, refusal_text e)
 
 -- `atomically`: a transaction in one line
 unfoldable pub atomically_step : OpenDesk → List ℕ → OpenDesk × List ℕ
-atomically_step d argument = on_desk d (atomically_text_step d.desk (compiled_block d.desk.table argument))
+atomically_step d argument = on_desk d (atomically_text_step d.desk (compiled_block (known d) argument))

@@ -13,7 +13,7 @@ use Rattle.stm_desk.specs.DeskView.{DeskView, state_of, with_event}
 use Rattle.stm_desk.specs.Refusals.{submit_refusal}
 use Rattle.stm_blocks.specs.declared.refusal.Refusal.{Refusal}
 use Rattle.stm_blocks.specs.CompiledBlock.{compiled_block}
-use Rattle.stm_commands.specs.OpenDesk.{OpenDesk, on_desk, present}
+use Rattle.stm_commands.specs.OpenDesk.{OpenDesk, on_desk, known, present}
 use Rattle.stm_commands.specs.Refusals.{refusal_text, submit_error_text}
 
 -- a block that is well typed has a verdict
@@ -28,7 +28,7 @@ tried_text cells (Err e) = refusal_text e
 
 -- `try`: the verdict of a block on the present store
 unfoldable pub try_answer : OpenDesk → List ℕ → List ℕ
-try_answer d argument = tried_text (present d) (compiled_block d.desk.table argument)
+try_answer d argument = tried_text (present d) (compiled_block (known d) argument)
 
 -- the variables that were read, each with its value, as a line
 unfoldable pub reads_line : List (ℕ × Value) → List ℕ
@@ -41,7 +41,7 @@ looked_text cells (Err e) = refusal_text e
 
 -- `looks`: what a block reads on the present store
 unfoldable pub looks_answer : OpenDesk → List ℕ → List ℕ
-looks_answer d argument = looked_text (present d) (compiled_block d.desk.table argument)
+looks_answer d argument = looked_text (present d) (compiled_block (known d) argument)
 
 -- the line that tells a new ticket
 unfoldable pub ticket_line : ℕ → List ℕ
@@ -59,4 +59,4 @@ submit_text_step d (Err e) = (d, refusal_text e)
 
 -- `submit`
 unfoldable pub submit_step : OpenDesk → List ℕ → OpenDesk × List ℕ
-submit_step d argument = on_desk d (submit_text_step d.desk (compiled_block d.desk.table argument))
+submit_step d argument = on_desk d (submit_text_step d.desk (compiled_block (known d) argument))

@@ -1,11 +1,11 @@
 -- `show`, `reads`, `store` and `history`: what there is.
-use Rattle.std.specs.Prelude.{ℕ, ◌+◌, List, [], ◌∷◌, ◌++◌, Option, Some, None, codes, decimal, length, slice_get}
+use Rattle.std.specs.Prelude.{ℕ, ◌+◌, List, [], ◌∷◌, ◌++◌, Option, Some, None, codes, decimal, length}
 use Rattle.stm_terms.specs.declared.verdicts.Verdict.{Verdict}
 use Rattle.stm_terms.specs.Texts.{type_text, value_text, verdict_text}
 use Rattle.stm_terms.specs.ReadSet.{reads_of}
 use Rattle.stm_check.specs.TypedBlock.{Block}
 use Rattle.stm_store.specs.declared.cell.Cell.{Cell}
-use Rattle.stm_store.specs.Tables.{Declared}
+use Rattle.stm_store.specs.Naming.{Named, name_numbered}
 use Rattle.stm_history.specs.HistoryText.{history_text as text_of_history}
 use Rattle.stm_history.specs.Starts.{written_start}
 use Rattle.stm_events.specs.SlowDesk.{Since, Waiter, Slow, Standing, New, Stale, Current, under, find_waiter, standing}
@@ -14,7 +14,7 @@ use Rattle.stm_lines.specs.NumberArgument.{number_argument}
 use Rattle.stm_blocks.specs.NameText.{name_text}
 use Rattle.stm_commands.specs.Arguments.{with_number, with_nothing, argument_refused}
 use Rattle.stm_commands.specs.Blocks.{reads_line}
-use Rattle.stm_commands.specs.OpenDesk.{OpenDesk, present}
+use Rattle.stm_commands.specs.OpenDesk.{OpenDesk, known, present}
 use Rattle.stm_commands.specs.Refusals.{refused}
 
 -- ---- show
@@ -67,27 +67,27 @@ unfoldable pub content_text : Cell → List ℕ
 content_text c =
     codes ": " ++ type_text c.kind ++ codes " = " ++ value_text c.value ++ codes " count " ++ decimal c.count ++ 10 ∷ []
 
--- the line of a variable: its number, its name where it was declared, and what its cell is and holds
-unfoldable pub stored_line : ℕ → Option Declared → Cell → List ℕ
-stored_line number d c = codes "#" ++ decimal number ++ 32 ∷ name_text d ++ content_text c
+-- the line of a variable: its number, its name if it has one, and what its cell is and holds
+unfoldable pub stored_line : ℕ → Option (List ℕ) → Cell → List ℕ
+stored_line number name c = codes "#" ++ decimal number ++ 32 ∷ name_text name ++ content_text c
 
 -- the lines of the cells from the one with this number on
-abbrev pub stored_lines : List Declared → ℕ → List Cell → List ℕ
-stored_lines table number [] = []
-stored_lines table number (c ∷ cs) = stored_line number (slice_get table number) c ++ stored_lines table (number + 1) cs
+abbrev pub stored_lines : List Named → ℕ → List Cell → List ℕ
+stored_lines names number [] = []
+stored_lines names number (c ∷ cs) = stored_line number (name_numbered number names) c ++ stored_lines names (number + 1) cs
 
 -- the lines of all variables, and how many there are
-unfoldable pub store_text : List Declared → List Cell → List ℕ
-store_text table cells = stored_lines table 0 cells ++ codes "cells " ++ decimal (length cells) ++ 10 ∷ []
+unfoldable pub store_text : List Named → List Cell → List ℕ
+store_text names cells = stored_lines names 0 cells ++ codes "cells " ++ decimal (length cells) ++ 10 ∷ []
 
 -- `store`: each variable, and how many there are
 unfoldable pub store_answer : OpenDesk → List ℕ → List ℕ
-store_answer d argument = with_nothing (store_text d.desk.table (present d)) argument_refused argument
+store_answer d argument = with_nothing (store_text (known d) (present d)) argument_refused argument
 
 -- ---- history
 -- the text of the history: where it begins, and the events so far
 abbrev pub events_text : OpenDesk → List ℕ
-events_text d = text_of_history (written_start d.desk.table d.desk.checkpoint) d.desk.history
+events_text d = text_of_history (written_start d.desk.table d.desk.checkpoint d.desk.history) d.desk.history
 
 -- `history`: where it begins and the events so far, as docs/HISTORY.md has them
 unfoldable pub history_answer : OpenDesk → List ℕ → List ℕ

@@ -4,6 +4,7 @@ pub mod Atomically
 pub mod Blocks
 pub mod Checkpointing
 pub mod Contents
+pub mod Declaring
 pub mod DueTickets
 pub mod Endings
 pub mod Evaluation

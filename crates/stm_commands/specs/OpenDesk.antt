@@ -4,6 +4,7 @@ use Rattle.stm_terms.specs.declared.kinds.Ty.{Ty}
 use Rattle.stm_terms.specs.declared.values.Value.{Value}
 use Rattle.stm_check.specs.TypedBlock.{Block}
 use Rattle.stm_store.specs.declared.cell.Cell.{Cell}
+use Rattle.stm_store.specs.Naming.{Named}
 use Rattle.stm_store.specs.Tables.{Declared}
 use Rattle.stm_desk.specs.DeskView.{DeskView, state_of}
 
@@ -26,6 +27,10 @@ opened_desk table limit =
 -- the present store
 abbrev pub present : OpenDesk → List Cell
 present d = (state_of d.desk).store
+
+-- the names that are known at present
+abbrev pub known : OpenDesk → List Named
+known d = (state_of d.desk).names
 
 -- a step of the desk alone, as one of the open desk: its jobs stay
 abbrev pub on_desk : OpenDesk → DeskView × List ℕ → OpenDesk × List ℕ

@@ -4,7 +4,7 @@ use Rattle.std.specs.declared.alloc.AllocError.{AllocError}
 use Rattle.stm_terms.specs.declared.kinds.Ty.{Ty}
 use Rattle.stm_terms.specs.declared.values.Value.{Value}
 use Rattle.stm_store.specs.Cells.{Covers, plains}
-use Rattle.stm_store.specs.Tables.{Declared}
+use Rattle.stm_store.specs.Naming.{Named}
 use Rattle.stm_eval.specs.declared.job.Job.{Job}
 use Rattle.stm_eval.specs.declared.message.Evaluated.{Evaluated}
 use Rattle.stm_eval.specs.EvaluatedFields.{message_ticket}
@@ -64,14 +64,19 @@ abbrev pub IsPresentCopy : DeskView → Option (List (Ty × Value)) → Type 0
 IsPresentCopy d None = Unit {0}
 IsPresentCopy d (Some cells) = cells ≡ plains (state_of d).store
 
--- what the type of an open desk keeps
-pub record OpenInvariant (d : DeskView) (copy : Option (List (Ty × Value))) (jobs : List KeptJob) (cache : List Declared) : Type 0 where
+-- the names are these, and maybe others after them
+pub record NamesFollow (few names : List Named) : Type 0 where
+  pub later : List Named
+  pub are : names ≡ few ++ later
+
+-- what the type of an open desk keeps; its kept blocks were checked over some of the names
+pub record OpenInvariant (d : DeskView) (copy : Option (List (Ty × Value))) (jobs : List KeptJob) (cache : List Named) : Type 0 where
   pub start : MayStart d.table d.checkpoint
   pub legal : IsLegalFrom (start_state d) d.history
   pub copied : IsPresentCopy d copy
   pub jobs_stand : JobsStand d (map job_kept jobs)
   pub have_stores : HaveStores (state_of d).waiters jobs
-  pub same_table : cache ≡ d.table
+  pub kept_names : NamesFollow cache (state_of d).names
 
 -- the desk has the same table and limit, its history begins where it did, and maybe there are more events
 pub record HasGrown (old new : DeskView) : Type 0 where

@@ -8,6 +8,8 @@ use Rattle.stm_store.specs.declared.table.DeclareError.{DeclareError}
 use Rattle.stm_store.specs.declared.table.DeclareError.TheVariants as declare
 use Rattle.stm_events.specs.declared.errors.SubmitError.{SubmitError}
 use Rattle.stm_events.specs.declared.errors.SubmitError.TheVariants as submit
+use Rattle.stm_events.specs.declared.errors.LateDeclareError.{LateDeclareError}
+use Rattle.stm_events.specs.declared.errors.LateDeclareError.TheVariants as late
 use Rattle.stm_events.specs.declared.errors.DeliverError.{DeliverError}
 use Rattle.stm_events.specs.declared.errors.DeliverError.TheVariants as deliver
 use Rattle.stm_events.specs.declared.errors.FinishError.{FinishError}
@@ -57,6 +59,14 @@ declare_error_text declare.Twice = refused (codes "Twice")
 declare_error_text declare.TypeOfValue = refused (codes "TypeOfValue")
 declare_error_text declare.TableFull = refused (codes "TableFull")
 declare_error_text declare.NoMemory = []
+
+-- why a variable isn't declared on an open desk
+abbrev pub late_declare_error_text : LateDeclareError → List ℕ
+late_declare_error_text late.Twice = refused (codes "Twice")
+late_declare_error_text late.TypeOfValue = refused (codes "TypeOfValue")
+late_declare_error_text late.HistoryFull = refused (codes "HistoryFull")
+late_declare_error_text late.CellsFull = refused (codes "CellsFull")
+late_declare_error_text late.NoMemory = []
 
 -- why a block isn't submitted
 abbrev pub submit_error_text : SubmitError → List ℕ

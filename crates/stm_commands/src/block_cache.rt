@@ -3,11 +3,14 @@
 ghost use Rattle.std.specs.Prelude.{◌≡◌, ◌<◌, ◌↔◌, List, IsTrue, IfOk, IfErr, IfSome};
 ghost use Rattle.std.specs.Option.{option_copied};
 ghost use Rattle.stm_terms.specs.UnlessNoMemory.{AnswersExcept};
-ghost use Rattle.stm_store.specs.Cells.{Covers, plains};
-ghost use Rattle.stm_store.specs.Tables.{Declared, opened};
+ghost use Rattle.stm_terms.specs.declared.kinds.Ty.{Ty};
+ghost use Rattle.stm_terms.specs.declared.values.Value.{Value};
+ghost use Rattle.stm_store.specs.Cells.{Covers};
+ghost use Rattle.stm_store.specs.Naming.{Named, named_uses};
 ghost use Rattle.stm_blocks.specs.CompiledBlock.{compiled_block};
 ghost use Rattle.stm_blocks.specs.OutOfMemory.{IsOutOfMemory};
 ghost use Rattle.stm_commands.specs.BlockCache.{IsBlockOf, ArePrepared};
+ghost use Rattle.stm_commands.specs.OpenInvariant.{NamesFollow};
 
 use std::alloc::Global;
 use std::marker::Model;
@@ -16,7 +19,7 @@ use stm_blocks::Refusal;
 use stm_blocks::block::compile_shared;
 use stm_check::SharedBlock;
 use stm_parse::ParseFault;
-use stm_store::Table;
+use stm_store::Names;
 use stm_terms::NoMemory;
 
 /// How many blocks are kept.
@@ -60,7 +63,7 @@ fn same_text(one: &str, other: &str) -> bool
 
 /// As many places as there are, with no block.
 fn no_blocks(alloc: Global) -> Result<Vec<Option<SharedBlock>>, NoMemory>
-    ensures { IfOk result (λ made. (table : List Declared) → ArePrepared table made.items) }
+    ensures { IfOk result (λ made. (known : List Named) → ArePrepared known made.items) }
 {
     let mut made = Vec::new(alloc);
     for _place in 0..PLACES {
@@ -75,8 +78,8 @@ fn block_at<'a>(
     place: usize,
     text: &str,
 ) -> Option<&'a SharedBlock>
-    ensures { (table : List Declared) → ArePrepared table blocks.now
-        → IfSome (option_copied result) (λ b. IsBlockOf table text.now b) }
+    ensures { (known : List Named) → ArePrepared known blocks.now
+        → IfSome (option_copied result) (λ b. IsBlockOf known text.now b) }
 {
     if place >= blocks.len() {
         return None;
@@ -94,8 +97,8 @@ fn block_at<'a>(
 
 /// Keeps the block at a place if its text comes again, unless memory runs out.
 fn keep(blocks: &mut [Option<SharedBlock>], place: usize, block: &SharedBlock, again: bool)
-    ensures { (table : List Declared) → ArePrepared table blocks.old
-        → IsBlockOf table block.now.text block.now → ArePrepared table blocks.new }
+    ensures { (known : List Named) → ArePrepared known blocks.old
+        → IsBlockOf known block.now.text block.now → ArePrepared known blocks.new }
 {
     if !again || place >= blocks.len() {
         return;
@@ -119,32 +122,33 @@ fn share_block(block: &SharedBlock) -> Result<SharedBlock, Refusal>
 /// The block of a text, from those that are kept or new. If its text comes again it is kept from now on.
 fn prepared_block(
     alloc: Global,
-    table: &Table,
+    known: &Names,
     text: &str,
     blocks: &mut [Option<SharedBlock>],
     hashes: &mut [u64],
 ) -> Result<SharedBlock, Refusal>
-    requires { ArePrepared table.now blocks.old }
-    ensures kept { ArePrepared table.now blocks.new }
+    requires { ArePrepared known.now blocks.old }
+    ensures kept { ArePrepared known.now blocks.new }
     ensures block { AnswersExcept IsOutOfMemory (λ b. b) result
-        (compiled_block table.now text.now) }
-    ensures covered { IfOk result (λ b. Covers (plains (opened table.now)) b.uses) }
+        (compiled_block known.now text.now) }
+    ensures covered { IfOk result (λ b. (cells : List (Ty × Value)) → Covers cells (named_uses known.now) → Covers cells b.uses) }
 {
     let hash = hash_of(text);
     let place = place_of(hash);
     if let Some(block) = block_at(blocks, place, text) {
         return share_block(block);
     }
-    let block = compile_shared(alloc, table, text)?;
+    let block = compile_shared(alloc, known, text)?;
     let again = comes_again(hashes, place, hash);
     keep(blocks, place, &block, again);
     Ok(block)
 }
 
-/// The last blocks that were asked for twice, of texts that aren't long, and the hash of the last text of each place. Contracts
-/// see the variables over which they were checked.
+/// The last blocks that were asked for twice, of texts that aren't long, and the hash of the last text of each place. A text that is
+/// refused is not kept, so names that are declared later leave each kept block the block of its text. Contracts see the names over
+/// which they were checked last.
 pub struct BlockCache {
-    table: Snapshot<Table>,
+    known: Snapshot<Names>,
     blocks: Vec<Option<SharedBlock>>,
     hashes: Vec<u64>,
 }
@@ -153,7 +157,7 @@ pub struct BlockCache {
 impl Drop for BlockCache {
     fn drop(self) {
         let BlockCache {
-            table: _,
+            known: _,
             blocks: _,
             hashes: _,
         } = self;
@@ -162,44 +166,46 @@ impl Drop for BlockCache {
 
 impl Model for BlockCache {
     ghost use Rattle.std.specs.Prelude.{List};
-    ghost use Rattle.stm_store.specs.Tables.{Declared};
+    ghost use Rattle.stm_store.specs.Naming.{Named};
     ghost use Rattle.stm_commands.specs.BlockCache.{ArePrepared};
 
-    ghost Value = { List Declared };
+    ghost Value = { List Named };
 
-    ghost view = { λ p. p.table.value };
+    ghost view = { λ p. p.known.value };
 
-    ghost invariant = { λ p. ArePrepared p.table.value p.blocks.items };
+    ghost invariant = { λ p. ArePrepared p.known.value p.blocks.items };
 }
 
 impl BlockCache {
     /// Keeps no block yet.
-    pub fn new(alloc: Global, table: &Table) -> Result<BlockCache, NoMemory>
-        ensures { IfOk result (λ p. p ≡ table.now) }
+    pub fn new(alloc: Global, known: &Names) -> Result<BlockCache, NoMemory>
+        ensures { IfOk result (λ p. p ≡ known.now) }
     {
         Ok(BlockCache {
-            table: Snapshot::of(table),
+            known: Snapshot::of(known),
             blocks: no_blocks(alloc)?,
             hashes: vec![in alloc; 0u64; PLACES]?,
         })
     }
 
-    /// The block of a text, kept or new. If its text isn't long and comes again, it is kept from now on.
+    /// The block of a text, kept or new, over names that come after those that were known before. If its text isn't long and comes
+    /// again, it is kept from now on.
     pub fn block(
         &mut self,
         alloc: Global,
-        table: &Table,
+        known: &Names,
         text: &str,
     ) -> Result<SharedBlock, Refusal>
-        requires { self.old ≡ table.now }
-        ensures same { self.new ≡ self.old }
+        requires { NamesFollow self.old known.now }
+        ensures known { self.new ≡ known.now }
         ensures block { AnswersExcept IsOutOfMemory (λ b. b) result
-            (compiled_block table.now text.now) }
-        ensures covered { IfOk result (λ b. Covers (plains (opened table.now)) b.uses) }
+            (compiled_block known.now text.now) }
+        ensures covered { IfOk result (λ b. (cells : List (Ty × Value)) → Covers cells (named_uses known.now) → Covers cells b.uses) }
     {
+        self.known = Snapshot::of(known);
         if text.len() > LONGEST {
-            return compile_shared(alloc, table, text);
+            return compile_shared(alloc, known, text);
         }
-        prepared_block(alloc, table, text, &mut self.blocks, &mut self.hashes)
+        prepared_block(alloc, known, text, &mut self.blocks, &mut self.hashes)
     }
 }

@@ -6,7 +6,7 @@
 //! says how many threads evaluate.
 //!
 //! What a reader has to believe is in these modules of specs/: `OpenDesk` has the desk with the jobs handed out, and what a
-//! step is; `Blocks`, `Atomically`, `Jobs`, `Evaluation`, `Endings` and `Checkpointing` the steps of the commands, `Contents` and `Questions`
+//! step is; `Blocks`, `Declaring`, `Atomically`, `Jobs`, `Evaluation`, `Endings` and `Checkpointing` the steps of the commands, `Contents` and `Questions`
 //! the texts of those that change nothing; `Arguments` which arguments are taken, and `Refusals` what is printed of the others;
 //! `DueTickets` which tickets are to be evaluated.
 #![tactic(auto)]

@@ -1,17 +1,15 @@
 //! The desk of a console that has opened.
 
-ghost use Rattle.std.specs.Prelude.{◌≡◌, ℕ, ◌≤◌, List, [], IfOk, option_map};
+ghost use Rattle.std.specs.Prelude.{◌≡◌, ◌≤◌, [], IfOk, option_map};
 ghost use Rattle.stm_terms.specs.UnlessNoMemory.{AnswersExcept};
-ghost use Rattle.stm_terms.specs.declared.kinds.Ty.{Ty};
 ghost use Rattle.stm_store.specs.Cells.{Covers, plains};
-ghost use Rattle.stm_store.specs.Tables.{opened};
 ghost use Rattle.stm_events.specs.SlowDesk.{max_events};
 ghost use Rattle.stm_events.specs.States.{IsLegalFrom};
 ghost use Rattle.stm_machine.specs.Checkpoints.{MayStart};
 ghost use Rattle.stm_desk.specs.DeskView.{start_state};
 ghost use Rattle.stm_blocks.specs.CompiledBlock.{compiled_block};
 ghost use Rattle.stm_blocks.specs.OutOfMemory.{IsOutOfMemory};
-ghost use Rattle.stm_commands.specs.OpenDesk.{opened_desk, present};
+ghost use Rattle.stm_commands.specs.OpenDesk.{opened_desk, known, present};
 
 use crate::block_cache::BlockCache;
 use crate::jobs::KeptJob;
@@ -71,13 +69,7 @@ impl OpenDesk {
         requires { limit ≤ max_events }
         ensures { IfOk result (λ d. d ≡ opened_desk table.now limit) }
     {
-        Ok(OpenDesk {
-            desk: Desk::open(alloc, table, limit)?,
-            copy: None,
-            jobs: Vec::new(alloc),
-            stores: Stores::new(alloc),
-            cache: BlockCache::new(alloc, table)?,
-        })
+        OpenDesk::resume(alloc, Desk::open(alloc, table, limit)?)
     }
 
     /// An open desk that goes on from a history, on which no job is out.
@@ -86,7 +78,7 @@ impl OpenDesk {
     {
         // The history is known to be legal by this.
         let _history = desk.history();
-        let cache = BlockCache::new(alloc, desk.table())?;
+        let cache = BlockCache::new(alloc, desk.names())?;
         Ok(OpenDesk {
             desk,
             copy: None,
@@ -123,9 +115,6 @@ impl OpenDesk {
     pub fn take_copy(&mut self) -> Result<Frozen, NoMemory>
         ensures same { self.new ≡ self.old }
         ensures store { IfOk result (λ f. f ≡ plains (present self.old)) }
-        // It has what the declared variables have.
-        ensures covers { (uses : List (ℕ × Ty)) → Covers (plains (opened self.old.desk.table)) uses
-            → Covers (plains (present self.old)) uses }
     {
         match self.copy.take() {
             Some(copy) => Ok(copy),
@@ -141,14 +130,13 @@ impl OpenDesk {
         self.copy = Some(copy);
     }
 
-    /// The block of a text.
+    /// The block of a text over the present names. The present store has the variables that it names.
     pub fn block(&mut self, alloc: Global, text: &str) -> Result<SharedBlock, Refusal>
         ensures same { self.new ≡ self.old }
         ensures block { AnswersExcept IsOutOfMemory (λ b. b) result
-            (compiled_block self.old.desk.table text.now) }
-        ensures covered { IfOk result (λ b.
-            Covers (plains (opened self.old.desk.table)) b.uses) }
+            (compiled_block (known self.old) text.now) }
+        ensures covered { IfOk result (λ b. Covers (plains (present self.old)) b.uses) }
     {
-        self.cache.block(alloc, self.desk.table(), text)
+        self.cache.block(alloc, self.desk.names(), text)
     }
 }

@@ -3,12 +3,14 @@
 ghost use Rattle.std.specs.Prelude.{◌≡◌, ◌≢◌, ◌++◌, Some, string_bytes, OnOk};
 ghost use Rattle.stm_blocks.specs.OutOfMemory.{IsOutOfMemory};
 ghost use Rattle.stm_commands.specs.Arguments.{argument_refused};
-ghost use Rattle.stm_commands.specs.Refusals.{refused, refused_at, refused_variable, parse_fault_text, type_fault_text, declare_error_text, submit_error_text, atomic_error_text, deliver_error_text, finish_error_text, cancel_error_text, refusal_text};
+ghost use Rattle.stm_commands.specs.Refusals.{refused, refused_at, refused_variable, parse_fault_text, type_fault_text, declare_error_text, late_declare_error_text, submit_error_text, atomic_error_text, deliver_error_text, finish_error_text, cancel_error_text, refusal_text};
 
 use std::alloc::AllocError;
 use stm_blocks::Refusal;
 use stm_check::TypeFault;
-use stm_desk::{AtomicError, CancelError, DeliverError, FinishError, SubmitError};
+use stm_desk::{
+    AtomicError, CancelError, DeliverError, FinishError, LateDeclareError, SubmitError,
+};
 use stm_parse::ParseFault;
 use stm_store::DeclareError;
 use stm_terms::NoMemory;
@@ -104,6 +106,21 @@ pub fn write_refusal(refusal: Refusal, out: &mut String) -> Result<(), NoMemory>
         Refusal::Typing(fault) => refuse_type(fault, out),
         Refusal::Unknown(place) => refuse_at("Unknown", place, out),
         Refusal::Declaring(error) => refuse_declaration(error, out),
+    }
+}
+
+/// Appends why a variable isn't declared on an open desk; an out-of-memory error is handed on.
+pub fn refuse_late_declaration(error: LateDeclareError, out: &mut String) -> Result<(), NoMemory>
+    ensures text { OnOk result
+        (string_bytes out.new ≡ string_bytes out.old ++ late_declare_error_text error) }
+    ensures memory { OnOk result (error ≢ LateDeclareError.NoMemory) }
+{
+    match error {
+        LateDeclareError::Twice => refuse("Twice", out),
+        LateDeclareError::TypeOfValue => refuse("TypeOfValue", out),
+        LateDeclareError::HistoryFull => refuse("HistoryFull", out),
+        LateDeclareError::CellsFull => refuse("CellsFull", out),
+        LateDeclareError::NoMemory => Err(AllocError),
     }
 }
 

@@ -3,6 +3,7 @@
 mod atomically;
 mod cancel;
 pub mod checkpoint;
+mod declare;
 mod deliver;
 mod drain;
 mod eval;

@@ -4,7 +4,6 @@ ghost use Rattle.std.specs.Prelude.{◌≡◌, ◌++◌, Some, string_bytes, OnO
 ghost use Rattle.stm_terms.specs.ReadSet.{reads_of};
 ghost use Rattle.stm_events.specs.SlowDesk.{under, verdict_on};
 ghost use Rattle.stm_store.specs.Cells.{Covers, plains};
-ghost use Rattle.stm_store.specs.Tables.{opened};
 ghost use Rattle.stm_commands.specs.Blocks.{try_answer, looks_answer, verdict_line, reads_line};
 ghost use Rattle.stm_commands.specs.OpenDesk.{present};
 
@@ -46,7 +45,7 @@ impl OpenDesk {
         block: &Typed,
         out: &mut String,
     ) -> Result<(), NoMemory>
-        requires { Covers (plains (opened self.old.desk.table)) block.now.uses }
+        requires { Covers (plains (present self.old)) block.now.uses }
         ensures text { OnOk result (string_bytes out.new
             ≡ string_bytes out.old ++ verdict_line (verdict_on (present self.old) block.now)) }
         ensures same { self.new ≡ self.old }
@@ -64,7 +63,7 @@ impl OpenDesk {
         block: &Typed,
         out: &mut String,
     ) -> Result<(), NoMemory>
-        requires { Covers (plains (opened self.old.desk.table)) block.now.uses }
+        requires { Covers (plains (present self.old)) block.now.uses }
         ensures text { OnOk result (string_bytes out.new ≡ string_bytes out.old
             ++ reads_line (reads_of (under (present self.old)) block.now.tree)) }
         ensures same { self.new ≡ self.old }

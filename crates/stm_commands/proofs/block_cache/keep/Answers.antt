@@ -5,4 +5,4 @@ use Rattle.stm_commands.proofs.PreparedBlocks.{prepared_set}
 use Rattle.stm_commands.proofs.block_cache.keep.Goals as goal
 
 pub returns-in-Ok : goal.returns-in-Ok
-returns-in-Ok c = λ table h k. prepared_set table c.args.blocks.now c.args.place c.in-Ok.block (subst (λ (b : Block). IsBlockOf table b.text b) (sym c.in-Ok.ensures) k) h
+returns-in-Ok c = λ known h k. prepared_set known c.args.blocks.now c.args.place c.in-Ok.block (subst (λ (b : Block). IsBlockOf known b.text b) (sym c.in-Ok.ensures) k) h

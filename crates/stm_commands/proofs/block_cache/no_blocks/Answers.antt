@@ -6,4 +6,4 @@ use Rattle.stm_commands.proofs.block_cache.no_blocks.Goals as goal
 pub loop-place-preserved : goal.loop-place-preserved
 loop-place-preserved c =
     let p : c.push.new.self.items ≡ c.loop-place.made.items ++ None ∷ [] = search rules in
-    λ table. subst (ArePrepared table) (sym p) (prepared_push table c.loop-place.made.items (c.loop-place.invariant table))
+    λ known. subst (ArePrepared known) (sym p) (prepared_push known c.loop-place.made.items (c.loop-place.invariant known))
